@@ -1,0 +1,17 @@
+-- What a call answers, and the one answer that may stand in place of it: memory ran out.
+use Rattle.std.specs.Prelude.{◌≡◌, Option, Some, None, Result, Ok, Err}
+
+infixl 10 ◌>>=◌
+abbrev pub ◌>>=◌ : {A B F : Type 0} → Result A F → (A → Result B F) → Result B F
+(Ok x) >>= f = f x
+(Err e) >>= f = Err e
+
+-- the fault that a refusal names, where it names one: none is named where memory ran out
+abbrev pub Refuses : {Y F : Type 0} → Option F → Result Y F → Type 0
+Refuses None answer = Unit {0}
+Refuses (Some f) answer = answer ≡ Err f
+
+-- The call gives this answer unless memory ran out. `value` sees what it returned as the definitions do, `fault` its refusal.
+abbrev pub Gives : {X Y E F : Type 0} → (X → Y) → (E → Option F) → Result X E → Result Y F → Type 0
+Gives value fault (Ok x) answer = answer ≡ Ok (value x)
+Gives value fault (Err e) answer = Refuses (fault e) answer

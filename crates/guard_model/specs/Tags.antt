@@ -1,0 +1,18 @@
+-- The order of tags (X.680 8.6).
+use Rattle.std.specs.Prelude.{ℕ}
+use Rattle.std.specs.declared.cmp.Ordering.{Ordering}
+use Rattle.std.specs.Ordering.{nat_cmp, ordering_then}
+use Rattle.guard_model.specs.declared.tag.Class.{Class}
+use Rattle.guard_model.specs.declared.tag.Class.TheVariants.{Universal, Application, Context, Private}
+use Rattle.guard_model.specs.declared.tag.Tag.{Tag}
+
+-- universal, application, context-specific, private
+abbrev pub class_rank : Class → ℕ
+class_rank Universal = 0
+class_rank Application = 1
+class_rank Context = 2
+class_rank Private = 3
+
+-- by class, then by number
+abbrev pub tag_order : Tag → Tag → Ordering
+tag_order a b = ordering_then (nat_cmp (class_rank a.class) (class_rank b.class)) (nat_cmp a.number b.number)

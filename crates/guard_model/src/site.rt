@@ -1,0 +1,38 @@
+//! Where something stands: in a module text, or in a value.
+use arrayvec::ArrayVec;
+use std::fmt;
+
+/// A place in a module text. All three numbers count from 1.
+#[derive(Clone, Copy, Debug, PartialEq, Eq)]
+pub struct Site {
+    /// The place of the text in the list that was handed in.
+    pub text: u32,
+    /// 1 plus the line feeds before the place.
+    pub line: u32,
+    /// 1 plus the octets since the last line feed.
+    pub column: u32,
+}
+
+impl fmt::Display for Site {
+    fn fmt<W: fmt::Write>(&self, f: &mut fmt::Formatter<W>) -> fmt::Result {
+        write!(f, "{}:{}:{}", self.text, self.line, self.column)
+    }
+}
+
+/// One step from a value to a value inside it.
+#[derive(Clone, Copy, Debug, PartialEq, Eq)]
+pub enum Step {
+    /// To the component or alternative at this place of the written list, from 0.
+    Component(u8),
+    /// To the element at this place, from 0.
+    Element(u32),
+}
+
+impl Default for Step {
+    fn default() -> Step {
+        Step::Component(0)
+    }
+}
+
+/// The way from a value to a value inside it, the outermost step first. Types are nested 32 deep at most.
+pub type Path = ArrayVec<Step, 32>;

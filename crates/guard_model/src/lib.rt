@@ -12,3 +12,6 @@ pub use site::{Path, Site, Step};
 pub use tag::{Class, Tag};
 pub use ty::{Comp, Cons, Kind, Limit, Named, Presence, Rule, Ty};
 pub use value::Value;
+
+#[cfg(test)]
+mod tests;

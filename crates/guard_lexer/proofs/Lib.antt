@@ -1,0 +1,9 @@
+pub mod Exclusion
+pub mod Pieces
+pub mod Marks
+pub mod Numbers
+pub mod Longest
+pub mod Cuts
+pub mod Spelled
+pub mod Answers
+pub mod Steps

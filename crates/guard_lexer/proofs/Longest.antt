@@ -1,0 +1,234 @@
+-- What reading finds at the front is the longest item there.
+use Rattle.std.proofs.Common.{◌≡◌, ℕ, suc, ◌≤◌, ◌<◌, true, false, eqb, ◌&&◌, ◌||◌, not, List, [], ◌∷◌, ◌++◌, length, take, drop, Option, Some, None, refl, sym, ap, subst, ◌∙◌, inl, inr, ◌⊎◌, arith}
+use Rattle.std.specs.Prelude.{option_map}
+use Rattle.std.specs.List.{list_all, prefix_len}
+use Rattle.std.proofs.lemmas.Bool.{and_parts, and_from, or_cases, or_left, or_right, cases_Bool, false≢true, cond_both, eqb-true, cases_lt}
+use Rattle.std.proofs.lemmas.List.{take-append-drop, take_at, drop_at, length-take}
+use Rattle.std.proofs.lemmas.List.Sums.{prefix_len-le-length}
+use Rattle.guard_lexer.specs.Octets.{is_letter, is_digit, is_hyphen, is_white_space, begins}
+use Rattle.guard_lexer.specs.Shapes.{is_one_white_space, is_word, are_of_word, is_number, is_line_comment, is_line_comment_body, IsShape}
+use Rattle.guard_lexer.specs.Spelling.{mark_spelling}
+use Rattle.guard_lexer.specs.Reading.{word_len, number_len, body_len, mark_at, piece, mark_piece, front, item_of}
+use Rattle.guard_lexer.specs.Lexing.{Item, IsLongest, BeginsNone}
+use Rattle.guard_lexer.specs.declared.shape.Piece.{Piece}
+use Rattle.guard_lexer.specs.declared.shape.Shape.{Shape}
+use Rattle.guard_lexer.specs.declared.shape.Shape.TheVariants as shape
+use Rattle.guard_lexer.specs.declared.token.Mark.{Mark}
+use Rattle.guard_lexer.specs.declared.token.Mark.TheVariants as mark
+use Rattle.guard_lexer.proofs.Exclusion.{letter-not_white, digit-not_white, digit-not_letter, hyphen-is}
+use Rattle.guard_lexer.proofs.Pieces.{word-longest, word-is, word-fits, digits-longest, digits-are, body-longest, body-is, body-fits}
+use Rattle.guard_lexer.proofs.Marks.{mark_len, mark-nonempty, same_mark, mark-found, mark-stands}
+
+-- ---- each first octet has its way
+
+front-white : (c : ℕ) (cs : List ℕ) → is_white_space c ≡ true → front (c ∷ cs) ≡ Some (piece shape.WhiteSpace 1)
+front-white c cs h = rw h refl
+
+front-letter : (c : ℕ) (cs : List ℕ) → is_letter c ≡ true → front (c ∷ cs) ≡ Some (piece shape.Word (suc (word_len cs)))
+front-letter c cs h = rw (letter-not_white c h, h) refl
+
+front-digit : (c : ℕ) (cs : List ℕ) → is_digit c ≡ true → front (c ∷ cs) ≡ Some (piece shape.Number (number_len c cs))
+front-digit c cs h = rw (digit-not_white c h, digit-not_letter c h, h) refl
+
+-- What reading finds where an item stands: a longer item, or this one.
+abbrev pub Covers : Shape → List ℕ → Option Piece → Type 0
+Covers s octets found = (t : Shape) × (n : ℕ) × (found ≡ Some (piece t n)) × ((length octets < n) ⊎ ((length octets ≡ n) × (s ≡ t)))
+
+longer_or_same : (a b : ℕ) (s : Shape) → a ≤ b → (a < b) ⊎ ((a ≡ b) × (s ≡ s))
+longer_or_same a b s le = elim (cases_lt a b) [ inl lt ↦ inl lt | inr ge ↦ inr (omega arith, refl) ]
+
+covers-white : (octets behind : List ℕ) → is_one_white_space octets ≡ true → Covers shape.WhiteSpace octets (front (octets ++ behind))
+covers-white [] behind h = absurd (false≢true h)
+covers-white (c ∷ []) behind h = (shape.WhiteSpace, 1, front-white c behind (and_parts (is_white_space c) true h).0, inr (refl, refl))
+covers-white (c ∷ d ∷ cs) behind h = absurd (omega (arith, eqb-true _ _ (and_parts (is_white_space c) (eqb (length (c ∷ d ∷ cs)) 1) h).1))
+
+covers-word : (octets behind : List ℕ) → is_word octets ≡ true → Covers shape.Word octets (front (octets ++ behind))
+covers-word [] behind h = absurd (false≢true h)
+covers-word (c ∷ cs) behind h =
+    let p = and_parts (is_letter c) (are_of_word cs) h in
+    (shape.Word, suc (word_len (cs ++ behind)), front-letter c (cs ++ behind) p.0, longer_or_same _ _ shape.Word (omega (arith, word-longest cs behind p.1)))
+
+number-longest : (c : ℕ) (cs behind : List ℕ) → list_all is_digit cs ≡ true → (not (eqb c 48) || eqb (length cs) 0) ≡ true → suc (length cs) ≤ number_len c (cs ++ behind)
+number-longest c cs behind digits first =
+    cond_both (eqb c 48) 1 (suc (prefix_len is_digit (cs ++ behind))) (λ n. suc (length cs) ≤ n)
+    (λ zero_first.
+    elim (or_cases (not (eqb c 48)) (eqb (length cs) 0) first) [
+      | inl other ↦ absurd (false≢true (sym (ap not zero_first) ∙ other))
+      | inr alone ↦ omega (arith, eqb-true _ _ alone)
+    ])
+    (λ _. omega (arith, digits-longest cs behind digits))
+
+covers-number : (octets behind : List ℕ) → is_number octets ≡ true → Covers shape.Number octets (front (octets ++ behind))
+covers-number [] behind h = absurd (false≢true h)
+covers-number (c ∷ cs) behind h =
+    let p = and_parts (is_digit c && list_all is_digit cs) (not (eqb c 48) || eqb (length cs) 0) h in
+    let q = and_parts (is_digit c) (list_all is_digit cs) p.0 in
+    (shape.Number, number_len c (cs ++ behind), front-digit c (cs ++ behind) q.0, longer_or_same _ _ shape.Number (number-longest c cs behind q.1 p.1))
+
+covers-line_comment : (octets behind : List ℕ) → is_line_comment octets ≡ true → Covers shape.LineComment octets (front (octets ++ behind))
+covers-line_comment [] behind h = absurd (false≢true h)
+covers-line_comment (c ∷ []) behind h = absurd (false≢true h)
+covers-line_comment (c ∷ d ∷ body) behind h =
+    let p = and_parts (is_hyphen c && is_hyphen d) (is_line_comment_body body) h in
+    let q = and_parts (is_hyphen c) (is_hyphen d) p.0 in
+    let n : ℕ = suc (suc (body_len (body ++ behind))) in
+    let e : front (c ∷ d ∷ body ++ behind) ≡ Some (piece shape.LineComment n) =
+    subst (λ (x : ℕ). front (x ∷ d ∷ body ++ behind) ≡ Some (piece shape.LineComment n)) (sym (hyphen-is c q.0))
+    (subst (λ (x : ℕ). front (45 ∷ x ∷ body ++ behind) ≡ Some (piece shape.LineComment n)) (sym (hyphen-is d q.1)) refl) in
+    (shape.LineComment, n, e, longer_or_same _ _ shape.LineComment (omega (arith, body-longest body behind p.1)))
+
+minus : (behind : List ℕ) → (front (45 ∷ behind) ≡ option_map mark_piece (mark_at (45 ∷ behind))) ⊎ Covers (shape.Mark mark.Minus) (45 ∷ []) (front (45 ∷ behind))
+minus [] = inl refl
+minus (c ∷ cs) =
+    elim (cases_Bool (is_hyphen c)) [
+      | inl h ↦ inr (shape.LineComment, suc (suc (body_len cs)), rw h refl, inl (omega arith))
+      | inr h ↦ inl (rw h refl)
+    ]
+
+-- a mark is looked for in the table, but for a hyphen where a comment begins
+ByTable : Mark → List ℕ → Type 0
+ByTable m behind =
+    (front (mark_spelling m ++ behind) ≡ option_map mark_piece (mark_at (mark_spelling m ++ behind)))
+    ⊎ Covers (shape.Mark m) (mark_spelling m) (front (mark_spelling m ++ behind))
+
+by_table : (m : Mark) (behind : List ℕ) → ByTable m behind
+unfolding ByTable
+by_table mark.Assignment behind = inl refl
+by_table mark.Ellipsis behind = inl refl
+by_table mark.RangeSeparator behind = inl refl
+by_table mark.LeftVersionBrackets behind = inl refl
+by_table mark.RightVersionBrackets behind = inl refl
+by_table mark.LeftBrace behind = inl refl
+by_table mark.RightBrace behind = inl refl
+by_table mark.LeftParenthesis behind = inl refl
+by_table mark.RightParenthesis behind = inl refl
+by_table mark.LeftBracket behind = inl refl
+by_table mark.RightBracket behind = inl refl
+by_table mark.Comma behind = inl refl
+by_table mark.Semicolon behind = inl refl
+by_table mark.Colon behind = inl refl
+by_table mark.Bar behind = inl refl
+by_table mark.Caret behind = inl refl
+by_table mark.LessThan behind = inl refl
+by_table mark.Minus behind = minus behind
+by_table mark.FullStop behind = inl refl
+by_table mark.Exclamation behind = inl refl
+by_table mark.CommercialAt behind = inl refl
+
+covers-mark : (m : Mark) (behind : List ℕ) → Covers (shape.Mark m) (mark_spelling m) (front (mark_spelling m ++ behind))
+unfolding ByTable
+covers-mark m behind =
+    elim (by_table m behind) [
+      | inl e ↦
+          let f = mark-found m behind in (
+            shape.Mark f.0,
+            mark_len f.0,
+            e ∙ ap (option_map mark_piece) f.1,
+            elim (cases_lt (mark_len m) (mark_len f.0)) [
+              | inl lt ↦ inl lt
+              | inr ge ↦
+                  let same : mark_len f.0 ≡ mark_len m = omega (arith, f.2) in
+                  let spelled : mark_spelling f.0 ≡ mark_spelling m = mark-stands (mark_spelling m ++ behind) f.0 f.1 ∙ take_at (mark_spelling m) behind (mark_len f.0) (sym same) in
+                  inr (sym same, ap shape.Mark (same_mark m f.0 (sym spelled)))
+            ],
+          )
+      | inr c ↦ c
+    ]
+
+pub covers : (s : Shape) (octets behind : List ℕ) → IsShape s octets → Covers s octets (front (octets ++ behind))
+covers shape.WhiteSpace octets behind h = covers-white octets behind h
+covers shape.LineComment octets behind h = covers-line_comment octets behind h
+covers shape.Word octets behind h = covers-word octets behind h
+covers shape.Number octets behind h = covers-number octets behind h
+covers (shape.Mark m) octets behind h = subst (λ (o : List ℕ). Covers (shape.Mark m) o (front (o ++ behind))) (sym h) (covers-mark m behind)
+
+-- ---- what is found is an item
+
+-- what is found has octets, stands in the text, and is an item
+abbrev pub IsFound : List ℕ → Option Piece → Type 0
+IsFound text None = Unit {0}
+IsFound text (Some p) = (0 < p.len) × (p.len ≤ length text) × IsShape p.shape (take p.len text)
+
+found-number : (c : ℕ) (cs : List ℕ) → is_digit c ≡ true → IsFound (c ∷ cs) (Some (piece shape.Number (number_len c cs)))
+found-number c cs h =
+    cond_both (eqb c 48) 1 (suc (prefix_len is_digit cs)) (λ n. IsFound (c ∷ cs) (Some (piece shape.Number n)))
+    (λ _. (omega arith, omega arith, and_from _ _ (and_from _ _ h refl) (or_right (not (eqb c 48)) true refl)))
+    (λ other. (omega arith, omega (arith, prefix_len-le-length is_digit cs), and_from _ _ (and_from _ _ h (digits-are cs)) (or_left _ _ (ap not other))))
+
+found-line_comment : (c : ℕ) (cs : List ℕ) → (is_hyphen c && begins is_hyphen cs) ≡ true → IsFound (c ∷ cs) (Some (piece shape.LineComment (suc (suc (body_len (drop 1 cs))))))
+found-line_comment c [] h = absurd (false≢true (and_parts (is_hyphen c) false h).1)
+found-line_comment c (d ∷ cs) h = (omega arith, omega (arith, body-fits cs), and_from _ _ h (body-is cs))
+
+found-mark : (text : List ℕ) (o : Option Mark) → mark_at text ≡ o → IsFound text (option_map mark_piece o)
+found-mark text None e = tt
+found-mark text (Some m) e =
+    let s = mark-stands text m e in
+    (mark-nonempty m, omega (arith, ap length s, length-take (mark_len m) text), sym s)
+
+pub is_found : (text : List ℕ) → IsFound text (front text)
+is_found [] = tt
+is_found (c ∷ cs) =
+    cond_both (is_white_space c) _ _ (IsFound (c ∷ cs)) (λ h. (omega arith, omega arith, and_from _ _ h refl))
+    (λ _. cond_both (is_letter c) _ _ (IsFound (c ∷ cs)) (λ h. (omega arith, omega (arith, word-fits cs), and_from _ _ h (word-is cs)))
+    (λ _. cond_both (is_digit c) _ _ (IsFound (c ∷ cs)) (λ h. found-number c cs h)
+    (λ _. cond_both (is_hyphen c && begins is_hyphen cs) _ _ (IsFound (c ∷ cs)) (λ h. found-line_comment c cs h)
+    (λ _. found-mark (c ∷ cs) (mark_at (c ∷ cs)) refl))))
+
+-- ---- the longest item is the one that is found
+
+abbrev some_piece : Piece → Option Piece
+some_piece p = Some p
+
+none_some : (p : Piece) → ◌≡◌ {A = Option Piece} None (Some p) → ⊥
+none_some p e = cc
+
+same_piece : (p q : Piece) → some_piece p ≡ some_piece q → p ≡ q
+same_piece p q e = cc
+
+pub longest : (text : List ℕ) (p : Piece) → front text ≡ Some p → IsLongest text (item_of text p) (drop p.len text)
+longest text p e =
+    let f : IsFound text (Some p) = subst (IsFound text) e (is_found text) in
+    record {
+      split = sym (take-append-drop p.len text);
+      is_item = f.2;
+      longest = λ other behind split is.
+          let c = covers other.shape other.octets behind is in
+          let same : p ≡ piece c.0 c.1 = same_piece p (piece c.0 c.1) (sym e ∙ ap front split ∙ c.2) in
+          let len : p.len ≡ c.1 = ap (λ (q : Piece). q.len) same in
+          elim c.3 [
+            | inl lt ↦ omega (arith, length-take p.len text, f.1)
+            | inr eq ↦ omega (arith, length-take p.len text, f.1, eq.0)
+          ];
+    }
+
+pub none_begins : (text : List ℕ) → front text ≡ None → BeginsNone text
+none_begins text e item behind split is = let c = covers item.shape item.octets behind is in absurd (none_some _ (sym e ∙ ap front split ∙ c.2))
+
+pub longest_found : (text : List ℕ) (item : Item) (left : List ℕ) → IsLongest text item left → front text ≡ Some (piece item.shape (length item.octets))
+longest_found text item left l =
+    let c = covers item.shape item.octets left l.is_item in
+    let e : front text ≡ Some (piece c.0 c.1) = ap front l.split ∙ c.2 in
+    let f : IsFound text (Some (piece c.0 c.1)) = subst (IsFound text) e (is_found text) in
+    let le : length (take c.1 text) ≤ length item.octets = l.longest (item_of text (piece c.0 c.1)) (drop c.1 text) (sym (take-append-drop c.1 text)) f.2 in
+    elim c.3 [
+      | inl lt ↦ absurd (omega (arith, length-take c.1 text, f.1))
+      | inr eq ↦ e ∙ (λ i. Some (piece (sym eq.1 i) (sym eq.0 i)))
+    ]
+
+none-from : (text : List ℕ) (o : Option Piece) → front text ≡ o → BeginsNone text → o ≡ None
+none-from text None e none = refl
+none-from text (Some p) e none = let l = longest text p e in absurd (none (item_of text p) (drop p.len text) l.split l.is_item)
+
+pub none_found : (text : List ℕ) → BeginsNone text → front text ≡ None
+none_found text none = none-from text (front text) refl none
+
+item-is : (text : List ℕ) (i j : Item) (behind left : List ℕ) → text ≡ i.octets ++ behind → text ≡ j.octets ++ left → i.shape ≡ j.shape → length i.octets ≡ length j.octets → (i ≡ j) × (behind ≡ left)
+item-is text i j behind left e f shapes lengths =
+    let octets : i.octets ≡ j.octets = sym (take_at i.octets behind (length i.octets) refl) ∙ ap (take (length i.octets)) (sym e ∙ f) ∙ take_at j.octets left (length i.octets) (sym lengths) in
+    ((λ k. record { shape = shapes k; octets = octets k }), sym (drop_at i.octets behind (length i.octets) refl) ∙ ap (drop (length i.octets)) (sym e ∙ f) ∙ drop_at j.octets left (length i.octets) (sym lengths))
+
+-- at most one item is the longest
+pub one_longest : (text : List ℕ) (i j : Item) (behind left : List ℕ) → IsLongest text i behind → IsLongest text j left → (i ≡ j) × (behind ≡ left)
+one_longest text i j behind left a b =
+    let same : piece i.shape (length i.octets) ≡ piece j.shape (length j.octets) = same_piece _ _ (sym (longest_found text i behind a) ∙ longest_found text j left b) in
+    item-is text i j behind left a.split b.split (ap (λ (q : Piece). q.shape) same) (ap (λ (q : Piece). q.len) same)

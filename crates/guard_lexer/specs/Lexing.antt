@@ -1,0 +1,126 @@
+-- The tokens of a text, or its first fault.
+use Rattle.std.specs.Prelude.{◌≡◌, ℕ, ◌+◌, ◌^◌, ◌<◌, ◌≤◌, ◌-◌, Bool, false, ◌⊎◌, ◌&&◌, List, [], ◌∷◌, ◌++◌, length, Option, Some, None, if◌then◌else◌, nat_le, not, IsUtf8, option_map, option_to_list}
+use Rattle.guard_model.specs.declared.site.Site.{Site}
+use Rattle.guard_lexer.specs.Octets.{is_letter_or_digit, is_digit, is_hyphen, begins}
+use Rattle.guard_lexer.specs.Shapes.{IsShape, number_value}
+use Rattle.guard_lexer.specs.Words.{word_kind}
+use Rattle.guard_lexer.specs.Sites.{site_at}
+use Rattle.guard_lexer.specs.declared.fault.LexFault.{LexFault}
+use Rattle.guard_lexer.specs.declared.fault.LexFault.TheVariants as faults
+use Rattle.guard_lexer.specs.declared.shape.Shape.{Shape}
+use Rattle.guard_lexer.specs.declared.shape.Shape.TheVariants as shape
+use Rattle.guard_lexer.specs.declared.token.Token.{Token}
+use Rattle.guard_lexer.specs.declared.token.TokenKind.{TokenKind}
+use Rattle.guard_lexer.specs.declared.token.TokenKind.TheVariants as kind
+
+-- White space, a comment or a token, with its octets.
+pub record Item : Type 0 where
+  pub shape : Shape
+  pub octets : List ℕ
+
+-- The item stands at the front of text, with `left` behind it, and no longer one stands there.
+pub record IsLongest (text : List ℕ) (item : Item) (left : List ℕ) : Type 0 where
+  pub split : text ≡ item.octets ++ left
+  pub is_item : IsShape item.shape item.octets
+  pub longest : (other : Item) (behind : List ℕ) → text ≡ other.octets ++ behind → IsShape other.shape other.octets → length other.octets ≤ length item.octets
+
+-- A fault that stands so many octets behind the place where it is found.
+pub record Defect : Type 0 where
+  pub offset : ℕ
+  pub fault : Site → LexFault
+
+-- one hyphen, and then neither a letter, a digit nor a hyphen
+abbrev pub is_lone_hyphen : List ℕ → Bool
+is_lone_hyphen [] = false
+is_lone_hyphen (octet ∷ octets) = is_hyphen octet && not (begins is_letter_or_digit octets) && not (begins is_hyphen octets)
+
+abbrev pub bad_character : ℕ → Defect
+bad_character offset = record { offset = offset; fault = λ site. faults.BadCharacter site }
+
+abbrev pub bad_hyphen : Defect
+bad_hyphen = record { offset = 0; fault = λ site. faults.BadHyphen site }
+
+abbrev pub number_too_large : Defect
+number_too_large = record { offset = 0; fault = λ site. faults.NumberTooLarge site }
+
+-- What is wrong with an item, by its octets and what is left behind it. A digit can stand directly behind the number 0 alone.
+abbrev pub defect : Shape → List ℕ → List ℕ → Option Defect
+defect shape.WhiteSpace octets behind = None
+defect shape.LineComment octets behind = None
+defect shape.Word octets behind = if is_lone_hyphen behind then Some bad_hyphen else None
+defect shape.Number octets behind =
+    if nat_le (2 ^ 128) (number_value octets) then Some number_too_large
+    else (if begins is_digit behind then Some (bad_character (length octets)) else None)
+defect (shape.Mark mark) octets behind = None
+
+-- Up to `left` the text is these items in turn, each the longest where it stands, and none at fault.
+abbrev pub IsCut : List ℕ → List Item → List ℕ → Type 0
+IsCut text [] left = text ≡ left
+IsCut text (item ∷ items) left =
+    (behind : List ℕ) × IsLongest text item behind × (defect item.shape item.octets behind ≡ None) × IsCut behind items left
+
+abbrev pub kind_of : Shape → List ℕ → Option TokenKind
+kind_of shape.WhiteSpace octets = None
+kind_of shape.LineComment octets = None
+kind_of shape.Word octets = Some (word_kind octets)
+kind_of shape.Number octets = Some kind.Number
+kind_of (shape.Mark mark) octets = Some (kind.Mark mark)
+
+-- the token that an item is, where it is one, at this offset of the text
+abbrev pub token_of : ℕ → List ℕ → ℕ → Item → Option Token
+token_of place text start item =
+    option_map (λ kind. record { kind = kind; start = start; end = start + length item.octets; site = site_at place text start }) (kind_of item.shape item.octets)
+
+-- the tokens among items that stand in the text from this offset on
+abbrev pub tokens_from : ℕ → List ℕ → ℕ → List Item → List Token
+tokens_from place text start [] = []
+tokens_from place text start (item ∷ items) =
+    option_to_list (token_of place text start item) ++ tokens_from place text (start + length item.octets) items
+
+-- no item stands at the front
+abbrev pub BeginsNone : List ℕ → Type 0
+BeginsNone text = (item : Item) (behind : List ℕ) → text ≡ item.octets ++ behind → ¬ (IsShape item.shape item.octets)
+
+-- What is wrong at the front of what is left: no item stands there, or the one that does is at fault.
+abbrev pub HasDefect : List ℕ → Defect → Type 0
+HasDefect left wrong =
+    ((0 < length left) × BeginsNone left × (wrong ≡ bad_character 0))
+    ⊎ ((item : Item) × (behind : List ℕ) × IsLongest left item behind × (defect item.shape item.octets behind ≡ Some wrong))
+
+-- The leftmost fault: what stands before it are items without fault.
+abbrev pub FaultAt : ℕ → List ℕ → LexFault → Type 0
+FaultAt place text fault =
+    (items : List Item) × (left : List ℕ) × (wrong : Defect)
+    × IsCut text items left × HasDefect left wrong
+    × (fault ≡ wrong.fault (site_at place text (length text - length left + wrong.offset)))
+
+abbrev pub longest_text : ℕ
+longest_text = 1048576
+
+-- short enough, and UTF-8
+pub record IsText (text : List ℕ) : Type 0 where
+  pub short : length text ≤ longest_text
+  pub utf8 : IsUtf8 text
+
+-- These are the tokens of the text.
+pub record Lexes (place : ℕ) (text : List ℕ) (tokens : List Token) : Type 0 where
+  pub lawful : IsText text
+  pub items : List Item
+  pub cut : IsCut text items []
+  pub tokens_are : tokens ≡ tokens_from place text 0 items
+
+-- This is the fault that is named: that the text is too long, else that it isn't UTF-8, else the leftmost one.
+abbrev pub FirstFault : ℕ → List ℕ → LexFault → Type 0
+FirstFault place text fault =
+    ((longest_text < length text) × (fault ≡ faults.TextTooLong place))
+    ⊎ ((length text ≤ longest_text) × ¬ (IsUtf8 text) × (fault ≡ faults.NotUtf8 place))
+    ⊎ (IsText text × FaultAt place text fault)
+
+-- a refusal names a fault of the text, unless memory ran out
+abbrev pub fault_named : LexFault → Option LexFault
+fault_named faults.OutOfMemory = None
+fault_named (faults.BadCharacter site) = Some (faults.BadCharacter site)
+fault_named (faults.BadHyphen site) = Some (faults.BadHyphen site)
+fault_named (faults.NumberTooLarge site) = Some (faults.NumberTooLarge site)
+fault_named (faults.NotUtf8 place) = Some (faults.NotUtf8 place)
+fault_named (faults.TextTooLong place) = Some (faults.TextTooLong place)

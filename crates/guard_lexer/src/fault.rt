@@ -1,0 +1,46 @@
+//! Why a text has no tokens.
+ghost use Rattle.std.specs.Prelude.{◌≡◌};
+ghost use Rattle.guard_lexer.specs.declared.fault.LexFault.TheVariants.{OutOfMemory};
+
+use guard_model::Site;
+use std::alloc::{AllocError, AllocFailed};
+use thiserror::Error;
+
+/// Why a text has no tokens: the first fault of the text, or want of memory in place of any other answer. A text
+/// that is too long comes before one that isn't UTF-8, and this before all others, of which the leftmost is named.
+#[derive(Clone, Copy, Debug, PartialEq, Eq, Error)]
+pub enum LexFault {
+    /// Here no token, comment or white space begins, or a digit stands directly behind the number 0.
+    #[error("L1 BadCharacter {0}")]
+    BadCharacter(Site),
+    /// The word here is followed by one hyphen, and then by neither a letter, a digit nor a hyphen.
+    #[error("L4 BadHyphen {0}")]
+    BadHyphen(Site),
+    /// The number here is above 2^128-1.
+    #[error("L5 NumberTooLarge {0}")]
+    NumberTooLarge(Site),
+    /// The text at this place of the list isn't UTF-8.
+    #[error("L6 NotUtf8 {0}")]
+    NotUtf8(u32),
+    /// The text at this place of the list has more than 1,048,576 octets.
+    #[error("L7 TextTooLong {0}")]
+    TextTooLong(u32),
+    #[error("OutOfMemory")]
+    OutOfMemory,
+}
+
+impl From<AllocError> for LexFault {
+    ghost from_gives = { λ _ e. e ≡ OutOfMemory };
+
+    fn from(_e: AllocError) -> LexFault {
+        LexFault::OutOfMemory
+    }
+}
+
+impl<T: Drop> From<AllocFailed<T>> for LexFault {
+    ghost from_gives = { λ _ e. e ≡ OutOfMemory };
+
+    fn from(_e: AllocFailed<T>) -> LexFault {
+        LexFault::OutOfMemory
+    }
+}

@@ -1,0 +1,116 @@
+//! From a text to its tokens.
+ghost use Rattle.std.specs.Prelude.{◌≡◌, ◌+◌, ◌<◌, ◌≤◌, ◌^◌, ◌++◌, ◌⊎◌, ℕ, [], List, length, take, drop, MatchResult, IfOk, IfErr, Ok, Err};
+ghost use Rattle.guard_model.specs.Answer.{Gives};
+ghost use Rattle.guard_lexer.specs.Shapes.{IsShape};
+ghost use Rattle.guard_lexer.specs.Sites.{site_after};
+ghost use Rattle.guard_lexer.specs.Spans.{AreSpans};
+ghost use Rattle.guard_lexer.specs.Lexing.{Item, Defect, defect, kind_of, tokens_from, IsLongest, IsCut, HasDefect, FaultAt, Lexes, FirstFault, longest_text, fault_named};
+ghost use Rattle.guard_lexer.specs.Reading.{item_of, IsItemAt, IsFaultAt};
+ghost use Rattle.guard_lexer.specs.declared.fault.LexFault.TheVariants.{OutOfMemory};
+
+use crate::defect::fault_of;
+use crate::fault::LexFault;
+use crate::front::front;
+use crate::shape::{Piece, Shape};
+use crate::site::past;
+use crate::token::{Token, TokenKind};
+use crate::word::word_kind;
+use guard_model::Site;
+use std::alloc::Global;
+use std::str;
+
+/// The greatest number of octets of a text.
+pub const LONGEST_TEXT: usize = 1_048_576;
+
+/// The tokens of a text, in order; white space and comments are none. `place` is the place of the text in the list
+/// that was handed in, from 1, and stands in the sites alone.
+///
+/// It refuses a text of more than 1,048,576 octets (TextTooLong), else one that isn't UTF-8 (NotUtf8), else one with
+/// another fault, by the leftmost of them; OutOfMemory may stand in place of any answer.
+pub fn tokens(alloc: Global, place: u32, text: &[u8]) -> Result<Vec<Token>, LexFault>
+    // What is answered are the tokens of the text.
+    ensures tokens { IfOk result (λ v. Lexes place text.now v.items) }
+    // Each is a span of the text, spelled as its kind says.
+    ensures spans { IfOk result (λ v. AreSpans text.now v.items) }
+    // What is refused has this fault first.
+    ensures fault { IfErr result (λ f. (f ≡ OutOfMemory) ⊎ FirstFault place text.now f) }
+    // The tokens of a text are answered, and its first fault is, unless memory runs out.
+    ensures only { (ts : List Token) → Lexes place text.now ts → Gives (λ v. v.items) fault_named result (Ok ts) }
+    ensures refused { (f : LexFault) → FirstFault place text.now f → Gives (λ v. v.items) fault_named result (Err f) }
+{
+    read(alloc, place, text)
+}
+
+fn read(alloc: Global, place: u32, text: &[u8]) -> Result<Vec<Token>, LexFault>
+    ensures tokens { IfOk result (λ v. Lexes place text.now v.items) }
+    ensures fault { IfErr result (λ f. (f ≡ OutOfMemory) ⊎ FirstFault place text.now f) }
+{
+    if text.len() > LONGEST_TEXT {
+        return Err(LexFault::TextTooLong(place));
+    }
+    if str::from_utf8(text).is_err() {
+        return Err(LexFault::NotUtf8(place));
+    }
+    read_items(alloc, place, text)
+}
+
+/// The tokens among the items of a text.
+fn read_items(alloc: Global, place: u32, text: &[u8]) -> Result<Vec<Token>, LexFault>
+    requires { length text.now ≤ longest_text }
+    ensures tokens { IfOk result (λ v. (items : List Item) × IsCut text.now items [] × (v.items ≡ tokens_from place text.now 0 items)) }
+    ensures fault { IfErr result (λ f. (f ≡ OutOfMemory) ⊎ FaultAt place text.now f) }
+{
+    let mut tokens = Vec::new(alloc);
+    let mut site = Site {
+        text: place,
+        line: 1,
+        column: 1,
+    };
+    let mut at = 0;
+    while at < text.len() {
+        let left = &text[at..];
+        let piece = item_at(left, site)?;
+        let (octets, _) = left.split_at(piece.len);
+        let end = at + piece.len;
+        if let Some(kind) = kind_of(piece.shape, octets) {
+            tokens.push(Token {
+                kind,
+                start: at,
+                end,
+                site,
+            })?;
+        }
+        site = past(site, octets);
+        at = end;
+    }
+    Ok(tokens)
+}
+
+/// The longest item at the front of what is left of a text, which stands at the site, if it isn't at fault.
+fn item_at(left: &[u8], site: Site) -> Result<Piece, LexFault>
+    requires some { 0 < length left.now }
+    requires line { site.line + length left.now < 2 ^ 32 }
+    requires column { site.column + length left.now < 2 ^ 32 }
+    ensures item { IfOk result (λ piece. IsItemAt left.now piece) }
+    ensures fault { IfErr result (λ f. (before : List ℕ) → site ≡ site_after site.text before → IsFaultAt site.text before left.now f) }
+{
+    let Some(piece) = front(left) else {
+        return Err(LexFault::BadCharacter(site));
+    };
+    match fault_of(piece, left, site) {
+        Some(fault) => Err(fault),
+        None => Ok(piece),
+    }
+}
+
+/// The token that an item is, if it is one.
+fn kind_of(shape: Shape, octets: &[u8]) -> Option<TokenKind>
+    ensures { result ≡ kind_of shape octets.now }
+{
+    match shape {
+        Shape::WhiteSpace | Shape::LineComment => None,
+        Shape::Word => Some(word_kind(octets)),
+        Shape::Number => Some(TokenKind::Number),
+        Shape::Mark(mark) => Some(TokenKind::Mark(mark)),
+    }
+}

@@ -1,0 +1,20 @@
+//! Tokens of a module text.
+#![tactic(auto)]
+
+mod defect;
+mod fault;
+mod front;
+mod lexer;
+mod octet;
+mod shape;
+mod site;
+mod spelling;
+mod token;
+mod word;
+
+pub use fault::LexFault;
+pub use lexer::{LONGEST_TEXT, tokens};
+pub use token::{Mark, Reserved, Token, TokenKind};
+
+#[cfg(test)]
+mod tests;

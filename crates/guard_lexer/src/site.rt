@@ -1,0 +1,23 @@
+//! Where the octets of a text stand.
+ghost use Rattle.std.specs.Prelude.{◌≡◌, ◌+◌, ◌<◌, ◌^◌, ◌++◌, List, ℕ, length};
+ghost use Rattle.guard_lexer.specs.Sites.{site_after};
+
+use guard_model::Site;
+
+/// The site behind octets that begin at a site.
+pub(crate) fn past(site: Site, octets: &[u8]) -> Site
+    requires line { site.line + length octets.now < 2 ^ 32 }
+    requires column { site.column + length octets.now < 2 ^ 32 }
+    ensures { (before : List ℕ) → site ≡ site_after site.text before → result ≡ site_after site.text (before ++ octets.now) }
+{
+    let mut site = site;
+    for octet in octets {
+        if *octet == b'\n' {
+            site.line += 1;
+            site.column = 1;
+        } else {
+            site.column += 1;
+        }
+    }
+    site
+}

@@ -1,0 +1,11 @@
+pub mod Kinds
+pub mod Lexemes
+pub mod Trees
+pub mod TokensOf
+pub mod Sites
+pub mod Nesting
+pub mod Grammar
+pub mod Views
+pub mod Reading
+pub mod Faults
+pub mod Parses

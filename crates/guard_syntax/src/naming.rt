@@ -1,0 +1,74 @@
+//! The fault where reading stopped, and its site.
+ghost use Rattle.std.specs.Prelude.{◌≡◌, ◌-◌, drop, length};
+ghost use Rattle.guard_syntax.specs.Faults as faults;
+ghost use Rattle.guard_syntax.specs.Faults.{NamesToken};
+
+use crate::ending::end_of;
+use crate::fault::{Spelling, SyntaxFault};
+use crate::halt::{Halt, Stop};
+use crate::tokens::octets;
+use guard_lexer::{Mark, Token, TokenKind};
+use guard_model::Site;
+
+/// The fault where reading stopped.
+pub fn fault(place: u32, text: &[u8], tokens: &[Token], halt: Halt) -> SyntaxFault
+    ensures memory { halt ≡ Halt.NoMemory → result ≡ SyntaxFault.OutOfMemory }
+    ensures named { NamesToken place text.now tokens.now result }
+{
+    match halt {
+        Halt::NoMemory => SyntaxFault::OutOfMemory,
+        Halt::At(Stop::Unexpected(left)) => unexpected(place, text, last(tokens, left)),
+        Halt::At(Stop::TooDeep(left)) => too_deep(place, text, last(tokens, left)),
+    }
+}
+
+/// The last tokens, as many as are said.
+fn last(tokens: &[Token], left: usize) -> &[Token]
+    ensures { result.now ≡ drop (length tokens.now - left) tokens.now }
+{
+    &tokens[tokens.len().saturating_sub(left)..]
+}
+
+fn too_deep(place: u32, text: &[u8], tokens: &[Token]) -> SyntaxFault
+    ensures { NamesToken place text.now tokens.now result }
+{
+    match tokens {
+        [first, ..] => SyntaxFault::TooDeep(first.site),
+        [] => SyntaxFault::Unexpected(end_of(place, text)),
+    }
+}
+
+fn unexpected(place: u32, text: &[u8], tokens: &[Token]) -> SyntaxFault
+    ensures { NamesToken place text.now tokens.now result }
+{
+    match tokens {
+        [] => SyntaxFault::Unexpected(end_of(place, text)),
+        [comma, next, ..]
+            if comma.kind == TokenKind::Mark(Mark::Comma) && is_extension(next.kind) => {
+            SyntaxFault::Unsupported(Spelling::of(octets(text, next)), next.site)
+        }
+        [first, ..] if is_left_out(first.kind) => {
+            SyntaxFault::Unsupported(Spelling::of(octets(text, first)), first.site)
+        }
+        [first, ..] => SyntaxFault::Unexpected(first.site),
+    }
+}
+
+/// Whether a token belongs to a form that is left out.
+fn is_left_out(kind: TokenKind) -> bool
+    ensures { result ≡ faults.is_left_out kind }
+{
+    kind == TokenKind::Unsupported
+        || is_extension(kind)
+        || kind == TokenKind::Mark(Mark::LeftVersionBrackets)
+        || kind == TokenKind::Mark(Mark::RightVersionBrackets)
+        || kind == TokenKind::Mark(Mark::CommercialAt)
+        || kind == TokenKind::Mark(Mark::FullStop)
+}
+
+/// Whether a token begins an extension or an exception.
+fn is_extension(kind: TokenKind) -> bool
+    ensures { result ≡ faults.is_extension kind }
+{
+    kind == TokenKind::Mark(Mark::Ellipsis) || kind == TokenKind::Mark(Mark::Exclamation)
+}

@@ -1,0 +1,40 @@
+//! The one call of the parser.
+ghost use Rattle.std.specs.Prelude.{IfOk, IfErr, Ok};
+ghost use Rattle.guard_model.specs.Answer.{Gives};
+ghost use Rattle.guard_syntax.specs.Faults.{NamesToken, fault_of};
+ghost use Rattle.guard_syntax.specs.Lexemes.{lexemes_of, sites_of};
+ghost use Rattle.guard_syntax.specs.Parses.{IsWritten, HasSites};
+ghost use Rattle.guard_syntax.specs.Sites.{sited};
+ghost use Rattle.guard_syntax.specs.Trees.{WrittenModule};
+ghost use Rattle.guard_syntax.specs.Views.{module_view};
+
+use crate::fault::SyntaxFault;
+use crate::module::module;
+use crate::naming::fault;
+use crate::tree::Module;
+use guard_lexer::Token;
+use std::alloc::Global;
+
+/// The tree of a module text, from its tokens. `place` is the text's place in its list, from 1; the sites of faults name it.
+///
+/// The tree is the one that is written with these tokens. Where there is none the fault is P1 Unexpected, P2 Unsupported or
+/// P3 TooDeep, at the first token with which the tokens so far begin no module. OutOfMemory may stand in place of any answer.
+pub fn parse<'a>(
+    alloc: Global,
+    place: u32,
+    text: &'a [u8],
+    tokens: &[Token],
+) -> Result<Module<'a>, SyntaxFault>
+    // The tree is written with these tokens, and has their sites.
+    ensures found { IfOk result (λ m. IsWritten (module_view m) (lexemes_of text.now tokens.now)) }
+    ensures sites { IfOk result (λ m. HasSites (module_view m) (sites_of tokens.now)) }
+    // A tree that is written with these tokens is answered, unless memory runs out. So a fault comes only where there is none.
+    ensures only { (m : WrittenModule) → IsWritten m (lexemes_of text.now tokens.now) → Gives module_view fault_of result (Ok (sited m (sites_of tokens.now))) }
+    // P1 is at a token or where the text ends, P2 names a token of a form that is left out, P3 is at a token.
+    ensures named { IfErr result (NamesToken place text.now tokens.now) }
+{
+    match module(alloc, text, tokens) {
+        Ok(module) => Ok(module),
+        Err(halt) => Err(fault(place, text, tokens, halt)),
+    }
+}

@@ -1,104 +1,16 @@
 //! Texts and what is answered. Expected values are worked out by hand from the grammar.
 use super::*;
-use guard_lexer::{Mark, Reserved, Token, TokenKind};
 use guard_model::Site;
 use std::alloc::{AllocError, Global};
 use std::process::Abort;
 use std::test::Fail;
 
-/// The tokens of a text of words, numbers and marks, parted by spaces and line feeds where they have to be.
-fn tokens(alloc: Global, text: &[u8]) -> Result<Vec<Token>, AllocError> {
-    let mut found = Vec::new(alloc);
-    let mut next = 0usize;
-    let mut line = 1u32;
-    let mut column = 1u32;
-    for (at, octet) in text.iter().enumerate() {
-        if at >= next {
-            let (kind, length) = front(text.get(at..).unwrap_or(&[]));
-            next = at.saturating_add(length);
-            if let Some(kind) = kind {
-                let site = Site {
-                    text: 1,
-                    line,
-                    column,
-                };
-                found.push(Token {
-                    kind,
-                    start: at,
-                    end: next,
-                    site,
-                })?;
-            }
-        }
-        if *octet == b'\n' {
-            line = line.saturating_add(1);
-            column = 1;
-        } else {
-            column = column.saturating_add(1);
-        }
-    }
-    Ok(found)
-}
-
-/// What stands at the front, and its length.
-fn front(text: &[u8]) -> (Option<TokenKind>, usize) {
-    match text {
-        [] | [b' ' | b'\n', ..] => (None, 1),
-        [b'.', b'.', b'.', ..] => (Some(TokenKind::Mark(Mark::Ellipsis)), 3),
-        [b':', b':', b'=', ..] => (Some(TokenKind::Mark(Mark::Assignment)), 3),
-        [b'.', b'.', ..] => (Some(TokenKind::Mark(Mark::RangeSeparator)), 2),
-        [b'[', b'[', ..] => (Some(TokenKind::Mark(Mark::LeftVersionBrackets)), 2),
-        [b']', b']', ..] => (Some(TokenKind::Mark(Mark::RightVersionBrackets)), 2),
-        [first, ..] => match mark(*first) {
-            Some(mark) => (Some(TokenKind::Mark(mark)), 1),
-            None => {
-                let length = text
-                    .iter()
-                    .take_while(|octet| octet.is_ascii_alphanumeric() || **octet == b'-')
-                    .count();
-                (Some(word(text.get(..length).unwrap_or(&[]))), length)
-            }
-        },
-    }
-}
-
-fn mark(octet: u8) -> Option<Mark> {
-    match octet {
-        b'{' => Some(Mark::LeftBrace),
-        b'}' => Some(Mark::RightBrace),
-        b'(' => Some(Mark::LeftParenthesis),
-        b')' => Some(Mark::RightParenthesis),
-        b',' => Some(Mark::Comma),
-        b'-' => Some(Mark::Minus),
-        b'.' => Some(Mark::FullStop),
-        b'!' => Some(Mark::Exclamation),
-        b'@' => Some(Mark::CommercialAt),
-        _ => None,
-    }
-}
-
-fn word(spelling: &[u8]) -> TokenKind {
-    match spelling {
-        b"BEGIN" => TokenKind::Reserved(Reserved::Begin),
-        b"BOOLEAN" => TokenKind::Reserved(Reserved::Boolean),
-        b"DEFINITIONS" => TokenKind::Reserved(Reserved::Definitions),
-        b"END" => TokenKind::Reserved(Reserved::End),
-        b"EXPLICIT" => TokenKind::Reserved(Reserved::Explicit),
-        b"INTEGER" => TokenKind::Reserved(Reserved::Integer),
-        b"OPTIONAL" => TokenKind::Reserved(Reserved::Optional),
-        b"SEQUENCE" => TokenKind::Reserved(Reserved::Sequence),
-        b"TAGS" => TokenKind::Reserved(Reserved::Tags),
-        b"CLASS" | b"ENCODING-CONTROL" | b"REAL" => TokenKind::Unsupported,
-        [b'0'..=b'9', ..] => TokenKind::Number,
-        [b'A'..=b'Z', ..] => TokenKind::UpperName,
-        _ => TokenKind::LowerName,
-    }
-}
-
 /// What `parse` answers: the tree with its sites, or the fault.
 fn answer(rt: &impl Abort, alloc: Global, text: &str) -> Result<String, Fail> {
     let text = text.as_bytes();
-    let tokens = tokens(alloc, text)?;
+    let tokens = guard_lexer::tokens(alloc, 1, text)
+        .ok()
+        .ok_or("a text that has tokens")?;
     let mut out = String::new(alloc);
     match parse(alloc, 1, text, &tokens) {
         Ok(module) => {
@@ -423,7 +335,9 @@ fn a_sequence_may_have_64_components_and_more(rt: HostRuntime) -> Result<(), Fai
             (" } END", 1),
         ];
         let text = repeated(alloc, &parts)?;
-        let tokens = tokens(alloc, text.as_bytes())?;
+        let tokens = guard_lexer::tokens(alloc, 1, text.as_bytes())
+            .ok()
+            .ok_or("a text that has tokens")?;
         let module = parse(alloc, 1, text.as_bytes(), &tokens)
             .ok()
             .ok_or("it is a module")?;

@@ -1,0 +1,161 @@
+-- What the steps of a build say together.
+use Rattle.std.proofs.Common.{◌≡◌, ℕ, ◌+◌, length, List, [], ◌∷◌, map, Option, Some, None, Result, Ok, Err, refl, sym, subst, ◌∙◌, inl, inr}
+use Rattle.std.specs.Prelude.{◌⊎◌, IsUtf8, IfOk, IfErr, option_map}
+use Rattle.guard_model.specs.Answer.{Gives, Refuses}
+use Rattle.guard_model.specs.declared.site.Site.{Site}
+use Rattle.guard_model.specs.AbstractType.{AbstractType}
+use Rattle.guard_lexer.specs.declared.token.Token.{Token}
+use Rattle.guard_lexer.specs.declared.fault.LexFault.{LexFault}
+use Rattle.guard_lexer.specs.declared.fault.LexFault.TheVariants as lex
+use Rattle.guard_lexer.specs.Lexing.{Lexes, FirstFault}
+use Rattle.guard_lexer.specs.Spans.{AreSpans}
+use Rattle.guard_syntax.specs.declared.fault.SyntaxFault.{SyntaxFault}
+use Rattle.guard_syntax.specs.declared.fault.SyntaxFault.TheVariants as syntax
+use Rattle.guard_syntax.specs.Trees.{WrittenAssignment, WrittenModule}
+use Rattle.guard_syntax.specs.Lexemes.{lexemes_of, sites_of}
+use Rattle.guard_syntax.specs.Parses.{IsWritten}
+use Rattle.guard_syntax.specs.Sites.{sited}
+use Rattle.guard_syntax.specs.Faults.{NamesToken, fault_of}
+use Rattle.derguard.specs.declared.guard_schema.fault.SchemaFault.{SchemaFault}
+use Rattle.derguard.specs.declared.guard_schema.fault.SchemaFault.TheVariants.{Lex, Syntax, Name, Tag, Cons, OutOfMemory}
+use Rattle.derguard.specs.declared.guard_schema.names.NameFault.TheVariants.{Duplicate}
+use Rattle.derguard.specs.declared.guard_schema.tagging.TagFault.{TagFault}
+use Rattle.derguard.specs.declared.guard_schema.constraints.ConsFault.{ConsFault}
+use Rattle.derguard.specs.SchemaFirst.{or_else}
+use Rattle.derguard.specs.SchemaNames.{AssignTextNames, repeated, assigned_names}
+use Rattle.derguard.specs.SchemaTagging.{nodes, tag_fault}
+use Rattle.derguard.specs.SchemaConstraints.{constraint_fault}
+use Rattle.derguard.specs.SchemaFaults.{named, lex_fault, syntax_fault, name_fault, definition_fault, definitions_fault, module_fault}
+use Rattle.derguard.specs.Schemas.{AbstractSchema, AreDefinitions, denoted_definition, denoted_schema}
+use Rattle.derguard.specs.SchemaAccepts.{IsModuleText, Accepts, IsRefused}
+use Rattle.derguard.specs.SchemaReading.{assigned_result, check_assigned, read_definitions, read_module}
+use Rattle.derguard.proofs.SchemaLaws.{fault_result, read_definitions-is, read_module-is}
+use Rattle.derguard.proofs.SchemaSound.{neither, definitions_are}
+use Rattle.derguard.proofs.SchemaText.{AreTextLexemes, spans_text, module_text}
+
+not_memory : {P : Type 0} (f : LexFault) → (f ≡ lex.OutOfMemory → ⊥) → (f ≡ lex.OutOfMemory) ⊎ P → P
+not_memory f never (inl e) = absurd (never e)
+not_memory f never (inr p) = p
+
+pub lex_refused : (text : List ℕ) (f : LexFault) → (f ≡ lex.OutOfMemory) ⊎ FirstFault 1 text f → IsRefused text (lex_fault f)
+lex_refused text lex.OutOfMemory h = tt
+lex_refused text (lex.BadCharacter site) h = not_memory (lex.BadCharacter site) (λ e. cc) h
+lex_refused text (lex.BadHyphen site) h = not_memory (lex.BadHyphen site) (λ e. cc) h
+lex_refused text (lex.NumberTooLarge site) h = not_memory (lex.NumberTooLarge site) (λ e. cc) h
+lex_refused text (lex.NotUtf8 place) h = not_memory (lex.NotUtf8 place) (λ e. cc) h
+lex_refused text (lex.TextTooLong place) h = not_memory (lex.TextTooLong place) (λ e. cc) h
+
+module _ (text : List ℕ) (tokens : List Token) (lexes : Lexes 1 text tokens) where
+  no_tree : (f : SyntaxFault) → ((m : WrittenModule) → IsWritten m (lexemes_of text tokens) → Refuses (Some f) (Ok (sited m (sites_of tokens)))) → (m : WrittenModule) → IsWritten m (lexemes_of text tokens) → ⊥
+  no_tree f only m w = let e : Ok (sited m (sites_of tokens)) ≡ Err f = only m w in cc
+
+  pub syntax_refused : (f : SyntaxFault) → NamesToken 1 text tokens f → ((m : WrittenModule) → IsWritten m (lexemes_of text tokens) → Refuses (fault_of f) (Ok (sited m (sites_of tokens)))) → IsRefused text (syntax_fault f)
+  syntax_refused syntax.OutOfMemory names only = tt
+  syntax_refused (syntax.Unexpected site) names only = (tokens, lexes, no_tree (syntax.Unexpected site) only, names)
+  syntax_refused (syntax.Unsupported spelling site) names only = (tokens, lexes, no_tree (syntax.Unsupported spelling site) only, names)
+  syntax_refused (syntax.TooDeep site) names only = (tokens, lexes, no_tree (syntax.TooDeep site) only, names)
+
+-- a fault of a module is one of names, tags or constraints
+abbrev IsModuleFault : SchemaFault → Type 0
+IsModuleFault OutOfMemory = ⊥
+IsModuleFault (Lex f) = ⊥
+IsModuleFault (Syntax f) = ⊥
+IsModuleFault (Name f) = Unit {0}
+IsModuleFault (Tag f) = Unit {0}
+IsModuleFault (Cons f) = Unit {0}
+
+abbrev IfFault : Option SchemaFault → Type 0
+IfFault None = Unit {0}
+IfFault (Some f) = IsModuleFault f
+
+either_fault : (a b : Option SchemaFault) → IfFault a → IfFault b → IfFault (or_else a b)
+either_fault None b p q = q
+either_fault (Some f) b p q = p
+
+of_name : (o : Option Site) → IfFault (option_map (λ site. Name (Duplicate site)) o)
+of_name None = tt
+of_name (Some site) = tt
+
+of_tag : (o : Option TagFault) → IfFault (option_map (λ f. Tag f) o)
+of_tag None = tt
+of_tag (Some f) = tt
+
+of_cons : (o : Option ConsFault) → IfFault (option_map (λ f. Cons f) o)
+of_cons None = tt
+of_cons (Some f) = tt
+
+of_definitions : (before : ℕ) (assigned : List WrittenAssignment) → IfFault (definitions_fault before assigned)
+of_definitions before [] = tt
+of_definitions before (a ∷ others) =
+    either_fault (definition_fault before a) (definitions_fault (before + length (nodes a.ty)) others) (either_fault (option_map (λ f. Tag f) (tag_fault before a.ty)) (option_map (λ f. Cons f) (constraint_fault a.ty)) (of_tag (tag_fault before a.ty)) (of_cons (constraint_fault a.ty))) (of_definitions (before + length (nodes a.ty)) others)
+
+of_module : (m : WrittenModule) → IfFault (module_fault m)
+of_module m = either_fault (name_fault m.assignments) (definitions_fault 0 m.assignments) (of_name (repeated (assigned_names m.assignments))) (of_definitions 0 m.assignments)
+
+none_where_ok : {A : Type 0} (o : Option SchemaFault) (x y : A) → fault_result o x ≡ Ok y → (o ≡ None) × (y ≡ x)
+none_where_ok None x y e = (refl, cc)
+none_where_ok (Some f) x y e = absurd cc
+
+some_where_err : {A : Type 0} (o : Option SchemaFault) (x : A) (f : SchemaFault) → fault_result o x ≡ Err f → o ≡ Some f
+some_where_err None x f e = absurd cc
+some_where_err (Some g) x f e = cc
+
+no_name : (o : Option Site) → option_map (λ site. Name (Duplicate site)) o ≡ None → o ≡ None
+no_name None e = refl
+no_name (Some site) e = absurd cc
+
+assigned_once : (o : Option Site) → assigned_result o ≡ Ok tt → o ≡ None
+assigned_once None e = refl
+assigned_once (Some site) e = absurd cc
+
+-- what the names and definitions of a module give
+pub definitions_kept : (assigned : List WrittenAssignment) (types : List (List ℕ × AbstractType)) → AssignTextNames assigned → check_assigned assigned ≡ Ok tt → read_definitions 0 assigned ≡ Ok types → AreDefinitions types
+unfolding check_assigned
+definitions_kept assigned types texts names read =
+    let p = none_where_ok (definitions_fault 0 assigned) (map denoted_definition assigned) types (sym (read_definitions-is 0 assigned texts) ∙ read) in
+    subst AreDefinitions (sym p.1) (definitions_are assigned (assigned_once (repeated (assigned_names assigned)) names) p.0)
+
+module _ (text : List ℕ) (tokens : List Token) (tree : WrittenModule) (is : IsModuleText text tokens tree) (spans : AreSpans text tokens) where
+  texts : IsUtf8 tree.name × AssignTextNames tree.assignments
+  texts = module_text tree (subst AreTextLexemes (sym is.written.tokens) (spans_text text tokens spans))
+
+  reads : read_module tree ≡ fault_result (module_fault tree) (denoted_schema tree)
+  reads = read_module-is tree texts.0 texts.1
+
+  refused_as : (f : SchemaFault) → IsModuleFault f → module_fault tree ≡ Some f → IsRefused text f
+  refused_as (Name f) k e = (tokens, tree, is, e)
+  refused_as (Tag f) k e = (tokens, tree, is, e)
+  refused_as (Cons f) k e = (tokens, tree, is, e)
+  refused_as (Lex f) k e = absurd k
+  refused_as (Syntax f) k e = absurd k
+  refused_as OutOfMemory k e = absurd k
+
+  refused_by : (f : SchemaFault) → read_module tree ≡ Err f → IsRefused text f
+  refused_by f e =
+      let o = some_where_err (module_fault tree) (denoted_schema tree) f (sym reads ∙ e) in
+      refused_as f (subst IfFault o (of_module tree)) o
+
+  pub built_refused : (f : SchemaFault) → Refuses (named f) (read_module tree) → IsRefused text f
+  built_refused OutOfMemory h = tt
+  built_refused (Lex f) h = refused_by (Lex f) h
+  built_refused (Syntax f) h = refused_by (Syntax f) h
+  built_refused (Name f) h = refused_by (Name f) h
+  built_refused (Tag f) h = refused_by (Tag f) h
+  built_refused (Cons f) h = refused_by (Cons f) h
+
+  pub built_accepted : (s : AbstractSchema) → read_module tree ≡ Ok s → Accepts text s
+  built_accepted s h = let p = none_where_ok (module_fault tree) (denoted_schema tree) s (sym reads ∙ h) in (tokens, tree, is, p.0, p.1)
+
+  pub built_sound : (s : AbstractSchema) → read_module tree ≡ Ok s → AreDefinitions s.types
+  built_sound s h =
+      let p = none_where_ok (module_fault tree) (denoted_schema tree) s (sym reads ∙ h) in
+      let q = neither (name_fault tree.assignments) (definitions_fault 0 tree.assignments) p.0 in
+      subst (λ (t : AbstractSchema). AreDefinitions t.types) (sym p.1) (definitions_are tree.assignments (no_name (repeated (assigned_names tree.assignments)) q.0) q.1)
+
+  pub built : (r : Result AbstractSchema SchemaFault) → Gives (λ s. s) named r (read_module tree) → IfOk r (Accepts text) × IfOk r (λ s. AreDefinitions s.types) × IfErr r (IsRefused text)
+  built (Ok s) h = (built_accepted s h, built_sound s h, tt)
+  built (Err f) h = (tt, tt, built_refused f h)
+
+-- the names of a module whose tokens are spans of the text
+pub names_are_texts : (text : List ℕ) (tokens : List Token) (m : WrittenModule) → AreSpans text tokens → IsWritten m (lexemes_of text tokens) → IsUtf8 m.name × AssignTextNames m.assignments
+names_are_texts text tokens m spans written = module_text m (subst AreTextLexemes (sym written.tokens) (spans_text text tokens spans))

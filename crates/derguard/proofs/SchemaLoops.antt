@@ -1,0 +1,155 @@
+-- Reading one item after the other, as a loop does.
+use Rattle.std.proofs.Common.{◌≡◌, ℕ, ◌+◌, ◌<◌, ◌≤◌, List, [], ◌∷◌, ◌++◌, max, map, length, get_or, drop, Option, Some, None, Result, Ok, Err, refl, sym, ap, ◌∙◌, append_assoc, arith, add-one}
+use Rattle.std.proofs.lemmas.List.{append-nil, drop_all}
+use Rattle.std.proofs.Math.Seq.{drop-cons}
+use Rattle.guard_model.specs.Answer.{◌>>=◌, Refuses}
+use Rattle.guard_model.specs.AbstractType.{AbstractType, Constraint}
+use Rattle.guard_model.specs.declared.ty.Presence.TheVariants.{Mandatory}
+use Rattle.guard_model.specs.TypeView.{OneComponent}
+use Rattle.guard_syntax.specs.declared.tree.Assignment.{Assignment}
+use Rattle.guard_syntax.specs.declared.tree.ConsTree.{ConsTree}
+use Rattle.guard_syntax.specs.declared.tree.CompTree.{CompTree}
+use Rattle.guard_syntax.specs.Trees.{components_of}
+use Rattle.guard_syntax.specs.Views.{constraint_view, component_view, set_view, type_view, assignment_view}
+use Rattle.derguard.specs.declared.guard_schema.fault.SchemaFault.{SchemaFault}
+use Rattle.derguard.specs.declared.guard_schema.fault.SchemaFault.TheVariants.{Cons}
+use Rattle.derguard.specs.declared.guard_schema.constraints.ConsFault.{ConsFault}
+use Rattle.derguard.specs.declared.guard_schema.tagging.Checked.{Checked}
+use Rattle.derguard.specs.SchemaReading.{read_set, read_constraints, check_type, check_components, text_octets, build_type, build_component, build_components, read_definition, read_definitions}
+
+-- what was read before, and what is still read
+abbrev pub with_front : {A : Type 0} → List A → Result (List A) SchemaFault → Result (List A) SchemaFault
+with_front front rest = rest >>= λ xs. Ok (front ++ xs)
+
+pub front-nil : {A : Type 0} (rest : Result (List A) SchemaFault) → with_front [] rest ≡ rest
+front-nil (Ok xs) = refl
+front-nil (Err f) = refl
+
+pub regroup : {A : Type 0} (front : List A) (x : A) (rest : Result (List A) SchemaFault) → with_front front (rest >>= λ xs. Ok (x ∷ xs)) ≡ with_front (front ++ x ∷ []) rest
+regroup front x (Ok xs) = ap Ok (sym (append_assoc front (x ∷ []) xs))
+regroup front x (Err f) = refl
+
+-- a step at which reading stops
+pub refused : {A B F : Type 0} (fault : Option F) (step : Result A F) (f : A → Result B F) → Refuses fault step → Refuses fault (step >>= f)
+refused None step f h = tt
+refused (Some fault) (Ok x) f h = absurd cc
+refused (Some fault) (Err e) f h = cc
+
+stopped : {A B : Type 0} (step : Result A SchemaFault) (f : A → B) (fault : SchemaFault) → (step >>= λ x. Ok (f x)) ≡ Err fault → step ≡ Err fault
+stopped (Ok x) f fault e = absurd cc
+stopped (Err d) f fault e = cc
+
+made : {A B : Type 0} (step : Result A SchemaFault) (f : A → B) (y : B) → (step >>= λ x. Ok (f x)) ≡ Ok y → (x : A) × (step ≡ Ok x) × (f x ≡ y)
+made (Ok x) f y e = (x, refl, cc)
+made (Err d) f y e = absurd cc
+
+-- what a loop has before it from one item on
+pub next_item : {X Y : Type 0} (f : X → Y) (xs : List X) (i : ℕ) (d : X) → i < length xs → map f (drop i xs) ≡ f (get_or xs i d) ∷ map f (drop (i + 1) xs)
+next_item f xs i d lt = rw (add-one, drop-cons xs i d lt) refl
+
+pub no_item : {X Y : Type 0} (f : X → Y) (xs : List X) (i : ℕ) → length xs ≤ i → map f (drop i xs) ≡ []
+no_item f xs i le = ap (map f) (drop_all i xs le)
+
+module _ (front : List Constraint) (cs : List ConsTree) (i : ℕ) (total : Result (List Constraint) SchemaFault)
+    (so_far : with_front front (read_constraints (map constraint_view (drop i cs))) ≡ total) where
+  pub constraint_stops : (d : ConsTree) → i < length cs → (f : ConsFault) → read_set (set_view (get_or cs i d).set) ≡ Err f → total ≡ Err (Cons f)
+  unfolding read_constraints
+  constraint_stops d lt f h =
+      let all : with_front front (read_constraints (map constraint_view (drop i cs))) ≡ Err (Cons f) = rw (next_item constraint_view cs i d lt, h) refl in
+      sym so_far ∙ all
+
+  pub next_constraint : (d : ConsTree) → i < length cs → (x : Constraint) → read_set (set_view (get_or cs i d).set) ≡ Ok x → with_front (front ++ x ∷ []) (read_constraints (map constraint_view (drop (i + 1) cs))) ≡ total
+  unfolding read_constraints
+  next_constraint d lt x h =
+      let all : with_front front (read_constraints (map constraint_view (drop i cs))) ≡ with_front (front ++ x ∷ []) (read_constraints (map constraint_view (drop (i + 1) cs))) =
+      rw (next_item constraint_view cs i d lt, h) (regroup front x (read_constraints (map constraint_view (drop (i + 1) cs)))) in
+      sym all ∙ so_far
+
+  pub no_constraint : length cs ≤ i → total ≡ Ok front
+  unfolding read_constraints
+  no_constraint le =
+      let all : with_front front (read_constraints (map constraint_view (drop i cs))) ≡ Ok front = rw (no_item constraint_view cs i le) (ap Ok (append-nil front)) in
+      sym so_far ∙ all
+
+-- beside parts of this nesting
+abbrev pub deeper : ℕ → Result Checked SchemaFault → Result Checked SchemaFault
+deeper nesting rest = rest >>= λ c. Ok (record { nodes = c.nodes; nesting = max nesting c.nesting })
+
+pub deeper-zero : (rest : Result Checked SchemaFault) → deeper 0 rest ≡ rest
+deeper-zero (Ok c) = ap (λ (n : ℕ). Ok (record { nodes = c.nodes; nesting = n })) (omega arith)
+deeper-zero (Err f) = refl
+
+deeper-deeper : (m n : ℕ) (rest : Result Checked SchemaFault) → deeper m (deeper n rest) ≡ deeper (max m n) rest
+deeper-deeper m n (Ok c) = ap (λ (k : ℕ). Ok (record { nodes = c.nodes; nesting = k })) (omega arith)
+deeper-deeper m n (Err f) = refl
+
+module _ (nesting nodes : ℕ) (cs : List CompTree) (i : ℕ) (total : Result Checked SchemaFault)
+    (so_far : deeper nesting (check_components nodes (components_of (map component_view (drop i cs)))) ≡ total) where
+  pub component_stops : (d x : CompTree) → i < length cs → x ≡ get_or cs i d → (f : Option SchemaFault) → Refuses f (check_type nodes (type_view x.ty)) → Refuses f total
+  unfolding check_components
+  component_stops d x lt is None h = tt
+  component_stops d x lt is (Some f) h =
+      let all : deeper nesting (check_components nodes (components_of (map component_view (drop i cs)))) ≡ Err f = rw (next_item component_view cs i d lt, ← is, h) refl in
+      sym so_far ∙ all
+
+  pub next_component : (d x : CompTree) → i < length cs → x ≡ get_or cs i d → (c : Checked) → check_type nodes (type_view x.ty) ≡ Ok c → deeper (max nesting c.nesting) (check_components c.nodes (components_of (map component_view (drop (i + 1) cs)))) ≡ total
+  unfolding check_components
+  next_component d x lt is c h =
+      let all : deeper nesting (check_components nodes (components_of (map component_view (drop i cs)))) ≡ deeper (max nesting c.nesting) (check_components c.nodes (components_of (map component_view (drop (i + 1) cs)))) =
+      rw (next_item component_view cs i d lt, ← is, h) (deeper-deeper nesting c.nesting (check_components c.nodes (components_of (map component_view (drop (i + 1) cs))))) in
+      sym all ∙ so_far
+
+  pub no_component : length cs ≤ i → total ≡ Ok (record { nodes = nodes; nesting = nesting })
+  unfolding check_components
+  no_component le =
+      let all : deeper nesting (check_components nodes (components_of (map component_view (drop i cs)))) ≡ Ok (record { nodes = nodes; nesting = nesting }) =
+      rw (no_item component_view cs i le) (ap (λ (n : ℕ). Ok (record { nodes = nodes; nesting = n })) (omega arith)) in
+      sym so_far ∙ all
+
+module _ (front : List OneComponent) (cs : List CompTree) (i : ℕ) (total : Result (List OneComponent) SchemaFault)
+    (so_far : with_front front (build_components (components_of (map component_view (drop i cs)))) ≡ total) where
+  pub part_stops : (d x : CompTree) → i < length cs → x ≡ get_or cs i d → (f : Option SchemaFault) → Refuses f (build_component x.name.now (type_view x.ty)) → Refuses f total
+  unfolding build_components
+  part_stops d x lt is None h = tt
+  part_stops d x lt is (Some f) h =
+      let e : build_type (type_view x.ty) ≡ Err f = stopped (build_type (type_view x.ty)) (λ t. record { name = text_octets x.name.now; ty = t; presence = Mandatory }) f h in
+      let all : with_front front (build_components (components_of (map component_view (drop i cs)))) ≡ Err f = rw (next_item component_view cs i d lt, ← is, e) refl in
+      sym so_far ∙ all
+
+  pub next_part : (d x : CompTree) → i < length cs → x ≡ get_or cs i d → (one : OneComponent) → build_component x.name.now (type_view x.ty) ≡ Ok one
+      → with_front (front ++ one ∷ []) (build_components (components_of (map component_view (drop (i + 1) cs)))) ≡ total
+  unfolding build_components
+  next_part d x lt is one h =
+      let m = made (build_type (type_view x.ty)) (λ t. record { name = text_octets x.name.now; ty = t; presence = Mandatory }) one h in
+      let all : with_front front (build_components (components_of (map component_view (drop i cs)))) ≡ with_front (front ++ one ∷ []) (build_components (components_of (map component_view (drop (i + 1) cs)))) =
+      rw (next_item component_view cs i d lt, ← is, m.1, m.2) (regroup front one (build_components (components_of (map component_view (drop (i + 1) cs))))) in
+      sym all ∙ so_far
+
+  pub no_part : length cs ≤ i → total ≡ Ok front
+  unfolding build_components
+  no_part le =
+      let all : with_front front (build_components (components_of (map component_view (drop i cs)))) ≡ Ok front = rw (no_item component_view cs i le) (ap Ok (append-nil front)) in
+      sym so_far ∙ all
+
+module _ (front : List (List ℕ × AbstractType)) (nodes : ℕ) (rest : List Assignment) (i : ℕ) (total : Result (List (List ℕ × AbstractType)) SchemaFault)
+    (so_far : with_front front (read_definitions nodes (map assignment_view (drop i rest))) ≡ total) where
+  pub definition_stops : (d x : Assignment) → i < length rest → x ≡ get_or rest i d → (f : Option SchemaFault) → Refuses f (read_definition nodes (assignment_view x)) → Refuses f total
+  unfolding read_definitions
+  definition_stops d x lt is None h = tt
+  definition_stops d x lt is (Some f) h =
+      let all : with_front front (read_definitions nodes (map assignment_view (drop i rest))) ≡ Err f = rw (next_item assignment_view rest i d lt, ← is, h) refl in
+      sym so_far ∙ all
+
+  pub next_definition : (d x : Assignment) → i < length rest → x ≡ get_or rest i d → (one : List ℕ × AbstractType) (after : ℕ) → read_definition nodes (assignment_view x) ≡ Ok (one, after)
+      → with_front (front ++ one ∷ []) (read_definitions after (map assignment_view (drop (i + 1) rest))) ≡ total
+  unfolding read_definitions
+  next_definition d x lt is one after h =
+      let all : with_front front (read_definitions nodes (map assignment_view (drop i rest))) ≡ with_front (front ++ one ∷ []) (read_definitions after (map assignment_view (drop (i + 1) rest))) =
+      rw (next_item assignment_view rest i d lt, ← is, h) (regroup front one (read_definitions after (map assignment_view (drop (i + 1) rest)))) in
+      sym all ∙ so_far
+
+  pub no_definition : length rest ≤ i → total ≡ Ok front
+  unfolding read_definitions
+  no_definition le =
+      let all : with_front front (read_definitions nodes (map assignment_view (drop i rest))) ≡ Ok front = rw (no_item assignment_view rest i le) (ap Ok (append-nil front)) in
+      sym so_far ∙ all

@@ -1,0 +1,17 @@
+use Rattle.std.proofs.Common.{◌≡◌, map}
+use Rattle.std.specs.Slice.Iter.{iter_rest}
+use Rattle.std.specs.Iterator.Adapters.{zip_first, zip_second}
+use Rattle.guard_model.specs.TypeView.{component_view, components_of}
+use Rattle.guard_model.specs.ValueView.{fields_view}
+use Rattle.derguard.specs.Member.{fields_are_members}
+use Rattle.derguard.proofs.guard_eval.members.+members.Given as goal
+
+-- the components that are left decide
+abbrev pub invariant-fields_are_members-loop-comp : goal.invariant-fields_are_members-loop-comp
+invariant-fields_are_members-loop-comp l = record {
+  can_next : (goal.iterator-fields_are_members-loop-comp).can_next l.comp-iterator;
+  is_finite : (goal.iterator-fields_are_members-loop-comp).is_finite l.comp-iterator;
+  left :
+      fields_are_members (components_of (map component_view (iter_rest (zip_first l.comp-iterator)))) (fields_view (iter_rest (zip_second l.comp-iterator)))
+      ≡ fields_are_members (components_of (map component_view l.comps)) (fields_view l.fields);
+}

@@ -1,0 +1,20 @@
+-- What the first run prints, and why it prints nothing.
+use Rattle.std.specs.Prelude.{ℕ, List}
+use Rattle.derguard.specs.declared.first_run.FirstFault.{FirstFault}
+use Rattle.derguard.specs.declared.first_run.FirstFault.TheVariants.{Schema, NoType, OutOfMemory}
+use Rattle.derguard.specs.Schemas.{AbstractSchema}
+use Rattle.derguard.specs.SchemaAccepts.{Accepts, IsRefused}
+use Rattle.derguard.specs.Policies.{AbstractPolicy}
+use Rattle.derguard.specs.BuiltIn.{IsBuiltIn, HasNoBuiltIn}
+use Rattle.derguard.specs.Printing.{AreLines}
+use Rattle.derguard.specs.FirstRun.{first_messages}
+
+-- The text is accepted as a schema, and the octets are a line for each of the four messages by the built-in policy over it.
+abbrev pub Prints : List ℕ → List ℕ → Type 0
+Prints text out =
+    (s : AbstractSchema) × (p : AbstractPolicy) × Accepts text s × IsBuiltIn s p × AreLines p first_messages out
+
+abbrev pub IsFirstFault : List ℕ → FirstFault → Type 0
+IsFirstFault text (Schema f) = IsRefused text f
+IsFirstFault text NoType = (s : AbstractSchema) × Accepts text s × HasNoBuiltIn s
+IsFirstFault text OutOfMemory = Unit {0}

@@ -1,0 +1,19 @@
+//! Schemas: from the text of a module to the types that it assigns.
+
+mod build;
+mod constraints;
+mod fault;
+mod names;
+mod schema;
+mod tagging;
+mod values;
+
+pub use constraints::ConsFault;
+pub use fault::SchemaFault;
+pub use names::NameFault;
+pub use schema::Schema;
+pub use tagging::TagFault;
+pub use values::ValueFault;
+
+#[cfg(test)]
+mod tests;

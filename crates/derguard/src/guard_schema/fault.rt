@@ -1,0 +1,74 @@
+//! Why texts make no schema.
+ghost use Rattle.std.specs.Prelude.{◌≡◌};
+ghost use Rattle.derguard.specs.declared.guard_schema.fault.SchemaFault.TheVariants.{OutOfMemory};
+
+use crate::guard_schema::constraints::ConsFault;
+use crate::guard_schema::names::NameFault;
+use crate::guard_schema::tagging::TagFault;
+use guard_lexer::LexFault;
+use guard_syntax::SyntaxFault;
+use std::alloc::{AllocError, AllocFailed};
+use thiserror::Error;
+
+/// Why a text makes no schema: the first fault, or want of memory in place of any other answer. The text is cut into
+/// tokens, then read as a module, then its names are looked at, then its definitions in written order, and of each
+/// first the tags and then the constraints. Each fault prints as itself.
+#[derive(Debug, Drop, Error)]
+pub enum SchemaFault {
+    #[error("{0}")]
+    Lex(LexFault),
+    #[error("{0}")]
+    Syntax(SyntaxFault),
+    #[error("{0}")]
+    Name(NameFault),
+    #[error("{0}")]
+    Tag(TagFault),
+    #[error("{0}")]
+    Cons(ConsFault),
+    #[error("OutOfMemory")]
+    OutOfMemory,
+}
+
+impl From<LexFault> for SchemaFault {
+    ghost use Rattle.std.specs.Prelude.{◌≡◌};
+    ghost use Rattle.derguard.specs.SchemaFaults.{lex_fault};
+
+    ghost from_gives = { λ f e. e ≡ lex_fault f };
+
+    fn from(fault: LexFault) -> SchemaFault {
+        match fault {
+            LexFault::OutOfMemory => SchemaFault::OutOfMemory,
+            fault => SchemaFault::Lex(fault),
+        }
+    }
+}
+
+impl From<SyntaxFault> for SchemaFault {
+    ghost use Rattle.std.specs.Prelude.{◌≡◌};
+    ghost use Rattle.derguard.specs.SchemaFaults.{syntax_fault};
+
+    ghost from_gives = { λ f e. e ≡ syntax_fault f };
+
+    fn from(fault: SyntaxFault) -> SchemaFault {
+        match fault {
+            SyntaxFault::OutOfMemory => SchemaFault::OutOfMemory,
+            fault => SchemaFault::Syntax(fault),
+        }
+    }
+}
+
+impl From<AllocError> for SchemaFault {
+    ghost from_gives = { λ _ e. e ≡ OutOfMemory };
+
+    fn from(_e: AllocError) -> SchemaFault {
+        SchemaFault::OutOfMemory
+    }
+}
+
+impl<T: Drop> From<AllocFailed<T>> for SchemaFault {
+    ghost from_gives = { λ _ e. e ≡ OutOfMemory };
+
+    fn from(_e: AllocFailed<T>) -> SchemaFault {
+        SchemaFault::OutOfMemory
+    }
+}

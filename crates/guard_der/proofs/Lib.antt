@@ -1,0 +1,15 @@
+pub mod Room
+pub mod Digits
+pub mod Results
+pub mod Integers
+pub mod Fields
+pub mod Heads
+pub mod Headers
+pub mod Steps
+pub mod Paths
+pub mod TypeViews
+pub mod Components
+pub mod Encodings
+pub mod Breaches
+pub mod Messages
+pub mod Soundness

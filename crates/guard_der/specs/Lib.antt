@@ -1,0 +1,11 @@
+pub mod Octets
+pub mod Element
+pub mod Der
+pub mod Fits
+pub mod Sound
+pub mod Head
+pub mod Header
+pub mod Breach
+pub mod Views
+pub mod Reading
+pub mod Rows

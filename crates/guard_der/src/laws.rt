@@ -1,0 +1,36 @@
+//! Laws of the encoding, over the definitions alone. Each is carried by a function that does nothing when it runs.
+ghost use Rattle.std.specs.Prelude.{◌≡◌, ℕ, List, ◌++◌, Some, IsTrue, ◌⊎◌};
+ghost use Rattle.guard_model.specs.TypeView.{type_view};
+ghost use Rattle.guard_model.specs.ValueView.{value_view};
+ghost use Rattle.guard_model.specs.AbstractValue.{AbstractValue};
+ghost use Rattle.guard_der.specs.Der.{der};
+ghost use Rattle.guard_der.specs.Fits.{fits};
+ghost use Rattle.guard_der.specs.Sound.{is_sound};
+ghost use Rattle.guard_der.specs.Breach.{AbstractBreach, IsBreach};
+
+use guard_model::{Ty, Value};
+
+/// One encoding has one value.
+pub fn law_one_encoding(ty: &Ty, one: &Value, other: &Value, octets: &[u8])
+    requires sound { IsTrue (is_sound (type_view ty.now)) }
+    requires one_fits { IsTrue (fits (type_view ty.now) (value_view one.now)) }
+    requires other_fits { IsTrue (fits (type_view ty.now) (value_view other.now)) }
+    ensures { der (type_view ty.now) (value_view one.now) ≡ Some octets.now → der (type_view ty.now) (value_view other.now) ≡ Some octets.now → value_view one.now ≡ value_view other.now }
+{}
+
+/// No encoding begins another: where octets begin with the encodings of two values, the values are one, and so is what follows.
+pub fn law_no_prefix(ty: &Ty, one: &Value, other: &Value)
+    requires sound { IsTrue (is_sound (type_view ty.now)) }
+    requires one_fits { IsTrue (fits (type_view ty.now) (value_view one.now)) }
+    requires other_fits { IsTrue (fits (type_view ty.now) (value_view other.now)) }
+    ensures { (first second x y : List ℕ) → der (type_view ty.now) (value_view one.now) ≡ Some first → der (type_view ty.now) (value_view other.now) ≡ Some second
+        → first ++ x ≡ second ++ y → (value_view one.now ≡ value_view other.now) × (x ≡ y) }
+{}
+
+/// Octets are the encoding of a value or have a breach, never both or neither, and one breach.
+pub fn law_one_answer(ty: &Ty, octets: &[u8])
+    requires { IsTrue (is_sound (type_view ty.now)) }
+    ensures one { ((v : AbstractValue) × IsTrue (fits (type_view ty.now) v) × (der (type_view ty.now) v ≡ Some octets.now)) ⊎ ((b : AbstractBreach) × IsBreach (type_view ty.now) octets.now b) }
+    ensures never_both { (v : AbstractValue) (b : AbstractBreach) → IsTrue (fits (type_view ty.now) v) → der (type_view ty.now) v ≡ Some octets.now → IsBreach (type_view ty.now) octets.now b → ⊥ }
+    ensures one_breach { (b c : AbstractBreach) → IsBreach (type_view ty.now) octets.now b → IsBreach (type_view ty.now) octets.now c → b ≡ c }
+{}

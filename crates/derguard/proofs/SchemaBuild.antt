@@ -40,6 +40,8 @@ not_memory f never (inr p) = p
 pub lex_refused : (text : List ℕ) (f : LexFault) → (f ≡ lex.OutOfMemory) ⊎ FirstFault 1 text f → IsRefused text (lex_fault f)
 lex_refused text lex.OutOfMemory h = tt
 lex_refused text (lex.BadCharacter site) h = not_memory (lex.BadCharacter site) (λ e. cc) h
+lex_refused text (lex.BadString site) h = not_memory (lex.BadString site) (λ e. cc) h
+lex_refused text (lex.OpenComment site) h = not_memory (lex.OpenComment site) (λ e. cc) h
 lex_refused text (lex.BadHyphen site) h = not_memory (lex.BadHyphen site) (λ e. cc) h
 lex_refused text (lex.NumberTooLarge site) h = not_memory (lex.NumberTooLarge site) (λ e. cc) h
 lex_refused text (lex.NotUtf8 place) h = not_memory (lex.NotUtf8 place) (λ e. cc) h

@@ -14,7 +14,7 @@ use Rattle.guard_lexer.specs.declared.token.TokenKind.TheVariants as kind
 use Rattle.guard_lexer.specs.Shapes.{is_of_word, are_of_word, is_word}
 use Rattle.guard_lexer.specs.Spans.{IsSpan, AreSpans, IsSpelled}
 use Rattle.guard_syntax.specs.declared.tree.TagDefault.TheVariants as default
-use Rattle.guard_syntax.specs.Lexemes.{Lexeme, word, mark, upper_name, lower_name, number, unsupported, lexeme_of, octets_of, lexemes_of}
+use Rattle.guard_syntax.specs.Lexemes.{Lexeme, word, mark, upper_name, lower_name, number, character_string, bit_string, hexadecimal_string, unsupported, lexeme_of, octets_of, lexemes_of}
 use Rattle.guard_syntax.specs.Trees.{WrittenNumber, WrittenSet, range, WrittenConstraint, WrittenType, type_node, WrittenBase, boolean, integer, sequence, WrittenComponents, no_components, component, WrittenAssignment, WrittenModule}
 use Rattle.guard_syntax.specs.TokensOf.{sign_then, number_then, set_then, constraints_then, comma_then, type_then, base_then, components_then, assignments_then, tag_default_then, tokens_of}
 use Rattle.guard_syntax.specs.declared.tree.TagDefault.{TagDefault}
@@ -50,6 +50,9 @@ IsTextLexeme (mark m) = Unit {0}
 IsTextLexeme (upper_name s) = IsUtf8 s
 IsTextLexeme (lower_name s) = IsUtf8 s
 IsTextLexeme (number s) = Unit {0}
+IsTextLexeme (character_string s) = Unit {0}
+IsTextLexeme (bit_string s) = Unit {0}
+IsTextLexeme (hexadecimal_string s) = Unit {0}
 IsTextLexeme (unsupported s) = Unit {0}
 
 abbrev pub AreTextLexemes : List Lexeme → Type 0
@@ -61,6 +64,9 @@ spelled_text (kind.Mark m) octets h = tt
 spelled_text kind.UpperName octets h = word_is_text octets h.0.word
 spelled_text kind.LowerName octets h = word_is_text octets h.0.word
 spelled_text kind.Number octets h = tt
+spelled_text kind.CharacterString octets h = tt
+spelled_text kind.BitString octets h = tt
+spelled_text kind.HexadecimalString octets h = tt
 spelled_text kind.Unsupported octets h = tt
 
 pub spans_text : (text : List ℕ) (tokens : List Token) → AreSpans text tokens → AreTextLexemes (lexemes_of text tokens)

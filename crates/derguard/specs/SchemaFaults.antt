@@ -25,6 +25,8 @@ named (Cons f) = Some (Cons f)
 abbrev pub lex_fault : LexFault → SchemaFault
 lex_fault lex.OutOfMemory = OutOfMemory
 lex_fault (lex.BadCharacter site) = Lex (lex.BadCharacter site)
+lex_fault (lex.BadString site) = Lex (lex.BadString site)
+lex_fault (lex.OpenComment site) = Lex (lex.OpenComment site)
 lex_fault (lex.BadHyphen site) = Lex (lex.BadHyphen site)
 lex_fault (lex.NumberTooLarge site) = Lex (lex.NumberTooLarge site)
 lex_fault (lex.NotUtf8 place) = Lex (lex.NotUtf8 place)

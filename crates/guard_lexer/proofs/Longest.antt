@@ -1,14 +1,14 @@
 -- What reading finds at the front is the longest item there.
-use Rattle.std.proofs.Common.{◌≡◌, ℕ, suc, ◌≤◌, ◌<◌, true, false, eqb, ◌&&◌, ◌||◌, not, List, [], ◌∷◌, ◌++◌, length, take, drop, Option, Some, None, refl, sym, ap, subst, ◌∙◌, inl, inr, ◌⊎◌, arith}
+use Rattle.std.proofs.Common.{◌≡◌, ℕ, suc, ◌-◌, ◌≤◌, ◌<◌, true, false, eqb, ◌&&◌, ◌||◌, not, List, [], ◌∷◌, ◌++◌, length, take, drop, Option, Some, None, refl, sym, ap, subst, ◌∙◌, inl, inr, ◌⊎◌, arith}
 use Rattle.std.specs.Prelude.{option_map}
 use Rattle.std.specs.List.{list_all, prefix_len}
-use Rattle.std.proofs.lemmas.Bool.{and_parts, and_from, or_cases, or_left, or_right, cases_Bool, false≢true, cond_both, eqb-true, cases_lt}
-use Rattle.std.proofs.lemmas.List.{take-append-drop, take_at, drop_at, length-take}
+use Rattle.std.proofs.lemmas.Bool.{and_parts, and_from, or_cases, or_left, or_right, cases_Bool, false≢true, cond_both, eqb-true, cases_lt, not-true}
+use Rattle.std.proofs.lemmas.List.{take-append-drop, take_at, drop_at, length-take, length-append}
 use Rattle.std.proofs.lemmas.List.Sums.{prefix_len-le-length}
-use Rattle.guard_lexer.specs.Octets.{is_letter, is_digit, is_hyphen, is_white_space, begins}
-use Rattle.guard_lexer.specs.Shapes.{is_one_white_space, is_word, are_of_word, is_number, is_line_comment, is_line_comment_body, IsShape}
+use Rattle.guard_lexer.specs.Octets.{is_letter, is_digit, is_hyphen, is_quote, is_apostrophe, is_slash, is_asterisk, is_of_bits, is_of_hexadecimal, is_white_space, begins}
+use Rattle.guard_lexer.specs.Shapes.{is_one_white_space, is_word, are_of_word, is_number, is_line_comment, is_line_comment_body, opens, is_block_rest, is_block_comment, is_string_rest, is_character_string, is_digits_rest, is_bit_string, is_hexadecimal_string, IsShape}
 use Rattle.guard_lexer.specs.Spelling.{mark_spelling}
-use Rattle.guard_lexer.specs.Reading.{word_len, number_len, body_len, mark_at, piece, mark_piece, front, item_of}
+use Rattle.guard_lexer.specs.Reading.{word_len, number_len, body_len, mark_at, block_behind, string_behind, bits_behind, hexadecimal_behind, piece, mark_piece, piece_before, digits_piece, front, item_of}
 use Rattle.guard_lexer.specs.Lexing.{Item, IsLongest, BeginsNone}
 use Rattle.guard_lexer.specs.declared.shape.Piece.{Piece}
 use Rattle.guard_lexer.specs.declared.shape.Shape.{Shape}
@@ -17,6 +17,7 @@ use Rattle.guard_lexer.specs.declared.token.Mark.{Mark}
 use Rattle.guard_lexer.specs.declared.token.Mark.TheVariants as mark
 use Rattle.guard_lexer.proofs.Exclusion.{letter-not_white, digit-not_white, digit-not_letter, hyphen-is}
 use Rattle.guard_lexer.proofs.Pieces.{word-longest, word-is, word-fits, digits-longest, digits-are, body-longest, body-is, body-fits}
+use Rattle.guard_lexer.proofs.Behind.{block-again, block-found, string-again, string-found, digits-again, digits-found, no_bits}
 use Rattle.guard_lexer.proofs.Marks.{mark_len, mark-nonempty, same_mark, mark-found, mark-stands}
 
 -- ---- each first octet has its way
@@ -135,11 +136,65 @@ covers-mark m behind =
       | inr c ↦ c
     ]
 
-pub covers : (s : Shape) (octets behind : List ℕ) → IsShape s octets → Covers s octets (front (octets ++ behind))
+-- what is read up to what is left has the length of what stands before
+before-len : (octets left : List ℕ) → length octets ≡ length (octets ++ left) - length left
+before-len octets left = omega (arith, length-append octets left)
+
+covers-block_comment : (octets behind : List ℕ) → is_block_comment octets ≡ true → Covers shape.BlockComment octets (front (octets ++ behind))
+covers-block_comment [] behind h = absurd (false≢true h)
+covers-block_comment (a ∷ []) behind h = absurd (false≢true h)
+covers-block_comment (a ∷ b ∷ os) behind h =
+    let p = and_parts (opens a b) (is_block_rest 0 os) h in
+    let q = and_parts (is_slash a) (is_asterisk b) p.0 in
+    let made : List ℕ → Option (List ℕ) → Option Piece = λ text o. option_map (piece_before shape.BlockComment text) o in
+    let e : front (a ∷ b ∷ os ++ behind) ≡ made (a ∷ b ∷ os ++ behind) (block_behind 0 (os ++ behind)) =
+    subst (λ (x : ℕ). front (x ∷ b ∷ os ++ behind) ≡ made (x ∷ b ∷ os ++ behind) (block_behind 0 (os ++ behind))) (sym (eqb-true a 47 q.0))
+    (subst (λ (x : ℕ). front (47 ∷ x ∷ os ++ behind) ≡ made (47 ∷ x ∷ os ++ behind) (block_behind 0 (os ++ behind))) (sym (eqb-true b 42 q.1)) refl) in
+    (shape.BlockComment, length (a ∷ b ∷ os ++ behind) - length behind, e ∙ ap (made (a ∷ b ∷ os ++ behind)) (block-again 0 os behind p.1), inr (before-len (a ∷ b ∷ os) behind, refl))
+
+covers-string : (octets behind : List ℕ) → is_character_string octets ≡ true → not (begins is_quote behind) ≡ true → Covers shape.CharacterString octets (front (octets ++ behind))
+covers-string [] behind h none = absurd (false≢true h)
+covers-string (a ∷ os) behind h none =
+    let p = and_parts (is_quote a) (is_string_rest os) h in
+    let made : List ℕ → Option (List ℕ) → Option Piece = λ text o. option_map (piece_before shape.CharacterString text) o in
+    let e : front (a ∷ os ++ behind) ≡ made (a ∷ os ++ behind) (string_behind (os ++ behind)) =
+    subst (λ (x : ℕ). front (x ∷ os ++ behind) ≡ made (x ∷ os ++ behind) (string_behind (os ++ behind))) (sym (eqb-true a 34 p.0)) refl in
+    (shape.CharacterString, length (a ∷ os ++ behind) - length behind, e ∙ ap (made (a ∷ os ++ behind)) (string-again os behind p.1 (not-true _ none)), inr (before-len (a ∷ os) behind, refl))
+
+front-apostrophe : (c : ℕ) (cs : List ℕ) → is_apostrophe c ≡ true → front (c ∷ cs) ≡ digits_piece (c ∷ cs) (bits_behind cs) (hexadecimal_behind cs)
+front-apostrophe c cs h =
+    subst (λ (x : ℕ). front (x ∷ cs) ≡ digits_piece (x ∷ cs) (bits_behind cs) (hexadecimal_behind cs)) (sym (eqb-true c 39 h)) refl
+
+covers-bits : (octets behind : List ℕ) → is_bit_string octets ≡ true → Covers shape.BitString octets (front (octets ++ behind))
+covers-bits [] behind h = absurd (false≢true h)
+covers-bits (a ∷ os) behind h =
+    let p = and_parts (is_apostrophe a) (is_digits_rest is_of_bits 66 os) h in (
+      shape.BitString,
+      length (a ∷ os ++ behind) - length behind,
+      front-apostrophe a (os ++ behind) p.0 ∙ ap (λ (o : Option (List ℕ)). digits_piece (a ∷ os ++ behind) o (hexadecimal_behind (os ++ behind))) (digits-again is_of_bits 66 os behind p.1),
+      inr (before-len (a ∷ os) behind, refl),
+    )
+
+covers-hexadecimal : (octets behind : List ℕ) → is_hexadecimal_string octets ≡ true → Covers shape.HexadecimalString octets (front (octets ++ behind))
+covers-hexadecimal [] behind h = absurd (false≢true h)
+covers-hexadecimal (a ∷ os) behind h =
+    let p = and_parts (is_apostrophe a) (is_digits_rest is_of_hexadecimal 72 os) h in (
+      shape.HexadecimalString,
+      length (a ∷ os ++ behind) - length behind,
+      front-apostrophe a (os ++ behind) p.0 ∙ ap (λ (o : Option (List ℕ)). digits_piece (a ∷ os ++ behind) o (hexadecimal_behind (os ++ behind))) (no_bits os behind p.1)
+          ∙ ap (λ (o : Option (List ℕ)). digits_piece (a ∷ os ++ behind) None o) (digits-again is_of_hexadecimal 72 os behind p.1),
+      inr (before-len (a ∷ os) behind, refl),
+    )
+
+pub covers : (s : Shape) (octets behind : List ℕ) → IsShape s octets behind → Covers s octets (front (octets ++ behind))
 covers shape.WhiteSpace octets behind h = covers-white octets behind h
 covers shape.LineComment octets behind h = covers-line_comment octets behind h
+covers shape.BlockComment octets behind h = covers-block_comment octets behind h
 covers shape.Word octets behind h = covers-word octets behind h
 covers shape.Number octets behind h = covers-number octets behind h
+covers shape.CharacterString octets behind h = covers-string octets behind h.0 h.1
+covers shape.BitString octets behind h = covers-bits octets behind h
+covers shape.HexadecimalString octets behind h = covers-hexadecimal octets behind h
 covers (shape.Mark m) octets behind h = subst (λ (o : List ℕ). Covers (shape.Mark m) o (front (o ++ behind))) (sym h) (covers-mark m behind)
 
 -- ---- what is found is an item
@@ -147,7 +202,7 @@ covers (shape.Mark m) octets behind h = subst (λ (o : List ℕ). Covers (shape.
 -- what is found has octets, stands in the text, and is an item
 abbrev pub IsFound : List ℕ → Option Piece → Type 0
 IsFound text None = Unit {0}
-IsFound text (Some p) = (0 < p.len) × (p.len ≤ length text) × IsShape p.shape (take p.len text)
+IsFound text (Some p) = (0 < p.len) × (p.len ≤ length text) × IsShape p.shape (take p.len text) (drop p.len text)
 
 found-number : (c : ℕ) (cs : List ℕ) → is_digit c ≡ true → IsFound (c ∷ cs) (Some (piece shape.Number (number_len c cs)))
 found-number c cs h =
@@ -165,6 +220,35 @@ found-mark text (Some m) e =
     let s = mark-stands text m e in
     (mark-nonempty m, omega (arith, ap length s, length-take (mark_len m) text), sym s)
 
+found-before : (s : Shape) (text octets left : List ℕ) → text ≡ octets ++ left → 0 < length octets → IsShape s octets left → IsFound text (Some (piece_before s text left))
+found-before s text octets left split some is =
+    let len : length octets ≡ length text - length left = omega (arith, ap length split, length-append octets left) in
+    let front_is : octets ≡ take (length text - length left) text = sym (take_at octets left (length text - length left) len) ∙ ap (take (length text - length left)) (sym split) in
+    let left_is : left ≡ drop (length text - length left) text = sym (drop_at octets left (length text - length left) len) ∙ ap (drop (length text - length left)) (sym split) in
+    (omega arith, omega arith, subst (λ (o : List ℕ). IsShape s o (drop (length text - length left) text)) front_is (subst (λ (l : List ℕ). IsShape s octets l) left_is is))
+
+found-block : (c : ℕ) (cs : List ℕ) (o : Option (List ℕ)) → (is_slash c && begins is_asterisk cs) ≡ true → block_behind 0 (drop 1 cs) ≡ o → IsFound (c ∷ cs) (option_map (piece_before shape.BlockComment (c ∷ cs)) o)
+found-block c cs None h e = tt
+found-block c [] (Some left) h e = absurd (false≢true (and_parts (is_slash c) false h).1)
+found-block c (d ∷ cs) (Some left) h e =
+    let r = block-found 0 cs left e in
+    found-before shape.BlockComment (c ∷ d ∷ cs) (c ∷ d ∷ r.0) left (ap (λ (x : List ℕ). c ∷ d ∷ x) r.1) (omega arith) (and_from _ _ h r.2)
+
+found-string : (c : ℕ) (cs : List ℕ) (o : Option (List ℕ)) → is_quote c ≡ true → string_behind cs ≡ o → IsFound (c ∷ cs) (option_map (piece_before shape.CharacterString (c ∷ cs)) o)
+found-string c cs None h e = tt
+found-string c cs (Some left) h e =
+    let r = string-found cs left e in
+    found-before shape.CharacterString (c ∷ cs) (c ∷ r.0) left (ap (λ (x : List ℕ). c ∷ x) r.1) (omega arith) (and_from _ _ h r.2, ap not r.3)
+
+found-digits : (c : ℕ) (cs : List ℕ) (o p : Option (List ℕ)) → is_apostrophe c ≡ true → bits_behind cs ≡ o → hexadecimal_behind cs ≡ p → IsFound (c ∷ cs) (digits_piece (c ∷ cs) o p)
+found-digits c cs (Some left) p h e f =
+    let r = digits-found is_of_bits 66 cs left e in
+    found-before shape.BitString (c ∷ cs) (c ∷ r.0) left (ap (λ (x : List ℕ). c ∷ x) r.1) (omega arith) (and_from _ _ h r.2)
+found-digits c cs None None h e f = tt
+found-digits c cs None (Some left) h e f =
+    let r = digits-found is_of_hexadecimal 72 cs left f in
+    found-before shape.HexadecimalString (c ∷ cs) (c ∷ r.0) left (ap (λ (x : List ℕ). c ∷ x) r.1) (omega arith) (and_from _ _ h r.2)
+
 pub is_found : (text : List ℕ) → IsFound text (front text)
 is_found [] = tt
 is_found (c ∷ cs) =
@@ -172,7 +256,10 @@ is_found (c ∷ cs) =
     (λ _. cond_both (is_letter c) _ _ (IsFound (c ∷ cs)) (λ h. (omega arith, omega (arith, word-fits cs), and_from _ _ h (word-is cs)))
     (λ _. cond_both (is_digit c) _ _ (IsFound (c ∷ cs)) (λ h. found-number c cs h)
     (λ _. cond_both (is_hyphen c && begins is_hyphen cs) _ _ (IsFound (c ∷ cs)) (λ h. found-line_comment c cs h)
-    (λ _. found-mark (c ∷ cs) (mark_at (c ∷ cs)) refl))))
+    (λ _. cond_both (is_quote c) _ _ (IsFound (c ∷ cs)) (λ h. found-string c cs (string_behind cs) h refl)
+    (λ _. cond_both (is_apostrophe c) _ _ (IsFound (c ∷ cs)) (λ h. found-digits c cs (bits_behind cs) (hexadecimal_behind cs) h refl refl)
+    (λ _. cond_both (is_slash c && begins is_asterisk cs) _ _ (IsFound (c ∷ cs)) (λ h. found-block c cs (block_behind 0 (drop 1 cs)) h refl)
+    (λ _. found-mark (c ∷ cs) (mark_at (c ∷ cs)) refl)))))))
 
 -- ---- the longest item is the one that is found
 

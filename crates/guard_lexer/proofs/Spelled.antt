@@ -126,9 +126,10 @@ word-spelled octets w = word-from octets (reserved_word octets) refl w
 
 -- ---- all kinds
 
-spelled : (s : Shape) (octets behind : List ℕ) (k : TokenKind) → IsShape s octets → defect s octets behind ≡ None → kind_of s octets ≡ Some k → IsSpelled k octets
+spelled : (s : Shape) (octets behind : List ℕ) (k : TokenKind) → IsShape s octets behind → defect s octets behind ≡ None → kind_of s octets ≡ Some k → IsSpelled k octets
 spelled shape.WhiteSpace octets behind k is fine e = absurd (none_is_not k e)
 spelled shape.LineComment octets behind k is fine e = absurd (none_is_not k e)
+spelled shape.BlockComment octets behind k is fine e = absurd (none_is_not k e)
 spelled shape.Word octets behind k is fine e = subst (λ (x : TokenKind). IsSpelled x octets) (some_is (word_kind octets) k e) (word-spelled octets is)
 spelled shape.Number octets behind k is fine e =
     subst (λ (x : TokenKind). IsSpelled x octets) (some_is kind.Number k e) (
@@ -138,6 +139,9 @@ spelled shape.Number octets behind k is fine e =
         | inr small ↦ leb-false _ _ small
       ],
     )
+spelled shape.CharacterString octets behind k is fine e = subst (λ (x : TokenKind). IsSpelled x octets) (some_is kind.CharacterString k e) is.0
+spelled shape.BitString octets behind k is fine e = subst (λ (x : TokenKind). IsSpelled x octets) (some_is kind.BitString k e) is
+spelled shape.HexadecimalString octets behind k is fine e = subst (λ (x : TokenKind). IsSpelled x octets) (some_is kind.HexadecimalString k e) is
 spelled (shape.Mark m) octets behind k is fine e = subst (λ (x : TokenKind). IsSpelled x octets) (some_is (kind.Mark m) k e) is
 
 -- ---- spans

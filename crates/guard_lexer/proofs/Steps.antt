@@ -8,10 +8,9 @@ use Rattle.std.proofs.lemmas.Bool.{false≢true}
 use Rattle.guard_model.specs.declared.site.Site.{Site}
 use Rattle.guard_lexer.specs.Octets.{is_line_feed}
 use Rattle.guard_lexer.specs.Sites.{site_after, site_at}
-use Rattle.guard_lexer.specs.Lexing.{Item, Defect, bad_character, defect, IsCut, kind_of, token_of, tokens_from, FaultAt}
+use Rattle.guard_lexer.specs.Lexing.{Item, Defect, nothing_begun, defect, IsCut, kind_of, token_of, tokens_from, FaultAt}
 use Rattle.guard_lexer.specs.Reading.{front, item_of, IsItemAt, IsFaultAt}
 use Rattle.guard_lexer.specs.declared.fault.LexFault.{LexFault}
-use Rattle.guard_lexer.specs.declared.fault.LexFault.TheVariants as faults
 use Rattle.guard_lexer.specs.declared.shape.Piece.{Piece}
 use Rattle.guard_lexer.specs.declared.token.Token.{Token}
 use Rattle.guard_lexer.specs.declared.token.TokenKind.{TokenKind}
@@ -34,9 +33,11 @@ item-from left p e fine =
     let f : IsFound left (Some p) = subst (IsFound left) e (is_found left) in
     record { some = f.0; within = f.1; longest = longest left p e; fine = fine }
 
-pub no_item : (place : ℕ) (before left : List ℕ) (site : Site) → 0 < length left → front left ≡ None → site ≡ site_after place before → IsFaultAt place before left (faults.BadCharacter site)
-no_item place before left site some e at =
-    (bad_character 0, inl (some, none_begins left e, refl), ap (λ (s : Site). faults.BadCharacter s) (at ∙ ap (site_after place) (sym (append-nil before))))
+pub no_item : (place : ℕ) (before left : List ℕ) (site : Site) (f : LexFault) → 0 < length left → front left ≡ None → site ≡ site_after place before
+    → (nothing_begun left).offset ≡ 0 → f ≡ (nothing_begun left).fault site → IsFaultAt place before left f
+no_item place before left site f some e at zero_is named =
+    let nothing : before ++ take (nothing_begun left).offset left ≡ before = ap (λ (n : ℕ). before ++ take n left) zero_is ∙ append-nil before in
+    (nothing_begun left, inl (some, none_begins left e, refl), named ∙ ap (nothing_begun left).fault (at ∙ ap (site_after place) (sym nothing)))
 
 -- what a found defect names
 pub item_fault : (place : ℕ) (before left : List ℕ) (p : Piece) (o : Option Defect) (f : LexFault) → front left ≡ Some p → defect p.shape (take p.len left) (drop p.len left) ≡ o

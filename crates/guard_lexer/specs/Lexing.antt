@@ -1,8 +1,8 @@
 -- The tokens of a text, or its first fault.
-use Rattle.std.specs.Prelude.{◌≡◌, ℕ, ◌+◌, ◌^◌, ◌<◌, ◌≤◌, ◌-◌, Bool, false, ◌⊎◌, ◌&&◌, List, [], ◌∷◌, ◌++◌, length, Option, Some, None, if◌then◌else◌, nat_le, not, IsUtf8, option_map, option_to_list}
+use Rattle.std.specs.Prelude.{◌≡◌, ℕ, ◌+◌, ◌^◌, ◌<◌, ◌≤◌, ◌-◌, Bool, false, ◌⊎◌, ◌&&◌, ◌||◌, List, [], ◌∷◌, ◌++◌, length, Option, Some, None, if◌then◌else◌, nat_le, not, IsUtf8, option_map, option_to_list}
 use Rattle.guard_model.specs.declared.site.Site.{Site}
-use Rattle.guard_lexer.specs.Octets.{is_letter_or_digit, is_digit, is_hyphen, begins}
-use Rattle.guard_lexer.specs.Shapes.{IsShape, number_value}
+use Rattle.guard_lexer.specs.Octets.{is_letter_or_digit, is_digit, is_hyphen, is_quote, is_apostrophe, begins}
+use Rattle.guard_lexer.specs.Shapes.{IsShape, number_value, begins_comment}
 use Rattle.guard_lexer.specs.Words.{word_kind}
 use Rattle.guard_lexer.specs.Sites.{site_at}
 use Rattle.guard_lexer.specs.declared.fault.LexFault.{LexFault}
@@ -21,8 +21,8 @@ pub record Item : Type 0 where
 -- The item stands at the front of text, with `left` behind it, and no longer one stands there.
 pub record IsLongest (text : List ℕ) (item : Item) (left : List ℕ) : Type 0 where
   pub split : text ≡ item.octets ++ left
-  pub is_item : IsShape item.shape item.octets
-  pub longest : (other : Item) (behind : List ℕ) → text ≡ other.octets ++ behind → IsShape other.shape other.octets → length other.octets ≤ length item.octets
+  pub is_item : IsShape item.shape item.octets left
+  pub longest : (other : Item) (behind : List ℕ) → text ≡ other.octets ++ behind → IsShape other.shape other.octets behind → length other.octets ≤ length item.octets
 
 -- A fault that stands so many octets behind the place where it is found.
 pub record Defect : Type 0 where
@@ -40,6 +40,12 @@ bad_character offset = record { offset = offset; fault = λ site. faults.BadChar
 abbrev pub bad_hyphen : Defect
 bad_hyphen = record { offset = 0; fault = λ site. faults.BadHyphen site }
 
+abbrev pub bad_string : Defect
+bad_string = record { offset = 0; fault = λ site. faults.BadString site }
+
+abbrev pub open_comment : Defect
+open_comment = record { offset = 0; fault = λ site. faults.OpenComment site }
+
 abbrev pub number_too_large : Defect
 number_too_large = record { offset = 0; fault = λ site. faults.NumberTooLarge site }
 
@@ -47,10 +53,14 @@ number_too_large = record { offset = 0; fault = λ site. faults.NumberTooLarge s
 abbrev pub defect : Shape → List ℕ → List ℕ → Option Defect
 defect shape.WhiteSpace octets behind = None
 defect shape.LineComment octets behind = None
+defect shape.BlockComment octets behind = None
 defect shape.Word octets behind = if is_lone_hyphen behind then Some bad_hyphen else None
 defect shape.Number octets behind =
     if nat_le (2 ^ 128) (number_value octets) then Some number_too_large
     else (if begins is_digit behind then Some (bad_character (length octets)) else None)
+defect shape.CharacterString octets behind = None
+defect shape.BitString octets behind = None
+defect shape.HexadecimalString octets behind = None
 defect (shape.Mark mark) octets behind = None
 
 -- Up to `left` the text is these items in turn, each the longest where it stands, and none at fault.
@@ -62,8 +72,12 @@ IsCut text (item ∷ items) left =
 abbrev pub kind_of : Shape → List ℕ → Option TokenKind
 kind_of shape.WhiteSpace octets = None
 kind_of shape.LineComment octets = None
+kind_of shape.BlockComment octets = None
 kind_of shape.Word octets = Some (word_kind octets)
 kind_of shape.Number octets = Some kind.Number
+kind_of shape.CharacterString octets = Some kind.CharacterString
+kind_of shape.BitString octets = Some kind.BitString
+kind_of shape.HexadecimalString octets = Some kind.HexadecimalString
 kind_of (shape.Mark mark) octets = Some (kind.Mark mark)
 
 -- the token that an item is, where it is one, at this offset of the text
@@ -79,12 +93,18 @@ tokens_from place text start (item ∷ items) =
 
 -- no item stands at the front
 abbrev pub BeginsNone : List ℕ → Type 0
-BeginsNone text = (item : Item) (behind : List ℕ) → text ≡ item.octets ++ behind → ¬ (IsShape item.shape item.octets)
+BeginsNone text = (item : Item) (behind : List ℕ) → text ≡ item.octets ++ behind → ¬ (IsShape item.shape item.octets behind)
+
+-- What is wrong where no item begins: a string that is none, a comment that isn't closed, else the first character.
+abbrev pub nothing_begun : List ℕ → Defect
+nothing_begun left =
+    if begins is_quote left || begins is_apostrophe left then bad_string
+    else (if begins_comment left then open_comment else bad_character 0)
 
 -- What is wrong at the front of what is left: no item stands there, or the one that does is at fault.
 abbrev pub HasDefect : List ℕ → Defect → Type 0
 HasDefect left wrong =
-    ((0 < length left) × BeginsNone left × (wrong ≡ bad_character 0))
+    ((0 < length left) × BeginsNone left × (wrong ≡ nothing_begun left))
     ⊎ ((item : Item) × (behind : List ℕ) × IsLongest left item behind × (defect item.shape item.octets behind ≡ Some wrong))
 
 -- The leftmost fault: what stands before it are items without fault.
@@ -120,6 +140,8 @@ FirstFault place text fault =
 abbrev pub fault_named : LexFault → Option LexFault
 fault_named faults.OutOfMemory = None
 fault_named (faults.BadCharacter site) = Some (faults.BadCharacter site)
+fault_named (faults.BadString site) = Some (faults.BadString site)
+fault_named (faults.OpenComment site) = Some (faults.OpenComment site)
 fault_named (faults.BadHyphen site) = Some (faults.BadHyphen site)
 fault_named (faults.NumberTooLarge site) = Some (faults.NumberTooLarge site)
 fault_named (faults.NotUtf8 place) = Some (faults.NotUtf8 place)

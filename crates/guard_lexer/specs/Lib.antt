@@ -6,3 +6,4 @@ pub mod Sites
 pub mod Spans
 pub mod Lexing
 pub mod Reading
+pub mod Laws

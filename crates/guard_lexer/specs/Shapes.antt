@@ -1,7 +1,7 @@
 -- What octets each piece of a text has (X.680 clause 12).
-use Rattle.std.specs.Prelude.{◌≡◌, ℕ, ◌+◌, ◌-◌, ◌*◌, Bool, true, false, List, [], ◌∷◌, ◌&&◌, ◌||◌, ◌==◌, if◌then◌else◌, not, length, fold, IsTrue}
+use Rattle.std.specs.Prelude.{◌≡◌, ℕ, zero, suc, ◌+◌, ◌-◌, ◌*◌, Bool, true, false, List, [], ◌∷◌, ◌&&◌, ◌||◌, ◌==◌, if◌then◌else◌, not, length, fold, IsTrue}
 use Rattle.std.specs.List.{list_all}
-use Rattle.guard_lexer.specs.Octets.{is_letter, is_digit, is_letter_or_digit, is_hyphen, is_line_end, is_white_space, begins}
+use Rattle.guard_lexer.specs.Octets.{is_letter, is_digit, is_letter_or_digit, is_hyphen, is_line_end, is_quote, is_apostrophe, is_slash, is_asterisk, is_of_bits, is_of_hexadecimal, is_white_space, begins}
 use Rattle.guard_lexer.specs.Spelling.{mark_spelling}
 use Rattle.guard_lexer.specs.declared.shape.Shape.{Shape}
 use Rattle.guard_lexer.specs.declared.shape.Shape.TheVariants as shape
@@ -40,13 +40,75 @@ is_line_comment [] = false
 is_line_comment (octet ∷ []) = false
 is_line_comment (first ∷ second ∷ body) = is_hyphen first && is_hyphen second && is_line_comment_body body
 
+-- Two octets that open or close a comment.
+abbrev pub opens : ℕ → ℕ → Bool
+opens first second = is_slash first && is_asterisk second
+
+abbrev pub closes : ℕ → ℕ → Bool
+closes first second = is_asterisk first && is_slash second
+
+abbrev pub begins_comment : List ℕ → Bool
+begins_comment [] = false
+begins_comment (octet ∷ []) = false
+begins_comment (first ∷ second ∷ octets) = opens first second
+
+abbrev pub ends_comment : List ℕ → Bool
+ends_comment [] = false
+ends_comment (octet ∷ []) = false
+ends_comment (first ∷ second ∷ octets) = closes first second
+
+-- With so many comments open inside the outermost one, the octets close them all, the outermost at their end (12.6.4).
+abbrev pub is_block_rest : ℕ → List ℕ → Bool
+is_block_rest inner [] = false
+is_block_rest inner (octet ∷ []) = false
+is_block_rest inner (first ∷ second ∷ octets) =
+    if opens first second then is_block_rest (suc inner) octets
+    else (if closes first second then elim inner [ zero ↦ length octets == 0 | suc others ↦ is_block_rest others octets ]
+    else is_block_rest inner (second ∷ octets))
+
+abbrev pub is_block_comment : List ℕ → Bool
+is_block_comment [] = false
+is_block_comment (octet ∷ []) = false
+is_block_comment (first ∷ second ∷ octets) = opens first second && is_block_rest 0 octets
+
+-- Behind the quote that opens a string stand no line end, quotes in pairs, and the one that closes it (12.14).
+abbrev pub is_string_rest : List ℕ → Bool
+is_string_rest [] = false
+is_string_rest (octet ∷ []) = is_quote octet
+is_string_rest (first ∷ second ∷ octets) =
+    if is_line_end first then false
+    else (if is_quote first then is_quote second && is_string_rest octets else is_string_rest (second ∷ octets))
+
+abbrev pub is_character_string : List ℕ → Bool
+is_character_string [] = false
+is_character_string (octet ∷ octets) = is_quote octet && is_string_rest octets
+
+-- Behind the apostrophe that opens a string stand its digits, and the one that closes it with the letter (12.10, 12.12).
+abbrev pub is_digits_rest : (ℕ → Bool) → ℕ → List ℕ → Bool
+is_digits_rest digit letter [] = false
+is_digits_rest digit letter (octet ∷ octets) =
+    if is_apostrophe octet then begins (λ last. last == letter) octets && length octets == 1
+    else digit octet && is_digits_rest digit letter octets
+
+abbrev pub is_bit_string : List ℕ → Bool
+is_bit_string [] = false
+is_bit_string (octet ∷ octets) = is_apostrophe octet && is_digits_rest is_of_bits 66 octets
+
+abbrev pub is_hexadecimal_string : List ℕ → Bool
+is_hexadecimal_string [] = false
+is_hexadecimal_string (octet ∷ octets) = is_apostrophe octet && is_digits_rest is_of_hexadecimal 72 octets
+
 abbrev pub is_one_white_space : List ℕ → Bool
 is_one_white_space octets = begins is_white_space octets && length octets == 1
 
--- The octets are a piece of this shape.
-abbrev pub IsShape : Shape → List ℕ → Type 0
-IsShape shape.WhiteSpace octets = IsTrue (is_one_white_space octets)
-IsShape shape.LineComment octets = IsTrue (is_line_comment octets)
-IsShape shape.Word octets = IsTrue (is_word octets)
-IsShape shape.Number octets = IsTrue (is_number octets)
-IsShape (shape.Mark m) octets = octets ≡ mark_spelling m
+-- The octets are a piece of this shape, with `behind` behind them. A quote directly behind a string belongs to it.
+abbrev pub IsShape : Shape → List ℕ → List ℕ → Type 0
+IsShape shape.WhiteSpace octets behind = IsTrue (is_one_white_space octets)
+IsShape shape.LineComment octets behind = IsTrue (is_line_comment octets)
+IsShape shape.BlockComment octets behind = IsTrue (is_block_comment octets)
+IsShape shape.Word octets behind = IsTrue (is_word octets)
+IsShape shape.Number octets behind = IsTrue (is_number octets)
+IsShape shape.CharacterString octets behind = IsTrue (is_character_string octets) × IsTrue (not (begins is_quote behind))
+IsShape shape.BitString octets behind = IsTrue (is_bit_string octets)
+IsShape shape.HexadecimalString octets behind = IsTrue (is_hexadecimal_string octets)
+IsShape (shape.Mark mark) octets behind = octets ≡ mark_spelling mark

@@ -4,7 +4,7 @@ ghost use Rattle.std.specs.List.{list_all};
 ghost use Rattle.guard_lexer.specs.Octets.{is_digit};
 ghost use Rattle.guard_lexer.specs.Shapes.{IsShape, number_value};
 ghost use Rattle.guard_lexer.specs.Sites.{site_after};
-ghost use Rattle.guard_lexer.specs.Lexing.{is_lone_hyphen, defect};
+ghost use Rattle.guard_lexer.specs.Lexing.{is_lone_hyphen, defect, nothing_begun};
 
 use crate::fault::LexFault;
 use crate::octet::{begins_with_digit, begins_with_hyphen, begins_with_letter_or_digit};
@@ -15,7 +15,7 @@ use guard_model::Site;
 /// What is wrong with the item at the front of what is left of a text, which stands at the site.
 pub(crate) fn fault_of(piece: Piece, left: &[u8], site: Site) -> Option<LexFault>
     requires within { piece.len ≤ length left.now }
-    requires item { IsShape piece.shape (take piece.len left.now) }
+    requires item { IsShape piece.shape (take piece.len left.now) (drop piece.len left.now) }
     requires line { site.line + length left.now < 2 ^ 32 }
     requires column { site.column + length left.now < 2 ^ 32 }
     ensures found { is_some result ≡ is_some (defect piece.shape (take piece.len left.now) (drop piece.len left.now)) }
@@ -31,6 +31,17 @@ pub(crate) fn fault_of(piece: Piece, left: &[u8], site: Site) -> Option<LexFault
             Some(LexFault::BadCharacter(past(site, octets)))
         }
         _ => None,
+    }
+}
+
+/// What is wrong where no item begins.
+pub(crate) fn nothing_begun(left: &[u8], site: Site) -> LexFault
+    ensures { ((nothing_begun left.now).offset ≡ 0) × (result ≡ (nothing_begun left.now).fault site) }
+{
+    match left {
+        [b'"' | b'\'', ..] => LexFault::BadString(site),
+        [b'/', b'*', ..] => LexFault::OpenComment(site),
+        _ => LexFault::BadCharacter(site),
     }
 }
 

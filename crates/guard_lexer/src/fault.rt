@@ -13,6 +13,12 @@ pub enum LexFault {
     /// Here no token, comment or white space begins, or a digit stands directly behind the number 0.
     #[error("L1 BadCharacter {0}")]
     BadCharacter(Site),
+    /// The string that begins here is none: it isn't closed, a character can't stand in it, or a line ends in it.
+    #[error("L2 BadString {0}")]
+    BadString(Site),
+    /// The comment that `/*` opens here isn't closed.
+    #[error("L3 OpenComment {0}")]
+    OpenComment(Site),
     /// The word here is followed by one hyphen, and then by neither a letter, a digit nor a hyphen.
     #[error("L4 BadHyphen {0}")]
     BadHyphen(Site),

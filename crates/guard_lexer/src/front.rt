@@ -2,9 +2,12 @@
 ghost use Rattle.std.specs.Prelude.{◌≡◌, find, length, ◌≤◌, ◌<◌, ◌^◌};
 ghost use Rattle.std.specs.List.{prefix_len};
 ghost use Rattle.guard_lexer.specs.Octets.{is_digit};
-ghost use Rattle.guard_lexer.specs.Reading.{word_len, number_len, body_len, stands_at, mark_at, front};
+ghost use Rattle.guard_lexer.specs.Reading.{bits_behind, hexadecimal_behind, digits_piece, word_len, number_len, body_len, stands_at, mark_at, front};
 
-use crate::octet::{begins_with_hyphen, is_line_end, is_of_word, is_white_space};
+use crate::closed::{bits_behind, block_behind, hexadecimal_behind, string_behind};
+use crate::octet::{
+    begins_with_asterisk, begins_with_hyphen, is_line_end, is_of_word, is_white_space,
+};
 use crate::shape::{Piece, Shape};
 use crate::spelling::MARKS;
 use crate::token::Mark;
@@ -13,14 +16,23 @@ use crate::token::Mark;
 pub(crate) fn front(text: &[u8]) -> Option<Piece>
     ensures { result ≡ front text.now }
 {
-    let (shape, len) = match text {
-        [] => return None,
-        [first, ..] if is_white_space(*first) => (Shape::WhiteSpace, 1),
-        [first, behind @ ..] if first.is_ascii_alphabetic() => (Shape::Word, 1 + word_len(behind)),
-        [first, behind @ ..] if first.is_ascii_digit() => {
-            (Shape::Number, number_len(*first, behind))
+    let [first, behind @ ..] = text else {
+        return None;
+    };
+    let (shape, len) = match *first {
+        octet if is_white_space(octet) => (Shape::WhiteSpace, 1),
+        octet if octet.is_ascii_alphabetic() => (Shape::Word, 1 + word_len(behind)),
+        octet if octet.is_ascii_digit() => (Shape::Number, number_len(octet, behind)),
+        b'-' if begins_with_hyphen(behind) => (Shape::LineComment, 2 + body_len(&behind[1..])),
+        b'"' => (
+            Shape::CharacterString,
+            text.len() - string_behind(behind)?.len(),
+        ),
+        b'\'' => return digits_front(text, behind),
+        b'/' if begins_with_asterisk(behind) => {
+            let left = block_behind(&behind[1..])?;
+            (Shape::BlockComment, text.len() - left.len())
         }
-        [b'-', b'-', body @ ..] => (Shape::LineComment, 2 + body_len(body)),
         _ => {
             let mark = mark_at(text)?;
             (Shape::Mark(mark), mark.spelling().len())
@@ -29,6 +41,20 @@ pub(crate) fn front(text: &[u8]) -> Option<Piece>
     Some(Piece { shape, len })
 }
 
+/// The bit or hexadecimal string at the front of a text, `behind` behind its apostrophe.
+fn digits_front(text: &[u8], behind: &[u8]) -> Option<Piece>
+    requires { length behind.now ≤ length text.now }
+    ensures { result ≡ digits_piece text.now (bits_behind behind.now) (hexadecimal_behind behind.now) }
+{
+    let (shape, left) = match bits_behind(behind) {
+        Some(left) => (Shape::BitString, left),
+        None => (Shape::HexadecimalString, hexadecimal_behind(behind)?),
+    };
+    let len = text.len() - left.len();
+    Some(Piece { shape, len })
+}
+
+/// How many octets at the front are of a word.
 fn word_len(text: &[u8]) -> usize
     ensures reads { result ≡ word_len text.now }
     ensures within { result ≤ length text.now }
@@ -40,6 +66,7 @@ fn word_len(text: &[u8]) -> usize
     n
 }
 
+/// The length of the number at the front: a 0 is one alone.
 fn number_len(first: u8, behind: &[u8]) -> usize
     requires { length behind.now < 2 ^ 63 }
     ensures { result ≡ number_len first behind.now }
@@ -62,6 +89,7 @@ fn digits_len(text: &[u8]) -> usize
     n
 }
 
+/// How many octets belong to a line comment, behind the hyphens that open it.
 fn body_len(text: &[u8]) -> usize
     ensures reads { result ≡ body_len text.now }
     ensures within { result ≤ length text.now }
@@ -76,6 +104,7 @@ fn body_len(text: &[u8]) -> usize
     n
 }
 
+/// The longest mark at the front.
 fn mark_at(text: &[u8]) -> Option<Mark>
     ensures { result ≡ mark_at text.now }
 {

@@ -1,14 +1,13 @@
 //! From a text to its tokens.
-ghost use Rattle.std.specs.Prelude.{◌≡◌, ◌+◌, ◌<◌, ◌≤◌, ◌^◌, ◌++◌, ◌⊎◌, ℕ, [], List, length, take, drop, MatchResult, IfOk, IfErr, Ok, Err};
+ghost use Rattle.std.specs.Prelude.{◌≡◌, ◌+◌, ◌<◌, ◌≤◌, ◌^◌, ◌⊎◌, ℕ, [], List, length, IfOk, IfErr, Ok, Err};
 ghost use Rattle.guard_model.specs.Answer.{Gives};
-ghost use Rattle.guard_lexer.specs.Shapes.{IsShape};
 ghost use Rattle.guard_lexer.specs.Sites.{site_after};
 ghost use Rattle.guard_lexer.specs.Spans.{AreSpans};
-ghost use Rattle.guard_lexer.specs.Lexing.{Item, Defect, defect, kind_of, tokens_from, IsLongest, IsCut, HasDefect, FaultAt, Lexes, FirstFault, longest_text, fault_named};
-ghost use Rattle.guard_lexer.specs.Reading.{item_of, IsItemAt, IsFaultAt};
+ghost use Rattle.guard_lexer.specs.Lexing.{Item, kind_of, tokens_from, IsCut, FaultAt, Lexes, FirstFault, longest_text, fault_named};
+ghost use Rattle.guard_lexer.specs.Reading.{IsItemAt, IsFaultAt};
 ghost use Rattle.guard_lexer.specs.declared.fault.LexFault.TheVariants.{OutOfMemory};
 
-use crate::defect::fault_of;
+use crate::defect::{fault_of, nothing_begun};
 use crate::fault::LexFault;
 use crate::front::front;
 use crate::shape::{Piece, Shape};
@@ -41,6 +40,7 @@ pub fn tokens(alloc: Global, place: u32, text: &[u8]) -> Result<Vec<Token>, LexF
     read(alloc, place, text)
 }
 
+/// The same: what else `tokens` ensures follows from these two clauses by laws on the definitions.
 fn read(alloc: Global, place: u32, text: &[u8]) -> Result<Vec<Token>, LexFault>
     ensures tokens { IfOk result (λ v. Lexes place text.now v.items) }
     ensures fault { IfErr result (λ f. (f ≡ OutOfMemory) ⊎ FirstFault place text.now f) }
@@ -95,7 +95,7 @@ fn item_at(left: &[u8], site: Site) -> Result<Piece, LexFault>
     ensures fault { IfErr result (λ f. (before : List ℕ) → site ≡ site_after site.text before → IsFaultAt site.text before left.now f) }
 {
     let Some(piece) = front(left) else {
-        return Err(LexFault::BadCharacter(site));
+        return Err(nothing_begun(left, site));
     };
     match fault_of(piece, left, site) {
         Some(fault) => Err(fault),
@@ -108,9 +108,12 @@ fn kind_of(shape: Shape, octets: &[u8]) -> Option<TokenKind>
     ensures { result ≡ kind_of shape octets.now }
 {
     match shape {
-        Shape::WhiteSpace | Shape::LineComment => None,
+        Shape::WhiteSpace | Shape::LineComment | Shape::BlockComment => None,
         Shape::Word => Some(word_kind(octets)),
         Shape::Number => Some(TokenKind::Number),
+        Shape::CharacterString => Some(TokenKind::CharacterString),
+        Shape::BitString => Some(TokenKind::BitString),
+        Shape::HexadecimalString => Some(TokenKind::HexadecimalString),
         Shape::Mark(mark) => Some(TokenKind::Mark(mark)),
     }
 }

@@ -1,9 +1,11 @@
 //! Tokens of a module text.
 #![tactic(auto)]
 
+mod closed;
 mod defect;
 mod fault;
 mod front;
+pub mod laws;
 mod lexer;
 mod octet;
 mod shape;

@@ -8,10 +8,18 @@ pub(crate) enum Shape {
     WhiteSpace,
     /// From `--` to the next `--` or the end of the line (X.680 12.6.3).
     LineComment,
+    /// From `/*` to the `*/` that closes it, with comments inside (X.680 12.6.4).
+    BlockComment,
     /// A reserved word or a name (X.680 12.2, 12.3, 12.38).
     Word,
     /// Digits, of any value (X.680 12.8).
     Number,
+    /// In double quotes (X.680 12.14).
+    CharacterString,
+    /// In quotes before a `B` (X.680 12.10).
+    BitString,
+    /// In quotes before an `H` (X.680 12.12).
+    HexadecimalString,
     Mark(Mark),
 }
 

@@ -25,6 +25,12 @@ pub enum TokenKind {
     LowerName,
     /// A number from 0 to 2^128-1.
     Number,
+    /// A string in double quotes; a quote inside is written twice.
+    CharacterString,
+    /// `'0101'B`, perhaps with white space inside.
+    BitString,
+    /// `'0AF'H`, perhaps with white space inside.
+    HexadecimalString,
     Mark(Mark),
 }
 

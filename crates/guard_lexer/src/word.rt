@@ -21,6 +21,7 @@ pub(crate) fn word_kind(word: &[u8]) -> TokenKind
     }
 }
 
+/// The reserved word that is spelled so.
 fn reserved_word(word: &[u8]) -> Option<Reserved>
     ensures { result ≡ reserved_word word.now }
 {
@@ -38,6 +39,7 @@ fn find_reserved(word: &[u8], table: &[Reserved]) -> Option<Reserved>
     None
 }
 
+/// Whether it is a reserved word of what is left out.
 fn is_unsupported(word: &[u8]) -> bool
     ensures { result ≡ is_unsupported word.now }
 {

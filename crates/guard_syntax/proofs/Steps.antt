@@ -10,7 +10,7 @@ use Rattle.guard_lexer.specs.contracts.token.Mark as marks
 use denote.Enum.Bare.{same_true}
 use Rattle.guard_syntax.specs.declared.halt.Stop.{Stop}
 use Rattle.guard_syntax.specs.Kinds.{same_kind}
-use Rattle.guard_syntax.specs.Lexemes.{Lexeme, word, mark, upper_name, lower_name, number, unsupported, kind_of, spelling_of}
+use Rattle.guard_syntax.specs.Lexemes.{Lexeme, word, mark, upper_name, lower_name, number, character_string, bit_string, hexadecimal_string, unsupported, kind_of, spelling_of}
 use Rattle.guard_syntax.specs.Reading.{Placed, Spelled, spelled, read_token, read_word}
 
 pub bind_ok : {A B : Type 0} (r : Result A Stop) (f : A → Result B Stop) (y : B) → (r >>= f) ≡ Ok y → (x : A) × (r ≡ Ok x) × (f x ≡ Ok y)
@@ -45,6 +45,9 @@ is_mark (mark a) m h = ap mark (same_true marks.the_type tt a m h)
 is_mark (upper_name s) m h = absurd cc
 is_mark (lower_name s) m h = absurd cc
 is_mark (number s) m h = absurd cc
+is_mark (character_string s) m h = absurd cc
+is_mark (bit_string s) m h = absurd cc
+is_mark (hexadecimal_string s) m h = absurd cc
 is_mark (unsupported s) m h = absurd cc
 
 is_word : (l : Lexeme) (r : Reserved) → same_kind (kind_of l) (kind.Reserved r) ≡ true → l ≡ word r
@@ -53,6 +56,9 @@ is_word (mark m) r h = absurd cc
 is_word (upper_name s) r h = absurd cc
 is_word (lower_name s) r h = absurd cc
 is_word (number s) r h = absurd cc
+is_word (character_string s) r h = absurd cc
+is_word (bit_string s) r h = absurd cc
+is_word (hexadecimal_string s) r h = absurd cc
 is_word (unsupported s) r h = absurd cc
 
 is_upper : (l : Lexeme) → same_kind (kind_of l) kind.UpperName ≡ true → l ≡ upper_name (spelling_of l)
@@ -61,6 +67,9 @@ is_upper (mark m) h = absurd cc
 is_upper (upper_name s) h = refl
 is_upper (lower_name s) h = absurd cc
 is_upper (number s) h = absurd cc
+is_upper (character_string s) h = absurd cc
+is_upper (bit_string s) h = absurd cc
+is_upper (hexadecimal_string s) h = absurd cc
 is_upper (unsupported s) h = absurd cc
 
 is_lower : (l : Lexeme) → same_kind (kind_of l) kind.LowerName ≡ true → l ≡ lower_name (spelling_of l)
@@ -69,6 +78,9 @@ is_lower (mark m) h = absurd cc
 is_lower (upper_name s) h = absurd cc
 is_lower (lower_name s) h = refl
 is_lower (number s) h = absurd cc
+is_lower (character_string s) h = absurd cc
+is_lower (bit_string s) h = absurd cc
+is_lower (hexadecimal_string s) h = absurd cc
 is_lower (unsupported s) h = absurd cc
 
 is_number : (l : Lexeme) → same_kind (kind_of l) kind.Number ≡ true → l ≡ number (spelling_of l)
@@ -77,6 +89,9 @@ is_number (mark m) h = absurd cc
 is_number (upper_name s) h = absurd cc
 is_number (lower_name s) h = absurd cc
 is_number (number s) h = refl
+is_number (character_string s) h = absurd cc
+is_number (bit_string s) h = absurd cc
+is_number (hexadecimal_string s) h = absurd cc
 is_number (unsupported s) h = absurd cc
 
 chosen_ok : {A : Type 0} (b : Bool) (d : Stop) (x y : A) → cond b (Ok x) (Err d) ≡ Ok y → (b ≡ true) × (x ≡ y)

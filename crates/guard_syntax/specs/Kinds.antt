@@ -2,7 +2,7 @@
 use Rattle.std.specs.Prelude.{Bool, true, false}
 use denote.Enum.Bare.{sameb}
 use Rattle.guard_lexer.specs.declared.token.TokenKind.{TokenKind}
-use Rattle.guard_lexer.specs.declared.token.TokenKind.TheVariants.{Reserved, Unsupported, UpperName, LowerName, Number, Mark}
+use Rattle.guard_lexer.specs.declared.token.TokenKind.TheVariants.{Reserved, Unsupported, UpperName, LowerName, Number, CharacterString, BitString, HexadecimalString, Mark}
 use Rattle.guard_lexer.specs.contracts.token.Reserved as reserved
 use Rattle.guard_lexer.specs.contracts.token.Mark as mark
 
@@ -13,4 +13,7 @@ same_kind Unsupported Unsupported = true
 same_kind UpperName UpperName = true
 same_kind LowerName LowerName = true
 same_kind Number Number = true
+same_kind CharacterString CharacterString = true
+same_kind BitString BitString = true
+same_kind HexadecimalString HexadecimalString = true
 same_kind _ _ = false

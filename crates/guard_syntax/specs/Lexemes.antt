@@ -15,6 +15,9 @@ pub data Lexeme : Type 0 where
   upper_name : List ℕ → Lexeme
   lower_name : List ℕ → Lexeme
   number : List ℕ → Lexeme
+  character_string : List ℕ → Lexeme
+  bit_string : List ℕ → Lexeme
+  hexadecimal_string : List ℕ → Lexeme
   unsupported : List ℕ → Lexeme
 
 abbrev pub kind_of : Lexeme → TokenKind
@@ -23,6 +26,9 @@ kind_of (mark m) = kind.Mark m
 kind_of (upper_name s) = kind.UpperName
 kind_of (lower_name s) = kind.LowerName
 kind_of (number s) = kind.Number
+kind_of (character_string s) = kind.CharacterString
+kind_of (bit_string s) = kind.BitString
+kind_of (hexadecimal_string s) = kind.HexadecimalString
 kind_of (unsupported s) = kind.Unsupported
 
 abbrev pub spelling_of : Lexeme → List ℕ
@@ -31,6 +37,9 @@ spelling_of (mark m) = mark_spelling m
 spelling_of (upper_name s) = s
 spelling_of (lower_name s) = s
 spelling_of (number s) = s
+spelling_of (character_string s) = s
+spelling_of (bit_string s) = s
+spelling_of (hexadecimal_string s) = s
 spelling_of (unsupported s) = s
 
 -- of a token of this kind that is spelled so
@@ -40,6 +49,9 @@ lexeme_of (kind.Mark m) s = mark m
 lexeme_of kind.UpperName s = upper_name s
 lexeme_of kind.LowerName s = lower_name s
 lexeme_of kind.Number s = number s
+lexeme_of kind.CharacterString s = character_string s
+lexeme_of kind.BitString s = bit_string s
+lexeme_of kind.HexadecimalString s = hexadecimal_string s
 lexeme_of kind.Unsupported s = unsupported s
 
 -- the octets of a token
@@ -60,4 +72,7 @@ HasSpelling (kind.Mark m) = ⊥
 HasSpelling kind.UpperName = Unit {0}
 HasSpelling kind.LowerName = Unit {0}
 HasSpelling kind.Number = Unit {0}
+HasSpelling kind.CharacterString = Unit {0}
+HasSpelling kind.BitString = Unit {0}
+HasSpelling kind.HexadecimalString = Unit {0}
 HasSpelling kind.Unsupported = Unit {0}

@@ -69,11 +69,11 @@ impl Schema {
     }
 
     /// The type of this name in the module of this name. It is sound.
-    pub fn ty(&self, module: &str, name: &str) -> Option<&Ty>
+    pub fn ty(&self, module_name: &str, name: &str) -> Option<&Ty>
         ensures sound { IfSome result (λ ty. IsTrue (is_sound (model.type_view ty.now))) }
-        ensures named { option_map (λ ty. model.type_view ty.now) result ≡ type_named self.now module.now name.now }
+        ensures named { option_map (λ ty. model.type_view ty.now) result ≡ type_named self.now module_name.now name.now }
     {
-        if module != self.module.as_str() {
+        if module_name != self.module.as_str() {
             return None;
         }
         type_among(&self.definitions, name)

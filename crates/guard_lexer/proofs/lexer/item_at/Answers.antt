@@ -7,7 +7,7 @@ use Rattle.guard_lexer.proofs.lexer.item_at.Goals as goal
 
 pub returns-in_default-clause-fault : goal.returns-in_default-clause-fault
 returns-in_default-clause-fault c =
-    λ before at. no_item c.args.site.text before c.args.left.now c.args.site c.requires.some (sym c.in_default.ensures) at
+    λ before at. no_item c.args.site.text before c.args.left.now c.args.site c.nothing_begun.result c.requires.some (sym c.in_default.ensures) at c.nothing_begun.ensures.0 c.nothing_begun.ensures.1
 
 pub fault_of-requires-clause-within : goal.fault_of-requires-clause-within
 fault_of-requires-clause-within c = (subst (IsFound c.args.left.now) (sym c.in-Some.ensures) (is_found c.args.left.now)).1

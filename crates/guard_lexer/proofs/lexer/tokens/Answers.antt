@@ -1,4 +1,4 @@
-use Rattle.guard_lexer.proofs.Answers.{spans_of, tokens_answered, fault_answered}
+use Rattle.guard_lexer.proofs.OneAnswer.{spans_of, tokens_answered, fault_answered}
 use Rattle.guard_lexer.proofs.lexer.tokens.Goals as goal
 
 pub returns-clause-spans : goal.returns-clause-spans

@@ -48,6 +48,8 @@ one_fault place text a b (inr (inr x)) (inr (inr y)) = one_fault_at place text a
 pub refuses : {Y : Type 0} (e : LexFault) (answer : Result Y LexFault) → ((e ≡ faults.OutOfMemory → ⊥) → answer ≡ Err e) → Refuses (fault_named e) answer
 refuses faults.OutOfMemory answer h = tt
 refuses (faults.BadCharacter site) answer h = h (λ e. cc)
+refuses (faults.BadString site) answer h = h (λ e. cc)
+refuses (faults.OpenComment site) answer h = h (λ e. cc)
 refuses (faults.BadHyphen site) answer h = h (λ e. cc)
 refuses (faults.NumberTooLarge site) answer h = h (λ e. cc)
 refuses (faults.NotUtf8 place) answer h = h (λ e. cc)

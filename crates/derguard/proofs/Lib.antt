@@ -13,9 +13,12 @@ pub mod Lines
 pub mod ReportComponents
 pub mod ReportExample
 pub mod SchemaBuild
+pub mod SchemaEach
+pub mod SchemaEntries
 pub mod SchemaLaws
 pub mod SchemaLoops
 pub mod SchemaNumbers
+pub mod SchemaOnly
 pub mod SchemaSeen
 pub mod SchemaSound
 pub mod SchemaText

@@ -11,7 +11,7 @@ use Rattle.guard_lexer.specs.Lexing.{Lexes, FirstFault}
 use Rattle.guard_lexer.specs.Spans.{AreSpans}
 use Rattle.guard_syntax.specs.declared.fault.SyntaxFault.{SyntaxFault}
 use Rattle.guard_syntax.specs.declared.fault.SyntaxFault.TheVariants as syntax
-use Rattle.guard_syntax.specs.Trees.{WrittenAssignment, WrittenModule}
+use Rattle.guard_syntax.specs.Trees.{WrittenModule}
 use Rattle.guard_syntax.specs.Lexemes.{lexemes_of, sites_of}
 use Rattle.guard_syntax.specs.Parses.{IsWritten}
 use Rattle.guard_syntax.specs.Sites.{sited}
@@ -21,13 +21,19 @@ use Rattle.derguard.specs.declared.guard_schema.fault.SchemaFault.TheVariants.{L
 use Rattle.derguard.specs.declared.guard_schema.names.NameFault.TheVariants.{Duplicate}
 use Rattle.derguard.specs.declared.guard_schema.tagging.TagFault.{TagFault}
 use Rattle.derguard.specs.declared.guard_schema.constraints.ConsFault.{ConsFault}
+use Rattle.derguard.specs.declared.guard_schema.fault.FormFault.{FormFault}
+use Rattle.derguard.specs.declared.guard_schema.fault.FormFault.TheVariants as form
+use Rattle.derguard.specs.declared.guard_schema.schema.Schema.{Schema}
 use Rattle.derguard.specs.SchemaFirst.{or_else}
+use Rattle.derguard.specs.SchemaBasic.{BasicAssignment, BasicModule}
+use Rattle.derguard.specs.SchemaForms.{basic_module}
+use Rattle.derguard.specs.SchemaView.{schema_view}
 use Rattle.derguard.specs.SchemaNames.{AssignTextNames, repeated, assigned_names}
 use Rattle.derguard.specs.SchemaTagging.{nodes, tag_fault}
 use Rattle.derguard.specs.SchemaConstraints.{constraint_fault}
-use Rattle.derguard.specs.SchemaFaults.{named, lex_fault, syntax_fault, name_fault, definition_fault, definitions_fault, module_fault}
+use Rattle.derguard.specs.SchemaFaults.{named, lex_fault, syntax_fault, form_named, form_fault, name_fault, definition_fault, definitions_fault, module_fault}
 use Rattle.derguard.specs.Schemas.{AbstractSchema, AreDefinitions, denoted_definition, denoted_schema}
-use Rattle.derguard.specs.SchemaAccepts.{IsModuleText, Accepts, IsRefused}
+use Rattle.derguard.specs.SchemaAccepts.{IsModuleText, IsBasicText, Accepts, IsRefused}
 use Rattle.derguard.specs.SchemaReading.{assigned_result, check_assigned, read_definitions, read_module}
 use Rattle.derguard.proofs.SchemaLaws.{fault_result, read_definitions-is, read_module-is}
 use Rattle.derguard.proofs.SchemaSound.{neither, definitions_are}
@@ -53,7 +59,7 @@ module _ (text : List ℕ) (tokens : List Token) (lexes : Lexes 1 text tokens) w
 
   pub syntax_refused : (f : SyntaxFault) → NamesToken 1 text tokens f → ((m : WrittenModule) → IsWritten m (lexemes_of text tokens) → Refuses (fault_of f) (Ok (sited m (sites_of tokens)))) → IsRefused text (syntax_fault f)
   syntax_refused syntax.OutOfMemory names only = tt
-  syntax_refused (syntax.Unexpected site) names only = (tokens, lexes, no_tree (syntax.Unexpected site) only, names)
+  syntax_refused (syntax.Unexpected site) names only = inl (tokens, lexes, no_tree (syntax.Unexpected site) only, names)
   syntax_refused (syntax.Unsupported spelling site) names only = (tokens, lexes, no_tree (syntax.Unsupported spelling site) only, names)
   syntax_refused (syntax.TooDeep site) names only = (tokens, lexes, no_tree (syntax.TooDeep site) only, names)
 
@@ -86,12 +92,12 @@ of_cons : (o : Option ConsFault) → IfFault (option_map (λ f. Cons f) o)
 of_cons None = tt
 of_cons (Some f) = tt
 
-of_definitions : (before : ℕ) (assigned : List WrittenAssignment) → IfFault (definitions_fault before assigned)
+of_definitions : (before : ℕ) (assigned : List BasicAssignment) → IfFault (definitions_fault before assigned)
 of_definitions before [] = tt
 of_definitions before (a ∷ others) =
     either_fault (definition_fault before a) (definitions_fault (before + length (nodes a.ty)) others) (either_fault (option_map (λ f. Tag f) (tag_fault before a.ty)) (option_map (λ f. Cons f) (constraint_fault a.ty)) (of_tag (tag_fault before a.ty)) (of_cons (constraint_fault a.ty))) (of_definitions (before + length (nodes a.ty)) others)
 
-of_module : (m : WrittenModule) → IfFault (module_fault m)
+of_module : (m : BasicModule) → IfFault (module_fault m)
 of_module m = either_fault (name_fault m.assignments) (definitions_fault 0 m.assignments) (of_name (repeated (assigned_names m.assignments))) (of_definitions 0 m.assignments)
 
 none_where_ok : {A : Type 0} (o : Option SchemaFault) (x y : A) → fault_result o x ≡ Ok y → (o ≡ None) × (y ≡ x)
@@ -111,33 +117,45 @@ assigned_once None e = refl
 assigned_once (Some site) e = absurd cc
 
 -- what the names and definitions of a module give
-pub definitions_kept : (assigned : List WrittenAssignment) (types : List (List ℕ × AbstractType)) → AssignTextNames assigned → check_assigned assigned ≡ Ok tt → read_definitions 0 assigned ≡ Ok types → AreDefinitions types
+pub definitions_kept : (assigned : List BasicAssignment) (types : List (List ℕ × AbstractType)) → AssignTextNames assigned → check_assigned assigned ≡ Ok tt → read_definitions 0 assigned ≡ Ok types → AreDefinitions types
 unfolding check_assigned
 definitions_kept assigned types texts names read =
     let p = none_where_ok (definitions_fault 0 assigned) (map denoted_definition assigned) types (sym (read_definitions-is 0 assigned texts) ∙ read) in
     subst AreDefinitions (sym p.1) (definitions_are assigned (assigned_once (repeated (assigned_names assigned)) names) p.0)
 
-module _ (text : List ℕ) (tokens : List Token) (tree : WrittenModule) (is : IsModuleText text tokens tree) (spans : AreSpans text tokens) where
-  texts : IsUtf8 tree.name × AssignTextNames tree.assignments
-  texts = module_text tree (subst AreTextLexemes (sym is.written.tokens) (spans_text text tokens spans))
+-- a form that is left out
+pub form_refused : (text : List ℕ) (tokens : List Token) (tree : WrittenModule) → IsModuleText text tokens tree → (f : FormFault) → Refuses (form_named f) (basic_module tokens tree) → IsRefused text (form_fault f)
+form_refused text tokens tree is (form.LeftOut site) h = inr (tokens, tree, is, h)
+form_refused text tokens tree is form.OutOfMemory h = tt
 
-  reads : read_module tree ≡ fault_result (module_fault tree) (denoted_schema tree)
-  reads = read_module-is tree texts.0 texts.1
+-- the names of a module whose tokens are spans of the text
+pub names_are_texts : (text : List ℕ) (tokens : List Token) (tree : WrittenModule) (m : BasicModule) → AreSpans text tokens → IsWritten tree (lexemes_of text tokens) → basic_module tokens tree ≡ Ok m → IsUtf8 m.name × AssignTextNames m.assignments
+names_are_texts text tokens tree m spans written made = module_text tokens tree m made (subst AreTextLexemes (sym written.tokens) (spans_text text tokens spans))
 
-  refused_as : (f : SchemaFault) → IsModuleFault f → module_fault tree ≡ Some f → IsRefused text f
-  refused_as (Name f) k e = (tokens, tree, is, e)
-  refused_as (Tag f) k e = (tokens, tree, is, e)
-  refused_as (Cons f) k e = (tokens, tree, is, e)
+module _ (text : List ℕ) (tokens : List Token) (tree : WrittenModule) (is : IsModuleText text tokens tree) (spans : AreSpans text tokens) (m : BasicModule) (made : basic_module tokens tree ≡ Ok m) where
+  basic : IsBasicText text m
+  basic = (tokens, tree, is, made)
+
+  texts : IsUtf8 m.name × AssignTextNames m.assignments
+  texts = names_are_texts text tokens tree m spans is.written made
+
+  pub reads : read_module m ≡ fault_result (module_fault m) (denoted_schema m)
+  reads = read_module-is m texts.0 texts.1
+
+  refused_as : (f : SchemaFault) → IsModuleFault f → module_fault m ≡ Some f → IsRefused text f
+  refused_as (Name f) k e = (m, basic, e)
+  refused_as (Tag f) k e = (m, basic, e)
+  refused_as (Cons f) k e = (m, basic, e)
   refused_as (Lex f) k e = absurd k
   refused_as (Syntax f) k e = absurd k
   refused_as OutOfMemory k e = absurd k
 
-  refused_by : (f : SchemaFault) → read_module tree ≡ Err f → IsRefused text f
+  refused_by : (f : SchemaFault) → read_module m ≡ Err f → IsRefused text f
   refused_by f e =
-      let o = some_where_err (module_fault tree) (denoted_schema tree) f (sym reads ∙ e) in
-      refused_as f (subst IfFault o (of_module tree)) o
+      let o = some_where_err (module_fault m) (denoted_schema m) f (sym reads ∙ e) in
+      refused_as f (subst IfFault o (of_module m)) o
 
-  pub built_refused : (f : SchemaFault) → Refuses (named f) (read_module tree) → IsRefused text f
+  built_refused : (f : SchemaFault) → Refuses (named f) (read_module m) → IsRefused text f
   built_refused OutOfMemory h = tt
   built_refused (Lex f) h = refused_by (Lex f) h
   built_refused (Syntax f) h = refused_by (Syntax f) h
@@ -145,19 +163,15 @@ module _ (text : List ℕ) (tokens : List Token) (tree : WrittenModule) (is : Is
   built_refused (Tag f) h = refused_by (Tag f) h
   built_refused (Cons f) h = refused_by (Cons f) h
 
-  pub built_accepted : (s : AbstractSchema) → read_module tree ≡ Ok s → Accepts text s
-  built_accepted s h = let p = none_where_ok (module_fault tree) (denoted_schema tree) s (sym reads ∙ h) in (tokens, tree, is, p.0, p.1)
+  built_accepted : (s : AbstractSchema) → read_module m ≡ Ok s → Accepts text s
+  built_accepted s h = let p = none_where_ok (module_fault m) (denoted_schema m) s (sym reads ∙ h) in (m, basic, p.0, p.1)
 
-  pub built_sound : (s : AbstractSchema) → read_module tree ≡ Ok s → AreDefinitions s.types
+  built_sound : (s : AbstractSchema) → read_module m ≡ Ok s → AreDefinitions s.types
   built_sound s h =
-      let p = none_where_ok (module_fault tree) (denoted_schema tree) s (sym reads ∙ h) in
-      let q = neither (name_fault tree.assignments) (definitions_fault 0 tree.assignments) p.0 in
-      subst (λ (t : AbstractSchema). AreDefinitions t.types) (sym p.1) (definitions_are tree.assignments (no_name (repeated (assigned_names tree.assignments)) q.0) q.1)
+      let p = none_where_ok (module_fault m) (denoted_schema m) s (sym reads ∙ h) in
+      let q = neither (name_fault m.assignments) (definitions_fault 0 m.assignments) p.0 in
+      subst (λ (t : AbstractSchema). AreDefinitions t.types) (sym p.1) (definitions_are m.assignments (no_name (repeated (assigned_names m.assignments)) q.0) q.1)
 
-  pub built : (r : Result AbstractSchema SchemaFault) → Gives (λ s. s) named r (read_module tree) → IfOk r (Accepts text) × IfOk r (λ s. AreDefinitions s.types) × IfErr r (IsRefused text)
-  built (Ok s) h = (built_accepted s h, built_sound s h, tt)
+  pub built : (r : Result Schema SchemaFault) → Gives schema_view named r (read_module m) → IfOk r (λ s. Accepts text (schema_view s)) × IfOk r (λ s. AreDefinitions (schema_view s).types) × IfErr r (IsRefused text)
+  built (Ok s) h = (built_accepted (schema_view s) h, built_sound (schema_view s) h, tt)
   built (Err f) h = (tt, tt, built_refused f h)
-
--- the names of a module whose tokens are spans of the text
-pub names_are_texts : (text : List ℕ) (tokens : List Token) (m : WrittenModule) → AreSpans text tokens → IsWritten m (lexemes_of text tokens) → IsUtf8 m.name × AssignTextNames m.assignments
-names_are_texts text tokens m spans written = module_text m (subst AreTextLexemes (sym written.tokens) (spans_text text tokens spans))

@@ -6,7 +6,8 @@ use Rattle.std.proofs.lemmas.List.{length-append}
 use Rattle.guard_model.specs.Answer.{◌>>=◌}
 use Rattle.guard_model.specs.declared.site.Site.{Site}
 use Rattle.guard_der.specs.Sound.{count, nesting, nesting_inside, deepest}
-use Rattle.guard_syntax.specs.Trees.{WrittenType, type_node, WrittenBase, boolean, integer, sequence, WrittenComponents, no_components, component, WrittenConstraint, WrittenNumber, WrittenSet, range, WrittenAssignment, WrittenModule}
+use Rattle.guard_syntax.specs.Trees.{WrittenNumber}
+use Rattle.derguard.specs.SchemaBasic.{BasicRange, BasicType, type_node, BasicBase, boolean, integer, sequence, BasicComponents, no_components, component, BasicAssignment, BasicModule}
 use Rattle.derguard.specs.declared.guard_schema.fault.SchemaFault.{SchemaFault}
 use Rattle.derguard.specs.declared.guard_schema.fault.SchemaFault.TheVariants.{Name, Tag, Cons}
 use Rattle.derguard.specs.declared.guard_schema.names.NameFault.TheVariants.{Duplicate}
@@ -22,15 +23,15 @@ use Rattle.guard_der.specs.Fits.{fits_128_bits}
 use Rattle.derguard.specs.declared.guard_schema.constraints.ConsFault.{ConsFault}
 use Rattle.derguard.specs.declared.guard_schema.constraints.ConsFault.TheVariants.{Value}
 use Rattle.derguard.specs.declared.guard_schema.values.ValueFault.TheVariants.{TooLarge}
-use Rattle.derguard.specs.SchemaConstraints.{ends_of_set, ends_of_constraints, ends, ends_inside, ends_of_components, first_too_large, constraint_fault}
+use Rattle.derguard.specs.SchemaConstraints.{ends_of_ranges, ends, ends_inside, ends_of_components, first_too_large, constraint_fault}
 use Rattle.derguard.specs.Schemas.{AbstractSchema, denoted_definition, denoted_schema}
 use Rattle.derguard.specs.SchemaFaults.{name_fault, definition_fault, definitions_fault, module_fault}
 use Rattle.derguard.specs.SchemaFirst.{or_else}
 use Rattle.derguard.specs.SchemaNames.{repeated, component_names, assigned_names, HasTextNames, HasTextNamesInside, HaveTextNames, AssignTextNames}
-use Rattle.derguard.specs.SchemaTypes.{number_of, denoted_set, tag_of, denoted, denoted_kind, denoted_components}
+use Rattle.derguard.specs.SchemaTypes.{number_of, denoted_range, tag_of, denoted, denoted_kind, denoted_components}
 use Rattle.derguard.specs.SchemaTagging.{nodes, nodes_inside, nodes_of_components, most_components, most_nesting, most_nodes, fault_where, node_fault, fault_at, first_fault, tag_fault}
 use Rattle.derguard.proofs.SchemaLoops.{deeper}
-use Rattle.derguard.specs.SchemaReading.{text_octets, list_result, check_components_list, check_list, check_size, check_node, check_type, check_base, check_components, read_set, in_schema, read_constraints, build_type, build_base, build_components, read_definition, read_definitions, assigned_result, check_assigned, read_module}
+use Rattle.derguard.specs.SchemaReading.{text_octets, list_result, check_components_list, check_list, check_size, check_node, check_type, check_base, check_components, read_range, in_schema, read_ranges, build_type, build_base, build_components, read_definition, read_definitions, assigned_result, check_assigned, read_module}
 
 -- where no tag fault stands
 abbrev pub tag_result : {A : Type 0} → Option TagFault → A → Result A SchemaFault
@@ -68,28 +69,28 @@ check_size-is : (site : Site) (parts : Checked) → check_size site parts ≡ ta
 unfolding check_size
 check_size-is site parts = size_cases (ltb most_nesting (suc parts.nesting)) (ltb most_nodes (suc parts.nodes)) (TooDeep site) (SchemaTooLarge site) (with_whole parts)
 
-check_node-is : (site : Site) (base : WrittenBase) (parts : Checked) → check_node site base parts ≡ tag_result (node_fault site base (suc parts.nesting) (suc parts.nodes)) (with_whole parts)
+check_node-is : (site : Site) (base : BasicBase) (parts : Checked) → check_node site base parts ≡ tag_result (node_fault site base (suc parts.nesting) (suc parts.nodes)) (with_whole parts)
 unfolding check_node check_list check_components_list
 check_node-is site boolean parts = check_size-is site parts
 check_node-is site integer parts = check_size-is site parts
 check_node-is site (sequence cs) parts =
     rw (check_size-is site parts) (list_cases site (repeated (component_names cs)) (ltb most_components (count (denoted_components cs))) (size_fault site parts) (with_whole parts))
 
-pub first_fault-append : (before : ℕ) (xs ys : List WrittenType) → first_fault before (xs ++ ys) ≡ or_else (first_fault before xs) (first_fault (before + length xs) ys)
+pub first_fault-append : (before : ℕ) (xs ys : List BasicType) → first_fault before (xs ++ ys) ≡ or_else (first_fault before xs) (first_fault (before + length xs) ys)
 first_fault-append before [] ys = ap (λ (n : ℕ). first_fault n ys) (omega arith)
 first_fault-append before (x ∷ xs) ys =
     let k : suc before + length xs ≡ before + suc (length xs) = omega arith in
     ap (λ (o : Option TagFault). or_else (fault_at before x) o) (first_fault-append (suc before) xs ys ∙ ap (λ (n : ℕ). or_else (first_fault (suc before) xs) (first_fault n ys)) k)
     ∙ sym (or_else-assoc (fault_at before x) (first_fault (suc before) xs) (first_fault (before + suc (length xs)) ys))
 
-length-append' : (xs ys : List WrittenType) → length (xs ++ ys) ≡ length xs + length ys
+length-append' : (xs ys : List BasicType) → length (xs ++ ys) ≡ length xs + length ys
 length-append' xs ys = simp length-append
 
 abbrev counted : ℕ → ℕ → ℕ → Checked
 counted before more depth = record { nodes = before + more; nesting = depth }
 
 -- a step that may be at fault, and then the whole of which it is a part
-node_after : (parts_fault : Option TagFault) (site : Site) (base : WrittenBase) (parts : Checked)
+node_after : (parts_fault : Option TagFault) (site : Site) (base : BasicBase) (parts : Checked)
     → (tag_result parts_fault parts >>= λ p. check_node site base p) ≡ tag_result (or_else parts_fault (node_fault site base (suc parts.nesting) (suc parts.nodes))) (with_whole parts)
 node_after None site base parts = check_node-is site base parts
 node_after (Some f) site base parts = refl
@@ -107,9 +108,9 @@ both (Some f) others one more = refl
 mutual
   unfolding check_type check_base check_components
 
-  pub check_type-is : (before : ℕ) (t : WrittenType) → check_type before t ≡ tag_result (tag_fault before t) (counted before (length (nodes t)) (nesting (denoted t)))
-  check_type-is before (type_node site base constraints) =
-      let here : WrittenType = type_node site base constraints in
+  pub check_type-is : (before : ℕ) (t : BasicType) → check_type before t ≡ tag_result (tag_fault before t) (counted before (length (nodes t)) (nesting (denoted t)))
+  check_type-is before (type_node site base ranges) =
+      let here : BasicType = type_node site base ranges in
       let inside : ℕ = length (nodes_inside base) in
       let depth : ℕ = nesting_inside (denoted_kind base) in
       let deep : suc depth ≡ nesting (denoted here) = omega arith in
@@ -122,12 +123,12 @@ mutual
       ∙ node_after (first_fault before (nodes_inside base)) site base (counted before inside depth)
       ∙ (λ i. tag_result (fault i) (record { nodes = long i; nesting = deep i }))
 
-  pub check_base-is : (before : ℕ) (base : WrittenBase) → check_base before base ≡ tag_result (first_fault before (nodes_inside base)) (counted before (length (nodes_inside base)) (nesting_inside (denoted_kind base)))
+  pub check_base-is : (before : ℕ) (base : BasicBase) → check_base before base ≡ tag_result (first_fault before (nodes_inside base)) (counted before (length (nodes_inside base)) (nesting_inside (denoted_kind base)))
   check_base-is before boolean = ap (λ (n : ℕ). Ok (record { nodes = n; nesting = 0 })) (omega arith)
   check_base-is before integer = ap (λ (n : ℕ). Ok (record { nodes = n; nesting = 0 })) (omega arith)
   check_base-is before (sequence cs) = check_components-is before cs
 
-  pub check_components-is : (before : ℕ) (cs : WrittenComponents) → check_components before cs ≡ tag_result (first_fault before (nodes_of_components cs)) (counted before (length (nodes_of_components cs)) (deepest (denoted_components cs)))
+  pub check_components-is : (before : ℕ) (cs : BasicComponents) → check_components before cs ≡ tag_result (first_fault before (nodes_of_components cs)) (counted before (length (nodes_of_components cs)) (deepest (denoted_components cs)))
   check_components-is before no_components = ap (λ (n : ℕ). Ok (record { nodes = n; nesting = 0 })) (omega arith)
   check_components-is before (component site name ty others) =
       let first : Option TagFault = tag_fault before ty in
@@ -164,9 +165,12 @@ ends_cases true true site l h = refl
 ends_cases true false site l h = refl
 ends_cases false high site l h = refl
 
-read_set-is : (s : WrittenSet) → in_schema (read_set s) ≡ cons_result (first_too_large (ends_of_set s)) (denoted_set s)
-unfolding read_set
-read_set-is (range site low high) = ends_cases (fits_128_bits (number_of low)) (fits_128_bits (number_of high)) site low high
+abbrev ends_of_range : BasicRange → List WrittenNumber
+ends_of_range r = r.low ∷ r.high ∷ []
+
+read_range-is : (r : BasicRange) → in_schema (read_range r) ≡ cons_result (first_too_large (ends_of_range r)) (denoted_range r)
+unfolding read_range
+read_range-is r = ends_cases (fits_128_bits (number_of r.low)) (fits_128_bits (number_of r.high)) r.site r.low r.high
 
 -- one after the other
 in_turn : {A B C : Type 0} (first others : Option ConsFault) (x : A) (y : B) (f : A → B → C)
@@ -175,24 +179,21 @@ in_turn None None x y f = refl
 in_turn None (Some o) x y f = refl
 in_turn (Some o) others x y f = refl
 
-abbrev denoted_list : List WrittenConstraint → List Constraint
-denoted_list cs = map (λ c. denoted_set c.set) cs
-
-pub read_constraints-is : (cs : List WrittenConstraint) → read_constraints cs ≡ cons_result (first_too_large (ends_of_constraints cs)) (denoted_list cs)
-unfolding read_constraints
-read_constraints-is [] = refl
-read_constraints-is (c ∷ cs) =
+pub read_ranges-is : (rs : List BasicRange) → read_ranges rs ≡ cons_result (first_too_large (ends_of_ranges rs)) (map denoted_range rs)
+unfolding read_ranges
+read_ranges-is [] = refl
+read_ranges-is (r ∷ rs) =
     let step : Result Constraint SchemaFault → Result (List Constraint) SchemaFault → Result (List Constraint) SchemaFault = λ p q. p >>= λ one. q >>= λ others. Ok (one ∷ others) in
-    (λ i. step (read_set-is c.set i) (read_constraints-is cs i))
-    ∙ in_turn (first_too_large (ends_of_set c.set)) (first_too_large (ends_of_constraints cs)) (denoted_set c.set) (denoted_list cs) (λ one others. one ∷ others)
-    ∙ ap (λ (o : Option ConsFault). cons_result o (denoted_list (c ∷ cs))) (sym (first_too_large-append (ends_of_set c.set) (ends_of_constraints cs)))
+    (λ i. step (read_range-is r i) (read_ranges-is rs i))
+    ∙ in_turn (first_too_large (ends_of_range r)) (first_too_large (ends_of_ranges rs)) (denoted_range r) (map denoted_range rs) (λ one others. one ∷ others)
+    ∙ ap (λ (o : Option ConsFault). cons_result o (map denoted_range (r ∷ rs))) (sym (first_too_large-append (ends_of_range r) (ends_of_ranges rs)))
 
 -- ---- types
-abbrev one_components : WrittenComponents → List OneComponent
+abbrev one_components : BasicComponents → List OneComponent
 one_components no_components = []
 one_components (component site name ty others) = record { name = name; ty = denoted ty; presence = Mandatory } ∷ one_components others
 
-one_components-are : (cs : WrittenComponents) → components_of (one_components cs) ≡ denoted_components cs
+one_components-are : (cs : BasicComponents) → components_of (one_components cs) ≡ denoted_components cs
 one_components-are no_components = refl
 one_components-are (component site name ty others) = ap (λ (rest : Components). type.component name (denoted ty) Mandatory rest) (one_components-are others)
 
@@ -208,15 +209,15 @@ in_place (Some o) x f = refl
 mutual
   unfolding build_type build_base build_components
 
-  pub build_type-is : (t : WrittenType) → HasTextNames t → build_type t ≡ cons_result (constraint_fault t) (denoted t)
-  build_type-is (type_node site base constraints) texts =
+  pub build_type-is : (t : BasicType) → HasTextNames t → build_type t ≡ cons_result (constraint_fault t) (denoted t)
+  build_type-is (type_node site base ranges) texts =
       let make : AbstractKind → List Constraint → AbstractType = λ kind cons. type_of (tag_of base ∷ []) kind (constraints_of cons) in
       let step : Result AbstractKind SchemaFault → Result (List Constraint) SchemaFault → Result AbstractType SchemaFault = λ p q. p >>= λ kind. q >>= λ cons. Ok (make kind cons) in
-      (λ i. step (build_base-is base texts i) (read_constraints-is constraints i))
-      ∙ in_turn (first_too_large (ends_inside base)) (first_too_large (ends_of_constraints constraints)) (denoted_kind base) (denoted_list constraints) make
-      ∙ ap (λ (o : Option ConsFault). cons_result o (denoted (type_node site base constraints))) (sym (first_too_large-append (ends_inside base) (ends_of_constraints constraints)))
+      (λ i. step (build_base-is base texts i) (read_ranges-is ranges i))
+      ∙ in_turn (first_too_large (ends_inside base)) (first_too_large (ends_of_ranges ranges)) (denoted_kind base) (map denoted_range ranges) make
+      ∙ ap (λ (o : Option ConsFault). cons_result o (denoted (type_node site base ranges))) (sym (first_too_large-append (ends_inside base) (ends_of_ranges ranges)))
 
-  pub build_base-is : (base : WrittenBase) → HasTextNamesInside base → build_base base ≡ cons_result (first_too_large (ends_inside base)) (denoted_kind base)
+  pub build_base-is : (base : BasicBase) → HasTextNamesInside base → build_base base ≡ cons_result (first_too_large (ends_inside base)) (denoted_kind base)
   build_base-is boolean texts = refl
   build_base-is integer texts = refl
   build_base-is (sequence cs) texts =
@@ -224,7 +225,7 @@ mutual
       ∙ in_place (first_too_large (ends_of_components cs)) (one_components cs) (λ parts. type.sequence (components_of parts))
       ∙ ap (λ (parts : Components). cons_result (first_too_large (ends_of_components cs)) (type.sequence parts)) (one_components-are cs)
 
-  pub build_components-is : (cs : WrittenComponents) → HaveTextNames cs → build_components cs ≡ cons_result (first_too_large (ends_of_components cs)) (one_components cs)
+  pub build_components-is : (cs : BasicComponents) → HaveTextNames cs → build_components cs ≡ cons_result (first_too_large (ends_of_components cs)) (one_components cs)
   build_components-is no_components texts = refl
   build_components-is (component site name ty others) texts =
       let make : List ℕ → AbstractType → List OneComponent → List OneComponent = λ n one more. record { name = n; ty = one; presence = Mandatory } ∷ more in
@@ -254,10 +255,10 @@ definition_cases None None c name t = refl
 definition_cases None (Some f) c name t = refl
 definition_cases (Some f) cons c name t = refl
 
-abbrev with_count : ℕ → WrittenAssignment → Counted
+abbrev with_count : ℕ → BasicAssignment → Counted
 with_count before a = (denoted_definition a, before + length (nodes a.ty))
 
-read_definition-is : (before : ℕ) (a : WrittenAssignment) → IsUtf8 a.name → HasTextNames a.ty → read_definition before a ≡ fault_result (definition_fault before a) (with_count before a)
+read_definition-is : (before : ℕ) (a : BasicAssignment) → IsUtf8 a.name → HasTextNames a.ty → read_definition before a ≡ fault_result (definition_fault before a) (with_count before a)
 unfolding read_definition
 read_definition-is before a text texts =
     let step : List ℕ → Result Checked SchemaFault → Result AbstractType SchemaFault → Result Counted SchemaFault = λ n p q. p >>= λ c. q >>= λ t. Ok (counted_definition n c t) in
@@ -275,7 +276,7 @@ after_definition : (first : Option SchemaFault) (one : Counted) (rest : ℕ → 
 after_definition None one rest = refl
 after_definition (Some f) one rest = refl
 
-pub read_definitions-is : (before : ℕ) (assigned : List WrittenAssignment) → AssignTextNames assigned → read_definitions before assigned ≡ fault_result (definitions_fault before assigned) (map denoted_definition assigned)
+pub read_definitions-is : (before : ℕ) (assigned : List BasicAssignment) → AssignTextNames assigned → read_definitions before assigned ≡ fault_result (definitions_fault before assigned) (map denoted_definition assigned)
 unfolding read_definitions
 read_definitions-is before [] texts = refl
 read_definitions-is before (a ∷ others) texts =
@@ -298,7 +299,7 @@ assigned_cases None = refl
 assigned_cases (Some site) = refl
 
 -- a module is read exactly where it has no fault, and what is read is what it denotes
-pub read_module-is : (m : WrittenModule) → IsUtf8 m.name → AssignTextNames m.assignments → read_module m ≡ fault_result (module_fault m) (denoted_schema m)
+pub read_module-is : (m : BasicModule) → IsUtf8 m.name → AssignTextNames m.assignments → read_module m ≡ fault_result (module_fault m) (denoted_schema m)
 unfolding read_module check_assigned
 read_module-is m text texts =
     let step : List ℕ → Result (Unit {0}) SchemaFault → Result (List (List ℕ × AbstractType)) SchemaFault → Result AbstractSchema SchemaFault = λ n p q. p >>= λ _. q >>= λ ts. Ok (one_module n ts) in

@@ -6,26 +6,26 @@ use Rattle.guard_model.specs.Answer.{◌>>=◌, Refuses}
 use Rattle.guard_model.specs.AbstractType.{AbstractType, Constraint}
 use Rattle.guard_model.specs.declared.ty.Presence.TheVariants.{Mandatory}
 use Rattle.guard_model.specs.TypeView.{OneComponent}
-use Rattle.guard_syntax.specs.declared.tree.Assignment.{Assignment}
-use Rattle.guard_syntax.specs.declared.tree.ConsTree.{ConsTree}
-use Rattle.guard_syntax.specs.declared.tree.CompTree.{CompTree}
-use Rattle.guard_syntax.specs.Trees.{components_of}
-use Rattle.guard_syntax.specs.Views.{constraint_view, component_view, set_view, type_view, assignment_view}
+use Rattle.derguard.specs.declared.guard_schema.basic.BasicAssignment.{BasicAssignment}
+use Rattle.derguard.specs.declared.guard_schema.basic.BasicRange.{BasicRange}
+use Rattle.derguard.specs.declared.guard_schema.basic.BasicComp.{BasicComp}
+use Rattle.derguard.specs.SchemaBasic.{components_of}
+use Rattle.derguard.specs.SchemaViews.{range_view, component_view, type_view, assignment_view}
 use Rattle.derguard.specs.declared.guard_schema.fault.SchemaFault.{SchemaFault}
 use Rattle.derguard.specs.declared.guard_schema.fault.SchemaFault.TheVariants.{Cons}
 use Rattle.derguard.specs.declared.guard_schema.constraints.ConsFault.{ConsFault}
 use Rattle.derguard.specs.declared.guard_schema.tagging.Checked.{Checked}
-use Rattle.derguard.specs.SchemaReading.{read_set, read_constraints, check_type, check_components, text_octets, build_type, build_component, build_components, read_definition, read_definitions}
+use Rattle.derguard.specs.SchemaReading.{read_range, read_ranges, check_type, check_components, text_octets, build_type, build_component, build_components, read_definition, read_definitions}
 
 -- what was read before, and what is still read
-abbrev pub with_front : {A : Type 0} → List A → Result (List A) SchemaFault → Result (List A) SchemaFault
+abbrev pub with_front : {A F : Type 0} → List A → Result (List A) F → Result (List A) F
 with_front front rest = rest >>= λ xs. Ok (front ++ xs)
 
-pub front-nil : {A : Type 0} (rest : Result (List A) SchemaFault) → with_front [] rest ≡ rest
+pub front-nil : {A F : Type 0} (rest : Result (List A) F) → with_front [] rest ≡ rest
 front-nil (Ok xs) = refl
 front-nil (Err f) = refl
 
-pub regroup : {A : Type 0} (front : List A) (x : A) (rest : Result (List A) SchemaFault) → with_front front (rest >>= λ xs. Ok (x ∷ xs)) ≡ with_front (front ++ x ∷ []) rest
+pub regroup : {A F : Type 0} (front : List A) (x : A) (rest : Result (List A) F) → with_front front (rest >>= λ xs. Ok (x ∷ xs)) ≡ with_front (front ++ x ∷ []) rest
 regroup front x (Ok xs) = ap Ok (sym (append_assoc front (x ∷ []) xs))
 regroup front x (Err f) = refl
 
@@ -50,25 +50,25 @@ next_item f xs i d lt = rw (add-one, drop-cons xs i d lt) refl
 pub no_item : {X Y : Type 0} (f : X → Y) (xs : List X) (i : ℕ) → length xs ≤ i → map f (drop i xs) ≡ []
 no_item f xs i le = ap (map f) (drop_all i xs le)
 
-module _ (front : List Constraint) (cs : List ConsTree) (i : ℕ) (total : Result (List Constraint) SchemaFault)
-    (so_far : with_front front (read_constraints (map constraint_view (drop i cs))) ≡ total) where
-  pub constraint_stops : (d : ConsTree) → i < length cs → (f : ConsFault) → read_set (set_view (get_or cs i d).set) ≡ Err f → total ≡ Err (Cons f)
-  unfolding read_constraints
+module _ (front : List Constraint) (cs : List BasicRange) (i : ℕ) (total : Result (List Constraint) SchemaFault)
+    (so_far : with_front front (read_ranges (map range_view (drop i cs))) ≡ total) where
+  pub constraint_stops : (d : BasicRange) → i < length cs → (f : ConsFault) → read_range (range_view (get_or cs i d)) ≡ Err f → total ≡ Err (Cons f)
+  unfolding read_ranges
   constraint_stops d lt f h =
-      let all : with_front front (read_constraints (map constraint_view (drop i cs))) ≡ Err (Cons f) = rw (next_item constraint_view cs i d lt, h) refl in
+      let all : with_front front (read_ranges (map range_view (drop i cs))) ≡ Err (Cons f) = rw (next_item range_view cs i d lt, h) refl in
       sym so_far ∙ all
 
-  pub next_constraint : (d : ConsTree) → i < length cs → (x : Constraint) → read_set (set_view (get_or cs i d).set) ≡ Ok x → with_front (front ++ x ∷ []) (read_constraints (map constraint_view (drop (i + 1) cs))) ≡ total
-  unfolding read_constraints
+  pub next_constraint : (d : BasicRange) → i < length cs → (x : Constraint) → read_range (range_view (get_or cs i d)) ≡ Ok x → with_front (front ++ x ∷ []) (read_ranges (map range_view (drop (i + 1) cs))) ≡ total
+  unfolding read_ranges
   next_constraint d lt x h =
-      let all : with_front front (read_constraints (map constraint_view (drop i cs))) ≡ with_front (front ++ x ∷ []) (read_constraints (map constraint_view (drop (i + 1) cs))) =
-      rw (next_item constraint_view cs i d lt, h) (regroup front x (read_constraints (map constraint_view (drop (i + 1) cs)))) in
+      let all : with_front front (read_ranges (map range_view (drop i cs))) ≡ with_front (front ++ x ∷ []) (read_ranges (map range_view (drop (i + 1) cs))) =
+      rw (next_item range_view cs i d lt, h) (regroup front x (read_ranges (map range_view (drop (i + 1) cs)))) in
       sym all ∙ so_far
 
   pub no_constraint : length cs ≤ i → total ≡ Ok front
-  unfolding read_constraints
+  unfolding read_ranges
   no_constraint le =
-      let all : with_front front (read_constraints (map constraint_view (drop i cs))) ≡ Ok front = rw (no_item constraint_view cs i le) (ap Ok (append-nil front)) in
+      let all : with_front front (read_ranges (map range_view (drop i cs))) ≡ Ok front = rw (no_item range_view cs i le) (ap Ok (append-nil front)) in
       sym so_far ∙ all
 
 -- beside parts of this nesting
@@ -83,16 +83,16 @@ deeper-deeper : (m n : ℕ) (rest : Result Checked SchemaFault) → deeper m (de
 deeper-deeper m n (Ok c) = ap (λ (k : ℕ). Ok (record { nodes = c.nodes; nesting = k })) (omega arith)
 deeper-deeper m n (Err f) = refl
 
-module _ (nesting nodes : ℕ) (cs : List CompTree) (i : ℕ) (total : Result Checked SchemaFault)
+module _ (nesting nodes : ℕ) (cs : List BasicComp) (i : ℕ) (total : Result Checked SchemaFault)
     (so_far : deeper nesting (check_components nodes (components_of (map component_view (drop i cs)))) ≡ total) where
-  pub component_stops : (d x : CompTree) → i < length cs → x ≡ get_or cs i d → (f : Option SchemaFault) → Refuses f (check_type nodes (type_view x.ty)) → Refuses f total
+  pub component_stops : (d x : BasicComp) → i < length cs → x ≡ get_or cs i d → (f : Option SchemaFault) → Refuses f (check_type nodes (type_view x.ty)) → Refuses f total
   unfolding check_components
   component_stops d x lt is None h = tt
   component_stops d x lt is (Some f) h =
       let all : deeper nesting (check_components nodes (components_of (map component_view (drop i cs)))) ≡ Err f = rw (next_item component_view cs i d lt, ← is, h) refl in
       sym so_far ∙ all
 
-  pub next_component : (d x : CompTree) → i < length cs → x ≡ get_or cs i d → (c : Checked) → check_type nodes (type_view x.ty) ≡ Ok c → deeper (max nesting c.nesting) (check_components c.nodes (components_of (map component_view (drop (i + 1) cs)))) ≡ total
+  pub next_component : (d x : BasicComp) → i < length cs → x ≡ get_or cs i d → (c : Checked) → check_type nodes (type_view x.ty) ≡ Ok c → deeper (max nesting c.nesting) (check_components c.nodes (components_of (map component_view (drop (i + 1) cs)))) ≡ total
   unfolding check_components
   next_component d x lt is c h =
       let all : deeper nesting (check_components nodes (components_of (map component_view (drop i cs)))) ≡ deeper (max nesting c.nesting) (check_components c.nodes (components_of (map component_view (drop (i + 1) cs)))) =
@@ -106,9 +106,9 @@ module _ (nesting nodes : ℕ) (cs : List CompTree) (i : ℕ) (total : Result Ch
       rw (no_item component_view cs i le) (ap (λ (n : ℕ). Ok (record { nodes = nodes; nesting = n })) (omega arith)) in
       sym so_far ∙ all
 
-module _ (front : List OneComponent) (cs : List CompTree) (i : ℕ) (total : Result (List OneComponent) SchemaFault)
+module _ (front : List OneComponent) (cs : List BasicComp) (i : ℕ) (total : Result (List OneComponent) SchemaFault)
     (so_far : with_front front (build_components (components_of (map component_view (drop i cs)))) ≡ total) where
-  pub part_stops : (d x : CompTree) → i < length cs → x ≡ get_or cs i d → (f : Option SchemaFault) → Refuses f (build_component x.name.now (type_view x.ty)) → Refuses f total
+  pub part_stops : (d x : BasicComp) → i < length cs → x ≡ get_or cs i d → (f : Option SchemaFault) → Refuses f (build_component x.name.now (type_view x.ty)) → Refuses f total
   unfolding build_components
   part_stops d x lt is None h = tt
   part_stops d x lt is (Some f) h =
@@ -116,7 +116,7 @@ module _ (front : List OneComponent) (cs : List CompTree) (i : ℕ) (total : Res
       let all : with_front front (build_components (components_of (map component_view (drop i cs)))) ≡ Err f = rw (next_item component_view cs i d lt, ← is, e) refl in
       sym so_far ∙ all
 
-  pub next_part : (d x : CompTree) → i < length cs → x ≡ get_or cs i d → (one : OneComponent) → build_component x.name.now (type_view x.ty) ≡ Ok one
+  pub next_part : (d x : BasicComp) → i < length cs → x ≡ get_or cs i d → (one : OneComponent) → build_component x.name.now (type_view x.ty) ≡ Ok one
       → with_front (front ++ one ∷ []) (build_components (components_of (map component_view (drop (i + 1) cs)))) ≡ total
   unfolding build_components
   next_part d x lt is one h =
@@ -131,16 +131,16 @@ module _ (front : List OneComponent) (cs : List CompTree) (i : ℕ) (total : Res
       let all : with_front front (build_components (components_of (map component_view (drop i cs)))) ≡ Ok front = rw (no_item component_view cs i le) (ap Ok (append-nil front)) in
       sym so_far ∙ all
 
-module _ (front : List (List ℕ × AbstractType)) (nodes : ℕ) (rest : List Assignment) (i : ℕ) (total : Result (List (List ℕ × AbstractType)) SchemaFault)
+module _ (front : List (List ℕ × AbstractType)) (nodes : ℕ) (rest : List BasicAssignment) (i : ℕ) (total : Result (List (List ℕ × AbstractType)) SchemaFault)
     (so_far : with_front front (read_definitions nodes (map assignment_view (drop i rest))) ≡ total) where
-  pub definition_stops : (d x : Assignment) → i < length rest → x ≡ get_or rest i d → (f : Option SchemaFault) → Refuses f (read_definition nodes (assignment_view x)) → Refuses f total
+  pub definition_stops : (d x : BasicAssignment) → i < length rest → x ≡ get_or rest i d → (f : Option SchemaFault) → Refuses f (read_definition nodes (assignment_view x)) → Refuses f total
   unfolding read_definitions
   definition_stops d x lt is None h = tt
   definition_stops d x lt is (Some f) h =
       let all : with_front front (read_definitions nodes (map assignment_view (drop i rest))) ≡ Err f = rw (next_item assignment_view rest i d lt, ← is, h) refl in
       sym so_far ∙ all
 
-  pub next_definition : (d x : Assignment) → i < length rest → x ≡ get_or rest i d → (one : List ℕ × AbstractType) (after : ℕ) → read_definition nodes (assignment_view x) ≡ Ok (one, after)
+  pub next_definition : (d x : BasicAssignment) → i < length rest → x ≡ get_or rest i d → (one : List ℕ × AbstractType) (after : ℕ) → read_definition nodes (assignment_view x) ≡ Ok (one, after)
       → with_front (front ++ one ∷ []) (read_definitions after (map assignment_view (drop (i + 1) rest))) ≡ total
   unfolding read_definitions
   next_definition d x lt is one after h =

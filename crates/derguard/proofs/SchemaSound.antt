@@ -11,7 +11,7 @@ use Rattle.std.proofs.lemmas.List.{append-nil}
 use Rattle.std.proofs.lemmas.Map.Keys.{IsDistinct-push}
 use Rattle.guard_model.specs.declared.site.Site.{Site}
 use Rattle.guard_der.specs.Sound.{count, nesting, keeps_limits, parts_keep_limits, components_keep_limits, is_tagged_once, is_sound}
-use Rattle.guard_syntax.specs.Trees.{WrittenType, type_node, WrittenBase, boolean, integer, sequence, WrittenComponents, no_components, component, WrittenAssignment}
+use Rattle.derguard.specs.SchemaBasic.{BasicType, type_node, BasicBase, boolean, integer, sequence, BasicComponents, no_components, component, BasicAssignment}
 use Rattle.derguard.specs.declared.guard_schema.fault.SchemaFault.TheVariants.{Tag, Cons}
 use Rattle.derguard.specs.declared.guard_schema.tagging.TagFault.{TagFault}
 use Rattle.derguard.specs.declared.guard_schema.tagging.TagFault.TheVariants.{TooDeep}
@@ -38,7 +38,7 @@ le-of-not-lt a b e = ltb-false a b e
 leb-of : (a b : ℕ) → a ≤ b → leb a b ≡ true
 leb-of a b h = le-leb a b h
 
-tagged_once : (base : WrittenBase) → is_tagged_once (tag_of base ∷ []) ≡ true
+tagged_once : (base : BasicBase) → is_tagged_once (tag_of base ∷ []) ≡ true
 tagged_once boolean = refl
 tagged_once integer = refl
 tagged_once (sequence cs) = refl
@@ -48,13 +48,13 @@ and-true true true p q = refl
 and-true true false p q = q
 and-true false b p q = p
 
-few : (site : Site) (base : WrittenBase) (cs : WrittenComponents) → too_many_components site (sequence cs) ≡ None → leb (count (denoted_components cs)) 64 ≡ true
+few : (site : Site) (base : BasicBase) (cs : BasicComponents) → too_many_components site (sequence cs) ≡ None → leb (count (denoted_components cs)) 64 ≡ true
 few site base cs e = leb-of (count (denoted_components cs)) 64 (le-of-not-lt 64 (count (denoted_components cs)) (not_wrong _ _ e))
 
 mutual
-  limits_kept : (before : ℕ) (t : WrittenType) → first_fault before (nodes t) ≡ None → (keeps_limits (denoted t) ≡ true) × (nesting (denoted t) ≤ 32)
-  limits_kept before (type_node site base constraints) e =
-      let here : WrittenType = type_node site base constraints in
+  limits_kept : (before : ℕ) (t : BasicType) → first_fault before (nodes t) ≡ None → (keeps_limits (denoted t) ≡ true) × (nesting (denoted t) ≤ 32)
+  limits_kept before (type_node site base ranges) e =
+      let here : BasicType = type_node site base ranges in
       let split = neither (first_fault before (nodes_inside base)) (first_fault (before + length (nodes_inside base)) (here ∷ [])) (sym (first_fault-append before (nodes_inside base) (here ∷ [])) ∙ e) in
       let own = neither (fault_at (before + length (nodes_inside base)) here) None split.1 in
       let names = neither (duplicate_name base) _ own.0 in
@@ -62,26 +62,26 @@ mutual
       let deep = neither (fault_where (ltb 32 (nesting (denoted here))) (TooDeep site)) _ list.1 in
       (and-true _ _ (tagged_once base) (limits_kept_inside before site base split.0 list.0), le-of-not-lt 32 (nesting (denoted here)) (not_wrong _ _ deep.0))
 
-  limits_kept_inside : (before : ℕ) (site : Site) (base : WrittenBase) → first_fault before (nodes_inside base) ≡ None → too_many_components site base ≡ None → parts_keep_limits (denoted_kind base) ≡ true
+  limits_kept_inside : (before : ℕ) (site : Site) (base : BasicBase) → first_fault before (nodes_inside base) ≡ None → too_many_components site base ≡ None → parts_keep_limits (denoted_kind base) ≡ true
   limits_kept_inside before site boolean e few_parts = refl
   limits_kept_inside before site integer e few_parts = refl
   limits_kept_inside before site (sequence cs) e few_parts = and-true _ _ (few site (sequence cs) cs few_parts) (limits_kept_each before cs e)
 
-  limits_kept_each : (before : ℕ) (cs : WrittenComponents) → first_fault before (nodes_of_components cs) ≡ None → components_keep_limits (denoted_components cs) ≡ true
+  limits_kept_each : (before : ℕ) (cs : BasicComponents) → first_fault before (nodes_of_components cs) ≡ None → components_keep_limits (denoted_components cs) ≡ true
   limits_kept_each before no_components e = refl
   limits_kept_each before (component site name ty others) e =
       let split = neither (first_fault before (nodes ty)) (first_fault (before + length (nodes ty)) (nodes_of_components others)) (sym (first_fault-append before (nodes ty) (nodes_of_components others)) ∙ e) in
       and-true _ _ (limits_kept before ty split.0).0 (limits_kept_each (before + length (nodes ty)) others split.1)
 
 -- a type without a tag fault is sound
-pub sound : (before : ℕ) (t : WrittenType) → tag_fault before t ≡ None → is_sound (denoted t) ≡ true
+pub sound : (before : ℕ) (t : BasicType) → tag_fault before t ≡ None → is_sound (denoted t) ≡ true
 sound before t e = let h = limits_kept before t e in and-true _ _ h.0 (leb-of (nesting (denoted t)) 32 h.1)
 
 no_tag : (o : Option TagFault) → option_map (λ f. Tag f) o ≡ None → o ≡ None
 no_tag None e = refl
 no_tag (Some f) e = absurd cc
 
-sound_each : (before : ℕ) (assigned : List WrittenAssignment) → definitions_fault before assigned ≡ None → AllByRecursion (λ d. IsTrue (is_sound d.1)) (map denoted_definition assigned)
+sound_each : (before : ℕ) (assigned : List BasicAssignment) → definitions_fault before assigned ≡ None → AllByRecursion (λ d. IsTrue (is_sound d.1)) (map denoted_definition assigned)
 sound_each before [] e = tt
 sound_each before (a ∷ others) e =
     let split = neither (definition_fault before a) (definitions_fault (before + length (nodes a.ty)) others) e in
@@ -105,12 +105,12 @@ distinct_after before (n ∷ ns) e d =
     let c = cond_none (list_any (bytes_eq n.name) before) n.site (repeated_after (before ++ n.name ∷ []) ns) e in
     subst (IsDistinct bytes_eq) (append_assoc before (n.name ∷ []) (map (λ m. m.name) ns)) (distinct_after (before ++ n.name ∷ []) ns c.1 (IsDistinct-push bytes_eq-equivalence before n.name d c.0))
 
-names_alone : (assigned : List WrittenAssignment) → map (λ n. n.name) (assigned_names assigned) ≡ map (λ d. d.0) (map denoted_definition assigned)
+names_alone : (assigned : List BasicAssignment) → map (λ n. n.name) (assigned_names assigned) ≡ map (λ d. d.0) (map denoted_definition assigned)
 names_alone [] = refl
 names_alone (a ∷ others) = ap (λ (ns : List (List ℕ)). a.name ∷ ns) (names_alone others)
 
 -- definitions without fault
-pub definitions_are : (assigned : List WrittenAssignment) → repeated (assigned_names assigned) ≡ None → definitions_fault 0 assigned ≡ None → AreDefinitions (map denoted_definition assigned)
+pub definitions_are : (assigned : List BasicAssignment) → repeated (assigned_names assigned) ≡ None → definitions_fault 0 assigned ≡ None → AreDefinitions (map denoted_definition assigned)
 unfolding IsDistinct
 definitions_are assigned e f = record {
   sound = All-from_recursion _ _ (sound_each 0 assigned f);

@@ -1,14 +1,16 @@
 pub mod SchemaFirst
+pub mod SchemaBasic
+pub mod SchemaForms
 pub mod SchemaNames
 pub mod SchemaTypes
 pub mod SchemaTagging
 pub mod SchemaConstraints
 pub mod SchemaFaults
 pub mod SchemaReading
-pub mod SchemaCode
 pub mod Schemas
 pub mod SchemaAccepts
 pub mod SchemaViews
+pub mod SchemaView
 pub mod Member
 pub mod Violations
 pub mod EvalRows

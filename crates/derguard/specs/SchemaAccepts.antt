@@ -1,7 +1,10 @@
 -- Which texts make which schema, and why a text makes none.
-use Rattle.std.specs.Prelude.{◌≡◌, ℕ, List, Some, None}
+use Rattle.std.specs.Prelude.{◌≡◌, ◌⊎◌, ℕ, List, Some, None, Ok, Err}
 use Rattle.guard_lexer.specs.declared.token.Token.{Token}
 use Rattle.guard_lexer.specs.Lexing.{Lexes, FirstFault}
+use Rattle.guard_syntax.specs.declared.fault.SyntaxFault.{SyntaxFault}
+use Rattle.guard_syntax.specs.declared.fault.SyntaxFault.TheVariants.{Unexpected}
+use Rattle.guard_model.specs.declared.site.Site.{Site}
 use Rattle.guard_syntax.specs.Trees.{WrittenModule}
 use Rattle.guard_syntax.specs.Lexemes.{lexemes_of, sites_of}
 use Rattle.guard_syntax.specs.Parses.{IsWritten, HasSites}
@@ -9,6 +12,8 @@ use Rattle.guard_syntax.specs.Faults.{NamesToken}
 use Rattle.derguard.specs.declared.guard_schema.fault.SchemaFault.{SchemaFault}
 use Rattle.derguard.specs.declared.guard_schema.fault.SchemaFault.TheVariants.{Lex, Syntax, Name, Tag, Cons, OutOfMemory}
 use Rattle.derguard.specs.Schemas.{AbstractSchema, denoted_schema}
+use Rattle.derguard.specs.SchemaBasic.{BasicModule}
+use Rattle.derguard.specs.SchemaForms.{basic_module}
 use Rattle.derguard.specs.SchemaFaults.{module_fault}
 
 -- the one text of a schema is the first of its list
@@ -21,22 +26,34 @@ pub record IsModuleText (text : List ℕ) (tokens : List Token) (tree : WrittenM
   pub written : IsWritten tree (lexemes_of text tokens)
   pub sites : HasSites tree (sites_of tokens)
 
+-- the text is a module in which no form is left out, and this is its basic tree
+abbrev pub IsBasicText : List ℕ → BasicModule → Type 0
+IsBasicText text m = (tokens : List Token) × (tree : WrittenModule) × IsModuleText text tokens tree × (basic_module tokens tree ≡ Ok m)
+
 -- The text is a module without fault, and the schema is what it denotes.
 abbrev pub Accepts : List ℕ → AbstractSchema → Type 0
-Accepts text schema =
-    (tokens : List Token) × (tree : WrittenModule) × IsModuleText text tokens tree × (module_fault tree ≡ None) × (schema ≡ denoted_schema tree)
+Accepts text schema = (m : BasicModule) × IsBasicText text m × (module_fault m ≡ None) × (schema ≡ denoted_schema m)
 
--- the text is a module, and this is its first fault
+-- the text is a module in which no form is left out, and this is its first fault
 abbrev pub HasFault : List ℕ → SchemaFault → Type 0
-HasFault text fault = (tokens : List Token) × (tree : WrittenModule) × IsModuleText text tokens tree × (module_fault tree ≡ Some fault)
+HasFault text fault = (m : BasicModule) × IsBasicText text m × (module_fault m ≡ Some fault)
 
--- The text makes no schema for this reason: its first fault as a text; that no tree is written with its tokens; or its first
--- fault as a module.
+-- the text is cut into tokens that write no tree, and this fault names one of them, or the end of the text
+abbrev pub WritesNothing : List ℕ → SyntaxFault → Type 0
+WritesNothing text fault =
+    (tokens : List Token) × Lexes place text tokens × ((m : WrittenModule) → IsWritten m (lexemes_of text tokens) → ⊥) × NamesToken place text tokens fault
+
+-- the text is a module, and there stands the first token of the first form of it that is left out
+abbrev pub LeavesOut : List ℕ → Site → Type 0
+LeavesOut text site = (tokens : List Token) × (tree : WrittenModule) × IsModuleText text tokens tree × (basic_module tokens tree ≡ Err site)
+
+-- The text makes no schema for this reason: its first fault as a text; that no tree is written with its tokens, or, as P1, that
+-- a form of its tree is left out; or its first fault as a module.
 abbrev pub IsRefused : List ℕ → SchemaFault → Type 0
 IsRefused text OutOfMemory = Unit {0}
 IsRefused text (Lex f) = FirstFault place text f
-IsRefused text (Syntax f) =
-    (tokens : List Token) × Lexes place text tokens × ((m : WrittenModule) → IsWritten m (lexemes_of text tokens) → ⊥) × NamesToken place text tokens f
+IsRefused text (Syntax (Unexpected site)) = WritesNothing text (Unexpected site) ⊎ LeavesOut text site
+IsRefused text (Syntax f) = WritesNothing text f
 IsRefused text (Name f) = HasFault text (Name f)
 IsRefused text (Tag f) = HasFault text (Tag f)
 IsRefused text (Cons f) = HasFault text (Cons f)

@@ -4,10 +4,13 @@ use Rattle.guard_lexer.specs.declared.fault.LexFault.{LexFault}
 use Rattle.guard_lexer.specs.declared.fault.LexFault.TheVariants as lex
 use Rattle.guard_syntax.specs.declared.fault.SyntaxFault.{SyntaxFault}
 use Rattle.guard_syntax.specs.declared.fault.SyntaxFault.TheVariants as syntax
-use Rattle.guard_syntax.specs.Trees.{WrittenAssignment, WrittenModule}
+use Rattle.guard_model.specs.declared.site.Site.{Site}
+use Rattle.derguard.specs.declared.guard_schema.fault.FormFault.{FormFault}
+use Rattle.derguard.specs.declared.guard_schema.fault.FormFault.TheVariants as form
 use Rattle.derguard.specs.declared.guard_schema.fault.SchemaFault.{SchemaFault}
 use Rattle.derguard.specs.declared.guard_schema.fault.SchemaFault.TheVariants.{Lex, Syntax, Name, Tag, Cons, OutOfMemory}
 use Rattle.derguard.specs.declared.guard_schema.names.NameFault.TheVariants.{Duplicate}
+use Rattle.derguard.specs.SchemaBasic.{BasicAssignment, BasicModule}
 use Rattle.derguard.specs.SchemaFirst.{or_else}
 use Rattle.derguard.specs.SchemaNames.{assigned_names, repeated}
 use Rattle.derguard.specs.SchemaTagging.{nodes, tag_fault}
@@ -38,19 +41,29 @@ syntax_fault (syntax.Unexpected site) = Syntax (syntax.Unexpected site)
 syntax_fault (syntax.Unsupported word site) = Syntax (syntax.Unsupported word site)
 syntax_fault (syntax.TooDeep site) = Syntax (syntax.TooDeep site)
 
+-- where a form stands that is left out, unless memory ran out
+abbrev pub form_named : FormFault → Option Site
+form_named (form.LeftOut site) = Some site
+form_named form.OutOfMemory = None
+
+-- a form that is left out is P1
+abbrev pub form_fault : FormFault → SchemaFault
+form_fault (form.LeftOut site) = Syntax (syntax.Unexpected site)
+form_fault form.OutOfMemory = OutOfMemory
+
 -- a name that is assigned twice
-abbrev pub name_fault : List WrittenAssignment → Option SchemaFault
+abbrev pub name_fault : List BasicAssignment → Option SchemaFault
 name_fault rest = option_map (λ site. Name (Duplicate site)) (repeated (assigned_names rest))
 
 -- what is wrong with a definition, with so many type nodes in those before it
-abbrev pub definition_fault : ℕ → WrittenAssignment → Option SchemaFault
+abbrev pub definition_fault : ℕ → BasicAssignment → Option SchemaFault
 definition_fault before a = or_else (option_map (λ f. Tag f) (tag_fault before a.ty)) (option_map (λ f. Cons f) (constraint_fault a.ty))
 
 -- the first definition with which something is wrong, with so many type nodes in those before these
-abbrev pub definitions_fault : ℕ → List WrittenAssignment → Option SchemaFault
+abbrev pub definitions_fault : ℕ → List BasicAssignment → Option SchemaFault
 definitions_fault before [] = None
 definitions_fault before (a ∷ rest) = or_else (definition_fault before a) (definitions_fault (before + length (nodes a.ty)) rest)
 
--- names are looked at over the whole module before any definition
-abbrev pub module_fault : WrittenModule → Option SchemaFault
+-- The first fault of a module in which no form is left out. Names are looked at over the whole module before any definition.
+abbrev pub module_fault : BasicModule → Option SchemaFault
 module_fault m = or_else (name_fault m.assignments) (definitions_fault 0 m.assignments)

@@ -2,7 +2,7 @@
 use Rattle.std.specs.Prelude.{ℕ, List, [], ◌∷◌, ◌++◌, map, Option, Some, None, if◌then◌else◌, bytes_eq, IsUtf8}
 use Rattle.std.specs.List.{list_any}
 use Rattle.guard_model.specs.declared.site.Site.{Site}
-use Rattle.guard_syntax.specs.Trees.{WrittenType, type_node, WrittenBase, boolean, integer, sequence, WrittenComponents, no_components, component, WrittenAssignment}
+use Rattle.derguard.specs.SchemaBasic.{BasicType, type_node, BasicBase, boolean, integer, sequence, BasicComponents, no_components, component, BasicAssignment}
 
 -- a name, and where it stands
 pub record PlacedName : Type 0 where
@@ -18,28 +18,28 @@ repeated_after before (n ∷ ns) = if list_any (bytes_eq n.name) before then Som
 abbrev pub repeated : List PlacedName → Option Site
 repeated ns = repeated_after [] ns
 
-abbrev pub assigned_names : List WrittenAssignment → List PlacedName
+abbrev pub assigned_names : List BasicAssignment → List PlacedName
 assigned_names rest = map (λ a. record { site = a.site; name = a.name }) rest
 
-abbrev pub component_names : WrittenComponents → List PlacedName
+abbrev pub component_names : BasicComponents → List PlacedName
 component_names no_components = []
 component_names (component site name ty others) = record { site = site; name = name } ∷ component_names others
 
 abbrev mutual
   -- the names in a type are texts
-  pub HasTextNames : WrittenType → Type 0
+  pub HasTextNames : BasicType → Type 0
   HasTextNames (type_node site base constraints) = HasTextNamesInside base
 
-  pub HasTextNamesInside : WrittenBase → Type 0
+  pub HasTextNamesInside : BasicBase → Type 0
   HasTextNamesInside boolean = Unit {0}
   HasTextNamesInside integer = Unit {0}
   HasTextNamesInside (sequence cs) = HaveTextNames cs
 
-  pub HaveTextNames : WrittenComponents → Type 0
+  pub HaveTextNames : BasicComponents → Type 0
   HaveTextNames no_components = Unit {0}
   HaveTextNames (component site name ty others) = IsUtf8 name × HasTextNames ty × HaveTextNames others
 
 -- the names in assignments are texts
-abbrev pub AssignTextNames : List WrittenAssignment → Type 0
+abbrev pub AssignTextNames : List BasicAssignment → Type 0
 AssignTextNames [] = Unit {0}
 AssignTextNames (a ∷ rest) = IsUtf8 a.name × HasTextNames a.ty × AssignTextNames rest

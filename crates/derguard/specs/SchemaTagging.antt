@@ -2,24 +2,24 @@
 use Rattle.std.specs.Prelude.{ℕ, suc, Bool, List, [], ◌∷◌, ◌++◌, Option, Some, None, nat_lt, option_map, if◌then◌else◌}
 use Rattle.guard_model.specs.declared.site.Site.{Site}
 use Rattle.guard_der.specs.Sound.{count, nesting}
-use Rattle.guard_syntax.specs.Trees.{WrittenType, type_node, WrittenBase, boolean, integer, sequence, WrittenComponents, no_components, component}
 use Rattle.derguard.specs.declared.guard_schema.tagging.TagFault.{TagFault}
 use Rattle.derguard.specs.declared.guard_schema.tagging.TagFault.TheVariants.{DuplicateName, TooManyComponents, TooDeep, SchemaTooLarge}
+use Rattle.derguard.specs.SchemaBasic.{BasicType, type_node, BasicBase, boolean, integer, sequence, BasicComponents, no_components, component}
 use Rattle.derguard.specs.SchemaFirst.{or_else}
 use Rattle.derguard.specs.SchemaNames.{repeated, component_names}
 use Rattle.derguard.specs.SchemaTypes.{denoted, denoted_components}
 
 abbrev mutual
   -- the type nodes of a type: its parts in written order, and then the whole
-  pub nodes : WrittenType → List WrittenType
-  nodes (type_node site base constraints) = nodes_inside base ++ type_node site base constraints ∷ []
+  pub nodes : BasicType → List BasicType
+  nodes (type_node site base ranges) = nodes_inside base ++ type_node site base ranges ∷ []
 
-  pub nodes_inside : WrittenBase → List WrittenType
+  pub nodes_inside : BasicBase → List BasicType
   nodes_inside boolean = []
   nodes_inside integer = []
   nodes_inside (sequence cs) = nodes_of_components cs
 
-  pub nodes_of_components : WrittenComponents → List WrittenType
+  pub nodes_of_components : BasicComponents → List BasicType
   nodes_of_components no_components = []
   nodes_of_components (component site name ty others) = nodes ty ++ nodes_of_components others
 
@@ -38,18 +38,18 @@ abbrev pub fault_where : Bool → TagFault → Option TagFault
 fault_where wrong fault = if wrong then Some fault else None
 
 -- two components of one name: at the name of the later one (X.680 25.7)
-abbrev pub duplicate_name : WrittenBase → Option TagFault
+abbrev pub duplicate_name : BasicBase → Option TagFault
 duplicate_name (sequence cs) = option_map (λ site. DuplicateName site) (repeated (component_names cs))
 duplicate_name boolean = None
 duplicate_name integer = None
 
-abbrev pub too_many_components : Site → WrittenBase → Option TagFault
+abbrev pub too_many_components : Site → BasicBase → Option TagFault
 too_many_components site (sequence cs) = fault_where (nat_lt most_components (count (denoted_components cs))) (TooManyComponents site)
 too_many_components site boolean = None
 too_many_components site integer = None
 
 -- What is wrong at a node of this nesting, the last of so many nodes. Where several things are wrong the first of these is named.
-abbrev pub node_fault : Site → WrittenBase → ℕ → ℕ → Option TagFault
+abbrev pub node_fault : Site → BasicBase → ℕ → ℕ → Option TagFault
 node_fault site base nesting nodes =
     or_else (duplicate_name base)
     (or_else (too_many_components site base)
@@ -57,14 +57,14 @@ node_fault site base nesting nodes =
     (fault_where (nat_lt most_nodes nodes) (SchemaTooLarge site))))
 
 -- what is wrong at a node, with so many nodes before it
-abbrev pub fault_at : ℕ → WrittenType → Option TagFault
-fault_at before (type_node site base constraints) = node_fault site base (nesting (denoted (type_node site base constraints))) (suc before)
+abbrev pub fault_at : ℕ → BasicType → Option TagFault
+fault_at before (type_node site base ranges) = node_fault site base (nesting (denoted (type_node site base ranges))) (suc before)
 
 -- the first node at which something is wrong, with so many nodes before these
-abbrev pub first_fault : ℕ → List WrittenType → Option TagFault
+abbrev pub first_fault : ℕ → List BasicType → Option TagFault
 first_fault before [] = None
 first_fault before (t ∷ ts) = or_else (fault_at before t) (first_fault (suc before) ts)
 
 -- what is wrong with a type, with so many nodes in the types before it
-abbrev pub tag_fault : ℕ → WrittenType → Option TagFault
+abbrev pub tag_fault : ℕ → BasicType → Option TagFault
 tag_fault before t = first_fault before (nodes t)

@@ -1,4 +1,4 @@
--- The types that written types denote (X.680 clauses 18, 19, 25 and 51.4).
+-- The types that basic trees denote (X.680 clauses 18, 19, 25 and 51.4).
 use Rattle.std.specs.Prelude.{ℕ, zero, suc, ℤ, pos, negsuc, Bool, true, false, List, [], ◌∷◌, map}
 use Rattle.guard_model.specs.declared.tag.Class.TheVariants.{Universal}
 use Rattle.guard_model.specs.declared.tag.Tag.{Tag}
@@ -8,7 +8,8 @@ use Rattle.guard_model.specs.AbstractType as type
 use Rattle.guard_model.specs.AbstractType.{AbstractType, AbstractKind, Components, Constraint, Constraints, type_of}
 use Rattle.guard_model.specs.TypeView.{constraints_of}
 use Rattle.guard_lexer.specs.Shapes.{number_value}
-use Rattle.guard_syntax.specs.Trees.{WrittenNumber, WrittenSet, range, WrittenConstraint, WrittenType, type_node, WrittenBase, boolean, integer, sequence, WrittenComponents, no_components, component}
+use Rattle.guard_syntax.specs.Trees.{WrittenNumber}
+use Rattle.derguard.specs.SchemaBasic.{BasicRange, BasicType, type_node, BasicBase, boolean, integer, sequence, BasicComponents, no_components, component}
 
 abbrev pub signed : Bool → ℕ → ℤ
 signed false n = pos n
@@ -20,33 +21,33 @@ abbrev pub number_of : WrittenNumber → ℤ
 number_of n = signed n.minus (number_value n.digits)
 
 -- A range, with the site of its first token. Both its ends are in.
-abbrev pub denoted_set : WrittenSet → Constraint
-denoted_set (range site low high) = type.at site (type.range (At (number_of low)) (At (number_of high)))
+abbrev pub denoted_range : BasicRange → Constraint
+denoted_range r = type.at r.site (type.range (At (number_of r.low)) (At (number_of r.high)))
 
 -- in written order
-abbrev pub denoted_constraints : List WrittenConstraint → Constraints
-denoted_constraints cs = constraints_of (map (λ c. denoted_set c.set) cs)
+abbrev pub denoted_ranges : List BasicRange → Constraints
+denoted_ranges rs = constraints_of (map denoted_range rs)
 
 abbrev pub universal : ℕ → Tag
 universal n = record { class = Universal; number = n }
 
 -- the universal tags of BOOLEAN, INTEGER and SEQUENCE (X.680 8.4)
-abbrev pub tag_of : WrittenBase → Tag
+abbrev pub tag_of : BasicBase → Tag
 tag_of boolean = universal 1
 tag_of integer = universal 2
 tag_of (sequence cs) = universal 16
 
 abbrev mutual
   -- one tag, the kind with its parts, and the constraints that are written
-  pub denoted : WrittenType → AbstractType
-  denoted (type_node site base constraints) = type_of (tag_of base ∷ []) (denoted_kind base) (denoted_constraints constraints)
+  pub denoted : BasicType → AbstractType
+  denoted (type_node site base ranges) = type_of (tag_of base ∷ []) (denoted_kind base) (denoted_ranges ranges)
 
-  pub denoted_kind : WrittenBase → AbstractKind
+  pub denoted_kind : BasicBase → AbstractKind
   denoted_kind boolean = type.boolean
   denoted_kind integer = type.integer []
   denoted_kind (sequence cs) = type.sequence (denoted_components cs)
 
   -- each is mandatory
-  pub denoted_components : WrittenComponents → Components
+  pub denoted_components : BasicComponents → Components
   denoted_components no_components = type.no_components
   denoted_components (component site name ty others) = type.component name (denoted ty) Mandatory (denoted_components others)

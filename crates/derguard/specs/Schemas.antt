@@ -1,22 +1,15 @@
 -- Schemas as the definitions see them.
-use Rattle.std.specs.Prelude.{ℕ, zero, suc, List, [], ◌∷◌, All, map, IsTrue, Option, Some, None, bytes_eq, slice_get, if◌then◌else◌, refl}
-use Rattle.std.specs.Coded.{Coded, code_by, coded×, coded_list, coded_ℕ}
+use Rattle.std.specs.Prelude.{ℕ, zero, suc, List, [], ◌∷◌, All, map, IsTrue, Option, Some, None, bytes_eq, slice_get, if◌then◌else◌}
 use Rattle.std.specs.List.{list_any, IsDistinct}
 use Rattle.guard_model.specs.AbstractType.{AbstractType}
 use Rattle.guard_der.specs.Sound.{is_sound}
-use Rattle.guard_syntax.specs.Trees.{WrittenAssignment, WrittenModule}
-use Rattle.derguard.specs.SchemaCode.{type_code}
+use Rattle.derguard.specs.SchemaBasic.{BasicAssignment, BasicModule}
 use Rattle.derguard.specs.SchemaTypes.{denoted}
 
 -- the names of the modules in order, and the types with their names
 pub record AbstractSchema : Type 0 where
   pub modules : List (List ℕ)
   pub types : List (List ℕ × AbstractType)
-
-abbrev pub schema_code : Coded AbstractSchema
-schema_code =
-    code_by (List (List ℕ) × List (List ℕ × AbstractType)) (coded× (coded_list (coded_list coded_ℕ)) (coded_list (coded× (coded_list coded_ℕ) type_code)))
-    (λ s. (s.modules, s.types)) (λ p. record { modules = p.0; types = p.1 }) (λ _. refl)
 
 -- each type is sound, and no name stands twice
 pub record AreDefinitions (types : List (List ℕ × AbstractType)) : Type 0 where
@@ -37,9 +30,9 @@ abbrev pub module_named : AbstractSchema → ℕ → Option (List ℕ)
 module_named s zero = None
 module_named s (suc text) = slice_get s.modules text
 
-abbrev pub denoted_definition : WrittenAssignment → List ℕ × AbstractType
+abbrev pub denoted_definition : BasicAssignment → List ℕ × AbstractType
 denoted_definition a = (a.name, denoted a.ty)
 
 -- a module's name, and what is assigned in it, in written order
-abbrev pub denoted_schema : WrittenModule → AbstractSchema
+abbrev pub denoted_schema : BasicModule → AbstractSchema
 denoted_schema m = record { modules = m.name ∷ []; types = map denoted_definition m.assignments }

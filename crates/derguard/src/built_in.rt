@@ -6,6 +6,7 @@ ghost use Rattle.derguard.specs.Policies.{message_view, rule_view};
 ghost use Rattle.derguard.specs.PolicyView.{policy_view};
 ghost use Rattle.derguard.specs.BuiltIn.{is_integer_type, rule_from_a_to_b, built_in_policy, IsBuiltIn, HasNoBuiltIn};
 ghost use Rattle.derguard.specs.Schemas.{module_named};
+ghost use Rattle.derguard.specs.SchemaView.{schema_view};
 
 use crate::guard_policy::{Effect, Message, Policy, Rule};
 use crate::guard_schema::Schema;
@@ -15,7 +16,7 @@ use std::alloc::Global;
 /// The policy over the types Level, Low and Ping of module First. None where the schema lacks one of them, or where
 /// Level and Low aren't both INTEGER. Its one refusal is want of memory.
 pub fn built_in(alloc: Global, schema: &Schema) -> Result<Option<Policy>, OutOfMemory>
-    ensures policy { IfOk result (λ found. MatchOption found (HasNoBuiltIn schema.now) (λ p. IsBuiltIn schema.now (policy_view p))) }
+    ensures policy { IfOk result (λ found. MatchOption found (HasNoBuiltIn (schema_view schema.now)) (λ p. IsBuiltIn (schema_view schema.now) (policy_view p))) }
 {
     let Some(level) = schema.ty("First", "Level") else {
         return Ok(None);
@@ -35,7 +36,7 @@ pub fn built_in(alloc: Global, schema: &Schema) -> Result<Option<Policy>, OutOfM
 
 /// The names of the schema's modules: so far it has one.
 fn modules_of(alloc: Global, schema: &Schema) -> Result<Vec<String>, OutOfMemory>
-    ensures { IfOk result (λ modules. map string_bytes modules.items ≡ option_to_list (module_named schema.now 1)) }
+    ensures { IfOk result (λ modules. map string_bytes modules.items ≡ option_to_list (module_named (schema_view schema.now) 1)) }
 {
     match schema.module(1) {
         Some(name) => Ok(Vec::from_array(alloc, [String::from_str(alloc, name)?])?),

@@ -1,9 +1,13 @@
 //! Schemas: from the text of a module to the types that it assigns.
 
+mod basic;
 mod build;
 mod constraints;
 mod fault;
+mod forms;
+mod header;
 mod names;
+mod ranges;
 mod schema;
 mod tagging;
 mod values;

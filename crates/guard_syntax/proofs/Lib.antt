@@ -1,5 +1,14 @@
 pub mod Loops
 pub mod Steps
-pub mod Read
-pub mod Printed
+pub mod WrittenLists
+pub mod WrittenValues
+pub mod BackLists
+pub mod BackValues
+pub mod WrittenSets
+pub mod BackSets
+pub mod TypeLoops
+pub mod WrittenTypes
+pub mod BackTypes
+pub mod WrittenModule
+pub mod BackModule
 pub mod Whole

@@ -1,7 +1,8 @@
--- Tools for reading functions: what a step that did not fail answered.
-use Rattle.std.proofs.Common.{◌≡◌, Bool, true, false, cond, List, [], ◌∷◌, map, Result, Ok, Err, refl, ap, subst}
+-- What a reading function that did not fail has read.
+use Rattle.std.proofs.Common.{◌≡◌, ℕ, suc, ◌+◌, ◌≤◌, ◌<◌, Bool, true, false, cond, List, [], ◌∷◌, map, length, Option, Some, None, Result, Ok, Err, refl, ap, sym, ◌∙◌, subst, arith}
 use Rattle.guard_model.specs.Answer.{◌>>=◌}
 use Rattle.guard_model.specs.declared.site.Site.{Site}
+use Rattle.guard_lexer.specs.declared.token.TokenKind.{TokenKind}
 use Rattle.guard_lexer.specs.declared.token.TokenKind.TheVariants as kind
 use Rattle.guard_lexer.specs.declared.token.Reserved.{Reserved}
 use Rattle.guard_lexer.specs.declared.token.Mark.{Mark}
@@ -10,23 +11,9 @@ use Rattle.guard_lexer.specs.contracts.token.Mark as marks
 use denote.Enum.Bare.{same_true}
 use Rattle.guard_syntax.specs.declared.halt.Stop.{Stop}
 use Rattle.guard_syntax.specs.Kinds.{same_kind}
-use Rattle.guard_syntax.specs.Lexemes.{Lexeme, word, mark, upper_name, lower_name, number, character_string, bit_string, hexadecimal_string, unsupported, kind_of, spelling_of}
-use Rattle.guard_syntax.specs.Reading.{Placed, Spelled, spelled, read_token, read_word}
-
-pub bind_ok : {A B : Type 0} (r : Result A Stop) (f : A → Result B Stop) (y : B) → (r >>= f) ≡ Ok y → (x : A) × (r ≡ Ok x) × (f x ≡ Ok y)
-bind_ok (Ok x) f y e = (x, refl, e)
-bind_ok (Err d) f y e = absurd cc
-
--- a test that did not fail
-pub guard_ok : {A : Type 0} (b : Bool) (d : Stop) (x y : A) → cond b (Err d) (Ok x) ≡ Ok y → (b ≡ false) × (x ≡ y)
-guard_ok true d x y e = absurd cc
-guard_ok false d x y e = (refl, cc)
-
-abbrev done : {A : Type 0} → A → Result A Stop
-done x = Ok x
-
-pub ok_is : {A : Type 0} (x y : A) → done x ≡ done y → x ≡ y
-ok_is x y e = cc
+use Rattle.guard_syntax.specs.Lexemes.{Lexeme, word, mark, upper_name, lower_name, number, character_string, bit_string, hexadecimal_string, unsupported, kind_of, spelling_of, lexeme_of}
+use Rattle.guard_syntax.specs.Sites.{first, past}
+use Rattle.guard_syntax.specs.ReadTokens.{Placed, Reader, begins_with, behind, spelling_at, read_token, read_word}
 
 abbrev pub lexemes : List Placed → List Lexeme
 lexemes ps = map (λ p. p.lexeme) ps
@@ -34,106 +21,80 @@ lexemes ps = map (λ p. p.lexeme) ps
 abbrev pub sites : List Placed → List Site
 sites ps = map (λ p. p.site) ps
 
+-- Of what was read, this holds.
+pub record Holds {A : Type 0} (r : Result A Stop) (P : A → Type 0) : Type 0 where
+  pub when : (a : A) → r ≡ Ok a → P a
+
+bind_ok : {A B : Type 0} (r : Result A Stop) (f : A → Result B Stop) (y : B) → (r >>= f) ≡ Ok y → (x : A) × (r ≡ Ok x) × (f x ≡ Ok y)
+bind_ok (Ok x) f y e = (x, refl, e)
+bind_ok (Err d) f y e = absurd cc
+
+pub then_holds : {A B : Type 0} {P : A → Type 0} {Q : B → Type 0} {r : Result A Stop} (f : A → Result B Stop) → Holds r P → ((a : A) → P a → Holds (f a) Q) → Holds (r >>= f) Q
+then_holds {r} f h k = record { when = λ y e. let b = bind_ok r f y e in (k b.0 (h.when b.0 b.1)).when y b.2 }
+
+done : {A : Type 0} → A → Result A Stop
+done x = Ok x
+
+pub ok_holds : {A : Type 0} {P : A → Type 0} (x : A) → P x → Holds (Ok x) P
+ok_holds {A} {P} x h = record { when = λ y e. let same : x ≡ y = cc in subst P same h }
+
+pub err_holds : {A : Type 0} {P : A → Type 0} (s : Stop) → Holds (Err s) P
+err_holds s = record { when = λ y e. absurd cc }
+
+pub if_holds : {A : Type 0} {P : A → Type 0} (b : Bool) (x y : Result A Stop) → (b ≡ true → Holds x P) → (b ≡ false → Holds y P) → Holds (cond b x y) P
+if_holds true x y h k = h refl
+if_holds false x y h k = k refl
+
+pub so_holds : {A : Type 0} {P Q : A → Type 0} {r : Result A Stop} → Holds r P → ((a : A) → P a → Q a) → Holds r Q
+so_holds h k = record { when = λ a e. k a (h.when a e) }
+
+-- of what a test chose
+pub if_shows : {A : Type 0} (P : A → Type 0) (b : Bool) (x y : A) → (b ≡ true → P x) → (b ≡ false → P y) → P (cond b x y)
+if_shows P true x y h k = h refl
+if_shows P false x y h k = k refl
+
 -- one token, and what is behind it
-pub record Took (ps : List Placed) (l : Lexeme) (s : Site) (rest : List Placed) : Type 0 where
+pub record Took (ps : List Placed) (l : Lexeme) (rest : List Placed) : Type 0 where
   pub lexemes_are : lexemes ps ≡ l ∷ lexemes rest
-  pub sites_are : sites ps ≡ s ∷ sites rest
+  pub sites_are : past (sites ps) ≡ sites rest
+  pub shorter : length ps ≡ suc (length rest)
 
-is_mark : (l : Lexeme) (m : Mark) → same_kind (kind_of l) (kind.Mark m) ≡ true → l ≡ mark m
-is_mark (word r) m h = absurd cc
-is_mark (mark a) m h = ap mark (same_true marks.the_type tt a m h)
-is_mark (upper_name s) m h = absurd cc
-is_mark (lower_name s) m h = absurd cc
-is_mark (number s) m h = absurd cc
-is_mark (character_string s) m h = absurd cc
-is_mark (bit_string s) m h = absurd cc
-is_mark (hexadecimal_string s) m h = absurd cc
-is_mark (unsupported s) m h = absurd cc
+is_fixed : (k : TokenKind) (l : Lexeme) → same_kind (kind_of l) k ≡ true → l ≡ lexeme_of k (spelling_of l)
+is_fixed (kind.Reserved r) (word a) h = ap word (same_true reserved.the_type tt a r h)
+is_fixed (kind.Mark m) (mark a) h = ap mark (same_true marks.the_type tt a m h)
+is_fixed kind.Unsupported (unsupported s) h = refl
+is_fixed kind.UpperName (upper_name s) h = refl
+is_fixed kind.LowerName (lower_name s) h = refl
+is_fixed kind.Number (number s) h = refl
+is_fixed kind.CharacterString (character_string s) h = refl
+is_fixed kind.BitString (bit_string s) h = refl
+is_fixed kind.HexadecimalString (hexadecimal_string s) h = refl
+is_fixed k l h = absurd cc
 
-is_word : (l : Lexeme) (r : Reserved) → same_kind (kind_of l) (kind.Reserved r) ≡ true → l ≡ word r
-is_word (word a) r h = ap word (same_true reserved.the_type tt a r h)
-is_word (mark m) r h = absurd cc
-is_word (upper_name s) r h = absurd cc
-is_word (lower_name s) r h = absurd cc
-is_word (number s) r h = absurd cc
-is_word (character_string s) r h = absurd cc
-is_word (bit_string s) r h = absurd cc
-is_word (hexadecimal_string s) r h = absurd cc
-is_word (unsupported s) r h = absurd cc
+-- what the first token is
+pub took : (k : TokenKind) (ps : List Placed) → begins_with k ps ≡ true → Took ps (lexeme_of k (spelling_at ps)) (behind ps)
+took k [] h = absurd cc
+took k (p ∷ ps) h = record { lexemes_are = ap (λ (l : Lexeme). l ∷ lexemes ps) (is_fixed k p.lexeme h); sites_are = refl; shorter = refl }
 
-is_upper : (l : Lexeme) → same_kind (kind_of l) kind.UpperName ≡ true → l ≡ upper_name (spelling_of l)
-is_upper (word a) h = absurd cc
-is_upper (mark m) h = absurd cc
-is_upper (upper_name s) h = refl
-is_upper (lower_name s) h = absurd cc
-is_upper (number s) h = absurd cc
-is_upper (character_string s) h = absurd cc
-is_upper (bit_string s) h = absurd cc
-is_upper (hexadecimal_string s) h = absurd cc
-is_upper (unsupported s) h = absurd cc
-
-is_lower : (l : Lexeme) → same_kind (kind_of l) kind.LowerName ≡ true → l ≡ lower_name (spelling_of l)
-is_lower (word a) h = absurd cc
-is_lower (mark m) h = absurd cc
-is_lower (upper_name s) h = absurd cc
-is_lower (lower_name s) h = refl
-is_lower (number s) h = absurd cc
-is_lower (character_string s) h = absurd cc
-is_lower (bit_string s) h = absurd cc
-is_lower (hexadecimal_string s) h = absurd cc
-is_lower (unsupported s) h = absurd cc
-
-is_number : (l : Lexeme) → same_kind (kind_of l) kind.Number ≡ true → l ≡ number (spelling_of l)
-is_number (word a) h = absurd cc
-is_number (mark m) h = absurd cc
-is_number (upper_name s) h = absurd cc
-is_number (lower_name s) h = absurd cc
-is_number (number s) h = refl
-is_number (character_string s) h = absurd cc
-is_number (bit_string s) h = absurd cc
-is_number (hexadecimal_string s) h = absurd cc
-is_number (unsupported s) h = absurd cc
-
-chosen_ok : {A : Type 0} (b : Bool) (d : Stop) (x y : A) → cond b (Ok x) (Err d) ≡ Ok y → (b ≡ true) × (x ≡ y)
-chosen_ok true d x y e = (refl, cc)
-chosen_ok false d x y e = absurd cc
-
-pub took_mark : (m : Mark) (ps : List Placed) (s : Site) (rest : List Placed) → read_token (kind.Mark m) ps ≡ Ok (s, rest) → Took ps (mark m) s rest
+pub took_mark : (m : Mark) (ps : List Placed) → Holds (read_token (kind.Mark m) ps) (λ rest. Took ps (mark m) rest)
 unfolding read_token
-took_mark m [] s rest e = absurd cc
-took_mark m (p ∷ ps) s rest e =
-    let g = chosen_ok (same_kind (kind_of p.lexeme) (kind.Mark m)) _ (p.site, ps) (s, rest) e in
-    let is = is_mark p.lexeme m g.0 in
-    subst (λ (x : Site × List Placed). Took (p ∷ ps) (mark m) x.0 x.1) g.1 (record { lexemes_are = ap (λ (l : Lexeme). l ∷ lexemes ps) is; sites_are = refl })
+took_mark m ps = if_holds (begins_with (kind.Mark m) ps) _ _ (λ h. ok_holds (behind ps) (took (kind.Mark m) ps h)) (λ h. err_holds _)
 
-pub took_word : (r : Reserved) (ps : List Placed) (s : Site) (rest : List Placed) → read_token (kind.Reserved r) ps ≡ Ok (s, rest) → Took ps (word r) s rest
+pub took_word : (r : Reserved) (ps : List Placed) → Holds (read_token (kind.Reserved r) ps) (λ rest. Took ps (word r) rest)
 unfolding read_token
-took_word r [] s rest e = absurd cc
-took_word r (p ∷ ps) s rest e =
-    let g = chosen_ok (same_kind (kind_of p.lexeme) (kind.Reserved r)) _ (p.site, ps) (s, rest) e in
-    let is = is_word p.lexeme r g.0 in
-    subst (λ (x : Site × List Placed). Took (p ∷ ps) (word r) x.0 x.1) g.1 (record { lexemes_are = ap (λ (l : Lexeme). l ∷ lexemes ps) is; sites_are = refl })
+took_word r ps = if_holds (begins_with (kind.Reserved r) ps) _ _ (λ h. ok_holds (behind ps) (took (kind.Reserved r) ps h)) (λ h. err_holds _)
 
-pub took_upper : (ps : List Placed) (s : Spelled) (rest : List Placed) → read_word kind.UpperName ps ≡ Ok (s, rest) → Took ps (upper_name s.spelling) s.site rest
+pub took_spelled : (k : TokenKind) (ps : List Placed) → Holds (read_word k ps) (λ x. Took ps (lexeme_of k x.0) x.1)
 unfolding read_word
-took_upper [] s rest e = absurd cc
-took_upper (p ∷ ps) s rest e =
-    let g = chosen_ok (same_kind (kind_of p.lexeme) kind.UpperName) _ (spelled p, ps) (s, rest) e in
-    let is = is_upper p.lexeme g.0 in
-    subst (λ (x : Spelled × List Placed). Took (p ∷ ps) (upper_name x.0.spelling) x.0.site x.1) g.1 (record { lexemes_are = ap (λ (l : Lexeme). l ∷ lexemes ps) is; sites_are = refl })
+took_spelled k ps = if_holds (begins_with k ps) _ _ (λ h. ok_holds (spelling_at ps, behind ps) (took k ps h)) (λ h. err_holds _)
 
-pub took_lower : (ps : List Placed) (s : Spelled) (rest : List Placed) → read_word kind.LowerName ps ≡ Ok (s, rest) → Took ps (lower_name s.spelling) s.site rest
-unfolding read_word
-took_lower [] s rest e = absurd cc
-took_lower (p ∷ ps) s rest e =
-    let g = chosen_ok (same_kind (kind_of p.lexeme) kind.LowerName) _ (spelled p, ps) (s, rest) e in
-    let is = is_lower p.lexeme g.0 in
-    subst (λ (x : Spelled × List Placed). Took (p ∷ ps) (lower_name x.0.spelling) x.0.site x.1) g.1 (record { lexemes_are = ap (λ (l : Lexeme). l ∷ lexemes ps) is; sites_are = refl })
+-- What was read is what the node writes, at its sites, and the grammar allows it.
+pub record In {A : Type 0} (print : A → List Lexeme → List Lexeme) (site : A → List Site → A × List Site) (Is : A → Type 0) (ps : List Placed) (a : A) (rest : List Placed) : Type 0 where
+  pub lexemes_are : lexemes ps ≡ print a (lexemes rest)
+  pub sites_are : site a (sites ps) ≡ (a, sites rest)
+  pub shorter : length rest < length ps
+  pub lawful : Is a
 
-pub took_number : (ps : List Placed) (s : Spelled) (rest : List Placed) → read_word kind.Number ps ≡ Ok (s, rest) → Took ps (number s.spelling) s.site rest
-unfolding read_word
-took_number [] s rest e = absurd cc
-took_number (p ∷ ps) s rest e =
-    let g = chosen_ok (same_kind (kind_of p.lexeme) kind.Number) _ (spelled p, ps) (s, rest) e in
-    let is = is_number p.lexeme g.0 in
-    subst (λ (x : Spelled × List Placed). Took (p ∷ ps) (number x.0.spelling) x.0.site x.1) g.1 (record { lexemes_are = ap (λ (l : Lexeme). l ∷ lexemes ps) is; sites_are = refl })
+-- each thing that is read is so
+abbrev pub Sound : {A : Type 0} → (A → List Lexeme → List Lexeme) → (A → List Site → A × List Site) → (A → Type 0) → Reader A → Type 0
+Sound print site Is read = (ps : List Placed) → Holds (read ps) (λ x. In print site Is ps x.0 x.1)

@@ -1,21 +1,16 @@
 -- Which tree a list of tokens has.
-use Rattle.std.specs.Prelude.{◌≡◌, ◌≤◌, ℕ, List}
+use Rattle.std.specs.Prelude.{◌≡◌, List}
 use Rattle.guard_model.specs.declared.site.Site.{Site}
 use Rattle.guard_syntax.specs.Lexemes.{Lexeme}
 use Rattle.guard_syntax.specs.Trees.{WrittenModule}
 use Rattle.guard_syntax.specs.TokensOf.{tokens_of}
 use Rattle.guard_syntax.specs.Sites.{sited}
-use Rattle.guard_syntax.specs.Nesting.{nesting}
 use Rattle.guard_syntax.specs.Grammar.{IsModule}
 
--- in how many others a type or set may lie
-abbrev pub most_nesting : ℕ
-most_nesting = 128
-
--- the tree is one of the grammar, and is written with these lexemes
+-- The tree is one of the grammar, in which each type, value and set lies in at most 128 others, and is written with these
+-- lexemes.
 pub record IsWritten (m : WrittenModule) (ls : List Lexeme) : Type 0 where
   pub grammar : IsModule m
-  pub nested : nesting m ≤ most_nesting
   pub tokens : tokens_of m ≡ ls
 
 -- each node has the site of its first token, where the tokens have these sites

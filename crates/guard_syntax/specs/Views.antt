@@ -1,46 +1,48 @@
--- The trees of the definitions that the code's trees stand for.
-use Rattle.std.specs.Prelude.{map}
-use Rattle.guard_syntax.specs.Trees.{WrittenNumber, WrittenSet, range, WrittenConstraint, WrittenType, type_node, WrittenBase, boolean, integer, sequence, WrittenComponent, components_of, WrittenAssignment, WrittenModule}
+-- The trees of the definitions that the code's trees stand for: numbers and values.
+use Rattle.std.specs.Prelude.{ℕ, List, map, Option, Some, None}
+use Rattle.guard_syntax.specs.Trees.{WrittenNumber, WrittenArc, WrittenValue, value_node, WrittenValueForm, boolean, null, integer, text, reference, chosen, list, arcs, WrittenEntry, entries_of}
 use Rattle.guard_syntax.specs.declared.tree.NumberTree.{NumberTree}
-use Rattle.guard_syntax.specs.declared.tree.SetTree.{SetTree}
-use Rattle.guard_syntax.specs.declared.tree.SetForm.TheVariants as form
-use Rattle.guard_syntax.specs.declared.tree.ConsTree.{ConsTree}
-use Rattle.guard_syntax.specs.declared.tree.BaseTree.TheFolds.{fold-TypeTree}
-use Rattle.guard_syntax.specs.declared.tree.BaseTree.TheOpen.{BaseTree-F, CompTree-F, TypeTree-F}
-use Rattle.guard_syntax.specs.declared.tree.TypeTree.{TypeTree}
-use Rattle.guard_syntax.specs.declared.tree.CompTree.{CompTree}
-use Rattle.guard_syntax.specs.declared.tree.Assignment.{Assignment}
-use Rattle.guard_syntax.specs.declared.tree.Module.{Module}
+use Rattle.guard_syntax.specs.declared.tree.ArcTree.{ArcTree}
+use Rattle.guard_syntax.specs.declared.tree.ValueForm.TheFolds.{fold-ValueForm, fold-EntryTree, fold-ValueTree}
+use Rattle.guard_syntax.specs.declared.tree.ValueForm.TheOpen.{ValueForm-F, EntryTree-F, ValueTree-F}
+use Rattle.guard_syntax.specs.declared.tree.ValueForm.{ValueForm}
+use Rattle.guard_syntax.specs.declared.tree.EntryTree.{EntryTree}
+use Rattle.guard_syntax.specs.declared.tree.ValueTree.{ValueTree}
+use Rattle.std.specs.Borrow.{Bor}
+
+-- the name, where there is one
+abbrev pub name_view : Option (Bor (List ℕ)) → Option (List ℕ)
+name_view None = None
+name_view (Some name) = Some name.now
 
 abbrev pub number_view : NumberTree → WrittenNumber
 number_view n = record { site = n.site; minus = n.minus; digits = n.digits.now }
 
-abbrev pub set_view : SetTree → WrittenSet
-set_view s = elim s.form [ form.Range low high ↦ range s.site (number_view low) (number_view high) ]
+abbrev pub arc_view : ArcTree → WrittenArc
+arc_view a = record { site = a.site; name = name_view a.name; number = a.number.now }
 
-abbrev pub constraint_view : ConsTree → WrittenConstraint
-constraint_view c = record { site = c.site; set = set_view c.set }
+-- one level of each, with the values inside already seen
+abbrev pub value_form_step : ValueForm-F WrittenValueForm WrittenEntry WrittenValue → WrittenValueForm
+value_form_step (ValueForm-F.Boolean b) = boolean b
+value_form_step ValueForm-F.Null = null
+value_form_step (ValueForm-F.Integer n) = integer (number_view n)
+value_form_step (ValueForm-F.Text kind spelling) = text kind spelling.now
+value_form_step (ValueForm-F.Reference name) = reference name.now
+value_form_step (ValueForm-F.Chosen name v) = chosen name.now v.value
+value_form_step (ValueForm-F.List es) = list (entries_of es.items)
+value_form_step (ValueForm-F.Arcs all) = arcs (map arc_view all.items)
 
--- one level of each, with the types inside already seen
-abbrev pub base_step : BaseTree-F WrittenBase WrittenComponent WrittenType → WrittenBase
-base_step BaseTree-F.Boolean = boolean
-base_step BaseTree-F.Integer = integer
-base_step (BaseTree-F.Sequence cs) = sequence (components_of cs.items)
+abbrev pub entry_step : EntryTree-F WrittenValueForm WrittenEntry WrittenValue → WrittenEntry
+entry_step e = record { site = e.site; name = name_view e.name; value = e.value }
 
-abbrev pub comp_step : CompTree-F WrittenBase WrittenComponent WrittenType → WrittenComponent
-comp_step c = record { site = c.site; name = c.name.now; ty = c.ty }
+abbrev pub value_step : ValueTree-F WrittenValueForm WrittenEntry WrittenValue → WrittenValue
+value_step v = value_node v.site v.form
 
-abbrev pub type_step : TypeTree-F WrittenBase WrittenComponent WrittenType → WrittenType
-type_step t = type_node t.site t.base (map constraint_view t.cons.items)
+abbrev pub value_view : ValueTree → WrittenValue
+value_view = fold-ValueTree WrittenValueForm WrittenEntry WrittenValue value_form_step entry_step value_step
 
-abbrev pub type_view : TypeTree → WrittenType
-type_view = fold-TypeTree WrittenBase WrittenComponent WrittenType base_step comp_step type_step
+abbrev pub value_form_view : ValueForm → WrittenValueForm
+value_form_view = fold-ValueForm WrittenValueForm WrittenEntry WrittenValue value_form_step entry_step value_step
 
-abbrev pub component_view : CompTree → WrittenComponent
-component_view c = record { site = c.site; name = c.name.now; ty = type_view c.ty }
-
-abbrev pub assignment_view : Assignment → WrittenAssignment
-assignment_view a = record { site = a.site; name = a.name.now; ty = type_view a.ty }
-
-abbrev pub module_view : Module → WrittenModule
-module_view m = record { site = m.site; name = m.name.now; tag_default = m.tag_default; assignments = map assignment_view m.assignments.items }
+abbrev pub entry_view : EntryTree → WrittenEntry
+entry_view = fold-EntryTree WrittenValueForm WrittenEntry WrittenValue value_form_step entry_step value_step

@@ -5,20 +5,35 @@ mod constraint;
 mod ending;
 mod fault;
 mod halt;
+mod identifier;
+mod imports;
+mod items;
 pub mod laws;
 mod module;
 mod naming;
+mod numbers;
+mod ranges;
 mod reading;
+mod tags;
 mod tokens;
 mod tree;
 mod types;
+mod values;
 
 pub use fault::{Spelling, SyntaxFault};
 pub use reading::parse;
 pub use tree::{
-    Assignment, BaseTree, CompTree, ConsTree, Module, NumberTree, SetForm, SetTree, TagDefault,
-    TypeTree,
+    AlternativeTree, ArcTree, Assignment, BaseTree, Collection, CompForm, CompTree,
+    ComponentConsTree, ConsTree, DifferenceTree, ElementForm, ElementTree, EndForm, EndTree,
+    EntryTree, ExportsTree, ImportTree, IntersectionTree, ItemTree, JoinMark, JoinedDifference,
+    JoinedIntersection, Module, NameTree, NamedTree, NumberTree, OfConsTree, PartTree, PlainType,
+    PresenceTree, PresenceWord, RangeTree, SetForm, SetTree, StringKind, SymbolKind, SymbolTree,
+    TagClass, TagDefault, TagMode, TagTree, TypeTree, ValueForm, ValueTree,
 };
 
+#[cfg(test)]
+mod printer;
+#[cfg(test)]
+mod session;
 #[cfg(test)]
 mod tests;

@@ -1,13 +1,13 @@
 //! The fault where reading stopped, and its site.
 ghost use Rattle.std.specs.Prelude.{◌≡◌, ◌-◌, drop, length};
 ghost use Rattle.guard_syntax.specs.Faults as faults;
-ghost use Rattle.guard_syntax.specs.Faults.{NamesToken};
+ghost use Rattle.guard_syntax.specs.Faults.{NamesToken, NamesBrace, HasNamedBits, BeginWithNamedBits};
 
 use crate::ending::end_of;
 use crate::fault::{Spelling, SyntaxFault};
 use crate::halt::{Halt, Stop};
 use crate::tokens::octets;
-use guard_lexer::{Mark, Token, TokenKind};
+use guard_lexer::{Mark, Reserved, Token, TokenKind};
 use guard_model::Site;
 
 /// The fault where reading stopped.
@@ -17,7 +17,10 @@ pub fn fault(place: u32, text: &[u8], tokens: &[Token], halt: Halt) -> SyntaxFau
 {
     match halt {
         Halt::NoMemory => SyntaxFault::OutOfMemory,
-        Halt::At(Stop::Unexpected(left)) => unexpected(place, text, last(tokens, left)),
+        Halt::At(Stop::Unexpected(left)) => match named_bits(tokens, left) {
+            Some(fault) => fault,
+            None => unexpected(place, text, last(tokens, left)),
+        },
         Halt::At(Stop::TooDeep(left)) => too_deep(place, text, last(tokens, left)),
     }
 }
@@ -27,6 +30,30 @@ fn last(tokens: &[Token], left: usize) -> &[Token]
     ensures { result.now ≡ drop (length tokens.now - left) tokens.now }
 {
     &tokens[tokens.len().saturating_sub(left)..]
+}
+
+/// The fault at a brace directly behind BIT STRING, where so many tokens are left.
+fn named_bits(tokens: &[Token], left: usize) -> Option<SyntaxFault>
+    ensures { NamesBrace (HasNamedBits tokens.now) result }
+{
+    if left >= tokens.len() || tokens.len() - left < 2 {
+        return None;
+    }
+    brace_behind_bit_string(last(tokens, left + 2))
+}
+
+fn brace_behind_bit_string(tokens: &[Token]) -> Option<SyntaxFault>
+    ensures { NamesBrace (BeginWithNamedBits tokens.now) result }
+{
+    match tokens {
+        [bit, string, brace, ..]
+            if bit.kind == TokenKind::Reserved(Reserved::Bit)
+                && string.kind == TokenKind::Reserved(Reserved::String)
+                && brace.kind == TokenKind::Mark(Mark::LeftBrace) => {
+            Some(SyntaxFault::Unsupported(Spelling::of(b"{"), brace.site))
+        }
+        _ => None,
+    }
 }
 
 fn too_deep(place: u32, text: &[u8], tokens: &[Token]) -> SyntaxFault

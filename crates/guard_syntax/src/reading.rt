@@ -6,7 +6,7 @@ ghost use Rattle.guard_syntax.specs.Lexemes.{lexemes_of, sites_of};
 ghost use Rattle.guard_syntax.specs.Parses.{IsWritten, HasSites};
 ghost use Rattle.guard_syntax.specs.Sites.{sited};
 ghost use Rattle.guard_syntax.specs.Trees.{WrittenModule};
-ghost use Rattle.guard_syntax.specs.Views.{module_view};
+ghost use Rattle.guard_syntax.specs.ModuleViews.{module_view};
 
 use crate::fault::SyntaxFault;
 use crate::module::module;

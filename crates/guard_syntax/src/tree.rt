@@ -6,8 +6,14 @@ use guard_model::Site;
 pub struct Module<'a> {
     pub site: Site,
     pub name: &'a [u8],
+    /// The parts of the object identifier behind its name, in written order. Where there are none, none is written.
+    pub identifier: Vec<PartTree<'a>>,
     /// What is written before the word TAGS. Where nothing is written it means EXPLICIT TAGS.
     pub tag_default: Option<TagDefault>,
+    /// The exports. Where nothing is written everything is exported.
+    pub exports: Option<ExportsTree<'a>>,
+    /// The imports, one for each module named behind FROM. Where nothing is written the word IMPORTS isn't there.
+    pub imports: Option<Vec<ImportTree<'a>>>,
     /// In written order.
     pub assignments: Vec<Assignment<'a>>,
 }
@@ -16,14 +22,80 @@ pub struct Module<'a> {
 #[derive(Clone, Copy, Debug, PartialEq, Eq)]
 pub enum TagDefault {
     Explicit,
+    Implicit,
+    Automatic,
 }
 
-/// A type assignment (X.680 16.1).
+/// A part of an object identifier behind a module's name (X.680 32.3).
+#[derive(Clone, Copy, Debug)]
+pub enum PartTree<'a> {
+    /// A bare name.
+    Name(&'a [u8]),
+    Arc(ArcTree<'a>),
+}
+
+/// A number, or a name with a number in parentheses, in an object identifier (X.680 32.3).
+#[derive(Clone, Copy, Debug)]
+pub struct ArcTree<'a> {
+    pub site: Site,
+    pub name: Option<&'a [u8]>,
+    pub number: &'a [u8],
+}
+
+/// What is exported (X.680 13.1).
+#[derive(Debug, Drop)]
+pub enum ExportsTree<'a> {
+    /// EXPORTS ALL: everything.
+    All,
+    /// These names, in written order. There may be none.
+    Symbols(Vec<SymbolTree<'a>>),
+}
+
+/// A name in a list of exports or imports (X.680 13.1).
+#[derive(Clone, Copy, Debug)]
+pub struct SymbolTree<'a> {
+    pub site: Site,
+    pub kind: SymbolKind,
+    pub name: &'a [u8],
+}
+
+/// What a name stands for, which its first letter tells.
+#[derive(Clone, Copy, Debug, PartialEq, Eq)]
+pub enum SymbolKind {
+    /// A type: the name begins with a capital letter.
+    Type,
+    /// A value: the name begins with a small letter.
+    Value,
+}
+
+/// The names that are imported from one module (X.680 13.1). Its site is that of the first name.
+#[derive(Debug, Drop)]
+pub struct ImportTree<'a> {
+    pub site: Site,
+    /// In written order.
+    pub symbols: Vec<SymbolTree<'a>>,
+    /// The module named behind FROM.
+    pub module: NameTree<'a>,
+    /// The parts of the object identifier behind that name. Where there are none, none is written.
+    pub identifier: Vec<PartTree<'a>>,
+}
+
+/// A name, and where it stands.
+#[derive(Clone, Copy, Debug)]
+pub struct NameTree<'a> {
+    pub site: Site,
+    pub name: &'a [u8],
+}
+
+/// A type assignment (X.680 16.1), or a value assignment (X.680 16.2).
 #[derive(Debug, Drop)]
 pub struct Assignment<'a> {
     pub site: Site,
     pub name: &'a [u8],
+    /// The type, or the type of the value.
     pub ty: TypeTree<'a>,
+    /// The value of a value assignment. A type assignment has none.
+    pub value: Option<ValueTree<'a>>,
 }
 
 /// A type (X.680 17.1).
@@ -31,27 +103,136 @@ pub struct Assignment<'a> {
 #[cycle(trees)]
 pub struct TypeTree<'a> {
     pub site: Site,
+    /// In written order, from the outside in.
+    pub tags: Vec<TagTree<'a>>,
     pub base: BaseTree<'a>,
-    /// The constraints behind it, in written order.
+    /// The constraints behind it, in written order. An OF type has none: those belong to the type of its elements.
     pub cons: Vec<ConsTree<'a>>,
 }
 
-/// A type without its constraints.
+/// A tag (X.680 31.2). Its site is that of the bracket.
+#[derive(Clone, Copy, Debug)]
+pub struct TagTree<'a> {
+    pub site: Site,
+    /// The word before the number. Where nothing is written the tag is context-specific.
+    pub class: Option<TagClass>,
+    pub number: &'a [u8],
+    pub mode: Option<TagMode>,
+}
+
+/// The word before the number of a tag (X.680 31.2).
+#[derive(Clone, Copy, Debug, PartialEq, Eq)]
+pub enum TagClass {
+    Universal,
+    Application,
+    Private,
+}
+
+/// The word behind a tag (X.680 31.2).
+#[derive(Clone, Copy, Debug, PartialEq, Eq)]
+pub enum TagMode {
+    Implicit,
+    Explicit,
+}
+
+/// A type without its tags and the constraints behind it.
 #[derive(Debug, Drop)]
 #[cycle(trees)]
 pub enum BaseTree<'a> {
-    /// X.680 18.1.
-    Boolean,
-    /// X.680 19.1.
-    Integer,
-    /// X.680 25.1, with its components in written order.
-    Sequence(Vec<CompTree<'a>>),
+    /// A type that is written with words alone.
+    Plain(PlainType),
+    /// INTEGER with its named numbers (X.680 19.1). Where there are none, no braces are written.
+    Integer(Vec<NamedTree<'a>>),
+    /// ENUMERATED with its items in written order, at least one (X.680 20.1).
+    Enumerated(Vec<ItemTree<'a>>),
+    /// SEQUENCE or SET with its components in written order (X.680 25.1, 27.1). There may be none.
+    Structure(Collection, Vec<CompTree<'a>>),
+    /// CHOICE with its alternatives in written order, at least one (X.680 29.1).
+    Choice(Vec<AlternativeTree<'a>>),
+    /// SEQUENCE OF or SET OF, with the constraint before OF and the type of the elements (X.680 26.1, 28.1, 49.4).
+    Of(Collection, Option<OfConsTree<'a>>, Box<TypeTree<'a>>),
+    /// The name of a type (X.680 16.3).
+    Reference(&'a [u8]),
 }
 
-/// A component of a SEQUENCE (X.680 25.1).
+/// The types that are written with words alone.
+#[derive(Clone, Copy, Debug, PartialEq, Eq)]
+pub enum PlainType {
+    Boolean,
+    BitString,
+    OctetString,
+    Null,
+    ObjectIdentifier,
+    Utf8String,
+    NumericString,
+    PrintableString,
+    Ia5String,
+    VisibleString,
+}
+
+/// Whether the word SEQUENCE or SET is written.
+#[derive(Clone, Copy, Debug, PartialEq, Eq)]
+pub enum Collection {
+    Sequence,
+    Set,
+}
+
+/// The constraint before OF. Its site is that of its first token, which is SIZE where that word is written.
+#[derive(Debug, Drop)]
+pub struct OfConsTree<'a> {
+    pub site: Site,
+    /// Whether it is written as SIZE and a constraint without parentheses of their own round both.
+    pub size: bool,
+    pub cons: ConsTree<'a>,
+}
+
+/// A named number (X.680 19.1).
+#[derive(Clone, Copy, Debug)]
+pub struct NamedTree<'a> {
+    pub site: Site,
+    pub name: &'a [u8],
+    pub number: NumberTree<'a>,
+}
+
+/// An item of an ENUMERATED, perhaps with its number (X.680 20.1).
+#[derive(Clone, Copy, Debug)]
+pub struct ItemTree<'a> {
+    pub site: Site,
+    pub name: &'a [u8],
+    pub number: Option<NumberTree<'a>>,
+}
+
+/// An entry in the component list of a SEQUENCE or SET (X.680 25.1).
 #[derive(Debug, Drop)]
 #[cycle(trees)]
 pub struct CompTree<'a> {
+    pub site: Site,
+    pub form: CompForm<'a>,
+}
+
+/// What stands in a component list.
+#[derive(Debug, Drop)]
+#[cycle(trees)]
+pub enum CompForm<'a> {
+    /// A component: its name, its type, and whether it may be left out.
+    Named(&'a [u8], TypeTree<'a>, PresenceTree<'a>),
+    /// COMPONENTS OF this type.
+    ComponentsOf(TypeTree<'a>),
+}
+
+/// What is written behind the type of a component (X.680 25.1).
+#[derive(Debug, Drop)]
+pub enum PresenceTree<'a> {
+    /// Nothing.
+    Mandatory,
+    Optional,
+    Default(ValueTree<'a>),
+}
+
+/// An alternative of a CHOICE (X.680 29.1).
+#[derive(Debug, Drop)]
+#[cycle(trees)]
+pub struct AlternativeTree<'a> {
     pub site: Site,
     pub name: &'a [u8],
     pub ty: TypeTree<'a>,
@@ -59,13 +240,15 @@ pub struct CompTree<'a> {
 
 /// A constraint: a set of values in parentheses (X.680 49.6). Its site is that of the parenthesis.
 #[derive(Debug, Drop)]
+#[cycle(sets)]
 pub struct ConsTree<'a> {
     pub site: Site,
     pub set: SetTree<'a>,
 }
 
-/// A set of values (X.680 50.1).
+/// A set of values (X.680 50.1). Its site is that of its first token, a parenthesis that it begins with among them.
 #[derive(Debug, Drop)]
+#[cycle(sets)]
 pub struct SetTree<'a> {
     pub site: Site,
     pub form: SetForm<'a>,
@@ -73,13 +256,185 @@ pub struct SetTree<'a> {
 
 /// What a set of values is made of.
 #[derive(Debug, Drop)]
+#[cycle(sets)]
 pub enum SetForm<'a> {
-    /// From the first to the second (X.680 51.4).
-    Range(NumberTree<'a>, NumberTree<'a>),
+    /// ALL EXCEPT this element.
+    AllExcept(ElementTree<'a>),
+    /// The first intersection and those joined to it. Where nothing is joined it is the intersection alone.
+    Union(IntersectionTree<'a>, Vec<JoinedIntersection<'a>>),
+}
+
+/// An intersection in a union with the mark before it.
+#[derive(Debug, Drop)]
+#[cycle(sets)]
+pub struct JoinedIntersection<'a> {
+    pub mark: JoinMark,
+    pub part: IntersectionTree<'a>,
+}
+
+/// An intersection (X.680 50.1): the first difference and those joined to it. Where nothing is joined it is the difference alone.
+#[derive(Debug, Drop)]
+#[cycle(sets)]
+pub struct IntersectionTree<'a> {
+    pub site: Site,
+    pub first: DifferenceTree<'a>,
+    pub others: Vec<JoinedDifference<'a>>,
+}
+
+/// A difference in an intersection with the mark before it.
+#[derive(Debug, Drop)]
+#[cycle(sets)]
+pub struct JoinedDifference<'a> {
+    pub mark: JoinMark,
+    pub part: DifferenceTree<'a>,
+}
+
+/// How a union or an intersection is spelled (X.680 50.1).
+#[derive(Clone, Copy, Debug, PartialEq, Eq)]
+pub enum JoinMark {
+    /// `|` or `^`.
+    Sign,
+    /// UNION or INTERSECTION.
+    Word,
+}
+
+/// An element, perhaps EXCEPT another one (X.680 50.1).
+#[derive(Debug, Drop)]
+#[cycle(sets)]
+pub struct DifferenceTree<'a> {
+    pub site: Site,
+    pub element: ElementTree<'a>,
+    pub except: Option<ElementTree<'a>>,
+}
+
+/// An element of a set (X.680 50.1, 51.1). Its site is that of its first token.
+#[derive(Debug, Drop)]
+#[cycle(sets)]
+pub struct ElementTree<'a> {
+    pub site: Site,
+    pub form: ElementForm<'a>,
+}
+
+/// What an element is.
+#[derive(Debug, Drop)]
+#[cycle(sets)]
+pub enum ElementForm<'a> {
+    /// A set in parentheses. The inner set's site is that of its own first token.
+    Parentheses(Box<SetTree<'a>>),
+    /// A single value (X.680 51.2).
+    Value(ValueTree<'a>),
+    /// A contained subtype: whether INCLUDES is written, and the name of the type (X.680 51.3).
+    Contained(bool, &'a [u8]),
+    /// X.680 51.4.
+    Range(RangeTree<'a>),
+    /// X.680 51.5.
+    Size(Box<ConsTree<'a>>),
+    /// A permitted alphabet (X.680 51.7).
+    From(Box<ConsTree<'a>>),
+    /// An inner constraint on each element (X.680 51.8.1).
+    WithComponent(Box<ConsTree<'a>>),
+    /// Inner constraints on components: whether `...` is written first, and the parts, at least one (X.680 51.8.1).
+    WithComponents(bool, Vec<ComponentConsTree<'a>>),
+}
+
+/// What WITH COMPONENTS says of one component or alternative (X.680 51.8.5).
+#[derive(Debug, Drop)]
+#[cycle(sets)]
+pub struct ComponentConsTree<'a> {
+    pub site: Site,
+    pub name: &'a [u8],
+    pub cons: Option<ConsTree<'a>>,
+    pub presence: Option<PresenceWord>,
+}
+
+/// The presence word in a part of WITH COMPONENTS (X.680 51.8.5).
+#[derive(Clone, Copy, Debug, PartialEq, Eq)]
+pub enum PresenceWord {
+    Present,
+    Absent,
+    Optional,
+}
+
+/// A range of values (X.680 51.4).
+#[derive(Clone, Copy, Debug)]
+pub struct RangeTree<'a> {
+    /// Where there is none, MIN is written.
+    pub low: Option<EndTree<'a>>,
+    /// Whether `<` stands behind the low end, which leaves that end out.
+    pub above_low: bool,
+    /// Whether `<` stands before the high end, which leaves that end out.
+    pub below_high: bool,
+    /// Where there is none, MAX is written.
+    pub high: Option<EndTree<'a>>,
+}
+
+/// An end of a range that is written as a value.
+#[derive(Clone, Copy, Debug)]
+pub struct EndTree<'a> {
+    pub site: Site,
+    pub form: EndForm<'a>,
+}
+
+/// What an end of a range is.
+#[derive(Clone, Copy, Debug)]
+pub enum EndForm<'a> {
+    Integer(NumberTree<'a>),
+    /// The name of a value.
+    Reference(&'a [u8]),
+    /// A string in double quotes, as it is written.
+    Characters(&'a [u8]),
+}
+
+/// A value (X.680 17.7).
+#[derive(Debug, Drop)]
+#[cycle(values)]
+pub struct ValueTree<'a> {
+    pub site: Site,
+    pub form: ValueForm<'a>,
+}
+
+/// What a value is.
+#[derive(Debug, Drop)]
+#[cycle(values)]
+pub enum ValueForm<'a> {
+    /// TRUE or FALSE.
+    Boolean(bool),
+    Null,
+    Integer(NumberTree<'a>),
+    /// A string with its quotes, as it is written.
+    Text(StringKind, &'a [u8]),
+    /// The name of a value, an item or a named number.
+    Reference(&'a [u8]),
+    /// A chosen alternative: its name and its value.
+    Chosen(&'a [u8], Box<ValueTree<'a>>),
+    /// Entries in braces, in written order. There may be none.
+    List(Vec<EntryTree<'a>>),
+    /// An object identifier: two or more arcs, or one that has a name.
+    Arcs(Vec<ArcTree<'a>>),
+}
+
+/// Which string is written.
+#[derive(Clone, Copy, Debug, PartialEq, Eq)]
+pub enum StringKind {
+    /// `".."`
+    Characters,
+    /// `'..'B`
+    Bits,
+    /// `'..'H`
+    Hexadecimal,
+}
+
+/// An entry in braces: a value, perhaps with a name before it.
+#[derive(Debug, Drop)]
+#[cycle(values)]
+pub struct EntryTree<'a> {
+    pub site: Site,
+    pub name: Option<&'a [u8]>,
+    pub value: ValueTree<'a>,
 }
 
 /// An integer as it is written (X.680 19.9).
-#[derive(Debug, Drop)]
+#[derive(Clone, Copy, Debug)]
 pub struct NumberTree<'a> {
     pub site: Site,
     /// Whether a minus sign stands before the digits.

@@ -2,14 +2,14 @@
 ghost use Rattle.std.specs.Prelude.{◌≡◌, map, IfOk};
 ghost use Rattle.guard_model.specs.Answer.{Gives};
 ghost use Rattle.guard_model.specs.TypeView as model;
-ghost use Rattle.guard_syntax.specs.Views.{constraint_view, set_view};
 ghost use Rattle.derguard.specs.SchemaFaults.{named};
-ghost use Rattle.derguard.specs.SchemaReading.{read_set, read_constraints};
+ghost use Rattle.derguard.specs.SchemaReading.{read_range, read_ranges};
+ghost use Rattle.derguard.specs.SchemaViews.{range_view};
 
+use crate::guard_schema::basic::BasicRange;
 use crate::guard_schema::fault::SchemaFault;
 use crate::guard_schema::values::{ValueFault, integer};
 use guard_model::{Cons, Limit, Rule};
-use guard_syntax::{ConsTree, SetForm};
 use std::alloc::Global;
 use thiserror::Error;
 
@@ -22,12 +22,12 @@ pub enum ConsFault {
 }
 
 /// The constraints that are written behind a type, in written order.
-pub fn constraints(alloc: Global, trees: &[ConsTree]) -> Result<Vec<Cons>, SchemaFault>
-    ensures { Gives (λ v. map model.constraint_view v.items) named result (read_constraints (map constraint_view trees.now)) }
+pub fn constraints(alloc: Global, ranges: &[BasicRange]) -> Result<Vec<Cons>, SchemaFault>
+    ensures { Gives (λ v. map model.constraint_view v.items) named result (read_ranges (map range_view ranges.now)) }
 {
-    let mut constraints = Vec::with_capacity(alloc, trees.len())?;
-    for tree in trees {
-        match constraint(tree) {
+    let mut constraints = Vec::with_capacity(alloc, ranges.len())?;
+    for range in ranges {
+        match constraint(range) {
             Ok(constraint) => constraints.push(constraint)?,
             Err(fault) => return Err(SchemaFault::Cons(fault)),
         }
@@ -36,19 +36,14 @@ pub fn constraints(alloc: Global, trees: &[ConsTree]) -> Result<Vec<Cons>, Schem
 }
 
 /// A range. Its site is that of its first token.
-#[tactic(auto, unfolding(crate::specs::SchemaReading::read_set))]
-fn constraint(tree: &ConsTree) -> Result<Cons, ConsFault>
-    ensures { Gives model.constraint_view Some result (read_set (set_view tree.now.set)) }
+#[tactic(auto, unfolding(crate::specs::SchemaReading::read_range))]
+fn constraint(range: &BasicRange) -> Result<Cons, ConsFault>
+    ensures { Gives model.constraint_view Some result (read_range (range_view range.now)) }
 {
-    let set = &tree.set;
-    match &set.form {
-        SetForm::Range(low, high) => {
-            let low = integer(low).map_err(ConsFault::Value)?;
-            let high = integer(high).map_err(ConsFault::Value)?;
-            Ok(Cons {
-                site: set.site,
-                rule: Rule::Range(Limit::At(low), Limit::At(high)),
-            })
-        }
-    }
+    let low = integer(&range.low).map_err(ConsFault::Value)?;
+    let high = integer(&range.high).map_err(ConsFault::Value)?;
+    Ok(Cons {
+        site: range.site,
+        rule: Rule::Range(Limit::At(low), Limit::At(high)),
+    })
 }

@@ -1,18 +1,20 @@
 //! Why texts make no schema.
 ghost use Rattle.std.specs.Prelude.{◌≡◌};
 ghost use Rattle.derguard.specs.declared.guard_schema.fault.SchemaFault.TheVariants.{OutOfMemory};
+ghost use Rattle.derguard.specs.declared.guard_schema.fault.FormFault.TheVariants as form;
 
 use crate::guard_schema::constraints::ConsFault;
 use crate::guard_schema::names::NameFault;
 use crate::guard_schema::tagging::TagFault;
 use guard_lexer::LexFault;
+use guard_model::Site;
 use guard_syntax::SyntaxFault;
 use std::alloc::{AllocError, AllocFailed};
 use thiserror::Error;
 
 /// Why a text makes no schema: the first fault, or want of memory in place of any other answer. The text is cut into
-/// tokens, then read as a module, then its names are looked at, then its definitions in written order, and of each
-/// first the tags and then the constraints. Each fault prints as itself.
+/// tokens, then read as a module, then the first form that is left out is looked for, then its names are looked at, then
+/// its definitions in written order, and of each first the tags and then the constraints. Each fault prints as itself.
 #[derive(Debug, Drop, Error)]
 pub enum SchemaFault {
     #[error("{0}")]
@@ -54,6 +56,44 @@ impl From<SyntaxFault> for SchemaFault {
             SyntaxFault::OutOfMemory => SchemaFault::OutOfMemory,
             fault => SchemaFault::Syntax(fault),
         }
+    }
+}
+
+/// Why a tree has no basic tree.
+#[derive(Debug, Drop)]
+pub enum FormFault {
+    /// The first form that is left out, at its first token.
+    LeftOut(Site),
+    OutOfMemory,
+}
+
+impl From<FormFault> for SchemaFault {
+    ghost use Rattle.std.specs.Prelude.{◌≡◌};
+    ghost use Rattle.derguard.specs.SchemaFaults.{form_fault};
+
+    ghost from_gives = { λ f e. e ≡ form_fault f };
+
+    fn from(fault: FormFault) -> SchemaFault {
+        match fault {
+            FormFault::LeftOut(site) => SchemaFault::Syntax(SyntaxFault::Unexpected(site)),
+            FormFault::OutOfMemory => SchemaFault::OutOfMemory,
+        }
+    }
+}
+
+impl From<AllocError> for FormFault {
+    ghost from_gives = { λ _ e. e ≡ form.OutOfMemory };
+
+    fn from(_e: AllocError) -> FormFault {
+        FormFault::OutOfMemory
+    }
+}
+
+impl<T: Drop> From<AllocFailed<T>> for FormFault {
+    ghost from_gives = { λ _ e. e ≡ form.OutOfMemory };
+
+    fn from(_e: AllocFailed<T>) -> FormFault {
+        FormFault::OutOfMemory
     }
 }
 

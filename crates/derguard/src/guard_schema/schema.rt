@@ -1,23 +1,23 @@
 //! Schemas.
 ghost use Rattle.std.specs.Prelude.{◌≡◌, map, IfOk, IfErr, option_map, IfSome, IsTrue};
 ghost use Rattle.guard_der.specs.Sound.{is_sound};
+ghost use Rattle.std.proofs.Props.{props};
 ghost use Rattle.derguard.specs.Schemas.{AreDefinitions};
 ghost use Rattle.guard_model.specs.Answer.{Gives};
-ghost use Rattle.guard_syntax.specs.Views.{module_view, assignment_view};
 ghost use Rattle.derguard.specs.SchemaFaults.{named};
 ghost use Rattle.derguard.specs.SchemaReading.{check_assigned, read_module};
 ghost use Rattle.derguard.specs.SchemaNames.{AssignTextNames, assigned_names, repeated};
 ghost use Rattle.derguard.specs.Schemas as schemas;
 ghost use Rattle.guard_model.specs.TypeView as model;
-ghost use Rattle.derguard.specs.SchemaViews.{definition_view, placed_name_view};
+ghost use Rattle.derguard.specs.SchemaViews.{module_view, assignment_view, definition_view, placed_name_view};
 
+use crate::guard_schema::basic::{BasicAssignment, BasicModule};
 use crate::guard_schema::build::{Definition, definitions};
 use crate::guard_schema::fault::SchemaFault;
+use crate::guard_schema::forms::basic_module;
 use crate::guard_schema::names::{NameFault, PlacedName, first_repeated, name_text};
 use guard_model::{Site, Ty};
-use guard_syntax::{Assignment, Module};
 use std::alloc::{AllocError, Global};
-use std::marker::Model;
 
 /// The place of the one text, from 1.
 const PLACE: u32 = 1;
@@ -28,50 +28,59 @@ const PLACE: u32 = 1;
 pub struct Schema {
     module: String,
     definitions: Vec<Definition>,
-}
-
-impl Model for Schema {
-    ghost use Rattle.std.specs.Prelude.{map, string_bytes, [], ◌∷◌};
-    ghost use Rattle.derguard.specs.Schemas.{AbstractSchema, schema_code, AreDefinitions};
-    ghost use Rattle.derguard.specs.SchemaViews.{definition_view};
-
-    ghost Value = { AbstractSchema };
-
-    ghost coded = { schema_code };
-
-    ghost view = { λ s. record {
-      modules = string_bytes s.module ∷ [];
-      types = map definition_view s.definitions.items;
-    } };
-
-    ghost invariant = { λ s. AreDefinitions (map definition_view s.definitions.items) };
+    pub ghost sound: { AreDefinitions (map definition_view definitions.items) } by { Prim.hlevel props },
 }
 
 impl Schema {
-    ghost use Rattle.derguard.specs.Schemas.{type_named, module_named};
+    ghost use Rattle.std.specs.Prelude.{Ok};
+    ghost use Rattle.derguard.specs.SchemaView.{schema_view};
+    ghost use Rattle.derguard.specs.Schemas.{AbstractSchema, type_named, module_named};
     ghost use Rattle.derguard.specs.SchemaAccepts.{Accepts, IsRefused};
 
     /// The schema of a text, whose place in the list of texts is 1.
     ///
-    /// The faults are looked for in this order: those of the lexer (`Lex`), those of the parser (`Syntax`), a name that is
-    /// assigned twice (`Name`), and then in each definition in written order first its tags (`Tag`) and then its
-    /// constraints (`Cons`), parts before the whole. OutOfMemory may stand in place of any answer.
+    /// The faults are looked for in this order: those of the lexer (`Lex`), those of the parser (`Syntax`), the first form
+    /// that is left out (`Syntax`, as P1 Unexpected at its first token), a name that is assigned twice (`Name`), and then
+    /// in each definition in written order first its tags (`Tag`) and then its constraints (`Cons`), parts before the
+    /// whole. OutOfMemory may stand in place of any answer.
+    ///
+    /// Forms that are built: no tag default or EXPLICIT TAGS, EXPORTS ALL or no exports, no imports, type assignments, and
+    /// in them, without tags, BOOLEAN, INTEGER without named numbers and with at most one range between two integers, and
+    /// SEQUENCE of one or more mandatory components. Any other form of the grammar is left out.
     pub fn build(alloc: Global, text: &[u8]) -> Result<Schema, SchemaFault>
         // What is answered is what the text denotes.
-        ensures accepted { IfOk result (Accepts text.now) }
-        ensures sound { IfOk result (λ schema. AreDefinitions schema.types) }
+        ensures accepted { IfOk result (λ schema. Accepts text.now (schema_view schema)) }
+        ensures sound { IfOk result (λ schema. AreDefinitions (schema_view schema).types) }
         // What is refused has this fault first.
         ensures refused { IfErr result (IsRefused text.now) }
+        // A text that denotes a schema is answered with it, unless memory runs out. So a fault comes only where it denotes none.
+        ensures only { (s : AbstractSchema) → Accepts text.now s → Gives schema_view named result (Ok s) }
     {
         let tokens = guard_lexer::tokens(alloc, PLACE, text)?;
-        let module = guard_syntax::parse(alloc, PLACE, text, &tokens)?;
-        schema_of(alloc, &module)
+        let tree = guard_syntax::parse(alloc, PLACE, text, &tokens)?;
+        let basic = basic_module(alloc, &tokens, &tree)?;
+        Schema::of_basic(alloc, &basic)
+    }
+
+    /// The schema of a module. Names are looked at before definitions.
+    #[tactic(auto, unfolding(crate::specs::SchemaReading::read_module))]
+    fn of_basic(alloc: Global, basic: &BasicModule) -> Result<Schema, SchemaFault>
+        requires { AssignTextNames (map assignment_view basic.now.assignments.items) }
+        ensures { Gives schema_view named result (read_module (module_view basic.now)) }
+    {
+        check_names(alloc, &basic.assignments)?;
+        let definitions = definitions(alloc, &basic.assignments)?;
+        let module = name_text(alloc, basic.name)?;
+        Ok(Schema {
+            module,
+            definitions,
+        })
     }
 
     /// The type of this name in the module of this name. It is sound.
     pub fn ty(&self, module_name: &str, name: &str) -> Option<&Ty>
         ensures sound { IfSome result (λ ty. IsTrue (is_sound (model.type_view ty.now))) }
-        ensures named { option_map (λ ty. model.type_view ty.now) result ≡ type_named self.now module_name.now name.now }
+        ensures named { option_map (λ ty. model.type_view ty.now) result ≡ type_named (schema_view self.now) module_name.now name.now }
     {
         if module_name != self.module.as_str() {
             return None;
@@ -81,7 +90,7 @@ impl Schema {
 
     /// The name of the module at this place of the list of texts, from 1.
     pub fn module(&self, text: u32) -> Option<&str>
-        ensures { option_map (λ name. name.now) result ≡ module_named self.now text }
+        ensures { option_map (λ name. name.now) result ≡ module_named (schema_view self.now) text }
     {
         if text == PLACE {
             Some(self.module.as_str())
@@ -91,23 +100,8 @@ impl Schema {
     }
 }
 
-/// The schema of a module. Names are looked at before definitions.
-#[tactic(auto, unfolding(crate::specs::SchemaReading::read_module))]
-fn schema_of(alloc: Global, module: &Module) -> Result<Schema, SchemaFault>
-    requires { AssignTextNames (map assignment_view module.now.assignments.items) }
-    ensures { Gives (λ s. s) named result (read_module (module_view module.now)) }
-{
-    check_names(alloc, &module.assignments)?;
-    let definitions = definitions(alloc, &module.assignments)?;
-    let module = name_text(alloc, module.name)?;
-    Ok(Schema {
-        module,
-        definitions,
-    })
-}
-
 #[tactic(auto, unfolding(crate::specs::SchemaReading::check_assigned))]
-fn check_names(alloc: Global, assignments: &[Assignment]) -> Result<(), SchemaFault>
+fn check_names(alloc: Global, assignments: &[BasicAssignment]) -> Result<(), SchemaFault>
     ensures { Gives (λ u. u) named result (check_assigned (map assignment_view assignments.now)) }
 {
     match repeated_name(alloc, assignments)? {
@@ -117,7 +111,7 @@ fn check_names(alloc: Global, assignments: &[Assignment]) -> Result<(), SchemaFa
 }
 
 /// The site of the first assignment to a name to which one before it assigns.
-fn repeated_name(alloc: Global, assignments: &[Assignment]) -> Result<Option<Site>, AllocError>
+fn repeated_name(alloc: Global, assignments: &[BasicAssignment]) -> Result<Option<Site>, AllocError>
     ensures { IfOk result (λ site. site ≡ repeated (assigned_names (map assignment_view assignments.now))) }
 {
     let names = names_of(alloc, assignments)?;
@@ -127,7 +121,7 @@ fn repeated_name(alloc: Global, assignments: &[Assignment]) -> Result<Option<Sit
 /// The names to which assignments assign, in written order.
 fn names_of<'a>(
     alloc: Global,
-    assignments: &[Assignment<'a>],
+    assignments: &[BasicAssignment<'a>],
 ) -> Result<Vec<PlacedName<'a>>, AllocError>
     ensures { IfOk result (λ v. map placed_name_view v.items ≡ assigned_names (map assignment_view assignments.now)) }
 {

@@ -1,18 +1,17 @@
 //! The limits on types and their parts.
 ghost use Rattle.std.specs.Prelude.{◌≡◌, map, IfOk};
 ghost use Rattle.guard_model.specs.Answer.{Gives};
-ghost use Rattle.guard_syntax.specs.Views.{type_view, component_view};
-ghost use Rattle.derguard.specs.SchemaViews.{base_view, placed_name_view};
+ghost use Rattle.derguard.specs.SchemaViews.{type_view, base_view, component_view, placed_name_view};
 ghost use Rattle.derguard.specs.SchemaNames.{component_names, repeated};
-ghost use Rattle.guard_syntax.specs.Trees.{components_of};
+ghost use Rattle.derguard.specs.SchemaBasic.{components_of};
 ghost use Rattle.derguard.specs.SchemaFaults.{named};
 ghost use Rattle.derguard.specs.SchemaReading as reading;
 ghost use Rattle.derguard.specs.SchemaReading.{check_type, check_base, check_components, check_components_list, check_node};
 
+use crate::guard_schema::basic::{BasicBase, BasicComp, BasicType};
 use crate::guard_schema::fault::SchemaFault;
 use crate::guard_schema::names::{PlacedName, first_repeated};
 use guard_model::Site;
-use guard_syntax::{BaseTree, CompTree, TypeTree};
 use std::alloc::{AllocError, Global};
 use thiserror::Error;
 
@@ -51,7 +50,7 @@ pub struct Checked {
 /// Checks a type with so many type nodes before it: its parts in written order, and then the whole.
 #[cycle(tagging)]
 #[tactic(auto, unfolding(crate::specs::SchemaReading::check_type))]
-pub fn check(alloc: Global, tree: &TypeTree, before: usize) -> Result<Checked, SchemaFault>
+pub fn check(alloc: Global, tree: &BasicType, before: usize) -> Result<Checked, SchemaFault>
     ensures { Gives (λ c. c) named result (check_type before (type_view tree.now)) }
 {
     let parts = check_parts(alloc, &tree.base, before)?;
@@ -60,20 +59,20 @@ pub fn check(alloc: Global, tree: &TypeTree, before: usize) -> Result<Checked, S
 
 #[cycle(tagging)]
 #[tactic(auto, unfolding(crate::specs::SchemaReading::check_base))]
-fn check_parts(alloc: Global, base: &BaseTree, before: usize) -> Result<Checked, SchemaFault>
+fn check_parts(alloc: Global, base: &BasicBase, before: usize) -> Result<Checked, SchemaFault>
     ensures { Gives (λ c. c) named result (check_base before (base_view base.now)) }
 {
     match base {
-        BaseTree::Boolean | BaseTree::Integer => Ok(Checked {
+        BasicBase::Boolean | BasicBase::Integer => Ok(Checked {
             nodes: before,
             nesting: 0,
         }),
-        BaseTree::Sequence(comps) => check_comps(alloc, comps, before),
+        BasicBase::Sequence(comps) => check_comps(alloc, comps, before),
     }
 }
 
 #[cycle(tagging)]
-fn check_comps(alloc: Global, comps: &[CompTree], before: usize) -> Result<Checked, SchemaFault>
+fn check_comps(alloc: Global, comps: &[BasicComp], before: usize) -> Result<Checked, SchemaFault>
     ensures { Gives (λ c. c) named result (check_components before (components_of (map component_view comps.now))) }
 {
     let mut parts = Checked {
@@ -95,7 +94,7 @@ fn check_comps(alloc: Global, comps: &[CompTree], before: usize) -> Result<Check
 fn check_whole(
     alloc: Global,
     site: Site,
-    base: &BaseTree,
+    base: &BasicBase,
     parts: Checked,
 ) -> Result<Checked, SchemaFault>
     ensures { Gives (λ c. c) named result (check_node site (base_view base.now) parts) }
@@ -106,16 +105,16 @@ fn check_whole(
 
 /// Checks a list of components, the names first.
 #[tactic(auto, unfolding(crate::specs::SchemaReading::check_list))]
-fn check_list(alloc: Global, site: Site, base: &BaseTree) -> Result<(), SchemaFault>
+fn check_list(alloc: Global, site: Site, base: &BasicBase) -> Result<(), SchemaFault>
     ensures { Gives (λ u. u) named result (reading.check_list site (base_view base.now)) }
 {
     match base {
-        BaseTree::Boolean | BaseTree::Integer => Ok(()),
-        BaseTree::Sequence(comps) => check_comp_list(alloc, site, comps),
+        BasicBase::Boolean | BasicBase::Integer => Ok(()),
+        BasicBase::Sequence(comps) => check_comp_list(alloc, site, comps),
     }
 }
 
-fn check_comp_list(alloc: Global, site: Site, comps: &[CompTree]) -> Result<(), SchemaFault>
+fn check_comp_list(alloc: Global, site: Site, comps: &[BasicComp]) -> Result<(), SchemaFault>
     ensures { Gives (λ u. u) named result (check_components_list site (components_of (map component_view comps.now))) }
 {
     match repeated_name(alloc, comps)? {
@@ -128,7 +127,7 @@ fn check_comp_list(alloc: Global, site: Site, comps: &[CompTree]) -> Result<(), 
 }
 
 /// The site of the first component whose name one before it has.
-fn repeated_name(alloc: Global, comps: &[CompTree]) -> Result<Option<Site>, AllocError>
+fn repeated_name(alloc: Global, comps: &[BasicComp]) -> Result<Option<Site>, AllocError>
     ensures { IfOk result (λ site. site ≡ repeated (component_names (components_of (map component_view comps.now)))) }
 {
     let names = names_of(alloc, comps)?;
@@ -136,7 +135,7 @@ fn repeated_name(alloc: Global, comps: &[CompTree]) -> Result<Option<Site>, Allo
 }
 
 /// The names of components, in written order.
-fn names_of<'a>(alloc: Global, comps: &[CompTree<'a>]) -> Result<Vec<PlacedName<'a>>, AllocError>
+fn names_of<'a>(alloc: Global, comps: &[BasicComp<'a>]) -> Result<Vec<PlacedName<'a>>, AllocError>
     ensures { IfOk result (λ v. map placed_name_view v.items ≡ component_names (components_of (map component_view comps.now))) }
 {
     let mut names = Vec::with_capacity(alloc, comps.len())?;

@@ -123,6 +123,169 @@ fn the_first_fault_is_named(rt: HostRuntime) -> Result<(), Fail> {
     Ok(())
 }
 
+#[test]
+fn a_form_before_the_assignments_is_left_out_at_its_word(rt: HostRuntime) -> Result<(), Fail> {
+    for (text, want) in [
+        (
+            "M DEFINITIONS IMPLICIT TAGS ::= BEGIN A ::= BOOLEAN END",
+            "P1 Unexpected 1:1:15",
+        ),
+        (
+            "M DEFINITIONS AUTOMATIC TAGS ::= BEGIN A ::= BOOLEAN END",
+            "P1 Unexpected 1:1:15",
+        ),
+        (
+            "M DEFINITIONS ::= BEGIN EXPORTS A; A ::= BOOLEAN END",
+            "P1 Unexpected 1:1:25",
+        ),
+        (
+            "M DEFINITIONS ::= BEGIN EXPORTS ; A ::= BOOLEAN END",
+            "P1 Unexpected 1:1:25",
+        ),
+        (
+            "M DEFINITIONS ::= BEGIN IMPORTS B FROM N; A ::= BOOLEAN END",
+            "P1 Unexpected 1:1:25",
+        ),
+        (
+            "M DEFINITIONS ::= BEGIN EXPORTS ALL; IMPORTS B FROM N; A ::= BOOLEAN END",
+            "P1 Unexpected 1:1:38",
+        ),
+        // The first of them is named.
+        (
+            "M DEFINITIONS IMPLICIT TAGS ::= BEGIN EXPORTS A; A ::= NULL END",
+            "P1 Unexpected 1:1:15",
+        ),
+        (
+            "M DEFINITIONS ::= BEGIN EXPORTS A; A ::= NULL END",
+            "P1 Unexpected 1:1:25",
+        ),
+        // These mean nothing, or what they mean without being written.
+        (
+            "M {iso 1 a(2)} DEFINITIONS EXPLICIT TAGS ::= BEGIN EXPORTS ALL; IMPORTS ; A ::= BOOLEAN END",
+            "ok",
+        ),
+        ("M DEFINITIONS ::= BEGIN END", "ok"),
+    ] {
+        let got = answer(rt.alloc(), text)?;
+        assert_eq!(rt; got.as_str(), want, "{text}");
+    }
+    Ok(())
+}
+
+#[test]
+fn a_type_is_left_out_at_its_first_token(rt: HostRuntime) -> Result<(), Fail> {
+    let alloc = rt.alloc();
+    for ty in [
+        "[0] BOOLEAN",
+        "NULL",
+        "BIT STRING",
+        "OCTET STRING",
+        "OBJECT IDENTIFIER",
+        "UTF8String",
+        "NumericString",
+        "PrintableString",
+        "IA5String",
+        "VisibleString",
+        "ENUMERATED {a}",
+        "INTEGER {a(1)}",
+        "SEQUENCE {}",
+        "SET {a BOOLEAN}",
+        "SET {}",
+        "CHOICE {a BOOLEAN}",
+        "SEQUENCE OF BOOLEAN",
+        "SEQUENCE SIZE (1) OF BOOLEAN",
+        "SET (SIZE (1)) OF BOOLEAN",
+        "B",
+    ] {
+        let line = format!(in alloc; "A ::= {ty}")?;
+        let got = answer(alloc, &module_of(alloc, &line)?)?;
+        assert_eq!(rt; got.as_str(), "P1 Unexpected 1:2:7", "{ty}");
+    }
+    Ok(())
+}
+
+#[test]
+fn a_constraint_is_left_out_at_its_set(rt: HostRuntime) -> Result<(), Fail> {
+    let alloc = rt.alloc();
+    for set in [
+        "5",
+        "1..2 | 4..5",
+        "1..4 ^ 2..5",
+        "1..4 EXCEPT 2..3",
+        "ALL EXCEPT 1..2",
+        "(1..2)",
+        "0<..2",
+        "0..<2",
+        "MIN..2",
+        "0..MAX",
+        "a..2",
+        "0..a",
+        "\"a\"..\"b\"",
+        "B",
+        "INCLUDES B",
+        "SIZE (1..2)",
+        "FROM (1..2)",
+        "WITH COMPONENT (1..2)",
+        "WITH COMPONENTS {a}",
+    ] {
+        let line = format!(in alloc; "A ::= INTEGER ({set})")?;
+        let got = answer(alloc, &module_of(alloc, &line)?)?;
+        assert_eq!(rt; got.as_str(), "P1 Unexpected 1:2:16", "{set}");
+    }
+    Ok(())
+}
+
+#[test]
+fn the_first_form_in_the_text_that_is_left_out_is_named(rt: HostRuntime) -> Result<(), Fail> {
+    for (lines, want) in [
+        ("a INTEGER ::= 1", "P1 Unexpected 1:2:1"),
+        ("A ::= BOOLEAN\na NULL ::= NULL", "P1 Unexpected 1:3:1"),
+        ("A ::= INTEGER (0..9) (1..2)", "P1 Unexpected 1:2:23"),
+        ("A ::= BOOLEAN (TRUE)", "P1 Unexpected 1:2:16"),
+        (
+            "A ::= SEQUENCE {a BOOLEAN} (WITH COMPONENTS {a})",
+            "P1 Unexpected 1:2:29",
+        ),
+        ("A ::= SEQUENCE {a NULL}", "P1 Unexpected 1:2:19"),
+        ("A ::= SEQUENCE {COMPONENTS OF B}", "P1 Unexpected 1:2:17"),
+        (
+            "A ::= SEQUENCE {a BOOLEAN OPTIONAL}",
+            "P1 Unexpected 1:2:17",
+        ),
+        (
+            "A ::= SEQUENCE {a BOOLEAN, b INTEGER DEFAULT 3}",
+            "P1 Unexpected 1:2:28",
+        ),
+        // A component that may be left out begins before its type.
+        ("A ::= SEQUENCE {a NULL OPTIONAL}", "P1 Unexpected 1:2:17"),
+        // A part comes before the constraints behind the whole.
+        (
+            "A ::= SEQUENCE {a [0] BOOLEAN} (WITH COMPONENTS {a})",
+            "P1 Unexpected 1:2:19",
+        ),
+        ("A ::= [0] NULL (NULL)", "P1 Unexpected 1:2:7"),
+        ("A ::= NULL\nB ::= SET {}", "P1 Unexpected 1:2:7"),
+        // It comes before names and before any other fault of the module,
+        ("A ::= BOOLEAN\nA ::= NULL", "P1 Unexpected 1:3:7"),
+        (
+            "A ::= SEQUENCE {a BOOLEAN, a [0] BOOLEAN}",
+            "P1 Unexpected 1:2:30",
+        ),
+        // and after those of the lexer and the parser.
+        (
+            "A ::= NULL\nB ::= INTEGER (007..9)",
+            "L1 BadCharacter 1:3:17",
+        ),
+        ("A ::= NULL\nB", "P1 Unexpected 1:4:1"),
+        ("A ::= NULL\nB ::= REAL", "P2 Unsupported REAL 1:3:7"),
+    ] {
+        let text = module_of(rt.alloc(), lines)?;
+        let got = answer(rt.alloc(), &text)?;
+        assert_eq!(rt; got.as_str(), want, "{lines}");
+    }
+    Ok(())
+}
+
 /// A SEQUENCE of so many BOOLEAN components.
 fn wide(alloc: Global, count: u32) -> Result<String, AllocError> {
     let mut text = String::from_str(alloc, "A ::= SEQUENCE {c0 BOOLEAN")?;

@@ -1,7 +1,8 @@
 use Rattle.guard_syntax.specs.Sites.{sited}
 use Rattle.guard_syntax.specs.Lexemes.{sites_of}
-use Rattle.guard_syntax.specs.Reading.{placed_of, read_module}
-use Rattle.guard_syntax.specs.Views.{module_view}
+use Rattle.guard_syntax.specs.ReadTokens.{placed_of}
+use Rattle.guard_syntax.specs.ReadModule.{read_module}
+use Rattle.guard_syntax.specs.ModuleViews.{module_view}
 use Rattle.guard_syntax.proofs.Whole.{is_written, has_sites, is_read, refused_only, answered_only}
 use Rattle.guard_syntax.proofs.reading.parse.Goals as goal
 

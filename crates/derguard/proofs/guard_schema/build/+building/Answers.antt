@@ -2,8 +2,8 @@ use Rattle.std.proofs.Common.{◌≡◌, map, ◌++◌, ◌∷◌, []}
 use Rattle.std.proofs.lemmas.Result.{err_from_is_err_and}
 use Rattle.std.proofs.lemmas.List.{map_push}
 use Rattle.guard_model.specs.TypeView as model
-use Rattle.guard_syntax.specs.Trees.{components_of}
-use Rattle.guard_syntax.specs.Views.{component_view}
+use Rattle.derguard.specs.SchemaBasic.{components_of}
+use Rattle.derguard.specs.SchemaViews.{component_view}
 use Rattle.derguard.specs.SchemaFaults.{named}
 use Rattle.derguard.specs.SchemaReading.{build_components}
 use Rattle.derguard.proofs.SchemaLoops.{part_stops, next_part, no_part}

@@ -1,7 +1,7 @@
 use Rattle.std.proofs.Common.{◌≡◌, drop, map}
 use Rattle.guard_model.specs.TypeView as model
-use Rattle.guard_syntax.specs.Trees.{components_of}
-use Rattle.guard_syntax.specs.Views.{component_view}
+use Rattle.derguard.specs.SchemaBasic.{components_of}
+use Rattle.derguard.specs.SchemaViews.{component_view}
 use Rattle.derguard.specs.SchemaReading.{build_components}
 use Rattle.derguard.proofs.SchemaLoops.{with_front}
 use Rattle.derguard.proofs.guard_schema.build.+building.Given as goal

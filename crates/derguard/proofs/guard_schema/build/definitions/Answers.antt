@@ -1,7 +1,7 @@
 use Rattle.std.proofs.Common.{◌≡◌, map, ◌++◌, ◌∷◌, []}
 use Rattle.std.proofs.lemmas.Result.{err_from_is_err_and}
 use Rattle.std.proofs.lemmas.List.{map_push}
-use Rattle.guard_syntax.specs.Views.{assignment_view}
+use Rattle.derguard.specs.SchemaViews.{assignment_view}
 use Rattle.derguard.specs.SchemaFaults.{named}
 use Rattle.derguard.specs.SchemaReading.{read_definitions}
 use Rattle.derguard.specs.SchemaViews.{definition_view}

@@ -1,5 +1,5 @@
 use Rattle.std.proofs.Common.{◌≡◌, drop, map}
-use Rattle.guard_syntax.specs.Views.{assignment_view}
+use Rattle.derguard.specs.SchemaViews.{assignment_view}
 use Rattle.derguard.specs.SchemaReading.{read_definitions}
 use Rattle.derguard.specs.SchemaViews.{definition_view}
 use Rattle.derguard.proofs.SchemaLoops.{with_front}

@@ -1,11 +1,11 @@
 use Rattle.std.proofs.Common.{◌≡◌, drop, map}
 use Rattle.guard_model.specs.TypeView as model
-use Rattle.guard_syntax.specs.Views.{constraint_view}
-use Rattle.derguard.specs.SchemaReading.{read_constraints}
+use Rattle.derguard.specs.SchemaViews.{range_view}
+use Rattle.derguard.specs.SchemaReading.{read_ranges}
 use Rattle.derguard.proofs.SchemaLoops.{with_front}
 use Rattle.derguard.proofs.guard_schema.constraints.constraints.Given as goal
 
-abbrev pub invariant-loop-tree : goal.invariant-loop-tree
-invariant-loop-tree l =
-    with_front (map model.constraint_view l.constraints.items) (read_constraints (map constraint_view (drop l.tree-index l.trees)))
-    ≡ read_constraints (map constraint_view l.trees)
+abbrev pub invariant-loop-range : goal.invariant-loop-range
+invariant-loop-range l =
+    with_front (map model.constraint_view l.constraints.items) (read_ranges (map range_view (drop l.range-index l.ranges)))
+    ≡ read_ranges (map range_view l.ranges)

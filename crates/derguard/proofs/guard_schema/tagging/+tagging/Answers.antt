@@ -1,7 +1,7 @@
 use Rattle.std.proofs.Common.{map}
 use Rattle.std.proofs.lemmas.Result.{err_from_is_err_and}
-use Rattle.guard_syntax.specs.Trees.{components_of}
-use Rattle.guard_syntax.specs.Views.{component_view}
+use Rattle.derguard.specs.SchemaBasic.{components_of}
+use Rattle.derguard.specs.SchemaViews.{component_view}
 use Rattle.derguard.specs.SchemaFaults.{named}
 use Rattle.derguard.specs.SchemaReading.{check_components}
 use Rattle.derguard.proofs.SchemaLoops.{component_stops, next_component, no_component}

@@ -1,6 +1,6 @@
 use Rattle.std.proofs.Common.{◌≡◌, drop, map}
-use Rattle.guard_syntax.specs.Views.{component_view}
-use Rattle.guard_syntax.specs.Trees.{components_of}
+use Rattle.derguard.specs.SchemaViews.{component_view}
+use Rattle.derguard.specs.SchemaBasic.{components_of}
 use Rattle.derguard.specs.SchemaReading.{check_components}
 use Rattle.derguard.proofs.SchemaLoops.{deeper}
 use Rattle.derguard.proofs.guard_schema.tagging.+tagging.Given as goal

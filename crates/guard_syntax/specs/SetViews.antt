@@ -1,0 +1,113 @@
+-- The trees of the definitions that the code's trees stand for: sets of values and constraints.
+use Rattle.std.specs.Prelude.{ℕ, List, map, Option, Some, None}
+use Rattle.guard_syntax.specs.Trees.{WrittenEndForm, end_integer, end_reference, end_characters, WrittenEnd, WrittenRange, WrittenSet, set_node, WrittenSetForm, all_except, union, WrittenJoinedIntersection, united_of, WrittenIntersection, intersection, WrittenJoinedDifference, met_of, WrittenDifference, difference_of, WrittenElement, element_node, WrittenElementForm, parentheses, value, contained, range, size, from, with_component, with_components, WrittenConstraint, constraint, WrittenPart, parts_of}
+use Rattle.guard_syntax.specs.Views.{number_view, value_view}
+use Rattle.guard_syntax.specs.declared.tree.EndForm.{EndForm}
+use Rattle.guard_syntax.specs.declared.tree.EndForm.TheVariants as end_form
+use Rattle.guard_syntax.specs.declared.tree.EndTree.{EndTree}
+use Rattle.guard_syntax.specs.declared.tree.RangeTree.{RangeTree}
+use Rattle.guard_syntax.specs.declared.tree.ElementForm.TheFolds.{fold-ElementForm, fold-SetForm, fold-ComponentConsTree, fold-ConsTree, fold-DifferenceTree, fold-ElementTree, fold-IntersectionTree, fold-JoinedDifference, fold-JoinedIntersection, fold-SetTree}
+use Rattle.guard_syntax.specs.declared.tree.ElementForm.TheOpen.{ElementForm-F, SetForm-F, ComponentConsTree-F, ConsTree-F, DifferenceTree-F, ElementTree-F, IntersectionTree-F, JoinedDifference-F, JoinedIntersection-F, SetTree-F}
+use Rattle.guard_syntax.specs.declared.tree.ElementForm.{ElementForm}
+use Rattle.guard_syntax.specs.declared.tree.SetForm.{SetForm}
+use Rattle.guard_syntax.specs.declared.tree.ComponentConsTree.{ComponentConsTree}
+use Rattle.guard_syntax.specs.declared.tree.ConsTree.{ConsTree}
+use Rattle.guard_syntax.specs.declared.tree.DifferenceTree.{DifferenceTree}
+use Rattle.guard_syntax.specs.declared.tree.ElementTree.{ElementTree}
+use Rattle.guard_syntax.specs.declared.tree.IntersectionTree.{IntersectionTree}
+use Rattle.guard_syntax.specs.declared.tree.JoinedDifference.{JoinedDifference}
+use Rattle.guard_syntax.specs.declared.tree.JoinedIntersection.{JoinedIntersection}
+use Rattle.guard_syntax.specs.declared.tree.SetTree.{SetTree}
+
+abbrev pub end_form_view : EndForm → WrittenEndForm
+end_form_view (end_form.Integer n) = end_integer (number_view n)
+end_form_view (end_form.Reference name) = end_reference name.now
+end_form_view (end_form.Characters spelling) = end_characters spelling.now
+
+abbrev pub end_view : EndTree → WrittenEnd
+end_view e = record { site = e.site; form = end_form_view e.form }
+
+abbrev pub end_or_view : Option EndTree → Option WrittenEnd
+end_or_view None = None
+end_or_view (Some e) = Some (end_view e)
+
+abbrev pub range_view : RangeTree → WrittenRange
+range_view r = record { low = end_or_view r.low; above_low = r.above_low; below_high = r.below_high; high = end_or_view r.high }
+
+-- one level of each, with the sets inside already seen
+abbrev pub element_form_step : ElementForm-F WrittenElementForm WrittenSetForm WrittenPart WrittenConstraint WrittenDifference WrittenElement WrittenIntersection WrittenJoinedDifference WrittenJoinedIntersection WrittenSet → WrittenElementForm
+element_form_step (ElementForm-F.Parentheses s) = parentheses s.value
+element_form_step (ElementForm-F.Value v) = value (value_view v)
+element_form_step (ElementForm-F.Contained includes name) = contained includes name.now
+element_form_step (ElementForm-F.Range r) = range (range_view r)
+element_form_step (ElementForm-F.Size c) = size c.value
+element_form_step (ElementForm-F.From c) = from c.value
+element_form_step (ElementForm-F.WithComponent c) = with_component c.value
+element_form_step (ElementForm-F.WithComponents partial ps) = with_components partial (parts_of ps.items)
+
+abbrev pub set_form_step : SetForm-F WrittenElementForm WrittenSetForm WrittenPart WrittenConstraint WrittenDifference WrittenElement WrittenIntersection WrittenJoinedDifference WrittenJoinedIntersection WrittenSet → WrittenSetForm
+set_form_step (SetForm-F.AllExcept e) = all_except e
+set_form_step (SetForm-F.Union i others) = union i (united_of others.items)
+
+abbrev pub part_step : ComponentConsTree-F WrittenElementForm WrittenSetForm WrittenPart WrittenConstraint WrittenDifference WrittenElement WrittenIntersection WrittenJoinedDifference WrittenJoinedIntersection WrittenSet → WrittenPart
+part_step p = record { site = p.site; name = p.name.now; constraint = p.cons; presence = p.presence }
+
+abbrev pub constraint_step : ConsTree-F WrittenElementForm WrittenSetForm WrittenPart WrittenConstraint WrittenDifference WrittenElement WrittenIntersection WrittenJoinedDifference WrittenJoinedIntersection WrittenSet → WrittenConstraint
+constraint_step c = constraint c.site c.set
+
+abbrev pub difference_step : DifferenceTree-F WrittenElementForm WrittenSetForm WrittenPart WrittenConstraint WrittenDifference WrittenElement WrittenIntersection WrittenJoinedDifference WrittenJoinedIntersection WrittenSet → WrittenDifference
+difference_step d = difference_of d.site d.element d.except
+
+abbrev pub element_step : ElementTree-F WrittenElementForm WrittenSetForm WrittenPart WrittenConstraint WrittenDifference WrittenElement WrittenIntersection WrittenJoinedDifference WrittenJoinedIntersection WrittenSet → WrittenElement
+element_step e = element_node e.site e.form
+
+abbrev pub intersection_step : IntersectionTree-F WrittenElementForm WrittenSetForm WrittenPart WrittenConstraint WrittenDifference WrittenElement WrittenIntersection WrittenJoinedDifference WrittenJoinedIntersection WrittenSet → WrittenIntersection
+intersection_step i = intersection i.site i.first (met_of i.others.items)
+
+abbrev pub joined_difference_step : JoinedDifference-F WrittenElementForm WrittenSetForm WrittenPart WrittenConstraint WrittenDifference WrittenElement WrittenIntersection WrittenJoinedDifference WrittenJoinedIntersection WrittenSet → WrittenJoinedDifference
+joined_difference_step j = record { mark = j.mark; joined = j.part }
+
+abbrev pub joined_intersection_step : JoinedIntersection-F WrittenElementForm WrittenSetForm WrittenPart WrittenConstraint WrittenDifference WrittenElement WrittenIntersection WrittenJoinedDifference WrittenJoinedIntersection WrittenSet → WrittenJoinedIntersection
+joined_intersection_step j = record { mark = j.mark; joined = j.part }
+
+abbrev pub set_step : SetTree-F WrittenElementForm WrittenSetForm WrittenPart WrittenConstraint WrittenDifference WrittenElement WrittenIntersection WrittenJoinedDifference WrittenJoinedIntersection WrittenSet → WrittenSet
+set_step s = set_node s.site s.form
+
+abbrev pub element_form_view : ElementForm → WrittenElementForm
+element_form_view = fold-ElementForm WrittenElementForm WrittenSetForm WrittenPart WrittenConstraint WrittenDifference WrittenElement WrittenIntersection WrittenJoinedDifference WrittenJoinedIntersection WrittenSet element_form_step set_form_step part_step constraint_step difference_step element_step intersection_step joined_difference_step joined_intersection_step set_step
+
+abbrev pub set_form_view : SetForm → WrittenSetForm
+set_form_view = fold-SetForm WrittenElementForm WrittenSetForm WrittenPart WrittenConstraint WrittenDifference WrittenElement WrittenIntersection WrittenJoinedDifference WrittenJoinedIntersection WrittenSet element_form_step set_form_step part_step constraint_step difference_step element_step intersection_step joined_difference_step joined_intersection_step set_step
+
+abbrev pub part_view : ComponentConsTree → WrittenPart
+part_view = fold-ComponentConsTree WrittenElementForm WrittenSetForm WrittenPart WrittenConstraint WrittenDifference WrittenElement WrittenIntersection WrittenJoinedDifference WrittenJoinedIntersection WrittenSet element_form_step set_form_step part_step constraint_step difference_step element_step intersection_step joined_difference_step joined_intersection_step set_step
+
+abbrev pub constraint_view : ConsTree → WrittenConstraint
+constraint_view = fold-ConsTree WrittenElementForm WrittenSetForm WrittenPart WrittenConstraint WrittenDifference WrittenElement WrittenIntersection WrittenJoinedDifference WrittenJoinedIntersection WrittenSet element_form_step set_form_step part_step constraint_step difference_step element_step intersection_step joined_difference_step joined_intersection_step set_step
+
+abbrev pub difference_view : DifferenceTree → WrittenDifference
+difference_view = fold-DifferenceTree WrittenElementForm WrittenSetForm WrittenPart WrittenConstraint WrittenDifference WrittenElement WrittenIntersection WrittenJoinedDifference WrittenJoinedIntersection WrittenSet element_form_step set_form_step part_step constraint_step difference_step element_step intersection_step joined_difference_step joined_intersection_step set_step
+
+abbrev pub element_view : ElementTree → WrittenElement
+element_view = fold-ElementTree WrittenElementForm WrittenSetForm WrittenPart WrittenConstraint WrittenDifference WrittenElement WrittenIntersection WrittenJoinedDifference WrittenJoinedIntersection WrittenSet element_form_step set_form_step part_step constraint_step difference_step element_step intersection_step joined_difference_step joined_intersection_step set_step
+
+abbrev pub intersection_view : IntersectionTree → WrittenIntersection
+intersection_view = fold-IntersectionTree WrittenElementForm WrittenSetForm WrittenPart WrittenConstraint WrittenDifference WrittenElement WrittenIntersection WrittenJoinedDifference WrittenJoinedIntersection WrittenSet element_form_step set_form_step part_step constraint_step difference_step element_step intersection_step joined_difference_step joined_intersection_step set_step
+
+abbrev pub joined_difference_view : JoinedDifference → WrittenJoinedDifference
+joined_difference_view = fold-JoinedDifference WrittenElementForm WrittenSetForm WrittenPart WrittenConstraint WrittenDifference WrittenElement WrittenIntersection WrittenJoinedDifference WrittenJoinedIntersection WrittenSet element_form_step set_form_step part_step constraint_step difference_step element_step intersection_step joined_difference_step joined_intersection_step set_step
+
+abbrev pub joined_intersection_view : JoinedIntersection → WrittenJoinedIntersection
+joined_intersection_view = fold-JoinedIntersection WrittenElementForm WrittenSetForm WrittenPart WrittenConstraint WrittenDifference WrittenElement WrittenIntersection WrittenJoinedDifference WrittenJoinedIntersection WrittenSet element_form_step set_form_step part_step constraint_step difference_step element_step intersection_step joined_difference_step joined_intersection_step set_step
+
+abbrev pub set_view : SetTree → WrittenSet
+set_view = fold-SetTree WrittenElementForm WrittenSetForm WrittenPart WrittenConstraint WrittenDifference WrittenElement WrittenIntersection WrittenJoinedDifference WrittenJoinedIntersection WrittenSet element_form_step set_form_step part_step constraint_step difference_step element_step intersection_step joined_difference_step joined_intersection_step set_step
+
+-- what may be missing
+abbrev pub perhaps_constraint_view : Option ConsTree → Option WrittenConstraint
+perhaps_constraint_view None = None
+perhaps_constraint_view (Some c) = Some (constraint_view c)
+
+abbrev pub perhaps_element_view : Option ElementTree → Option WrittenElement
+perhaps_element_view None = None
+perhaps_element_view (Some e) = Some (element_view e)

@@ -13,10 +13,7 @@ use Rattle.derguard.specs.BuiltIn.{is_integer_type, built_in_messages, built_in_
 
 integers_fit : (t u : AbstractType) → IsTrue (is_integer_type t) → IsTrue (is_integer_type u) → FitsAlso t u
 integers_fit (type_of tags (type.integer ns) cons) (type_of us (type.integer ms) ds) e f = λ v h. h
-integers_fit (type_of tags (type.integer ns) cons) (type_of us type.boolean ds) e f = absurd cc
-integers_fit (type_of tags (type.integer ns) cons) (type_of us (type.sequence cs) ds) e f = absurd cc
-integers_fit (type_of tags type.boolean cons) u e f = absurd cc
-integers_fit (type_of tags (type.sequence cs) cons) u e f = absurd cc
+integers_fit _ _ e f = absurd cc
 
 same_some : {A : Type 0} {x y : A} → Some x ≡ Some y → x ≡ y
 same_some e = cc

@@ -1,14 +1,14 @@
 -- A value violates no constraint exactly where it is a member.
-use Rattle.std.proofs.Common.{◌≡◌, refl, sym, ◌∙◌, ap, ℕ, suc, Bool, true, false, ◌&&◌, IsTrue, Option, Some, None}
+use Rattle.std.proofs.Common.{◌≡◌, refl, sym, ◌∙◌, ap, ℕ, zero, suc, Bool, true, false, ◌&&◌, IsTrue, Option, Some, None}
 use Rattle.guard_model.specs.declared.site.Site.{Site}
 use Rattle.guard_model.specs.declared.site.Step.{Step}
-use Rattle.guard_model.specs.declared.site.Step.TheVariants.{Component}
+use Rattle.guard_model.specs.declared.site.Step.TheVariants.{Component, Element}
 use Rattle.guard_model.specs.AbstractType as type
 use Rattle.guard_model.specs.AbstractType.{AbstractType, AbstractKind, Components, Constraints, type_of, no_components, component, at, no_constraints, constraint}
 use Rattle.guard_model.specs.AbstractValue as value
-use Rattle.guard_model.specs.AbstractValue.{AbstractValue, Fields}
-use Rattle.derguard.specs.Member.{holds_element, all_hold, is_member, parts_are_members, fields_are_members}
-use Rattle.derguard.specs.Violations.{AbstractViolation, below, or_else, unless, first_failing, violation, violation_inside, violation_from, MembersViolateNothing}
+use Rattle.guard_model.specs.AbstractValue.{AbstractValue, Fields, Items}
+use Rattle.derguard.specs.Member.{holds_element, all_hold, every_item, is_member, parts_are_members, fields_are_members, chosen_is_member}
+use Rattle.derguard.specs.Violations.{AbstractViolation, below, or_else, unless, first_failing, first_among, violation, violation_inside, violation_from, violation_of_chosen, MembersViolateNothing}
 
 -- the test is true exactly where nothing is found
 abbrev pub is_clear : Option AbstractViolation → Bool
@@ -36,6 +36,13 @@ constraints_clear (constraint (at site e) cs) v =
     clear_either (unless (holds_element e v) site) (first_failing cs v)
     ∙ and_both (clear_unless (holds_element e v) site) (constraints_clear cs v)
 
+items_clear : (find : AbstractValue → Option AbstractViolation) (test : AbstractValue → Bool) → ((v : AbstractValue) → is_clear (find v) ≡ test v)
+    → (i : ℕ) (vs : Items) → is_clear (first_among find i vs) ≡ every_item test vs
+items_clear find test agree i value.no_items = refl
+items_clear find test agree i (value.item v vs) =
+    clear_either (below (Element i) (find v)) (first_among find (suc i) vs)
+    ∙ and_both (clear_below (Element i) (find v) ∙ agree v) (items_clear find test agree (suc i) vs)
+
 mutual
   pub type_clear : (t : AbstractType) (v : AbstractValue) → is_clear (violation t v) ≡ is_member t v
   type_clear (type_of tags kind cons) v =
@@ -43,10 +50,11 @@ mutual
 
   kind_clear : (kind : AbstractKind) (v : AbstractValue) → is_clear (violation_inside kind v) ≡ parts_are_members kind v
   kind_clear (type.sequence cs) (value.fields fs) = components_clear 0 cs fs
-  kind_clear (type.sequence cs) (value.boolean b) = refl
-  kind_clear (type.sequence cs) (value.integer z) = refl
-  kind_clear type.boolean v = refl
-  kind_clear (type.integer ns) v = refl
+  kind_clear (type.set cs) (value.fields fs) = components_clear 0 cs fs
+  kind_clear (type.choice cs) (value.chosen i v) = clear_below (Component i) (violation_of_chosen cs i v) ∙ chosen_clear cs i v
+  kind_clear (type.sequence_of t) (value.items vs) = items_clear (violation t) (is_member t) (λ v. type_clear t v) 0 vs
+  kind_clear (type.set_of t) (value.items vs) = items_clear (violation t) (is_member t) (λ v. type_clear t v) 0 vs
+  kind_clear _ _ = refl
 
   components_clear : (i : ℕ) (cs : Components) (fs : Fields) → is_clear (violation_from i cs fs) ≡ fields_are_members cs fs
   components_clear i no_components fs = refl
@@ -55,6 +63,11 @@ mutual
   components_clear i (component name t presence cs) (value.present v fs) =
       clear_either (below (Component i) (violation t v)) (violation_from (suc i) cs fs)
       ∙ and_both (clear_below (Component i) (violation t v) ∙ type_clear t v) (components_clear (suc i) cs fs)
+
+  chosen_clear : (cs : Components) (i : ℕ) (v : AbstractValue) → is_clear (violation_of_chosen cs i v) ≡ chosen_is_member cs i v
+  chosen_clear no_components i v = refl
+  chosen_clear (component name t presence cs) zero v = type_clear t v
+  chosen_clear (component name t presence cs) (suc i) v = chosen_clear cs i v
 
 none_from : (w : Option AbstractViolation) → IsTrue (is_clear w) → w ≡ None
 none_from None e = refl

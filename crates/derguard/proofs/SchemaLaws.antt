@@ -5,17 +5,15 @@ use Rattle.std.proofs.lemmas.Str.{utf8_lossy-IsUtf8}
 use Rattle.std.proofs.lemmas.List.{length-append}
 use Rattle.guard_model.specs.Answer.{◌>>=◌}
 use Rattle.guard_model.specs.declared.site.Site.{Site}
-use Rattle.guard_der.specs.Sound.{count, nesting, nesting_inside, deepest}
+use Rattle.guard_tagcheck.specs.Limits.{count, nesting, nesting_inside, deepest}
 use Rattle.guard_syntax.specs.Trees.{WrittenNumber}
-use Rattle.derguard.specs.SchemaBasic.{BasicRange, BasicType, type_node, BasicBase, boolean, integer, sequence, BasicComponents, no_components, component, BasicAssignment, BasicModule}
-use Rattle.derguard.specs.declared.guard_schema.fault.SchemaFault.{SchemaFault}
-use Rattle.derguard.specs.declared.guard_schema.fault.SchemaFault.TheVariants.{Name, Tag, Cons}
+use Rattle.derguard.specs.SchemaBasic.{BasicRange, BasicType, type_node, BasicBase, plain, integer, structure, choice, of_type, BasicComponents, no_components, component, BasicAssignment, BasicModule}
+use Rattle.derguard.specs.SchemaFaults.{AbstractFault, Name, Tag, Clash, Cons}
 use Rattle.derguard.specs.declared.guard_schema.names.NameFault.TheVariants.{Duplicate}
 use Rattle.derguard.specs.declared.guard_schema.tagging.Checked.{Checked}
 use Rattle.derguard.specs.declared.guard_schema.tagging.TagFault.{TagFault}
 use Rattle.derguard.specs.declared.guard_schema.tagging.TagFault.TheVariants.{DuplicateName, TooManyComponents, TooDeep, SchemaTooLarge}
 use Rattle.guard_model.specs.declared.ty.Limit.TheVariants.{At}
-use Rattle.guard_model.specs.declared.ty.Presence.TheVariants.{Mandatory}
 use Rattle.guard_model.specs.AbstractType as type
 use Rattle.guard_model.specs.AbstractType.{AbstractType, AbstractKind, Components, Constraint, type_of}
 use Rattle.guard_model.specs.TypeView.{OneComponent, components_of, constraints_of}
@@ -25,16 +23,23 @@ use Rattle.derguard.specs.declared.guard_schema.constraints.ConsFault.TheVariant
 use Rattle.derguard.specs.declared.guard_schema.values.ValueFault.TheVariants.{TooLarge}
 use Rattle.derguard.specs.SchemaConstraints.{ends_of_ranges, ends, ends_inside, ends_of_components, first_too_large, constraint_fault}
 use Rattle.derguard.specs.Schemas.{AbstractSchema, denoted_definition, denoted_schema}
-use Rattle.derguard.specs.SchemaFaults.{name_fault, definition_fault, definitions_fault, module_fault}
+use Rattle.derguard.specs.SchemaFaults.{name_fault, definition_fault, definitions_fault, faults_of_module}
 use Rattle.derguard.specs.SchemaFirst.{or_else}
 use Rattle.derguard.specs.SchemaNames.{repeated, component_names, assigned_names, HasTextNames, HasTextNamesInside, HaveTextNames, AssignTextNames}
-use Rattle.derguard.specs.SchemaTypes.{number_of, denoted_range, tag_of, denoted, denoted_kind, denoted_components}
-use Rattle.derguard.specs.SchemaTagging.{nodes, nodes_inside, nodes_of_components, most_components, most_nesting, most_nodes, fault_where, node_fault, fault_at, first_fault, tag_fault}
+use Rattle.derguard.specs.SchemaTypes.{number_of, denoted_range, denoted_ranges, universal, plain_number, collection_number, plain_kind, structure_kind, of_kind, presence_of, tags_of, denoted, denoted_kind, denoted_components}
+use Rattle.derguard.specs.SchemaTagging.{nodes, nodes_inside, nodes_of_components, list_of, most_components, most_nesting, most_nodes, fault_where, node_fault, fault_at, first_fault, tag_fault}
+use Rattle.guard_tagcheck.specs.Distinct.{AbstractClash}
+use Rattle.guard_tagcheck.specs.Search.{first_clash}
+use Rattle.guard_syntax.specs.declared.tree.PlainType.{PlainType}
+use Rattle.guard_syntax.specs.declared.tree.PlainType.TheVariants as plain_type
+use Rattle.guard_syntax.specs.declared.tree.Collection.{Collection}
+use Rattle.guard_syntax.specs.declared.tree.Collection.TheVariants as collection
+use Rattle.derguard.proofs.SchemaBare.{bare, bare_kind, bare_components, clash_bare}
 use Rattle.derguard.proofs.SchemaLoops.{deeper}
-use Rattle.derguard.specs.SchemaReading.{text_octets, list_result, check_components_list, check_list, check_size, check_node, check_type, check_base, check_components, read_range, in_schema, read_ranges, build_type, build_base, build_components, read_definition, read_definitions, assigned_result, check_assigned, read_module}
+use Rattle.derguard.specs.SchemaReading.{text_octets, list_result, check_components_list, check_list, check_size, check_node, check_type, check_base, check_components, read_range, in_schema, read_ranges, read_behind, clash_result, check_clash, build_type, build_base, build_components, read_definition, read_definitions, assigned_result, check_assigned, read_module}
 
 -- where no tag fault stands
-abbrev pub tag_result : {A : Type 0} → Option TagFault → A → Result A SchemaFault
+abbrev pub tag_result : {A : Type 0} → Option TagFault → A → Result A AbstractFault
 tag_result None x = Ok x
 tag_result (Some f) x = Err (Tag f)
 
@@ -71,10 +76,13 @@ check_size-is site parts = size_cases (ltb most_nesting (suc parts.nesting)) (lt
 
 check_node-is : (site : Site) (base : BasicBase) (parts : Checked) → check_node site base parts ≡ tag_result (node_fault site base (suc parts.nesting) (suc parts.nodes)) (with_whole parts)
 unfolding check_node check_list check_components_list
-check_node-is site boolean parts = check_size-is site parts
-check_node-is site integer parts = check_size-is site parts
-check_node-is site (sequence cs) parts =
+check_node-is site (plain p) parts = check_size-is site parts
+check_node-is site (integer rs) parts = check_size-is site parts
+check_node-is site (structure k cs) parts =
     rw (check_size-is site parts) (list_cases site (repeated (component_names cs)) (ltb most_components (count (denoted_components cs))) (size_fault site parts) (with_whole parts))
+check_node-is site (choice cs) parts =
+    rw (check_size-is site parts) (list_cases site (repeated (component_names cs)) (ltb most_components (count (denoted_components cs))) (size_fault site parts) (with_whole parts))
+check_node-is site (of_type k t) parts = check_size-is site parts
 
 pub first_fault-append : (before : ℕ) (xs ys : List BasicType) → first_fault before (xs ++ ys) ≡ or_else (first_fault before xs) (first_fault (before + length xs) ys)
 first_fault-append before [] ys = ap (λ (n : ℕ). first_fault n ys) (omega arith)
@@ -86,7 +94,7 @@ first_fault-append before (x ∷ xs) ys =
 length-append' : (xs ys : List BasicType) → length (xs ++ ys) ≡ length xs + length ys
 length-append' xs ys = simp length-append
 
-abbrev counted : ℕ → ℕ → ℕ → Checked
+abbrev pub counted : ℕ → ℕ → ℕ → Checked
 counted before more depth = record { nodes = before + more; nesting = depth }
 
 -- a step that may be at fault, and then the whole of which it is a part
@@ -95,7 +103,7 @@ node_after : (parts_fault : Option TagFault) (site : Site) (base : BasicBase) (p
 node_after None site base parts = check_node-is site base parts
 node_after (Some f) site base parts = refl
 
-bind_tag : (first : Option TagFault) (one : Checked) (k : Checked → Result Checked SchemaFault) → (tag_result first one >>= k) ≡ (tag_result first one >>= λ _. k one)
+bind_tag : (first : Option TagFault) (one : Checked) (k : Checked → Result Checked AbstractFault) → (tag_result first one >>= k) ≡ (tag_result first one >>= λ _. k one)
 bind_tag None one k = refl
 bind_tag (Some f) one k = refl
 
@@ -105,48 +113,80 @@ both None None one more = refl
 both None (Some f) one more = refl
 both (Some f) others one more = refl
 
+-- the greatest nesting of a part
+abbrev parts_nesting : BasicBase → ℕ
+parts_nesting (plain p) = 0
+parts_nesting (integer rs) = 0
+parts_nesting (structure k cs) = deepest (denoted_components cs)
+parts_nesting (choice cs) = deepest (denoted_components cs)
+parts_nesting (of_type k t) = nesting (denoted t)
+
+plain_nesting : (p : PlainType) → nesting_inside (plain_kind p) ≡ 0
+plain_nesting plain_type.Boolean = refl
+plain_nesting plain_type.BitString = refl
+plain_nesting plain_type.OctetString = refl
+plain_nesting plain_type.Null = refl
+plain_nesting plain_type.ObjectIdentifier = refl
+plain_nesting plain_type.Utf8String = refl
+plain_nesting plain_type.NumericString = refl
+plain_nesting plain_type.PrintableString = refl
+plain_nesting plain_type.Ia5String = refl
+plain_nesting plain_type.VisibleString = refl
+
+-- a type takes one level
+one_level : (site : Site) (base : BasicBase) → suc (parts_nesting base) ≡ nesting (denoted (type_node site base))
+one_level site (plain p) = ap (λ (n : ℕ). 1 + n) (sym (plain_nesting p))
+one_level site (integer rs) = omega arith
+one_level site (structure collection.Sequence cs) = omega arith
+one_level site (structure collection.Set cs) = omega arith
+one_level site (choice cs) = omega arith
+one_level site (of_type collection.Sequence t) = omega arith
+one_level site (of_type collection.Set t) = omega arith
+
 mutual
   unfolding check_type check_base check_components
 
   pub check_type-is : (before : ℕ) (t : BasicType) → check_type before t ≡ tag_result (tag_fault before t) (counted before (length (nodes t)) (nesting (denoted t)))
-  check_type-is before (type_node site base ranges) =
-      let here : BasicType = type_node site base ranges in
+  check_type-is before (type_node site base) =
+      let here : BasicType = type_node site base in
       let inside : ℕ = length (nodes_inside base) in
-      let depth : ℕ = nesting_inside (denoted_kind base) in
-      let deep : suc depth ≡ nesting (denoted here) = omega arith in
+      let depth : ℕ = parts_nesting base in
+      let deep : suc depth ≡ nesting (denoted here) = one_level site base in
       let long : suc (before + inside) ≡ before + length (nodes_inside base ++ here ∷ []) = omega (arith, length-append' (nodes_inside base) (here ∷ [])) in
       let fault : or_else (first_fault before (nodes_inside base)) (node_fault site base (suc depth) (suc (before + inside))) ≡ first_fault before (nodes_inside base ++ here ∷ []) =
       ap (λ (n : ℕ). or_else (first_fault before (nodes_inside base)) (node_fault site base n (suc (before + inside)))) deep
       ∙ ap (λ (o : Option TagFault). or_else (first_fault before (nodes_inside base)) o) (sym (or_else-none (fault_at (before + inside) here)))
       ∙ sym (first_fault-append before (nodes_inside base) (here ∷ [])) in
-      ap (λ (r : Result Checked SchemaFault). r >>= λ p. check_node site base p) (check_base-is before base)
+      ap (λ (r : Result Checked AbstractFault). r >>= λ p. check_node site base p) (check_base-is before base)
       ∙ node_after (first_fault before (nodes_inside base)) site base (counted before inside depth)
       ∙ (λ i. tag_result (fault i) (record { nodes = long i; nesting = deep i }))
 
-  pub check_base-is : (before : ℕ) (base : BasicBase) → check_base before base ≡ tag_result (first_fault before (nodes_inside base)) (counted before (length (nodes_inside base)) (nesting_inside (denoted_kind base)))
-  check_base-is before boolean = ap (λ (n : ℕ). Ok (record { nodes = n; nesting = 0 })) (omega arith)
-  check_base-is before integer = ap (λ (n : ℕ). Ok (record { nodes = n; nesting = 0 })) (omega arith)
-  check_base-is before (sequence cs) = check_components-is before cs
+  pub check_base-is : (before : ℕ) (base : BasicBase) → check_base before base ≡ tag_result (first_fault before (nodes_inside base)) (counted before (length (nodes_inside base)) (parts_nesting base))
+  check_base-is before (plain p) = ap (λ (n : ℕ). Ok (record { nodes = n; nesting = 0 })) (omega arith)
+  check_base-is before (integer rs) = ap (λ (n : ℕ). Ok (record { nodes = n; nesting = 0 })) (omega arith)
+  check_base-is before (structure k cs) = check_components-is before cs
+  check_base-is before (choice cs) = check_components-is before cs
+  check_base-is before (of_type k t) = check_type-is before t
 
   pub check_components-is : (before : ℕ) (cs : BasicComponents) → check_components before cs ≡ tag_result (first_fault before (nodes_of_components cs)) (counted before (length (nodes_of_components cs)) (deepest (denoted_components cs)))
   check_components-is before no_components = ap (λ (n : ℕ). Ok (record { nodes = n; nesting = 0 })) (omega arith)
-  check_components-is before (component site name ty others) =
+  check_components-is before (component site name ty optional others) =
       let first : Option TagFault = tag_fault before ty in
       let one : Checked = counted before (length (nodes ty)) (nesting (denoted ty)) in
       let rest : Option TagFault = first_fault one.nodes (nodes_of_components others) in
       let more : Checked = counted one.nodes (length (nodes_of_components others)) (deepest (denoted_components others)) in
       let long : more.nodes ≡ before + length (nodes ty ++ nodes_of_components others) = omega (arith, length-append' (nodes ty) (nodes_of_components others)) in
       let fault : or_else first rest ≡ first_fault before (nodes ty ++ nodes_of_components others) = sym (first_fault-append before (nodes ty) (nodes_of_components others)) in
-      let beyond : Checked → Result Checked SchemaFault = λ c. deeper c.nesting (check_components c.nodes others) in
-      ap (λ (r : Result Checked SchemaFault). r >>= beyond) (check_type-is before ty)
+      let beyond : Checked → Result Checked AbstractFault = λ c. deeper c.nesting (check_components c.nodes others) in
+      ap (λ (r : Result Checked AbstractFault). r >>= beyond) (check_type-is before ty)
       ∙ bind_tag first one beyond
-      ∙ ap (λ (r : Result Checked SchemaFault). tag_result first one >>= λ _. deeper one.nesting r) (check_components-is one.nodes others)
+      ∙ ap (λ (r : Result Checked AbstractFault). tag_result first one >>= λ _. deeper one.nesting r) (check_components-is one.nodes others)
       ∙ both first rest one more
       ∙ (λ i. tag_result (fault i) (record { nodes = long i; nesting = max (nesting (denoted ty)) (deepest (denoted_components others)) }))
 
 -- ---- constraints
 -- where no constraint fault stands
-abbrev pub cons_result : {A : Type 0} → Option ConsFault → A → Result A SchemaFault
+abbrev pub cons_result : {A : Type 0} → Option ConsFault → A → Result A AbstractFault
 cons_result None x = Ok x
 cons_result (Some f) x = Err (Cons f)
 
@@ -183,19 +223,19 @@ pub read_ranges-is : (rs : List BasicRange) → read_ranges rs ≡ cons_result (
 unfolding read_ranges
 read_ranges-is [] = refl
 read_ranges-is (r ∷ rs) =
-    let step : Result Constraint SchemaFault → Result (List Constraint) SchemaFault → Result (List Constraint) SchemaFault = λ p q. p >>= λ one. q >>= λ others. Ok (one ∷ others) in
+    let step : Result Constraint AbstractFault → Result (List Constraint) AbstractFault → Result (List Constraint) AbstractFault = λ p q. p >>= λ one. q >>= λ others. Ok (one ∷ others) in
     (λ i. step (read_range-is r i) (read_ranges-is rs i))
     ∙ in_turn (first_too_large (ends_of_range r)) (first_too_large (ends_of_ranges rs)) (denoted_range r) (map denoted_range rs) (λ one others. one ∷ others)
     ∙ ap (λ (o : Option ConsFault). cons_result o (map denoted_range (r ∷ rs))) (sym (first_too_large-append (ends_of_range r) (ends_of_ranges rs)))
 
 -- ---- types
-abbrev one_components : BasicComponents → List OneComponent
-one_components no_components = []
-one_components (component site name ty others) = record { name = name; ty = denoted ty; presence = Mandatory } ∷ one_components others
+abbrev listed : Components → List OneComponent
+listed type.no_components = []
+listed (type.component name t presence rest) = record { name = name; ty = t; presence = presence } ∷ listed rest
 
-one_components-are : (cs : BasicComponents) → components_of (one_components cs) ≡ denoted_components cs
-one_components-are no_components = refl
-one_components-are (component site name ty others) = ap (λ (rest : Components). type.component name (denoted ty) Mandatory rest) (one_components-are others)
+listed-are : (cs : Components) → components_of (listed cs) ≡ cs
+listed-are type.no_components = refl
+listed-are (type.component name t presence rest) = ap (λ (others : Components). type.component name t presence others) (listed-are rest)
 
 -- nothing is lost of a text
 kept : (name : List ℕ) → IsUtf8 name → text_octets name ≡ name
@@ -206,37 +246,96 @@ in_place : {A B : Type 0} (fault : Option ConsFault) (x : A) (f : A → B) → (
 in_place None x f = refl
 in_place (Some o) x f = refl
 
+in_twice : {A B C : Type 0} (fault : Option ConsFault) (x : A) (f : A → B) (g : B → C) → ((cons_result fault x >>= λ a. Ok (f a)) >>= λ b. Ok (g b)) ≡ cons_result fault (g (f x))
+in_twice None x f g = refl
+in_twice (Some o) x f g = refl
+
 mutual
   unfolding build_type build_base build_components
 
-  pub build_type-is : (t : BasicType) → HasTextNames t → build_type t ≡ cons_result (constraint_fault t) (denoted t)
-  build_type-is (type_node site base ranges) texts =
-      let make : AbstractKind → List Constraint → AbstractType = λ kind cons. type_of (tag_of base ∷ []) kind (constraints_of cons) in
-      let step : Result AbstractKind SchemaFault → Result (List Constraint) SchemaFault → Result AbstractType SchemaFault = λ p q. p >>= λ kind. q >>= λ cons. Ok (make kind cons) in
-      (λ i. step (build_base-is base texts i) (read_ranges-is ranges i))
-      ∙ in_turn (first_too_large (ends_inside base)) (first_too_large (ends_of_ranges ranges)) (denoted_kind base) (map denoted_range ranges) make
-      ∙ ap (λ (o : Option ConsFault). cons_result o (denoted (type_node site base ranges))) (sym (first_too_large-append (ends_inside base) (ends_of_ranges ranges)))
+  pub build_type-is : (t : BasicType) → HasTextNames t → build_type true t ≡ cons_result (constraint_fault t) (denoted t)
+  build_type-is (type_node site (plain p)) texts = refl
+  build_type-is (type_node site (integer rs)) texts =
+      ap (λ (r : Result (List Constraint) AbstractFault). r >>= λ cons. Ok (type_of (universal 2) (type.integer []) (constraints_of cons))) (read_ranges-is rs)
+      ∙ in_place (first_too_large (ends_of_ranges rs)) (map denoted_range rs) (λ cons. type_of (universal 2) (type.integer []) (constraints_of cons))
+  build_type-is (type_node site (structure k cs)) texts =
+      let make : Components → AbstractType = λ parts. type_of (universal (collection_number k)) (structure_kind k parts) type.no_constraints in
+      ap (λ (r : Result (List OneComponent) AbstractFault). (r >>= λ parts. Ok (structure_kind k (components_of parts))) >>= λ kind. Ok (type_of (universal (collection_number k)) kind type.no_constraints)) (build_components-is cs texts)
+      ∙ in_twice (first_too_large (ends_of_components cs)) (listed (denoted_components cs)) (λ parts. structure_kind k (components_of parts)) (λ kind. type_of (universal (collection_number k)) kind type.no_constraints)
+      ∙ ap (λ (parts : Components). cons_result (first_too_large (ends_of_components cs)) (make parts)) (listed-are (denoted_components cs))
+  build_type-is (type_node site (choice cs)) texts =
+      let make : Components → AbstractType = λ parts. type_of [] (type.choice parts) type.no_constraints in
+      ap (λ (r : Result (List OneComponent) AbstractFault). (r >>= λ parts. Ok (type.choice (components_of parts))) >>= λ kind. Ok (type_of [] kind type.no_constraints)) (build_components-is cs texts)
+      ∙ in_twice (first_too_large (ends_of_components cs)) (listed (denoted_components cs)) (λ parts. type.choice (components_of parts)) (λ kind. type_of [] kind type.no_constraints)
+      ∙ ap (λ (parts : Components). cons_result (first_too_large (ends_of_components cs)) (make parts)) (listed-are (denoted_components cs))
+  build_type-is (type_node site (of_type k t)) texts =
+      ap (λ (r : Result AbstractType AbstractFault). (r >>= λ one. Ok (of_kind k one)) >>= λ kind. Ok (type_of (universal (collection_number k)) kind type.no_constraints)) (build_type-is t texts)
+      ∙ in_twice (constraint_fault t) (denoted t) (λ one. of_kind k one) (λ kind. type_of (universal (collection_number k)) kind type.no_constraints)
 
-  pub build_base-is : (base : BasicBase) → HasTextNamesInside base → build_base base ≡ cons_result (first_too_large (ends_inside base)) (denoted_kind base)
-  build_base-is boolean texts = refl
-  build_base-is integer texts = refl
-  build_base-is (sequence cs) texts =
-      ap (λ (r : Result (List OneComponent) SchemaFault). r >>= λ parts. Ok (type.sequence (components_of parts))) (build_components-is cs texts)
-      ∙ in_place (first_too_large (ends_of_components cs)) (one_components cs) (λ parts. type.sequence (components_of parts))
-      ∙ ap (λ (parts : Components). cons_result (first_too_large (ends_of_components cs)) (type.sequence parts)) (one_components-are cs)
-
-  pub build_components-is : (cs : BasicComponents) → HaveTextNames cs → build_components cs ≡ cons_result (first_too_large (ends_of_components cs)) (one_components cs)
+  pub build_components-is : (cs : BasicComponents) → HaveTextNames cs → build_components true cs ≡ cons_result (first_too_large (ends_of_components cs)) (listed (denoted_components cs))
   build_components-is no_components texts = refl
-  build_components-is (component site name ty others) texts =
-      let make : List ℕ → AbstractType → List OneComponent → List OneComponent = λ n one more. record { name = n; ty = one; presence = Mandatory } ∷ more in
-      let step : List ℕ → Result AbstractType SchemaFault → Result (List OneComponent) SchemaFault → Result (List OneComponent) SchemaFault = λ n p q. p >>= λ one. q >>= λ more. Ok (make n one more) in
+  build_components-is (component site name ty optional others) texts =
+      let make : List ℕ → AbstractType → List OneComponent → List OneComponent = λ n one more. record { name = n; ty = one; presence = presence_of optional } ∷ more in
+      let step : List ℕ → Result AbstractType AbstractFault → Result (List OneComponent) AbstractFault → Result (List OneComponent) AbstractFault = λ n p q. p >>= λ one. q >>= λ more. Ok (make n one more) in
       (λ i. step (kept name texts.0 i) (build_type-is ty texts.1 i) (build_components-is others texts.2 i))
-      ∙ in_turn (constraint_fault ty) (first_too_large (ends_of_components others)) (denoted ty) (one_components others) (make name)
-      ∙ ap (λ (o : Option ConsFault). cons_result o (one_components (component site name ty others))) (sym (first_too_large-append (ends ty) (ends_of_components others)))
+      ∙ in_turn (constraint_fault ty) (first_too_large (ends_of_components others)) (denoted ty) (listed (denoted_components others)) (make name)
+      ∙ ap (λ (o : Option ConsFault). cons_result o (listed (denoted_components (component site name ty optional others)))) (sym (first_too_large-append (ends ty) (ends_of_components others)))
+
+-- ---- types without constraints
+plain_bare : (p : PlainType) → bare_kind (plain_kind p) ≡ plain_kind p
+plain_bare plain_type.Boolean = refl
+plain_bare plain_type.BitString = refl
+plain_bare plain_type.OctetString = refl
+plain_bare plain_type.Null = refl
+plain_bare plain_type.ObjectIdentifier = refl
+plain_bare plain_type.Utf8String = refl
+plain_bare plain_type.NumericString = refl
+plain_bare plain_type.PrintableString = refl
+plain_bare plain_type.Ia5String = refl
+plain_bare plain_type.VisibleString = refl
+
+structure_bare : (k : Collection) (cs : Components) → bare_kind (structure_kind k cs) ≡ structure_kind k (bare_components cs)
+structure_bare collection.Sequence cs = refl
+structure_bare collection.Set cs = refl
+
+of_bare : (k : Collection) (t : AbstractType) → bare_kind (of_kind k t) ≡ of_kind k (bare t)
+of_bare collection.Sequence t = refl
+of_bare collection.Set t = refl
+
+abbrev tagged : BasicBase → AbstractKind → Result AbstractType AbstractFault
+tagged base kind = Ok (type_of (tags_of base) kind type.no_constraints)
+
+mutual
+  unfolding build_type build_base build_components
+
+  pub build_bare : (t : BasicType) → HasTextNames t → build_type false t ≡ Ok (bare (denoted t))
+  build_bare (type_node site (plain p)) texts = ap (tagged (plain p)) (sym (plain_bare p))
+  build_bare (type_node site (integer rs)) texts = refl
+  build_bare (type_node site (structure k cs)) texts =
+      ap (λ (r : Result (List OneComponent) AbstractFault). (r >>= λ parts. Ok (structure_kind k (components_of parts))) >>= tagged (structure k cs)) (build_bare_components cs texts)
+      ∙ ap (λ (parts : Components). tagged (structure k cs) (structure_kind k parts)) (listed-are (bare_components (denoted_components cs)))
+      ∙ ap (tagged (structure k cs)) (sym (structure_bare k (denoted_components cs)))
+  build_bare (type_node site (choice cs)) texts =
+      ap (λ (r : Result (List OneComponent) AbstractFault). (r >>= λ parts. Ok (type.choice (components_of parts))) >>= tagged (choice cs)) (build_bare_components cs texts)
+      ∙ ap (λ (parts : Components). tagged (choice cs) (type.choice parts)) (listed-are (bare_components (denoted_components cs)))
+  build_bare (type_node site (of_type k t)) texts =
+      ap (λ (r : Result AbstractType AbstractFault). (r >>= λ one. Ok (of_kind k one)) >>= tagged (of_type k t)) (build_bare t texts)
+      ∙ ap (tagged (of_type k t)) (sym (of_bare k (denoted t)))
+
+  build_bare_components : (cs : BasicComponents) → HaveTextNames cs → build_components false cs ≡ Ok (listed (bare_components (denoted_components cs)))
+  build_bare_components no_components texts = refl
+  build_bare_components (component site name ty optional others) texts =
+      let step : List ℕ → Result AbstractType AbstractFault → Result (List OneComponent) AbstractFault → Result (List OneComponent) AbstractFault = λ n p q. p >>= λ one. q >>= λ more. Ok (record { name = n; ty = one; presence = presence_of optional } ∷ more) in
+      λ i. step (kept name texts.0 i) (build_bare ty texts.1 i) (build_bare_components others texts.2 i)
+
+pub check_clash-is : (site : Site) (t : BasicType) → HasTextNames t → check_clash site t ≡ clash_result site (first_clash (denoted t))
+unfolding check_clash
+check_clash-is site t texts =
+    ap (λ (r : Result AbstractType AbstractFault). r >>= λ found. clash_result site (first_clash found)) (build_bare t texts) ∙ ap (clash_result site) (clash_bare (denoted t))
 
 -- ---- definitions
 -- where no fault stands
-abbrev pub fault_result : {A : Type 0} → Option SchemaFault → A → Result A SchemaFault
+abbrev pub fault_result : {A : Type 0} → Option AbstractFault → A → Result A AbstractFault
 fault_result None x = Ok x
 fault_result (Some f) x = Err f
 
@@ -249,46 +348,48 @@ Counted = (List ℕ × AbstractType) × ℕ
 abbrev counted_definition : List ℕ → Checked → AbstractType → Counted
 counted_definition name c t = ((name, t), c.nodes)
 
-definition_cases : (tag : Option TagFault) (cons : Option ConsFault) (c : Checked) (name : List ℕ) (t : AbstractType)
-    → (tag_result tag c >>= λ d. cons_result cons t >>= λ u. Ok (counted_definition name d u)) ≡ fault_result (or_else (option_map (λ f. Tag f) tag) (option_map (λ f. Cons f) cons)) (counted_definition name c t)
-definition_cases None None c name t = refl
-definition_cases None (Some f) c name t = refl
-definition_cases (Some f) cons c name t = refl
+definition_cases : (tag : Option TagFault) (site : Site) (clash : Option AbstractClash) (cons : Option ConsFault) (c : Checked) (name : List ℕ) (t : AbstractType)
+    → (tag_result tag c >>= λ d. clash_result site clash >>= λ _. cons_result cons t >>= λ u. Ok (counted_definition name d u))
+    ≡ fault_result (or_else (option_map (λ f. Tag f) tag) (or_else (option_map (λ x. Clash site x) clash) (option_map (λ f. Cons f) cons))) (counted_definition name c t)
+definition_cases None site None None c name t = refl
+definition_cases None site None (Some f) c name t = refl
+definition_cases None site (Some x) cons c name t = refl
+definition_cases (Some f) site clash cons c name t = refl
 
 abbrev with_count : ℕ → BasicAssignment → Counted
 with_count before a = (denoted_definition a, before + length (nodes a.ty))
 
-read_definition-is : (before : ℕ) (a : BasicAssignment) → IsUtf8 a.name → HasTextNames a.ty → read_definition before a ≡ fault_result (definition_fault before a) (with_count before a)
+read_definition-is : (before : ℕ) (a : BasicAssignment) → IsUtf8 a.name → HasTextNames a.ty → read_definition before a ≡ fault_result (definition_fault first_clash before a) (with_count before a)
 unfolding read_definition
 read_definition-is before a text texts =
-    let step : List ℕ → Result Checked SchemaFault → Result AbstractType SchemaFault → Result Counted SchemaFault = λ n p q. p >>= λ c. q >>= λ t. Ok (counted_definition n c t) in
-    (λ i. step (kept a.name text i) (check_type-is before a.ty i) (build_type-is a.ty texts i))
-    ∙ definition_cases (tag_fault before a.ty) (constraint_fault a.ty) (counted before (length (nodes a.ty)) (nesting (denoted a.ty))) a.name (denoted a.ty)
+    let step : List ℕ → Result Checked AbstractFault → Result (Unit {0}) AbstractFault → Result AbstractType AbstractFault → Result Counted AbstractFault = λ n p q r. p >>= λ c. q >>= λ _. r >>= λ t. Ok (counted_definition n c t) in
+    (λ i. step (kept a.name text i) (check_type-is before a.ty i) (check_clash-is a.site a.ty texts i) (build_type-is a.ty texts i))
+    ∙ definition_cases (tag_fault before a.ty) a.site (first_clash (denoted a.ty)) (constraint_fault a.ty) (counted before (length (nodes a.ty)) (nesting (denoted a.ty))) a.name (denoted a.ty)
 
-definitions_cases : (first others : Option SchemaFault) (one : Counted) (more : List (List ℕ × AbstractType))
+definitions_cases : (first others : Option AbstractFault) (one : Counted) (more : List (List ℕ × AbstractType))
     → (fault_result first one >>= λ x. fault_result others more >>= λ xs. Ok (x.0 ∷ xs)) ≡ fault_result (or_else first others) (one.0 ∷ more)
 definitions_cases None None one more = refl
 definitions_cases None (Some f) one more = refl
 definitions_cases (Some f) others one more = refl
 
-after_definition : (first : Option SchemaFault) (one : Counted) (rest : ℕ → Result (List (List ℕ × AbstractType)) SchemaFault)
+after_definition : (first : Option AbstractFault) (one : Counted) (rest : ℕ → Result (List (List ℕ × AbstractType)) AbstractFault)
     → (fault_result first one >>= λ x. rest x.1 >>= λ xs. Ok (x.0 ∷ xs)) ≡ (fault_result first one >>= λ x. rest one.1 >>= λ xs. Ok (x.0 ∷ xs))
 after_definition None one rest = refl
 after_definition (Some f) one rest = refl
 
-pub read_definitions-is : (before : ℕ) (assigned : List BasicAssignment) → AssignTextNames assigned → read_definitions before assigned ≡ fault_result (definitions_fault before assigned) (map denoted_definition assigned)
+pub read_definitions-is : (before : ℕ) (assigned : List BasicAssignment) → AssignTextNames assigned → read_definitions before assigned ≡ fault_result (definitions_fault first_clash before assigned) (map denoted_definition assigned)
 unfolding read_definitions
 read_definitions-is before [] texts = refl
 read_definitions-is before (a ∷ others) texts =
     let one : Counted = with_count before a in
-    let first : Option SchemaFault = definition_fault before a in
-    ap (λ (r : Result Counted SchemaFault). r >>= λ x. read_definitions x.1 others >>= λ xs. Ok (x.0 ∷ xs)) (read_definition-is before a texts.0 texts.1)
+    let first : Option AbstractFault = definition_fault first_clash before a in
+    ap (λ (r : Result Counted AbstractFault). r >>= λ x. read_definitions x.1 others >>= λ xs. Ok (x.0 ∷ xs)) (read_definition-is before a texts.0 texts.1)
     ∙ after_definition first one (λ n. read_definitions n others)
-    ∙ ap (λ (r : Result (List (List ℕ × AbstractType)) SchemaFault). fault_result first one >>= λ x. r >>= λ xs. Ok (x.0 ∷ xs)) (read_definitions-is one.1 others texts.2)
-    ∙ definitions_cases first (definitions_fault one.1 others) one (map denoted_definition others)
+    ∙ ap (λ (r : Result (List (List ℕ × AbstractType)) AbstractFault). fault_result first one >>= λ x. r >>= λ xs. Ok (x.0 ∷ xs)) (read_definitions-is one.1 others texts.2)
+    ∙ definitions_cases first (definitions_fault first_clash one.1 others) one (map denoted_definition others)
 
 -- ---- modules
-module_cases : (names definitions : Option SchemaFault) (name : List ℕ) (types : List (List ℕ × AbstractType))
+module_cases : (names definitions : Option AbstractFault) (name : List ℕ) (types : List (List ℕ × AbstractType))
     → (fault_result {A = Unit {0}} names tt >>= λ _. fault_result definitions types >>= λ ts. Ok (one_module name ts)) ≡ fault_result (or_else names definitions) (one_module name types)
 module_cases None None name types = refl
 module_cases None (Some f) name types = refl
@@ -299,9 +400,9 @@ assigned_cases None = refl
 assigned_cases (Some site) = refl
 
 -- a module is read exactly where it has no fault, and what is read is what it denotes
-pub read_module-is : (m : BasicModule) → IsUtf8 m.name → AssignTextNames m.assignments → read_module m ≡ fault_result (module_fault m) (denoted_schema m)
+pub read_module-is : (m : BasicModule) → IsUtf8 m.name → AssignTextNames m.assignments → read_module m ≡ fault_result (faults_of_module first_clash m) (denoted_schema m)
 unfolding read_module check_assigned
 read_module-is m text texts =
-    let step : List ℕ → Result (Unit {0}) SchemaFault → Result (List (List ℕ × AbstractType)) SchemaFault → Result AbstractSchema SchemaFault = λ n p q. p >>= λ _. q >>= λ ts. Ok (one_module n ts) in
+    let step : List ℕ → Result (Unit {0}) AbstractFault → Result (List (List ℕ × AbstractType)) AbstractFault → Result AbstractSchema AbstractFault = λ n p q. p >>= λ _. q >>= λ ts. Ok (one_module n ts) in
     (λ i. step (kept m.name text i) (assigned_cases (repeated (assigned_names m.assignments)) i) (read_definitions-is 0 m.assignments texts i))
-    ∙ module_cases (name_fault m.assignments) (definitions_fault 0 m.assignments) m.name (map denoted_definition m.assignments)
+    ∙ module_cases (name_fault m.assignments) (definitions_fault first_clash 0 m.assignments) m.name (map denoted_definition m.assignments)

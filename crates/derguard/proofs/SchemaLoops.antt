@@ -1,18 +1,18 @@
 -- Reading one item after the other, as a loop does.
-use Rattle.std.proofs.Common.{◌≡◌, ℕ, ◌+◌, ◌<◌, ◌≤◌, List, [], ◌∷◌, ◌++◌, max, map, length, get_or, drop, Option, Some, None, Result, Ok, Err, refl, sym, ap, ◌∙◌, append_assoc, arith, add-one}
+use Rattle.std.proofs.Common.{◌≡◌, Bool, ℕ, zero, suc, subst, ◌+◌, ◌<◌, ◌≤◌, List, [], ◌∷◌, ◌++◌, max, map, length, get_or, drop, Option, Some, None, Result, Ok, Err, refl, sym, ap, ◌∙◌, append_assoc, arith, add-one}
 use Rattle.std.proofs.lemmas.List.{append-nil, drop_all}
 use Rattle.std.proofs.Math.Seq.{drop-cons}
 use Rattle.guard_model.specs.Answer.{◌>>=◌, Refuses}
 use Rattle.guard_model.specs.AbstractType.{AbstractType, Constraint}
-use Rattle.guard_model.specs.declared.ty.Presence.TheVariants.{Mandatory}
 use Rattle.guard_model.specs.TypeView.{OneComponent}
 use Rattle.derguard.specs.declared.guard_schema.basic.BasicAssignment.{BasicAssignment}
 use Rattle.derguard.specs.declared.guard_schema.basic.BasicRange.{BasicRange}
 use Rattle.derguard.specs.declared.guard_schema.basic.BasicComp.{BasicComp}
 use Rattle.derguard.specs.SchemaBasic.{components_of}
+use Rattle.derguard.specs.SchemaTypes.{presence_of}
+use Rattle.derguard.specs.SchemaNames.{HasTextNames, AssignTextNames}
 use Rattle.derguard.specs.SchemaViews.{range_view, component_view, type_view, assignment_view}
-use Rattle.derguard.specs.declared.guard_schema.fault.SchemaFault.{SchemaFault}
-use Rattle.derguard.specs.declared.guard_schema.fault.SchemaFault.TheVariants.{Cons}
+use Rattle.derguard.specs.SchemaFaults.{AbstractFault, Cons}
 use Rattle.derguard.specs.declared.guard_schema.constraints.ConsFault.{ConsFault}
 use Rattle.derguard.specs.declared.guard_schema.tagging.Checked.{Checked}
 use Rattle.derguard.specs.SchemaReading.{read_range, read_ranges, check_type, check_components, text_octets, build_type, build_component, build_components, read_definition, read_definitions}
@@ -35,11 +35,11 @@ refused None step f h = tt
 refused (Some fault) (Ok x) f h = absurd cc
 refused (Some fault) (Err e) f h = cc
 
-stopped : {A B : Type 0} (step : Result A SchemaFault) (f : A → B) (fault : SchemaFault) → (step >>= λ x. Ok (f x)) ≡ Err fault → step ≡ Err fault
+stopped : {A B : Type 0} (step : Result A AbstractFault) (f : A → B) (fault : AbstractFault) → (step >>= λ x. Ok (f x)) ≡ Err fault → step ≡ Err fault
 stopped (Ok x) f fault e = absurd cc
 stopped (Err d) f fault e = cc
 
-made : {A B : Type 0} (step : Result A SchemaFault) (f : A → B) (y : B) → (step >>= λ x. Ok (f x)) ≡ Ok y → (x : A) × (step ≡ Ok x) × (f x ≡ y)
+made : {A B : Type 0} (step : Result A AbstractFault) (f : A → B) (y : B) → (step >>= λ x. Ok (f x)) ≡ Ok y → (x : A) × (step ≡ Ok x) × (f x ≡ y)
 made (Ok x) f y e = (x, refl, cc)
 made (Err d) f y e = absurd cc
 
@@ -50,7 +50,7 @@ next_item f xs i d lt = rw (add-one, drop-cons xs i d lt) refl
 pub no_item : {X Y : Type 0} (f : X → Y) (xs : List X) (i : ℕ) → length xs ≤ i → map f (drop i xs) ≡ []
 no_item f xs i le = ap (map f) (drop_all i xs le)
 
-module _ (front : List Constraint) (cs : List BasicRange) (i : ℕ) (total : Result (List Constraint) SchemaFault)
+module _ (front : List Constraint) (cs : List BasicRange) (i : ℕ) (total : Result (List Constraint) AbstractFault)
     (so_far : with_front front (read_ranges (map range_view (drop i cs))) ≡ total) where
   pub constraint_stops : (d : BasicRange) → i < length cs → (f : ConsFault) → read_range (range_view (get_or cs i d)) ≡ Err f → total ≡ Err (Cons f)
   unfolding read_ranges
@@ -72,20 +72,20 @@ module _ (front : List Constraint) (cs : List BasicRange) (i : ℕ) (total : Res
       sym so_far ∙ all
 
 -- beside parts of this nesting
-abbrev pub deeper : ℕ → Result Checked SchemaFault → Result Checked SchemaFault
+abbrev pub deeper : ℕ → Result Checked AbstractFault → Result Checked AbstractFault
 deeper nesting rest = rest >>= λ c. Ok (record { nodes = c.nodes; nesting = max nesting c.nesting })
 
-pub deeper-zero : (rest : Result Checked SchemaFault) → deeper 0 rest ≡ rest
+pub deeper-zero : (rest : Result Checked AbstractFault) → deeper 0 rest ≡ rest
 deeper-zero (Ok c) = ap (λ (n : ℕ). Ok (record { nodes = c.nodes; nesting = n })) (omega arith)
 deeper-zero (Err f) = refl
 
-deeper-deeper : (m n : ℕ) (rest : Result Checked SchemaFault) → deeper m (deeper n rest) ≡ deeper (max m n) rest
+deeper-deeper : (m n : ℕ) (rest : Result Checked AbstractFault) → deeper m (deeper n rest) ≡ deeper (max m n) rest
 deeper-deeper m n (Ok c) = ap (λ (k : ℕ). Ok (record { nodes = c.nodes; nesting = k })) (omega arith)
 deeper-deeper m n (Err f) = refl
 
-module _ (nesting nodes : ℕ) (cs : List BasicComp) (i : ℕ) (total : Result Checked SchemaFault)
+module _ (nesting nodes : ℕ) (cs : List BasicComp) (i : ℕ) (total : Result Checked AbstractFault)
     (so_far : deeper nesting (check_components nodes (components_of (map component_view (drop i cs)))) ≡ total) where
-  pub component_stops : (d x : BasicComp) → i < length cs → x ≡ get_or cs i d → (f : Option SchemaFault) → Refuses f (check_type nodes (type_view x.ty)) → Refuses f total
+  pub component_stops : (d x : BasicComp) → i < length cs → x ≡ get_or cs i d → (f : Option AbstractFault) → Refuses f (check_type nodes (type_view x.ty)) → Refuses f total
   unfolding check_components
   component_stops d x lt is None h = tt
   component_stops d x lt is (Some f) h =
@@ -106,34 +106,34 @@ module _ (nesting nodes : ℕ) (cs : List BasicComp) (i : ℕ) (total : Result C
       rw (no_item component_view cs i le) (ap (λ (n : ℕ). Ok (record { nodes = nodes; nesting = n })) (omega arith)) in
       sym so_far ∙ all
 
-module _ (front : List OneComponent) (cs : List BasicComp) (i : ℕ) (total : Result (List OneComponent) SchemaFault)
-    (so_far : with_front front (build_components (components_of (map component_view (drop i cs)))) ≡ total) where
-  pub part_stops : (d x : BasicComp) → i < length cs → x ≡ get_or cs i d → (f : Option SchemaFault) → Refuses f (build_component x.name.now (type_view x.ty)) → Refuses f total
+module _ (constrained : Bool) (front : List OneComponent) (cs : List BasicComp) (i : ℕ) (total : Result (List OneComponent) AbstractFault)
+    (so_far : with_front front (build_components constrained (components_of (map component_view (drop i cs)))) ≡ total) where
+  pub part_stops : (d x : BasicComp) → i < length cs → x ≡ get_or cs i d → (f : Option AbstractFault) → Refuses f (build_component constrained x.name.now (type_view x.ty) x.optional) → Refuses f total
   unfolding build_components
   part_stops d x lt is None h = tt
   part_stops d x lt is (Some f) h =
-      let e : build_type (type_view x.ty) ≡ Err f = stopped (build_type (type_view x.ty)) (λ t. record { name = text_octets x.name.now; ty = t; presence = Mandatory }) f h in
-      let all : with_front front (build_components (components_of (map component_view (drop i cs)))) ≡ Err f = rw (next_item component_view cs i d lt, ← is, e) refl in
+      let e : build_type constrained (type_view x.ty) ≡ Err f = stopped (build_type constrained (type_view x.ty)) (λ t. record { name = text_octets x.name.now; ty = t; presence = presence_of x.optional }) f h in
+      let all : with_front front (build_components constrained (components_of (map component_view (drop i cs)))) ≡ Err f = rw (next_item component_view cs i d lt, ← is, e) refl in
       sym so_far ∙ all
 
-  pub next_part : (d x : BasicComp) → i < length cs → x ≡ get_or cs i d → (one : OneComponent) → build_component x.name.now (type_view x.ty) ≡ Ok one
-      → with_front (front ++ one ∷ []) (build_components (components_of (map component_view (drop (i + 1) cs)))) ≡ total
+  pub next_part : (d x : BasicComp) → i < length cs → x ≡ get_or cs i d → (one : OneComponent) → build_component constrained x.name.now (type_view x.ty) x.optional ≡ Ok one
+      → with_front (front ++ one ∷ []) (build_components constrained (components_of (map component_view (drop (i + 1) cs)))) ≡ total
   unfolding build_components
   next_part d x lt is one h =
-      let m = made (build_type (type_view x.ty)) (λ t. record { name = text_octets x.name.now; ty = t; presence = Mandatory }) one h in
-      let all : with_front front (build_components (components_of (map component_view (drop i cs)))) ≡ with_front (front ++ one ∷ []) (build_components (components_of (map component_view (drop (i + 1) cs)))) =
-      rw (next_item component_view cs i d lt, ← is, m.1, m.2) (regroup front one (build_components (components_of (map component_view (drop (i + 1) cs))))) in
+      let m = made (build_type constrained (type_view x.ty)) (λ t. record { name = text_octets x.name.now; ty = t; presence = presence_of x.optional }) one h in
+      let all : with_front front (build_components constrained (components_of (map component_view (drop i cs)))) ≡ with_front (front ++ one ∷ []) (build_components constrained (components_of (map component_view (drop (i + 1) cs)))) =
+      rw (next_item component_view cs i d lt, ← is, m.1, m.2) (regroup front one (build_components constrained (components_of (map component_view (drop (i + 1) cs))))) in
       sym all ∙ so_far
 
   pub no_part : length cs ≤ i → total ≡ Ok front
   unfolding build_components
   no_part le =
-      let all : with_front front (build_components (components_of (map component_view (drop i cs)))) ≡ Ok front = rw (no_item component_view cs i le) (ap Ok (append-nil front)) in
+      let all : with_front front (build_components constrained (components_of (map component_view (drop i cs)))) ≡ Ok front = rw (no_item component_view cs i le) (ap Ok (append-nil front)) in
       sym so_far ∙ all
 
-module _ (front : List (List ℕ × AbstractType)) (nodes : ℕ) (rest : List BasicAssignment) (i : ℕ) (total : Result (List (List ℕ × AbstractType)) SchemaFault)
+module _ (front : List (List ℕ × AbstractType)) (nodes : ℕ) (rest : List BasicAssignment) (i : ℕ) (total : Result (List (List ℕ × AbstractType)) AbstractFault)
     (so_far : with_front front (read_definitions nodes (map assignment_view (drop i rest))) ≡ total) where
-  pub definition_stops : (d x : BasicAssignment) → i < length rest → x ≡ get_or rest i d → (f : Option SchemaFault) → Refuses f (read_definition nodes (assignment_view x)) → Refuses f total
+  pub definition_stops : (d x : BasicAssignment) → i < length rest → x ≡ get_or rest i d → (f : Option AbstractFault) → Refuses f (read_definition nodes (assignment_view x)) → Refuses f total
   unfolding read_definitions
   definition_stops d x lt is None h = tt
   definition_stops d x lt is (Some f) h =
@@ -153,3 +153,9 @@ module _ (front : List (List ℕ × AbstractType)) (nodes : ℕ) (rest : List Ba
   no_definition le =
       let all : with_front front (read_definitions nodes (map assignment_view (drop i rest))) ≡ Ok front = rw (no_item assignment_view rest i le) (ap Ok (append-nil front)) in
       sym so_far ∙ all
+
+-- the names in one of several assignments are texts
+pub texts_at : (rest : List BasicAssignment) (i : ℕ) (d x : BasicAssignment) → i < length rest → x ≡ get_or rest i d → AssignTextNames (map assignment_view rest) → HasTextNames (type_view x.ty)
+texts_at [] i d x lt is h = absurd (omega (arith, lt))
+texts_at (a ∷ rest) zero d x lt is h = subst (λ (y : BasicAssignment). HasTextNames (type_view y.ty)) (sym is) h.1
+texts_at (a ∷ rest) (suc i) d x lt is h = texts_at rest i d x (omega (arith, lt)) is h.2

@@ -19,13 +19,17 @@ use Rattle.derguard.specs.declared.guard_schema.fault.SchemaFault.{SchemaFault}
 use Rattle.derguard.specs.declared.guard_schema.schema.Schema.{Schema}
 use Rattle.derguard.specs.SchemaBasic.{BasicModule}
 use Rattle.derguard.specs.SchemaForms.{basic_module}
-use Rattle.derguard.specs.SchemaFaults.{named, lex_fault, syntax_fault, form_named, form_fault, module_fault}
+use Rattle.derguard.specs.SchemaFaults.{named, lex_fault, syntax_fault, form_named, form_fault, FindsClashes, faults_of_module}
 use Rattle.derguard.specs.Schemas.{AbstractSchema, denoted_schema}
 use Rattle.derguard.specs.SchemaAccepts.{IsModuleText, Accepts}
 use Rattle.derguard.specs.SchemaReading.{read_module}
 use Rattle.derguard.specs.SchemaView.{schema_view}
 use Rattle.derguard.proofs.SchemaLaws.{fault_result}
-use Rattle.derguard.proofs.SchemaBuild.{reads}
+use Rattle.guard_tagcheck.specs.Distinct.{AbstractClash}
+use Rattle.guard_tagcheck.specs.Search.{first_clash}
+use Rattle.guard_model.specs.AbstractType.{AbstractType}
+use Rattle.derguard.specs.SchemaFaults.{AbstractFault}
+use Rattle.derguard.proofs.SchemaBuild.{reads, one_finder}
 
 both_ok : {A F : Type 0} (x y : A) → ◌≡◌ {A = Result A F} (Ok x) (Ok y) → x ≡ y
 both_ok x y e = cc
@@ -74,7 +78,7 @@ module _ (text : List ℕ) (s : AbstractSchema) (tokens : List Token) (one_lexin
     pub built_only : IsModuleText text tokens tree → AreSpans text tokens → (m : BasicModule) → basic_module tokens tree ≡ Ok m → (r : Result Schema SchemaFault) → Gives schema_view named r (read_module m) → Gives schema_view named r (Ok s)
     built_only is spans m e r h =
         let same : a.0 ≡ m = both_ok a.0 m (sym made ∙ e) in
-        let none : module_fault m ≡ None = ap module_fault (sym same) ∙ a.2 in
+        let none : faults_of_module first_clash m ≡ None = (λ i. faults_of_module (sym (one_finder a.2.0 a.2.1) i) (sym same i)) ∙ a.2.2 in
         let denotes : denoted_schema m ≡ s = ap denoted_schema (sym same) ∙ sym a.3 in
         let answer : read_module m ≡ Ok s = reads text tokens tree is spans m e ∙ (λ i. fault_result (none i) (denotes i)) in
-        subst (λ (x : Result AbstractSchema SchemaFault). Gives schema_view named r x) answer h
+        subst (λ (x : Result AbstractSchema AbstractFault). Gives schema_view named r x) answer h

@@ -1,5 +1,17 @@
 -- Each definition of a schema has a sound type.
-use Rattle.std.proofs.Common.{◌≡◌, ℕ, ◌<◌, List, length, get_or, map, ap, sym, ◌∙◌, subst}
+use Rattle.std.proofs.Common.{◌≡◌, ℕ, ◌<◌, false, List, length, get_or, map, Option, Some, None, Result, Ok, refl, ap, sym, ◌∙◌, subst}
+use Rattle.guard_tagcheck.specs.Limits.{nesting, is_within_limits}
+use Rattle.derguard.specs.declared.guard_schema.tagging.Checked.{Checked}
+use Rattle.derguard.specs.declared.guard_schema.tagging.TagFault.{TagFault}
+use Rattle.derguard.specs.SchemaBasic.{BasicType}
+use Rattle.derguard.specs.SchemaFaults.{AbstractFault}
+use Rattle.derguard.specs.SchemaNames.{HasTextNames}
+use Rattle.derguard.specs.SchemaTypes.{denoted}
+use Rattle.derguard.specs.SchemaTagging.{nodes, tag_fault}
+use Rattle.derguard.specs.SchemaReading.{check_type, build_type}
+use Rattle.derguard.proofs.SchemaBare.{bare, within_bare}
+use Rattle.derguard.proofs.SchemaLaws.{tag_result, counted, check_type-is, build_bare}
+use Rattle.derguard.proofs.SchemaSound.{within}
 use Rattle.std.specs.Prelude.{IsTrue}
 use Rattle.std.proofs.Math.ListN.{get_or-map}
 use Rattle.std.proofs.lemmas.List.{length-map}
@@ -17,3 +29,19 @@ sound_at definitions i d lt is all =
     let P : List ℕ × AbstractType → Type 0 = λ x. IsTrue (is_sound x.1) in
     subst P (get_or-map definition_view definitions i d ∙ ap definition_view (sym is))
     (All-get_or P (map definition_view definitions) i (definition_view d) (rw (length-map definitions definition_view) lt) all.sound)
+
+no_fault : (o : Option TagFault) (c d : Checked) → tag_result o c ≡ Ok d → o ≡ None
+no_fault None c d e = refl
+no_fault (Some f) c d e = absurd cc
+
+-- a type that was checked keeps the limits that the check of tags needs
+pub within_checked : (before : ℕ) (t : BasicType) (c : Checked) → check_type before t ≡ Ok c → IsTrue (is_within_limits (denoted t))
+within_checked before t c e = within before t (no_fault (tag_fault before t) (counted before (length (nodes t)) (nesting (denoted t))) c (sym (check_type-is before t) ∙ e))
+
+same_ok : (t u : AbstractType) → ◌≡◌ {A = Result AbstractType AbstractFault} (Ok t) (Ok u) → t ≡ u
+same_ok t u e = cc
+
+-- and so does the type without its constraints
+pub within_bare_type : (t : BasicType) (u : AbstractType) → HasTextNames t → IsTrue (is_within_limits (denoted t)) → build_type false t ≡ Ok u → IsTrue (is_within_limits u)
+within_bare_type t u texts limits e =
+    subst (λ (x : AbstractType). IsTrue (is_within_limits x)) (same_ok (bare (denoted t)) u (sym (build_bare t texts) ∙ e)) (subst IsTrue (sym (within_bare (denoted t))) limits)

@@ -20,14 +20,14 @@ use Rattle.guard_syntax.specs.declared.tree.PlainType.{PlainType}
 use Rattle.guard_syntax.specs.declared.tree.PlainType.TheVariants as plain_type
 use Rattle.guard_syntax.specs.declared.tree.Collection.TheVariants as collection
 use Rattle.guard_syntax.specs.Lexemes.{Lexeme, word, mark, upper_name, lower_name, number, character_string, bit_string, hexadecimal_string, unsupported, lexeme_of, octets_of, lexemes_of}
-use Rattle.guard_syntax.specs.Trees.{WrittenNumber, WrittenValue, WrittenEndForm, end_integer, end_reference, end_characters, WrittenEnd, WrittenRange, WrittenSetForm, all_except, union, none_united, united, WrittenIntersection, intersection, none_met, met, WrittenDifference, element_alone, element_except, WrittenElement, element_node, WrittenElementForm, parentheses, value, contained, range, size, from, with_component, with_components, set_node, WrittenConstraint, constraint, WrittenTag, WrittenNamed, WrittenPresence, mandatory, optional, default, WrittenType, type_node, WrittenBase, plain, numbers, enumerated, structure, choice, of_type, named_type, WrittenComponents, no_components, component, components_from, WrittenIdentifierPart, bare_name, arc_part, WrittenExports, all_exported, exported, WrittenImport, WrittenAssignment, WrittenModule}
-use Rattle.guard_syntax.specs.TokensOf.{each_then, perhaps_then, if_there_then, number_then, arc_form_then, end_form_then, end_or_then, range_then, set_form_then, intersection_then, difference_then, element_then, element_form_then, constraint_then, tag_then, numbers_then, plain_then, presence_then, components_comma, type_then, base_then, components_then, identifier_part_then, identifier_then, tag_default_then, exports_then, imports_then, assigned_then, assignment_then, tokens_of}
+use Rattle.guard_syntax.specs.Trees.{WrittenNumber, WrittenValue, WrittenEndForm, end_integer, end_reference, end_characters, WrittenEnd, WrittenRange, WrittenSetForm, all_except, union, none_united, united, WrittenIntersection, intersection, none_met, met, WrittenDifference, element_alone, element_except, WrittenElement, element_node, WrittenElementForm, parentheses, value, contained, range, size, from, with_component, with_components, set_node, WrittenConstraint, constraint, WrittenTag, WrittenNamed, WrittenPresence, mandatory, optional, default, WrittenType, type_node, WrittenBase, plain, numbers, enumerated, structure, choice, of_type, named_type, WrittenComponents, no_components, component, components_from, WrittenAlternatives, no_alternatives, alternative, WrittenIdentifierPart, bare_name, arc_part, WrittenExports, all_exported, exported, WrittenImport, WrittenAssignment, WrittenModule}
+use Rattle.guard_syntax.specs.TokensOf.{each_then, perhaps_then, if_there_then, number_then, arc_form_then, end_form_then, end_or_then, range_then, set_form_then, intersection_then, difference_then, element_then, element_form_then, constraint_then, tag_then, numbers_then, plain_then, alternatives_comma, alternatives_then, presence_then, components_comma, type_then, base_then, components_then, identifier_part_then, identifier_then, tag_default_then, exports_then, imports_then, assigned_then, assignment_then, tokens_of}
 use Rattle.guard_model.specs.Answer.{◌>>=◌}
 use Rattle.guard_model.specs.declared.site.Site.{Site}
 use Rattle.derguard.specs.SchemaFirst.{each}
 use Rattle.derguard.specs.SchemaBasic as basic
 use Rattle.derguard.specs.SchemaBasic.{BasicRange, BasicType, BasicBase, BasicComponent, BasicAssignment, BasicModule}
-use Rattle.derguard.specs.SchemaForms.{ends_of_element_form, ends_of_element, ends_of_difference, ends_of_intersection, ends_of_set_form, range_between, basic_constraint, no_constraints, perhaps_one, basic_constraints, no_tags, basic_plain, no_numbers, sequence_of_some, is_mandatory, basic_type, basic_base, basic_components, no_value, basic_assignment, basic_assignments, explicit_tags, all_exports, no_imports, basic_header, basic_module}
+use Rattle.derguard.specs.SchemaForms.{ends_of_element_form, ends_of_element, ends_of_difference, ends_of_intersection, ends_of_set_form, range_between, basic_constraint, no_constraints, perhaps_one, with_constraints, no_tags, no_numbers, is_optional, basic_type, basic_base, basic_components, basic_alternatives, no_value, basic_assignment, basic_assignments, explicit_tags, all_exports, no_imports, basic_header, basic_module}
 use Rattle.derguard.specs.SchemaNames.{HasTextNames, HasTextNamesInside, HaveTextNames, AssignTextNames}
 
 alphanumeric_ascii : (c : ℕ) → is_ascii_alphanumeric c ≡ true → c < 128
@@ -162,10 +162,23 @@ past_one (c ∷ cs) rs rest is h =
     let none = bound (no_constraints cs) _ rs one.2 in
     past_none cs none.0 rest none.1 (past_constraint c one.0 _ one.1 h)
 
-past_constraints : (base : BasicBase) (cs : List WrittenConstraint) (rs : List BasicRange) (rest : List Lexeme) → basic_constraints base cs ≡ Ok rs → AreTextLexemes (each_then constraint_then cs rest) → AreTextLexemes rest
-past_constraints basic.boolean cs rs rest is h = let none = bound (no_constraints cs) _ rs is in past_none cs none.0 rest none.1 h
-past_constraints basic.integer cs rs rest is h = past_one cs rs rest is h
-past_constraints (basic.sequence parts) cs rs rest is h = let none = bound (no_constraints cs) _ rs is in past_none cs none.0 rest none.1 h
+past_constraints : (base : BasicBase) (cs : List WrittenConstraint) (b : BasicBase) (rest : List Lexeme) → with_constraints base cs ≡ Ok b → HasTextNamesInside base → AreTextLexemes (each_then constraint_then cs rest)
+    → HasTextNamesInside b × AreTextLexemes rest
+past_constraints (basic.integer rs) cs b rest is t h =
+    let ranges = bound (perhaps_one cs) _ b is in
+    (subst HasTextNamesInside (ok_is (basic.integer ranges.0) b ranges.2) tt, past_one cs ranges.0 rest ranges.1 h)
+past_constraints (basic.plain p) cs b rest is t h =
+    let none = bound (no_constraints cs) _ b is in
+    (subst HasTextNamesInside (ok_is (basic.plain p) b none.2) t, past_none cs none.0 rest none.1 h)
+past_constraints (basic.structure k parts) cs b rest is t h =
+    let none = bound (no_constraints cs) _ b is in
+    (subst HasTextNamesInside (ok_is (basic.structure k parts) b none.2) t, past_none cs none.0 rest none.1 h)
+past_constraints (basic.choice parts) cs b rest is t h =
+    let none = bound (no_constraints cs) _ b is in
+    (subst HasTextNamesInside (ok_is (basic.choice parts) b none.2) t, past_none cs none.0 rest none.1 h)
+past_constraints (basic.of_type k element) cs b rest is t h =
+    let none = bound (no_constraints cs) _ b is in
+    (subst HasTextNamesInside (ok_is (basic.of_type k element) b none.2) t, past_none cs none.0 rest none.1 h)
 
 -- ---- types
 
@@ -173,67 +186,87 @@ past_tags : (tags : List WrittenTag) (u : Unit {0}) (rest : List Lexeme) → no_
 past_tags [] u rest is h = h
 past_tags (t ∷ ts) u rest is h = absurd cc
 
-plain_text : (site : Site) (p : PlainType) (b : BasicBase) (rest : List Lexeme) → basic_plain site p ≡ Ok b → AreTextLexemes (plain_then p rest) → HasTextNamesInside b × AreTextLexemes rest
-plain_text site plain_type.Boolean b rest is h = (subst HasTextNamesInside (ok_is basic.boolean b is) tt, h.1)
-plain_text site plain_type.BitString b rest is h = absurd cc
-plain_text site plain_type.OctetString b rest is h = absurd cc
-plain_text site plain_type.Null b rest is h = absurd cc
-plain_text site plain_type.ObjectIdentifier b rest is h = absurd cc
-plain_text site plain_type.Utf8String b rest is h = absurd cc
-plain_text site plain_type.NumericString b rest is h = absurd cc
-plain_text site plain_type.PrintableString b rest is h = absurd cc
-plain_text site plain_type.Ia5String b rest is h = absurd cc
-plain_text site plain_type.VisibleString b rest is h = absurd cc
+past_plain : (p : PlainType) (rest : List Lexeme) → AreTextLexemes (plain_then p rest) → AreTextLexemes rest
+past_plain plain_type.Boolean rest h = h.1
+past_plain plain_type.BitString rest h = h.1.1
+past_plain plain_type.OctetString rest h = h.1.1
+past_plain plain_type.Null rest h = h.1
+past_plain plain_type.ObjectIdentifier rest h = h.1.1
+past_plain plain_type.Utf8String rest h = h.1
+past_plain plain_type.NumericString rest h = h.1
+past_plain plain_type.PrintableString rest h = h.1
+past_plain plain_type.Ia5String rest h = h.1
+past_plain plain_type.VisibleString rest h = h.1
 
 numbers_text : (site : Site) (ns : List WrittenNamed) (b : BasicBase) (rest : List Lexeme) → no_numbers site ns ≡ Ok b → AreTextLexemes (numbers_then ns rest) → HasTextNamesInside b × AreTextLexemes rest
-numbers_text site [] b rest is h = (subst HasTextNamesInside (ok_is basic.integer b is) tt, h)
+numbers_text site [] b rest is h = (subst HasTextNamesInside (ok_is (basic.integer []) b is) tt, h)
 numbers_text site (n ∷ ns) b rest is h = absurd cc
 
-past_presence : (site : Site) (p : WrittenPresence) (u : Unit {0}) (rest : List Lexeme) → is_mandatory site p ≡ Ok u → AreTextLexemes (presence_then p rest) → AreTextLexemes rest
-past_presence site mandatory u rest is h = h
-past_presence site optional u rest is h = absurd cc
-past_presence site (default v) u rest is h = absurd cc
+past_presence : (site : Site) (p : WrittenPresence) (o : Bool) (rest : List Lexeme) → is_optional site p ≡ Ok o → AreTextLexemes (presence_then p rest) → AreTextLexemes rest
+past_presence site mandatory o rest is h = h
+past_presence site optional o rest is h = h.1
+past_presence site (default v) o rest is h = absurd cc
 
 past_comma : (others : WrittenComponents) (rest : List Lexeme) → AreTextLexemes (components_comma others rest) → AreTextLexemes rest
 past_comma no_components rest h = h
 past_comma (component site name ty presence others) rest h = h.1
 past_comma (components_from site ty others) rest h = h.1
 
+past_alternatives_comma : (others : WrittenAlternatives) (rest : List Lexeme) → AreTextLexemes (alternatives_comma others rest) → AreTextLexemes rest
+past_alternatives_comma no_alternatives rest h = h
+past_alternatives_comma (alternative site name ty others) rest h = h.1
+
 mutual
-  unfolding basic_type basic_base basic_components
+  unfolding basic_type basic_base basic_components basic_alternatives
 
   type_text : (t : WrittenType) (b : BasicType) (rest : List Lexeme) → basic_type t ≡ Ok b → AreTextLexemes (type_then t rest) → HasTextNames b × AreTextLexemes rest
   type_text (type_node site tags base cs) b rest is h =
       let none = bound (no_tags tags) _ b is in
       let one = bound (basic_base site base) _ b none.2 in
-      let ranges = bound (basic_constraints one.0 cs) _ b one.2 in
+      let whole = bound (with_constraints one.0 cs) _ b one.2 in
       let inside = base_text site base one.0 (each_then constraint_then cs rest) one.1 (past_tags tags none.0 _ none.1 h) in
-      (subst HasTextNames (ok_is (basic.type_node site one.0 ranges.0) b ranges.2) inside.0, past_constraints one.0 cs ranges.0 rest ranges.1 inside.1)
+      let all = past_constraints one.0 cs whole.0 rest whole.1 inside.0 inside.1 in
+      (subst HasTextNames (ok_is (basic.type_node site whole.0) b whole.2) all.0, all.1)
 
   base_text : (site : Site) (base : WrittenBase) (b : BasicBase) (rest : List Lexeme) → basic_base site base ≡ Ok b → AreTextLexemes (base_then base rest) → HasTextNamesInside b × AreTextLexemes rest
-  base_text site (plain p) b rest is h = plain_text site p b rest is h
+  base_text site (plain p) b rest is h = (subst HasTextNamesInside (ok_is (basic.plain p) b is) tt, past_plain p rest h)
   base_text site (numbers ns) b rest is h = numbers_text site ns b rest is h.1
   base_text site (structure k cs) b rest is h =
-      let some = bound (sequence_of_some site k cs) _ b is in
-      let parts = bound (basic_components cs) _ b some.2 in
+      let parts = bound (basic_components cs) _ b is in
       let inside = components_text cs parts.0 _ parts.1 h.1.1 in
-      (subst HasTextNamesInside (ok_is (basic.sequence (basic.components_of parts.0)) b parts.2) inside.0, inside.1.1)
+      (subst HasTextNamesInside (ok_is (basic.structure k (basic.components_of parts.0)) b parts.2) inside.0, inside.1.1)
+  base_text site (choice alternatives) b rest is h =
+      let parts = bound (basic_alternatives alternatives) _ b is in
+      let inside = alternatives_text alternatives parts.0 _ parts.1 h.1.1 in
+      (subst HasTextNamesInside (ok_is (basic.choice (basic.components_of parts.0)) b parts.2) inside.0, inside.1.1)
+  base_text site (of_type k None ty) b rest is h =
+      let one = bound (basic_type ty) _ b is in
+      let inside = type_text ty one.0 rest one.1 h.1.1 in
+      (subst HasTextNamesInside (ok_is (basic.of_type k one.0) b one.2) inside.0, inside.1)
+  base_text site (of_type k (Some c) ty) b rest is h = absurd cc
   base_text site (enumerated is) b rest e h = absurd cc
-  base_text site (choice all) b rest is h = absurd cc
-  base_text site (of_type k c ty) b rest is h = absurd cc
   base_text site (named_type name) b rest is h = absurd cc
 
   components_text : (cs : WrittenComponents) (parts : List BasicComponent) (rest : List Lexeme) → basic_components cs ≡ Ok parts → AreTextLexemes (components_then cs rest) → HaveTextNames (basic.components_of parts) × AreTextLexemes rest
   components_text no_components parts rest is h = (subst (λ (ps : List BasicComponent). HaveTextNames (basic.components_of ps)) (ok_is [] parts is) tt, h)
   components_text (component site name ty presence others) parts rest is h =
-      let must = bound (is_mandatory site presence) _ parts is in
+      let must = bound (is_optional site presence) _ parts is in
       let one = bound (basic_type ty) _ parts must.2 in
       let more = bound (basic_components others) _ parts one.2 in
       let t = type_text ty one.0 _ one.1 h.1 in
       let behind = past_comma others (components_then others rest) (past_presence site presence must.0 _ must.1 t.1) in
       let last = components_text others more.0 rest more.1 behind in
-      (subst (λ (ps : List BasicComponent). HaveTextNames (basic.components_of ps)) (ok_is (record { site = site; name = name; ty = one.0 } ∷ more.0) parts more.2) (h.0, t.0, last.0), last.1)
+      (subst (λ (ps : List BasicComponent). HaveTextNames (basic.components_of ps)) (ok_is (record { site = site; name = name; ty = one.0; optional = must.0 } ∷ more.0) parts more.2) (h.0, t.0, last.0), last.1)
   components_text (components_from site ty others) parts rest is h = absurd cc
+
+  alternatives_text : (cs : WrittenAlternatives) (parts : List BasicComponent) (rest : List Lexeme) → basic_alternatives cs ≡ Ok parts → AreTextLexemes (alternatives_then cs rest) → HaveTextNames (basic.components_of parts) × AreTextLexemes rest
+  alternatives_text no_alternatives parts rest is h = (subst (λ (ps : List BasicComponent). HaveTextNames (basic.components_of ps)) (ok_is [] parts is) tt, h)
+  alternatives_text (alternative site name ty others) parts rest is h =
+      let one = bound (basic_type ty) _ parts is in
+      let more = bound (basic_alternatives others) _ parts one.2 in
+      let t = type_text ty one.0 _ one.1 h.1 in
+      let last = alternatives_text others more.0 rest more.1 (past_alternatives_comma others (alternatives_then others rest) t.1) in
+      (subst (λ (ps : List BasicComponent). HaveTextNames (basic.components_of ps)) (ok_is (record { site = site; name = name; ty = one.0; optional = false } ∷ more.0) parts more.2) (h.0, t.0, last.0), last.1)
 
 -- ---- modules
 

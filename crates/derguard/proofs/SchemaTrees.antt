@@ -1,12 +1,12 @@
 -- The code's lists of basic trees as the definitions see them.
 use Rattle.std.proofs.Common.{◌≡◌, suc, Bool, ltb, List, [], ◌∷◌, map, length, Option, Some, None, Err, refl, ap, ◌∙◌}
 use Rattle.guard_model.specs.declared.site.Site.{Site}
-use Rattle.guard_der.specs.Sound.{count}
+use Rattle.guard_tagcheck.specs.Limits.{count}
 use Rattle.derguard.specs.declared.guard_schema.basic.BasicComp.{BasicComp}
 use Rattle.derguard.specs.declared.guard_schema.basic.BasicAssignment.{BasicAssignment}
 use Rattle.derguard.specs.SchemaBasic.{components_of}
 use Rattle.derguard.specs.SchemaViews.{component_view, assignment_view}
-use Rattle.derguard.specs.declared.guard_schema.fault.SchemaFault.TheVariants.{Tag}
+use Rattle.derguard.specs.SchemaFaults.{AbstractFault, Tag}
 use Rattle.derguard.specs.declared.guard_schema.tagging.TagFault.TheVariants.{DuplicateName}
 use Rattle.derguard.specs.SchemaReading.{check_components_list, list_result}
 use Rattle.derguard.specs.SchemaNames.{PlacedName, assigned_names, component_names, repeated}

@@ -1,7 +1,8 @@
 -- What the first run prints, and why it prints nothing.
-use Rattle.std.specs.Prelude.{ℕ, List}
+use Rattle.std.specs.Prelude.{ℕ, List, IfSome}
 use Rattle.derguard.specs.declared.first_run.FirstFault.{FirstFault}
 use Rattle.derguard.specs.declared.first_run.FirstFault.TheVariants.{Schema, NoType, OutOfMemory}
+use Rattle.derguard.specs.SchemaFaults.{named}
 use Rattle.derguard.specs.Schemas.{AbstractSchema}
 use Rattle.derguard.specs.SchemaAccepts.{Accepts, IsRefused}
 use Rattle.derguard.specs.Policies.{AbstractPolicy}
@@ -15,6 +16,6 @@ Prints text out =
     (s : AbstractSchema) × (p : AbstractPolicy) × Accepts text s × IsBuiltIn s p × AreLines p first_messages out
 
 abbrev pub IsFirstFault : List ℕ → FirstFault → Type 0
-IsFirstFault text (Schema f) = IsRefused text f
+IsFirstFault text (Schema f) = IfSome (named f) (IsRefused text)
 IsFirstFault text NoType = (s : AbstractSchema) × Accepts text s × HasNoBuiltIn s
 IsFirstFault text OutOfMemory = Unit {0}

@@ -3,23 +3,34 @@ use Rattle.std.specs.Prelude.{◌≡◌, ℕ, List, [], ◌∷◌, codes, refl}
 use Rattle.std.specs.Fmt.{digits}
 use Rattle.guard_model.specs.declared.site.Site.{Site}
 use Rattle.guard_model.specs.declared.site.Step.TheVariants.{Component, Element}
-use Rattle.guard_model.specs.declared.ty.Presence.TheVariants.{Mandatory}
 use Rattle.guard_model.specs.AbstractType as type
-use Rattle.guard_model.specs.AbstractType.{AbstractType, no_components, component, no_constraints}
-use Rattle.guard_der.specs.declared.breach.Code.TheVariants.{BooleanContents}
+use Rattle.guard_model.specs.AbstractType.{AbstractType, type_of, no_components, component, no_constraints}
+use Rattle.guard_der.specs.declared.breach.Code.TheVariants.{BooleanContents, SetOrder}
 use Rattle.derguard.specs.declared.guard_policy.policy.Effect.TheVariants.{Allow}
 use Rattle.derguard.specs.Policies.{AbstractPolicy, AbstractRoute, AbstractRule}
 use Rattle.derguard.specs.Verdicts.{pass, unknown_message, undecodable, outside_type, denied_by, not_allowed, no_rule}
-use Rattle.derguard.specs.EvalRows.{tagged}
+use Rattle.derguard.specs.EvalRows.{plain}
 use Rattle.derguard.specs.ReportText.{verdict_octets}
 
--- SEQUENCE { qty INTEGER, urgent BOOLEAN }
+-- CHOICE { pair SET { left INTEGER, right BOOLEAN }, all SEQUENCE OF NULL }
+abbrev pub line : AbstractType
+line =
+    type_of [] (type.choice
+    (component (codes "pair") (plain 17 (type.set
+    (component (codes "left") (plain 2 (type.integer [])) type.mandatory
+    (component (codes "right") (plain 1 type.boolean) type.mandatory
+    no_components)))) type.mandatory
+    (component (codes "all") (plain 16 (type.sequence_of (plain 5 type.null))) type.mandatory
+    no_components))) no_constraints
+
+-- SEQUENCE { qty INTEGER, urgent BOOLEAN, lines SET OF CHOICE { .. } }
 abbrev pub order : AbstractType
 order =
-    tagged 16 (type.sequence
-    (component (codes "qty") (tagged 2 (type.integer []) no_constraints) Mandatory
-    (component (codes "urgent") (tagged 1 type.boolean no_constraints) Mandatory
-    no_components))) no_constraints
+    plain 16 (type.sequence
+    (component (codes "qty") (plain 2 (type.integer [])) type.mandatory
+    (component (codes "urgent") (plain 1 type.boolean) type.mandatory
+    (component (codes "lines") (plain 17 (type.set_of line)) type.mandatory
+    no_components))))
 
 abbrev pub rule_called : List ℕ → AbstractRule
 rule_called name = record { name = name; effect = Allow; from = codes "north"; to = codes "south"; message = codes "order"; ty = order }
@@ -63,7 +74,24 @@ unfolding digits
 two_rules = refl
 
 -- what has no name stands by its number
-nameless : verdict_octets policy route (not_allowed ((2, record { site = place 3 1 1; path = Component 2 ∷ Element 12 ∷ Component 0 ∷ [] }) ∷ []))
-    ≡ codes "not-allowed 2 3:1:1 $.2[12].0"
+nameless : verdict_octets policy route (not_allowed ((2, record { site = place 3 1 1; path = Component 3 ∷ Element 12 ∷ Component 0 ∷ [] }) ∷ []))
+    ≡ codes "not-allowed 2 3:1:1 $.3[12].0"
 unfolding digits
 nameless = refl
+
+-- through elements, alternatives and components of a SET
+in_set : verdict_octets policy route (undecodable (record { code = SetOrder; at = 12; path = Component 2 ∷ Element 3 ∷ Component 0 ∷ Component 1 ∷ [] }))
+    ≡ codes "undecodable SetOrder at 12 $.lines[3].pair.right"
+unfolding digits
+in_set = refl
+
+in_items : verdict_octets policy route (outside_type (record { site = place 1 3 18; path = Component 2 ∷ Element 0 ∷ Component 1 ∷ Element 14 ∷ [] }))
+    ≡ codes "outside-type First:3:18 $.lines[0].all[14]"
+unfolding digits
+in_items = refl
+
+-- NULL has no components
+under_nothing : verdict_octets policy route (outside_type (record { site = place 1 3 18; path = Component 2 ∷ Element 0 ∷ Component 1 ∷ Element 1 ∷ Component 4 ∷ [] }))
+    ≡ codes "outside-type First:3:18 $.lines[0].all[1].4"
+unfolding digits
+under_nothing = refl

@@ -4,7 +4,7 @@ use Rattle.guard_model.specs.declared.site.Site.{Site}
 use Rattle.guard_model.specs.declared.site.Step.{Step}
 use Rattle.guard_model.specs.declared.site.Step.TheVariants.{Component, Element}
 use Rattle.guard_model.specs.AbstractType as type
-use Rattle.guard_model.specs.AbstractType.{AbstractType, Components, type_of, no_components, component}
+use Rattle.guard_model.specs.AbstractType.{AbstractType, AbstractKind, Components, type_of, no_components, component}
 use Rattle.guard_model.specs.TypeView.{OneComponent}
 use Rattle.guard_der.specs.declared.breach.Code.{Code}
 use Rattle.guard_der.specs.declared.breach.Code.TheVariants as code
@@ -30,26 +30,52 @@ breach_name code.WrongForm = codes "WrongForm"
 breach_name code.BooleanContents = codes "BooleanContents"
 breach_name code.IntegerContents = codes "IntegerContents"
 breach_name code.IntegerTooLong = codes "IntegerTooLong"
+breach_name code.UnknownEnumeration = codes "UnknownEnumeration"
+breach_name code.NullContents = codes "NullContents"
+breach_name code.BitStringContents = codes "BitStringContents"
+breach_name code.UnusedBits = codes "UnusedBits"
+breach_name code.ObjectIdContents = codes "ObjectIdContents"
+breach_name code.ObjectIdTooLong = codes "ObjectIdTooLong"
+breach_name code.Characters = codes "Characters"
+breach_name code.SetOrder = codes "SetOrder"
+breach_name code.SetOfOrder = codes "SetOfOrder"
+breach_name code.DefaultPresent = codes "DefaultPresent"
 breach_name code.TrailingOctets = codes "TrailingOctets"
 
 -- the name of the module, then line and column
 abbrev pub site_text : AbstractPolicy → Site → List ℕ
 site_text p s = name_or_number (module_name p s.text) s.text ++ codes ":" ++ decimal s.line ++ codes ":" ++ decimal s.column
 
--- the component at this place of the written list, from 0
+-- the component or alternative at this place of the written list, from 0
 abbrev pub component_among : Components → ℕ → Option OneComponent
 component_among no_components i = None
 component_among (component name t presence cs) zero = Some (record { name = name; ty = t; presence = presence })
 component_among (component name t presence cs) (suc i) = component_among cs i
 
-abbrev pub component_at : Option AbstractType → ℕ → Option OneComponent
-component_at (Some (type_of tags (type.sequence cs) cons)) i = component_among cs i
-component_at _ i = None
+abbrev pub component_of_kind : AbstractKind → ℕ → Option OneComponent
+component_of_kind (type.sequence cs) i = component_among cs i
+component_of_kind (type.set cs) i = component_among cs i
+component_of_kind (type.choice cs) i = component_among cs i
+component_of_kind _ i = None
 
--- the type one step further in, if one is known; no kind has elements so far
+abbrev pub component_at : Option AbstractType → ℕ → Option OneComponent
+component_at None i = None
+component_at (Some (type_of tags kind cons)) i = component_of_kind kind i
+
+-- the type of the elements of an OF type
+abbrev pub element_of_kind : AbstractKind → Option AbstractType
+element_of_kind (type.sequence_of t) = Some t
+element_of_kind (type.set_of t) = Some t
+element_of_kind _ = None
+
+abbrev pub element_type : Option AbstractType → Option AbstractType
+element_type None = None
+element_type (Some (type_of tags kind cons)) = element_of_kind kind
+
+-- the type one step further in, if one is known
 abbrev pub type_within : Option AbstractType → Step → Option AbstractType
 type_within t (Component i) = option_map (λ c. c.ty) (component_at t i)
-type_within t (Element i) = None
+type_within t (Element i) = element_type t
 
 abbrev pub step_text : Option AbstractType → Step → List ℕ
 step_text t (Component i) = codes "." ++ name_or_number (option_map (λ c. c.name) (component_at t i)) i

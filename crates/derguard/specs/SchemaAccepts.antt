@@ -9,12 +9,10 @@ use Rattle.guard_syntax.specs.Trees.{WrittenModule}
 use Rattle.guard_syntax.specs.Lexemes.{lexemes_of, sites_of}
 use Rattle.guard_syntax.specs.Parses.{IsWritten, HasSites}
 use Rattle.guard_syntax.specs.Faults.{NamesToken}
-use Rattle.derguard.specs.declared.guard_schema.fault.SchemaFault.{SchemaFault}
-use Rattle.derguard.specs.declared.guard_schema.fault.SchemaFault.TheVariants.{Lex, Syntax, Name, Tag, Cons, OutOfMemory}
 use Rattle.derguard.specs.Schemas.{AbstractSchema, denoted_schema}
 use Rattle.derguard.specs.SchemaBasic.{BasicModule}
 use Rattle.derguard.specs.SchemaForms.{basic_module}
-use Rattle.derguard.specs.SchemaFaults.{module_fault}
+use Rattle.derguard.specs.SchemaFaults.{AbstractFault, Lex, Syntax, Name, Tag, Clash, Cons, IsModuleFault}
 
 -- the one text of a schema is the first of its list
 abbrev pub place : ℕ
@@ -32,11 +30,11 @@ IsBasicText text m = (tokens : List Token) × (tree : WrittenModule) × IsModule
 
 -- The text is a module without fault, and the schema is what it denotes.
 abbrev pub Accepts : List ℕ → AbstractSchema → Type 0
-Accepts text schema = (m : BasicModule) × IsBasicText text m × (module_fault m ≡ None) × (schema ≡ denoted_schema m)
+Accepts text schema = (m : BasicModule) × IsBasicText text m × IsModuleFault m None × (schema ≡ denoted_schema m)
 
 -- the text is a module in which no form is left out, and this is its first fault
-abbrev pub HasFault : List ℕ → SchemaFault → Type 0
-HasFault text fault = (m : BasicModule) × IsBasicText text m × (module_fault m ≡ Some fault)
+abbrev pub HasFault : List ℕ → AbstractFault → Type 0
+HasFault text fault = (m : BasicModule) × IsBasicText text m × IsModuleFault m (Some fault)
 
 -- the text is cut into tokens that write no tree, and this fault names one of them, or the end of the text
 abbrev pub WritesNothing : List ℕ → SyntaxFault → Type 0
@@ -49,11 +47,11 @@ LeavesOut text site = (tokens : List Token) × (tree : WrittenModule) × IsModul
 
 -- The text makes no schema for this reason: its first fault as a text; that no tree is written with its tokens, or, as P1, that
 -- a form of its tree is left out; or its first fault as a module.
-abbrev pub IsRefused : List ℕ → SchemaFault → Type 0
-IsRefused text OutOfMemory = Unit {0}
+abbrev pub IsRefused : List ℕ → AbstractFault → Type 0
 IsRefused text (Lex f) = FirstFault place text f
 IsRefused text (Syntax (Unexpected site)) = WritesNothing text (Unexpected site) ⊎ LeavesOut text site
 IsRefused text (Syntax f) = WritesNothing text f
 IsRefused text (Name f) = HasFault text (Name f)
 IsRefused text (Tag f) = HasFault text (Tag f)
+IsRefused text (Clash site c) = HasFault text (Clash site c)
 IsRefused text (Cons f) = HasFault text (Cons f)

@@ -5,7 +5,7 @@ use Rattle.guard_syntax.specs.Trees.{WrittenNumber}
 use Rattle.derguard.specs.declared.guard_schema.constraints.ConsFault.{ConsFault}
 use Rattle.derguard.specs.declared.guard_schema.constraints.ConsFault.TheVariants.{Value}
 use Rattle.derguard.specs.declared.guard_schema.values.ValueFault.TheVariants.{TooLarge}
-use Rattle.derguard.specs.SchemaBasic.{BasicRange, BasicType, type_node, BasicBase, boolean, integer, sequence, BasicComponents, no_components, component}
+use Rattle.derguard.specs.SchemaBasic.{BasicRange, BasicType, type_node, BasicBase, plain, integer, structure, choice, of_type, BasicComponents, no_components, component}
 use Rattle.derguard.specs.SchemaTypes.{number_of}
 
 abbrev pub ends_of_ranges : List BasicRange → List WrittenNumber
@@ -13,18 +13,20 @@ ends_of_ranges [] = []
 ends_of_ranges (r ∷ rs) = r.low ∷ r.high ∷ ends_of_ranges rs
 
 abbrev mutual
-  -- the ends of the ranges in a type: those in its parts in written order, and then its own
+  -- the ends of the ranges in a type and its parts, in written order
   pub ends : BasicType → List WrittenNumber
-  ends (type_node site base ranges) = ends_inside base ++ ends_of_ranges ranges
+  ends (type_node site base) = ends_inside base
 
   pub ends_inside : BasicBase → List WrittenNumber
-  ends_inside boolean = []
-  ends_inside integer = []
-  ends_inside (sequence cs) = ends_of_components cs
+  ends_inside (plain p) = []
+  ends_inside (integer rs) = ends_of_ranges rs
+  ends_inside (structure k cs) = ends_of_components cs
+  ends_inside (choice cs) = ends_of_components cs
+  ends_inside (of_type k t) = ends t
 
   pub ends_of_components : BasicComponents → List WrittenNumber
   ends_of_components no_components = []
-  ends_of_components (component site name ty others) = ends ty ++ ends_of_components others
+  ends_of_components (component site name ty optional others) = ends ty ++ ends_of_components others
 
 -- the first number that doesn't fit in signed 128 bits
 abbrev pub first_too_large : List WrittenNumber → Option ConsFault

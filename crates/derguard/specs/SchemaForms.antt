@@ -9,12 +9,8 @@ use Rattle.guard_lexer.specs.declared.token.Reserved.{Reserved}
 use Rattle.guard_lexer.specs.declared.token.Reserved.TheVariants as reserved
 use Rattle.guard_syntax.specs.declared.tree.TagDefault.{TagDefault}
 use Rattle.guard_syntax.specs.declared.tree.TagDefault.TheVariants as tag_default
-use Rattle.guard_syntax.specs.declared.tree.PlainType.{PlainType}
-use Rattle.guard_syntax.specs.declared.tree.PlainType.TheVariants as plain_type
-use Rattle.guard_syntax.specs.declared.tree.Collection.{Collection}
-use Rattle.guard_syntax.specs.declared.tree.Collection.TheVariants as collection
 use Rattle.guard_syntax.specs.Kinds.{same_kind}
-use Rattle.guard_syntax.specs.Trees.{WrittenNumber, WrittenValue, WrittenEndForm, end_integer, end_reference, end_characters, WrittenEnd, WrittenRange, WrittenSet, set_node, WrittenSetForm, all_except, union, WrittenUnited, none_united, united, WrittenIntersection, intersection, WrittenMet, none_met, met, WrittenDifference, element_alone, element_except, WrittenElement, element_node, WrittenElementForm, parentheses, value, contained, range, size, from, with_component, with_components, WrittenConstraint, constraint, WrittenTag, WrittenNamed, WrittenPresence, mandatory, optional, default, WrittenType, type_node, WrittenBase, plain, numbers, enumerated, structure, choice, of_type, named_type, WrittenComponents, no_components, component, components_from, WrittenExports, all_exported, exported, WrittenImport, WrittenAssignment, WrittenModule}
+use Rattle.guard_syntax.specs.Trees.{WrittenNumber, WrittenValue, WrittenEndForm, end_integer, end_reference, end_characters, WrittenEnd, WrittenRange, WrittenSet, set_node, WrittenSetForm, all_except, union, WrittenUnited, none_united, united, WrittenIntersection, intersection, WrittenMet, none_met, met, WrittenDifference, element_alone, element_except, WrittenElement, element_node, WrittenElementForm, parentheses, value, contained, range, size, from, with_component, with_components, WrittenConstraint, constraint, WrittenTag, WrittenNamed, WrittenOfConstraint, WrittenPresence, mandatory, optional, default, WrittenType, type_node, WrittenBase, plain, numbers, enumerated, structure, choice, of_type, named_type, WrittenComponents, no_components, component, components_from, WrittenAlternatives, no_alternatives, alternative, WrittenExports, all_exported, exported, WrittenImport, WrittenAssignment, WrittenModule}
 use Rattle.derguard.specs.SchemaFirst.{each}
 use Rattle.derguard.specs.SchemaBasic as basic
 use Rattle.derguard.specs.SchemaBasic.{BasicRange, BasicType, BasicBase, BasicComponent, BasicAssignment, BasicModule}
@@ -105,11 +101,13 @@ abbrev pub perhaps_one : List WrittenConstraint → Result (List BasicRange) Sit
 perhaps_one [] = Ok []
 perhaps_one (c ∷ cs) = basic_constraint c >>= λ one. no_constraints cs >>= λ _. Ok (one ∷ [])
 
--- the constraints behind a type of this base
-abbrev pub basic_constraints : BasicBase → List WrittenConstraint → Result (List BasicRange) Site
-basic_constraints basic.boolean cs = no_ranges cs
-basic_constraints basic.integer cs = perhaps_one cs
-basic_constraints (basic.sequence parts) cs = no_ranges cs
+-- the type of this base with the constraints behind it
+abbrev pub with_constraints : BasicBase → List WrittenConstraint → Result BasicBase Site
+with_constraints (basic.integer rs) cs = perhaps_one cs >>= λ ranges. Ok (basic.integer ranges)
+with_constraints (basic.plain p) cs = no_constraints cs >>= λ _. Ok (basic.plain p)
+with_constraints (basic.structure k parts) cs = no_constraints cs >>= λ _. Ok (basic.structure k parts)
+with_constraints (basic.choice parts) cs = no_constraints cs >>= λ _. Ok (basic.choice parts)
+with_constraints (basic.of_type k t) cs = no_constraints cs >>= λ _. Ok (basic.of_type k t)
 
 -- ---- types
 
@@ -118,57 +116,48 @@ abbrev pub no_tags : List WrittenTag → Result (Unit {0}) Site
 no_tags [] = Ok tt
 no_tags (t ∷ ts) = Err t.site
 
--- of the types that are written with words alone, the type whose first token stands there
-abbrev pub basic_plain : Site → PlainType → Result BasicBase Site
-basic_plain site plain_type.Boolean = Ok basic.boolean
-basic_plain site plain_type.BitString = Err site
-basic_plain site plain_type.OctetString = Err site
-basic_plain site plain_type.Null = Err site
-basic_plain site plain_type.ObjectIdentifier = Err site
-basic_plain site plain_type.Utf8String = Err site
-basic_plain site plain_type.NumericString = Err site
-basic_plain site plain_type.PrintableString = Err site
-basic_plain site plain_type.Ia5String = Err site
-basic_plain site plain_type.VisibleString = Err site
-
 -- INTEGER without named numbers
 abbrev pub no_numbers : Site → List WrittenNamed → Result BasicBase Site
-no_numbers site [] = Ok basic.integer
+no_numbers site [] = Ok (basic.integer [])
 no_numbers site (n ∷ ns) = Err site
 
--- a SEQUENCE with components
-abbrev pub sequence_of_some : Site → Collection → WrittenComponents → Result (Unit {0}) Site
-sequence_of_some site collection.Set cs = Err site
-sequence_of_some site collection.Sequence no_components = Err site
-sequence_of_some site collection.Sequence (component at name ty presence others) = Ok tt
-sequence_of_some site collection.Sequence (components_from at ty others) = Ok tt
+-- nothing before OF; a constraint there is left out at its first token
+abbrev pub nothing_before_of : Option WrittenOfConstraint → Result (Unit {0}) Site
+nothing_before_of None = Ok tt
+nothing_before_of (Some c) = Err c.site
 
--- a component that may be left out is a form of its own: its first token is the component's name
-abbrev pub is_mandatory : Site → WrittenPresence → Result (Unit {0}) Site
-is_mandatory site mandatory = Ok tt
-is_mandatory site optional = Err site
-is_mandatory site (default v) = Err site
+-- Whether a component is OPTIONAL. One with a default is a form of its own: its first token is the component's name.
+abbrev pub is_optional : Site → WrittenPresence → Result Bool Site
+is_optional site mandatory = Ok false
+is_optional site optional = Ok true
+is_optional site (default v) = Err site
 
 unfoldable mutual
   pub basic_type : WrittenType → Result BasicType Site
   basic_type (type_node site tags base constraints) =
-      no_tags tags >>= λ _. basic_base site base >>= λ b. basic_constraints b constraints >>= λ ranges. Ok (basic.type_node site b ranges)
+      no_tags tags >>= λ _. basic_base site base >>= λ b. with_constraints b constraints >>= λ whole. Ok (basic.type_node site whole)
 
   -- of the type whose first token stands there
   pub basic_base : Site → WrittenBase → Result BasicBase Site
-  basic_base site (plain p) = basic_plain site p
+  basic_base site (plain p) = Ok (basic.plain p)
   basic_base site (numbers ns) = no_numbers site ns
-  basic_base site (structure k cs) = sequence_of_some site k cs >>= λ _. basic_components cs >>= λ parts. Ok (basic.sequence (basic.components_of parts))
+  basic_base site (structure k cs) = basic_components cs >>= λ parts. Ok (basic.structure k (basic.components_of parts))
+  basic_base site (choice alternatives) = basic_alternatives alternatives >>= λ parts. Ok (basic.choice (basic.components_of parts))
+  basic_base site (of_type k c ty) = nothing_before_of c >>= λ _. basic_type ty >>= λ t. Ok (basic.of_type k t)
   basic_base site (enumerated is) = Err site
-  basic_base site (choice all) = Err site
-  basic_base site (of_type k c ty) = Err site
   basic_base site (named_type name) = Err site
 
   pub basic_components : WrittenComponents → Result (List BasicComponent) Site
   basic_components no_components = Ok []
   basic_components (component site name ty presence others) =
-      is_mandatory site presence >>= λ _. basic_type ty >>= λ t. basic_components others >>= λ parts. Ok (record { site = site; name = name; ty = t } ∷ parts)
+      is_optional site presence >>= λ opt. basic_type ty >>= λ t. basic_components others >>= λ parts.
+      Ok (record { site = site; name = name; ty = t; optional = opt } ∷ parts)
   basic_components (components_from site ty others) = Err site
+
+  pub basic_alternatives : WrittenAlternatives → Result (List BasicComponent) Site
+  basic_alternatives no_alternatives = Ok []
+  basic_alternatives (alternative site name ty others) =
+      basic_type ty >>= λ t. basic_alternatives others >>= λ parts. Ok (record { site = site; name = name; ty = t; optional = false } ∷ parts)
 
 -- ---- modules
 

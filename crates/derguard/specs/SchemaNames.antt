@@ -2,7 +2,7 @@
 use Rattle.std.specs.Prelude.{ℕ, List, [], ◌∷◌, ◌++◌, map, Option, Some, None, if◌then◌else◌, bytes_eq, IsUtf8}
 use Rattle.std.specs.List.{list_any}
 use Rattle.guard_model.specs.declared.site.Site.{Site}
-use Rattle.derguard.specs.SchemaBasic.{BasicType, type_node, BasicBase, boolean, integer, sequence, BasicComponents, no_components, component, BasicAssignment}
+use Rattle.derguard.specs.SchemaBasic.{BasicType, type_node, BasicBase, plain, integer, structure, choice, of_type, BasicComponents, no_components, component, BasicAssignment}
 
 -- a name, and where it stands
 pub record PlacedName : Type 0 where
@@ -23,21 +23,23 @@ assigned_names rest = map (λ a. record { site = a.site; name = a.name }) rest
 
 abbrev pub component_names : BasicComponents → List PlacedName
 component_names no_components = []
-component_names (component site name ty others) = record { site = site; name = name } ∷ component_names others
+component_names (component site name ty optional others) = record { site = site; name = name } ∷ component_names others
 
 abbrev mutual
   -- the names in a type are texts
   pub HasTextNames : BasicType → Type 0
-  HasTextNames (type_node site base constraints) = HasTextNamesInside base
+  HasTextNames (type_node site base) = HasTextNamesInside base
 
   pub HasTextNamesInside : BasicBase → Type 0
-  HasTextNamesInside boolean = Unit {0}
-  HasTextNamesInside integer = Unit {0}
-  HasTextNamesInside (sequence cs) = HaveTextNames cs
+  HasTextNamesInside (plain p) = Unit {0}
+  HasTextNamesInside (integer rs) = Unit {0}
+  HasTextNamesInside (structure k cs) = HaveTextNames cs
+  HasTextNamesInside (choice cs) = HaveTextNames cs
+  HasTextNamesInside (of_type k t) = HasTextNames t
 
   pub HaveTextNames : BasicComponents → Type 0
   HaveTextNames no_components = Unit {0}
-  HaveTextNames (component site name ty others) = IsUtf8 name × HasTextNames ty × HaveTextNames others
+  HaveTextNames (component site name ty optional others) = IsUtf8 name × HasTextNames ty × HaveTextNames others
 
 -- the names in assignments are texts
 abbrev pub AssignTextNames : List BasicAssignment → Type 0

@@ -15,7 +15,7 @@ use Rattle.derguard.specs.declared.guard_schema.basic.BasicAssignment as code_as
 use Rattle.derguard.specs.declared.guard_schema.basic.BasicModule as code_module
 use Rattle.derguard.specs.declared.guard_schema.build.Definition.{Definition}
 use Rattle.derguard.specs.declared.guard_schema.names.PlacedName as code
-use Rattle.derguard.specs.SchemaBasic.{BasicRange, BasicType, type_node, BasicBase, boolean, integer, sequence, BasicComponent, components_of, BasicAssignment, BasicModule}
+use Rattle.derguard.specs.SchemaBasic.{BasicRange, BasicType, type_node, BasicBase, plain, integer, structure, choice, of_type, BasicComponent, components_of, BasicAssignment, BasicModule}
 use Rattle.derguard.specs.SchemaNames.{PlacedName}
 
 abbrev pub range_view : code_range.BasicRange → BasicRange
@@ -27,15 +27,17 @@ ends_view ends = (number_view ends.0, number_view ends.1)
 
 -- one level of each, with the types inside already seen
 abbrev pub base_step : BasicBase-F BasicBase BasicComponent BasicType → BasicBase
-base_step BasicBase-F.Boolean = boolean
-base_step BasicBase-F.Integer = integer
-base_step (BasicBase-F.Sequence cs) = sequence (components_of cs.items)
+base_step (BasicBase-F.Plain p) = plain p
+base_step (BasicBase-F.Integer rs) = integer (map range_view rs.items)
+base_step (BasicBase-F.Structure k cs) = structure k (components_of cs.items)
+base_step (BasicBase-F.Choice cs) = choice (components_of cs.items)
+base_step (BasicBase-F.Of k t) = of_type k t.value
 
 abbrev pub component_step : BasicComp-F BasicBase BasicComponent BasicType → BasicComponent
-component_step c = record { site = c.site; name = c.name.now; ty = c.ty }
+component_step c = record { site = c.site; name = c.name.now; ty = c.ty; optional = c.optional }
 
 abbrev pub type_step : BasicType-F BasicBase BasicComponent BasicType → BasicType
-type_step t = type_node t.site t.base (map range_view t.ranges.items)
+type_step t = type_node t.site t.base
 
 abbrev pub type_view : code_type.BasicType → BasicType
 type_view = fold-BasicType BasicBase BasicComponent BasicType base_step component_step type_step
@@ -44,7 +46,7 @@ abbrev pub base_view : code_base.BasicBase → BasicBase
 base_view = fold-BasicBase BasicBase BasicComponent BasicType base_step component_step type_step
 
 abbrev pub component_view : code_component.BasicComp → BasicComponent
-component_view c = record { site = c.site; name = c.name.now; ty = type_view c.ty }
+component_view c = record { site = c.site; name = c.name.now; ty = type_view c.ty; optional = c.optional }
 
 abbrev pub assignment_view : code_assignment.BasicAssignment → BasicAssignment
 assignment_view a = record { site = a.site; name = a.name.now; ty = type_view a.ty }

@@ -1,12 +1,12 @@
 -- The first constraint that a value fails: its site, and the path to the part that fails it.
-use Rattle.std.specs.Prelude.{◌≡◌, ℕ, suc, Bool, true, false, List, [], ◌∷◌, Option, Some, None, ◌↔◌, IsTrue}
+use Rattle.std.specs.Prelude.{◌≡◌, ℕ, zero, suc, Bool, true, false, List, [], ◌∷◌, Option, Some, None, ◌↔◌, IsTrue}
 use Rattle.guard_model.specs.declared.site.Site.{Site}
 use Rattle.guard_model.specs.declared.site.Step.{Step}
-use Rattle.guard_model.specs.declared.site.Step.TheVariants.{Component}
+use Rattle.guard_model.specs.declared.site.Step.TheVariants.{Component, Element}
 use Rattle.guard_model.specs.AbstractType as type
 use Rattle.guard_model.specs.AbstractType.{AbstractType, AbstractKind, Components, Constraint, Constraints, type_of, no_components, component, at, no_constraints, constraint}
 use Rattle.guard_model.specs.AbstractValue as value
-use Rattle.guard_model.specs.AbstractValue.{AbstractValue, Fields}
+use Rattle.guard_model.specs.AbstractValue.{AbstractValue, Fields, Items}
 use Rattle.derguard.specs.declared.guard_eval.violation.Violation.{Violation}
 use Rattle.derguard.specs.Member.{holds_element, is_member}
 
@@ -35,7 +35,7 @@ abbrev pub unless : Bool → Site → Option AbstractViolation
 unless true site = None
 unless false site = Some (record { site = site; path = [] })
 
--- a range blames itself
+-- a range blames itself; the other elements stand in no sound type yet
 abbrev pub blame : Constraint → AbstractValue → Option AbstractViolation
 blame (at site element) v = unless (holds_element element v) site
 
@@ -43,13 +43,22 @@ abbrev pub first_failing : Constraints → AbstractValue → Option AbstractViol
 first_failing no_constraints v = None
 first_failing (constraint c cs) v = or_else (blame c v) (first_failing cs v)
 
+-- the first of what is found in the elements, the first of which is element i
+abbrev pub first_among : (AbstractValue → Option AbstractViolation) → ℕ → Items → Option AbstractViolation
+first_among find i value.no_items = None
+first_among find i (value.item v vs) = or_else (below (Element i) (find v)) (first_among find (suc i) vs)
+
 abbrev mutual
-  -- the constraints of the type itself, then those of its components in written order
+  -- the constraints of the type itself, then those of its components in written order, of the chosen alternative, or of its elements in turn
   pub violation : AbstractType → AbstractValue → Option AbstractViolation
   violation (type_of tags kind cons) v = or_else (first_failing cons v) (violation_inside kind v)
 
   pub violation_inside : AbstractKind → AbstractValue → Option AbstractViolation
   violation_inside (type.sequence cs) (value.fields fs) = violation_from 0 cs fs
+  violation_inside (type.set cs) (value.fields fs) = violation_from 0 cs fs
+  violation_inside (type.choice cs) (value.chosen i v) = below (Component i) (violation_of_chosen cs i v)
+  violation_inside (type.sequence_of t) (value.items vs) = first_among (violation t) 0 vs
+  violation_inside (type.set_of t) (value.items vs) = first_among (violation t) 0 vs
   violation_inside _ v = None
 
   -- from component i on
@@ -57,6 +66,12 @@ abbrev mutual
   violation_from i (component name t presence cs) (value.present v fs) = or_else (below (Component i) (violation t v)) (violation_from (suc i) cs fs)
   violation_from i (component name t presence cs) (value.absent fs) = violation_from (suc i) cs fs
   violation_from i _ _ = None
+
+  -- in the value of the alternative at this place
+  pub violation_of_chosen : Components → ℕ → AbstractValue → Option AbstractViolation
+  violation_of_chosen no_components i v = None
+  violation_of_chosen (component name t presence cs) zero v = violation t v
+  violation_of_chosen (component name t presence cs) (suc i) v = violation_of_chosen cs i v
 
 -- a value violates nothing exactly where it is a member
 abbrev pub MembersViolateNothing : Type 0

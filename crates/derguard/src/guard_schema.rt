@@ -6,6 +6,7 @@ mod constraints;
 mod fault;
 mod forms;
 mod header;
+mod kinds;
 mod names;
 mod ranges;
 mod schema;

@@ -29,7 +29,7 @@ fn integer(rt: &HostRuntime, column: u32, low: i128, high: i128) -> Result<Ty, F
     Ok(Ty {
         tags: Vec::from_slice(rt.alloc(), &[tag])?,
         kind: Kind::Int(Vec::new(rt.alloc())),
-        cons: Vec::from_slice(rt.alloc(), &[Cons { site, rule }])?,
+        cons: Vec::from_array(rt.alloc(), [Cons { site, rule }])?,
     })
 }
 

@@ -59,7 +59,7 @@ spell_some n [] some = some
 spell_some n (d ∷ ds) some = spell_some (n * 128 + d) ds (omega arith)
 
 -- a number of which all octets but the last are these digits
-base_128_is : (n d : ℕ) (ds : List ℕ) → 1 ≤ n → n < 128 → AreDigits 128 ds → length ds ≤ 17 → d < 128 → base_128 (spell 128 n ds * 128 + d) ≡ marked (n ∷ ds) ++ d ∷ []
+pub base_128_is : (n d : ℕ) (ds : List ℕ) → 1 ≤ n → n < 128 → AreDigits 128 ds → length ds ≤ 17 → d < 128 → base_128 (spell 128 n ds * 128 + d) ≡ marked (n ∷ ds) ++ d ∷ []
 unfolding base_128
 base_128_is n d ds some small digits short last =
     let least : AreLeast 128 128 (n ∷ ds) = first_least n ds some small in
@@ -115,7 +115,7 @@ number_again (e ∷ ds) d (suc tries) n rest digits last short =
     ∙ number_again ds d tries (n * 128 + e) rest digits.1 last (omega (arith, short))
 
 -- a list of digits from which a number above 0 is spelled begins with one above 0
-first_some : (base : ℕ) (ds : List ℕ) → AreDigits base ds → AreLeast base base ds → 1 ≤ spell base 0 ds → (d : ℕ) × (others : List ℕ) × (ds ≡ d ∷ others) × (1 ≤ d)
+pub first_some : (base : ℕ) (ds : List ℕ) → AreDigits base ds → AreLeast base base ds → 1 ≤ spell base 0 ds → (d : ℕ) × (others : List ℕ) × (ds ≡ d ∷ others) × (1 ≤ d)
 first_some base [] digits least some = absurd least
 first_some base (d ∷ []) digits least some = (d, [], refl, omega (arith, some))
 first_some base (zero ∷ e ∷ ds) digits least some = absurd (omega (arith, digits.1.0, least.1))

@@ -1,5 +1,5 @@
 -- Headers at an offset.
-use Rattle.std.proofs.Common.{◌≡◌, ℕ, Bool, ◌+◌, ◌-◌, ◌≤◌, List, ◌++◌, length, take, drop, Some, Result, Ok, Err, refl, sym, ap, ◌∙◌, arith}
+use Rattle.std.proofs.Common.{◌≡◌, ℕ, ◌+◌, ◌-◌, ◌^◌, ◌<◌, ◌≤◌, List, ◌++◌, length, take, drop, Some, Result, Ok, Err, refl, sym, ap, ◌∙◌, arith}
 use Rattle.std.specs.Prelude.{IfOk}
 use Rattle.std.proofs.lemmas.List.{length-append, length-take, length-drop, take-append-drop}
 use Rattle.guard_model.specs.Answer.{Gives}
@@ -11,10 +11,7 @@ use Rattle.guard_der.specs.Head.{Head, head_of}
 use Rattle.guard_der.specs.Header.{IsHeader, header_at, placed}
 use Rattle.guard_der.specs.Breach.{AbstractBreach}
 use Rattle.guard_der.specs.Views.{breach_view}
-use Rattle.guard_model.specs.declared.tag.Tag.{Tag}
-use Rattle.guard_der.specs.Reading.{due_at}
 use Rattle.guard_der.proofs.Results.{ok_is}
-use Rattle.guard_der.proofs.Steps.{due_ok}
 use Rattle.guard_der.proofs.Digits.{AreDigits}
 use Rattle.guard_der.proofs.Fields.{digits_take, digits_drop}
 use Rattle.guard_der.proofs.Heads.{head_takes, head_again, head}
@@ -68,6 +65,6 @@ head_room_at octets at h digits inside e =
     let room = head_room (take (length octets - at) (drop at octets)) h (digits_take (length octets - at) (drop at octets) (digits_drop at octets digits)) e in
     omega (arith, room, length-take (length octets - at) (drop at octets), length-drop at octets)
 
--- an element that was due ends within the octets
-pub due_room : (wanted : Tag → Bool) (at : ℕ) (os : List ℕ) (h : Head) → AreDigits 256 os → due_at wanted at os ≡ Ok h → h.size + h.contents ≤ length os
-due_room wanted at os h digits e = head_room os h digits (due_ok wanted at os h e).0
+-- its contents are fewer than 2^32 octets
+pub head_small : (os : List ℕ) (h : Head) → AreDigits 256 os → head_of os ≡ Ok h → length (take h.contents (drop h.size os)) < 2 ^ 32
+head_small os h digits e = omega (arith, (head_takes os h digits e).contents, length-take h.contents (drop h.size os))

@@ -5,12 +5,11 @@ use Rattle.std.proofs.lemmas.Bool.{cond-true, cond-false, lt-ltb, le-ltb, ltb-tr
 use Rattle.std.proofs.Math.Nat.{pow-le-pow_right}
 use Rattle.std.proofs.lemmas.Nat.{mul-le}
 use Rattle.std.proofs.lemmas.List.{length-map}
-use Rattle.guard_der.specs.Octets.{fewest, big_endian, signed_octets}
-use Rattle.guard_der.specs.Breach.{integer_fault, nine_equal}
+use Rattle.guard_der.specs.Octets.{fewest, big_endian, signed_octets, turned, twos_complement}
+use Rattle.guard_der.specs.Simple.{integer_fault, nine_equal}
 use Rattle.guard_der.specs.Fits.{fits_128_bits}
 use Rattle.guard_der.specs.declared.breach.Code.{Code}
 use Rattle.guard_der.specs.declared.breach.Code.TheVariants.{IntegerContents, IntegerTooLong}
-use Rattle.guard_der.specs.Reading.{turned, twos_complement}
 use Rattle.std.proofs.Math.Seq.{take-suc}
 use Rattle.guard_der.proofs.Room.{room_next}
 use Rattle.guard_der.proofs.Digits.{spell, spell_append, spell_bound, AreDigits, AreLeast, least_fewest, fewest_least, fewest_spells, fewest_digits, fewest_length}

@@ -1,15 +1,48 @@
-pub mod Room
-pub mod Digits
-pub mod Results
-pub mod Integers
-pub mod Fields
-pub mod Heads
-pub mod Headers
-pub mod Steps
-pub mod Paths
-pub mod TypeViews
-pub mod Components
-pub mod Encodings
-pub mod Breaches
-pub mod Messages
-pub mod Soundness
+mod Room
+mod Digits
+mod Results
+mod Fields
+mod Heads
+mod Headers
+mod Integers
+mod Steps
+mod Elements
+mod Lawful
+mod Subidentifiers
+mod SimpleKinds
+mod Distinctness
+mod Parts
+mod Choice
+mod ComponentSteps
+mod Sequence
+mod SequenceFaults
+mod Items
+mod ItemFaults
+mod SetOrder
+mod SetFields
+mod SetTraces
+mod SetSteps
+mod SetPaths
+mod SetReading
+mod SetContents
+mod Slots
+mod Members
+mod Types
+mod Messages
+mod Components
+mod ObjectIds
+mod Texts
+mod Paths
+mod Decodings
+mod ItemLoop
+pub mod Numbers
+pub mod Arranging
+pub mod WrittenTexts
+pub mod Arcs
+pub mod TypeLevels
+pub mod EncodingSteps
+pub mod ValueTests
+pub mod Ascending
+pub mod FitsSteps
+pub mod SoundSteps
+pub mod SoundTypes

@@ -1,17 +1,19 @@
 -- What a step of reading has come from.
-use Rattle.std.proofs.Common.{◌≡◌, ℕ, ◌+◌, Bool, true, false, cond, eqb, List, [], ◌∷◌, length, Option, Some, None, Result, Ok, Err, refl, sym, ap, ◌∙◌, inl, inr}
-use Rattle.std.specs.Prelude.{option_map, ◌⊎◌}
+use Rattle.std.proofs.Common.{◌≡◌, ℕ, suc, ◌+◌, Bool, true, false, cond, eqb, List, [], ◌∷◌, length, Option, Some, None, Result, Ok, Err, refl, sym, ap, ◌∙◌, inl, inr, arith}
+use Rattle.std.specs.Prelude.{◌⊎◌}
+use Rattle.std.proofs.lemmas.Bool.{ne_eqb}
 use Rattle.guard_model.specs.Answer.{◌>>=◌, Refuses}
 use Rattle.guard_model.specs.declared.site.Step.{Step}
-use Rattle.guard_model.specs.declared.site.Step.TheVariants.{Component}
 use Rattle.guard_model.specs.declared.tag.Tag.{Tag}
-use Rattle.guard_model.specs.AbstractValue.{AbstractValue}
 use Rattle.guard_der.specs.declared.breach.Code.{Code}
 use Rattle.guard_der.specs.declared.breach.Code.TheVariants as code
 use Rattle.guard_der.specs.Head.{Head, head_of}
-use Rattle.guard_der.specs.Breach.{AbstractBreach, below}
-use Rattle.guard_der.specs.Reading.{Reader, due_at, component_at, fault, located, inside}
-use Rattle.guard_der.proofs.Results.{bind_ok, ok_is}
+use Rattle.guard_der.specs.Breach.{AbstractBreach, NotDue, here, after, below}
+use Rattle.guard_der.specs.Reading.{due_at, fault, located, inside}
+use Rattle.guard_der.proofs.Results.{ok_is}
+
+pub some_is : {A : Type 0} (x y : A) → Some x ≡ Some y → x ≡ y
+some_is x y e = cc
 
 pub err_is : {A F : Type 0} (b c : F) → ◌≡◌ {A = Result A F} (Err b) (Err c) → b ≡ c
 err_is b c e = cc
@@ -23,6 +25,16 @@ bind_err (Err d) f b e = inl cc
 pub refuses_bind : {A B F : Type 0} (f : Option F) (r : Result A F) (k : A → Result B F) → Refuses f r → Refuses f (r >>= k)
 refuses_bind None r k e = tt
 refuses_bind (Some b) r k e = rw e refl
+
+abbrev pub bind : {A B : Type 0} → Option A → (A → Option B) → Option B
+bind None f = None
+bind (Some x) f = f x
+
+pub option_parts : {A B : Type 0} (o : Option A) (f : A → Option B) (y : B) → bind o f ≡ Some y → (x : A) × (o ≡ Some x) × (f x ≡ Some y)
+option_parts (Some x) f y e = (x, refl, e)
+option_parts None f y e = absurd cc
+
+-- ---- an element that is due
 
 due_tag : (wanted : Tag → Bool) (at : ℕ) (x h : Head) (b : Bool) → wanted x.tag ≡ b → ◌≡◌ {A = Result Head AbstractBreach} (cond b (Ok x) (Err (fault code.UnexpectedTag at))) (Ok h) → (◌≡◌ {A = Result Head Code} (Ok x) (Ok h)) × (wanted h.tag ≡ true)
 due_tag wanted at x h true t e = let same : x ≡ h = ok_is {F = AbstractBreach} x h e in (ap (λ (x : Head). Ok x) same, rw (← same) t)
@@ -52,64 +64,45 @@ due_err_from : (wanted : Tag → Bool) (at : ℕ) (read : Result Head Code) (b :
 due_err_from wanted at (Err c) b e = (c, inl refl, sym (err_is {A = Head} (fault c at) b e))
 due_err_from wanted at (Ok x) b e = due_err_tag wanted at x b (wanted x.tag) refl e
 
-pub due_err : (wanted : Tag → Bool) (at : ℕ) (os : List ℕ) (b : AbstractBreach) → due_at wanted at os ≡ Err b
-    → (c : Code) × ((head_of os ≡ Err c) ⊎ ((h : Head) × (head_of os ≡ Ok h) × (wanted h.tag ≡ false) × (c ≡ code.UnexpectedTag))) × (b ≡ fault c at)
+pub due_err : (wanted : Tag → Bool) (at : ℕ) (os : List ℕ) (b : AbstractBreach) → due_at wanted at os ≡ Err b → (c : Code) × NotDue wanted os c × (b ≡ fault c at)
 unfolding due_at
 due_err wanted at os b e = due_err_from wanted at (head_of os) b e
 
-pub due_err_again : (wanted : Tag → Bool) (at : ℕ) (os : List ℕ) (c : Code) → ((head_of os ≡ Err c) ⊎ ((h : Head) × (head_of os ≡ Ok h) × (wanted h.tag ≡ false) × (c ≡ code.UnexpectedTag))) → due_at wanted at os ≡ Err (fault c at)
+pub due_err_again : (wanted : Tag → Bool) (at : ℕ) (os : List ℕ) (c : Code) → NotDue wanted os c → due_at wanted at os ≡ Err (fault c at)
 unfolding due_at
 due_err_again wanted at os c (inl e) = rw e refl
 due_err_again wanted at os c (inr (h, e, t, is)) = rw (e, t, is) refl
 
--- ---- components
+pub head_some : (os : List ℕ) (h : Head) → head_of os ≡ Ok h → eqb (length os) 0 ≡ false
+unfolding head_of
+head_some [] h e = absurd cc
+head_some (o ∷ os) h e = ne_eqb (suc (length os)) 0 (λ e. absurd (omega (arith, e)))
 
-abbrev pub missing : ℕ → ℕ → AbstractBreach
-missing i at = record { code = code.MissingComponent; at = at; path = Component i ∷ [] }
+pub head_is : (os : List ℕ) (g h : Head) → head_of os ≡ Ok g → head_of os ≡ Ok h → g ≡ h
+head_is os g h e f = ok_is {F = Code} g h (sym e ∙ f)
 
-abbrev pub component_read : ℕ → (Tag → Bool) → Reader → ℕ → List ℕ → Result (AbstractValue × ℕ) AbstractBreach
-component_read i wanted read at os = due_at wanted at os >>= λ h. inside (Component i) (read at h os) >>= λ v. Ok (v, h.size + h.contents)
+-- ---- faults seen from outside
 
-pub component_is : (i : ℕ) (wanted : Tag → Bool) (read : Reader) (at : ℕ) (os : List ℕ) → eqb (length os) 0 ≡ false → component_at i wanted read at os ≡ component_read i wanted read at os
-unfolding component_at
-component_is i wanted read at [] some = absurd cc
-component_is i wanted read at (o ∷ os) some = refl
-
-pub component_refused : (f : Option AbstractBreach) (i : ℕ) (wanted : Tag → Bool) (read : Reader) (at : ℕ) (os : List ℕ) → eqb (length os) 0 ≡ false → Refuses f (due_at wanted at os) → Refuses f (component_at i wanted read at os)
-component_refused f i wanted read at os some e = rw (component_is i wanted read at os some) (refuses_bind f (due_at wanted at os) (λ h. inside (Component i) (read at h os) >>= λ v. Ok (v, h.size + h.contents)) e)
-
-pub component_done : (i : ℕ) (wanted : Tag → Bool) (read : Reader) (at : ℕ) (os : List ℕ) (h : Head) (v : AbstractValue) → eqb (length os) 0 ≡ false → due_at wanted at os ≡ Ok h → read at h os ≡ Ok v → component_at i wanted read at os ≡ Ok (v, h.size + h.contents)
-component_done i wanted read at os h v some due e = rw (component_is i wanted read at os some, due, e) refl
-
-pub component_inside : (f : Option AbstractBreach) (i : ℕ) (wanted : Tag → Bool) (read : Reader) (at : ℕ) (os : List ℕ) (h : Head) → eqb (length os) 0 ≡ false → due_at wanted at os ≡ Ok h → Refuses f (read at h os) → Refuses (option_map (below (Component i)) f) (component_at i wanted read at os)
-component_inside None i wanted read at os h some due e = tt
-component_inside (Some b) i wanted read at os h some due e = rw (component_is i wanted read at os some, due, e) refl
-
-inside_ok : {A : Type 0} (step : Step) (r : Result A AbstractBreach) (v : A) → inside step r ≡ Ok v → r ≡ Ok v
+pub inside_ok : {A : Type 0} (step : Step) (r : Result A AbstractBreach) (v : A) → inside step r ≡ Ok v → r ≡ Ok v
 inside_ok step (Ok x) v e = e
 inside_ok step (Err b) v e = absurd cc
 
-inside_err : (step : Step) (r : Result AbstractValue AbstractBreach) (n : ℕ) (b : AbstractBreach) → ◌≡◌ {A = Result (AbstractValue × ℕ) AbstractBreach} (inside step r >>= λ v. Ok (v, n)) (Err b) → (c : AbstractBreach) × (r ≡ Err c) × (b ≡ below step c)
-inside_err step (Ok x) n b e = absurd cc
-inside_err step (Err c) n b e = (c, refl, sym (err_is {A = AbstractValue × ℕ} (below step c) b e))
+pub inside_err : {A : Type 0} (step : Step) (r : Result A AbstractBreach) (b : AbstractBreach) → inside step r ≡ Err b → (c : AbstractBreach) × (r ≡ Err c) × (b ≡ below step c)
+inside_err step (Ok x) b e = absurd cc
+inside_err {A} step (Err c) b e = (c, refl, sym (err_is {A = A} (below step c) b e))
 
-pub component_ok : (i : ℕ) (wanted : Tag → Bool) (read : Reader) (at : ℕ) (os : List ℕ) (x : AbstractValue × ℕ) → component_at i wanted read at os ≡ Ok x → (h : Head) × (due_at wanted at os ≡ Ok h) × (read at h os ≡ Ok x.0) × (x.1 ≡ h.size + h.contents)
-unfolding component_at
-component_ok i wanted read at [] x e = absurd cc
-component_ok i wanted read at (o ∷ os) x e =
-    let a = bind_ok (due_at wanted at (o ∷ os)) (λ h. inside (Component i) (read at h (o ∷ os)) >>= λ v. Ok (v, h.size + h.contents)) x e in
-    let b = bind_ok (inside (Component i) (read at a.0 (o ∷ os))) (λ v. Ok (v, a.0.size + a.0.contents)) x a.2 in
-    let pair = ok_is {F = AbstractBreach} (b.0, a.0.size + a.0.contents) x b.2 in
-    (a.0, a.1, inside_ok (Component i) (read at a.0 (o ∷ os)) b.0 b.1 ∙ ap (λ (p : AbstractValue × ℕ). Ok p.0) pair, sym (ap (λ (p : AbstractValue × ℕ). p.1) pair))
+pub moved : (c : AbstractBreach) (m n : ℕ) → m ≡ n → ◌≡◌ {A = AbstractBreach} (record { code = c.code; at = m; path = c.path }) (record { code = c.code; at = n; path = c.path })
+moved c m n e = let at : ℕ → AbstractBreach = λ k. record { code = c.code; at = k; path = c.path } in ap at e
 
-pub component_err : (i : ℕ) (wanted : Tag → Bool) (read : Reader) (at : ℕ) (os : List ℕ) (b : AbstractBreach) → component_at i wanted read at os ≡ Err b
-    → ((os ≡ []) × (b ≡ missing i at)) ⊎ (((os ≡ [] → ⊥) × (due_at wanted at os ≡ Err b)) ⊎ ((h : Head) × (c : AbstractBreach) × (due_at wanted at os ≡ Ok h) × (read at h os ≡ Err c) × (b ≡ below (Component i) c)))
-unfolding component_at
-component_err i wanted read at [] b e = inl (refl, sym (err_is {A = AbstractValue × ℕ} (missing i at) b e))
-component_err i wanted read at (o ∷ os) b e =
-    elim (bind_err (due_at wanted at (o ∷ os)) (λ h. inside (Component i) (read at h (o ∷ os)) >>= λ v. Ok (v, h.size + h.contents)) b e) [
-      | inl due ↦ inr (inl (λ empty. absurd cc, due))
-      | inr (h, due, rest) ↦
-          let c = inside_err (Component i) (read at h (o ∷ os)) (h.size + h.contents) b rest in
-          inr (inr (h, c.0, due, c.1, c.2))
-    ]
+pub fault_after : (c : Code) (at : ℕ) → fault c at ≡ after at (here c)
+fault_after c at = moved (here c) at (at + 0) (omega arith)
+
+pub after_after : (m n : ℕ) (c : AbstractBreach) → after (m + n) c ≡ after m (after n c)
+after_after m n c = moved c (m + n + c.at) (m + (n + c.at)) (omega arith)
+
+pub after_none : (c : AbstractBreach) → after 0 c ≡ c
+after_none c = moved c (0 + c.at) c.at (omega arith)
+
+-- a fault at an offset alone has no path
+pub due_path : (wanted : Tag → Bool) (at : ℕ) (os : List ℕ) (b : AbstractBreach) → due_at wanted at os ≡ Err b → length b.path ≡ 0
+due_path wanted at os b e = let d = due_err wanted at os b e in ap (λ (b : AbstractBreach). length b.path) d.2

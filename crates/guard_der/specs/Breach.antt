@@ -3,19 +3,23 @@
 -- A place is an offset in the message or in the contents of an element in it. It is reached where all octets before it,
 -- there and in all contents round it, are encodings of values of the parts that are due. At most one reached place is at fault:
 -- behind it none is reached.
-use Rattle.std.specs.Prelude.{◌≡◌, ◌≢◌, ℕ, zero, suc, ◌+◌, Bool, false, ◌&&◌, ◌||◌, List, [], ◌∷◌, ◌++◌, length, take, drop, nat_lt, nat_le, nat_eq, Option, Some, None, Ok, Err, IsTrue, if◌then◌else◌, ◌⊎◌}
+use Rattle.std.specs.Prelude.{◌≡◌, ◌≢◌, ℕ, zero, suc, ◌+◌, Bool, true, false, not, ◌&&◌, ◌||◌, List, [], ◌∷◌, ◌++◌, length, take, drop, Option, Some, None, Ok, Err, IsTrue, if◌then◌else◌, ◌⊎◌}
 use Rattle.guard_model.specs.declared.site.Step.{Step}
-use Rattle.guard_model.specs.declared.site.Step.TheVariants.{Component}
+use Rattle.guard_model.specs.declared.site.Step.TheVariants.{Component, Element}
 use Rattle.guard_model.specs.declared.tag.Tag.{Tag}
-use Rattle.guard_model.specs.Tags.{class_rank}
 use Rattle.guard_model.specs.AbstractType as type
 use Rattle.guard_model.specs.AbstractType.{AbstractType, AbstractKind, Components, type_of, no_components, component}
-use Rattle.guard_model.specs.AbstractValue.{AbstractValue, Fields}
+use Rattle.guard_model.specs.AbstractValue as value
+use Rattle.guard_model.specs.AbstractValue.{AbstractValue, Fields, Items}
+use Rattle.guard_tagcheck.specs.FirstTags.{same_tag, begins_with, one_begins_with}
 use Rattle.guard_der.specs.declared.breach.Code.{Code}
 use Rattle.guard_der.specs.declared.breach.Code.TheVariants as code
 use Rattle.guard_der.specs.Head.{Head, head_of}
-use Rattle.guard_der.specs.Der.{der, component_octets, is_constructed}
-use Rattle.guard_der.specs.Fits.{fits, fits_fields}
+use Rattle.guard_der.specs.Element.{tagged}
+use Rattle.guard_der.specs.Der.{Part, ◌>>=◌, der, contents_octets, parts_of, item_encodings, joined, is_constructed, is_left_out, tag_before}
+use Rattle.guard_der.specs.Fits.{fits, fits_kind, fits_fields, every_fits, count, descends, ascend_from}
+use Rattle.guard_der.specs.Sound.{is_mandatory}
+use Rattle.guard_der.specs.Simple.{simple_fault}
 
 -- offset and path count from where what is spoken of begins
 pub record AbstractBreach : Type 0 where
@@ -34,19 +38,14 @@ after n b = record { code = b.code; at = n + b.at; path = b.path }
 abbrev pub below : Step → AbstractBreach → AbstractBreach
 below step b = record { code = b.code; at = b.at; path = step ∷ b.path }
 
-abbrev pub same_tag : Tag → Tag → Bool
-same_tag a b = nat_eq (class_rank a.class) (class_rank b.class) && nat_eq a.number b.number
+-- What may be at fault in an element of some type, and in contents that stand behind so many octets of header.
+abbrev pub Faulty : Type 1
+Faulty = List ℕ → AbstractBreach → Type 0
 
--- an encoding of the type may begin with this tag
-abbrev pub begins_with : AbstractType → Tag → Bool
-begins_with (type_of [] kind cons) tag = false
-begins_with (type_of (t ∷ ts) kind cons) tag = same_tag t tag
+abbrev pub FaultyContents : Type 1
+FaultyContents = ℕ → List ℕ → AbstractBreach → Type 0
 
--- the first i components
-abbrev pub first_components : ℕ → Components → Components
-first_components zero cs = no_components
-first_components (suc i) no_components = no_components
-first_components (suc i) (component name t presence cs) = component name t presence (first_components i cs)
+-- ---- one element
 
 -- What stands at the front is at fault where any element is due of which `wanted` tells the tags: its header, or its tag.
 abbrev pub NotDue : (Tag → Bool) → List ℕ → Code → Type 0
@@ -54,65 +53,220 @@ NotDue wanted octets c =
     (head_of octets ≡ Err c)
     ⊎ ((h : Head) × (head_of octets ≡ Ok h) × (wanted h.tag ≡ false) × (c ≡ code.UnexpectedTag))
 
--- A BOOLEAN is 00 or FF (X.690 8.2, 11.1).
-abbrev pub boolean_fault : List ℕ → Option Code
-boolean_fault (o ∷ []) = if nat_eq o 0 || nat_eq o 255 then None else Some code.BooleanContents
-boolean_fault _ = Some code.BooleanContents
+-- An element with such a tag begins with these octets, and is at fault in its form or its contents.
+abbrev pub FaultInElement : (Tag → Bool) → Bool → FaultyContents → Faulty
+FaultInElement wanted constructed Contents octets b =
+    (h : Head) × (head_of octets ≡ Ok h) × IsTrue (wanted h.tag)
+    × (((h.constructed ≢ constructed) × (b ≡ here code.WrongForm))
+    ⊎ ((h.constructed ≡ constructed) × Contents h.size (take h.contents (drop h.size octets)) b))
 
--- the first nine bits are equal (X.690 8.3.2)
-abbrev pub nine_equal : List ℕ → Bool
-nine_equal (a ∷ b ∷ os) = (nat_eq a 0 && nat_lt b 128) || (nat_eq a 255 && nat_le 128 b)
-nine_equal _ = false
+-- One element is due and nothing else, in a message and in a wrapper.
+abbrev pub FaultAlone : (Tag → Bool) → (List ℕ → Type 0) → Faulty → Faulty
+FaultAlone wanted Encodes Inside octets b =
+    ((c : Code) × NotDue wanted octets c × (b ≡ here c))
+    ⊎ Inside octets b
+    ⊎ ((front : List ℕ) × (rest : List ℕ) × Encodes front × (octets ≡ front ++ rest) × (rest ≢ []) × (b ≡ after (length front) (here code.TrailingOctets)))
 
--- An INTEGER has at least one octet, and in this profile at most sixteen (X.690 8.3).
-abbrev pub integer_fault : List ℕ → Option Code
-integer_fault [] = Some code.IntegerContents
-integer_fault (o ∷ os) =
-    if nine_equal (o ∷ os) then Some code.IntegerContents
-    else if nat_lt 16 (length (o ∷ os)) then Some code.IntegerTooLong
-    else None
+abbrev pub FaultInWrapper : (Tag → Bool) → (List ℕ → Type 0) → Faulty → FaultyContents
+FaultInWrapper wanted Encodes Inside size octets b = (c : AbstractBreach) × FaultAlone wanted Encodes Inside octets c × (b ≡ after size c)
 
--- The octets are the encodings of the first i components: the place behind them is reached.
-abbrev pub Reached : ℕ → Components → List ℕ → Type 0
-Reached i cs octets =
-    (fs : Fields) × IsTrue (fits_fields (first_components i cs) fs) × (component_octets (first_components i cs) fs ≡ Some octets)
+-- the octets are the encoding of a value
+abbrev pub Encodes : (AbstractValue → Bool) → (AbstractValue → Option (List ℕ)) → List ℕ → Type 0
+Encodes fit encode octets = (v : AbstractValue) × IsTrue (fit v) × (encode v ≡ Some octets)
+
+-- An element of a type with these tags, each but the last a wrapper round the next.
+abbrev pub FaultInTags : (List Tag → List ℕ → Type 0) → Bool → FaultyContents → Faulty → List Tag → Faulty
+FaultInTags EncodesIn constructed Contents Untagged [] octets b = Untagged octets b
+FaultInTags EncodesIn constructed Contents Untagged (t ∷ []) octets b = FaultInElement (same_tag t) constructed Contents octets b
+FaultInTags EncodesIn constructed Contents Untagged (t ∷ u ∷ ts) octets b =
+    FaultInElement (same_tag t) true (FaultInWrapper (same_tag u) (EncodesIn (u ∷ ts)) (FaultInTags EncodesIn constructed Contents Untagged (u ∷ ts))) octets b
+
+-- the encodings of values of a kind with these tags
+abbrev pub EncodesIn : AbstractKind → List Tag → List ℕ → Type 0
+EncodesIn kind tags octets = Encodes (fits_kind kind) (λ v. contents_octets kind v >>= λ contents. tagged tags (is_constructed kind) contents) octets
+
+-- ---- components
+
+abbrev pub is_found : Option ℕ → Bool
+is_found None = false
+is_found (Some i) = true
+
+-- the first of these components to which an element with this tag belongs; the first of all is component i
+abbrev pub one_with : ℕ → Components → Tag → Option ℕ
+one_with i no_components tag = None
+one_with i (component name t presence rest) tag = if begins_with t tag then Some i else one_with (suc i) rest tag
+
+-- the same in a SEQUENCE, where only components that can be absent are passed over
+abbrev pub next_with : ℕ → Components → Tag → Option ℕ
+next_with i no_components tag = None
+next_with i (component name t presence rest) tag =
+    if begins_with t tag then Some i else if is_mandatory presence then None else next_with (suc i) rest tag
+
+-- the first component that can't be absent
+abbrev pub next_mandatory : ℕ → Components → Option ℕ
+next_mandatory i no_components = None
+next_mandatory i (component name t presence rest) = if is_mandatory presence then Some i else next_mandatory (suc i) rest
+
+-- the first i components
+abbrev pub first_components : ℕ → Components → Components
+first_components zero cs = no_components
+first_components (suc i) no_components = no_components
+first_components (suc i) (component name t presence cs) = component name t presence (first_components i cs)
+
+-- the components behind them
+abbrev pub other_components : ℕ → Components → Components
+other_components zero cs = cs
+other_components (suc i) no_components = no_components
+other_components (suc i) (component name t presence cs) = other_components i cs
+
+-- The last of these components is sent, or there is none.
+abbrev pub last_is_sent : Components → Fields → Bool
+last_is_sent (component name t presence no_components) (value.present v fs) = not (is_left_out presence v)
+last_is_sent (component name t presence no_components) fs = false
+last_is_sent (component name t presence cs) (value.present v fs) = last_is_sent cs fs
+last_is_sent (component name t presence cs) (value.absent fs) = last_is_sent cs fs
+last_is_sent _ _ = true
+
+-- The octets begin with an encoding of component i that equals its default.
+abbrev pub SendsDefault : Components → ℕ → List ℕ → Type 0
+SendsDefault no_components i octets = ⊥
+SendsDefault (component name t presence rest) zero octets =
+    (v : AbstractValue) × (front : List ℕ) × (behind : List ℕ)
+    × IsTrue (fits t v) × (der t v ≡ Some front) × IsTrue (is_left_out presence v) × (octets ≡ front ++ behind)
+SendsDefault (component name t presence rest) (suc i) octets = SendsDefault rest i octets
+
+-- The element of component i is at fault, or it is its default.
+abbrev pub FaultInSent : Components → (ℕ → Faulty) → ℕ → Faulty
+FaultInSent cs Part i octets c = Part i octets c ⊎ (SendsDefault cs i octets × (c ≡ here code.DefaultPresent))
+
+-- The octets are what is sent of the first i components, up to and with component i - 1: the place behind them is reached.
+abbrev pub SequenceReached : ℕ → Components → List ℕ → Type 0
+SequenceReached i cs octets =
+    (fs : Fields) × IsTrue (fits_fields (first_components i cs) fs)
+    × (contents_octets (type.sequence (first_components i cs)) (value.fields fs) ≡ Some octets) × IsTrue (last_is_sent (first_components i cs) fs)
+
+-- At the place behind the first i components stands a fault; these are the components that are left.
+abbrev pub SequenceFault : ℕ → Components → (ℕ → Faulty) → Faulty
+SequenceFault i left Sent octets b =
+    -- the contents end before a mandatory component
+    ((j : ℕ) × (octets ≡ []) × (next_mandatory i left ≡ Some j) × (b ≡ below (Component j) (here code.MissingComponent)))
+    -- an element stands there that can't come next
+    ⊎ ((c : Code) × (octets ≢ []) × NotDue (λ tag. is_found (next_with i left tag)) octets c × (b ≡ here c))
+    -- the element of a component is at fault
+    ⊎ ((h : Head) × (j : ℕ) × (c : AbstractBreach)
+    × (head_of octets ≡ Ok h) × (next_with i left h.tag ≡ Some j) × Sent j octets c × (b ≡ below (Component j) c))
+
+-- a fitting value or none at each component
+abbrev pub fits_partly : Components → Fields → Bool
+fits_partly no_components value.no_fields = true
+fits_partly (component name t presence rest) (value.present v fs) = fits t v && fits_partly rest fs
+fits_partly (component name t presence rest) (value.absent fs) = fits_partly rest fs
+fits_partly _ _ = false
+
+-- component i is sent
+abbrev pub is_sent : ℕ → Components → Fields → Bool
+is_sent zero (component name t presence rest) (value.present v fs) = not (is_left_out presence v)
+is_sent (suc i) (component name t presence rest) (value.present v fs) = is_sent i rest fs
+is_sent (suc i) (component name t presence rest) (value.absent fs) = is_sent i rest fs
+is_sent _ _ _ = false
+
+-- the first mandatory component without a value
+abbrev pub missing : ℕ → Components → Fields → Option ℕ
+missing i (component name t presence rest) (value.absent fs) = if is_mandatory presence then Some i else missing (suc i) rest fs
+missing i (component name t presence rest) (value.present v fs) = missing (suc i) rest fs
+missing i _ _ = None
+
+-- the tag comes after those of all these parts
+abbrev pub is_after : Tag → List Part → Bool
+is_after tag [] = true
+is_after tag (p ∷ ps) = tag_before p.tag tag && is_after tag ps
+
+-- The octets are what is sent of some components of a SET: the place behind them is reached.
+abbrev pub SetReached : Components → Fields → List Part → List ℕ → Type 0
+SetReached cs fs ps octets =
+    IsTrue (fits_partly cs fs) × (parts_of cs fs ≡ Some ps) × (contents_octets (type.set cs) (value.fields fs) ≡ Some octets)
+
+-- At the place behind these parts stands a fault.
+abbrev pub SetFault : Components → (ℕ → Faulty) → Fields → List Part → Faulty
+SetFault cs Sent fs ps octets b =
+    -- the contents end without a mandatory component
+    ((j : ℕ) × (octets ≡ []) × (missing 0 cs fs ≡ Some j) × (b ≡ below (Component j) (here code.MissingComponent)))
+    -- an element stands there that is of no component
+    ⊎ ((c : Code) × (octets ≢ []) × NotDue (λ tag. is_found (one_with 0 cs tag)) octets c × (b ≡ here c))
+    ⊎ ((h : Head) × (j : ℕ) × (head_of octets ≡ Ok h) × (one_with 0 cs h.tag ≡ Some j)
+    -- its tag doesn't ascend
+    × (((is_after h.tag ps ≡ false) × (b ≡ below (Component j) (here code.SetOrder)))
+    -- its component was there before
+    ⊎ ((is_after h.tag ps ≡ true) × (is_sent j cs fs ≡ true) × (b ≡ here code.UnexpectedTag))
+    -- the element of a component is at fault
+    ⊎ ((c : AbstractBreach) × (is_after h.tag ps ≡ true) × (is_sent j cs fs ≡ false) × Sent j octets c × (b ≡ below (Component j) c))))
+
+-- The element of the chosen alternative is at fault.
+abbrev pub FaultInChosen : Components → (ℕ → Faulty) → Faulty
+FaultInChosen cs Part octets b =
+    (h : Head) × (j : ℕ) × (c : AbstractBreach)
+    × (head_of octets ≡ Ok h) × (one_with 0 cs h.tag ≡ Some j) × Part j octets c × (b ≡ below (Component j) c)
+
+-- ---- elements of an OF type
+
+abbrev pub last_of : List (List ℕ) → List ℕ
+last_of [] = []
+last_of (os ∷ []) = os
+last_of (os ∷ es) = last_of es
+
+-- The encodings are those of elements of the type, ascending where they have to be: the place behind them is reached.
+abbrev pub ItemsReached : AbstractType → Bool → Items → List (List ℕ) → Type 0
+ItemsReached t ordered vs es = IsTrue (every_fits (fits t) vs) × (item_encodings (der t) vs ≡ Some es) × IsTrue (not ordered || ascend_from [] es)
+
+-- At the place behind i elements, of which this is the last encoding, stands a fault.
+abbrev pub ItemFault : AbstractType → Bool → Faulty → ℕ → List ℕ → Faulty
+ItemFault t ordered Inside i before octets b =
+    ((c : Code) × (octets ≢ []) × NotDue (begins_with t) octets c × (b ≡ below (Element i) (here c)))
+    ⊎ ((c : AbstractBreach) × Inside octets c × (b ≡ below (Element i) c))
+    -- an element that descends from the one before it
+    ⊎ ((front : List ℕ) × (behind : List ℕ) × (ordered ≡ true) × Encodes (fits t) (der t) front × (octets ≡ front ++ behind)
+    × IsTrue (descends before front) × (b ≡ below (Element i) (here code.SetOfOrder)))
+
+-- ---- all kinds
+
+-- Contents of a simple kind are at fault.
+abbrev pub FaultInSimple : AbstractKind → FaultyContents
+FaultInSimple kind size octets b = (c : Code) × (simple_fault kind octets ≡ Some c) × (b ≡ here c)
 
 abbrev mutual
   -- An element of the type is due, begins with these octets, and is at fault in its form or its contents.
   pub FaultIn : AbstractType → List ℕ → AbstractBreach → Type 0
-  FaultIn (type_of tags kind cons) octets b =
-      (h : Head) × (head_of octets ≡ Ok h) × IsTrue (begins_with (type_of tags kind cons) h.tag)
-      × (((h.constructed ≢ is_constructed kind) × (b ≡ here code.WrongForm))
-      ⊎ ((h.constructed ≡ is_constructed kind) × FaultInContents kind h.size (take h.contents (drop h.size octets)) b))
+  FaultIn (type_of tags kind cons) octets b = FaultInTags (EncodesIn kind) (is_constructed kind) (FaultInContents kind) (FaultUntagged kind) tags octets b
 
   -- Contents octets of the kind are at fault; so many octets of header stand before them.
   pub FaultInContents : AbstractKind → ℕ → List ℕ → AbstractBreach → Type 0
-  FaultInContents type.boolean size octets b = (c : Code) × (boolean_fault octets ≡ Some c) × (b ≡ here c)
-  FaultInContents (type.integer ns) size octets b = (c : Code) × (integer_fault octets ≡ Some c) × (b ≡ here c)
   FaultInContents (type.sequence cs) size octets b =
       (i : ℕ) × (front : List ℕ) × (rest : List ℕ) × (c : AbstractBreach)
-      × (octets ≡ front ++ rest) × Reached i cs front × FaultAt i i cs rest c × (b ≡ after (size + length front) c)
+      × (octets ≡ front ++ rest) × SequenceReached i cs front × SequenceFault i (other_components i cs) (FaultInSent cs (FaultInPart cs)) rest c × (b ≡ after (size + length front) c)
+  FaultInContents (type.set cs) size octets b =
+      (fs : Fields) × (ps : List Part) × (front : List ℕ) × (rest : List ℕ) × (c : AbstractBreach)
+      × (octets ≡ front ++ rest) × SetReached cs fs ps front × SetFault cs (FaultInSent cs (FaultInPart cs)) fs ps rest c × (b ≡ after (size + length front) c)
+  FaultInContents (type.choice cs) size octets b =
+      FaultInWrapper (one_begins_with cs) (Encodes (fits_kind (type.choice cs)) (contents_octets (type.choice cs))) (FaultInChosen cs (FaultInPart cs)) size octets b
+  FaultInContents (type.sequence_of t) size octets b =
+      (vs : Items) × (es : List (List ℕ)) × (rest : List ℕ) × (c : AbstractBreach)
+      × (octets ≡ joined es ++ rest) × ItemsReached t false vs es × ItemFault t false (FaultIn t) (count vs) (last_of es) rest c × (b ≡ after (size + length (joined es)) c)
+  FaultInContents (type.set_of t) size octets b =
+      (vs : Items) × (es : List (List ℕ)) × (rest : List ℕ) × (c : AbstractBreach)
+      × (octets ≡ joined es ++ rest) × ItemsReached t true vs es × ItemFault t true (FaultIn t) (count vs) (last_of es) rest c × (b ≡ after (size + length (joined es)) c)
+  FaultInContents kind size octets b = FaultInSimple kind size octets b
 
-  -- At the place where component i is due (`left` of the list's components are to be passed over) stands a fault.
-  pub FaultAt : ℕ → ℕ → Components → List ℕ → AbstractBreach → Type 0
-  -- no component is left: nothing may follow
-  FaultAt left i no_components octets b = (octets ≢ []) × (c : Code) × NotDue (λ tag. false) octets c × (b ≡ here c)
-  FaultAt zero i (component name t presence cs) octets b =
-      -- the contents end before a mandatory component
-      ((octets ≡ []) × (b ≡ below (Component i) (here code.MissingComponent)))
-      -- an element of another kind stands there
-      ⊎ ((octets ≢ []) × (c : Code) × NotDue (begins_with t) octets c × (b ≡ here c))
-      -- the component's own element is at fault
-      ⊎ ((c : AbstractBreach) × FaultIn t octets c × (b ≡ below (Component i) c))
-  FaultAt (suc left) i (component name t presence cs) octets b = FaultAt left i cs octets b
+  -- An element of an untagged CHOICE is that of the chosen alternative.
+  pub FaultUntagged : AbstractKind → List ℕ → AbstractBreach → Type 0
+  FaultUntagged (type.choice cs) octets b = FaultInChosen cs (FaultInPart cs) octets b
+  FaultUntagged kind octets b = ⊥
+
+  -- The element of component i is at fault in its form or its contents.
+  pub FaultInPart : Components → ℕ → List ℕ → AbstractBreach → Type 0
+  FaultInPart no_components i octets b = ⊥
+  FaultInPart (component name t presence rest) zero octets b = FaultIn t octets b
+  FaultInPart (component name t presence rest) (suc i) octets b = FaultInPart rest i octets b
 
 -- The octets are no encoding of a value of the type, and this is their breach.
 abbrev pub IsBreach : AbstractType → List ℕ → AbstractBreach → Type 0
-IsBreach t octets b =
-    -- the message begins with one element of the type
-    ((c : Code) × NotDue (begins_with t) octets c × (b ≡ here c))
-    ⊎ FaultIn t octets b
-    -- and nothing follows it
-    ⊎ ((v : AbstractValue) × (front : List ℕ) × (rest : List ℕ)
-    × IsTrue (fits t v) × (der t v ≡ Some front) × (octets ≡ front ++ rest) × (rest ≢ [])
-    × (b ≡ record { code = code.TrailingOctets; at = length front; path = [] }))
+IsBreach t octets b = FaultAlone (begins_with t) (Encodes (fits t) (der t)) (FaultIn t) octets b

@@ -26,8 +26,9 @@ element tag constructed contents =
     then Some (identifier_octets tag constructed ++ length_octets (length contents) ++ contents)
     else None
 
--- each tag but the last is a wrapper, the outermost first (X.690 8.14); without a tag there is no encoding
+-- Each tag but the last is a wrapper, the outermost first (X.690 8.14). Without a tag the contents stand alone, as those of an
+-- untagged CHOICE do, which are the chosen alternative's encoding (8.13).
 abbrev pub tagged : List Tag → Bool → List ℕ → Option (List ℕ)
-tagged [] constructed contents = None
+tagged [] constructed contents = Some contents
 tagged (t ∷ []) constructed contents = element t constructed contents
 tagged (t ∷ u ∷ ts) constructed contents = option_and_then (element t true) (tagged (u ∷ ts) constructed contents)

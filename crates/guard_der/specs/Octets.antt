@@ -24,3 +24,12 @@ signed_octets (negsuc n) = map (λ octet. 255 - octet) (fewest 256 128 15 n)
 -- The least octets of n to the base 128, at most 19. Bit 8 is set on each but the last (X.690 8.1.2.4.2).
 unfoldable pub base_128 : ℕ → List ℕ
 base_128 n = if nat_lt n 128 then n ∷ [] else map (λ digit. 128 + digit) (fewest 128 128 17 (n / 128)) ++ (n % 128) ∷ []
+
+-- each bit turned over
+abbrev pub turned : List ℕ → List ℕ
+turned os = map (λ o. 255 - o) os
+
+-- The number that octets spell in two's complement: bit 8 of the first is the sign (X.690 8.3.3).
+unfoldable pub twos_complement : List ℕ → ℤ
+twos_complement [] = pos 0
+twos_complement (o ∷ os) = if nat_lt o 128 then pos (big_endian (o ∷ os)) else negsuc (big_endian (turned (o ∷ os)))

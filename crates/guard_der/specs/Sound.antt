@@ -1,43 +1,64 @@
--- Types that have encodings within this profile's limits. For now each type has one tag, and no wrapper round it.
-use Rattle.std.specs.Prelude.{ℕ, suc, ◌+◌, Bool, true, false, ◌&&◌, List, [], ◌∷◌, length, max, nat_le}
+-- Types that have encodings within this profile's limits, and whose encodings tell their values.
+use Rattle.std.specs.Prelude.{ℕ, Bool, true, false, ◌&&◌, List, length, nat_le, Option, Some, None}
 use Rattle.guard_model.specs.AbstractType as type
-use Rattle.guard_model.specs.AbstractType.{AbstractType, AbstractKind, Components, type_of, no_components, component}
-use Rattle.guard_model.specs.declared.tag.Tag.{Tag}
+use Rattle.guard_model.specs.AbstractType.{AbstractType, AbstractKind, AbstractPresence, Components, Constraint, Constraints, Element, type_of, no_components, component}
+use Rattle.guard_tagcheck.specs.Distinct.{AbstractClash}
+use Rattle.guard_tagcheck.specs.Search.{first_clash}
+use Rattle.guard_tagcheck.specs.Limits.{nesting, count, is_tagged, are_low}
+use Rattle.guard_der.specs.Der.{der}
+use Rattle.guard_der.specs.Fits.{fits}
 
--- one tag, its number below 2^28
-abbrev pub is_tagged_once : List Tag → Bool
-is_tagged_once (t ∷ []) = nat_le t.number 268435455
-is_tagged_once _ = false
+abbrev pub is_mandatory : AbstractPresence → Bool
+is_mandatory type.mandatory = true
+is_mandatory _ = false
 
-abbrev pub count : Components → ℕ
-count no_components = 0
-count (component name t presence rest) = suc (count rest)
+-- ---- constraints and defaults
+
+-- A range applies to INTEGER alone. No other constraint is taken yet.
+abbrev pub applies : AbstractKind → Element → Bool
+applies (type.integer ns) (type.range low high) = true
+applies _ _ = false
+
+abbrev pub all_apply : AbstractKind → Constraints → Bool
+all_apply kind type.no_constraints = true
+all_apply kind (type.constraint (type.at site e) rest) = applies kind e && all_apply kind rest
+
+-- this profile's limit on the encoding of a value that stands in a type
+abbrev pub is_short : Option (List ℕ) → Bool
+is_short None = false
+is_short (Some os) = nat_le (length os) 1048576
+
+-- A default is a value of its component's type. None may be left pending.
+abbrev pub is_proper_presence : AbstractType → AbstractPresence → Bool
+is_proper_presence t type.mandatory = true
+is_proper_presence t type.optional = true
+is_proper_presence t type.pending = false
+is_proper_presence t (type.default d) = fits t d && is_short (der t d)
+
+-- ---- all of it
 
 abbrev mutual
-  -- how deep an encoding of the type is nested: its tags, and the deepest of its parts
-  pub nesting : AbstractType → ℕ
-  nesting (type_of tags kind cons) = length tags + nesting_inside kind
+  pub is_proper : AbstractType → Bool
+  is_proper (type_of tags kind cons) = is_tagged tags kind && are_low tags && all_apply kind cons && is_proper_kind kind
 
-  pub nesting_inside : AbstractKind → ℕ
-  nesting_inside (type.sequence cs) = deepest cs
-  nesting_inside _ = 0
+  pub is_proper_kind : AbstractKind → Bool
+  is_proper_kind (type.sequence cs) = nat_le (count cs) 64 && are_proper cs
+  is_proper_kind (type.set cs) = nat_le (count cs) 64 && are_proper cs
+  is_proper_kind (type.choice cs) = nat_le (count cs) 64 && are_proper cs
+  is_proper_kind (type.sequence_of t) = is_proper t
+  is_proper_kind (type.set_of t) = is_proper t
+  is_proper_kind _ = true
 
-  pub deepest : Components → ℕ
-  deepest no_components = 0
-  deepest (component name t presence rest) = max (nesting t) (deepest rest)
+  pub are_proper : Components → Bool
+  are_proper no_components = true
+  are_proper (component name t presence rest) = is_proper t && is_proper_presence t presence && are_proper rest
 
-abbrev mutual
-  -- each type inside has its tag, and no list of components is too long
-  pub keeps_limits : AbstractType → Bool
-  keeps_limits (type_of tags kind cons) = is_tagged_once tags && parts_keep_limits kind
+-- No two components that must differ share a tag: guard_tagcheck proves that there is no first clash where its `Distinct` holds,
+-- and one where it doesn't.
+abbrev pub none_clash : Option AbstractClash → Bool
+none_clash None = true
+none_clash (Some clash) = false
 
-  pub parts_keep_limits : AbstractKind → Bool
-  parts_keep_limits (type.sequence cs) = nat_le (count cs) 64 && components_keep_limits cs
-  parts_keep_limits _ = true
-
-  pub components_keep_limits : Components → Bool
-  components_keep_limits no_components = true
-  components_keep_limits (component name t presence rest) = keeps_limits t && components_keep_limits rest
-
+-- Tags are there, low and distinct; lists of components, nesting and defaults keep their limits; constraints apply.
 abbrev pub is_sound : AbstractType → Bool
-is_sound t = keeps_limits t && nat_le (nesting t) 32
+is_sound t = is_proper t && none_clash (first_clash t) && nat_le (nesting t) 32

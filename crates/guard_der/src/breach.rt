@@ -42,6 +42,36 @@ pub enum Code {
     /// More than sixteen contents octets.
     #[error("E11 IntegerTooLong")]
     IntegerTooLong,
+    /// An ENUMERATED whose number is no item's (X.690 8.4).
+    #[error("E12 UnknownEnumeration")]
+    UnknownEnumeration,
+    /// A NULL with contents (X.690 8.8.2).
+    #[error("E13 NullContents")]
+    NullContents,
+    /// A BIT STRING without its first octet, with more than seven unused bits, or with unused bits of no octet (X.690 8.6.2).
+    #[error("E14 BitStringContents")]
+    BitStringContents,
+    /// An unused bit that is not zero (X.690 11.2.1).
+    #[error("E15 UnusedBits")]
+    UnusedBits,
+    /// No subidentifier, one that begins with 80, or one that doesn't end (X.690 8.19.2).
+    #[error("E16 ObjectIdContents")]
+    ObjectIdContents,
+    /// A subidentifier of more than 128 bits.
+    #[error("E17 ObjectIdTooLong")]
+    ObjectIdTooLong,
+    /// Octets that are no characters of the kind, or no UTF-8 (X.690 8.23).
+    #[error("E18 Characters")]
+    Characters,
+    /// A component of a SET whose tag isn't above that of the one before it (X.690 10.3).
+    #[error("E19 SetOrder")]
+    SetOrder,
+    /// An element of a SET OF that descends from the one before it (X.690 11.6).
+    #[error("E20 SetOfOrder")]
+    SetOfOrder,
+    /// A component that is its default (X.690 11.5).
+    #[error("E21 DefaultPresent")]
+    DefaultPresent,
     /// Octets after the one element that a message or a wrapper holds.
     #[error("E22 TrailingOctets")]
     TrailingOctets,

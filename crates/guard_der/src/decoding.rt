@@ -1,23 +1,31 @@
 //! The value that octets encode, or their breach.
-ghost use Rattle.std.specs.Prelude.{◌≡◌, ℕ, ◌+◌, ◌-◌, ◌<◌, ◌≤◌, ◌^◌, length, map, List, Some, None, Ok, Err, IfOk, IfErr, IfSome, IsTrue, option_map, OnOk};
-ghost use Rattle.guard_model.specs.declared.site.Step.TheVariants.{Component};
+ghost use Rattle.std.specs.Prelude.{◌≡◌, ◌≢◌, ◌&&◌, ℕ, ◌+◌, ◌-◌, ◌<◌, ◌≤◌, ◌^◌, [], length, map, List, Some, None, Ok, Err, IfOk, IfErr, IfSome, IsTrue};
 ghost use Rattle.guard_model.specs.Answer.{Gives};
+ghost use Rattle.guard_model.specs.AbstractType.{type_of, no_constraints};
 ghost use Rattle.guard_model.specs.AbstractValue.{AbstractValue, no_fields};
-ghost use Rattle.guard_model.specs.TypeView.{type_view, kind_view, component_view, components_of};
-ghost use Rattle.guard_model.specs.ValueView.{value_view, fields_view};
-ghost use Rattle.guard_der.specs.Octets.{big_endian};
+ghost use Rattle.guard_model.specs.TypeView.{type_view, kind_view, component_view, components_of, presence_view};
+ghost use Rattle.guard_model.specs.ValueView.{value_view, field_view, fields_view, items_view};
+ghost use Rattle.guard_tagcheck.specs.FirstTags.{begins_with};
+ghost use Rattle.guard_tagcheck.specs.Limits.{nesting, nesting_inside, deepest};
 ghost use Rattle.guard_der.specs.Head.{head_of};
-ghost use Rattle.guard_der.specs.Der.{der, is_constructed};
-ghost use Rattle.guard_der.specs.Fits.{fits};
-ghost use Rattle.guard_der.specs.Sound.{is_sound, keeps_limits, parts_keep_limits, components_keep_limits, nesting, nesting_inside, deepest, count};
-ghost use Rattle.guard_der.specs.Breach.{AbstractBreach, IsBreach, begins_with, same_tag, below};
-ghost use Rattle.guard_der.specs.Reading.{due_at, component_at, end_at, element_at, contents_at, fields_at, message_of, boolean_of, fault, located};
+ghost use Rattle.guard_der.specs.Der.{der, is_left_out as left_out};
+ghost use Rattle.guard_der.specs.Fits.{fits, descends as descending};
+ghost use Rattle.guard_der.specs.Sound.{is_sound, is_proper, is_proper_kind, are_proper, is_proper_presence};
+ghost use Rattle.guard_der.specs.Breach.{AbstractBreach, IsBreach};
+ghost use Rattle.guard_der.specs.Reading.{due_at, alone_at, component_at, end_at, element_at, untagged_at, contents_at, chosen_at, part_at, simple_at, fields_at, item_alone, item_at, items_at, message_of, not_sent as unsent, all_absent, member_at, set_at};
 ghost use Rattle.guard_der.specs.Views.{head_view, breach_of};
 
-use crate::breach::{Breach, Code, DecodeFault};
-use crate::contents::{boolean_of, integer_of};
-use crate::head::{Head, head_at_front};
-use guard_model::{Comp, Kind, Path, Step, Tag, Ty, Value};
+mod set;
+
+use crate::breach::{Code, DecodeFault};
+use crate::contents::{fault_of_simple, value_of_simple};
+use crate::decoding::set::{completed, empty_slots, place_of, put};
+use crate::faults::{end, fault_at, header_at_front, wrong_form};
+use crate::fitting::ascending::descends;
+use crate::forms::{is_form, is_kind_constructed};
+use crate::head::Head;
+use crate::tags::{begins, begins_in, one_with};
+use guard_model::{Comp, Kind, Presence, Step, Tag, Ty, Value};
 use std::alloc::Global;
 
 /// The value of the type that the octets encode, all of them; or their breach.
@@ -42,45 +50,135 @@ fn message(alloc: Global, ty: &Ty, octets: &[u8]) -> Result<Value, DecodeFault>
     requires { IsTrue (is_sound (type_view ty.now)) }
     ensures { Gives value_view breach_of result (message_of (type_view ty.now) octets.now) }
 {
-    let head = due(ty, 0, octets)?;
-    let value = element(alloc, ty, 0, head, octets)?;
-    let end = head.size + head.contents;
-    if end < octets.len() {
-        return Err(fault_at(Code::TrailingOctets, end));
+    alone(alloc, &ty.tags, &ty.kind, 0, octets)
+}
+
+/// One element of a kind with these tags, and nothing after it.
+#[cycle(reading)]
+#[tactic(auto, unfolding(crate::specs::Reading::alone_at))]
+fn alone(
+    alloc: Global,
+    tags: &[Tag],
+    kind: &Kind,
+    at: usize,
+    octets: &[u8],
+) -> Result<Value, DecodeFault>
+    requires proper { IsTrue (is_proper (type_of tags.now (kind_view kind.now) no_constraints)) }
+    requires depth { nesting (type_of tags.now (kind_view kind.now) no_constraints) ≤ 32 }
+    requires room { at + length octets.now < 2 ^ 64 }
+    ensures { Gives value_view breach_of result (alone_at (begins_with (type_of tags.now (kind_view kind.now) no_constraints)) (element_at (type_of tags.now (kind_view kind.now) no_constraints)) at octets.now) }
+{
+    let head = due(tags, kind, at, octets)?;
+    let value = element(alloc, tags, kind, at, head, octets)?;
+    let size = head.size + head.contents;
+    if size < octets.len() {
+        return Err(fault_at(Code::TrailingOctets, at + size));
     }
     Ok(value)
 }
 
-/// An element of the type, its header read and its tag accepted.
+/// The header at the front, where an element of a kind with these tags is due.
+#[tactic(auto, unfolding(crate::specs::Reading::due_at))]
+fn due(tags: &[Tag], kind: &Kind, at: usize, octets: &[u8]) -> Result<Head, DecodeFault>
+    ensures { Gives head_view breach_of result (due_at (begins_with (type_of tags.now (kind_view kind.now) no_constraints)) at octets.now) }
+{
+    let head = header_at_front(at, octets)?;
+    if begins_in(tags, kind, head.tag) {
+        Ok(head)
+    } else {
+        Err(fault_at(Code::UnexpectedTag, at))
+    }
+}
+
+/// An element of a kind with these tags, its header read and its tag accepted.
 #[cycle(reading)]
-#[tactic(auto, unfolding(crate::specs::Reading::element_at))]
 fn element(
     alloc: Global,
-    ty: &Ty,
+    tags: &[Tag],
+    kind: &Kind,
     at: usize,
     head: Head,
     octets: &[u8],
 ) -> Result<Value, DecodeFault>
-    requires limits { IsTrue (keeps_limits (type_view ty.now)) }
-    requires depth { nesting (type_view ty.now) ≤ 32 }
+    requires proper { IsTrue (is_proper (type_of tags.now (kind_view kind.now) no_constraints)) }
+    requires depth { nesting (type_of tags.now (kind_view kind.now) no_constraints) ≤ 32 }
     requires header { head_of octets.now ≡ Ok (head_view head) }
     requires room { at + length octets.now < 2 ^ 64 }
-    ensures { Gives value_view breach_of result (element_at (type_view ty.now) at (head_view head) octets.now) }
+    ensures { Gives value_view breach_of result (element_at (type_of tags.now (kind_view kind.now) no_constraints) at (head_view head) octets.now) }
 {
-    if head.constructed != is_kind_constructed(&ty.kind) {
-        return Err(fault_at(Code::WrongForm, at));
+    if tags.is_empty() {
+        return untagged(alloc, kind, at, head, octets);
     }
     let (_, behind) = octets.split_at(head.size);
     let (inside, _) = behind.split_at(head.contents);
-    contents(alloc, &ty.kind, at, at + head.size, inside)
+    if tags.len() == 1 {
+        if !is_form(head.constructed, is_kind_constructed(kind)) {
+            return Err(wrong_form(at));
+        }
+        return contents(alloc, kind, at, at + head.size, inside);
+    }
+    if !head.constructed {
+        return Err(fault_at(Code::WrongForm, at));
+    }
+    alone(alloc, &tags[1..], kind, at + head.size, inside)
 }
 
-fn is_kind_constructed(kind: &Kind) -> bool
-    ensures { result ≡ is_constructed (kind_view kind.now) }
+/// An element of a kind without a tag.
+#[cycle(reading)]
+#[tactic(auto, unfolding(crate::specs::Reading::untagged_at))]
+fn untagged(
+    alloc: Global,
+    kind: &Kind,
+    at: usize,
+    head: Head,
+    octets: &[u8],
+) -> Result<Value, DecodeFault>
+    requires proper { IsTrue (is_proper_kind (kind_view kind.now)) }
+    requires depth { nesting_inside (kind_view kind.now) ≤ 32 }
+    requires header { head_of octets.now ≡ Ok (head_view head) }
+    requires room { at + length octets.now < 2 ^ 64 }
+    ensures { Gives value_view breach_of result (untagged_at (kind_view kind.now) at (head_view head) octets.now) }
 {
     match kind {
-        Kind::Bool | Kind::Int(_) => false,
-        Kind::Sequence(_) => true,
+        Kind::Choice(alternatives) => chosen(alloc, alternatives, at, head, octets),
+        Kind::Bool => Err(fault_at(Code::UnexpectedTag, at)),
+        Kind::Int(_) => Err(fault_at(Code::UnexpectedTag, at)),
+        Kind::Bits => Err(fault_at(Code::UnexpectedTag, at)),
+        Kind::Octets => Err(fault_at(Code::UnexpectedTag, at)),
+        Kind::Null => Err(fault_at(Code::UnexpectedTag, at)),
+        Kind::Oid => Err(fault_at(Code::UnexpectedTag, at)),
+        Kind::Enumerated(_) => Err(fault_at(Code::UnexpectedTag, at)),
+        Kind::Chars(_) => Err(fault_at(Code::UnexpectedTag, at)),
+        Kind::Sequence(_) => Err(fault_at(Code::UnexpectedTag, at)),
+        Kind::Set(_) => Err(fault_at(Code::UnexpectedTag, at)),
+        Kind::SequenceOf(_) => Err(fault_at(Code::UnexpectedTag, at)),
+        Kind::SetOf(_) => Err(fault_at(Code::UnexpectedTag, at)),
+    }
+}
+
+/// The alternative to which the tag belongs.
+#[cycle(reading)]
+fn chosen(
+    alloc: Global,
+    alternatives: &[Comp],
+    at: usize,
+    head: Head,
+    octets: &[u8],
+) -> Result<Value, DecodeFault>
+    requires proper { IsTrue (are_proper (components_of (map component_view alternatives.now))) }
+    requires few { length alternatives.now ≤ 64 }
+    requires depth { deepest (components_of (map component_view alternatives.now)) ≤ 31 }
+    requires header { head_of octets.now ≡ Ok (head_view head) }
+    requires room { at + length octets.now < 2 ^ 64 }
+    ensures { Gives value_view breach_of result (chosen_at (components_of (map component_view alternatives.now)) (part_at (components_of (map component_view alternatives.now))) at (head_view head) octets.now) }
+{
+    let Some(place) = one_with(alternatives, head.tag) else {
+        return Err(fault_at(Code::UnexpectedTag, at));
+    };
+    let ty = &alternatives[place].ty;
+    match element(alloc, &ty.tags, &ty.kind, at, head, octets) {
+        Ok(value) => Ok(Value::Chosen(place as u8, Box::new(alloc, value)?)),
+        Err(fault) => Err(fault.below(Step::Component(place as u8))),
     }
 }
 
@@ -94,21 +192,48 @@ fn contents(
     start: usize,
     octets: &[u8],
 ) -> Result<Value, DecodeFault>
-    requires limits { IsTrue (parts_keep_limits (kind_view kind.now)) }
+    requires proper { IsTrue (is_proper_kind (kind_view kind.now)) }
     requires depth { nesting_inside (kind_view kind.now) ≤ 31 }
     requires room { start + length octets.now < 2 ^ 64 }
+    requires short { length octets.now < 2 ^ 32 }
     ensures { Gives value_view breach_of result (contents_at (kind_view kind.now) at start octets.now) }
 {
     match kind {
-        Kind::Bool => match boolean_of(octets) {
-            Ok(boolean) => Ok(Value::Bool(boolean)),
-            Err(code) => Err(fault_at(code, at)),
-        },
-        Kind::Int(_) => match integer_of(octets) {
-            Ok(number) => Ok(Value::Int(number)),
-            Err(code) => Err(fault_at(code, at)),
-        },
         Kind::Sequence(comps) => Ok(Value::Fields(components(alloc, comps, start, octets)?)),
+        Kind::Set(comps) => Ok(Value::Fields(members(alloc, comps, start, octets)?)),
+        Kind::Choice(_) => alone(alloc, &[], kind, start, octets),
+        Kind::Bool => simple(alloc, kind, at, start, octets),
+        Kind::Int(_) => simple(alloc, kind, at, start, octets),
+        Kind::Bits => simple(alloc, kind, at, start, octets),
+        Kind::Octets => simple(alloc, kind, at, start, octets),
+        Kind::Null => simple(alloc, kind, at, start, octets),
+        Kind::Oid => simple(alloc, kind, at, start, octets),
+        Kind::Enumerated(_) => simple(alloc, kind, at, start, octets),
+        Kind::Chars(_) => simple(alloc, kind, at, start, octets),
+        Kind::SequenceOf(element) => {
+            Ok(Value::Items(items(alloc, element, false, start, octets)?))
+        }
+        Kind::SetOf(element) => Ok(Value::Items(items(alloc, element, true, start, octets)?)),
+    }
+}
+
+/// Contents octets of a simple kind.
+#[tactic(auto, unfolding(crate::specs::Reading::simple_at))]
+fn simple(
+    alloc: Global,
+    kind: &Kind,
+    at: usize,
+    start: usize,
+    octets: &[u8],
+) -> Result<Value, DecodeFault>
+    ensures { Gives value_view breach_of result (simple_at (kind_view kind.now) at start octets.now) }
+{
+    match fault_of_simple(kind, octets) {
+        Some(code) => Err(fault_at(code, at)),
+        None => match value_of_simple(alloc, kind, octets) {
+            Ok(value) => Ok(value),
+            Err(_) => Err(DecodeFault::OutOfMemory),
+        },
     }
 }
 
@@ -120,7 +245,7 @@ fn components(
     start: usize,
     octets: &[u8],
 ) -> Result<Vec<Option<Value>>, DecodeFault>
-    requires limits { IsTrue (components_keep_limits (components_of (map component_view comps.now))) }
+    requires proper { IsTrue (are_proper (components_of (map component_view comps.now))) }
     requires few { length comps.now ≤ 64 }
     requires depth { deepest (components_of (map component_view comps.now)) ≤ 31 }
     requires room { start + length octets.now < 2 ^ 64 }
@@ -130,8 +255,8 @@ fn components(
     let mut at = start;
     let mut rest = octets;
     for (index, comp) in comps.iter().enumerate() {
-        let (value, size) = component(alloc, comp, index as u8, at, rest)?;
-        fields.push(Some(value))?;
+        let (field, size) = component(alloc, &comp.ty, &comp.presence, index as u8, at, rest)?;
+        fields.push(field)?;
         let (_, behind) = rest.split_at(size);
         at += size;
         rest = behind;
@@ -140,77 +265,222 @@ fn components(
     Ok(fields)
 }
 
-/// The component at this place of the list, and how many octets it takes.
+/// The component of this type and presence at this place of the list, and how many octets it takes.
 #[cycle(reading)]
-#[tactic(auto, unfolding(crate::specs::Reading::component_at))]
 fn component(
     alloc: Global,
-    comp: &Comp,
+    ty: &Ty,
+    presence: &Presence,
     index: u8,
     at: usize,
     octets: &[u8],
-) -> Result<(Value, usize), DecodeFault>
-    requires limits { IsTrue (keeps_limits (type_view comp.now.ty)) }
-    requires depth { nesting (type_view comp.now.ty) ≤ 31 }
+) -> Result<(Option<Value>, usize), DecodeFault>
+    requires proper { IsTrue (is_proper (type_view ty.now)) }
+    requires depth { nesting (type_view ty.now) ≤ 31 }
     requires room { at + length octets.now < 2 ^ 64 }
     ensures within { IfOk result (λ x. x.1 ≤ length octets.now) }
-    ensures given { Gives (λ x. (value_view x.0, x.1)) breach_of result (component_at index (begins_with (type_view comp.now.ty)) (element_at (type_view comp.now.ty)) at octets.now) }
+    ensures given { Gives (λ x. (field_view x.0, x.1)) breach_of result (component_at index (presence_view presence.now) (begins_with (type_view ty.now)) (element_at (type_view ty.now)) at octets.now) }
 {
     if octets.is_empty() {
-        return Err(fault_at(Code::MissingComponent, at).below(Step::Component(index)));
+        let missing = fault_at(Code::MissingComponent, at).below(Step::Component(index));
+        return Ok((not_sent(alloc, presence, missing)?, 0));
     }
-    let head = due(&comp.ty, at, octets)?;
-    match element(alloc, &comp.ty, at, head, octets) {
-        Ok(value) => Ok((value, head.size + head.contents)),
+    let head = header_at_front(at, octets)?;
+    if !begins(ty, head.tag) {
+        let stray = fault_at(Code::UnexpectedTag, at);
+        return Ok((not_sent(alloc, presence, stray)?, 0));
+    }
+    match element(alloc, &ty.tags, &ty.kind, at, head, octets) {
+        Ok(value) => {
+            if is_left_out(presence, &value) {
+                return Err(fault_at(Code::DefaultPresent, at).below(Step::Component(index)));
+            }
+            Ok((Some(value), head.size + head.contents))
+        }
         Err(fault) => Err(fault.below(Step::Component(index))),
     }
 }
 
-/// The header at the front, where an element of the type is due.
-#[tactic(auto, unfolding(crate::specs::Reading::due_at))]
-fn due(ty: &Ty, at: usize, octets: &[u8]) -> Result<Head, DecodeFault>
-    ensures { Gives head_view breach_of result (due_at (begins_with (type_view ty.now)) at octets.now) }
+/// The elements of an OF type, all of the octets. Those of a SET OF are `ordered` (X.690 11.6).
+#[cycle(reading)]
+fn items(
+    alloc: Global,
+    ty: &Ty,
+    ordered: bool,
+    start: usize,
+    octets: &[u8],
+) -> Result<Vec<Value>, DecodeFault>
+    requires proper { IsTrue (is_proper (type_view ty.now)) }
+    requires depth { nesting (type_view ty.now) ≤ 31 }
+    requires room { start + length octets.now < 2 ^ 64 }
+    requires short { length octets.now < 2 ^ 32 }
+    ensures { Gives (λ v. items_view v.items) breach_of result (items_at (length octets.now) ordered (begins_with (type_view ty.now)) (element_at (type_view ty.now)) 0 [] start octets.now) }
+{
+    let mut items = Vec::new(alloc);
+    let mut at = start;
+    let mut before: &[u8] = &[];
+    let mut rest = octets;
+    while !rest.is_empty() {
+        let (value, size) = item(alloc, ty, ordered, items.len() as u32, before, at, rest)?;
+        items.push(value)?;
+        let (front, behind) = rest.split_at(size);
+        at += size;
+        before = front;
+        rest = behind;
+    }
+    Ok(items)
+}
+
+/// The element at this place of the list, where the octets of the one before it are these; and how many octets it takes.
+#[cycle(reading)]
+fn item(
+    alloc: Global,
+    ty: &Ty,
+    ordered: bool,
+    index: u32,
+    before: &[u8],
+    at: usize,
+    octets: &[u8],
+) -> Result<(Value, usize), DecodeFault>
+    requires proper { IsTrue (is_proper (type_view ty.now)) }
+    requires depth { nesting (type_view ty.now) ≤ 31 }
+    requires room { at + length octets.now < 2 ^ 64 }
+    ensures some { IfOk result (λ x. 1 ≤ x.1) }
+    ensures within { IfOk result (λ x. x.1 ≤ length octets.now) }
+    ensures given { Gives (λ x. (value_view x.0, x.1)) breach_of result (item_at ordered (begins_with (type_view ty.now)) (element_at (type_view ty.now)) index before.now at octets.now) }
+{
+    match next_item(alloc, ty, ordered, before, at, octets) {
+        Ok((value, size)) => Ok((value, size)),
+        Err(fault) => Err(fault.below(Step::Element(index))),
+    }
+}
+
+/// The same, where faults are seen from the element.
+#[cycle(reading)]
+fn next_item(
+    alloc: Global,
+    ty: &Ty,
+    ordered: bool,
+    before: &[u8],
+    at: usize,
+    octets: &[u8],
+) -> Result<(Value, usize), DecodeFault>
+    requires proper { IsTrue (is_proper (type_view ty.now)) }
+    requires depth { nesting (type_view ty.now) ≤ 31 }
+    requires room { at + length octets.now < 2 ^ 64 }
+    ensures some { IfOk result (λ x. 1 ≤ x.1) }
+    ensures within { IfOk result (λ x. x.1 ≤ length octets.now) }
+    ensures given { Gives (λ x. (value_view x.0, x.1)) breach_of result (item_alone ordered (begins_with (type_view ty.now)) (element_at (type_view ty.now)) before.now at octets.now) }
+{
+    let head = due(&ty.tags, &ty.kind, at, octets)?;
+    let value = element(alloc, &ty.tags, &ty.kind, at, head, octets)?;
+    let size = head.size + head.contents;
+    let (front, _) = octets.split_at(size);
+    if is_out_of_order(ordered, before, front) {
+        return Err(fault_at(Code::SetOfOrder, at));
+    }
+    Ok((value, size))
+}
+
+/// Whether an element with these octets may not stand behind one with the octets `before`.
+fn is_out_of_order(ordered: bool, before: &[u8], octets: &[u8]) -> bool
+    ensures { result ≡ (ordered && descending before.now octets.now) }
+{
+    ordered && descends(before, octets)
+}
+
+/// The components of a SET, all of the octets.
+#[cycle(reading)]
+fn members(
+    alloc: Global,
+    comps: &[Comp],
+    start: usize,
+    octets: &[u8],
+) -> Result<Vec<Option<Value>>, DecodeFault>
+    requires proper { IsTrue (are_proper (components_of (map component_view comps.now))) }
+    requires few { length comps.now ≤ 64 }
+    requires depth { deepest (components_of (map component_view comps.now)) ≤ 31 }
+    requires room { start + length octets.now < 2 ^ 64 }
+    ensures { Gives (λ v. fields_view v.items) breach_of result (set_at (length octets.now) (components_of (map component_view comps.now)) (part_at (components_of (map component_view comps.now))) (all_absent (components_of (map component_view comps.now))) None start octets.now) }
+{
+    let mut slots = empty_slots(alloc, comps)?;
+    let mut before = None;
+    let mut at = start;
+    let mut rest = octets;
+    while !rest.is_empty() {
+        let (place, value, head) = member(alloc, comps, &slots, before, at, rest)?;
+        let size = head.size + head.contents;
+        put(&mut slots, place, Some(value));
+        before = Some(head.tag);
+        let (_, behind) = rest.split_at(size);
+        at += size;
+        rest = behind;
+    }
+    completed(alloc, comps, slots, at)
+}
+
+/// The element of a component of a SET: its place in the list, its value, its header.
+#[cycle(reading)]
+fn member(
+    alloc: Global,
+    comps: &[Comp],
+    slots: &[Option<Value>],
+    before: Option<Tag>,
+    at: usize,
+    octets: &[u8],
+) -> Result<(usize, Value, Head), DecodeFault>
+    requires proper { IsTrue (are_proper (components_of (map component_view comps.now))) }
+    requires few { length comps.now ≤ 64 }
+    requires depth { deepest (components_of (map component_view comps.now)) ≤ 31 }
+    requires slots { length slots.now ≡ length comps.now }
+    requires room { at + length octets.now < 2 ^ 64 }
+    ensures place { IfOk result (λ x. x.0 < length comps.now) }
+    ensures some { IfOk result (λ x. 1 ≤ x.2.size) }
+    ensures within { IfOk result (λ x. x.2.size + x.2.contents ≤ length octets.now) }
+    ensures given { Gives (λ x. (x.0, value_view x.1, head_view x.2)) breach_of result (member_at (components_of (map component_view comps.now)) (part_at (components_of (map component_view comps.now))) (fields_view slots.now) before at octets.now) }
 {
     let head = header_at_front(at, octets)?;
-    match ty.tags.as_slice() {
-        [tag, ..] if is_same_tag(*tag, head.tag) => Ok(head),
-        _ => Err(fault_at(Code::UnexpectedTag, at)),
+    let place = place_of(comps, slots, before, at, head.tag)?;
+    let comp = &comps[place];
+    match element(alloc, &comp.ty.tags, &comp.ty.kind, at, head, octets) {
+        Ok(value) => {
+            if is_left_out(&comp.presence, &value) {
+                return Err(fault_at(Code::DefaultPresent, at).below(Step::Component(place as u8)));
+            }
+            Ok((place, value, head))
+        }
+        Err(fault) => Err(fault.below(Step::Component(place as u8))),
     }
 }
 
-/// Where no element is due.
-#[tactic(auto, unfolding(crate::specs::Reading::end_at, crate::specs::Reading::due_at))]
-fn end(at: usize, octets: &[u8]) -> Result<(), DecodeFault>
-    ensures { Gives (λ x. no_fields) breach_of result (end_at at octets.now) }
+/// What a component is that isn't sent; or this fault, if it is mandatory.
+fn not_sent(
+    alloc: Global,
+    presence: &Presence,
+    fault: DecodeFault,
+) -> Result<Option<Value>, DecodeFault>
+    requires named { breach_of fault ≢ None }
+    ensures { (b : AbstractBreach) → breach_of fault ≡ Some b → Gives field_view breach_of result (unsent (presence_view presence.now) b) }
 {
-    if octets.is_empty() {
-        return Ok(());
+    match presence {
+        Presence::Mandatory => Err(fault),
+        Presence::Optional => Ok(None),
+        Presence::Pending => Ok(None),
+        Presence::Default(value) => match value.copy(alloc) {
+            Ok(copy) => Ok(Some(copy)),
+            Err(_) => Err(DecodeFault::OutOfMemory),
+        },
     }
-    header_at_front(at, octets)?;
-    Err(fault_at(Code::UnexpectedTag, at))
 }
 
-fn header_at_front(at: usize, octets: &[u8]) -> Result<Head, DecodeFault>
-    ensures { Gives head_view breach_of result (located at (head_of octets.now)) }
+/// A component whose value is its default isn't sent.
+fn is_left_out(presence: &Presence, value: &Value) -> bool
+    ensures { result ≡ left_out (presence_view presence.now) (value_view value.now) }
 {
-    match head_at_front(octets) {
-        Ok(head) => Ok(head),
-        Err(code) => Err(fault_at(code, at)),
+    match presence {
+        Presence::Default(default) => default.same(value),
+        Presence::Mandatory => false,
+        Presence::Optional => false,
+        Presence::Pending => false,
     }
-}
-
-fn fault_at(code: Code, at: usize) -> DecodeFault
-    ensures { breach_of result ≡ Some (fault code at) }
-{
-    DecodeFault::Breach(Breach {
-        code,
-        at,
-        path: Path::new(),
-    })
-}
-
-fn is_same_tag(a: Tag, b: Tag) -> bool
-    ensures { result ≡ same_tag a b }
-{
-    a == b
 }

@@ -2,18 +2,27 @@
 #![tactic(auto)]
 
 mod breach;
+mod characters;
 mod contents;
 mod decoding;
 mod element;
+mod encoding;
+mod faults;
+mod fitting;
+mod forms;
 mod head;
 pub mod laws;
-mod limits;
+mod object_id;
+mod sound_types;
+mod tags;
 
 pub use breach::{Breach, Code, DecodeFault};
 pub use decoding::decode;
 pub use element::Header;
+pub use encoding::{EncodeFault, encode};
+pub use fitting::fits;
 pub use head::header;
-pub use limits::sound;
+pub use sound_types::sound;
 
 #[cfg(test)]
 mod tests;

@@ -1,11 +1,23 @@
 -- Abstract values (X.680 3.8): what a message says, without where it lies in memory.
-use Rattle.std.specs.Prelude.{ℤ, Bool, List, [], ◌∷◌, Option, Some, None}
+use Rattle.std.specs.Prelude.{ℕ, ℤ, Bool, List, [], ◌∷◌, Option, Some, None}
 
 mutual
   pub data AbstractValue : Type 0 where
     boolean : Bool → AbstractValue
     integer : ℤ → AbstractValue
+    enumerated : ℤ → AbstractValue
+    null : AbstractValue
+    -- octets with the bits from the highest on, and how many bits of the last octet are unused
+    bit_string : List ℕ → ℕ → AbstractValue
+    octet_string : List ℕ → AbstractValue
+    -- its arcs
+    object_identifier : List ℕ → AbstractValue
+    -- by their codes, not as they are encoded
+    characters : List ℕ → AbstractValue
     fields : Fields → AbstractValue
+    items : Items → AbstractValue
+    -- the place of the alternative in the written list, from 0
+    chosen : ℕ → AbstractValue → AbstractValue
 
   -- one place for each component, in written order
   pub data Fields : Type 0 where
@@ -13,7 +25,15 @@ mutual
     present : AbstractValue → Fields → Fields
     absent : Fields → Fields
 
+  pub data Items : Type 0 where
+    no_items : Items
+    item : AbstractValue → Items → Items
+
 abbrev pub fields_of : List (Option AbstractValue) → Fields
 fields_of [] = no_fields
 fields_of (None ∷ fs) = absent (fields_of fs)
 fields_of (Some v ∷ fs) = present v (fields_of fs)
+
+abbrev pub items_of : List AbstractValue → Items
+items_of [] = no_items
+items_of (v ∷ vs) = item v (items_of vs)

@@ -3,5 +3,9 @@ pub mod Octets
 pub mod Tags
 pub mod AbstractValue
 pub mod AbstractType
+pub mod Same
 pub mod ValueView
 pub mod TypeView
+pub mod SameBase
+pub mod SameType
+pub mod BareView

@@ -1,57 +1,113 @@
 -- The abstract type that a type of the code stands for.
-use Rattle.std.specs.Prelude.{ℕ, List, [], ◌∷◌, map, string_bytes}
+use Rattle.std.specs.Prelude.{ℕ, List, [], ◌∷◌, map, string_bytes, Option, Some, None}
 use Rattle.guard_model.specs.AbstractType as abstract
-use Rattle.guard_model.specs.AbstractType.{AbstractType, AbstractKind, Components, Constraint, Constraints, Element, NamedNumber}
-use Rattle.guard_model.specs.declared.ty.Kind.TheFolds.{fold-Ty, fold-Kind, fold-Comp}
-use Rattle.guard_model.specs.declared.ty.Kind.TheOpen.{Kind-F, Comp-F, Ty-F}
+use Rattle.guard_model.specs.AbstractType.{AbstractType, AbstractKind, AbstractPresence, Components, Constraint, Constraints, Element, NamedNumber, Parts}
+use Rattle.guard_model.specs.ValueView.{value_view}
+use Rattle.guard_model.specs.declared.ty.Kind.TheFolds.{fold-Ty, fold-Kind, fold-Comp, fold-Cons, fold-Rule, fold-Part}
+use Rattle.guard_model.specs.declared.ty.Kind.TheOpen.{Kind-F, Rule-F, Comp-F, Cons-F, Part-F, Ty-F}
 use Rattle.guard_model.specs.declared.ty.Ty.{Ty}
 use Rattle.guard_model.specs.declared.ty.Kind.{Kind}
 use Rattle.guard_model.specs.declared.ty.Comp.{Comp}
 use Rattle.guard_model.specs.declared.ty.Cons.{Cons}
 use Rattle.guard_model.specs.declared.ty.Rule.{Rule}
-use Rattle.guard_model.specs.declared.ty.Rule.TheVariants as rule
+use Rattle.guard_model.specs.declared.ty.Part.{Part}
 use Rattle.guard_model.specs.declared.ty.Named.{Named}
 use Rattle.guard_model.specs.declared.ty.Presence.{Presence}
+use Rattle.guard_model.specs.declared.ty.Presence.TheVariants as presence
+use Rattle.guard_model.specs.declared.ty.Word.{Word}
+use Rattle.guard_model.specs.declared.site.Site.{Site}
 
 pub record OneComponent : Type 0 where
   pub name : List ℕ
   pub ty : AbstractType
-  pub presence : Presence
+  pub presence : AbstractPresence
+
+pub record OnePart : Type 0 where
+  pub site : Site
+  pub place : ℕ
+  pub within : Option Constraint
+  pub word : Option Word
 
 abbrev pub named_view : Named → NamedNumber
 named_view n = record { name = string_bytes n.name; number = n.number }
 
-abbrev pub element_view : Rule → Element
-element_view (rule.Range low high) = abstract.range low high
-
-abbrev pub constraint_view : Cons → Constraint
-constraint_view c = abstract.at c.site (element_view c.rule)
-
-abbrev pub constraints_of : List Constraint → Constraints
-constraints_of [] = abstract.no_constraints
-constraints_of (c ∷ cs) = abstract.constraint c (constraints_of cs)
+abbrev pub presence_view : Presence → AbstractPresence
+presence_view presence.Mandatory = abstract.mandatory
+presence_view presence.Optional = abstract.optional
+presence_view presence.Pending = abstract.pending
+presence_view (presence.Default v) = abstract.default (value_view v)
 
 abbrev pub components_of : List OneComponent → Components
 components_of [] = abstract.no_components
 components_of (c ∷ cs) = abstract.component c.name c.ty c.presence (components_of cs)
 
--- one level of each, with the types inside already seen
-abbrev pub kind_step : Kind-F AbstractKind OneComponent AbstractType → AbstractKind
+abbrev pub constraints_of : List Constraint → Constraints
+constraints_of [] = abstract.no_constraints
+constraints_of (c ∷ cs) = abstract.constraint c (constraints_of cs)
+
+abbrev pub part_before : Site → ℕ → Option Constraint → Option Word → Parts → Parts
+part_before site place None word rest = abstract.part site place word rest
+part_before site place (Some c) word rest = abstract.part_within site place c word rest
+
+abbrev pub parts_of : List OnePart → Parts
+parts_of [] = abstract.no_parts
+parts_of (p ∷ ps) = part_before p.site p.place p.within p.word (parts_of ps)
+
+-- one level of each, with what is inside already seen
+abbrev pub kind_step : Kind-F AbstractKind Element OneComponent Constraint OnePart AbstractType → AbstractKind
 kind_step Kind-F.Bool = abstract.boolean
 kind_step (Kind-F.Int ns) = abstract.integer (map named_view ns.items)
+kind_step Kind-F.Bits = abstract.bit_string
+kind_step Kind-F.Octets = abstract.octet_string
+kind_step Kind-F.Null = abstract.null
+kind_step Kind-F.Oid = abstract.object_identifier
+kind_step (Kind-F.Enumerated ns) = abstract.enumerated (map named_view ns.items)
+kind_step (Kind-F.Chars k) = abstract.characters k
 kind_step (Kind-F.Sequence cs) = abstract.sequence (components_of cs.items)
+kind_step (Kind-F.Set cs) = abstract.set (components_of cs.items)
+kind_step (Kind-F.Choice cs) = abstract.choice (components_of cs.items)
+kind_step (Kind-F.SequenceOf t) = abstract.sequence_of t.value
+kind_step (Kind-F.SetOf t) = abstract.set_of t.value
 
-abbrev pub comp_step : Comp-F AbstractKind OneComponent AbstractType → OneComponent
-comp_step c = record { name = string_bytes c.name; ty = c.ty; presence = c.presence }
+abbrev pub rule_step : Rule-F AbstractKind Element OneComponent Constraint OnePart AbstractType → Element
+rule_step (Rule-F.One v) = abstract.single_value (value_view v)
+rule_step (Rule-F.Inside t) = abstract.contained_subtype t.value
+rule_step (Rule-F.Range low high) = abstract.range low high
+rule_step (Rule-F.Size c) = abstract.size c.value
+rule_step (Rule-F.Alphabet ranges) = abstract.permitted_alphabet ranges.items
+rule_step (Rule-F.Each c) = abstract.with_component c.value
+rule_step (Rule-F.Parts partial ps) = abstract.with_components partial (parts_of ps.items)
+rule_step (Rule-F.Any cs) = abstract.union (constraints_of cs.items)
+rule_step (Rule-F.Both cs) = abstract.intersection (constraints_of cs.items)
+rule_step (Rule-F.Minus a b) = abstract.except a.value b.value
+rule_step (Rule-F.Other c) = abstract.all_except c.value
 
-abbrev pub ty_step : Ty-F AbstractKind OneComponent AbstractType → AbstractType
-ty_step t = abstract.type_of t.tags.items t.kind (constraints_of (map constraint_view t.cons.items))
+abbrev pub comp_step : Comp-F AbstractKind Element OneComponent Constraint OnePart AbstractType → OneComponent
+comp_step c = record { name = string_bytes c.name; ty = c.ty; presence = presence_view c.presence }
+
+abbrev pub cons_step : Cons-F AbstractKind Element OneComponent Constraint OnePart AbstractType → Constraint
+cons_step c = abstract.at c.site c.rule
+
+abbrev pub part_step : Part-F AbstractKind Element OneComponent Constraint OnePart AbstractType → OnePart
+part_step p = record { site = p.site; place = p.at; within = p.cons; word = p.word }
+
+abbrev pub ty_step : Ty-F AbstractKind Element OneComponent Constraint OnePart AbstractType → AbstractType
+ty_step t = abstract.type_of t.tags.items t.kind (constraints_of t.cons.items)
 
 abbrev pub type_view : Ty → AbstractType
-type_view = fold-Ty AbstractKind OneComponent AbstractType kind_step comp_step ty_step
+type_view = fold-Ty AbstractKind Element OneComponent Constraint OnePart AbstractType kind_step rule_step comp_step cons_step part_step ty_step
 
 abbrev pub kind_view : Kind → AbstractKind
-kind_view = fold-Kind AbstractKind OneComponent AbstractType kind_step comp_step ty_step
+kind_view = fold-Kind AbstractKind Element OneComponent Constraint OnePart AbstractType kind_step rule_step comp_step cons_step part_step ty_step
 
 abbrev pub component_view : Comp → OneComponent
-component_view = fold-Comp AbstractKind OneComponent AbstractType kind_step comp_step ty_step
+component_view = fold-Comp AbstractKind Element OneComponent Constraint OnePart AbstractType kind_step rule_step comp_step cons_step part_step ty_step
+
+abbrev pub constraint_view : Cons → Constraint
+constraint_view = fold-Cons AbstractKind Element OneComponent Constraint OnePart AbstractType kind_step rule_step comp_step cons_step part_step ty_step
+
+abbrev pub element_view : Rule → Element
+element_view = fold-Rule AbstractKind Element OneComponent Constraint OnePart AbstractType kind_step rule_step comp_step cons_step part_step ty_step
+
+abbrev pub part_view : Part → OnePart
+part_view = fold-Part AbstractKind Element OneComponent Constraint OnePart AbstractType kind_step rule_step comp_step cons_step part_step ty_step

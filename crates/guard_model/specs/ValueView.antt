@@ -1,7 +1,7 @@
 -- The abstract value that a value of the code stands for.
-use Rattle.std.specs.Prelude.{List, map, Option, Some, None}
+use Rattle.std.specs.Prelude.{List, map, Option, Some, None, string_bytes, chars}
 use Rattle.guard_model.specs.AbstractValue as abstract
-use Rattle.guard_model.specs.AbstractValue.{AbstractValue, Fields, fields_of}
+use Rattle.guard_model.specs.AbstractValue.{AbstractValue, Fields, Items, fields_of, items_of}
 use Rattle.guard_model.specs.declared.value.Value.{Value, fold-Value}
 use Rattle.guard_model.specs.declared.value.Value.TheOpen.{Value-F}
 
@@ -9,7 +9,15 @@ use Rattle.guard_model.specs.declared.value.Value.TheOpen.{Value-F}
 abbrev pub value_step : Value-F AbstractValue → AbstractValue
 value_step (Value-F.Bool b) = abstract.boolean b
 value_step (Value-F.Int z) = abstract.integer z
+value_step (Value-F.Enumerated z) = abstract.enumerated z
+value_step Value-F.Null = abstract.null
+value_step (Value-F.Bits b) = abstract.bit_string b.octets.items b.unused
+value_step (Value-F.Octets v) = abstract.octet_string v.items
+value_step (Value-F.Oid v) = abstract.object_identifier v.items
+value_step (Value-F.Chars s) = abstract.characters (chars (string_bytes s))
 value_step (Value-F.Fields v) = abstract.fields (fields_of v.items)
+value_step (Value-F.Items v) = abstract.items (items_of v.items)
+value_step (Value-F.Chosen n b) = abstract.chosen n b.value
 
 abbrev pub value_view : Value → AbstractValue
 value_view = fold-Value AbstractValue value_step
@@ -20,3 +28,6 @@ field_view (Some v) = Some (value_view v)
 
 abbrev pub fields_view : List (Option Value) → Fields
 fields_view vs = fields_of (map field_view vs)
+
+abbrev pub items_view : List Value → Items
+items_view vs = items_of (map value_view vs)

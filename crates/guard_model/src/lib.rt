@@ -1,7 +1,10 @@
 //! What all layers of the guard speak of: tags, sites, paths, values and types.
 #![tactic(auto)]
 
+mod copying;
 mod memory;
+mod same;
+mod same_base;
 mod site;
 mod tag;
 mod ty;
@@ -10,8 +13,8 @@ mod value;
 pub use memory::OutOfMemory;
 pub use site::{Path, Site, Step};
 pub use tag::{Class, Tag};
-pub use ty::{Comp, Cons, Kind, Limit, Named, Presence, Rule, Ty};
-pub use value::Value;
+pub use ty::{CharKind, Comp, Cons, Kind, Limit, Named, Part, Presence, Rule, Ty, Word};
+pub use value::{Bits, Value};
 
 #[cfg(test)]
 mod tests;

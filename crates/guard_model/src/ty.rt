@@ -1,35 +1,17 @@
 //! Types with their tags and constraints, references followed.
-ghost use Rattle.std.specs.Prelude.{◌≡◌, map, IfOk};
-ghost use Rattle.guard_model.specs.TypeView.{type_view, kind_view, named_view, component_view};
-
-use crate::memory::OutOfMemory;
 use crate::site::Site;
 use crate::tag::Tag;
-use std::alloc::Global;
+use crate::value::Value;
 
 /// A type.
 #[derive(Debug, Drop)]
 #[cycle(types)]
 pub struct Ty {
-    /// From the outside in. Each but the last is a wrapper of its own, an explicit tag.
+    /// From the outside in. Each but the last is a wrapper of its own, an explicit tag; for a CHOICE each is one, and there may be none.
     pub tags: Vec<Tag>,
     pub kind: Kind,
     /// In written order, those of a referenced type before the added ones.
     pub cons: Vec<Cons>,
-}
-
-impl Ty {
-    /// A type that stands for the same abstract type. Its one refusal is want of memory.
-    #[cycle(copies)]
-    pub fn copy(&self, alloc: Global) -> Result<Ty, OutOfMemory>
-        ensures { IfOk result (λ copy. type_view copy ≡ type_view self.now) }
-    {
-        Ok(Ty {
-            tags: Vec::from_slice(alloc, &self.tags)?,
-            kind: self.kind.copy(alloc)?,
-            cons: Vec::from_slice(alloc, &self.cons)?,
-        })
-    }
 }
 
 /// The kind of a type: what is left without its tags and constraints.
@@ -37,43 +19,41 @@ impl Ty {
 #[cycle(types)]
 pub enum Kind {
     Bool,
-    /// With its named numbers.
+    /// INTEGER with its named numbers.
     Int(Vec<Named>),
+    Bits,
+    Octets,
+    Null,
+    Oid,
+    /// ENUMERATED with its items in written order.
+    Enumerated(Vec<Named>),
+    Chars(CharKind),
     Sequence(Vec<Comp>),
+    Set(Vec<Comp>),
+    /// CHOICE with its alternatives; each is Mandatory.
+    Choice(Vec<Comp>),
+    SequenceOf(Box<Ty>),
+    SetOf(Box<Ty>),
 }
 
-impl Kind {
-    #[cycle(copies)]
-    fn copy(&self, alloc: Global) -> Result<Kind, OutOfMemory>
-        ensures { IfOk result (λ copy. kind_view copy ≡ kind_view self.now) }
-    {
-        match self {
-            Kind::Bool => Ok(Kind::Bool),
-            Kind::Int(named) => Ok(Kind::Int(copy_of_named(alloc, named)?)),
-            Kind::Sequence(comps) => Ok(Kind::Sequence(copy_of_comps(alloc, comps)?)),
-        }
-    }
+/// The kinds of character strings, each with its alphabet (X.680 clause 41).
+#[derive(Clone, Copy, Debug, PartialEq, Eq)]
+pub enum CharKind {
+    Numeric,
+    Printable,
+    Ia5,
+    Visible,
+    Utf8,
 }
 
-/// A named number of an INTEGER.
+/// A named number of an INTEGER, or an item of an ENUMERATED.
 #[derive(Debug, Drop)]
 pub struct Named {
     pub name: String,
     pub number: i128,
 }
 
-impl Named {
-    fn copy(&self, alloc: Global) -> Result<Named, OutOfMemory>
-        ensures { IfOk result (λ copy. named_view copy ≡ named_view self.now) }
-    {
-        Ok(Named {
-            name: String::from_str(alloc, &self.name)?,
-            number: self.number,
-        })
-    }
-}
-
-/// A component of a SEQUENCE.
+/// A component of a SEQUENCE or SET, or an alternative of a CHOICE.
 #[derive(Debug, Drop)]
 #[cycle(types)]
 pub struct Comp {
@@ -82,63 +62,79 @@ pub struct Comp {
     pub presence: Presence,
 }
 
-impl Comp {
-    #[cycle(copies)]
-    fn copy(&self, alloc: Global) -> Result<Comp, OutOfMemory>
-        ensures { IfOk result (λ copy. component_view copy ≡ component_view self.now) }
-    {
-        Ok(Comp {
-            name: String::from_str(alloc, &self.name)?,
-            ty: self.ty.copy(alloc)?,
-            presence: self.presence,
-        })
-    }
-}
-
 /// Whether a component may be left out.
-#[derive(Clone, Copy, Debug, PartialEq, Eq)]
+#[derive(Debug, Drop)]
 pub enum Presence {
     Mandatory,
+    Optional,
+    /// There is a default whose value is not known yet. It stands only while a schema is built.
+    Pending,
+    Default(Value),
 }
 
 /// A constraint, and where its first token stands.
-#[derive(Clone, Copy, Debug)]
+#[derive(Debug, Drop)]
+#[cycle(types)]
 pub struct Cons {
     pub site: Site,
     pub rule: Rule,
 }
 
-/// The set of values that a constraint allows.
-#[derive(Clone, Copy, Debug)]
+/// The set of values that a constraint allows (X.680 clauses 50 and 51).
+#[derive(Debug, Drop)]
+#[cycle(types)]
 pub enum Rule {
-    /// The integers between two ends (X.680 51.4). A low end above the high one leaves none.
+    /// This value alone (51.2).
+    One(Value),
+    /// The values of a contained subtype (51.3).
+    Inside(Box<Ty>),
+    /// The integers between two ends (51.4). A low end above the high one leaves none.
     Range(Limit, Limit),
+    /// The values whose size this constraint on INTEGER (0..MAX) allows (51.5).
+    Size(Box<Cons>),
+    /// The strings whose characters' codes all lie in one of these ranges, both ends in (51.7).
+    Alphabet(Vec<(u32, u32)>),
+    /// WITH COMPONENT: the lists each of whose elements this constraint allows (51.8.4).
+    Each(Box<Cons>),
+    /// WITH COMPONENTS (51.8.5); true where it is partial, that is where `...` stands first.
+    Parts(bool, Vec<Part>),
+    /// A union.
+    Any(Vec<Cons>),
+    /// An intersection.
+    Both(Vec<Cons>),
+    /// EXCEPT: what the first allows and the second doesn't.
+    Minus(Box<Cons>, Box<Cons>),
+    /// ALL EXCEPT: what this constraint doesn't allow.
+    Other(Box<Cons>),
 }
 
 /// An end of a range.
-#[derive(Clone, Copy, Debug)]
+#[derive(Clone, Copy, Debug, PartialEq, Eq)]
 pub enum Limit {
+    /// MIN or MAX: no end.
+    Free,
     /// This number is in.
     At(i128),
+    /// This number is out, the next one towards the range is in.
+    Past(i128),
 }
 
-fn copy_of_named(alloc: Global, named: &[Named]) -> Result<Vec<Named>, OutOfMemory>
-    ensures { IfOk result (λ copy. map named_view copy.items ≡ map named_view named.now) }
-{
-    let mut copy = Vec::with_capacity(alloc, named.len())?;
-    for one in named {
-        copy.push(one.copy(alloc)?)?;
-    }
-    Ok(copy)
+/// What WITH COMPONENTS says of one component or alternative.
+#[derive(Debug, Drop)]
+#[cycle(types)]
+pub struct Part {
+    /// Where its name stands.
+    pub site: Site,
+    /// The place of the component in the written list, from 0.
+    pub at: u8,
+    pub cons: Option<Cons>,
+    pub word: Option<Word>,
 }
 
-#[cycle(copies)]
-fn copy_of_comps(alloc: Global, comps: &[Comp]) -> Result<Vec<Comp>, OutOfMemory>
-    ensures { IfOk result (λ copy. map component_view copy.items ≡ map component_view comps.now) }
-{
-    let mut copy = Vec::with_capacity(alloc, comps.len())?;
-    for comp in comps {
-        copy.push(comp.copy(alloc)?)?;
-    }
-    Ok(copy)
+/// A presence word (X.680 51.8.9).
+#[derive(Clone, Copy, Debug, PartialEq, Eq)]
+pub enum Word {
+    Present,
+    Absent,
+    Optional,
 }

@@ -1,10 +1,32 @@
 //! Values.
 
-/// A value of a type, its components in written order.
+/// A value of a type. Names of named numbers, items and alternatives are not in it: a value says what it is by its type.
 #[derive(Debug, Drop)]
 pub enum Value {
     Bool(bool),
     Int(i128),
-    /// One place for each component of a SEQUENCE.
+    /// The number of the item.
+    Enumerated(i128),
+    Null,
+    Bits(Bits),
+    Octets(Vec<u8>),
+    /// The subidentifiers' arcs: the first arc, the second, and so on (X.680 clause 32).
+    Oid(Vec<u128>),
+    /// Of any kind of character string.
+    Chars(String),
+    /// One place for each component of a SEQUENCE or SET in written order; None for an OPTIONAL one that is left out.
     Fields(Vec<Option<Value>>),
+    /// The elements of a SEQUENCE OF or SET OF; of a SET OF in ascending order of their encodings.
+    Items(Vec<Value>),
+    /// The alternative at this place of the written list, from 0, and its value.
+    Chosen(u8, Box<Value>),
+}
+
+/// A string of bits.
+#[derive(Debug, Drop)]
+pub struct Bits {
+    /// The bits from the highest of the first octet on.
+    pub octets: Vec<u8>,
+    /// How many of the lowest bits of the last octet are none of the string's, 0 to 7.
+    pub unused: u8,
 }

@@ -6,7 +6,7 @@ ghost use Rattle.derguard.specs.Member.{holds, is_above, is_under};
 
 use guard_model::{Cons, Limit, Rule, Value};
 
-/// Whether the constraint has the value (X.680 clauses 49 to 51).
+/// Whether the constraint has the value (X.680 clauses 49 to 51). A sound type has no constraints but ranges yet.
 pub fn holds(cons: &Cons, value: &Value) -> bool
     ensures { result ≡ holds (constraint_view cons.now) (value_view value.now) }
 {
@@ -22,7 +22,9 @@ fn is_above(low: &Limit, number: i128) -> bool
     ensures { result ≡ is_above low.now number }
 {
     match low {
+        Limit::Free => true,
         Limit::At(low) => *low <= number,
+        Limit::Past(low) => *low < number,
     }
 }
 
@@ -30,6 +32,8 @@ fn is_under(high: &Limit, number: i128) -> bool
     ensures { result ≡ is_under high.now number }
 {
     match high {
+        Limit::Free => true,
         Limit::At(high) => number <= *high,
+        Limit::Past(high) => number < *high,
     }
 }

@@ -1,7 +1,7 @@
 //! The text of a path.
 ghost use Rattle.std.specs.Prelude.{◌≡◌, ◌++◌, OnOk, codes, option_map};
 ghost use Rattle.guard_model.specs.TypeView.{type_view, component_view};
-ghost use Rattle.derguard.specs.ReportText.{component_at, type_within, step_text, steps_text};
+ghost use Rattle.derguard.specs.ReportText.{component_at, element_type, type_within, step_text, steps_text};
 
 use super::words::{add, add_name, add_number};
 use guard_model::{Comp, Kind, OutOfMemory, Step, Ty};
@@ -42,16 +42,29 @@ fn type_within(ty: Option<&Ty>, step: Step) -> Option<&Ty>
 {
     match step {
         Step::Component(place) => Some(&component_at(ty, place)?.ty),
-        Step::Element(_) => None,
+        Step::Element(_) => element_type(ty),
     }
 }
 
-/// The component at this place of the written list, from 0.
+/// The component or alternative at this place of the written list, from 0.
 fn component_at(ty: Option<&Ty>, place: u8) -> Option<&Comp>
     ensures { option_map (λ comp. component_view comp.now) result ≡ component_at (option_map (λ ty. type_view ty.now) ty.entry) place }
 {
     match &ty?.kind {
         Kind::Sequence(comps) => comps.get(place as usize),
+        Kind::Set(comps) => comps.get(place as usize),
+        Kind::Choice(comps) => comps.get(place as usize),
+        _ => None,
+    }
+}
+
+/// The type of the elements of an OF type.
+fn element_type(ty: Option<&Ty>) -> Option<&Ty>
+    ensures { option_map (λ ty. type_view ty.now) result ≡ element_type (option_map (λ ty. type_view ty.now) ty.entry) }
+{
+    match &ty?.kind {
+        Kind::SequenceOf(element) => Some(element),
+        Kind::SetOf(element) => Some(element),
         _ => None,
     }
 }

@@ -2,27 +2,42 @@
 ghost use Rattle.std.specs.Prelude.{◌≡◌, IfOk};
 ghost use Rattle.guard_model.specs.TypeView.{type_view};
 ghost use Rattle.derguard.specs.Policies.{rule_view};
-ghost use Rattle.derguard.specs.ReportRows.{order, rule_called};
+ghost use Rattle.derguard.specs.ReportRows.{line, order, rule_called};
 
 use super::verdict_text;
 use crate::guard_eval::Violation;
-use crate::guard_eval::examples::{boolean, component, integer, sequence};
+use crate::guard_eval::examples::{
+    boolean, choice, component, integer, plain, sequence, sequence_of, set, set_of,
+};
 use crate::guard_policy::{Effect, Message, Policy, Route, Rule, Verdict};
 use guard_der::{Breach, Code};
-use guard_model::{Path, Site, Step, Ty};
-use std::alloc::{AllocError, Global};
+use guard_model::{Kind, OutOfMemory, Path, Site, Step, Ty};
+use std::alloc::Global;
 use std::test::Fail;
 
-/// `SEQUENCE { qty INTEGER, urgent BOOLEAN }`
-fn order(alloc: Global) -> Result<Ty, AllocError>
+/// `CHOICE { pair SET { left INTEGER, right BOOLEAN }, all SEQUENCE OF NULL }`
+fn line(alloc: Global) -> Result<Ty, OutOfMemory>
+    ensures { IfOk result (λ ty. type_view ty ≡ line) }
+{
+    let left = component(alloc, "left", integer(alloc, Vec::new(alloc))?)?;
+    let right = component(alloc, "right", boolean(alloc)?)?;
+    let pair = component(alloc, "pair", set(alloc, vec![in alloc; left, right]?)?)?;
+    let all = sequence_of(alloc, plain(alloc, 5, Kind::Null)?)?;
+    let all = component(alloc, "all", all)?;
+    Ok(choice(alloc, vec![in alloc; pair, all]?)?)
+}
+
+/// `SEQUENCE { qty INTEGER, urgent BOOLEAN, lines SET OF CHOICE { .. } }`
+fn order(alloc: Global) -> Result<Ty, OutOfMemory>
     ensures { IfOk result (λ ty. type_view ty ≡ order) }
 {
     let qty = component(alloc, "qty", integer(alloc, Vec::new(alloc))?)?;
     let urgent = component(alloc, "urgent", boolean(alloc)?)?;
-    sequence(alloc, vec![in alloc; qty, urgent]?)
+    let lines = component(alloc, "lines", set_of(alloc, line(alloc)?)?)?;
+    Ok(sequence(alloc, vec![in alloc; qty, urgent, lines]?)?)
 }
 
-fn rule_called(alloc: Global, name: &str) -> Result<Rule, AllocError>
+fn rule_called(alloc: Global, name: &str) -> Result<Rule, OutOfMemory>
     ensures { IfOk result (λ rule. rule_view rule ≡ rule_called name.now) }
 {
     Ok(Rule {
@@ -36,7 +51,7 @@ fn rule_called(alloc: Global, name: &str) -> Result<Rule, AllocError>
 }
 
 #[tactic(auto, using(crate::proofs::ReportExample::consistent))]
-fn policy(alloc: Global) -> Result<Policy, AllocError> {
+fn policy(alloc: Global) -> Result<Policy, OutOfMemory> {
     let name = String::from_str(alloc, "order")?;
     let ty = order(alloc)?;
     let messages = vec![in alloc; Message { name, ty }]?;
@@ -97,6 +112,106 @@ fn each_verdict_has_its_text(rt: HostRuntime) -> Result<(), Fail> {
         (Verdict::NotAllowed(nameless), "not-allowed 2 3:1:1 $[12]"),
         (Verdict::NoRule, "no-rule"),
     ]? {
+        let text = verdict_text(alloc, &verdict, &route, &policy)?;
+        assert_eq!(rt; text.as_slice(), expected.as_bytes(), "of {expected}");
+    }
+    Ok(())
+}
+
+#[test]
+fn each_breach_has_its_name(rt: HostRuntime) -> Result<(), Fail> {
+    let alloc = rt.alloc();
+    let policy = policy(alloc)?;
+    let route = Route {
+        from: b"north",
+        to: b"south",
+        message: b"order",
+    };
+    for (code, name) in [
+        (Code::Truncated, "Truncated"),
+        (Code::TagForm, "TagForm"),
+        (Code::IndefiniteLength, "IndefiniteLength"),
+        (Code::NonMinimalLength, "NonMinimalLength"),
+        (Code::LengthTooLarge, "LengthTooLarge"),
+        (Code::UnexpectedTag, "UnexpectedTag"),
+        (Code::MissingComponent, "MissingComponent"),
+        (Code::WrongForm, "WrongForm"),
+        (Code::BooleanContents, "BooleanContents"),
+        (Code::IntegerContents, "IntegerContents"),
+        (Code::IntegerTooLong, "IntegerTooLong"),
+        (Code::UnknownEnumeration, "UnknownEnumeration"),
+        (Code::NullContents, "NullContents"),
+        (Code::BitStringContents, "BitStringContents"),
+        (Code::UnusedBits, "UnusedBits"),
+        (Code::ObjectIdContents, "ObjectIdContents"),
+        (Code::ObjectIdTooLong, "ObjectIdTooLong"),
+        (Code::Characters, "Characters"),
+        (Code::SetOrder, "SetOrder"),
+        (Code::SetOfOrder, "SetOfOrder"),
+        (Code::DefaultPresent, "DefaultPresent"),
+        (Code::TrailingOctets, "TrailingOctets"),
+    ] {
+        let verdict = Verdict::Undecodable(Breach {
+            code,
+            at: 7,
+            path: one_step(Step::Component(0)),
+        });
+        let text = verdict_text(alloc, &verdict, &route, &policy)?;
+        let expected = format!(in alloc; "undecodable {name} at 7 $.qty")?;
+        assert_eq!(rt; text.as_slice(), expected.as_bytes(), "of {name}");
+    }
+    Ok(())
+}
+
+#[test]
+fn a_path_names_components_and_alternatives_and_counts_elements(
+    rt: HostRuntime,
+) -> Result<(), Fail> {
+    let alloc = rt.alloc();
+    let policy = policy(alloc)?;
+    let route = Route {
+        from: b"north",
+        to: b"south",
+        message: b"order",
+    };
+    for (third, fourth, expected) in [
+        (
+            0,
+            Step::Component(0),
+            "outside-type First:3:18 $.lines[12].pair.left",
+        ),
+        (
+            0,
+            Step::Component(1),
+            "outside-type First:3:18 $.lines[12].pair.right",
+        ),
+        (
+            0,
+            Step::Component(2),
+            "outside-type First:3:18 $.lines[12].pair.2",
+        ),
+        (
+            1,
+            Step::Element(0),
+            "outside-type First:3:18 $.lines[12].all[0]",
+        ),
+        (
+            1,
+            Step::Component(0),
+            "outside-type First:3:18 $.lines[12].all.0",
+        ),
+        (
+            2,
+            Step::Element(4),
+            "outside-type First:3:18 $.lines[12].2[4]",
+        ),
+    ] {
+        let mut path = Path::new();
+        path.push(Step::Component(2));
+        path.push(Step::Element(12));
+        path.push(Step::Component(third));
+        path.push(fourth);
+        let verdict = Verdict::OutsideType(violation(1, 3, 18, path));
         let text = verdict_text(alloc, &verdict, &route, &policy)?;
         assert_eq!(rt; text.as_slice(), expected.as_bytes(), "of {expected}");
     }

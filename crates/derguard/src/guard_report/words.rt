@@ -48,6 +48,16 @@ pub fn breach_name(code: Code) -> &'static str
         Code::BooleanContents => "BooleanContents",
         Code::IntegerContents => "IntegerContents",
         Code::IntegerTooLong => "IntegerTooLong",
+        Code::UnknownEnumeration => "UnknownEnumeration",
+        Code::NullContents => "NullContents",
+        Code::BitStringContents => "BitStringContents",
+        Code::UnusedBits => "UnusedBits",
+        Code::ObjectIdContents => "ObjectIdContents",
+        Code::ObjectIdTooLong => "ObjectIdTooLong",
+        Code::Characters => "Characters",
+        Code::SetOrder => "SetOrder",
+        Code::SetOfOrder => "SetOfOrder",
+        Code::DefaultPresent => "DefaultPresent",
         Code::TrailingOctets => "TrailingOctets",
     }
 }

@@ -9,12 +9,14 @@ use crate::guard_schema::tagging::TagFault;
 use guard_lexer::LexFault;
 use guard_model::Site;
 use guard_syntax::SyntaxFault;
+use guard_tagcheck::Clash;
 use std::alloc::{AllocError, AllocFailed};
 use thiserror::Error;
 
 /// Why a text makes no schema: the first fault, or want of memory in place of any other answer. The text is cut into
 /// tokens, then read as a module, then the first form that is left out is looked for, then its names are looked at, then
-/// its definitions in written order, and of each first the tags and then the constraints. Each fault prints as itself.
+/// its definitions in written order, and of each first the tags, then whether they tell its parts apart, and then the
+/// constraints. Each fault prints as itself.
 #[derive(Debug, Drop, Error)]
 pub enum SchemaFault {
     #[error("{0}")]
@@ -25,6 +27,9 @@ pub enum SchemaFault {
     Name(NameFault),
     #[error("{0}")]
     Tag(TagFault),
+    /// Two components or alternatives that must differ in their tags share one, in the definition whose name stands there.
+    #[error("S1 Clash {0} {1}")]
+    Clash(Site, Clash),
     #[error("{0}")]
     Cons(ConsFault),
     #[error("OutOfMemory")]

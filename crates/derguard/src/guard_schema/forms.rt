@@ -1,14 +1,14 @@
 //! From the tree of a module to its basic tree, and the first form that is left out.
 ghost use Rattle.std.specs.Prelude.{map};
 ghost use Rattle.guard_model.specs.Answer.{Gives};
-ghost use Rattle.guard_syntax.specs.Trees.{components_of, structure};
+ghost use Rattle.guard_syntax.specs.Trees.{components_of, alternatives_of, structure, choice};
 ghost use Rattle.guard_syntax.specs.TypeViews as written;
 ghost use Rattle.guard_syntax.specs.SetViews.{constraint_view};
 ghost use Rattle.guard_syntax.specs.ModuleViews as modules;
 ghost use Rattle.derguard.specs.SchemaFirst.{each};
 ghost use Rattle.derguard.specs.SchemaFaults.{form_named};
 ghost use Rattle.derguard.specs.SchemaForms as forms;
-ghost use Rattle.derguard.specs.SchemaReading.{basic_component};
+ghost use Rattle.derguard.specs.SchemaReading.{basic_component, basic_alternative};
 ghost use Rattle.derguard.specs.SchemaViews.{type_view, base_view, component_view, assignment_view, module_view, range_view};
 
 use crate::guard_schema::basic::{
@@ -20,8 +20,8 @@ use crate::guard_schema::ranges::basic_constraint;
 use guard_lexer::Token;
 use guard_model::Site;
 use guard_syntax::{
-    Assignment, BaseTree, Collection, CompForm, CompTree, ConsTree, Module, NamedTree, PlainType,
-    PresenceTree, TagTree, TypeTree,
+    AlternativeTree, Assignment, BaseTree, Collection, CompForm, CompTree, ConsTree, Module,
+    NamedTree, OfConsTree, PresenceTree, TagTree, TypeTree,
 };
 use std::alloc::Global;
 
@@ -83,11 +83,10 @@ fn basic_type<'a>(alloc: Global, tree: &TypeTree<'a>) -> Result<BasicType<'a>, F
 {
     check_tags(&tree.tags)?;
     let base = basic_base(alloc, tree.site, &tree.base)?;
-    let ranges = basic_constraints(alloc, &base, &tree.cons)?;
+    let base = with_constraints(alloc, base, &tree.cons)?;
     Ok(BasicType {
         site: tree.site,
         base,
-        ranges,
     })
 }
 
@@ -102,20 +101,23 @@ fn basic_base<'a>(
     ensures { Gives base_view form_named result (forms.basic_base site (written.base_view base.now)) }
 {
     match base {
-        BaseTree::Plain(plain) => basic_plain(site, *plain),
-        BaseTree::Integer(numbers) => integer(site, numbers),
-        BaseTree::Structure(collection, comps) => sequence(alloc, site, *collection, comps),
+        BaseTree::Plain(plain) => Ok(BasicBase::Plain(*plain)),
+        BaseTree::Integer(numbers) => integer(alloc, site, numbers),
+        BaseTree::Structure(collection, comps) => structure(alloc, site, *collection, comps),
+        BaseTree::Choice(alternatives) => choice(alloc, site, alternatives),
+        BaseTree::Of(collection, before, element) => {
+            check_before_of(before)?;
+            let element = basic_type(alloc, element)?;
+            Ok(BasicBase::Of(*collection, Box::new(alloc, element)?))
+        }
         BaseTree::Enumerated(_) => Err(FormFault::LeftOut(site)),
-        BaseTree::Choice(_) => Err(FormFault::LeftOut(site)),
-        BaseTree::Of(_, _, _) => Err(FormFault::LeftOut(site)),
         BaseTree::Reference(_) => Err(FormFault::LeftOut(site)),
     }
 }
 
-/// A SEQUENCE with at least one component.
+/// A SEQUENCE or SET.
 #[cycle(forms)]
-#[tactic(auto, unfolding(crate::specs::SchemaForms::basic_base))]
-fn sequence<'a>(
+fn structure<'a>(
     alloc: Global,
     site: Site,
     collection: Collection,
@@ -123,9 +125,20 @@ fn sequence<'a>(
 ) -> Result<BasicBase<'a>, FormFault>
     ensures { Gives base_view form_named result (forms.basic_base site (structure collection (components_of (map written.component_view comps.now)))) }
 {
-    check_sequence(site, collection, comps)?;
     let comps = basic_comps(alloc, comps)?;
-    Ok(BasicBase::Sequence(comps))
+    Ok(BasicBase::Structure(collection, comps))
+}
+
+#[cycle(forms)]
+fn choice<'a>(
+    alloc: Global,
+    site: Site,
+    alternatives: &[AlternativeTree<'a>],
+) -> Result<BasicBase<'a>, FormFault>
+    ensures { Gives base_view form_named result (forms.basic_base site (choice (alternatives_of (map written.alternative_view alternatives.now)))) }
+{
+    let comps = basic_alternatives(alloc, alternatives)?;
+    Ok(BasicBase::Choice(comps))
 }
 
 #[cycle(forms)]
@@ -141,21 +154,53 @@ fn basic_comps<'a>(alloc: Global, trees: &[CompTree<'a>]) -> Result<Vec<BasicCom
 }
 
 #[cycle(forms)]
+fn basic_alternatives<'a>(
+    alloc: Global,
+    trees: &[AlternativeTree<'a>],
+) -> Result<Vec<BasicComp<'a>>, FormFault>
+    ensures { Gives (λ v. map component_view v.items) form_named result (each basic_alternative (map written.alternative_view trees.now)) }
+{
+    let mut comps = Vec::with_capacity(alloc, trees.len())?;
+    for tree in trees {
+        let comp = basic_alternative(alloc, tree)?;
+        comps.push(comp)?;
+    }
+    Ok(comps)
+}
+
+#[cycle(forms)]
 fn basic_comp<'a>(alloc: Global, tree: &CompTree<'a>) -> Result<BasicComp<'a>, FormFault>
     ensures { Gives component_view form_named result (basic_component (written.component_view tree.now)) }
 {
     match &tree.form {
         CompForm::Named(name, ty, presence) => {
-            check_presence(tree.site, presence)?;
+            let optional = is_optional(tree.site, presence)?;
             let ty = basic_type(alloc, ty)?;
             Ok(BasicComp {
                 site: tree.site,
                 name: *name,
                 ty,
+                optional,
             })
         }
         CompForm::ComponentsOf(_) => Err(FormFault::LeftOut(tree.site)),
     }
+}
+
+#[cycle(forms)]
+fn basic_alternative<'a>(
+    alloc: Global,
+    tree: &AlternativeTree<'a>,
+) -> Result<BasicComp<'a>, FormFault>
+    ensures { Gives component_view form_named result (basic_alternative (written.alternative_view tree.now)) }
+{
+    let ty = basic_type(alloc, &tree.ty)?;
+    Ok(BasicComp {
+        site: tree.site,
+        name: tree.name,
+        ty,
+        optional: false,
+    })
 }
 
 /// A tag is left out at its bracket.
@@ -168,77 +213,64 @@ fn check_tags(tags: &[TagTree]) -> Result<(), FormFault>
     }
 }
 
-/// Of the types that are written with words alone, BOOLEAN.
-fn basic_plain<'a>(site: Site, plain: PlainType) -> Result<BasicBase<'a>, FormFault>
-    ensures { Gives base_view form_named result (forms.basic_plain site plain) }
-{
-    match plain {
-        PlainType::Boolean => Ok(BasicBase::Boolean),
-        PlainType::BitString => Err(FormFault::LeftOut(site)),
-        PlainType::OctetString => Err(FormFault::LeftOut(site)),
-        PlainType::Null => Err(FormFault::LeftOut(site)),
-        PlainType::ObjectIdentifier => Err(FormFault::LeftOut(site)),
-        PlainType::Utf8String => Err(FormFault::LeftOut(site)),
-        PlainType::NumericString => Err(FormFault::LeftOut(site)),
-        PlainType::PrintableString => Err(FormFault::LeftOut(site)),
-        PlainType::Ia5String => Err(FormFault::LeftOut(site)),
-        PlainType::VisibleString => Err(FormFault::LeftOut(site)),
-    }
-}
-
 /// INTEGER without named numbers.
-fn integer<'a>(site: Site, numbers: &[NamedTree]) -> Result<BasicBase<'a>, FormFault>
+fn integer<'a>(alloc: Global, site: Site, numbers: &[NamedTree]) -> Result<BasicBase<'a>, FormFault>
     ensures { Gives base_view form_named result (forms.no_numbers site (map written.named_view numbers.now)) }
 {
     match numbers {
-        [] => Ok(BasicBase::Integer),
+        [] => Ok(BasicBase::Integer(Vec::new(alloc))),
         [_, ..] => Err(FormFault::LeftOut(site)),
     }
 }
 
-fn check_sequence(site: Site, collection: Collection, comps: &[CompTree]) -> Result<(), FormFault>
-    ensures { Gives (λ u. u) form_named result (forms.sequence_of_some site collection (components_of (map written.component_view comps.now))) }
+/// A constraint before OF is left out at its first token.
+fn check_before_of(before: &Option<OfConsTree>) -> Result<(), FormFault>
+    ensures { Gives (λ u. u) form_named result (forms.nothing_before_of (written.of_constraint_view before.now)) }
 {
-    match collection {
-        Collection::Set => Err(FormFault::LeftOut(site)),
-        Collection::Sequence => match comps {
-            [] => Err(FormFault::LeftOut(site)),
-            [_, ..] => Ok(()),
-        },
+    match before {
+        None => Ok(()),
+        Some(constraint) => Err(FormFault::LeftOut(constraint.site)),
     }
 }
 
-/// A component that may be left out is itself left out, at its name.
-fn check_presence(site: Site, presence: &PresenceTree) -> Result<(), FormFault>
-    ensures { Gives (λ u. u) form_named result (forms.is_mandatory site (written.presence_view presence.now)) }
+/// Whether a component is OPTIONAL. One with a default is left out, at its name.
+fn is_optional(site: Site, presence: &PresenceTree) -> Result<bool, FormFault>
+    ensures { Gives (λ optional. optional) form_named result (forms.is_optional site (written.presence_view presence.now)) }
 {
     match presence {
-        PresenceTree::Mandatory => Ok(()),
-        PresenceTree::Optional => Err(FormFault::LeftOut(site)),
+        PresenceTree::Mandatory => Ok(false),
+        PresenceTree::Optional => Ok(true),
         PresenceTree::Default(_) => Err(FormFault::LeftOut(site)),
     }
 }
 
-/// The constraints behind a type of this base: one behind INTEGER, and none behind the others.
-fn basic_constraints<'a>(
+/// A type of this base with the constraints behind it: perhaps one behind INTEGER, and none behind the others.
+fn with_constraints<'a>(
     alloc: Global,
-    base: &BasicBase,
+    base: BasicBase<'a>,
     trees: &[ConsTree<'a>],
-) -> Result<Vec<BasicRange<'a>>, FormFault>
-    ensures { Gives (λ v. map range_view v.items) form_named result (forms.basic_constraints (base_view base.now) (map constraint_view trees.now)) }
+) -> Result<BasicBase<'a>, FormFault>
+    ensures { Gives base_view form_named result (forms.with_constraints (base_view base.entry) (map constraint_view trees.now)) }
 {
     match base {
-        BasicBase::Integer => perhaps_one(alloc, trees),
-        BasicBase::Boolean => no_range(alloc, trees),
-        BasicBase::Sequence(_) => no_range(alloc, trees),
+        BasicBase::Integer(_) => Ok(BasicBase::Integer(perhaps_one(alloc, trees)?)),
+        BasicBase::Plain(plain) => {
+            check_no_constraints(trees)?;
+            Ok(BasicBase::Plain(plain))
+        }
+        BasicBase::Structure(collection, comps) => {
+            check_no_constraints(trees)?;
+            Ok(BasicBase::Structure(collection, comps))
+        }
+        BasicBase::Choice(comps) => {
+            check_no_constraints(trees)?;
+            Ok(BasicBase::Choice(comps))
+        }
+        BasicBase::Of(collection, element) => {
+            check_no_constraints(trees)?;
+            Ok(BasicBase::Of(collection, element))
+        }
     }
-}
-
-fn no_range<'a>(alloc: Global, trees: &[ConsTree]) -> Result<Vec<BasicRange<'a>>, FormFault>
-    ensures { Gives (λ v. map range_view v.items) form_named result (forms.no_ranges (map constraint_view trees.now)) }
-{
-    check_no_constraints(trees)?;
-    Ok(Vec::new(alloc))
 }
 
 fn perhaps_one<'a>(alloc: Global, trees: &[ConsTree<'a>]) -> Result<Vec<BasicRange<'a>>, FormFault>

@@ -41,8 +41,9 @@ impl Schema {
     ///
     /// The faults are looked for in this order: those of the lexer (`Lex`), those of the parser (`Syntax`), the first form
     /// that is left out (`Syntax`, as P1 Unexpected at its first token), a name that is assigned twice (`Name`), and then
-    /// in each definition in written order first its tags (`Tag`) and then its constraints (`Cons`), parts before the
-    /// whole. OutOfMemory may stand in place of any answer.
+    /// in each definition in written order first its tags (`Tag`), parts before the whole, then whether tags tell its
+    /// components and alternatives apart (`Clash`), and then its constraints (`Cons`), parts before the whole. OutOfMemory
+    /// may stand in place of any answer.
     ///
     /// Forms that are built: no tag default or EXPLICIT TAGS, EXPORTS ALL or no exports, no imports, type assignments, and
     /// in them, without tags, BOOLEAN, INTEGER without named numbers and with at most one range between two integers, and
@@ -52,7 +53,7 @@ impl Schema {
         ensures accepted { IfOk result (λ schema. Accepts text.now (schema_view schema)) }
         ensures sound { IfOk result (λ schema. AreDefinitions (schema_view schema).types) }
         // What is refused has this fault first.
-        ensures refused { IfErr result (IsRefused text.now) }
+        ensures refused { IfErr result (λ f. IfSome (named f) (IsRefused text.now)) }
         // A text that denotes a schema is answered with it, unless memory runs out. So a fault comes only where it denotes none.
         ensures only { (s : AbstractSchema) → Accepts text.now s → Gives schema_view named result (Ok s) }
     {

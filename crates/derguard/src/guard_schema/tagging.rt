@@ -18,13 +18,14 @@ use thiserror::Error;
 /// Why a type can't be tagged, or is larger than this profile allows.
 #[derive(Clone, Copy, Debug, PartialEq, Eq, Error)]
 pub enum TagFault {
-    /// Two components of one list have one name (X.680 25.7), at the name of the later one.
+    /// Two components or alternatives of one list have one name (X.680 25.7, 27.3, 29.2), at the name of the later one.
     #[error("G7 DuplicateName {0}")]
     DuplicateName(Site),
-    /// More than 64 components, at the type's first token.
+    /// More than 64 components or alternatives, at the type's first token.
     #[error("G9 TooManyComponents {0}")]
     TooManyComponents(Site),
-    /// A nesting above 32, at the type's first token: a type's tags, and the greatest nesting of a part.
+    /// A nesting above 32, at the type's first token: a type's tags, for a CHOICE one more, and the greatest nesting of a
+    /// part.
     #[error("G10 TooDeep {0}")]
     TooDeep(Site),
     /// At this type the count of type nodes over all definitions goes above 100,000. Parts are counted before the whole.
@@ -63,11 +64,21 @@ fn check_parts(alloc: Global, base: &BasicBase, before: usize) -> Result<Checked
     ensures { Gives (λ c. c) named result (check_base before (base_view base.now)) }
 {
     match base {
-        BasicBase::Boolean | BasicBase::Integer => Ok(Checked {
-            nodes: before,
-            nesting: 0,
-        }),
-        BasicBase::Sequence(comps) => check_comps(alloc, comps, before),
+        BasicBase::Plain(_) => Ok(no_parts(before)),
+        BasicBase::Integer(_) => Ok(no_parts(before)),
+        BasicBase::Structure(_, comps) => check_comps(alloc, comps, before),
+        BasicBase::Choice(comps) => check_comps(alloc, comps, before),
+        BasicBase::Of(_, element) => check(alloc, element, before),
+    }
+}
+
+/// What stands before the first part of a type.
+fn no_parts(before: usize) -> Checked
+    ensures { result ≡ record { nodes = before; nesting = 0 } }
+{
+    Checked {
+        nodes: before,
+        nesting: 0,
     }
 }
 
@@ -75,10 +86,7 @@ fn check_parts(alloc: Global, base: &BasicBase, before: usize) -> Result<Checked
 fn check_comps(alloc: Global, comps: &[BasicComp], before: usize) -> Result<Checked, SchemaFault>
     ensures { Gives (λ c. c) named result (check_components before (components_of (map component_view comps.now))) }
 {
-    let mut parts = Checked {
-        nodes: before,
-        nesting: 0,
-    };
+    let mut parts = no_parts(before);
     for comp in comps {
         let part = check(alloc, &comp.ty, parts.nodes)?;
         parts = Checked {
@@ -109,8 +117,11 @@ fn check_list(alloc: Global, site: Site, base: &BasicBase) -> Result<(), SchemaF
     ensures { Gives (λ u. u) named result (reading.check_list site (base_view base.now)) }
 {
     match base {
-        BasicBase::Boolean | BasicBase::Integer => Ok(()),
-        BasicBase::Sequence(comps) => check_comp_list(alloc, site, comps),
+        BasicBase::Structure(_, comps) => check_comp_list(alloc, site, comps),
+        BasicBase::Choice(comps) => check_comp_list(alloc, site, comps),
+        BasicBase::Plain(_) => Ok(()),
+        BasicBase::Integer(_) => Ok(()),
+        BasicBase::Of(_, _) => Ok(()),
     }
 }
 

@@ -53,6 +53,125 @@ fn the_built_in_module_has_its_types(rt: HostRuntime) -> Result<(), Fail> {
     Ok(())
 }
 
+/// The type that is assigned to A, with all its parts.
+fn shown_alone(alloc: Global, ty: &str) -> Result<String, Fail> {
+    let line = format!(in alloc; "A ::= {ty}")?;
+    let text = module_of(alloc, &line)?;
+    let schema = Schema::build(alloc, text.as_bytes())?;
+    let ty = schema.ty("M", "A").ok_or("no type of this name")?;
+    Ok(format!(in alloc; "{ty:?}")?)
+}
+
+/// A type of this kind with this universal tag.
+fn tagged(alloc: Global, number: u32, kind: &str) -> Result<String, AllocError> {
+    format!(in alloc;
+        "Ty {{ tags: [Tag {{ class: Universal, number: {number} }}], kind: {kind}, cons: [] }}"
+    )
+}
+
+#[test]
+fn each_form_has_its_kind_and_its_universal_tag(rt: HostRuntime) -> Result<(), Fail> {
+    let alloc = rt.alloc();
+    let null = tagged(alloc, 5, "Null")?;
+    for (ty, number, kind) in [
+        ("BOOLEAN", 1, "Bool"),
+        ("INTEGER", 2, "Int([])"),
+        ("BIT STRING", 3, "Bits"),
+        ("OCTET STRING", 4, "Octets"),
+        ("NULL", 5, "Null"),
+        ("OBJECT IDENTIFIER", 6, "Oid"),
+        ("UTF8String", 12, "Chars(Utf8)"),
+        ("NumericString", 18, "Chars(Numeric)"),
+        ("PrintableString", 19, "Chars(Printable)"),
+        ("IA5String", 22, "Chars(Ia5)"),
+        ("VisibleString", 26, "Chars(Visible)"),
+        ("SEQUENCE {}", 16, "Sequence([])"),
+        ("SET {}", 17, "Set([])"),
+    ] {
+        let want = tagged(alloc, number, kind)?;
+        let got = shown_alone(alloc, ty)?;
+        assert_eq!(rt; got.as_str(), want.as_str(), "{ty}");
+    }
+    for (ty, number, kind) in [
+        ("SEQUENCE OF NULL", 16, "SequenceOf"),
+        ("SET OF NULL", 17, "SetOf"),
+    ] {
+        let kind = format!(in alloc; "{kind}({null})")?;
+        let want = tagged(alloc, number, &kind)?;
+        let got = shown_alone(alloc, ty)?;
+        assert_eq!(rt; got.as_str(), want.as_str(), "{ty}");
+    }
+    for (ty, number, kind) in [
+        ("SEQUENCE {a NULL OPTIONAL}", 16, "Sequence"),
+        ("SET {a NULL OPTIONAL}", 17, "Set"),
+    ] {
+        let kind = format!(in alloc;
+            "{kind}([Comp {{ name: \"a\", ty: {null}, presence: Optional }}])"
+        )?;
+        let want = tagged(alloc, number, &kind)?;
+        let got = shown_alone(alloc, ty)?;
+        assert_eq!(rt; got.as_str(), want.as_str(), "{ty}");
+    }
+    // A CHOICE has no tag of its own, and its alternatives are mandatory.
+    let want = format!(in alloc;
+        "Ty {{ tags: [], kind: Choice([Comp {{ name: \"a\", ty: {null}, presence: Mandatory }}]), cons: [] }}"
+    )?;
+    let got = shown_alone(alloc, "CHOICE {a NULL}")?;
+    assert_eq!(rt; got.as_str(), want.as_str());
+    Ok(())
+}
+
+#[test]
+fn components_that_must_differ_in_their_tags_clash(rt: HostRuntime) -> Result<(), Fail> {
+    for (lines, want) in [
+        (
+            "A ::= SEQUENCE {a INTEGER OPTIONAL, b INTEGER}",
+            "S1 Clash 1:2:1 $ 0 1",
+        ),
+        ("A ::= SEQUENCE {a BOOLEAN OPTIONAL, b INTEGER}", "ok"),
+        ("A ::= SEQUENCE {a INTEGER, b INTEGER}", "ok"),
+        (
+            "A ::= SET {a INTEGER, b BOOLEAN, c INTEGER}",
+            "S1 Clash 1:2:1 $ 0 2",
+        ),
+        (
+            "A ::= CHOICE {a NULL, b CHOICE {c BOOLEAN, d NULL}}",
+            "S1 Clash 1:2:1 $ 0 1",
+        ),
+        (
+            "A ::= SEQUENCE {a SEQUENCE OF SEQUENCE {x NULL, y NULL, z SET {p NULL, q NULL}}}",
+            "S1 Clash 1:2:1 $.0[0].2 0 1",
+        ),
+        // The name of the definition is named.
+        (
+            "A ::= NULL\nB ::= SET {a NULL, b NULL}",
+            "S1 Clash 1:3:1 $ 0 1",
+        ),
+        // Tags of a definition come first, then a clash, then its constraints.
+        (
+            "A ::= SET {a NULL, b NULL, b BOOLEAN}",
+            "G7 DuplicateName 1:2:28",
+        ),
+        (
+            "A ::= SET {a INTEGER (0..170141183460469231731687303715884105728), b INTEGER}",
+            "S1 Clash 1:2:1 $ 0 1",
+        ),
+        (
+            "A ::= INTEGER (0..170141183460469231731687303715884105728)\nB ::= SET {a NULL, b NULL}",
+            "C9 Value V8 TooLarge 1:2:19",
+        ),
+        (
+            "A ::= SET {a NULL, b NULL}\nB ::= SET {a NULL, a NULL}",
+            "S1 Clash 1:2:1 $ 0 1",
+        ),
+    ] {
+        let text = module_of(rt.alloc(), lines)?;
+        let got = answer(rt.alloc(), &text)?;
+        assert_eq!(rt; got.as_str(), want, "{lines}");
+    }
+    Ok(())
+}
+
 #[test]
 fn a_type_is_found_by_both_names(rt: HostRuntime) -> Result<(), Fail> {
     let schema = Schema::build(rt.alloc(), FIRST.as_bytes())?;
@@ -85,6 +204,11 @@ fn the_first_fault_is_named(rt: HostRuntime) -> Result<(), Fail> {
         (
             "A ::= SEQUENCE {a BOOLEAN, b BOOLEAN, a INTEGER}",
             "G7 DuplicateName 1:2:39",
+        ),
+        ("A ::= SET {a NULL, a BOOLEAN}", "G7 DuplicateName 1:2:20"),
+        (
+            "A ::= CHOICE {a NULL, a BOOLEAN}",
+            "G7 DuplicateName 1:2:23",
         ),
         // Names of assignments come before any definition.
         (
@@ -177,24 +301,9 @@ fn a_type_is_left_out_at_its_first_token(rt: HostRuntime) -> Result<(), Fail> {
     let alloc = rt.alloc();
     for ty in [
         "[0] BOOLEAN",
-        "NULL",
-        "BIT STRING",
-        "OCTET STRING",
-        "OBJECT IDENTIFIER",
-        "UTF8String",
-        "NumericString",
-        "PrintableString",
-        "IA5String",
-        "VisibleString",
+        "[0] CHOICE {a BOOLEAN}",
         "ENUMERATED {a}",
         "INTEGER {a(1)}",
-        "SEQUENCE {}",
-        "SET {a BOOLEAN}",
-        "SET {}",
-        "CHOICE {a BOOLEAN}",
-        "SEQUENCE OF BOOLEAN",
-        "SEQUENCE SIZE (1) OF BOOLEAN",
-        "SET (SIZE (1)) OF BOOLEAN",
         "B",
     ] {
         let line = format!(in alloc; "A ::= {ty}")?;
@@ -246,38 +355,51 @@ fn the_first_form_in_the_text_that_is_left_out_is_named(rt: HostRuntime) -> Resu
             "A ::= SEQUENCE {a BOOLEAN} (WITH COMPONENTS {a})",
             "P1 Unexpected 1:2:29",
         ),
-        ("A ::= SEQUENCE {a NULL}", "P1 Unexpected 1:2:19"),
-        ("A ::= SEQUENCE {COMPONENTS OF B}", "P1 Unexpected 1:2:17"),
+        ("A ::= SEQUENCE {a B}", "P1 Unexpected 1:2:19"),
+        ("A ::= CHOICE {a NULL, b B}", "P1 Unexpected 1:2:25"),
+        ("A ::= SET OF SEQUENCE OF B", "P1 Unexpected 1:2:26"),
+        // A constraint before OF begins with SIZE or its parenthesis.
         (
-            "A ::= SEQUENCE {a BOOLEAN OPTIONAL}",
-            "P1 Unexpected 1:2:17",
+            "A ::= SEQUENCE SIZE (1) OF [0] NULL",
+            "P1 Unexpected 1:2:16",
         ),
+        ("A ::= SET (SIZE (1)) OF B", "P1 Unexpected 1:2:11"),
+        // Behind other types than INTEGER no constraint means anything yet.
+        ("A ::= BIT STRING (SIZE (1))", "P1 Unexpected 1:2:19"),
+        ("A ::= IA5String (\"a\")", "P1 Unexpected 1:2:18"),
+        ("A ::= SET OF INTEGER (0..9) (1..2)", "P1 Unexpected 1:2:30"),
+        (
+            "A ::= CHOICE {a NULL} (WITH COMPONENTS {a})",
+            "P1 Unexpected 1:2:24",
+        ),
+        ("A ::= SEQUENCE {COMPONENTS OF B}", "P1 Unexpected 1:2:17"),
+        ("A ::= SET {a BOOLEAN DEFAULT TRUE}", "P1 Unexpected 1:2:12"),
         (
             "A ::= SEQUENCE {a BOOLEAN, b INTEGER DEFAULT 3}",
             "P1 Unexpected 1:2:28",
         ),
-        // A component that may be left out begins before its type.
-        ("A ::= SEQUENCE {a NULL OPTIONAL}", "P1 Unexpected 1:2:17"),
+        // A component with a default begins before its type.
+        (
+            "A ::= SEQUENCE {a [0] NULL DEFAULT NULL}",
+            "P1 Unexpected 1:2:17",
+        ),
         // A part comes before the constraints behind the whole.
         (
             "A ::= SEQUENCE {a [0] BOOLEAN} (WITH COMPONENTS {a})",
             "P1 Unexpected 1:2:19",
         ),
         ("A ::= [0] NULL (NULL)", "P1 Unexpected 1:2:7"),
-        ("A ::= NULL\nB ::= SET {}", "P1 Unexpected 1:2:7"),
+        ("A ::= B\nB ::= [0] NULL", "P1 Unexpected 1:2:7"),
         // It comes before names and before any other fault of the module,
-        ("A ::= BOOLEAN\nA ::= NULL", "P1 Unexpected 1:3:7"),
+        ("A ::= BOOLEAN\nA ::= B", "P1 Unexpected 1:3:7"),
         (
             "A ::= SEQUENCE {a BOOLEAN, a [0] BOOLEAN}",
             "P1 Unexpected 1:2:30",
         ),
         // and after those of the lexer and the parser.
-        (
-            "A ::= NULL\nB ::= INTEGER (007..9)",
-            "L1 BadCharacter 1:3:17",
-        ),
-        ("A ::= NULL\nB", "P1 Unexpected 1:4:1"),
-        ("A ::= NULL\nB ::= REAL", "P2 Unsupported REAL 1:3:7"),
+        ("A ::= B\nB ::= INTEGER (007..9)", "L1 BadCharacter 1:3:17"),
+        ("A ::= [0] NULL\nB", "P1 Unexpected 1:4:1"),
+        ("A ::= [0] NULL\nB ::= REAL", "P2 Unsupported REAL 1:3:7"),
     ] {
         let text = module_of(rt.alloc(), lines)?;
         let got = answer(rt.alloc(), &text)?;
@@ -296,15 +418,15 @@ fn wide(alloc: Global, count: u32) -> Result<String, AllocError> {
     module_of(alloc, &text)
 }
 
-/// A BOOLEAN in so many SEQUENCE types, one in the other.
-fn deep(alloc: Global, count: u32) -> Result<String, AllocError> {
+/// A BOOLEAN between so many of these words, one type in the other.
+fn deep(alloc: Global, before: &str, behind: &str, count: u32) -> Result<String, AllocError> {
     let mut text = String::from_str(alloc, "A ::= ")?;
     for _ in 0..count {
-        text.push_str("SEQUENCE {a ")?;
+        text.push_str(before)?;
     }
     text.push_str("BOOLEAN")?;
     for _ in 0..count {
-        text.push_str("}")?;
+        text.push_str(behind)?;
     }
     module_of(alloc, &text)
 }
@@ -317,16 +439,24 @@ fn components_and_nesting_have_limits(rt: HostRuntime) -> Result<(), Fail> {
         answer(alloc, &wide(alloc, 65)?)?.as_str(),
         "G9 TooManyComponents 1:2:7"
     );
-    assert_eq!(rt; answer(alloc, &deep(alloc, 31)?)?.as_str(), "ok");
-    assert_eq!(rt;
-        answer(alloc, &deep(alloc, 32)?)?.as_str(),
-        "G10 TooDeep 1:2:7"
-    );
-    // The inner type is the first whose nesting is above 32.
-    assert_eq!(rt;
-        answer(alloc, &deep(alloc, 33)?)?.as_str(),
-        "G10 TooDeep 1:2:19"
-    );
+    for (before, behind, inner) in [
+        ("SEQUENCE {a ", "}", "G10 TooDeep 1:2:19"),
+        ("SET {a ", "}", "G10 TooDeep 1:2:14"),
+        ("CHOICE {a ", "}", "G10 TooDeep 1:2:17"),
+        ("SEQUENCE OF ", "", "G10 TooDeep 1:2:19"),
+    ] {
+        let text = deep(alloc, before, behind, 31)?;
+        assert_eq!(rt; answer(alloc, &text)?.as_str(), "ok", "{before}");
+        let text = deep(alloc, before, behind, 32)?;
+        assert_eq!(rt;
+            answer(alloc, &text)?.as_str(),
+            "G10 TooDeep 1:2:7",
+            "{before}"
+        );
+        // The inner type is the first whose nesting is above 32.
+        let text = deep(alloc, before, behind, 33)?;
+        assert_eq!(rt; answer(alloc, &text)?.as_str(), inner, "{before}");
+    }
     Ok(())
 }
 

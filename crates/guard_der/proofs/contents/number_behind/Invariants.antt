@@ -1,7 +1,7 @@
 use Rattle.std.proofs.Common.{◌≡◌, ◌+◌, ◌-◌, ◌*◌, ◌^◌, ◌≤◌, ◌∷◌, take}
 use Rattle.std.specs.Prelude.{if◌then◌else◌}
 use Rattle.guard_der.specs.Octets.{big_endian}
-use Rattle.guard_der.specs.Reading.{turned}
+use Rattle.guard_der.specs.Octets.{turned}
 use Rattle.guard_der.proofs.contents.number_behind.Given as goal
 
 abbrev pub invariant-loop-octet : goal.invariant-loop-octet

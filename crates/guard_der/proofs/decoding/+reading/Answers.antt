@@ -1,121 +1,491 @@
-use Rattle.std.proofs.Common.{rules, ◌≡◌, ◌++◌, ◌∷◌, [], ◌∙◌, sym, drop, map, Some, arith}
+use Rattle.std.proofs.Common.{◌≡◌, ◌+◌, ◌-◌, ◌++◌, ◌∷◌, [], ◌∙◌, sym, ap, length, map, get_or, subst, arith, ◌<◌}
+use Rattle.std.specs.Prelude.{option_map}
 use Rattle.std.proofs.lemmas.Result.{err_from_is_err_and}
-use Rattle.std.proofs.lemmas.List.{map_push, length-drop, length-take}
-use Rattle.guard_model.specs.TypeView.{type_view, component_view, components_of}
-use Rattle.guard_model.specs.ValueView.{value_view, field_view}
-use Rattle.guard_model.specs.declared.ty.Kind.{the_lemmas}
-use Rattle.guard_der.specs.Breach.{begins_with}
-use Rattle.guard_der.specs.Reading.{element_at, fields_at}
+use Rattle.std.proofs.lemmas.List.{map_push, length-append, length-drop, length-set}
+use Rattle.guard_model.specs.Answer.{Gives}
+use Rattle.guard_model.specs.TypeView.{type_view, kind_view, presence_view}
+use Rattle.guard_model.specs.ValueView.{value_view, field_view, fields_view}
+use Rattle.guard_model.specs.declared.site.Step.TheVariants.{Component}
+use Rattle.guard_model.specs.declared.ty.Kind.TheViews.{out-Ty, out-Comp}
+use Rattle.guard_tagcheck.specs.FirstTags.{begins_with}
+use Rattle.guard_tagcheck.specs.Limits.{deepest}
+use Rattle.guard_der.specs.declared.breach.Code.TheVariants as code
+use Rattle.guard_der.specs.Head.{head_of}
+use Rattle.guard_der.specs.Der.{is_left_out as left_out}
+use Rattle.guard_der.specs.Breach.{below}
+use Rattle.guard_der.specs.Reading.{element_at, part_at, fields_at, contents_at, missing_at, fault, same_form}
 use Rattle.guard_der.specs.Views.{head_view, breach_of}
 use Rattle.guard_der.proofs.Digits.{are_digits}
-use Rattle.guard_der.proofs.Headers.{head_room, due_room}
-use Rattle.guard_der.proofs.Steps.{due_ok, component_refused, component_done, component_inside}
-use Rattle.guard_der.proofs.Components.{nothing_before, left_limits, goes_on, refused, end_refused, is_done, element_limits, kind_limits, room_below}
+use Rattle.guard_der.proofs.Headers.{head_room, head_small}
+use Rattle.guard_der.proofs.Steps.{due_ok}
+use Rattle.guard_der.proofs.ComponentSteps.{located_is}
+use Rattle.guard_der.proofs.Components.{left_proper, goes_on, refused, end_refused, is_done}
+use Rattle.guard_der.proofs.Paths.{room_below, room_below_item}
+use Rattle.guard_der.proofs.Items.{item_reads}
+use Rattle.guard_der.proofs.ItemLoop.{due_some, item_tags, item_not_due, item_not_read, item_descends, item_is_read, item_refused, items_go_on, items_refused, items_done, sequence_of_contents, set_of_contents, contents_refused, contents_read}
+use Rattle.guard_der.proofs.Decodings as decodings
+use Rattle.guard_der.proofs.Decodings.{several, was_false, was_true, whole, due_room, inner_proper, proper_inside, element_none, element_one, element_one_wrong, element_more, element_more_wrong, part_is, chosen_none, chosen_some, chosen_refused, end_ok, no_header, stray_ok, stray_refused, sent_done, default_sent, inside_refused, value_chosen, components_in, sequence_parts, choice_parts, choice_proper, choice_contents, choice_element, tags_element, tags_proper, tags_nesting, refuses_as, inside_room}
+use Rattle.guard_der.proofs.SetSteps.{member_reads, member_default}
+use Rattle.guard_der.proofs.Slots.{slot_filled}
+use Rattle.guard_der.proofs.Members as members
+use Rattle.guard_der.proofs.Members.{set_parts, set_read, set_given, set_refused, presence_is, head_size}
 use Rattle.guard_der.proofs.decoding.+reading.Goals as goal
 
--- ---- component
+-- ---- one element alone
 
-pub component-returns-in_err-head : goal.component-returns-in_err-head
-component-returns-in_err-head t c =
-    let p = err_from_is_err_and c.from_residual.result c.from_residual.ensures.1 in
-    rw (p.1, p.2) (record {
-      within = tt;
-      given = component_refused (breach_of c.in_err-head.field-0.0) c.args.index (begins_with (type_view c.args.comp.now.ty)) (element_at (type_view c.args.comp.now.ty)) c.args.at c.args.octets.now (sym c.is_empty.ensures ∙ c.if-is_empty.false) c.in_err-head.ensures;
-    })
+pub alone-element-requires : goal.alone-element-requires
+alone-element-requires t c =
+    let h = due_ok (begins_with (whole c.args.tags.now (kind_view c.args.kind.now))) c.args.at c.args.octets.now (head_view c.in_ok-head.head) c.in_ok-head.ensures in
+    (omega arith, (c.requires.proper, (c.requires.depth, (h.0, c.requires.room))))
 
-pub component-element-requires : goal.component-element-requires
-component-element-requires t c =
-    let h = due_ok (begins_with (type_view c.args.comp.now.ty)) c.args.at c.args.octets.now (head_view c.in_ok-head.head) c.in_ok-head.ensures in
-    (search (rules, the_lemmas), (c.requires.limits, (omega (arith, c.requires.depth), (h.0, c.requires.room))))
-
-pub component-overflow_add-result : goal.component-overflow_add-result
-component-overflow_add-result t c =
-    omega (arith, due_room (begins_with (type_view c.args.comp.now.ty)) c.args.at c.args.octets.now (head_view c.in_ok-head.head) (are_digits 256 c.args.octets.now (λ i _. omega (arith, c.type_inv.octets i))) c.in_ok-head.ensures)
-
-pub component-below-requires-in-Err : goal.component-below-requires-in-Err
-component-below-requires-in-Err t c = room_below (breach_of c.in-Err.fault) (type_view c.args.comp.now.ty) c.args.at (head_view c.in_ok-head.head) c.args.octets.now c.requires.limits c.requires.depth c.in-Err.ensures
-
-pub component-returns-in-Ok : goal.component-returns-in-Ok
-component-returns-in-Ok t c = record {
-  within = due_room (begins_with (type_view c.args.comp.now.ty)) c.args.at c.args.octets.now (head_view c.in_ok-head.head) (are_digits 256 c.args.octets.now (λ i _. omega (arith, c.type_inv.octets i))) c.in_ok-head.ensures;
-  given = component_done c.args.index (begins_with (type_view c.args.comp.now.ty)) (element_at (type_view c.args.comp.now.ty)) c.args.at c.args.octets.now (head_view c.in_ok-head.head) (value_view c.in-Ok.value) (sym c.is_empty.ensures ∙ c.if-is_empty.false) c.in_ok-head.ensures c.in-Ok.ensures;
-}
-
-pub component-returns-in-Err : goal.component-returns-in-Err
-component-returns-in-Err t c = record {
-  within = tt;
-  given = rw c.below-in-Err.ensures (component_inside (breach_of c.in-Err.fault) c.args.index (begins_with (type_view c.args.comp.now.ty)) (element_at (type_view c.args.comp.now.ty)) c.args.at c.args.octets.now (head_view c.in_ok-head.head) (sym c.is_empty.ensures ∙ c.if-is_empty.false) c.in_ok-head.ensures c.in-Err.ensures);
-}
+pub alone-overflow_add-size : goal.alone-overflow_add-size
+alone-overflow_add-size t c = omega (arith, c.requires.room, due_room (begins_with (whole c.args.tags.now (kind_view c.args.kind.now))) c.args.at c.args.octets.now (head_view c.in_ok-head.head) (are_digits 256 c.args.octets.now (λ i _. omega (arith, c.type_inv.octets i))) c.in_ok-head.ensures)
 
 -- ---- element
 
 pub element-split_at-requires : goal.element-split_at-requires
-element-split_at-requires t c =
-    omega (arith, head_room c.args.octets.now (head_view c.args.head) (are_digits 256 c.args.octets.now (λ i _. omega (arith, c.type_inv.octets i))) c.requires.header)
+element-split_at-requires t c = omega (arith, head_room c.args.octets.now (head_view c.args.head) (are_digits 256 c.args.octets.now (λ i _. omega (arith, c.type_inv.octets i))) c.requires.header)
 
 pub element-split_at-requires-2 : goal.element-split_at-requires-2
-element-split_at-requires-2 t c =
-    rw c.split_at.ensures.back (omega (arith, length-drop c.args.head.size c.args.octets.now, head_room c.args.octets.now (head_view c.args.head) (are_digits 256 c.args.octets.now (λ i _. omega (arith, c.type_inv.octets i))) c.requires.header))
+element-split_at-requires-2 t c = rw c.split_at.ensures.back (omega (arith, length-drop c.args.head.size c.args.octets.now, head_room c.args.octets.now (head_view c.args.head) (are_digits 256 c.args.octets.now (λ i _. omega (arith, c.type_inv.octets i))) c.requires.header))
 
 pub element-contents-requires : goal.element-contents-requires
-element-contents-requires t c =
-    let l = element_limits c.args.ty.now c.requires.limits c.requires.depth in (
-      search (rules, the_lemmas),
+element-contents-requires t c = (
+  omega (arith, c.if-tags-eq1.true),
+  (
+    proper_inside c.args.tags.now (kind_view c.args.kind.now) c.requires.proper,
+    (
+      omega (arith, c.requires.depth, c.if-tags-eq1.true),
       (
-        l.0,
+        rw (c.split_at-2.ensures.front, c.split_at.ensures.back) (inside_room c.args.octets.now (head_view c.args.head) c.args.at 18446744073709551616 (head_room c.args.octets.now (head_view c.args.head) (are_digits 256 c.args.octets.now (λ i _. omega (arith, c.type_inv.octets i))) c.requires.header) c.requires.room),
+        rw (c.split_at-2.ensures.front, c.split_at.ensures.back) (head_small c.args.octets.now (head_view c.args.head) (are_digits 256 c.args.octets.now (λ i _. omega (arith, c.type_inv.octets i))) c.requires.header),
+      ),
+    ),
+  ),
+)
+
+pub element-alone-requires : goal.element-alone-requires
+element-alone-requires t c =
+    let p = inner_proper c.args.tags.now (kind_view c.args.kind.now) (several c.args.tags.now (sym c.is_empty.ensures ∙ c.if-is_empty.false) c.if-tags-eq1.false) c.requires.proper in (
+      omega (arith, p.1),
+      (
+        p.0,
         (
-          l.1,
-          rw (c.split_at-2.ensures.front, c.split_at.ensures.back) (omega (arith, c.requires.room, length-take c.args.head.contents (drop c.args.head.size c.args.octets.now), length-drop c.args.head.size c.args.octets.now, head_room c.args.octets.now (head_view c.args.head) (are_digits 256 c.args.octets.now (λ i _. omega (arith, c.type_inv.octets i))) c.requires.header)),
+          omega (arith, c.requires.depth, p.1),
+          rw (c.split_at-2.ensures.front, c.split_at.ensures.back) (inside_room c.args.octets.now (head_view c.args.head) c.args.at 18446744073709551616 (head_room c.args.octets.now (head_view c.args.head) (are_digits 256 c.args.octets.now (λ i _. omega (arith, c.type_inv.octets i))) c.requires.header) c.requires.room),
         ),
       ),
     )
 
--- ---- contents
+pub element-returns-then-is_empty : goal.element-returns-then-is_empty
+element-returns-then-is_empty t c =
+    subst (λ r. Gives value_view breach_of c.untagged.result r) (sym (element_none c.args.tags.now (kind_view c.args.kind.now) c.args.at (head_view c.args.head) c.args.octets.now (sym c.is_empty.ensures ∙ c.if-is_empty.true))) c.untagged.ensures
 
-pub contents-components-requires : goal.contents-components-requires
-contents-components-requires t c =
-    let l = kind_limits c.args.kind.now c.in-Sequence.comps c.in-Sequence.is c.requires.limits c.requires.depth in
-    (search (rules, the_lemmas), (rw c.deref.ensures.value l.0, (rw c.deref.ensures.value l.1, (rw c.deref.ensures.value l.2, c.requires.room))))
+pub element-returns-then-not-is_form : goal.element-returns-then-not-is_form
+element-returns-then-not-is_form t c =
+    rw c.wrong_form.ensures (element_one_wrong c.args.tags.now (kind_view c.args.kind.now) c.args.at (head_view c.args.head) c.args.octets.now c.if-tags-eq1.true
+    (ap (same_form c.args.head.constructed) (sym c.is_kind_constructed.ensures) ∙ sym c.is_form.ensures ∙ c.if-not-is_form.true))
+
+pub element-returns-then-tags-eq1 : goal.element-returns-then-tags-eq1
+element-returns-then-tags-eq1 t c =
+    subst (λ r. Gives value_view breach_of c.contents.result r) (sym (element_one c.args.tags.now (kind_view c.args.kind.now) c.args.at (head_view c.args.head) c.args.octets.now c.if-tags-eq1.true
+    (ap (same_form c.args.head.constructed) (sym c.is_kind_constructed.ensures) ∙ sym c.is_form.ensures ∙ c.if-not-is_form.false)))
+    (rw (c.split_at-2.ensures.front, c.split_at.ensures.back) at c.contents.ensures)
+
+pub element-returns-then-not-head : goal.element-returns-then-not-head
+element-returns-then-not-head t c =
+    rw c.fault_at.ensures (element_more_wrong c.args.tags.now (kind_view c.args.kind.now) c.args.at (head_view c.args.head) c.args.octets.now
+    (several c.args.tags.now (sym c.is_empty.ensures ∙ c.if-is_empty.false) c.if-tags-eq1.false) (was_false c.args.head.constructed c.if-not-head.true))
+
+pub element-returns : goal.element-returns
+element-returns t c =
+    subst (λ r. Gives value_view breach_of c.alone.result r) (sym (element_more c.args.tags.now (kind_view c.args.kind.now) c.args.at (head_view c.args.head) c.args.octets.now
+    (several c.args.tags.now (sym c.is_empty.ensures ∙ c.if-is_empty.false) c.if-tags-eq1.false) (was_true c.args.head.constructed c.if-not-head.false)))
+    (rw (c.split_at-2.ensures.front, c.split_at.ensures.back) at c.alone.ensures)
+
+-- ---- CHOICE
+
+pub untagged-chosen-requires : goal.untagged-chosen-requires
+untagged-chosen-requires t c =
+    let p = choice_parts c.args.kind.now c.in-Choice.alternatives c.in-Choice.is c.requires.proper in
+    let d = ap (λ x. deepest (components_in x)) c.deref.ensures.value in
+    (omega (arith, p.2, d), (rw c.deref.ensures.value p.0, (rw c.deref.ensures.value p.1, (omega (arith, p.2, d, c.requires.depth), (c.requires.header, c.requires.room)))))
+
+pub untagged-returns-in-Choice : goal.untagged-returns-in-Choice
+untagged-returns-in-Choice t c =
+    subst (λ r. Gives value_view breach_of c.chosen.result r) (choice_element c.args.kind.now c.in-Choice.alternatives c.args.at (head_view c.args.head) c.args.octets.now c.in-Choice.is) (rw c.deref.ensures.value at c.chosen.ensures)
+
+pub contents-alone-requires : goal.contents-alone-requires
+contents-alone-requires t c = (omega arith, (choice_proper c.args.kind.now c.in-Choice.field-0 c.in-Choice.is c.requires.proper, (omega (arith, c.requires.depth), c.requires.room)))
+
+pub contents-returns-in-Choice : goal.contents-returns-in-Choice
+contents-returns-in-Choice t c =
+    subst (λ r. Gives value_view breach_of c.alone.result r) (choice_contents c.args.kind.now c.in-Choice.field-0 c.args.at c.args.start c.args.octets.now c.in-Choice.is) c.alone.ensures
+
+pub chosen-returns-in_default : goal.chosen-returns-in_default
+chosen-returns-in_default t c = rw c.fault_at.ensures (chosen_none (components_in c.args.alternatives.now) c.args.at (head_view c.args.head) c.args.octets.now (sym c.in_default.ensures.place))
+
+pub chosen-element-requires : goal.chosen-element-requires
+chosen-element-requires t c =
+    let ty = (out-Comp (get_or c.args.alternatives.now c.in-Some.place c.index-alternatives-place.result)).ty in
+    let p = part_is c.args.alternatives.now c.in-Some.place (get_or c.args.alternatives.now c.in-Some.place c.index-alternatives-place.result) c.in-Some.ensures.within (ap (λ x. get_or c.args.alternatives.now c.in-Some.place x) c.index-alternatives-place.is) c.requires.proper in
+    let n = tags_nesting ty c.deref.result.now c.deref.ensures.value in
+    (omega (arith, p.1, n), (tags_proper ty c.deref.result.now c.deref.ensures.value p.0, (omega (arith, p.1, n, c.requires.depth), (c.requires.header, c.requires.room))))
+
+pub chosen-below-requires : goal.chosen-below-requires
+chosen-below-requires t c =
+    let ty = (out-Comp (get_or c.args.alternatives.now c.in-Some.place c.index-alternatives-place.result)).ty in
+    let p = part_is c.args.alternatives.now c.in-Some.place (get_or c.args.alternatives.now c.in-Some.place c.index-alternatives-place.result) c.in-Some.ensures.within (ap (λ x. get_or c.args.alternatives.now c.in-Some.place x) c.index-alternatives-place.is) c.requires.proper in
+    room_below (breach_of c.in-Err.fault) (whole c.deref.result.now (kind_view (out-Ty ty).kind)) c.args.at (head_view c.args.head) c.args.octets.now (tags_proper ty c.deref.result.now c.deref.ensures.value p.0)
+    (omega (arith, p.1, tags_nesting ty c.deref.result.now c.deref.ensures.value, c.requires.depth)) c.in-Err.ensures
+
+pub chosen-returns-in_ok-new-in-Ok : goal.chosen-returns-in_ok-new-in-Ok
+chosen-returns-in_ok-new-in-Ok t c =
+    let ty = (out-Comp (get_or c.args.alternatives.now c.in-Some.place c.index-alternatives-place.result)).ty in
+    let p = part_is c.args.alternatives.now c.in-Some.place (get_or c.args.alternatives.now c.in-Some.place c.index-alternatives-place.result) c.in-Some.ensures.within (ap (λ x. get_or c.args.alternatives.now c.in-Some.place x) c.index-alternatives-place.is) c.requires.proper in
+    let read = p.2 c.args.at (head_view c.args.head) c.args.octets.now ∙ tags_element ty c.deref.result.now c.args.at (head_view c.args.head) c.args.octets.now c.deref.ensures.value ∙ c.in-Ok.ensures in
+    rw (value_chosen c.in-Some.place c.in_ok-new-in-Ok.field-0, c.in_ok-new-in-Ok.ensures.ok) (chosen_some (components_in c.args.alternatives.now) c.in-Some.place c.args.at (head_view c.args.head) c.args.octets.now (value_view c.in-Ok.value) (sym c.in-Some.ensures.place) read)
+
+pub chosen-returns-in-Err : goal.chosen-returns-in-Err
+chosen-returns-in-Err t c =
+    let ty = (out-Comp (get_or c.args.alternatives.now c.in-Some.place c.index-alternatives-place.result)).ty in
+    let p = part_is c.args.alternatives.now c.in-Some.place (get_or c.args.alternatives.now c.in-Some.place c.index-alternatives-place.result) c.in-Some.ensures.within (ap (λ x. get_or c.args.alternatives.now c.in-Some.place x) c.index-alternatives-place.is) c.requires.proper in
+    let same = p.2 c.args.at (head_view c.args.head) c.args.octets.now ∙ tags_element ty c.deref.result.now c.args.at (head_view c.args.head) c.args.octets.now c.deref.ensures.value in
+    rw c.below.ensures (chosen_refused (breach_of c.in-Err.fault) (components_in c.args.alternatives.now) c.in-Some.place c.args.at (head_view c.args.head) c.args.octets.now (sym c.in-Some.ensures.place) (refuses_as (breach_of c.in-Err.fault) _ _ same c.in-Err.ensures))
+
+-- ---- component
+
+pub component-returns-in_err-not_sent-clause-given : goal.component-returns-in_err-not_sent-clause-given
+component-returns-in_err-not_sent-clause-given t c =
+    let p = err_from_is_err_and c.from_residual.result c.from_residual.ensures.1 in
+    let named = c.below-missing.ensures ∙ ap (option_map (below (Component c.args.index))) c.fault_at.ensures in
+    rw (p.1, p.2) (decodings.end_refused (breach_of c.in_err-not_sent.field-0.0) c.args.index (presence_view c.args.presence.now) (begins_with (type_view c.args.ty.now)) (element_at (type_view c.args.ty.now)) c.args.at c.args.octets.now
+    (sym c.is_empty.ensures ∙ c.if-is_empty.true) (c.in_err-not_sent.ensures (missing_at c.args.index c.args.at) named))
+
+pub component-returns-then-is_empty-clause-given : goal.component-returns-then-is_empty-clause-given
+component-returns-then-is_empty-clause-given t c =
+    let named = c.below-missing.ensures ∙ ap (option_map (below (Component c.args.index))) c.fault_at.ensures in
+    end_ok c.args.index (presence_view c.args.presence.now) (begins_with (type_view c.args.ty.now)) (element_at (type_view c.args.ty.now)) c.args.at c.args.octets.now (field_view c.in_ok-not_sent.field-0)
+    (sym c.is_empty.ensures ∙ c.if-is_empty.true) (c.in_ok-not_sent.ensures (missing_at c.args.index c.args.at) named)
+
+pub component-returns-in_err-head-clause-given : goal.component-returns-in_err-head-clause-given
+component-returns-in_err-head-clause-given t c =
+    let p = err_from_is_err_and c.from_residual-in_err-head.result c.from_residual-in_err-head.ensures.1 in
+    rw (p.1, p.2) (no_header (breach_of c.in_err-head.field-0.0) c.args.index (presence_view c.args.presence.now) (begins_with (type_view c.args.ty.now)) (element_at (type_view c.args.ty.now)) c.args.at c.args.octets.now (sym c.is_empty.ensures ∙ c.if-is_empty.false) c.in_err-head.ensures)
+
+pub component-returns-in_err-not_sent-2-clause-given : goal.component-returns-in_err-not_sent-2-clause-given
+component-returns-in_err-not_sent-2-clause-given t c =
+    let p = err_from_is_err_and c.from_residual-in_err-not_sent-2.result c.from_residual-in_err-not_sent-2.ensures.1 in
+    rw (p.1, p.2) (stray_refused (breach_of c.in_err-not_sent-2.field-0.0) c.args.index (presence_view c.args.presence.now) (begins_with (type_view c.args.ty.now)) (element_at (type_view c.args.ty.now)) c.args.at c.args.octets.now (head_view c.in_ok-head.head)
+    (sym c.is_empty.ensures ∙ c.if-is_empty.false) c.in_ok-head.ensures (sym c.begins.ensures ∙ c.if-not-begins.true) (c.in_err-not_sent-2.ensures (fault code.UnexpectedTag c.args.at) c.fault_at-stray.ensures))
+
+pub component-returns-then-not-begins-clause-given : goal.component-returns-then-not-begins-clause-given
+component-returns-then-not-begins-clause-given t c =
+    stray_ok c.args.index (presence_view c.args.presence.now) (begins_with (type_view c.args.ty.now)) (element_at (type_view c.args.ty.now)) c.args.at c.args.octets.now (head_view c.in_ok-head.head) (field_view c.in_ok-not_sent-2.field-0)
+    (sym c.is_empty.ensures ∙ c.if-is_empty.false) c.in_ok-head.ensures (sym c.begins.ensures ∙ c.if-not-begins.true) (c.in_ok-not_sent-2.ensures (fault code.UnexpectedTag c.args.at) c.fault_at-stray.ensures)
+
+pub component-element-requires : goal.component-element-requires
+component-element-requires t c =
+    let n = tags_nesting c.args.ty.now c.deref.result.now c.deref.ensures.value in
+    (omega (arith, n), (tags_proper c.args.ty.now c.deref.result.now c.deref.ensures.value c.requires.proper, (omega (arith, n, c.requires.depth), (located_is c.args.at (head_of c.args.octets.now) (head_view c.in_ok-head.head) c.in_ok-head.ensures, c.requires.room))))
+
+pub component-returns-then-is_left_out-clause-given : goal.component-returns-then-is_left_out-clause-given
+component-returns-then-is_left_out-clause-given t c =
+    let read = tags_element c.args.ty.now c.deref.result.now c.args.at (head_view c.in_ok-head.head) c.args.octets.now c.deref.ensures.value ∙ c.in-Ok.ensures in
+    rw (c.below.ensures, c.fault_at-then-is_left_out.ensures) (default_sent c.args.index (presence_view c.args.presence.now) (begins_with (type_view c.args.ty.now)) (element_at (type_view c.args.ty.now)) c.args.at c.args.octets.now (head_view c.in_ok-head.head) (value_view c.in-Ok.value)
+    (sym c.is_empty.ensures ∙ c.if-is_empty.false) c.in_ok-head.ensures (sym c.begins.ensures ∙ c.if-not-begins.false) read (sym c.is_left_out.ensures ∙ c.if-is_left_out.true))
+
+pub component-overflow_add-result : goal.component-overflow_add-result
+component-overflow_add-result t c = omega (arith, c.requires.room, head_room c.args.octets.now (head_view c.in_ok-head.head) (are_digits 256 c.args.octets.now (λ i _. omega (arith, c.type_inv.octets i))) (located_is c.args.at (head_of c.args.octets.now) (head_view c.in_ok-head.head) c.in_ok-head.ensures))
+
+pub component-below-requires-in-Err : goal.component-below-requires-in-Err
+component-below-requires-in-Err t c =
+    room_below (breach_of c.in-Err.fault) (whole c.deref.result.now (kind_view (out-Ty c.args.ty.now).kind)) c.args.at (head_view c.in_ok-head.head) c.args.octets.now (tags_proper c.args.ty.now c.deref.result.now c.deref.ensures.value c.requires.proper)
+    (omega (arith, tags_nesting c.args.ty.now c.deref.result.now c.deref.ensures.value, c.requires.depth)) c.in-Err.ensures
+
+pub component-returns-else-is_left_out-clause-within : goal.component-returns-else-is_left_out-clause-within
+component-returns-else-is_left_out-clause-within t c = head_room c.args.octets.now (head_view c.in_ok-head.head) (are_digits 256 c.args.octets.now (λ i _. omega (arith, c.type_inv.octets i))) (located_is c.args.at (head_of c.args.octets.now) (head_view c.in_ok-head.head) c.in_ok-head.ensures)
+
+pub component-returns-else-is_left_out-clause-given : goal.component-returns-else-is_left_out-clause-given
+component-returns-else-is_left_out-clause-given t c =
+    let read = tags_element c.args.ty.now c.deref.result.now c.args.at (head_view c.in_ok-head.head) c.args.octets.now c.deref.ensures.value ∙ c.in-Ok.ensures in
+    sent_done c.args.index (presence_view c.args.presence.now) (begins_with (type_view c.args.ty.now)) (element_at (type_view c.args.ty.now)) c.args.at c.args.octets.now (head_view c.in_ok-head.head) (value_view c.in-Ok.value)
+    (sym c.is_empty.ensures ∙ c.if-is_empty.false) c.in_ok-head.ensures (sym c.begins.ensures ∙ c.if-not-begins.false) read (sym c.is_left_out.ensures ∙ c.if-is_left_out.false)
+
+pub component-returns-in-Err-clause-given : goal.component-returns-in-Err-clause-given
+component-returns-in-Err-clause-given t c =
+    let same = tags_element c.args.ty.now c.deref.result.now c.args.at (head_view c.in_ok-head.head) c.args.octets.now c.deref.ensures.value in
+    rw c.below-in-Err.ensures (inside_refused (breach_of c.in-Err.fault) c.args.index (presence_view c.args.presence.now) (begins_with (type_view c.args.ty.now)) (element_at (type_view c.args.ty.now)) c.args.at c.args.octets.now (head_view c.in_ok-head.head)
+    (sym c.is_empty.ensures ∙ c.if-is_empty.false) c.in_ok-head.ensures (sym c.begins.ensures ∙ c.if-not-begins.false) (refuses_as (breach_of c.in-Err.fault) _ _ same c.in-Err.ensures))
 
 -- ---- components
 
-pub components-returns-in_err-value : goal.components-returns-in_err-value
-components-returns-in_err-value t c =
-    let p = err_from_is_err_and c.from_residual-in_err-value.result c.from_residual-in_err-value.ensures.1 in
-    rw (p.1, p.2) (refused (breach_of c.in_err-value.field-0.0) c.args.comps.now c.loop-index.index c.index-comps-index.result (map field_view c.loop-index.fields.items) c.loop-index.at c.loop-index.rest.now
-    (fields_at 0 (components_of (map component_view c.args.comps.now)) c.args.start c.args.octets.now) c.loop-index-test.true c.index-comps-index.is c.in_err-value.ensures.given c.loop-index.invariant.so_far)
+pub contents-components-requires : goal.contents-components-requires
+contents-components-requires t c =
+    let p = sequence_parts c.args.kind.now c.in-Sequence.comps c.in-Sequence.is c.requires.proper in
+    let d = ap (λ x. deepest (components_in x)) c.deref.ensures.value in
+    (omega (arith, p.2, d), (rw c.deref.ensures.value p.0, (rw c.deref.ensures.value p.1, (omega (arith, p.2, d, c.requires.depth), c.requires.room))))
 
-pub components-split_at-requires : goal.components-split_at-requires
-components-split_at-requires t c = c.in_ok-value.ensures.within
+pub components-component-requires : goal.components-component-requires
+components-component-requires t c =
+    let l = left_proper c.args.comps.now c.loop-index.index c.index-comps-index.result c.loop-index-test.true c.index-comps-index.is c.loop-index.invariant.proper c.loop-index.invariant.depth in
+    let p = part_is c.args.comps.now c.loop-index.index c.index-comps-index.result c.loop-index-test.true c.index-comps-index.is c.requires.proper in
+    (omega (arith, p.1), (l.0, (l.1, c.loop-index.invariant.room)))
+
+pub components-returns-in_err-field : goal.components-returns-in_err-field
+components-returns-in_err-field t c =
+    let p = err_from_is_err_and c.from_residual-in_err-field.result c.from_residual-in_err-field.ensures.1 in
+    rw (p.1, p.2) (refused (breach_of c.in_err-field.field-0.0) c.args.comps.now c.loop-index.index c.index-comps-index.result (map field_view c.loop-index.fields.items) c.loop-index.at c.loop-index.rest.now
+    (fields_at 0 (components_in c.args.comps.now) c.args.start c.args.octets.now) c.loop-index-test.true c.index-comps-index.is c.in_err-field.ensures.given c.loop-index.invariant.so_far)
 
 pub components-loop-index-preserved : goal.components-loop-index-preserved
 components-loop-index-preserved t c =
-    let l = left_limits c.args.comps.now c.loop-index.index c.index-comps-index.result c.loop-index-test.true c.index-comps-index.is c.loop-index.invariant.limits c.loop-index.invariant.depth in
-    let pushed : map field_view c.push.new.self.items ≡ map field_view c.loop-index.fields.items ++ Some (value_view c.in_ok-value.value) ∷ [] = rw c.in_ok-push.ensures.items (map_push field_view c.loop-index.fields.items (Some c.in_ok-value.value)) in
-    let on = goes_on c.args.comps.now c.loop-index.index c.index-comps-index.result (map field_view c.loop-index.fields.items) c.loop-index.at c.in_ok-value.size c.loop-index.rest.now (value_view c.in_ok-value.value)
-    (fields_at 0 (components_of (map component_view c.args.comps.now)) c.args.start c.args.octets.now) c.loop-index-test.true c.index-comps-index.is c.in_ok-value.ensures.given c.loop-index.invariant.so_far in
+    let l = left_proper c.args.comps.now c.loop-index.index c.index-comps-index.result c.loop-index-test.true c.index-comps-index.is c.loop-index.invariant.proper c.loop-index.invariant.depth in
+    let pushed : map field_view c.push.new.self.items ≡ map field_view c.loop-index.fields.items ++ field_view c.in_ok-field.field ∷ [] = rw c.in_ok-push.ensures.items (map_push field_view c.loop-index.fields.items c.in_ok-field.field) in
+    let on = goes_on c.args.comps.now c.loop-index.index c.index-comps-index.result (map field_view c.loop-index.fields.items) c.loop-index.at c.in_ok-field.size c.loop-index.rest.now (field_view c.in_ok-field.field)
+    (fields_at 0 (components_in c.args.comps.now) c.args.start c.args.octets.now) c.loop-index-test.true c.index-comps-index.is c.in_ok-field.ensures.given c.loop-index.invariant.so_far in
     record {
       so_far = rw (pushed, c.split_at.ensures.back) on;
-      limits = l.2;
+      proper = l.2;
       depth = l.3;
-      room = rw c.split_at.ensures.back (omega (arith, c.loop-index.invariant.room, c.in_ok-value.ensures.within, length-drop c.in_ok-value.size c.loop-index.rest.now));
+      room = rw c.split_at.ensures.back (omega (arith, c.loop-index.invariant.room, c.in_ok-field.ensures.within, length-drop c.in_ok-field.size c.loop-index.rest.now));
     }
-
-pub components-loop-index-init : goal.components-loop-index-init
-components-loop-index-init t c = record {
-  so_far = rw c.in_ok-fields.ensures.items (nothing_before (fields_at 0 (components_of (map component_view c.args.comps.now)) c.args.start c.args.octets.now));
-  limits = c.requires.limits;
-  depth = c.requires.depth;
-  room = c.requires.room;
-}
 
 pub components-returns-in_err-end : goal.components-returns-in_err-end
 components-returns-in_err-end t c =
     let p = err_from_is_err_and c.from_residual-in_err-end.result c.from_residual-in_err-end.ensures.1 in
     rw (p.1, p.2) (end_refused (breach_of c.in_err-end.field-0.0) c.args.comps.now c.loop-index.index (map field_view c.loop-index.fields.items) c.loop-index.at c.loop-index.rest.now
-    (fields_at 0 (components_of (map component_view c.args.comps.now)) c.args.start c.args.octets.now) c.loop-index-test.false c.in_err-end.ensures c.loop-index.invariant.so_far)
+    (fields_at 0 (components_in c.args.comps.now) c.args.start c.args.octets.now) c.loop-index-test.false c.in_err-end.ensures c.loop-index.invariant.so_far)
 
 pub components-returns : goal.components-returns
 components-returns t c =
     is_done c.args.comps.now c.loop-index.index (map field_view c.loop-index.fields.items) c.loop-index.at c.loop-index.rest.now
-    (fields_at 0 (components_of (map component_view c.args.comps.now)) c.args.start c.args.octets.now) c.loop-index-test.false c.in_ok-end.ensures c.loop-index.invariant.so_far
+    (fields_at 0 (components_in c.args.comps.now) c.args.start c.args.octets.now) c.loop-index-test.false c.in_ok-end.ensures c.loop-index.invariant.so_far
+
+-- ---- elements of an OF type
+
+pub contents-returns-in_err-items-in-SequenceOf : goal.contents-returns-in_err-items-in-SequenceOf
+contents-returns-in_err-items-in-SequenceOf t c =
+    let p = err_from_is_err_and c.from_residual-in_err-items-in-SequenceOf.result c.from_residual-in_err-items-in-SequenceOf.ensures.1 in
+    rw (p.1, p.2) (contents_refused (breach_of c.in_err-items-in-SequenceOf.field-0.0) (contents_at (kind_view c.args.kind.now) c.args.at c.args.start c.args.octets.now) _
+    (sequence_of_contents c.args.kind.now c.in-SequenceOf.element c.args.at c.args.start c.args.octets.now c.in-SequenceOf.is) (rw c.deref-in-SequenceOf.ensures at c.in_err-items-in-SequenceOf.ensures))
+
+pub contents-returns-in_ok-items-in-SequenceOf : goal.contents-returns-in_ok-items-in-SequenceOf
+contents-returns-in_ok-items-in-SequenceOf t c =
+    contents_read c.in_ok-items-in-SequenceOf.field-0 (contents_at (kind_view c.args.kind.now) c.args.at c.args.start c.args.octets.now) _
+    (sequence_of_contents c.args.kind.now c.in-SequenceOf.element c.args.at c.args.start c.args.octets.now c.in-SequenceOf.is) (rw c.deref-in-SequenceOf.ensures at c.in_ok-items-in-SequenceOf.ensures)
+
+pub contents-returns-in_err-items-in-SetOf : goal.contents-returns-in_err-items-in-SetOf
+contents-returns-in_err-items-in-SetOf t c =
+    let p = err_from_is_err_and c.from_residual-in_err-items-in-SetOf.result c.from_residual-in_err-items-in-SetOf.ensures.1 in
+    rw (p.1, p.2) (contents_refused (breach_of c.in_err-items-in-SetOf.field-0.0) (contents_at (kind_view c.args.kind.now) c.args.at c.args.start c.args.octets.now) _
+    (set_of_contents c.args.kind.now c.in-SetOf.element c.args.at c.args.start c.args.octets.now c.in-SetOf.is) (rw c.deref-in-SetOf.ensures at c.in_err-items-in-SetOf.ensures))
+
+pub contents-returns-in_ok-items-in-SetOf : goal.contents-returns-in_ok-items-in-SetOf
+contents-returns-in_ok-items-in-SetOf t c =
+    contents_read c.in_ok-items-in-SetOf.field-0 (contents_at (kind_view c.args.kind.now) c.args.at c.args.start c.args.octets.now) _
+    (set_of_contents c.args.kind.now c.in-SetOf.element c.args.at c.args.start c.args.octets.now c.in-SetOf.is) (rw c.deref-in-SetOf.ensures at c.in_ok-items-in-SetOf.ensures)
+
+pub items-returns-in_err-value : goal.items-returns-in_err-value
+items-returns-in_err-value t c =
+    let place : c.len.result ≡ length c.loop-before.items.items = omega (arith, c.len.ensures, c.loop-before.items.ok.0) in
+    let p = err_from_is_err_and c.from_residual.result c.from_residual.ensures.1 in
+    rw (p.1, p.2) (items_refused (breach_of c.in_err-value.field-0.0) (type_view c.args.ty.now) c.args.ordered (length c.args.octets.now) c.loop-before.items.items c.loop-before.before.now c.loop-before.at c.loop-before.rest.now _
+    (sym c.is_empty.ensures ∙ c.loop-before-test.true) c.loop-before.invariant.counted (rw place at c.in_err-value.ensures.given) c.loop-before.invariant.so_far)
+
+pub items-loop-before-preserved : goal.items-loop-before-preserved
+items-loop-before-preserved t c =
+    let place : c.len.result ≡ length c.loop-before.items.items = omega (arith, c.len.ensures, c.loop-before.items.ok.0) in
+    let on = items_go_on (type_view c.args.ty.now) c.args.ordered (length c.args.octets.now) c.loop-before.items.items c.in_ok-value.value c.loop-before.before.now c.loop-before.at c.in_ok-value.size c.loop-before.rest.now _
+    (sym c.is_empty.ensures ∙ c.loop-before-test.true) c.loop-before.invariant.counted (rw place at c.in_ok-value.ensures.given) c.loop-before.invariant.so_far in
+    let pushed : length c.push.new.self.items ≡ length c.loop-before.items.items + 1 = rw c.in_ok-push.ensures.items (length-append c.loop-before.items.items (c.in_ok-value.value ∷ [])) in
+    let behind : length c.split_at.result.1.now ≡ length c.loop-before.rest.now - c.in_ok-value.size = rw c.split_at.ensures.back (length-drop c.in_ok-value.size c.loop-before.rest.now) in
+    record {
+      so_far = rw (c.in_ok-push.ensures.items, c.split_at.ensures.front, c.split_at.ensures.back) on;
+      counted = omega (arith, pushed, behind, c.in_ok-value.ensures.some, c.in_ok-value.ensures.within, c.loop-before.invariant.counted);
+      room = omega (arith, behind, c.in_ok-value.ensures.within, c.loop-before.invariant.room);
+    }
+
+pub items-returns : goal.items-returns
+items-returns t c =
+    items_done (type_view c.args.ty.now) c.args.ordered (length c.args.octets.now) c.loop-before.items.items c.loop-before.before.now c.loop-before.at c.loop-before.rest.now _
+    (sym c.is_empty.ensures ∙ c.loop-before-test.false) c.loop-before.invariant.so_far
+
+pub item-below-requires : goal.item-below-requires
+item-below-requires t c =
+    room_below_item (breach_of c.in-Err.fault) (type_view c.args.ty.now) c.args.ordered c.args.before.now c.args.at c.args.octets.now c.requires.proper (omega (arith, c.requires.depth)) c.in-Err.ensures.given
+
+pub item-returns-in-Ok-clause-given : goal.item-returns-in-Ok-clause-given
+item-returns-in-Ok-clause-given t c =
+    item_reads c.args.ordered (begins_with (type_view c.args.ty.now)) (element_at (type_view c.args.ty.now)) c.args.index c.args.before.now c.args.at c.args.octets.now (value_view c.in-Ok.value, c.in-Ok.size) c.in-Ok.ensures.given
+
+pub item-returns-in-Err-clause-given : goal.item-returns-in-Err-clause-given
+item-returns-in-Err-clause-given t c =
+    rw c.below.ensures (item_refused (breach_of c.in-Err.fault) c.args.ordered (begins_with (type_view c.args.ty.now)) (element_at (type_view c.args.ty.now)) c.args.index c.args.before.now c.args.at c.args.octets.now c.in-Err.ensures.given)
+
+pub next_item-returns-in_err-head-clause-given : goal.next_item-returns-in_err-head-clause-given
+next_item-returns-in_err-head-clause-given t c =
+    let p = err_from_is_err_and c.from_residual.result c.from_residual.ensures.1 in
+    let w = whole c.deref.result.now (kind_view (out-Ty c.args.ty.now).kind) in
+    rw (p.1, p.2) (refuses_as (breach_of c.in_err-head.field-0.0) _ _ (item_tags c.args.ty.now c.deref.result.now c.args.ordered c.args.before.now c.args.at c.args.octets.now c.deref.ensures.value)
+    (item_not_due (breach_of c.in_err-head.field-0.0) c.args.ordered (begins_with w) (element_at w) c.args.before.now c.args.at c.args.octets.now c.in_err-head.ensures))
+
+pub next_item-element-requires : goal.next_item-element-requires
+next_item-element-requires t c =
+    let n = tags_nesting c.args.ty.now c.deref-2.result.now c.deref-2.ensures.value in
+    let h = due_ok (begins_with (whole c.deref.result.now (kind_view (out-Ty c.args.ty.now).kind))) c.args.at c.args.octets.now (head_view c.in_ok-head.head) c.in_ok-head.ensures in
+    (omega (arith, n), (tags_proper c.args.ty.now c.deref-2.result.now c.deref-2.ensures.value c.requires.proper, (omega (arith, n, c.requires.depth), (h.0, c.requires.room))))
+
+pub next_item-returns-in_err-value-clause-given : goal.next_item-returns-in_err-value-clause-given
+next_item-returns-in_err-value-clause-given t c =
+    let p = err_from_is_err_and c.from_residual-in_err-value.result c.from_residual-in_err-value.ensures.1 in
+    let w = whole c.deref.result.now (kind_view (out-Ty c.args.ty.now).kind) in
+    let same = c.deref-2.ensures.value ∙ sym c.deref.ensures.value in
+    rw (p.1, p.2) (refuses_as (breach_of c.in_err-value.field-0.0) _ _ (item_tags c.args.ty.now c.deref.result.now c.args.ordered c.args.before.now c.args.at c.args.octets.now c.deref.ensures.value)
+    (item_not_read (breach_of c.in_err-value.field-0.0) c.args.ordered (begins_with w) (element_at w) c.args.before.now c.args.at c.args.octets.now (head_view c.in_ok-head.head) c.in_ok-head.ensures (rw same at c.in_err-value.ensures)))
+
+pub next_item-overflow_add-size : goal.next_item-overflow_add-size
+next_item-overflow_add-size t c =
+    omega (arith, c.requires.room, due_room (begins_with (whole c.deref.result.now (kind_view (out-Ty c.args.ty.now).kind))) c.args.at c.args.octets.now (head_view c.in_ok-head.head) (are_digits 256 c.args.octets.now (λ i _. omega (arith, c.type_inv.octets i))) c.in_ok-head.ensures)
+
+pub next_item-split_at-requires : goal.next_item-split_at-requires
+next_item-split_at-requires t c =
+    due_room (begins_with (whole c.deref.result.now (kind_view (out-Ty c.args.ty.now).kind))) c.args.at c.args.octets.now (head_view c.in_ok-head.head) (are_digits 256 c.args.octets.now (λ i _. omega (arith, c.type_inv.octets i))) c.in_ok-head.ensures
+
+pub next_item-returns-then-is_out_of_order-clause-given : goal.next_item-returns-then-is_out_of_order-clause-given
+next_item-returns-then-is_out_of_order-clause-given t c =
+    let w = whole c.deref.result.now (kind_view (out-Ty c.args.ty.now).kind) in
+    let same = c.deref-2.ensures.value ∙ sym c.deref.ensures.value in
+    let down = sym (rw c.split_at.ensures.front at c.is_out_of_order.ensures) ∙ c.if-is_out_of_order.true in
+    rw c.fault_at.ensures (item_tags c.args.ty.now c.deref.result.now c.args.ordered c.args.before.now c.args.at c.args.octets.now c.deref.ensures.value
+    ∙ item_descends c.args.ordered (begins_with w) (element_at w) c.args.before.now c.args.at c.args.octets.now (head_view c.in_ok-head.head) (value_view c.in_ok-value.value) c.in_ok-head.ensures (rw same at c.in_ok-value.ensures) down)
+
+pub next_item-returns-clause-some : goal.next_item-returns-clause-some
+next_item-returns-clause-some t c =
+    due_some (begins_with (whole c.deref.result.now (kind_view (out-Ty c.args.ty.now).kind))) c.args.at c.args.octets.now (head_view c.in_ok-head.head) (are_digits 256 c.args.octets.now (λ i _. omega (arith, c.type_inv.octets i))) c.in_ok-head.ensures
+
+pub next_item-returns-clause-given : goal.next_item-returns-clause-given
+next_item-returns-clause-given t c =
+    let w = whole c.deref.result.now (kind_view (out-Ty c.args.ty.now).kind) in
+    let same = c.deref-2.ensures.value ∙ sym c.deref.ensures.value in
+    let up = sym (rw c.split_at.ensures.front at c.is_out_of_order.ensures) ∙ c.if-is_out_of_order.false in
+    item_tags c.args.ty.now c.deref.result.now c.args.ordered c.args.before.now c.args.at c.args.octets.now c.deref.ensures.value
+    ∙ item_is_read c.args.ordered (begins_with w) (element_at w) c.args.before.now c.args.at c.args.octets.now (head_view c.in_ok-head.head) (value_view c.in_ok-value.value) c.in_ok-head.ensures (rw same at c.in_ok-value.ensures) up
+
+-- ---- SET
+
+pub contents-members-requires : goal.contents-members-requires
+contents-members-requires t c =
+    let p = set_parts c.args.kind.now c.in-Set.comps c.in-Set.is c.requires.proper in
+    let d = ap (λ x. deepest (components_in x)) c.deref-in-Set.ensures.value in
+    (omega (arith, p.2, d), (rw c.deref-in-Set.ensures.value p.0, (rw c.deref-in-Set.ensures.value p.1, (omega (arith, p.2, d, c.requires.depth), c.requires.room))))
+
+pub contents-returns-in_err-members-in-Set : goal.contents-returns-in_err-members-in-Set
+contents-returns-in_err-members-in-Set t c =
+    let p = err_from_is_err_and c.from_residual-in_err-members-in-Set.result c.from_residual-in_err-members-in-Set.ensures.1 in
+    rw (p.1, p.2) (set_refused (breach_of c.in_err-members-in-Set.field-0.0) c.args.kind.now c.in-Set.comps c.args.at c.args.start c.args.octets.now c.in-Set.is (rw c.deref-in-Set.ensures.value at c.in_err-members-in-Set.ensures))
+
+pub contents-returns-in_ok-members-in-Set : goal.contents-returns-in_ok-members-in-Set
+contents-returns-in_ok-members-in-Set t c =
+    set_given c.args.kind.now c.in-Set.comps c.in_ok-members-in-Set.field-0 c.args.at c.args.start c.args.octets.now c.in-Set.is (rw c.deref-in-Set.ensures.value at c.in_ok-members-in-Set.ensures)
+
+pub member-returns-in_err-head-clause-given : goal.member-returns-in_err-head-clause-given
+member-returns-in_err-head-clause-given t c =
+    let p = err_from_is_err_and c.from_residual.result c.from_residual.ensures.1 in
+    let cs = components_in c.args.comps.now in
+    rw (p.1, p.2) (members.no_header (breach_of c.in_err-head.field-0.0) cs (part_at cs) (fields_view c.args.slots.now) c.args.before c.args.at c.args.octets.now c.in_err-head.ensures)
+
+pub member-returns-in_err-place-clause-given : goal.member-returns-in_err-place-clause-given
+member-returns-in_err-place-clause-given t c =
+    let p = err_from_is_err_and c.from_residual-in_err-place.result c.from_residual-in_err-place.ensures.1 in
+    let cs = components_in c.args.comps.now in
+    rw (p.1, p.2) (members.no_place (breach_of c.in_err-place.field-0.0) cs (part_at cs) (fields_view c.args.slots.now) c.args.before c.args.at c.args.octets.now (head_view c.in_ok-head.head) c.in_ok-head.ensures c.in_err-place.ensures.given)
+
+pub member-element-requires : goal.member-element-requires
+member-element-requires t c =
+    let ty = (out-Comp c.index-comps-place.result).ty in
+    let p = part_is c.args.comps.now c.in_ok-place.place c.index-comps-place.result c.in_ok-place.ensures.within c.index-comps-place.is c.requires.proper in
+    let n = tags_nesting ty c.deref.result.now c.deref.ensures.value in
+    (omega (arith, n, p.1), (tags_proper ty c.deref.result.now c.deref.ensures.value p.0, (omega (arith, n, p.1, c.requires.depth), (located_is c.args.at (head_of c.args.octets.now) (head_view c.in_ok-head.head) c.in_ok-head.ensures, c.requires.room))))
+
+pub member-returns-then-is_left_out-clause-given : goal.member-returns-then-is_left_out-clause-given
+member-returns-then-is_left_out-clause-given t c =
+    let comp = c.index-comps-place.result in
+    let cs = components_in c.args.comps.now in
+    let h = head_view c.in_ok-head.head in
+    let p = part_is c.args.comps.now c.in_ok-place.place comp c.in_ok-place.ensures.within c.index-comps-place.is c.requires.proper in
+    let read = p.2 c.args.at h c.args.octets.now ∙ tags_element (out-Comp comp).ty c.deref.result.now c.args.at h c.args.octets.now c.deref.ensures.value ∙ c.in-Ok.ensures in
+    let presence = presence_is c.args.comps.now c.in_ok-place.place comp c.in_ok-place.ensures.within c.index-comps-place.is in
+    let left = ap (λ p. left_out p (value_view c.in-Ok.value)) presence ∙ sym c.is_left_out.ensures ∙ c.if-is_left_out.true in
+    rw (c.below.ensures, c.fault_at.ensures) (member_default cs (part_at cs) (fields_view c.args.slots.now) c.args.before c.args.at c.args.octets.now h c.in_ok-place.place (value_view c.in-Ok.value)
+    (located_is c.args.at (head_of c.args.octets.now) h c.in_ok-head.ensures) c.in_ok-place.ensures.given read left)
+
+pub member-below-requires-in-Err : goal.member-below-requires-in-Err
+member-below-requires-in-Err t c =
+    let ty = (out-Comp c.index-comps-place.result).ty in
+    let p = part_is c.args.comps.now c.in_ok-place.place c.index-comps-place.result c.in_ok-place.ensures.within c.index-comps-place.is c.requires.proper in
+    room_below (breach_of c.in-Err.fault) (whole c.deref.result.now (kind_view (out-Ty ty).kind)) c.args.at (head_view c.in_ok-head.head) c.args.octets.now (tags_proper ty c.deref.result.now c.deref.ensures.value p.0)
+    (omega (arith, tags_nesting ty c.deref.result.now c.deref.ensures.value, p.1, c.requires.depth)) c.in-Err.ensures
+
+pub member-returns-else-is_left_out-clause-some : goal.member-returns-else-is_left_out-clause-some
+member-returns-else-is_left_out-clause-some t c = head_size c.args.octets.now (head_view c.in_ok-head.head) (are_digits 256 c.args.octets.now (λ i _. omega (arith, c.type_inv.octets i))) (located_is c.args.at (head_of c.args.octets.now) (head_view c.in_ok-head.head) c.in_ok-head.ensures)
+
+pub member-returns-else-is_left_out-clause-within : goal.member-returns-else-is_left_out-clause-within
+member-returns-else-is_left_out-clause-within t c = head_room c.args.octets.now (head_view c.in_ok-head.head) (are_digits 256 c.args.octets.now (λ i _. omega (arith, c.type_inv.octets i))) (located_is c.args.at (head_of c.args.octets.now) (head_view c.in_ok-head.head) c.in_ok-head.ensures)
+
+pub member-returns-else-is_left_out-clause-given : goal.member-returns-else-is_left_out-clause-given
+member-returns-else-is_left_out-clause-given t c =
+    let comp = c.index-comps-place.result in
+    let cs = components_in c.args.comps.now in
+    let h = head_view c.in_ok-head.head in
+    let p = part_is c.args.comps.now c.in_ok-place.place comp c.in_ok-place.ensures.within c.index-comps-place.is c.requires.proper in
+    let read = p.2 c.args.at h c.args.octets.now ∙ tags_element (out-Comp comp).ty c.deref.result.now c.args.at h c.args.octets.now c.deref.ensures.value ∙ c.in-Ok.ensures in
+    let presence = presence_is c.args.comps.now c.in_ok-place.place comp c.in_ok-place.ensures.within c.index-comps-place.is in
+    let kept = ap (λ p. left_out p (value_view c.in-Ok.value)) presence ∙ sym c.is_left_out.ensures ∙ c.if-is_left_out.false in
+    member_reads cs (part_at cs) (fields_view c.args.slots.now) c.args.before c.args.at c.args.octets.now h c.in_ok-place.place (value_view c.in-Ok.value)
+    (located_is c.args.at (head_of c.args.octets.now) h c.in_ok-head.ensures) c.in_ok-place.ensures.given read kept
+
+pub member-returns-in-Err-clause-given : goal.member-returns-in-Err-clause-given
+member-returns-in-Err-clause-given t c =
+    let comp = c.index-comps-place.result in
+    let cs = components_in c.args.comps.now in
+    let h = head_view c.in_ok-head.head in
+    let p = part_is c.args.comps.now c.in_ok-place.place comp c.in_ok-place.ensures.within c.index-comps-place.is c.requires.proper in
+    let same = p.2 c.args.at h c.args.octets.now ∙ tags_element (out-Comp comp).ty c.deref.result.now c.args.at h c.args.octets.now c.deref.ensures.value in
+    rw c.below-in-Err.ensures (members.no_value (breach_of c.in-Err.fault) cs (part_at cs) (fields_view c.args.slots.now) c.args.before c.args.at c.args.octets.now h c.in_ok-place.place
+    c.in_ok-head.ensures c.in_ok-place.ensures.given (refuses_as (breach_of c.in-Err.fault) _ _ same c.in-Err.ensures))
+
+pub members-returns-in_err-place : goal.members-returns-in_err-place
+members-returns-in_err-place t c =
+    let p = err_from_is_err_and c.from_residual-in_err-place.result c.from_residual-in_err-place.ensures.1 in
+    rw (p.1, p.2) (members.stops (breach_of c.in_err-place.field-0.0) (components_in c.args.comps.now) (fields_view c.loop-rest.slots.items) c.loop-rest.before c.loop-rest.at c.loop-rest.rest.now
+    (set_read c.args.comps.now c.args.start c.args.octets.now) (sym c.is_empty.ensures ∙ c.loop-rest-test.true) (rw c.deref.ensures.value at c.in_err-place.ensures.given) c.loop-rest.invariant.so_far)
+
+pub members-overflow_add-size : goal.members-overflow_add-size
+members-overflow_add-size t c = omega (arith, c.in_ok-place.ensures.within, c.loop-rest.invariant.room)
+
+pub members-split_at-requires : goal.members-split_at-requires
+members-split_at-requires t c = omega (arith, c.in_ok-place.ensures.within)
+
+pub members-loop-rest-smaller : goal.members-loop-rest-smaller
+members-loop-rest-smaller t c = rw c.split_at.ensures.back (omega (arith, c.in_ok-place.ensures.within, c.in_ok-place.ensures.some, length-drop (c.in_ok-place.head.size + c.in_ok-place.head.contents) c.loop-rest.rest.now))
+
+pub members-loop-rest-preserved : goal.members-loop-rest-preserved
+members-loop-rest-preserved t c =
+    let place = c.in_ok-place.place in
+    let head = c.in_ok-place.head in
+    let within : place < length c.loop-rest.slots.items = omega (arith, c.in_ok-place.ensures.place, c.loop-rest.invariant.count) in
+    let filled = ap fields_view c.put.ensures ∙ slot_filled c.loop-rest.slots.items place c.in_ok-place.value within in
+    let on = members.goes_on (components_in c.args.comps.now) (fields_view c.loop-rest.slots.items) c.loop-rest.before c.loop-rest.at c.loop-rest.rest.now place (value_view c.in_ok-place.value) (head_view head)
+    (set_read c.args.comps.now c.args.start c.args.octets.now) (sym c.is_empty.ensures ∙ c.loop-rest-test.true) c.in_ok-place.ensures.some (rw c.deref.ensures.value at c.in_ok-place.ensures.given) c.loop-rest.invariant.so_far in
+    record {
+      so_far = rw (filled, c.split_at.ensures.back) on;
+      count = ap length c.put.ensures ∙ length-set c.loop-rest.slots.items place _ ∙ c.loop-rest.invariant.count;
+      room = rw c.split_at.ensures.back (omega (arith, c.loop-rest.invariant.room, c.in_ok-place.ensures.within, length-drop (head.size + head.contents) c.loop-rest.rest.now));
+    }
+
+pub members-returns : goal.members-returns
+members-returns t c =
+    subst (λ r. Gives (λ v. fields_view v.items) breach_of c.completed.result r)
+    (members.ends (components_in c.args.comps.now) (fields_view c.loop-rest.slots.items) c.loop-rest.before c.loop-rest.at c.loop-rest.rest.now (set_read c.args.comps.now c.args.start c.args.octets.now) (sym c.is_empty.ensures ∙ c.loop-rest-test.false) c.loop-rest.invariant.so_far)
+    c.completed.ensures

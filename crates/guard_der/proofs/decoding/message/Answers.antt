@@ -1,14 +1,15 @@
-use Rattle.std.proofs.Common.{arith}
-use Rattle.guard_model.specs.TypeView.{type_view}
-use Rattle.guard_der.specs.Breach.{begins_with}
-use Rattle.guard_der.specs.Views.{head_view}
-use Rattle.guard_der.proofs.Digits.{are_digits}
-use Rattle.guard_der.proofs.Headers.{due_room}
-use Rattle.guard_der.proofs.Steps.{due_ok}
+use Rattle.std.proofs.Common.{◌∙◌, sym, ap, subst}
+use Rattle.guard_model.specs.Answer.{Gives}
+use Rattle.guard_model.specs.TypeView.{kind_view}
+use Rattle.guard_model.specs.ValueView.{value_view}
+use Rattle.guard_model.specs.declared.ty.Kind.TheViews.{out-Ty}
+use Rattle.guard_tagcheck.specs.FirstTags.{begins_with}
+use Rattle.guard_der.specs.Reading.{alone_at, element_at}
+use Rattle.guard_der.specs.Views.{breach_of}
+use Rattle.guard_der.proofs.Decodings.{whole, message_is}
 use Rattle.guard_der.proofs.decoding.message.Goals as goal
 
-pub element-requires-clause-header : goal.element-requires-clause-header
-element-requires-clause-header c = (due_ok (begins_with (type_view c.args.ty.now)) 0 c.args.octets.now (head_view c.in_ok-head.head) c.in_ok-head.ensures).0
-
-pub overflow_add-end : goal.overflow_add-end
-overflow_add-end c = omega (arith, due_room (begins_with (type_view c.args.ty.now)) 0 c.args.octets.now (head_view c.in_ok-head.head) (are_digits 256 c.args.octets.now (λ i _. omega (arith, c.type_inv.octets i))) c.in_ok-head.ensures)
+pub returns : goal.returns
+returns c =
+    let same = message_is c.args.ty.now c.args.octets.now ∙ ap (λ ts. alone_at (begins_with (whole ts (kind_view (out-Ty c.args.ty.now).kind))) (element_at (whole ts (kind_view (out-Ty c.args.ty.now).kind))) 0 c.args.octets.now) (sym c.deref.ensures.value) in
+    subst (λ r. Gives value_view breach_of c.alone.result r) (sym same) c.alone.ensures

@@ -8,5 +8,5 @@ use Rattle.derguard.proofs.guard_schema.build.+building.Given as goal
 
 abbrev pub invariant-comps_of-loop-comp : goal.invariant-comps_of-loop-comp
 invariant-comps_of-loop-comp l =
-    with_front (map model.component_view l.parts.items) (build_components (components_of (map component_view (drop l.comp-index l.comps))))
-    ≡ build_components (components_of (map component_view l.comps))
+    with_front (map model.component_view l.parts.items) (build_components l.constrained (components_of (map component_view (drop l.comp-index l.comps))))
+    ≡ build_components l.constrained (components_of (map component_view l.comps))

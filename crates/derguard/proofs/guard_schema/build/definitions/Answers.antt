@@ -5,7 +5,7 @@ use Rattle.derguard.specs.SchemaViews.{assignment_view}
 use Rattle.derguard.specs.SchemaFaults.{named}
 use Rattle.derguard.specs.SchemaReading.{read_definitions}
 use Rattle.derguard.specs.SchemaViews.{definition_view}
-use Rattle.derguard.proofs.SchemaLoops.{definition_stops, next_definition, no_definition}
+use Rattle.derguard.proofs.SchemaLoops.{texts_at, definition_stops, next_definition, no_definition}
 use Rattle.derguard.proofs.guard_schema.build.definitions.Goals as goal
 
 pub returns-in_err-definition : goal.returns-in_err-definition
@@ -24,3 +24,7 @@ loop-assignment-preserved c =
 pub returns : goal.returns
 returns c =
     no_definition (map definition_view c.loop-assignment.definitions.items) c.loop-assignment.nodes c.args.assignments.now c.loop-assignment.assignment-index (read_definitions 0 (map assignment_view c.args.assignments.now)) c.loop-assignment.invariant c.loop-assignment-test.false
+
+pub definition_of-requires : goal.definition_of-requires
+definition_of-requires c =
+    texts_at c.args.assignments.now c.loop-assignment.assignment-index c.assignment-item.result c.assignment-item.result c.loop-assignment-test.true c.assignment-item.is c.requires

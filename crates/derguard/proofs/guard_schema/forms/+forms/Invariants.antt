@@ -1,7 +1,7 @@
 use Rattle.std.proofs.Common.{◌≡◌, drop, map}
 use Rattle.guard_syntax.specs.TypeViews as written
 use Rattle.derguard.specs.SchemaFirst.{each}
-use Rattle.derguard.specs.SchemaReading.{basic_component}
+use Rattle.derguard.specs.SchemaReading.{basic_component, basic_alternative}
 use Rattle.derguard.specs.SchemaViews.{component_view}
 use Rattle.derguard.proofs.SchemaLoops.{with_front}
 use Rattle.derguard.proofs.guard_schema.forms.+forms.Given as goal
@@ -10,3 +10,8 @@ abbrev pub invariant-basic_comps-loop-tree : goal.invariant-basic_comps-loop-tre
 invariant-basic_comps-loop-tree l =
     with_front (map component_view l.comps.items) (each basic_component (map written.component_view (drop l.tree-index l.trees)))
     ≡ each basic_component (map written.component_view l.trees)
+
+abbrev pub invariant-basic_alternatives-loop-tree : goal.invariant-basic_alternatives-loop-tree
+invariant-basic_alternatives-loop-tree l =
+    with_front (map component_view l.comps.items) (each basic_alternative (map written.alternative_view (drop l.tree-index l.trees)))
+    ≡ each basic_alternative (map written.alternative_view l.trees)

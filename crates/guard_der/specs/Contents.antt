@@ -1,0 +1,43 @@
+-- Contents octets of the simple kinds (X.690 8.2 to 8.8, 8.19 to 8.23).
+use Rattle.std.specs.Prelude.{ℕ, ◌+◌, ◌*◌, Bool, true, ◌&&◌, ◌||◌, List, [], ◌∷◌, ◌++◌, flat_map, nat_lt, nat_le, nat_eq, encode_utf8_all, if◌then◌else◌}
+use Rattle.guard_model.specs.declared.ty.CharKind.{CharKind}
+use Rattle.guard_model.specs.declared.ty.CharKind.TheVariants.{Numeric, Printable, Ia5, Visible, Utf8}
+use Rattle.guard_der.specs.Octets.{base_128}
+
+-- FALSE is 00, TRUE is FF (8.2.2, 11.1)
+abbrev pub boolean_octet : Bool → ℕ
+boolean_octet b = if b then 255 else 0
+
+-- A subidentifier for the first two arcs, 40X + Y, and one for each further arc, each in the fewest octets to the base 128 (8.19).
+abbrev pub arcs_octets : List ℕ → List ℕ
+arcs_octets (x ∷ y ∷ arcs) = base_128 (40 * x + y) ++ flat_map base_128 arcs
+arcs_octets _ = []
+
+-- UTF-8 for UTF8String (8.23.10), else one octet a character (8.23.5)
+abbrev pub character_octets : CharKind → List ℕ → List ℕ
+character_octets Utf8 characters = encode_utf8_all characters
+character_octets _ characters = characters
+
+-- ---- alphabets (X.680 clause 41), by codes
+
+abbrev pub is_between : ℕ → ℕ → ℕ → Bool
+is_between low high c = nat_le low c && nat_le c high
+
+abbrev pub is_digit : ℕ → Bool
+is_digit c = is_between 48 57 c
+
+-- A-Z, a-z
+abbrev pub is_letter : ℕ → Bool
+is_letter c = is_between 65 90 c || is_between 97 122 c
+
+-- space and ' ( ) + , - . / : = ?
+abbrev pub is_printable_mark : ℕ → Bool
+is_printable_mark c = nat_eq c 32 || is_between 39 41 c || is_between 43 47 c || nat_eq c 58 || nat_eq c 61 || nat_eq c 63
+
+-- Of the kinds with one octet a character. The alphabet of UTF8String is all of Unicode.
+abbrev pub is_character : CharKind → ℕ → Bool
+is_character Numeric c = nat_eq c 32 || is_digit c
+is_character Printable c = is_digit c || is_letter c || is_printable_mark c
+is_character Ia5 c = nat_lt c 128
+is_character Visible c = is_between 32 126 c
+is_character Utf8 c = true

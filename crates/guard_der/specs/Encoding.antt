@@ -1,0 +1,20 @@
+-- What `encode` answers.
+use Rattle.std.specs.Prelude.{ℕ, List, length, nat_le, Option, Some, None, Result, Ok, Err, if◌then◌else◌}
+use Rattle.guard_model.specs.AbstractType.{AbstractType}
+use Rattle.guard_model.specs.AbstractValue.{AbstractValue}
+use Rattle.guard_der.specs.Der.{der}
+use Rattle.guard_der.specs.declared.encoding.EncodeFault.{EncodeFault}
+use Rattle.guard_der.specs.declared.encoding.EncodeFault.TheVariants.{TooLong, OutOfMemory}
+
+-- What a refusal says of the value: nothing where memory ran out.
+abbrev pub refusal : EncodeFault → Option EncodeFault
+refusal TooLong = Some TooLong
+refusal OutOfMemory = None
+
+abbrev pub limited : Option (List ℕ) → Result (List ℕ) EncodeFault
+limited None = Err TooLong
+limited (Some os) = if nat_le (length os) 1048576 then Ok os else Err TooLong
+
+-- The encoding where there is one of at most 1,048,576 octets, else TooLong.
+abbrev pub encoding_of : AbstractType → AbstractValue → Result (List ℕ) EncodeFault
+encoding_of t v = limited (der t v)

@@ -1,0 +1,90 @@
+//! The components of a SET that were read so far: one slot for each.
+ghost use Rattle.std.specs.Prelude.{◌≡◌, ◌<◌, ◌≤◌, length, map, set, Ok, IfOk};
+ghost use Rattle.guard_model.specs.Answer.{Gives};
+ghost use Rattle.guard_model.specs.TypeView.{component_view, components_of};
+ghost use Rattle.guard_model.specs.ValueView.{fields_view};
+ghost use Rattle.guard_der.specs.Reading.{all_absent, completed, follows as comes_after, placed_at};
+ghost use Rattle.guard_der.specs.Views.{breach_of};
+
+use crate::breach::{Code, DecodeFault};
+use crate::decoding::not_sent;
+use crate::faults::fault_at;
+use crate::tags::one_with;
+use guard_model::{Comp, Step, Tag, Value};
+use std::alloc::Global;
+use std::cmp::Ordering;
+
+/// Nothing was read yet.
+pub fn empty_slots(alloc: Global, comps: &[Comp]) -> Result<Vec<Option<Value>>, DecodeFault>
+    ensures count { IfOk result (λ v. length v.items ≡ length comps.now) }
+    ensures given { Gives (λ v. fields_view v.items) breach_of result (Ok (all_absent (components_of (map component_view comps.now)))) }
+{
+    let mut slots = Vec::with_capacity(alloc, comps.len())?;
+    for _comp in comps {
+        slots.push(None)?;
+    }
+    Ok(slots)
+}
+
+/// The place of the component with this tag, which comes after those that were read and was not there among them.
+pub fn place_of(
+    comps: &[Comp],
+    slots: &[Option<Value>],
+    before: Option<Tag>,
+    at: usize,
+    tag: Tag,
+) -> Result<usize, DecodeFault>
+    requires few { length comps.now ≤ 64 }
+    requires slots { length slots.now ≡ length comps.now }
+    ensures within { IfOk result (λ i. i < length comps.now) }
+    ensures given { Gives (λ i. i) breach_of result (placed_at (components_of (map component_view comps.now)) (fields_view slots.now) before at tag) }
+{
+    let Some(place) = one_with(comps, tag) else {
+        return Err(fault_at(Code::UnexpectedTag, at));
+    };
+    if !follows(before, tag) {
+        return Err(fault_at(Code::SetOrder, at).below(Step::Component(place as u8)));
+    }
+    if slots[place].is_some() {
+        return Err(fault_at(Code::UnexpectedTag, at));
+    }
+    Ok(place)
+}
+
+/// The tag comes after that of the element before, where there is one (X.690 10.3).
+fn follows(before: Option<Tag>, tag: Tag) -> bool
+    ensures { result ≡ comes_after before tag }
+{
+    match before {
+        None => true,
+        Some(before) => before.order(&tag) == Ordering::Less,
+    }
+}
+
+/// The components that were not sent: absent, or their default.
+pub fn completed(
+    alloc: Global,
+    comps: &[Comp],
+    mut slots: Vec<Option<Value>>,
+    at: usize,
+) -> Result<Vec<Option<Value>>, DecodeFault>
+    requires few { length comps.now ≤ 64 }
+    requires slots { length slots.items ≡ length comps.now }
+    ensures { Gives (λ v. fields_view v.items) breach_of result (completed 0 (components_of (map component_view comps.now)) (fields_view slots.items) at) }
+{
+    for (index, comp) in comps.iter().enumerate() {
+        if slots[index].is_none() {
+            let missing = fault_at(Code::MissingComponent, at).below(Step::Component(index as u8));
+            put(&mut slots, index, not_sent(alloc, &comp.presence, missing)?);
+        }
+    }
+    Ok(slots)
+}
+
+/// The component at this place is settled: a value, or absent.
+pub fn put(slots: &mut Vec<Option<Value>>, place: usize, field: Option<Value>)
+    requires { place < length slots.old.items }
+    ensures { slots.new.items ≡ set slots.old.items place field }
+{
+    slots[place] = field;
+}

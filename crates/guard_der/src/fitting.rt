@@ -1,0 +1,148 @@
+//! Which values a type has, constraints aside.
+ghost use Rattle.std.specs.Prelude.{◌≡◌, map, IfOk};
+ghost use Rattle.guard_model.specs.TypeView.{type_view, kind_view, component_view, components_of, presence_view};
+ghost use Rattle.guard_model.specs.ValueView.{value_view, field_view, fields_view, items_view};
+ghost use Rattle.guard_der.specs.Fits.{fits, fits_kind, fits_fields, fits_alternative, every_fits, may_be_absent};
+ghost use Rattle.guard_der.specs.Sent.{field_fits};
+ghost use Rattle.guard_der.specs.Pieces.{few_fit, set_fits};
+
+pub(crate) mod ascending;
+mod simple;
+
+use crate::fitting::ascending::are_ascending;
+use crate::fitting::simple::{
+    arcs_fit, are_octets, bits_fit, characters_fit, is_in_range, is_item,
+};
+use guard_model::{Comp, Kind, OutOfMemory, Presence, Ty, Value};
+use std::alloc::Global;
+
+/// The most elements of a value of an OF type.
+const MOST_ITEMS: usize = 4_294_967_295;
+
+/// Whether the value is one of the type's, constraints aside: of the type's kind and within its limits, with a fitting value at
+/// each mandatory and DEFAULT component; for a SET OF the encodings of its elements exist and never descend (X.690 11.6). Its
+/// one refusal is want of memory.
+#[cycle(fitting)]
+pub fn fits(alloc: Global, ty: &Ty, value: &Value) -> Result<bool, OutOfMemory>
+    ensures exact { IfOk result (λ b. b ≡ fits (type_view ty.now) (value_view value.now)) }
+{
+    kind_fits(alloc, &ty.kind, value)
+}
+
+#[cycle(fitting)]
+fn kind_fits(alloc: Global, kind: &Kind, value: &Value) -> Result<bool, OutOfMemory>
+    ensures { IfOk result (λ b. b ≡ fits_kind (kind_view kind.now) (value_view value.now)) }
+{
+    match (kind, value) {
+        (Kind::Bool, Value::Bool(_)) => Ok(true),
+        (Kind::Int(_), Value::Int(number)) => Ok(is_in_range(*number)),
+        (Kind::Bits, Value::Bits(bits)) => Ok(bits_fit(bits)),
+        (Kind::Octets, Value::Octets(octets)) => Ok(are_octets(octets)),
+        (Kind::Null, Value::Null) => Ok(true),
+        (Kind::Oid, Value::Oid(arcs)) => Ok(arcs_fit(arcs)),
+        (Kind::Enumerated(items), Value::Enumerated(number)) => {
+            Ok(is_in_range(*number) && is_item(*number, items))
+        }
+        (Kind::Chars(kind), Value::Chars(text)) => Ok(characters_fit(*kind, text)),
+        (Kind::Sequence(comps), Value::Fields(fields)) => fields_fit(alloc, comps, fields),
+        (Kind::Set(comps), Value::Fields(fields)) => fields_fit(alloc, comps, fields),
+        (Kind::Choice(alternatives), Value::Chosen(at, value)) => {
+            alternative_fits(alloc, alternatives, usize::from(*at), value)
+        }
+        (Kind::SequenceOf(element), Value::Items(items)) => items_fit(alloc, element, items),
+        (Kind::SetOf(element), Value::Items(items)) => set_fits(alloc, element, items),
+        _ => Ok(false),
+    }
+}
+
+/// A fitting value at each component, or none at an OPTIONAL one.
+#[cycle(fitting)]
+fn fields_fit(alloc: Global, comps: &[Comp], fields: &[Option<Value>]) -> Result<bool, OutOfMemory>
+    ensures { IfOk result (λ b. b ≡ fits_fields (components_of (map component_view comps.now)) (fields_view fields.now)) }
+{
+    if comps.len() != fields.len() {
+        return Ok(false);
+    }
+    for index in 0..comps.len() {
+        let comp = &comps[index];
+        if !field_fits(alloc, &comp.presence, &comp.ty, &fields[index])? {
+            return Ok(false);
+        }
+    }
+    Ok(true)
+}
+
+#[cycle(fitting)]
+fn field_fits(
+    alloc: Global,
+    presence: &Presence,
+    ty: &Ty,
+    field: &Option<Value>,
+) -> Result<bool, OutOfMemory>
+    ensures { IfOk result (λ b. b ≡ field_fits (presence_view presence.now) (type_view ty.now) (field_view field.now)) }
+{
+    match field {
+        Some(value) => fits(alloc, ty, value),
+        None => Ok(may_be_absent(presence)),
+    }
+}
+
+fn may_be_absent(presence: &Presence) -> bool
+    ensures { result ≡ may_be_absent (presence_view presence.now) }
+{
+    match presence {
+        Presence::Mandatory => false,
+        Presence::Optional => true,
+        Presence::Pending => false,
+        Presence::Default(_) => false,
+    }
+}
+
+#[cycle(fitting)]
+fn alternative_fits(
+    alloc: Global,
+    alternatives: &[Comp],
+    at: usize,
+    value: &Value,
+) -> Result<bool, OutOfMemory>
+    ensures { IfOk result (λ b. b ≡ fits_alternative (components_of (map component_view alternatives.now)) at (value_view value.now)) }
+{
+    if at >= alternatives.len() {
+        return Ok(false);
+    }
+    fits(alloc, &alternatives[at].ty, value)
+}
+
+/// Few enough elements, each of them fitting.
+#[cycle(fitting)]
+fn items_fit(alloc: Global, ty: &Ty, items: &[Value]) -> Result<bool, OutOfMemory>
+    ensures { IfOk result (λ b. b ≡ few_fit (fits (type_view ty.now)) (items_view items.now)) }
+{
+    if items.len() > MOST_ITEMS {
+        return Ok(false);
+    }
+    all_fit(alloc, ty, items)
+}
+
+#[cycle(fitting)]
+fn all_fit(alloc: Global, ty: &Ty, items: &[Value]) -> Result<bool, OutOfMemory>
+    ensures { IfOk result (λ b. b ≡ every_fits (fits (type_view ty.now)) (items_view items.now)) }
+{
+    for item in items {
+        if !fits(alloc, ty, item)? {
+            return Ok(false);
+        }
+    }
+    Ok(true)
+}
+
+/// Of a SET OF also the encodings ascend.
+#[cycle(fitting)]
+fn set_fits(alloc: Global, ty: &Ty, items: &[Value]) -> Result<bool, OutOfMemory>
+    ensures { IfOk result (λ b. b ≡ set_fits (type_view ty.now) (items_view items.now)) }
+{
+    if !items_fit(alloc, ty, items)? {
+        return Ok(false);
+    }
+    are_ascending(alloc, ty, items)
+}

@@ -1,0 +1,67 @@
+//! Whether the elements of a SET OF stand in the order of their encodings.
+ghost use Rattle.std.specs.Prelude.{◌≡◌, IfOk, IsTrue, option_map, slice_index};
+ghost use Rattle.guard_model.specs.TypeView.{type_view};
+ghost use Rattle.guard_model.specs.ValueView.{value_view, items_view};
+ghost use Rattle.guard_der.specs.Der.{der, item_encodings};
+ghost use Rattle.guard_der.specs.Fits.{fits, every_fits, are_ascending, descends};
+
+use crate::encoding::EncodeFault;
+use crate::encoding::values::encoding;
+use guard_model::{OutOfMemory, Ty, Value};
+use std::alloc::Global;
+
+/// The encodings exist, and none descends to the next (X.690 11.6).
+pub fn are_ascending(alloc: Global, ty: &Ty, items: &[Value]) -> Result<bool, OutOfMemory>
+    requires { IsTrue (every_fits (fits (type_view ty.now)) (items_view items.now)) }
+    ensures { IfOk result (λ b. b ≡ are_ascending (item_encodings (der (type_view ty.now)) (items_view items.now))) }
+{
+    let mut before = Vec::new(alloc);
+    for item in items {
+        let Some(octets) = encoding_of(alloc, ty, item)? else {
+            return Ok(false);
+        };
+        if descends(&before, &octets) {
+            return Ok(false);
+        }
+        before = octets;
+    }
+    Ok(true)
+}
+
+/// The value's encoding where there is one.
+fn encoding_of(alloc: Global, ty: &Ty, value: &Value) -> Result<Option<Vec<u8>>, OutOfMemory>
+    requires { IsTrue (fits (type_view ty.now) (value_view value.now)) }
+    ensures { IfOk result (λ octets. option_map (λ v. v.items) octets ≡ der (type_view ty.now) (value_view value.now)) }
+{
+    match encoding(alloc, ty, value) {
+        Ok(octets) => Ok(Some(octets)),
+        Err(EncodeFault::TooLong) => Ok(None),
+        Err(EncodeFault::OutOfMemory) => Err(OutOfMemory),
+    }
+}
+
+/// The first descends to the second, octet by octet, the shorter one padded with zero octets.
+pub fn descends(octets: &[u8], next: &[u8]) -> bool
+    ensures { result ≡ descends octets.now next.now }
+{
+    for (index, octet) in octets.iter().enumerate() {
+        let other = padded(next, index);
+        if other < *octet {
+            return true;
+        }
+        if *octet < other {
+            return false;
+        }
+    }
+    false
+}
+
+fn padded(octets: &[u8], index: usize) -> u8
+    ensures { result ≡ slice_index octets.now index }
+{
+    if index < octets.len() {
+        octets[index]
+    } else {
+        0
+    }
+}

@@ -1,0 +1,153 @@
+//! Which values the simple kinds have.
+ghost use Rattle.std.specs.Prelude.{◌≡◌, ◌^◌, ◌≤◌, chars, map};
+ghost use Rattle.guard_model.specs.TypeView.{named_view};
+ghost use Rattle.guard_der.specs.Contents.{is_character, is_between, is_digit, is_letter, is_printable_mark};
+ghost use Rattle.guard_der.specs.Pieces.{two_fit};
+ghost use Rattle.guard_der.specs.Fits.{all_below, all_characters, fits_128_bits, fits_arcs, fits_bits, fits_characters, is_item};
+
+use guard_model::{Bits, CharKind, Named};
+
+/// An INTEGER and an ENUMERATED lie within signed 128 bits, as each number of this type does.
+pub fn is_in_range(number: i128) -> bool
+    ensures { result ≡ fits_128_bits number }
+{
+    number >= i128::MIN
+}
+
+/// Each is below 256.
+pub fn are_octets(octets: &[u8]) -> bool
+    ensures { result ≡ all_below 256 octets.now }
+{
+    let _ = octets;
+    true
+}
+
+/// At most seven bits are unused, none where there are no octets (X.690 8.6.2); the unused bits are zero (11.2.1).
+pub fn bits_fit(bits: &Bits) -> bool
+    ensures { result ≡ fits_bits bits.now.octets.items bits.now.unused }
+{
+    if bits.unused > 7 || !are_octets(&bits.octets) {
+        return false;
+    }
+    let count = bits.octets.len();
+    if count == 0 {
+        return bits.unused == 0;
+    }
+    bits.octets[count - 1] % power_of_two(bits.unused) == 0
+}
+
+fn power_of_two(exponent: u8) -> u8
+    requires { exponent ≤ 7 }
+    ensures { result ≡ 2 ^ exponent }
+{
+    match exponent {
+        0 => 1,
+        1 => 2,
+        2 => 4,
+        3 => 8,
+        4 => 16,
+        5 => 32,
+        6 => 64,
+        _ => 128,
+    }
+}
+
+/// The first arc is 0 to 2, the second at most 39 under 0 and 1 (X.660); each subidentifier has at most 128 bits.
+pub fn arcs_fit(arcs: &[u128]) -> bool
+    ensures { result ≡ fits_arcs arcs.now }
+{
+    match arcs {
+        [first, second, ..] => first_two_fit(*first, *second),
+        _ => false,
+    }
+}
+
+fn first_two_fit(first: u128, second: u128) -> bool
+    ensures { result ≡ two_fit first second }
+{
+    match first {
+        0 => second <= 39,
+        1 => second <= 39,
+        2 => second <= u128::MAX - 80,
+        _ => false,
+    }
+}
+
+/// The number of one of these items.
+pub fn is_item(number: i128, items: &[Named]) -> bool
+    ensures { result ≡ is_item number (map named_view items.now) }
+{
+    for item in items {
+        if number == item.number {
+            return true;
+        }
+    }
+    false
+}
+
+/// Each character is of the kind's alphabet (X.680 clause 41).
+pub fn characters_fit(kind: CharKind, text: &str) -> bool
+    ensures { result ≡ fits_characters kind (chars text.now) }
+{
+    match kind {
+        CharKind::Numeric => are_characters(kind, text),
+        CharKind::Printable => are_characters(kind, text),
+        CharKind::Ia5 => are_characters(kind, text),
+        CharKind::Visible => are_characters(kind, text),
+        CharKind::Utf8 => true,
+    }
+}
+
+fn are_characters(kind: CharKind, text: &str) -> bool
+    ensures { result ≡ all_characters kind (chars text.now) }
+{
+    for character in text.chars() {
+        if !is_character(kind, u32::from(character)) {
+            return false;
+        }
+    }
+    true
+}
+
+fn is_character(kind: CharKind, code: u32) -> bool
+    ensures { result ≡ is_character kind code }
+{
+    match kind {
+        CharKind::Numeric => code == 32 || is_digit(code),
+        CharKind::Printable => is_digit(code) || is_letter(code) || is_printable_mark(code),
+        CharKind::Ia5 => code < 128,
+        CharKind::Visible => is_between(32, 126, code),
+        CharKind::Utf8 => true,
+    }
+}
+
+fn is_between(low: u32, high: u32, code: u32) -> bool
+    ensures { result ≡ is_between low high code }
+{
+    low <= code && code <= high
+}
+
+fn is_digit(code: u32) -> bool
+    ensures { result ≡ is_digit code }
+{
+    is_between(48, 57, code)
+}
+
+/// A-Z and a-z.
+fn is_letter(code: u32) -> bool
+    ensures { result ≡ is_letter code }
+{
+    is_between(65, 90, code) || is_between(97, 122, code)
+}
+
+/// Space and ' ( ) + , - . / : = ?
+fn is_printable_mark(code: u32) -> bool
+    ensures { result ≡ is_printable_mark code }
+{
+    code == 32
+        || is_between(39, 41, code)
+        || is_between(43, 47, code)
+        || code == 58
+        || code == 61
+        || code == 63
+}

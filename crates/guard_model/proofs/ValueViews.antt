@@ -1,0 +1,22 @@
+-- One level of what a value stands for.
+use Rattle.std.proofs.Common.{◌≡◌, List, [], ◌∷◌, Option, Some, None, String, Global, string_bytes, refl, ap, sym, ◌∙◌, map}
+use Rattle.std.specs.Global.{Vec}
+use Rattle.std.specs.Str.{chars}
+use Rattle.guard_model.specs.AbstractValue.{AbstractValue, fields, characters, present, absent, fields_of}
+use Rattle.guard_model.specs.ValueView.{value_view, value_step, fields_view}
+use Rattle.guard_model.specs.declared.value.Value.{Value}
+use Rattle.guard_model.specs.declared.value.Value.TheFolds.{fold-roll-Value}
+use Rattle.guard_model.specs.declared.value.Value.TheVariants as variant
+use Rattle.guard_model.specs.declared.value.Value.TheVariants.{rolls-Fields, rolls-Chars}
+use Rattle.guard_model.specs.declared.value.Value.TheOpen.{Value-F}
+
+fields_folded : (inside : Option Value → Option AbstractValue) → inside None ≡ None → ((v : Value) → inside (Some v) ≡ Some (value_view v)) → (vs : List (Option Value)) → fields_of (map inside vs) ≡ fields_view vs
+fields_folded inside none some [] = refl
+fields_folded inside none some (None ∷ vs) = rw none (ap absent (fields_folded inside none some vs))
+fields_folded inside none some (Some v ∷ vs) = rw (some v) (ap (present (value_view v)) (fields_folded inside none some vs))
+
+pub value_view_fields : (vs : Vec (Option Value)) → value_view (variant.Fields vs) ≡ fields (fields_view vs.items)
+value_view_fields vs = ap value_view (sym (rolls-Fields vs)) ∙ fold-roll-Value AbstractValue value_step (Value-F.Fields vs) ∙ ap fields (fields_folded _ refl (λ v. refl) vs.items)
+
+pub value_view_characters : (text : String Global) → value_view (variant.Chars text) ≡ characters (chars (string_bytes text))
+value_view_characters text = ap value_view (sym (rolls-Chars text)) ∙ fold-roll-Value AbstractValue value_step (Value-F.Chars text)

@@ -1,0 +1,57 @@
+-- Types of the same base: equal kinds without the outermost tags and constraints. Inside, parts are equal in name, tags, presence, default and constraints.
+-- Named numbers of an INTEGER and sites count nowhere; the items of an ENUMERATED count, in written order and with their numbers.
+use Rattle.std.specs.Prelude.{◌≡◌, []}
+use Rattle.guard_model.specs.AbstractType.{AbstractType, AbstractKind, Components, Constraint, Constraints, Element, Parts, type_of, boolean, integer, bit_string, octet_string, null, object_identifier, enumerated, characters, sequence, set, choice, sequence_of, set_of, no_components, component, at, no_constraints, constraint, single_value, contained_subtype, range, size, permitted_alphabet, with_component, with_components, union, intersection, except, all_except, no_parts, part, part_within}
+use Rattle.guard_model.specs.declared.site.Site.{Site}
+
+-- stands in place of every site
+abbrev pub no_site : Site
+no_site = record { text = 0; line = 0; column = 0 }
+
+abbrev mutual
+  -- the type without named numbers of INTEGER and without sites, at any depth
+  pub bare : AbstractType → AbstractType
+  bare (type_of tags kind constraints) = type_of tags (bare_kind kind) (bare_constraints constraints)
+
+  pub bare_kind : AbstractKind → AbstractKind
+  bare_kind (integer names) = integer []
+  bare_kind (sequence components) = sequence (bare_components components)
+  bare_kind (set components) = set (bare_components components)
+  bare_kind (choice alternatives) = choice (bare_components alternatives)
+  bare_kind (sequence_of element) = sequence_of (bare element)
+  bare_kind (set_of element) = set_of (bare element)
+  bare_kind kind = kind
+
+  pub bare_components : Components → Components
+  bare_components no_components = no_components
+  bare_components (component name ty presence rest) = component name (bare ty) presence (bare_components rest)
+
+  pub bare_constraints : Constraints → Constraints
+  bare_constraints no_constraints = no_constraints
+  bare_constraints (constraint c rest) = constraint (bare_constraint c) (bare_constraints rest)
+
+  pub bare_constraint : Constraint → Constraint
+  bare_constraint (at site element) = at no_site (bare_element element)
+
+  pub bare_element : Element → Element
+  bare_element (contained_subtype ty) = contained_subtype (bare ty)
+  bare_element (size c) = size (bare_constraint c)
+  bare_element (with_component c) = with_component (bare_constraint c)
+  bare_element (with_components partial parts) = with_components partial (bare_parts parts)
+  bare_element (union cs) = union (bare_constraints cs)
+  bare_element (intersection cs) = intersection (bare_constraints cs)
+  bare_element (except c d) = except (bare_constraint c) (bare_constraint d)
+  bare_element (all_except c) = all_except (bare_constraint c)
+  bare_element element = element
+
+  pub bare_parts : Parts → Parts
+  bare_parts no_parts = no_parts
+  bare_parts (part site place word rest) = part no_site place word (bare_parts rest)
+  bare_parts (part_within site place c word rest) = part_within no_site place (bare_constraint c) word (bare_parts rest)
+
+-- what is left of a type without its outermost tags and constraints
+abbrev pub bare_kind_of : AbstractType → AbstractKind
+bare_kind_of (type_of _ kind _) = bare_kind kind
+
+abbrev pub HasSameBase : AbstractType → AbstractType → Type 0
+HasSameBase a b = bare_kind_of a ≡ bare_kind_of b

@@ -1,0 +1,236 @@
+//! Copies of values and types. Each stands for what its source stands for; the one refusal is want of memory.
+ghost use Rattle.std.specs.Prelude.{◌≡◌, map, IfOk};
+ghost use Rattle.guard_model.specs.TypeView.{type_view, kind_view, named_view, presence_view, component_view, constraint_view, element_view, part_view};
+ghost use Rattle.guard_model.specs.ValueView.{value_view, field_view};
+
+use crate::memory::OutOfMemory;
+use crate::ty::{Comp, Cons, Kind, Named, Part, Presence, Rule, Ty};
+use crate::value::{Bits, Value};
+use std::alloc::Global;
+
+impl Value {
+    /// A value that stands for the same abstract value. Its one refusal is want of memory.
+    #[cycle(value_copies)]
+    pub fn copy(&self, alloc: Global) -> Result<Value, OutOfMemory>
+        ensures { IfOk result (λ copy. value_view copy ≡ value_view self.now) }
+    {
+        match self {
+            Value::Bool(truth) => Ok(Value::Bool(*truth)),
+            Value::Int(number) => Ok(Value::Int(*number)),
+            Value::Enumerated(number) => Ok(Value::Enumerated(*number)),
+            Value::Null => Ok(Value::Null),
+            Value::Bits(bits) => Ok(Value::Bits(Bits {
+                octets: Vec::from_slice(alloc, &bits.octets)?,
+                unused: bits.unused,
+            })),
+            Value::Octets(octets) => Ok(Value::Octets(Vec::from_slice(alloc, octets)?)),
+            Value::Oid(arcs) => Ok(Value::Oid(Vec::from_slice(alloc, arcs)?)),
+            Value::Chars(text) => Ok(Value::Chars(String::from_str(alloc, text)?)),
+            Value::Fields(fields) => Ok(Value::Fields(copy_of_fields(alloc, fields)?)),
+            Value::Items(items) => Ok(Value::Items(copy_of_items(alloc, items)?)),
+            Value::Chosen(at, value) => {
+                Ok(Value::Chosen(*at, Box::new(alloc, value.copy(alloc)?)?))
+            }
+        }
+    }
+}
+
+#[cycle(value_copies)]
+fn copy_of_fields(
+    alloc: Global,
+    fields: &[Option<Value>],
+) -> Result<Vec<Option<Value>>, OutOfMemory>
+    ensures { IfOk result (λ copy. map field_view copy.items ≡ map field_view fields.now) }
+{
+    let mut copy = Vec::with_capacity(alloc, fields.len())?;
+    for field in fields {
+        let one = match field {
+            Some(value) => Some(value.copy(alloc)?),
+            None => None,
+        };
+        copy.push(one)?;
+    }
+    Ok(copy)
+}
+
+#[cycle(value_copies)]
+fn copy_of_items(alloc: Global, items: &[Value]) -> Result<Vec<Value>, OutOfMemory>
+    ensures { IfOk result (λ copy. map value_view copy.items ≡ map value_view items.now) }
+{
+    let mut copy = Vec::with_capacity(alloc, items.len())?;
+    for item in items {
+        copy.push(item.copy(alloc)?)?;
+    }
+    Ok(copy)
+}
+
+impl Ty {
+    /// A type that stands for the same abstract type. Its one refusal is want of memory.
+    #[cycle(type_copies)]
+    pub fn copy(&self, alloc: Global) -> Result<Ty, OutOfMemory>
+        ensures { IfOk result (λ copy. type_view copy ≡ type_view self.now) }
+    {
+        Ok(Ty {
+            tags: Vec::from_slice(alloc, &self.tags)?,
+            kind: self.kind.copy(alloc)?,
+            cons: copy_of_constraints(alloc, &self.cons)?,
+        })
+    }
+}
+
+impl Kind {
+    #[cycle(type_copies)]
+    fn copy(&self, alloc: Global) -> Result<Kind, OutOfMemory>
+        ensures { IfOk result (λ copy. kind_view copy ≡ kind_view self.now) }
+    {
+        match self {
+            Kind::Bool => Ok(Kind::Bool),
+            Kind::Int(named) => Ok(Kind::Int(copy_of_named(alloc, named)?)),
+            Kind::Bits => Ok(Kind::Bits),
+            Kind::Octets => Ok(Kind::Octets),
+            Kind::Null => Ok(Kind::Null),
+            Kind::Oid => Ok(Kind::Oid),
+            Kind::Enumerated(items) => Ok(Kind::Enumerated(copy_of_named(alloc, items)?)),
+            Kind::Chars(kind) => Ok(Kind::Chars(*kind)),
+            Kind::Sequence(comps) => Ok(Kind::Sequence(copy_of_components(alloc, comps)?)),
+            Kind::Set(comps) => Ok(Kind::Set(copy_of_components(alloc, comps)?)),
+            Kind::Choice(comps) => Ok(Kind::Choice(copy_of_components(alloc, comps)?)),
+            Kind::SequenceOf(ty) => Ok(Kind::SequenceOf(Box::new(alloc, ty.copy(alloc)?)?)),
+            Kind::SetOf(ty) => Ok(Kind::SetOf(Box::new(alloc, ty.copy(alloc)?)?)),
+        }
+    }
+}
+
+fn copy_of_named(alloc: Global, named: &[Named]) -> Result<Vec<Named>, OutOfMemory>
+    ensures { IfOk result (λ copy. map named_view copy.items ≡ map named_view named.now) }
+{
+    let mut copy = Vec::with_capacity(alloc, named.len())?;
+    for one in named {
+        copy.push(one.copy(alloc)?)?;
+    }
+    Ok(copy)
+}
+
+impl Named {
+    fn copy(&self, alloc: Global) -> Result<Named, OutOfMemory>
+        ensures { IfOk result (λ copy. named_view copy ≡ named_view self.now) }
+    {
+        Ok(Named {
+            name: String::from_str(alloc, &self.name)?,
+            number: self.number,
+        })
+    }
+}
+
+#[cycle(type_copies)]
+fn copy_of_components(alloc: Global, comps: &[Comp]) -> Result<Vec<Comp>, OutOfMemory>
+    ensures { IfOk result (λ copy. map component_view copy.items ≡ map component_view comps.now) }
+{
+    let mut copy = Vec::with_capacity(alloc, comps.len())?;
+    for comp in comps {
+        copy.push(comp.copy(alloc)?)?;
+    }
+    Ok(copy)
+}
+
+impl Comp {
+    #[cycle(type_copies)]
+    fn copy(&self, alloc: Global) -> Result<Comp, OutOfMemory>
+        ensures { IfOk result (λ copy. component_view copy ≡ component_view self.now) }
+    {
+        Ok(Comp {
+            name: String::from_str(alloc, &self.name)?,
+            ty: self.ty.copy(alloc)?,
+            presence: self.presence.copy(alloc)?,
+        })
+    }
+}
+
+impl Presence {
+    fn copy(&self, alloc: Global) -> Result<Presence, OutOfMemory>
+        ensures { IfOk result (λ copy. presence_view copy ≡ presence_view self.now) }
+    {
+        match self {
+            Presence::Mandatory => Ok(Presence::Mandatory),
+            Presence::Optional => Ok(Presence::Optional),
+            Presence::Pending => Ok(Presence::Pending),
+            Presence::Default(value) => Ok(Presence::Default(value.copy(alloc)?)),
+        }
+    }
+}
+
+#[cycle(type_copies)]
+fn copy_of_constraints(alloc: Global, constraints: &[Cons]) -> Result<Vec<Cons>, OutOfMemory>
+    ensures { IfOk result (λ copy. map constraint_view copy.items ≡ map constraint_view constraints.now) }
+{
+    let mut copy = Vec::with_capacity(alloc, constraints.len())?;
+    for constraint in constraints {
+        copy.push(constraint.copy(alloc)?)?;
+    }
+    Ok(copy)
+}
+
+impl Cons {
+    #[cycle(type_copies)]
+    fn copy(&self, alloc: Global) -> Result<Cons, OutOfMemory>
+        ensures { IfOk result (λ copy. constraint_view copy ≡ constraint_view self.now) }
+    {
+        Ok(Cons {
+            site: self.site,
+            rule: self.rule.copy(alloc)?,
+        })
+    }
+}
+
+impl Rule {
+    #[cycle(type_copies)]
+    fn copy(&self, alloc: Global) -> Result<Rule, OutOfMemory>
+        ensures { IfOk result (λ copy. element_view copy ≡ element_view self.now) }
+    {
+        match self {
+            Rule::One(value) => Ok(Rule::One(value.copy(alloc)?)),
+            Rule::Inside(ty) => Ok(Rule::Inside(Box::new(alloc, ty.copy(alloc)?)?)),
+            Rule::Range(low, high) => Ok(Rule::Range(*low, *high)),
+            Rule::Size(size) => Ok(Rule::Size(Box::new(alloc, size.copy(alloc)?)?)),
+            Rule::Alphabet(ranges) => Ok(Rule::Alphabet(Vec::from_slice(alloc, ranges)?)),
+            Rule::Each(inner) => Ok(Rule::Each(Box::new(alloc, inner.copy(alloc)?)?)),
+            Rule::Parts(partial, parts) => Ok(Rule::Parts(*partial, copy_of_parts(alloc, parts)?)),
+            Rule::Any(constraints) => Ok(Rule::Any(copy_of_constraints(alloc, constraints)?)),
+            Rule::Both(constraints) => Ok(Rule::Both(copy_of_constraints(alloc, constraints)?)),
+            Rule::Minus(first, second) => Ok(Rule::Minus(
+                Box::new(alloc, first.copy(alloc)?)?,
+                Box::new(alloc, second.copy(alloc)?)?,
+            )),
+            Rule::Other(inner) => Ok(Rule::Other(Box::new(alloc, inner.copy(alloc)?)?)),
+        }
+    }
+}
+
+#[cycle(type_copies)]
+fn copy_of_parts(alloc: Global, parts: &[Part]) -> Result<Vec<Part>, OutOfMemory>
+    ensures { IfOk result (λ copy. map part_view copy.items ≡ map part_view parts.now) }
+{
+    let mut copy = Vec::with_capacity(alloc, parts.len())?;
+    for part in parts {
+        copy.push(part.copy(alloc)?)?;
+    }
+    Ok(copy)
+}
+
+impl Part {
+    #[cycle(type_copies)]
+    fn copy(&self, alloc: Global) -> Result<Part, OutOfMemory>
+        ensures { IfOk result (λ copy. part_view copy ≡ part_view self.now) }
+    {
+        let within = match &self.cons {
+            Some(constraint) => Some(constraint.copy(alloc)?),
+            None => None,
+        };
+        Ok(Part {
+            site: self.site,
+            at: self.at,
+            cons: within,
+            word: self.word,
+        })
+    }
+}

@@ -1,0 +1,11 @@
+pub mod TypeViews
+pub mod Components
+pub mod Bounds
+pub mod Options
+pub mod Paths
+pub mod Searches
+pub mod Sharing
+pub mod Pairs
+pub mod Collisions
+pub mod Clashes
+pub mod OneClash

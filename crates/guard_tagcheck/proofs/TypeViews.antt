@@ -1,0 +1,29 @@
+-- One level of what a type stands for.
+use Rattle.std.proofs.Common.{◌≡◌, sym, ap, ◌∙◌, map}
+use Rattle.std.specs.Global.{Vec}
+use Rattle.std.specs.Prelude.{string_bytes}
+use Rattle.guard_model.specs.AbstractType as type
+use Rattle.guard_model.specs.AbstractType.{AbstractType, AbstractKind, Constraint, Element, type_of}
+use Rattle.guard_model.specs.TypeView.{OneComponent, OnePart, type_view, kind_view, component_view, constraints_of, components_of, constraint_view, presence_view, kind_step, rule_step, comp_step, cons_step, part_step, ty_step}
+use Rattle.guard_model.specs.declared.ty.Kind.TheFolds.{fold_out-Ty, fold_out-Comp, fold-roll-Kind}
+use Rattle.guard_model.specs.declared.ty.Kind.TheViews.{out-Ty, out-Comp}
+use Rattle.guard_model.specs.declared.ty.Kind.TheVariants.{rolls-Sequence, rolls-Set, rolls-Choice}
+use Rattle.guard_model.specs.declared.ty.Kind.TheOpen.{Kind-F}
+use Rattle.guard_model.specs.declared.ty.Ty.{Ty}
+use Rattle.guard_model.specs.declared.ty.Comp.{Comp}
+use Rattle.guard_model.specs.declared.ty.Kind.{Sequence, Set, Choice}
+
+pub type_view_is : (ty : Ty) → type_view ty ≡ type_of (out-Ty ty).tags.items (kind_view (out-Ty ty).kind) (constraints_of (map constraint_view (out-Ty ty).cons.items))
+type_view_is ty = fold_out-Ty AbstractKind Element OneComponent Constraint OnePart AbstractType kind_step rule_step comp_step cons_step part_step ty_step ty
+
+pub component_view_is : (comp : Comp) → component_view comp ≡ record { name = string_bytes (out-Comp comp).name; ty = type_view (out-Comp comp).ty; presence = presence_view (out-Comp comp).presence }
+component_view_is comp = fold_out-Comp AbstractKind Element OneComponent Constraint OnePart AbstractType kind_step rule_step comp_step cons_step part_step ty_step comp
+
+pub kind_view_sequence : (comps : Vec Comp) → kind_view (Sequence comps) ≡ type.sequence (components_of (map component_view comps.items))
+kind_view_sequence comps = ap kind_view (sym (rolls-Sequence comps)) ∙ fold-roll-Kind AbstractKind Element OneComponent Constraint OnePart AbstractType kind_step rule_step comp_step cons_step part_step ty_step (Kind-F.Sequence comps)
+
+pub kind_view_set : (comps : Vec Comp) → kind_view (Set comps) ≡ type.set (components_of (map component_view comps.items))
+kind_view_set comps = ap kind_view (sym (rolls-Set comps)) ∙ fold-roll-Kind AbstractKind Element OneComponent Constraint OnePart AbstractType kind_step rule_step comp_step cons_step part_step ty_step (Kind-F.Set comps)
+
+pub kind_view_choice : (comps : Vec Comp) → kind_view (Choice comps) ≡ type.choice (components_of (map component_view comps.items))
+kind_view_choice comps = ap kind_view (sym (rolls-Choice comps)) ∙ fold-roll-Kind AbstractKind Element OneComponent Constraint OnePart AbstractType kind_step rule_step comp_step cons_step part_step ty_step (Kind-F.Choice comps)

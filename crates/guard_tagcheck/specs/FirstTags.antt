@@ -1,0 +1,23 @@
+-- The tags with which an encoding of a type may begin.
+use Rattle.std.specs.Prelude.{Bool, false, ◌&&◌, ◌||◌, [], ◌∷◌, nat_eq}
+use Rattle.guard_model.specs.declared.tag.Tag.{Tag}
+use Rattle.guard_model.specs.Tags.{class_rank}
+use Rattle.guard_model.specs.AbstractType as type
+use Rattle.guard_model.specs.AbstractType.{AbstractType, AbstractKind, Components, type_of, no_components, component}
+
+abbrev pub same_tag : Tag → Tag → Bool
+same_tag a b = nat_eq (class_rank a.class) (class_rank b.class) && nat_eq a.number b.number
+
+abbrev mutual
+  -- its outermost tag; of an untagged CHOICE those of all alternatives (X.680 8.1, 29.3)
+  pub begins_with : AbstractType → Tag → Bool
+  begins_with (type_of (t ∷ ts) kind cons) tag = same_tag t tag
+  begins_with (type_of [] kind cons) tag = alternative_begins_with kind tag
+
+  pub alternative_begins_with : AbstractKind → Tag → Bool
+  alternative_begins_with (type.choice cs) tag = one_begins_with cs tag
+  alternative_begins_with _ tag = false
+
+  pub one_begins_with : Components → Tag → Bool
+  one_begins_with no_components tag = false
+  one_begins_with (component name t presence rest) tag = begins_with t tag || one_begins_with rest tag

@@ -1,0 +1,6 @@
+-- What the code's answers stand for.
+use Rattle.guard_tagcheck.specs.declared.clash.Clash.{Clash}
+use Rattle.guard_tagcheck.specs.Distinct.{AbstractClash}
+
+abbrev pub clash_view : Clash → AbstractClash
+clash_view c = record { path = c.path.items; first = c.first; second = c.second }

@@ -1,0 +1,152 @@
+//! The first clash of a type.
+ghost use Rattle.std.specs.Prelude.{◌≡◌, ℕ, zero, suc, ◌+◌, ◌≤◌, ◌<◌, length, map, drop, true, false, option_map, IfOk, IfErr, IsTrue, IsOk, Err, Some};
+ghost use Rattle.guard_model.specs.TypeView.{type_view, kind_view, component_view, components_of, presence_view};
+ghost use Rattle.guard_model.specs.Answer.{Gives};
+ghost use Rattle.guard_model.specs.declared.site.Step.TheVariants.{Element};
+ghost use Rattle.guard_tagcheck.specs.Limits.{is_within_limits, keeps_limits, parts_keep_limits, components_keep_limits, nesting, nesting_inside, deepest};
+ghost use Rattle.guard_tagcheck.specs.Distinct.{Distinct, IsClash, AbstractClash};
+ghost use Rattle.guard_tagcheck.specs.Search.{first_clash, clash_of_kind, inside, clash_inside, first_pair, partner, is_passed, is_mandatory, or_else, here};
+ghost use Rattle.guard_tagcheck.specs.Views.{clash_view};
+
+use crate::clash::Clash;
+use crate::tags::share_tag;
+use guard_model::{Comp, Kind, Path, Presence, Step, Ty};
+
+/// Whether all tags that must differ do, in the type and in each type inside it: in a SEQUENCE those of an OPTIONAL or
+/// DEFAULT component and of each later one up to and with the next mandatory one (X.680 25.6), in a SET (27.3) and a CHOICE
+/// (29.3) those of all. An untagged CHOICE counts with the tags of all its alternatives. Types inside constraints and
+/// defaults don't count.
+///
+/// Where some don't differ: the clash that comes first, a type before its parts and the parts in written order, and in that
+/// type the least pair of positions.
+pub fn check(ty: &Ty) -> Result<(), Clash>
+    requires { IsTrue (is_within_limits (type_view ty.now)) }
+    // Ok says that they all differ.
+    ensures distinct { IfOk result (λ x. Distinct (type_view ty.now)) }
+    // Where they all differ it is Ok.
+    ensures accepted { Distinct (type_view ty.now) → IsOk result }
+    // A clash that is answered is the type's.
+    ensures clash { IfErr result (λ c. IsClash (type_view ty.now) (clash_view c)) }
+    // The type's clash is answered.
+    ensures only { (c : AbstractClash) → IsClash (type_view ty.now) c → Gives (λ x. x) (λ e. Some (clash_view e)) result (Err c) }
+{
+    match first_clash(ty) {
+        Some(clash) => Err(clash),
+        None => Ok(()),
+    }
+}
+
+#[cycle(search)]
+fn first_clash(ty: &Ty) -> Option<Clash>
+    requires limits { IsTrue (keeps_limits (type_view ty.now)) }
+    requires depth { nesting (type_view ty.now) ≤ 32 }
+    ensures { option_map clash_view result ≡ first_clash (type_view ty.now) }
+{
+    match &ty.kind {
+        Kind::Sequence(comps) => clash_among(comps, true),
+        Kind::Set(comps) => clash_among(comps, false),
+        Kind::Choice(comps) => clash_among(comps, false),
+        Kind::SequenceOf(element) => clash_of_elements(element),
+        Kind::SetOf(element) => clash_of_elements(element),
+        Kind::Bool => None,
+        Kind::Int(_) => None,
+        Kind::Bits => None,
+        Kind::Octets => None,
+        Kind::Null => None,
+        Kind::Oid => None,
+        Kind::Enumerated(_) => None,
+        Kind::Chars(_) => None,
+    }
+}
+
+#[cycle(search)]
+fn clash_of_elements(element: &Ty) -> Option<Clash>
+    requires limits { IsTrue (keeps_limits (type_view element.now)) }
+    requires depth { nesting (type_view element.now) ≤ 31 }
+    ensures { option_map clash_view result ≡ inside (Element 0) (first_clash (type_view element.now)) }
+{
+    let clash = first_clash(element)?;
+    Some(clash.below(Step::Element(0)))
+}
+
+/// The clash of a SEQUENCE, SET or CHOICE: between its components, or in the first of them that has one.
+#[cycle(search)]
+fn clash_among(comps: &[Comp], in_sequence: bool) -> Option<Clash>
+    requires limits { IsTrue (components_keep_limits (components_of (map component_view comps.now))) }
+    requires few { length comps.now ≤ 64 }
+    requires depth { deepest (components_of (map component_view comps.now)) ≤ 31 }
+    ensures { option_map clash_view result ≡ or_else (here (first_pair in_sequence 0 (components_of (map component_view comps.now)))) (clash_inside 0 (components_of (map component_view comps.now))) }
+{
+    match first_pair(comps, in_sequence) {
+        Some((first, second)) => Some(Clash {
+            path: Path::new(),
+            first,
+            second,
+        }),
+        None => clash_inside(comps),
+    }
+}
+
+#[cycle(search)]
+fn clash_inside(comps: &[Comp]) -> Option<Clash>
+    requires limits { IsTrue (components_keep_limits (components_of (map component_view comps.now))) }
+    requires few { length comps.now ≤ 64 }
+    requires depth { deepest (components_of (map component_view comps.now)) ≤ 31 }
+    ensures { option_map clash_view result ≡ clash_inside 0 (components_of (map component_view comps.now)) }
+{
+    for (index, comp) in comps.iter().enumerate() {
+        if let Some(clash) = first_clash(&comp.ty) {
+            return Some(clash.below(Step::Component(index as u8)));
+        }
+    }
+    None
+}
+
+/// The least pair of positions whose components must differ in their tags and share one.
+fn first_pair(comps: &[Comp], in_sequence: bool) -> Option<(u8, u8)>
+    requires { length comps.now ≤ 64 }
+    ensures { result ≡ first_pair in_sequence 0 (components_of (map component_view comps.now)) }
+{
+    for (index, comp) in comps.iter().enumerate() {
+        if is_passed(&comp.presence, in_sequence) {
+            if let Some(second) = partner(comps, index, &comp.ty, in_sequence) {
+                return Some((index as u8, second));
+            }
+        }
+    }
+    None
+}
+
+/// The position of the first component behind this one that shares a tag with its type. In a SEQUENCE the next mandatory
+/// component is the last that counts.
+fn partner(comps: &[Comp], index: usize, ty: &Ty, in_sequence: bool) -> Option<u8>
+    requires there { index < length comps.now }
+    requires few { length comps.now ≤ 64 }
+    ensures { result ≡ partner in_sequence (type_view ty.now) (suc index) (components_of (map component_view (drop (suc index) comps.now))) }
+{
+    for later in index + 1..comps.len() {
+        let comp = &comps[later];
+        if share_tag(ty, &comp.ty) {
+            return Some(later as u8);
+        }
+        if !is_passed(&comp.presence, in_sequence) {
+            return None;
+        }
+    }
+    None
+}
+
+/// Whether a later component may come next behind one with this presence: in a SEQUENCE only where it may be left out.
+fn is_passed(presence: &Presence, in_sequence: bool) -> bool
+    ensures { result ≡ is_passed in_sequence (presence_view presence.now) }
+{
+    if !in_sequence {
+        return true;
+    }
+    match presence {
+        Presence::Mandatory => false,
+        Presence::Optional => true,
+        Presence::Pending => true,
+        Presence::Default(_) => true,
+    }
+}

@@ -42,7 +42,7 @@ perhaps_value_view None = None
 perhaps_value_view (Some v) = Some (value_view v)
 
 abbrev pub assignment_view : Assignment → WrittenAssignment
-assignment_view a = record { site = a.site; name = a.name.now; ty = type_view a.ty; value = perhaps_value_view a.value }
+assignment_view a = record { site = a.site; name = a.name.now; ty = type_view a.ty.value; value = perhaps_value_view a.value }
 
 abbrev pub module_view : Module → WrittenModule
 module_view m = record { site = m.site; name = m.name.now; identifier = map identifier_part_view m.identifier.items; tag_default = m.tag_default; exports = perhaps_exports_view m.exports; imports = imports_view m.imports; assignments = map assignment_view m.assignments.items }

@@ -47,13 +47,13 @@ element_form_step (ElementForm-F.WithComponents partial ps) = with_components pa
 
 abbrev pub set_form_step : SetForm-F WrittenElementForm WrittenSetForm WrittenPart WrittenConstraint WrittenDifference WrittenElement WrittenIntersection WrittenJoinedDifference WrittenJoinedIntersection WrittenSet → WrittenSetForm
 set_form_step (SetForm-F.AllExcept e) = all_except e
-set_form_step (SetForm-F.Union i others) = union i (united_of others.items)
+set_form_step (SetForm-F.Union i others) = union i.value (united_of others.items)
 
 abbrev pub part_step : ComponentConsTree-F WrittenElementForm WrittenSetForm WrittenPart WrittenConstraint WrittenDifference WrittenElement WrittenIntersection WrittenJoinedDifference WrittenJoinedIntersection WrittenSet → WrittenPart
 part_step p = record { site = p.site; name = p.name.now; constraint = p.cons; presence = p.presence }
 
 abbrev pub constraint_step : ConsTree-F WrittenElementForm WrittenSetForm WrittenPart WrittenConstraint WrittenDifference WrittenElement WrittenIntersection WrittenJoinedDifference WrittenJoinedIntersection WrittenSet → WrittenConstraint
-constraint_step c = constraint c.site c.set
+constraint_step c = constraint c.site c.set.value
 
 abbrev pub difference_step : DifferenceTree-F WrittenElementForm WrittenSetForm WrittenPart WrittenConstraint WrittenDifference WrittenElement WrittenIntersection WrittenJoinedDifference WrittenJoinedIntersection WrittenSet → WrittenDifference
 difference_step d = difference_of d.site d.element d.except
@@ -62,13 +62,13 @@ abbrev pub element_step : ElementTree-F WrittenElementForm WrittenSetForm Writte
 element_step e = element_node e.site e.form
 
 abbrev pub intersection_step : IntersectionTree-F WrittenElementForm WrittenSetForm WrittenPart WrittenConstraint WrittenDifference WrittenElement WrittenIntersection WrittenJoinedDifference WrittenJoinedIntersection WrittenSet → WrittenIntersection
-intersection_step i = intersection i.site i.first (met_of i.others.items)
+intersection_step i = intersection i.site i.first.value (met_of i.others.items)
 
 abbrev pub joined_difference_step : JoinedDifference-F WrittenElementForm WrittenSetForm WrittenPart WrittenConstraint WrittenDifference WrittenElement WrittenIntersection WrittenJoinedDifference WrittenJoinedIntersection WrittenSet → WrittenJoinedDifference
-joined_difference_step j = record { mark = j.mark; joined = j.part }
+joined_difference_step j = record { mark = j.mark; joined = j.part.value }
 
 abbrev pub joined_intersection_step : JoinedIntersection-F WrittenElementForm WrittenSetForm WrittenPart WrittenConstraint WrittenDifference WrittenElement WrittenIntersection WrittenJoinedDifference WrittenJoinedIntersection WrittenSet → WrittenJoinedIntersection
-joined_intersection_step j = record { mark = j.mark; joined = j.part }
+joined_intersection_step j = record { mark = j.mark; joined = j.part.value }
 
 abbrev pub set_step : SetTree-F WrittenElementForm WrittenSetForm WrittenPart WrittenConstraint WrittenDifference WrittenElement WrittenIntersection WrittenJoinedDifference WrittenJoinedIntersection WrittenSet → WrittenSet
 set_step s = set_node s.site s.form

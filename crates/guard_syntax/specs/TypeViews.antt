@@ -33,7 +33,7 @@ item_view i = record { site = i.site; name = i.name.now; number = item_number_vi
 
 abbrev pub of_constraint_view : Option OfConsTree → Option WrittenOfConstraint
 of_constraint_view None = None
-of_constraint_view (Some c) = Some (record { site = c.site; size = c.size; constraint = constraint_view c.cons })
+of_constraint_view (Some c) = Some (record { site = c.site; size = c.size; constraint = constraint_view c.cons.value })
 
 abbrev pub presence_view : PresenceTree → WrittenPresence
 presence_view presence.Mandatory = mandatory
@@ -51,11 +51,11 @@ base_step (BaseTree-F.Of k c ty) = of_type k (of_constraint_view c) ty.value
 base_step (BaseTree-F.Reference name) = named_type name.now
 
 abbrev pub component_form_step : CompForm-F WrittenBase WrittenComponentForm WrittenAlternative WrittenComponent WrittenType → WrittenComponentForm
-component_form_step (CompForm-F.Named name ty p) = named name.now ty (presence_view p)
-component_form_step (CompForm-F.ComponentsOf ty) = components_of_type ty
+component_form_step (CompForm-F.Named name ty p) = named name.now ty.value (presence_view p)
+component_form_step (CompForm-F.ComponentsOf ty) = components_of_type ty.value
 
 abbrev pub alternative_step : AlternativeTree-F WrittenBase WrittenComponentForm WrittenAlternative WrittenComponent WrittenType → WrittenAlternative
-alternative_step a = record { site = a.site; name = a.name.now; ty = a.ty }
+alternative_step a = record { site = a.site; name = a.name.now; ty = a.ty.value }
 
 abbrev pub component_step : CompTree-F WrittenBase WrittenComponentForm WrittenAlternative WrittenComponent WrittenType → WrittenComponent
 component_step c = record { site = c.site; form = c.form }

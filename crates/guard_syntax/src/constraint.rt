@@ -66,8 +66,8 @@ fn set<'a, 't>(
     levels: u8,
     text: &'a [u8],
     tokens: &'t [Token],
-) -> Result<(SetTree<'a>, &'t [Token]), Halt>
-    ensures { Gives (λ x. (set_view x.0, placed_of text.now x.1.now)) stop_of result (reading.read_set levels (placed_of text.now tokens.now)) }
+) -> Result<(Box<SetTree<'a>>, &'t [Token]), Halt>
+    ensures { Gives (λ x. (set_view x.0.value, placed_of text.now x.1.now)) stop_of result (reading.read_set levels (placed_of text.now tokens.now)) }
 {
     if levels == 0 {
         return Err(too_deep(begins_set(text, tokens), tokens));
@@ -82,12 +82,12 @@ fn inner_set<'a, 't>(
     levels: u8,
     text: &'a [u8],
     tokens: &'t [Token],
-) -> Result<(SetTree<'a>, &'t [Token]), Halt>
-    ensures { Gives (λ x. (set_view x.0, placed_of text.now x.1.now)) stop_of result (read_inner_set (read_value levels) (reading.read_set levels) (placed_of text.now tokens.now)) }
+) -> Result<(Box<SetTree<'a>>, &'t [Token]), Halt>
+    ensures { Gives (λ x. (set_view x.0.value, placed_of text.now x.1.now)) stop_of result (read_inner_set (read_value levels) (reading.read_set levels) (placed_of text.now tokens.now)) }
 {
     let (form, rest) = set_form(alloc, levels, text, tokens)?;
     let site = site_at(text, tokens);
-    Ok((SetTree { site, form }, rest))
+    Ok((Box::new(alloc, SetTree { site, form })?, rest))
 }
 
 #[cycle(sets)]
@@ -185,20 +185,18 @@ fn intersection<'a, 't>(
     levels: u8,
     text: &'a [u8],
     tokens: &'t [Token],
-) -> Result<(IntersectionTree<'a>, &'t [Token]), Halt>
-    ensures { Gives (λ x. (intersection_view x.0, placed_of text.now x.1.now)) stop_of result (reading.read_intersection (read_value levels) (reading.read_set levels) (placed_of text.now tokens.now)) }
+) -> Result<(Box<IntersectionTree<'a>>, &'t [Token]), Halt>
+    ensures { Gives (λ x. (intersection_view x.0.value, placed_of text.now x.1.now)) stop_of result (reading.read_intersection (read_value levels) (reading.read_set levels) (placed_of text.now tokens.now)) }
 {
     let (first, rest) = difference(alloc, levels, text, tokens)?;
     let (others, rest) = joined_differences(alloc, levels, text, rest)?;
     let site = site_at(text, tokens);
-    Ok((
-        IntersectionTree {
-            site,
-            first,
-            others,
-        },
-        rest,
-    ))
+    let tree = IntersectionTree {
+        site,
+        first,
+        others,
+    };
+    Ok((Box::new(alloc, tree)?, rest))
 }
 
 /// The further differences of an intersection. Each takes a token, so there are no more than tokens.
@@ -253,20 +251,18 @@ fn difference<'a, 't>(
     levels: u8,
     text: &'a [u8],
     tokens: &'t [Token],
-) -> Result<(DifferenceTree<'a>, &'t [Token]), Halt>
-    ensures { Gives (λ x. (difference_view x.0, placed_of text.now x.1.now)) stop_of result (reading.read_difference (read_value levels) (reading.read_set levels) (placed_of text.now tokens.now)) }
+) -> Result<(Box<DifferenceTree<'a>>, &'t [Token]), Halt>
+    ensures { Gives (λ x. (difference_view x.0.value, placed_of text.now x.1.now)) stop_of result (reading.read_difference (read_value levels) (reading.read_set levels) (placed_of text.now tokens.now)) }
 {
     let (element, rest) = element(alloc, levels, text, tokens)?;
     let (except, rest) = except(alloc, levels, text, rest)?;
     let site = site_at(text, tokens);
-    Ok((
-        DifferenceTree {
-            site,
-            element,
-            except,
-        },
-        rest,
-    ))
+    let tree = DifferenceTree {
+        site,
+        element,
+        except,
+    };
+    Ok((Box::new(alloc, tree)?, rest))
 }
 
 #[cycle(sets)]
@@ -375,7 +371,7 @@ fn parentheses<'a, 't>(
     let rest = token_of_kind(TokenKind::Mark(Mark::LeftParenthesis), text, tokens)?;
     let (inside, rest) = set(alloc, levels, text, rest)?;
     let rest = token_of_kind(TokenKind::Mark(Mark::RightParenthesis), text, rest)?;
-    Ok((ElementForm::Parentheses(Box::new(alloc, inside)?), rest))
+    Ok((ElementForm::Parentheses(inside), rest))
 }
 
 /// WITH COMPONENT or WITH COMPONENTS.

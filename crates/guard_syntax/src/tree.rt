@@ -2,7 +2,7 @@
 use guard_model::Site;
 
 /// A module (X.680 13.1).
-#[derive(Debug, Drop)]
+#[derive(Drop)]
 pub struct Module<'a> {
     pub site: Site,
     pub name: &'a [u8],
@@ -27,7 +27,7 @@ pub enum TagDefault {
 }
 
 /// A part of an object identifier behind a module's name (X.680 32.3).
-#[derive(Clone, Copy, Debug)]
+#[derive(Clone, Copy)]
 pub enum PartTree<'a> {
     /// A bare name.
     Name(&'a [u8]),
@@ -35,7 +35,7 @@ pub enum PartTree<'a> {
 }
 
 /// A number, or a name with a number in parentheses, in an object identifier (X.680 32.3).
-#[derive(Clone, Copy, Debug)]
+#[derive(Clone, Copy)]
 pub struct ArcTree<'a> {
     pub site: Site,
     pub name: Option<&'a [u8]>,
@@ -43,7 +43,7 @@ pub struct ArcTree<'a> {
 }
 
 /// What is exported (X.680 13.1).
-#[derive(Debug, Drop)]
+#[derive(Drop)]
 pub enum ExportsTree<'a> {
     /// EXPORTS ALL: everything.
     All,
@@ -52,7 +52,7 @@ pub enum ExportsTree<'a> {
 }
 
 /// A name in a list of exports or imports (X.680 13.1).
-#[derive(Clone, Copy, Debug)]
+#[derive(Clone, Copy)]
 pub struct SymbolTree<'a> {
     pub site: Site,
     pub kind: SymbolKind,
@@ -69,7 +69,7 @@ pub enum SymbolKind {
 }
 
 /// The names that are imported from one module (X.680 13.1). Its site is that of the first name.
-#[derive(Debug, Drop)]
+#[derive(Drop)]
 pub struct ImportTree<'a> {
     pub site: Site,
     /// In written order.
@@ -81,25 +81,25 @@ pub struct ImportTree<'a> {
 }
 
 /// A name, and where it stands.
-#[derive(Clone, Copy, Debug)]
+#[derive(Clone, Copy)]
 pub struct NameTree<'a> {
     pub site: Site,
     pub name: &'a [u8],
 }
 
 /// A type assignment (X.680 16.1), or a value assignment (X.680 16.2).
-#[derive(Debug, Drop)]
+#[derive(Drop)]
 pub struct Assignment<'a> {
     pub site: Site,
     pub name: &'a [u8],
     /// The type, or the type of the value.
-    pub ty: TypeTree<'a>,
+    pub ty: Box<TypeTree<'a>>,
     /// The value of a value assignment. A type assignment has none.
     pub value: Option<ValueTree<'a>>,
 }
 
 /// A type (X.680 17.1).
-#[derive(Debug, Drop)]
+#[derive(Drop)]
 #[cycle(trees)]
 pub struct TypeTree<'a> {
     pub site: Site,
@@ -111,7 +111,7 @@ pub struct TypeTree<'a> {
 }
 
 /// A tag (X.680 31.2). Its site is that of the bracket.
-#[derive(Clone, Copy, Debug)]
+#[derive(Clone, Copy)]
 pub struct TagTree<'a> {
     pub site: Site,
     /// The word before the number. Where nothing is written the tag is context-specific.
@@ -136,7 +136,7 @@ pub enum TagMode {
 }
 
 /// A type without its tags and the constraints behind it.
-#[derive(Debug, Drop)]
+#[derive(Drop)]
 #[cycle(trees)]
 pub enum BaseTree<'a> {
     /// A type that is written with words alone.
@@ -178,16 +178,16 @@ pub enum Collection {
 }
 
 /// The constraint before OF. Its site is that of its first token, which is SIZE where that word is written.
-#[derive(Debug, Drop)]
+#[derive(Drop)]
 pub struct OfConsTree<'a> {
     pub site: Site,
     /// Whether it is written as SIZE and a constraint without parentheses of their own round both.
     pub size: bool,
-    pub cons: ConsTree<'a>,
+    pub cons: Box<ConsTree<'a>>,
 }
 
 /// A named number (X.680 19.1).
-#[derive(Clone, Copy, Debug)]
+#[derive(Clone, Copy)]
 pub struct NamedTree<'a> {
     pub site: Site,
     pub name: &'a [u8],
@@ -195,7 +195,7 @@ pub struct NamedTree<'a> {
 }
 
 /// An item of an ENUMERATED, perhaps with its number (X.680 20.1).
-#[derive(Clone, Copy, Debug)]
+#[derive(Clone, Copy)]
 pub struct ItemTree<'a> {
     pub site: Site,
     pub name: &'a [u8],
@@ -203,7 +203,7 @@ pub struct ItemTree<'a> {
 }
 
 /// An entry in the component list of a SEQUENCE or SET (X.680 25.1).
-#[derive(Debug, Drop)]
+#[derive(Drop)]
 #[cycle(trees)]
 pub struct CompTree<'a> {
     pub site: Site,
@@ -211,17 +211,17 @@ pub struct CompTree<'a> {
 }
 
 /// What stands in a component list.
-#[derive(Debug, Drop)]
+#[derive(Drop)]
 #[cycle(trees)]
 pub enum CompForm<'a> {
     /// A component: its name, its type, and whether it may be left out.
-    Named(&'a [u8], TypeTree<'a>, PresenceTree<'a>),
+    Named(&'a [u8], Box<TypeTree<'a>>, PresenceTree<'a>),
     /// COMPONENTS OF this type.
-    ComponentsOf(TypeTree<'a>),
+    ComponentsOf(Box<TypeTree<'a>>),
 }
 
 /// What is written behind the type of a component (X.680 25.1).
-#[derive(Debug, Drop)]
+#[derive(Drop)]
 pub enum PresenceTree<'a> {
     /// Nothing.
     Mandatory,
@@ -230,24 +230,24 @@ pub enum PresenceTree<'a> {
 }
 
 /// An alternative of a CHOICE (X.680 29.1).
-#[derive(Debug, Drop)]
+#[derive(Drop)]
 #[cycle(trees)]
 pub struct AlternativeTree<'a> {
     pub site: Site,
     pub name: &'a [u8],
-    pub ty: TypeTree<'a>,
+    pub ty: Box<TypeTree<'a>>,
 }
 
 /// A constraint: a set of values in parentheses (X.680 49.6). Its site is that of the parenthesis.
-#[derive(Debug, Drop)]
+#[derive(Drop)]
 #[cycle(sets)]
 pub struct ConsTree<'a> {
     pub site: Site,
-    pub set: SetTree<'a>,
+    pub set: Box<SetTree<'a>>,
 }
 
 /// A set of values (X.680 50.1). Its site is that of its first token, a parenthesis that it begins with among them.
-#[derive(Debug, Drop)]
+#[derive(Drop)]
 #[cycle(sets)]
 pub struct SetTree<'a> {
     pub site: Site,
@@ -255,38 +255,38 @@ pub struct SetTree<'a> {
 }
 
 /// What a set of values is made of.
-#[derive(Debug, Drop)]
+#[derive(Drop)]
 #[cycle(sets)]
 pub enum SetForm<'a> {
     /// ALL EXCEPT this element.
     AllExcept(ElementTree<'a>),
     /// The first intersection and those joined to it. Where nothing is joined it is the intersection alone.
-    Union(IntersectionTree<'a>, Vec<JoinedIntersection<'a>>),
+    Union(Box<IntersectionTree<'a>>, Vec<JoinedIntersection<'a>>),
 }
 
 /// An intersection in a union with the mark before it.
-#[derive(Debug, Drop)]
+#[derive(Drop)]
 #[cycle(sets)]
 pub struct JoinedIntersection<'a> {
     pub mark: JoinMark,
-    pub part: IntersectionTree<'a>,
+    pub part: Box<IntersectionTree<'a>>,
 }
 
 /// An intersection (X.680 50.1): the first difference and those joined to it. Where nothing is joined it is the difference alone.
-#[derive(Debug, Drop)]
+#[derive(Drop)]
 #[cycle(sets)]
 pub struct IntersectionTree<'a> {
     pub site: Site,
-    pub first: DifferenceTree<'a>,
+    pub first: Box<DifferenceTree<'a>>,
     pub others: Vec<JoinedDifference<'a>>,
 }
 
 /// A difference in an intersection with the mark before it.
-#[derive(Debug, Drop)]
+#[derive(Drop)]
 #[cycle(sets)]
 pub struct JoinedDifference<'a> {
     pub mark: JoinMark,
-    pub part: DifferenceTree<'a>,
+    pub part: Box<DifferenceTree<'a>>,
 }
 
 /// How a union or an intersection is spelled (X.680 50.1).
@@ -299,7 +299,7 @@ pub enum JoinMark {
 }
 
 /// An element, perhaps EXCEPT another one (X.680 50.1).
-#[derive(Debug, Drop)]
+#[derive(Drop)]
 #[cycle(sets)]
 pub struct DifferenceTree<'a> {
     pub site: Site,
@@ -308,7 +308,7 @@ pub struct DifferenceTree<'a> {
 }
 
 /// An element of a set (X.680 50.1, 51.1). Its site is that of its first token.
-#[derive(Debug, Drop)]
+#[derive(Drop)]
 #[cycle(sets)]
 pub struct ElementTree<'a> {
     pub site: Site,
@@ -316,7 +316,7 @@ pub struct ElementTree<'a> {
 }
 
 /// What an element is.
-#[derive(Debug, Drop)]
+#[derive(Drop)]
 #[cycle(sets)]
 pub enum ElementForm<'a> {
     /// A set in parentheses. The inner set's site is that of its own first token.
@@ -338,7 +338,7 @@ pub enum ElementForm<'a> {
 }
 
 /// What WITH COMPONENTS says of one component or alternative (X.680 51.8.5).
-#[derive(Debug, Drop)]
+#[derive(Drop)]
 #[cycle(sets)]
 pub struct ComponentConsTree<'a> {
     pub site: Site,
@@ -356,7 +356,7 @@ pub enum PresenceWord {
 }
 
 /// A range of values (X.680 51.4).
-#[derive(Clone, Copy, Debug)]
+#[derive(Clone, Copy)]
 pub struct RangeTree<'a> {
     /// Where there is none, MIN is written.
     pub low: Option<EndTree<'a>>,
@@ -369,14 +369,14 @@ pub struct RangeTree<'a> {
 }
 
 /// An end of a range that is written as a value.
-#[derive(Clone, Copy, Debug)]
+#[derive(Clone, Copy)]
 pub struct EndTree<'a> {
     pub site: Site,
     pub form: EndForm<'a>,
 }
 
 /// What an end of a range is.
-#[derive(Clone, Copy, Debug)]
+#[derive(Clone, Copy)]
 pub enum EndForm<'a> {
     Integer(NumberTree<'a>),
     /// The name of a value.
@@ -386,7 +386,7 @@ pub enum EndForm<'a> {
 }
 
 /// A value (X.680 17.7).
-#[derive(Debug, Drop)]
+#[derive(Drop)]
 #[cycle(values)]
 pub struct ValueTree<'a> {
     pub site: Site,
@@ -394,7 +394,7 @@ pub struct ValueTree<'a> {
 }
 
 /// What a value is.
-#[derive(Debug, Drop)]
+#[derive(Drop)]
 #[cycle(values)]
 pub enum ValueForm<'a> {
     /// TRUE or FALSE.
@@ -425,7 +425,7 @@ pub enum StringKind {
 }
 
 /// An entry in braces: a value, perhaps with a name before it.
-#[derive(Debug, Drop)]
+#[derive(Drop)]
 #[cycle(values)]
 pub struct EntryTree<'a> {
     pub site: Site,
@@ -434,7 +434,7 @@ pub struct EntryTree<'a> {
 }
 
 /// An integer as it is written (X.680 19.9).
-#[derive(Clone, Copy, Debug)]
+#[derive(Clone, Copy)]
 pub struct NumberTree<'a> {
     pub site: Site,
     /// Whether a minus sign stands before the digits.

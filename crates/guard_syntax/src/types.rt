@@ -96,8 +96,8 @@ pub fn type_tree<'a, 't>(
     levels: u8,
     text: &'a [u8],
     tokens: &'t [Token],
-) -> Result<(TypeTree<'a>, &'t [Token]), Halt>
-    ensures { Gives (λ x. (type_view x.0, placed_of text.now x.1.now)) stop_of result (reading.read_type levels (placed_of text.now tokens.now)) }
+) -> Result<(Box<TypeTree<'a>>, &'t [Token]), Halt>
+    ensures { Gives (λ x. (type_view x.0.value, placed_of text.now x.1.now)) stop_of result (reading.read_type levels (placed_of text.now tokens.now)) }
 {
     if levels == 0 {
         return Err(type_too_deep(text, tokens));
@@ -120,22 +120,20 @@ fn inner_type<'a, 't>(
     levels: u8,
     text: &'a [u8],
     tokens: &'t [Token],
-) -> Result<(TypeTree<'a>, &'t [Token]), Halt>
-    ensures { Gives (λ x. (type_view x.0, placed_of text.now x.1.now)) stop_of result (reading.read_inner_type (read_value levels) (read_set levels) (reading.read_type levels) (placed_of text.now tokens.now)) }
+) -> Result<(Box<TypeTree<'a>>, &'t [Token]), Halt>
+    ensures { Gives (λ x. (type_view x.0.value, placed_of text.now x.1.now)) stop_of result (reading.read_inner_type (read_value levels) (read_set levels) (reading.read_type levels) (placed_of text.now tokens.now)) }
 {
     let (tags, rest) = tags(alloc, text, tokens)?;
     let (base, rest) = base(alloc, levels, text, rest)?;
     let (cons, rest) = constraints(alloc, levels, is_of(&base), text, rest)?;
     let site = site_at(text, tokens);
-    Ok((
-        TypeTree {
-            site,
-            tags,
-            base,
-            cons,
-        },
-        rest,
-    ))
+    let tree = TypeTree {
+        site,
+        tags,
+        base,
+        cons,
+    };
+    Ok((Box::new(alloc, tree)?, rest))
 }
 
 /// Whether constraints behind it belong to the type of its elements.
@@ -299,7 +297,7 @@ fn of_type<'a, 't>(
     let (before, rest) = of_constraint(alloc, levels, text, tokens)?;
     let rest = token_of_kind(TokenKind::Reserved(Reserved::Of), text, rest)?;
     let (element, rest) = type_tree(alloc, levels, text, rest)?;
-    Ok((BaseTree::Of(kind, before, Box::new(alloc, element)?), rest))
+    Ok((BaseTree::Of(kind, before, element), rest))
 }
 
 /// The constraint before OF.
@@ -318,6 +316,7 @@ fn of_constraint<'a, 't>(
     }
     let (cons, rest) = constraint(alloc, levels, text, behind_if(size, text, tokens))?;
     let site = site_at(text, tokens);
+    let cons = Box::new(alloc, cons)?;
     Ok((Some(OfConsTree { site, size, cons }), rest))
 }
 

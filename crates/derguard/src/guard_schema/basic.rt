@@ -3,14 +3,14 @@ use guard_model::Site;
 use guard_syntax::{Collection, NumberTree, PlainType};
 
 /// A module: its name, and its type assignments in written order.
-#[derive(Debug, Drop)]
+#[derive(Drop)]
 pub struct BasicModule<'a> {
     pub name: &'a [u8],
     pub assignments: Vec<BasicAssignment<'a>>,
 }
 
 /// A type assignment (X.680 16.1). Its site is that of its first token.
-#[derive(Debug, Drop)]
+#[derive(Drop)]
 pub struct BasicAssignment<'a> {
     pub site: Site,
     pub name: &'a [u8],
@@ -18,7 +18,7 @@ pub struct BasicAssignment<'a> {
 }
 
 /// A type. Its site is that of its first token.
-#[derive(Debug, Drop)]
+#[derive(Drop)]
 #[cycle(basics)]
 pub struct BasicType<'a> {
     pub site: Site,
@@ -26,7 +26,7 @@ pub struct BasicType<'a> {
 }
 
 /// A type without its site.
-#[derive(Debug, Drop)]
+#[derive(Drop)]
 #[cycle(basics)]
 pub enum BasicBase<'a> {
     /// BOOLEAN, BIT STRING, OCTET STRING, NULL, OBJECT IDENTIFIER or character strings.
@@ -42,7 +42,7 @@ pub enum BasicBase<'a> {
 }
 
 /// A component of a SEQUENCE or SET, or an alternative of a CHOICE. Its site is that of its first token.
-#[derive(Debug, Drop)]
+#[derive(Drop)]
 #[cycle(basics)]
 pub struct BasicComp<'a> {
     pub site: Site,
@@ -53,7 +53,7 @@ pub struct BasicComp<'a> {
 }
 
 /// A range between two integers that are both in (X.680 51.4). Its site is that of its first token.
-#[derive(Clone, Copy, Debug)]
+#[derive(Clone, Copy)]
 pub struct BasicRange<'a> {
     pub site: Site,
     pub low: NumberTree<'a>,

@@ -17,6 +17,3 @@ mod word;
 pub use fault::LexFault;
 pub use lexer::{LONGEST_TEXT, tokens};
 pub use token::{Mark, Reserved, Token, TokenKind};
-
-#[cfg(test)]
-mod tests;

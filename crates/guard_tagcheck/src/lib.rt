@@ -9,6 +9,3 @@ mod tags;
 pub use clash::Clash;
 pub use limits::is_within_limits;
 pub use search::check;
-
-#[cfg(test)]
-mod tests;

@@ -3,18 +3,11 @@ use Rattle.std.proofs.Common.{◌≡◌, ℕ, zero, suc, ◌-◌, ◌≤◌, ◌
 use Rattle.std.proofs.lemmas.Bool.{and_parts, and_from, cases_Bool, false≢true, cond-true, cond-false, eqb-true, ne_eqb}
 use Rattle.std.proofs.lemmas.Bool.Decides.{nat_tests}
 use Rattle.std.proofs.lemmas.List.{nil_from_length}
+use Rattle.std.proofs.lemmas.Option.{same_Some, none-some, cond_some}
+use Rattle.guard_model.proofs.Tests.{chosen}
 use Rattle.guard_lexer.specs.Octets.{is_quote, is_apostrophe, is_line_end, is_of_bits, is_of_hexadecimal, begins}
 use Rattle.guard_lexer.specs.Items.{opens, closes, begins_comment, ends_comment, is_block_rest, is_string_rest, is_digits_rest}
 use Rattle.guard_lexer.specs.Reading.{behind_block_comment, behind_string, behind_digits}
-
-some_left : (a b : List ℕ) → ◌≡◌ {A = Option (List ℕ)} (Some a) (Some b) → a ≡ b
-some_left a b e = cc
-
-none_left : (a : List ℕ) → ◌≡◌ {A = Option (List ℕ)} None (Some a) → ⊥
-none_left a e = cc
-
-abbrev left : List ℕ → Option (List ℕ)
-left octets = Some octets
 
 -- The front of the octets that passes the test, with what is left behind it.
 abbrev pub Splits : (List ℕ → Bool) → List ℕ → List ℕ → Type 0
@@ -22,39 +15,29 @@ Splits test octets rest = (body : List ℕ) × (octets ≡ body ++ rest) × (tes
 
 -- ---- block comments
 
-abbrev block_step : ℕ → ℕ → List ℕ → Bool
-block_step inner second octets = is_block_rest inner (second ∷ octets)
+-- what follows a closing: the end of the comment, or the rest of the one round it
+abbrev is_closed_rest : ℕ → List ℕ → Bool
+is_closed_rest inner octets = elim inner [ zero ↦ eqb (length octets) 0 | suc others ↦ is_block_rest others octets ]
+
+abbrev behind_closing : ℕ → List ℕ → Option (List ℕ)
+behind_closing inner octets = elim inner [ zero ↦ Some octets | suc others ↦ behind_block_comment others octets ]
+
+closing-append : (inner : ℕ) (octets behind : List ℕ) → ((n : ℕ) → is_block_rest n octets ≡ true → behind_block_comment n (octets ++ behind) ≡ Some behind)
+    → is_closed_rest inner octets ≡ true → behind_closing inner (octets ++ behind) ≡ Some behind
+closing-append zero octets behind others h = ap (λ (o : List ℕ). Some (o ++ behind)) (nil_from_length octets (eqb-true _ _ h))
+closing-append (suc n) octets behind others h = others n h
 
 pub block_comment-append : (inner : ℕ) (octets behind : List ℕ) → is_block_rest inner octets ≡ true → behind_block_comment inner (octets ++ behind) ≡ Some behind
 block_comment-append inner [] behind h = absurd (false≢true h)
 block_comment-append inner (a ∷ []) behind h = absurd (false≢true h)
-block_comment-append zero (a ∷ b ∷ os) behind h =
-    elim (cases_Bool (opens a b)) [
-      | inl deeper ↦
-          cond-true (opens a b) _ _ deeper ∙ block_comment-append 1 os behind (sym (cond-true (opens a b) (is_block_rest 1 os) _ deeper) ∙ h)
-      | inr shut ↦
-          let h2 = sym (cond-false (opens a b) (is_block_rest 1 os) _ shut) ∙ h in
+block_comment-append inner (a ∷ b ∷ os) behind h =
+    elim (chosen (opens a b) _ _ true h) [
+      | inl (deeper, more) ↦ cond-true (opens a b) _ _ deeper ∙ block_comment-append (suc inner) os behind more
+      | inr (shut, more) ↦
           cond-false (opens a b) _ _ shut
-          ∙ elim (cases_Bool (closes a b)) [
-            | inl ends ↦
-                let none = nil_from_length os (eqb-true _ _ (sym (cond-true (closes a b) _ (is_block_rest 0 (b ∷ os)) ends) ∙ h2)) in
-                cond-true (closes a b) _ _ ends ∙ ap (λ (o : List ℕ). left (o ++ behind)) none
-            | inr other ↦
-                cond-false (closes a b) _ _ other ∙ block_comment-append zero (b ∷ os) behind (sym (cond-false (closes a b) _ (is_block_rest 0 (b ∷ os)) other) ∙ h2)
-          ]
-    ]
-block_comment-append (suc n) (a ∷ b ∷ os) behind h =
-    elim (cases_Bool (opens a b)) [
-      | inl deeper ↦
-          cond-true (opens a b) _ _ deeper ∙ block_comment-append (suc (suc n)) os behind (sym (cond-true (opens a b) (is_block_rest (suc (suc n)) os) _ deeper) ∙ h)
-      | inr shut ↦
-          let h2 = sym (cond-false (opens a b) (is_block_rest (suc (suc n)) os) _ shut) ∙ h in
-          cond-false (opens a b) _ _ shut
-          ∙ elim (cases_Bool (closes a b)) [
-            | inl ends ↦
-                cond-true (closes a b) _ _ ends ∙ block_comment-append n os behind (sym (cond-true (closes a b) _ (is_block_rest (suc n) (b ∷ os)) ends) ∙ h2)
-            | inr other ↦
-                cond-false (closes a b) _ _ other ∙ block_comment-append (suc n) (b ∷ os) behind (sym (cond-false (closes a b) _ (is_block_rest (suc n) (b ∷ os)) other) ∙ h2)
+          ∙ elim (chosen (closes a b) _ _ true more) [
+            | inl (ends, last) ↦ cond-true (closes a b) _ _ ends ∙ closing-append inner os behind (λ n. block_comment-append n os behind) last
+            | inr (other, last) ↦ cond-false (closes a b) _ _ other ∙ block_comment-append inner (b ∷ os) behind last
           ]
     ]
 
@@ -93,39 +76,27 @@ block_comment-cons inner a b (c ∷ body) os rest shut other e h =
     let same : b ≡ c = cc in
     cond-false (opens a c) _ _ (sym (ap (opens a) same) ∙ shut) ∙ cond-false (closes a c) _ _ (sym (ap (closes a) same) ∙ other) ∙ h
 
+closing-Some : (inner : ℕ) (octets rest : List ℕ) → ((n : ℕ) → behind_block_comment n octets ≡ Some rest → Splits (is_block_rest n) octets rest)
+    → behind_closing inner octets ≡ Some rest → Splits (is_closed_rest inner) octets rest
+closing-Some zero octets rest others e = ([], same_Some octets rest e, refl)
+closing-Some (suc n) octets rest others e = others n e
+
 pub block_comment-Some : (inner : ℕ) (octets rest : List ℕ) → behind_block_comment inner octets ≡ Some rest → Splits (is_block_rest inner) octets rest
-block_comment-Some inner [] rest e = absurd (none_left rest e)
-block_comment-Some inner (a ∷ []) rest e = absurd (none_left rest e)
-block_comment-Some zero (a ∷ b ∷ os) rest e =
-    elim (cases_Bool (opens a b)) [
-      | inl deeper ↦
-          let r = block_comment-Some 1 os rest (sym (cond-true (opens a b) (behind_block_comment 1 os) _ deeper) ∙ e) in
-          (a ∷ b ∷ r.0, ap (λ (x : List ℕ). a ∷ b ∷ x) r.1, cond-true (opens a b) (is_block_rest 1 r.0) _ deeper ∙ r.2)
-      | inr shut ↦
-          let e2 = sym (cond-false (opens a b) (behind_block_comment 1 os) _ shut) ∙ e in
-          elim (cases_Bool (closes a b)) [
-            | inl ends ↦
-                let same : os ≡ rest = some_left os rest (sym (cond-true (closes a b) (Some os) (behind_block_comment 0 (b ∷ os)) ends) ∙ e2) in
-                (a ∷ b ∷ [], ap (λ (x : List ℕ). a ∷ b ∷ x) same, cond-false (opens a b) _ _ shut ∙ cond-true (closes a b) _ _ ends)
-            | inr other ↦
-                let r = block_comment-Some zero (b ∷ os) rest (sym (cond-false (closes a b) (Some os) (behind_block_comment 0 (b ∷ os)) other) ∙ e2) in
-                (a ∷ r.0, ap (λ (x : List ℕ). a ∷ x) r.1, block_comment-cons zero a b r.0 os rest shut other r.1 r.2)
-          ]
-    ]
-block_comment-Some (suc n) (a ∷ b ∷ os) rest e =
-    elim (cases_Bool (opens a b)) [
-      | inl deeper ↦
-          let r = block_comment-Some (suc (suc n)) os rest (sym (cond-true (opens a b) (behind_block_comment (suc (suc n)) os) _ deeper) ∙ e) in
-          (a ∷ b ∷ r.0, ap (λ (x : List ℕ). a ∷ b ∷ x) r.1, cond-true (opens a b) (is_block_rest (suc (suc n)) r.0) _ deeper ∙ r.2)
-      | inr shut ↦
-          let e2 = sym (cond-false (opens a b) (behind_block_comment (suc (suc n)) os) _ shut) ∙ e in
-          elim (cases_Bool (closes a b)) [
-            | inl ends ↦
-                let r = block_comment-Some n os rest (sym (cond-true (closes a b) (behind_block_comment n os) (behind_block_comment (suc n) (b ∷ os)) ends) ∙ e2) in
+block_comment-Some inner [] rest e = absurd (none-some rest e)
+block_comment-Some inner (a ∷ []) rest e = absurd (none-some rest e)
+block_comment-Some inner (a ∷ b ∷ os) rest e =
+    elim (chosen (opens a b) _ _ (Some rest) e) [
+      | inl (deeper, more) ↦
+          let r = block_comment-Some (suc inner) os rest more in
+          (a ∷ b ∷ r.0, ap (λ (x : List ℕ). a ∷ b ∷ x) r.1, cond-true (opens a b) (is_block_rest (suc inner) r.0) _ deeper ∙ r.2)
+      | inr (shut, more) ↦
+          elim (chosen (closes a b) _ _ (Some rest) more) [
+            | inl (ends, last) ↦
+                let r = closing-Some inner os rest (λ n. block_comment-Some n os rest) last in
                 (a ∷ b ∷ r.0, ap (λ (x : List ℕ). a ∷ b ∷ x) r.1, cond-false (opens a b) _ _ shut ∙ cond-true (closes a b) _ _ ends ∙ r.2)
-            | inr other ↦
-                let r = block_comment-Some (suc n) (b ∷ os) rest (sym (cond-false (closes a b) (behind_block_comment n os) (behind_block_comment (suc n) (b ∷ os)) other) ∙ e2) in
-                (a ∷ r.0, ap (λ (x : List ℕ). a ∷ x) r.1, block_comment-cons (suc n) a b r.0 os rest shut other r.1 r.2)
+            | inr (other, last) ↦
+                let r = block_comment-Some inner (b ∷ os) rest last in
+                (a ∷ r.0, ap (λ (x : List ℕ). a ∷ x) r.1, block_comment-cons inner a b r.0 os rest shut other r.1 r.2)
           ]
     ]
 
@@ -142,17 +113,15 @@ pub string-append : (octets behind : List ℕ) → is_string_rest octets ≡ tru
 string-append [] behind h none = absurd (false≢true h)
 string-append (a ∷ []) behind h none = closing a behind h none
 string-append (a ∷ b ∷ os) behind h none =
-    elim (cases_Bool (is_line_end a)) [
-      | inl ends ↦ absurd (false≢true (sym (cond-true (is_line_end a) false _ ends) ∙ h))
-      | inr goes_on ↦
-          let h2 = sym (cond-false (is_line_end a) false _ goes_on) ∙ h in
+    elim (chosen (is_line_end a) _ _ true h) [
+      | inl (ends, wrong) ↦ absurd (false≢true wrong)
+      | inr (goes_on, more) ↦
           cond-false (is_line_end a) _ _ goes_on
-          ∙ elim (cases_Bool (is_quote a)) [
-            | inl quoted ↦
-                let p = and_parts (is_quote b) (is_string_rest os) (sym (cond-true (is_quote a) (is_quote b && is_string_rest os) (is_string_rest (b ∷ os)) quoted) ∙ h2) in
+          ∙ elim (chosen (is_quote a) _ _ true more) [
+            | inl (quoted, twice) ↦
+                let p = and_parts (is_quote b) (is_string_rest os) twice in
                 cond-true (is_quote a) _ _ quoted ∙ cond-true (is_quote b) _ _ p.0 ∙ string-append os behind p.1 none
-            | inr other ↦
-                cond-false (is_quote a) _ _ other ∙ string-append (b ∷ os) behind (sym (cond-false (is_quote a) (is_quote b && is_string_rest os) (is_string_rest (b ∷ os)) other) ∙ h2) none
+            | inr (other, last) ↦ cond-false (is_quote a) _ _ other ∙ string-append (b ∷ os) behind last none
           ]
     ]
 
@@ -165,32 +134,26 @@ abbrev pub SplitsString : List ℕ → List ℕ → Type 0
 SplitsString octets rest = (body : List ℕ) × (octets ≡ body ++ rest) × (is_string_rest body ≡ true) × (begins is_quote rest ≡ false)
 
 pub string-Some : (octets rest : List ℕ) → behind_string octets ≡ Some rest → SplitsString octets rest
-string-Some [] rest e = absurd (none_left rest e)
+string-Some [] rest e = absurd (none-some rest e)
 string-Some (a ∷ []) rest e =
-    elim (cases_Bool (is_quote a)) [
-      | inl quoted ↦
-          let none : [] ≡ rest = some_left [] rest (sym (cond-true (is_quote a) (left []) None quoted) ∙ e) in
-          (a ∷ [], ap (λ (x : List ℕ). a ∷ x) none, quoted, sym (ap (begins is_quote) none))
-      | inr other ↦ absurd (none_left rest (sym (cond-false (is_quote a) (left []) None other) ∙ e))
-    ]
+    let (quoted, none) = cond_some (is_quote a) [] rest e in
+    (a ∷ [], ap (λ (x : List ℕ). a ∷ x) none, quoted, sym (ap (begins is_quote) none))
 string-Some (a ∷ b ∷ os) rest e =
-    elim (cases_Bool (is_line_end a)) [
-      | inl ends ↦ absurd (none_left rest (sym (cond-true (is_line_end a) None _ ends) ∙ e))
-      | inr goes_on ↦
-          let e2 = sym (cond-false (is_line_end a) None _ goes_on) ∙ e in
-          elim (cases_Bool (is_quote a)) [
-            | inl quoted ↦
-                let e3 = sym (cond-true (is_quote a) (cond (is_quote b) (behind_string os) (Some (b ∷ os))) (behind_string (b ∷ os)) quoted) ∙ e2 in
-                elim (cases_Bool (is_quote b)) [
-                  | inl twice ↦
-                      let r = string-Some os rest (sym (cond-true (is_quote b) (behind_string os) (Some (b ∷ os)) twice) ∙ e3) in
+    elim (chosen (is_line_end a) _ _ (Some rest) e) [
+      | inl (ends, wrong) ↦ absurd (none-some rest wrong)
+      | inr (goes_on, more) ↦
+          elim (chosen (is_quote a) _ _ (Some rest) more) [
+            | inl (quoted, last) ↦
+                elim (chosen (is_quote b) _ _ (Some rest) last) [
+                  | inl (twice, behind) ↦
+                      let r = string-Some os rest behind in
                       (a ∷ b ∷ r.0, ap (λ (x : List ℕ). a ∷ b ∷ x) r.1, cond-false (is_line_end a) _ _ goes_on ∙ cond-true (is_quote a) _ _ quoted ∙ and_from _ _ twice r.2, r.3)
-                  | inr once ↦
-                      let same : b ∷ os ≡ rest = some_left (b ∷ os) rest (sym (cond-false (is_quote b) (behind_string os) (Some (b ∷ os)) once) ∙ e3) in
+                  | inr (once, here) ↦
+                      let same : b ∷ os ≡ rest = same_Some (b ∷ os) rest here in
                       (a ∷ [], ap (λ (x : List ℕ). a ∷ x) same, quoted, sym (ap (begins is_quote) same) ∙ once)
                 ]
-            | inr other ↦
-                let r = string-Some (b ∷ os) rest (sym (cond-false (is_quote a) (cond (is_quote b) (behind_string os) (Some (b ∷ os))) (behind_string (b ∷ os)) other) ∙ e2) in
+            | inr (other, last) ↦
+                let r = string-Some (b ∷ os) rest last in
                 (a ∷ r.0, ap (λ (x : List ℕ). a ∷ x) r.1, string-cons a r.0 goes_on other r.2, r.3)
           ]
     ]
@@ -200,18 +163,18 @@ string-Some (a ∷ b ∷ os) rest e =
 pub digits-append : (digit : ℕ → Bool) (letter : ℕ) (octets behind : List ℕ) → is_digits_rest digit letter octets ≡ true → behind_digits digit letter (octets ++ behind) ≡ Some behind
 digits-append digit letter [] behind h = absurd (false≢true h)
 digits-append digit letter (a ∷ []) behind h =
-    elim (cases_Bool (is_apostrophe a)) [
-      | inl closed ↦ absurd (false≢true (sym (cond-true (is_apostrophe a) false (digit a && false) closed) ∙ h))
-      | inr other ↦ absurd (false≢true (and_parts (digit a) false (sym (cond-false (is_apostrophe a) false (digit a && false) other) ∙ h)).1)
+    elim (chosen (is_apostrophe a) _ _ true h) [
+      | inl (closed, wrong) ↦ absurd (false≢true wrong)
+      | inr (other, wrong) ↦ absurd (false≢true (and_parts (digit a) false wrong).1)
     ]
 digits-append digit letter (a ∷ b ∷ os) behind h =
-    elim (cases_Bool (is_apostrophe a)) [
-      | inl closed ↦
-          let p = and_parts (eqb b letter) (eqb (suc (length os)) 1) (sym (cond-true (is_apostrophe a) (eqb b letter && eqb (suc (length os)) 1) (digit a && is_digits_rest digit letter (b ∷ os)) closed) ∙ h) in
+    elim (chosen (is_apostrophe a) _ _ true h) [
+      | inl (closed, last) ↦
+          let p = and_parts (eqb b letter) (eqb (suc (length os)) 1) last in
           let none = nil_from_length os (omega (arith, eqb-true _ _ p.1)) in
-          cond-true (is_apostrophe a) _ _ closed ∙ cond-true (eqb b letter) _ _ p.0 ∙ ap (λ (o : List ℕ). left (o ++ behind)) none
-      | inr other ↦
-          let p = and_parts (digit a) (is_digits_rest digit letter (b ∷ os)) (sym (cond-false (is_apostrophe a) (eqb b letter && eqb (suc (length os)) 1) (digit a && is_digits_rest digit letter (b ∷ os)) other) ∙ h) in
+          cond-true (is_apostrophe a) _ _ closed ∙ cond-true (eqb b letter) _ _ p.0 ∙ ap (λ (o : List ℕ). Some (o ++ behind)) none
+      | inr (other, more) ↦
+          let p = and_parts (digit a) (is_digits_rest digit letter (b ∷ os)) more in
           cond-false (is_apostrophe a) _ _ other ∙ cond-true (digit a) _ _ p.0 ∙ digits-append digit letter (b ∷ os) behind p.1
     ]
 
@@ -219,25 +182,19 @@ digits-cons : (digit : ℕ → Bool) (letter a : ℕ) (body : List ℕ) → is_a
 digits-cons digit letter a body other d h = cond-false (is_apostrophe a) _ _ other ∙ and_from _ _ d h
 
 pub digits-Some : (digit : ℕ → Bool) (letter : ℕ) (octets rest : List ℕ) → behind_digits digit letter octets ≡ Some rest → Splits (is_digits_rest digit letter) octets rest
-digits-Some digit letter [] rest e = absurd (none_left rest e)
-digits-Some digit letter (a ∷ []) rest e = absurd (none_left rest e)
+digits-Some digit letter [] rest e = absurd (none-some rest e)
+digits-Some digit letter (a ∷ []) rest e = absurd (none-some rest e)
 digits-Some digit letter (a ∷ b ∷ os) rest e =
-    elim (cases_Bool (is_apostrophe a)) [
-      | inl closed ↦
-          let e2 = sym (cond-true (is_apostrophe a) (cond (eqb b letter) (Some os) None) _ closed) ∙ e in
-          elim (cases_Bool (eqb b letter)) [
-            | inl last ↦
-                let same : os ≡ rest = some_left os rest (sym (cond-true (eqb b letter) (Some os) None last) ∙ e2) in
-                (a ∷ b ∷ [], ap (λ (x : List ℕ). a ∷ b ∷ x) same, cond-true (is_apostrophe a) _ _ closed ∙ and_from _ _ last refl)
-            | inr wrong ↦ absurd (none_left rest (sym (cond-false (eqb b letter) (Some os) None wrong) ∙ e2))
-          ]
-      | inr other ↦
-          let e2 = sym (cond-false (is_apostrophe a) (cond (eqb b letter) (Some os) None) _ other) ∙ e in
-          elim (cases_Bool (digit a)) [
-            | inl d ↦
-                let r = digits-Some digit letter (b ∷ os) rest (sym (cond-true (digit a) (behind_digits digit letter (b ∷ os)) None d) ∙ e2) in
-                (a ∷ r.0, ap (λ (x : List ℕ). a ∷ x) r.1, digits-cons digit letter a r.0 other d r.2)
-            | inr none ↦ absurd (none_left rest (sym (cond-false (digit a) (behind_digits digit letter (b ∷ os)) None none) ∙ e2))
+    elim (chosen (is_apostrophe a) _ _ (Some rest) e) [
+      | inl (closed, last) ↦
+          let (is_letter, same) = cond_some (eqb b letter) os rest last in
+          (a ∷ b ∷ [], ap (λ (x : List ℕ). a ∷ b ∷ x) same, cond-true (is_apostrophe a) _ _ closed ∙ and_from _ _ is_letter refl)
+      | inr (other, more) ↦
+          elim (chosen (digit a) _ _ (Some rest) more) [
+            | inl (is_digit, behind) ↦
+                let r = digits-Some digit letter (b ∷ os) rest behind in
+                (a ∷ r.0, ap (λ (x : List ℕ). a ∷ x) r.1, digits-cons digit letter a r.0 other is_digit r.2)
+            | inr (none, wrong) ↦ absurd (none-some rest wrong)
           ]
     ]
 
@@ -245,18 +202,17 @@ digits-Some digit letter (a ∷ b ∷ os) rest e =
 pub no_bits : (octets behind : List ℕ) → is_digits_rest is_of_hexadecimal 72 octets ≡ true → behind_digits is_of_bits 66 (octets ++ behind) ≡ None
 no_bits [] behind h = absurd (false≢true h)
 no_bits (a ∷ []) behind h =
-    elim (cases_Bool (is_apostrophe a)) [
-      | inl closed ↦ absurd (false≢true (sym (cond-true (is_apostrophe a) false (is_of_hexadecimal a && false) closed) ∙ h))
-      | inr other ↦ absurd (false≢true (and_parts (is_of_hexadecimal a) false (sym (cond-false (is_apostrophe a) false (is_of_hexadecimal a && false) other) ∙ h)).1)
+    elim (chosen (is_apostrophe a) _ _ true h) [
+      | inl (closed, wrong) ↦ absurd (false≢true wrong)
+      | inr (other, wrong) ↦ absurd (false≢true (and_parts (is_of_hexadecimal a) false wrong).1)
     ]
 no_bits (a ∷ b ∷ os) behind h =
-    elim (cases_Bool (is_apostrophe a)) [
-      | inl closed ↦
-          let p = and_parts (eqb b 72) (eqb (suc (length os)) 1) (sym (cond-true (is_apostrophe a) (eqb b 72 && eqb (suc (length os)) 1) (is_of_hexadecimal a && is_digits_rest is_of_hexadecimal 72 (b ∷ os)) closed) ∙ h) in
-          let b_is = eqb-true b 72 p.0 in
+    elim (chosen (is_apostrophe a) _ _ true h) [
+      | inl (closed, last) ↦
+          let b_is = eqb-true b 72 (and_parts (eqb b 72) (eqb (suc (length os)) 1) last).0 in
           cond-true (is_apostrophe a) _ _ closed ∙ cond-false (eqb b 66) _ _ (ne_eqb b 66 (λ e. omega arith))
-      | inr other ↦
-          let p = and_parts (is_of_hexadecimal a) (is_digits_rest is_of_hexadecimal 72 (b ∷ os)) (sym (cond-false (is_apostrophe a) (eqb b 72 && eqb (suc (length os)) 1) (is_of_hexadecimal a && is_digits_rest is_of_hexadecimal 72 (b ∷ os)) other) ∙ h) in
+      | inr (other, more) ↦
+          let p = and_parts (is_of_hexadecimal a) (is_digits_rest is_of_hexadecimal 72 (b ∷ os)) more in
           cond-false (is_apostrophe a) _ _ other
           ∙ elim (cases_Bool (is_of_bits a)) [
             | inl d ↦ cond-true (is_of_bits a) _ _ d ∙ no_bits (b ∷ os) behind p.1

@@ -5,6 +5,7 @@ use Rattle.std.specs.List.{list_all, prefix_len}
 use Rattle.std.proofs.lemmas.Bool.{and_parts, and_from, or_cases, or_left, or_right, cases_Bool, false≢true, cond_both, eqb-true, cases_lt, not-true}
 use Rattle.std.proofs.lemmas.List.{take-append-drop, take_at, drop_at, length-take, length-append}
 use Rattle.std.proofs.lemmas.List.Sums.{prefix_len-le-length}
+use Rattle.std.proofs.lemmas.Option.{same_Some, none-some}
 use Rattle.guard_lexer.specs.Octets.{is_letter, is_digit, is_hyphen, is_quote, is_apostrophe, is_slash, is_asterisk, is_of_bits, is_of_hexadecimal, is_white_space, begins}
 use Rattle.guard_lexer.specs.Items.{is_one_white_space, is_word, are_of_word, is_number, is_line_comment, is_line_comment_body, opens, is_block_rest, is_block_comment, is_string_rest, is_character_string, is_digits_rest, is_bit_string, is_hexadecimal_string, IsItem}
 use Rattle.guard_lexer.specs.Spelling.{mark_spelling}
@@ -263,15 +264,6 @@ is_found (c ∷ cs) =
 
 -- ---- the longest item is the one that is found
 
-abbrev some_item : FoundItem → Option FoundItem
-some_item p = Some p
-
-none_some : (p : FoundItem) → ◌≡◌ {A = Option FoundItem} None (Some p) → ⊥
-none_some p e = cc
-
-same_item : (p q : FoundItem) → some_item p ≡ some_item q → p ≡ q
-same_item p q e = cc
-
 pub longest : (text : List ℕ) (p : FoundItem) → item_at text ≡ Some p → IsLongest text (item_of text p) (drop p.len text)
 longest text p e =
     let f : IsFound text (Some p) = subst (IsFound text) e (is_found text) in
@@ -280,7 +272,7 @@ longest text p e =
       is_item = f.2;
       longest = λ other behind split is.
           let c = covers other.kind other.octets behind is in
-          let same : p ≡ found_item c.0 c.1 = same_item p (found_item c.0 c.1) (sym e ∙ ap item_at split ∙ c.2) in
+          let same : p ≡ found_item c.0 c.1 = same_Some p (found_item c.0 c.1) (sym e ∙ ap item_at split ∙ c.2) in
           let len : p.len ≡ c.1 = ap (λ (q : FoundItem). q.len) same in
           elim c.3 [
             | inl lt ↦ omega (arith, length-take p.len text, f.1)
@@ -289,7 +281,7 @@ longest text p e =
     }
 
 pub none_begins : (text : List ℕ) → item_at text ≡ None → BeginsNone text
-none_begins text e item behind split is = let c = covers item.kind item.octets behind is in absurd (none_some _ (sym e ∙ ap item_at split ∙ c.2))
+none_begins text e item behind split is = let c = covers item.kind item.octets behind is in absurd (none-some _ (sym e ∙ ap item_at split ∙ c.2))
 
 pub longest_found : (text : List ℕ) (item : Item) (left : List ℕ) → IsLongest text item left → item_at text ≡ Some (found_item item.kind (length item.octets))
 longest_found text item left l =
@@ -317,5 +309,5 @@ item-is text i j behind left e f kinds lengths =
 -- at most one item is the longest
 pub one_longest : (text : List ℕ) (i j : Item) (behind left : List ℕ) → IsLongest text i behind → IsLongest text j left → (i ≡ j) × (behind ≡ left)
 one_longest text i j behind left a b =
-    let same : found_item i.kind (length i.octets) ≡ found_item j.kind (length j.octets) = same_item _ _ (sym (longest_found text i behind a) ∙ longest_found text j left b) in
+    let same : found_item i.kind (length i.octets) ≡ found_item j.kind (length j.octets) = same_Some _ _ (sym (longest_found text i behind a) ∙ longest_found text j left b) in
     item-is text i j behind left a.split b.split (ap (λ (q : FoundItem). q.kind) same) (ap (λ (q : FoundItem). q.len) same)

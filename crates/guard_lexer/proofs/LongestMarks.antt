@@ -4,7 +4,9 @@ use Rattle.std.specs.Prelude.{bytes_eq, find}
 use Rattle.std.specs.List.{list_all, list_any}
 use Rattle.std.proofs.lemmas.Bool.{and_parts, or_cases, cases_Bool, false≢true, both_ways, cond-true, cond-false, leb-true}
 use Rattle.std.proofs.lemmas.List.{take_at}
+use Rattle.std.proofs.lemmas.Option.{same_Some, none-some}
 use Rattle.std.proofs.lemmas.Slice.Eq.{bytes_eq-Decides}
+use Rattle.guard_model.proofs.Tests.{chosen}
 use Rattle.guard_lexer.specs.Spelling.{mark_spelling, marks}
 use Rattle.guard_lexer.specs.Reading.{stands_at, mark_at}
 use Rattle.guard_lexer.specs.declared.token.Mark.{Mark}
@@ -133,15 +135,9 @@ mark-back mark.FullStop = refl
 mark-back mark.Exclamation = refl
 mark-back mark.CommercialAt = refl
 
-abbrev some_mark : Mark → Option Mark
-some_mark m = Some m
-
-some_is : (m n : Mark) → some_mark m ≡ some_mark n → m ≡ n
-some_is m n e = cc
-
 -- no two marks are spelled alike
 pub same_mark : (m n : Mark) → mark_spelling m ≡ mark_spelling n → m ≡ n
-same_mark m n e = some_is m n (sym (mark-back m) ∙ ap spelled_mark e ∙ mark-back n)
+same_mark m n e = same_Some m n (sym (mark-back m) ∙ ap spelled_mark e ∙ mark-back n)
 
 pub stands : (m : Mark) (behind : List ℕ) → stands_at (mark_spelling m ++ behind) m ≡ true
 stands m behind = (bytes_eq-Decides (mark_spelling m) (take (mark_len m) (mark_spelling m ++ behind))).1 (sym (take_at (mark_spelling m) behind (mark_len m) refl))
@@ -151,13 +147,13 @@ pub mark-found : (m : Mark) (behind : List ℕ) → (n : Mark) × (mark_at (mark
 mark-found m behind = found (mark_spelling m ++ behind) marks marks-descend m (mark-in m) (stands m behind)
 
 -- what is found stands there
-find-some : (test : Mark → Bool) (table : List Mark) (m : Mark) → find test table ≡ Some m → test m ≡ true
-find-some test [] m e = absurd cc
-find-some test (x ∷ xs) m e =
-    elim (cases_Bool (test x)) [
-      | inl h ↦ let same = some_is x m (sym (cond-true (test x) (Some x) (find test xs) h) ∙ e) in sym (ap test same) ∙ h
-      | inr h ↦ find-some test xs m (sym (cond-false (test x) (Some x) (find test xs) h) ∙ e)
+find-Some : (test : Mark → Bool) (table : List Mark) (m : Mark) → find test table ≡ Some m → test m ≡ true
+find-Some test [] m e = absurd (none-some m e)
+find-Some test (x ∷ xs) m e =
+    elim (chosen (test x) _ _ (Some m) e) [
+      | inl (here, is) ↦ sym (ap test (same_Some x m is)) ∙ here
+      | inr (not_here, later) ↦ find-Some test xs m later
     ]
 
 pub mark-stands : (text : List ℕ) (m : Mark) → mark_at text ≡ Some m → mark_spelling m ≡ take (mark_len m) text
-mark-stands text m e = (bytes_eq-Decides (mark_spelling m) (take (mark_len m) text)).0 (find-some (stands_at text) marks m e)
+mark-stands text m e = (bytes_eq-Decides (mark_spelling m) (take (mark_len m) text)).0 (find-Some (stands_at text) marks m e)

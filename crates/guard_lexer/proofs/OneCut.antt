@@ -2,6 +2,7 @@
 use Rattle.std.proofs.Common.{◌≡◌, ℕ, ◌+◌, ◌-◌, ◌≤◌, List, [], ◌∷◌, ◌++◌, length, Option, Some, None, refl, sym, ap, subst, ◌∙◌, append_assoc, inl, inr, arith}
 use Rattle.std.specs.Prelude.{option_to_list}
 use Rattle.std.proofs.lemmas.List.{length-append, append-nil}
+use Rattle.std.proofs.lemmas.Option.{same_Some, none-some}
 use Rattle.guard_lexer.specs.Lexing.{Item, IsLongest, OffsetFault, item_fault, IsCut, token_of, tokens_from, HasFault}
 use Rattle.guard_lexer.specs.declared.item.FoundItem.{FoundItem}
 use Rattle.guard_lexer.specs.declared.token.Token.{Token}
@@ -36,23 +37,11 @@ tokens_push place whole text start (i ∷ is) left item cut =
 abbrev pub IsStuck : List ℕ → Type 0
 IsStuck left = (item : Item) (behind : List ℕ) → IsLongest left item behind → item_fault item.kind item.octets behind ≡ None → ⊥
 
-none_is_no_item : (p : FoundItem) → ◌≡◌ {A = Option FoundItem} None (Some p) → ⊥
-none_is_no_item p e = cc
-
 nothing_stands : (item : Item) (behind : List ℕ) → IsLongest [] item behind → ⊥
-nothing_stands item behind l = none_is_no_item _ (longest_found [] item behind l)
+nothing_stands item behind l = none-some _ (longest_found [] item behind l)
 
 pub stuck_at_end : IsStuck []
 stuck_at_end item behind l fine = nothing_stands item behind l
-
-none_is_no_fault : (d : OffsetFault) → ◌≡◌ {A = Option OffsetFault} None (Some d) → ⊥
-none_is_no_fault d e = cc
-
-abbrev some_fault : OffsetFault → Option OffsetFault
-some_fault d = Some d
-
-same_fault : (d e : OffsetFault) → some_fault d ≡ some_fault e → d ≡ e
-same_fault d e h = cc
 
 abbrev fault_of_item : Item → List ℕ → Option OffsetFault
 fault_of_item item behind = item_fault item.kind item.octets behind
@@ -63,13 +52,13 @@ faults-agree text i j behind left a b = let one = one_longest text i j behind le
 pub stuck_at_fault : (left : List ℕ) (wrong : OffsetFault) → HasFault left wrong → IsStuck left
 stuck_at_fault left wrong (inl none) item behind l fine = none.1 item behind l.split l.is_item
 stuck_at_fault left wrong (inr faulty) item behind l fine =
-    none_is_no_fault wrong (sym fine ∙ faults-agree left item faulty.0 behind faulty.1 l faulty.2 ∙ faulty.3)
+    none-some wrong (sym fine ∙ faults-agree left item faulty.0 behind faulty.1 l faulty.2 ∙ faulty.3)
 
 pub one_offset_fault : (left : List ℕ) (v w : OffsetFault) → HasFault left v → HasFault left w → v ≡ w
 one_offset_fault left v w (inl a) (inl b) = a.2 ∙ sym b.2
 one_offset_fault left v w (inl a) (inr b) = absurd (a.1 b.0 b.1 b.2.split b.2.is_item)
 one_offset_fault left v w (inr a) (inl b) = absurd (b.1 a.0 a.1 a.2.split a.2.is_item)
-one_offset_fault left v w (inr a) (inr b) = same_fault v w (sym a.3 ∙ faults-agree left a.0 b.0 a.1 b.1 a.2 b.2 ∙ b.3)
+one_offset_fault left v w (inr a) (inr b) = same_Some v w (sym a.3 ∙ faults-agree left a.0 b.0 a.1 b.1 a.2 b.2 ∙ b.3)
 
 pub none_at_end : (wrong : OffsetFault) → HasFault [] wrong → ⊥
 none_at_end wrong (inl none) = omega (arith, none.0)

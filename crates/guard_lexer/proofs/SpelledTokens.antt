@@ -6,6 +6,10 @@ use Rattle.std.proofs.lemmas.Bool.{cases_Bool, cond-true, cond-false, false≢tr
 use Rattle.std.proofs.lemmas.List.{take_at, drop_at, length-append, drop-drop, length-drop}
 use Rattle.std.proofs.lemmas.List.Elements.{All-from_recursion}
 use Rattle.std.proofs.lemmas.Slice.Eq.{bytes_eq-Decides}
+use Rattle.std.proofs.lemmas.Cmp.{nat_list_eq_equiv}
+use Rattle.std.proofs.lemmas.Map.Views.{Contains-from_any, list_any-from_Contains}
+use Rattle.std.proofs.lemmas.Option.{same_Some, none-some}
+use Rattle.guard_model.proofs.Tests.{chosen}
 use Rattle.guard_lexer.specs.Octets.{is_capital, begins}
 use Rattle.guard_lexer.specs.Items.{IsItem, is_word, number_value}
 use Rattle.guard_lexer.specs.Spelling.{reserved_spelling, reserved_words, unsupported_words}
@@ -72,34 +76,16 @@ reserved-back word.Utf8String = refl
 reserved-back word.VisibleString = refl
 reserved-back word.With = refl
 
-some_is : {A : Type 0} (x y : A) → ◌≡◌ {A = Option A} (Some x) (Some y) → x ≡ y
-some_is x y e = cc
-
-none_is_not : {A : Type 0} (x : A) → ◌≡◌ {A = Option A} None (Some x) → ⊥
-none_is_not x e = cc
-
 found-spelled : (octets : List ℕ) (table : List Reserved) (r : Reserved) → find (λ w. bytes_eq octets (reserved_spelling w)) table ≡ Some r → octets ≡ reserved_spelling r
-found-spelled octets [] r e = absurd (none_is_not r e)
+found-spelled octets [] r e = absurd (none-some r e)
 found-spelled octets (w ∷ ws) r e =
-    elim (cases_Bool (bytes_eq octets (reserved_spelling w))) [
-      | inl h ↦
-          let same : w ≡ r = some_is w r (sym (cond-true (bytes_eq octets (reserved_spelling w)) (Some w) _ h) ∙ e) in
-          (bytes_eq-Decides octets (reserved_spelling w)).0 h ∙ ap reserved_spelling same
-      | inr h ↦ found-spelled octets ws r (sym (cond-false (bytes_eq octets (reserved_spelling w)) (Some w) _ h) ∙ e)
+    elim (chosen (bytes_eq octets (reserved_spelling w)) _ _ (Some r) e) [
+      | inl (here, is) ↦ (bytes_eq-Decides octets (reserved_spelling w)).0 here ∙ ap reserved_spelling (same_Some w r is)
+      | inr (not_here, later) ↦ found-spelled octets ws r later
     ]
 
-any-contains : (octets : List ℕ) (table : List (List ℕ)) → list_any (λ w. bytes_eq octets w) table ≡ true → Contains table octets
-any-contains octets [] h = absurd (false≢true h)
-any-contains octets (w ∷ ws) h =
-    elim (or_cases (bytes_eq octets w) (list_any (λ v. bytes_eq octets v) ws) h) [
-      | inl here ↦ (0, omega arith, sym ((bytes_eq-Decides octets w).0 here))
-      | inr later ↦ let r = any-contains octets ws later in (suc r.0, omega (arith, r.1), r.2)
-    ]
-
-contains-any : (octets : List ℕ) (table : List (List ℕ)) (k : ℕ) → k < length table → get_or table k octets ≡ octets → list_any (λ w. bytes_eq octets w) table ≡ true
-contains-any octets [] k lt e = absurd (omega arith)
-contains-any octets (w ∷ ws) zero lt e = or_left _ _ ((bytes_eq-Decides octets w).1 (sym e))
-contains-any octets (w ∷ ws) (suc k) lt e = or_right _ _ (contains-any octets ws k (omega arith) e)
+unsupported-is : (octets : List ℕ) → is_unsupported octets ≡ true → Contains unsupported_words octets
+unsupported-is octets h = Contains-from_any {eq = bytes_eq} (λ x y e. (bytes_eq-Decides x y).0 e) octets unsupported_words h
 
 name-spelled : (octets : List ℕ) → IsName octets → IsSpelled (name_kind octets) octets
 name-spelled octets name =
@@ -112,12 +98,12 @@ word-from : (octets : List ℕ) (o : Option Reserved) → reserved_word octets �
 word-from octets (Some r) e w = found-spelled octets reserved_words r e
 word-from octets None e w =
     elim (cases_Bool (is_unsupported octets)) [
-      | inl h ↦ subst (λ (k : TokenKind). IsSpelled k octets) (sym (cond-true (is_unsupported octets) kind.Unsupported (name_kind octets) h)) (any-contains octets unsupported_words h)
+      | inl h ↦ subst (λ (k : TokenKind). IsSpelled k octets) (sym (cond-true (is_unsupported octets) kind.Unsupported (name_kind octets) h)) (unsupported-is octets h)
       | inr h ↦ subst (λ (k : TokenKind). IsSpelled k octets) (sym (cond-false (is_unsupported octets) kind.Unsupported (name_kind octets) h))
           (name-spelled octets (record {
             word = w;
-            unreserved = λ r same. none_is_not r (sym e ∙ ap reserved_word same ∙ reserved-back r);
-            supported = λ has. both_ways _ h (contains-any octets unsupported_words has.0 has.1 has.2);
+            unreserved = λ r same. none-some r (sym e ∙ ap reserved_word same ∙ reserved-back r);
+            supported = λ has. both_ways _ h (list_any-from_Contains {eq = bytes_eq} nat_list_eq_equiv octets unsupported_words has);
           }))
     ]
 
@@ -127,22 +113,22 @@ word-spelled octets w = word-from octets (reserved_word octets) refl w
 -- ---- all kinds
 
 spelled : (s : ItemKind) (octets behind : List ℕ) (k : TokenKind) → IsItem s octets behind → item_fault s octets behind ≡ None → kind_of s octets ≡ Some k → IsSpelled k octets
-spelled item.WhiteSpace octets behind k is fine e = absurd (none_is_not k e)
-spelled item.LineComment octets behind k is fine e = absurd (none_is_not k e)
-spelled item.BlockComment octets behind k is fine e = absurd (none_is_not k e)
-spelled item.Word octets behind k is fine e = subst (λ (x : TokenKind). IsSpelled x octets) (some_is (word_kind octets) k e) (word-spelled octets is)
+spelled item.WhiteSpace octets behind k is fine e = absurd (none-some k e)
+spelled item.LineComment octets behind k is fine e = absurd (none-some k e)
+spelled item.BlockComment octets behind k is fine e = absurd (none-some k e)
+spelled item.Word octets behind k is fine e = subst (λ (x : TokenKind). IsSpelled x octets) (same_Some (word_kind octets) k e) (word-spelled octets is)
 spelled item.Number octets behind k is fine e =
-    subst (λ (x : TokenKind). IsSpelled x octets) (some_is kind.Number k e) (
+    subst (λ (x : TokenKind). IsSpelled x octets) (same_Some kind.Number k e) (
       is,
       elim (cases_Bool (leb (2 ^ 128) (number_value octets))) [
-        | inl large ↦ absurd (none_is_not number_too_large (sym fine ∙ cond-true (leb (2 ^ 128) (number_value octets)) _ _ large))
+        | inl large ↦ absurd (none-some number_too_large (sym fine ∙ cond-true (leb (2 ^ 128) (number_value octets)) _ _ large))
         | inr small ↦ leb-false _ _ small
       ],
     )
-spelled item.CharacterString octets behind k is fine e = subst (λ (x : TokenKind). IsSpelled x octets) (some_is kind.CharacterString k e) is.0
-spelled item.BitString octets behind k is fine e = subst (λ (x : TokenKind). IsSpelled x octets) (some_is kind.BitString k e) is
-spelled item.HexadecimalString octets behind k is fine e = subst (λ (x : TokenKind). IsSpelled x octets) (some_is kind.HexadecimalString k e) is
-spelled (item.Mark m) octets behind k is fine e = subst (λ (x : TokenKind). IsSpelled x octets) (some_is (kind.Mark m) k e) is
+spelled item.CharacterString octets behind k is fine e = subst (λ (x : TokenKind). IsSpelled x octets) (same_Some kind.CharacterString k e) is.0
+spelled item.BitString octets behind k is fine e = subst (λ (x : TokenKind). IsSpelled x octets) (same_Some kind.BitString k e) is
+spelled item.HexadecimalString octets behind k is fine e = subst (λ (x : TokenKind). IsSpelled x octets) (same_Some kind.HexadecimalString k e) is
+spelled (item.Mark m) octets behind k is fine e = subst (λ (x : TokenKind). IsSpelled x octets) (same_Some (kind.Mark m) k e) is
 
 -- ---- spans
 
@@ -151,8 +137,8 @@ put_before whole None ts one others = others
 put_before whole (Some t) ts one others = (one t refl, others)
 
 mapped : {A B : Type 0} (f : A → B) (o : Option A) (y : B) → option_map f o ≡ Some y → (x : A) × (o ≡ Some x) × (f x ≡ y)
-mapped f None y e = absurd (none_is_not y e)
-mapped f (Some x) y e = (x, refl, some_is (f x) y e)
+mapped f None y e = absurd (none-some y e)
+mapped f (Some x) y e = (x, refl, same_Some (f x) y e)
 
 spans_from : (place : ℕ) (whole text : List ℕ) (start : ℕ) (items : List Item) (left : List ℕ) → drop start whole ≡ text → start ≤ length whole → IsCut text items left
     → AllByRecursion (IsSpan whole) (tokens_from place whole start items)

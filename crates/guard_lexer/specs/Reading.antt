@@ -81,6 +81,16 @@ abbrev pub found_digit_string : List ℕ → Option (List ℕ) → Option (List 
 found_digit_string text (Some left) other = Some (found_before item.BitString text left)
 found_digit_string text None other = option_map (found_before item.HexadecimalString text) other
 
+-- the longest comment, string or mark that stands at the front
+abbrev pub marked_item_at : List ℕ → Option FoundItem
+marked_item_at [] = None
+marked_item_at (first ∷ behind) =
+    if is_hyphen first && begins is_hyphen behind then Some (found_item item.LineComment (suc (suc (comment_body_len (drop 1 behind)))))
+    else (if is_quote first then option_map (found_before item.CharacterString (first ∷ behind)) (behind_string behind)
+    else (if is_apostrophe first then found_digit_string (first ∷ behind) (behind_bits behind) (behind_hexadecimal behind)
+    else (if is_slash first && begins is_asterisk behind then option_map (found_before item.BlockComment (first ∷ behind)) (behind_block_comment 0 (drop 1 behind))
+    else option_map found_mark (mark_at (first ∷ behind)))))
+
 -- the longest item that stands at the front
 abbrev pub item_at : List ℕ → Option FoundItem
 item_at [] = None
@@ -88,11 +98,7 @@ item_at (first ∷ behind) =
     if is_white_space first then Some (found_item item.WhiteSpace 1)
     else (if is_letter first then Some (found_item item.Word (suc (word_len behind)))
     else (if is_digit first then Some (found_item item.Number (number_len first behind))
-    else (if is_hyphen first && begins is_hyphen behind then Some (found_item item.LineComment (suc (suc (comment_body_len (drop 1 behind)))))
-    else (if is_quote first then option_map (found_before item.CharacterString (first ∷ behind)) (behind_string behind)
-    else (if is_apostrophe first then found_digit_string (first ∷ behind) (behind_bits behind) (behind_hexadecimal behind)
-    else (if is_slash first && begins is_asterisk behind then option_map (found_before item.BlockComment (first ∷ behind)) (behind_block_comment 0 (drop 1 behind))
-    else option_map found_mark (mark_at (first ∷ behind))))))))
+    else marked_item_at (first ∷ behind)))
 
 abbrev pub item_of : List ℕ → FoundItem → Item
 item_of text p = record { kind = p.kind; octets = take p.len text }

@@ -1,6 +1,6 @@
 //! White space, comments and tokens: which of them stands at the front of a text, and how long it is.
 ghost use Rattle.std.specs.Prelude.{◌≡◌, length, ◌≤◌};
-ghost use Rattle.guard_lexer.specs.Reading.{behind_bits, behind_hexadecimal, found_digit_string, item_at};
+ghost use Rattle.guard_lexer.specs.Reading.{behind_bits, behind_hexadecimal, found_digit_string, item_at, marked_item_at};
 
 use crate::comment::{behind_block_comment, comment_body_len};
 use crate::mark::mark_at;
@@ -51,6 +51,19 @@ pub(crate) fn item_at(text: &[u8]) -> Option<FoundItem>
         octet if is_white_space(octet) => (ItemKind::WhiteSpace, 1),
         octet if octet.is_ascii_alphabetic() => (ItemKind::Word, 1 + word_len(behind)),
         octet if octet.is_ascii_digit() => (ItemKind::Number, number_len(octet, behind)),
+        _ => return marked_item_at(text),
+    };
+    Some(FoundItem { kind, len })
+}
+
+/// The longest comment, string or mark at the front.
+fn marked_item_at(text: &[u8]) -> Option<FoundItem>
+    ensures { result ≡ marked_item_at text.now }
+{
+    let [first, behind @ ..] = text else {
+        return None;
+    };
+    let (kind, len) = match *first {
         b'-' if begins_with_hyphen(behind) => {
             (ItemKind::LineComment, 2 + comment_body_len(&behind[1..]))
         }

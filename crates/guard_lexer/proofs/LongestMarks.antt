@@ -144,6 +144,7 @@ stands m behind = (bytes_eq-Decides (mark_spelling m) (take (mark_len m) (mark_s
 
 -- what is found where a mark stands
 pub mark-found : (m : Mark) (behind : List ℕ) → (n : Mark) × (mark_at (mark_spelling m ++ behind) ≡ Some n) × (mark_len m ≤ mark_len n)
+unfolding mark_at
 mark-found m behind = found (mark_spelling m ++ behind) marks marks-descend m (mark-in m) (stands m behind)
 
 -- what is found stands there
@@ -156,4 +157,5 @@ find-Some test (x ∷ xs) m e =
     ]
 
 pub mark-stands : (text : List ℕ) (m : Mark) → mark_at text ≡ Some m → mark_spelling m ≡ take (mark_len m) text
+unfolding mark_at
 mark-stands text m e = (bytes_eq-Decides (mark_spelling m) (take (mark_len m) text)).0 (find-Some (stands_at text) marks m e)

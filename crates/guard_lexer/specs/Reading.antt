@@ -64,7 +64,7 @@ abbrev pub stands_at : List ℕ → Mark → Bool
 stands_at text mark = bytes_eq (mark_spelling mark) (take (length (mark_spelling mark)) text)
 
 -- the first mark of the table that stands at the front
-abbrev pub mark_at : List ℕ → Option Mark
+unfoldable pub mark_at : List ℕ → Option Mark
 mark_at text = find (stands_at text) marks
 
 abbrev pub found_item : ItemKind → ℕ → FoundItem

@@ -1,6 +1,7 @@
 //! White space, comments and tokens: which of them stands at the front of a text, and how long it is.
-ghost use Rattle.std.specs.Prelude.{◌≡◌, length, ◌≤◌};
-ghost use Rattle.guard_lexer.specs.Reading.{behind_bits, behind_hexadecimal, found_digit_string, item_at, marked_item_at};
+ghost use Rattle.std.specs.Prelude.{◌≡◌, length, ◌≤◌, option_map, option_copied};
+ghost use Rattle.std.specs.Option.{ForSome};
+ghost use Rattle.guard_lexer.specs.Reading.{behind_bits, behind_hexadecimal, found_before, found_digit_string, item_at, marked_item_at};
 
 use crate::comment::{behind_block_comment, comment_body_len};
 use crate::mark::mark_at;
@@ -63,24 +64,33 @@ fn marked_item_at(text: &[u8]) -> Option<FoundItem>
     let [first, behind @ ..] = text else {
         return None;
     };
-    let (kind, len) = match *first {
+    match *first {
         b'-' if begins_with_hyphen(behind) => {
-            (ItemKind::LineComment, 2 + comment_body_len(&behind[1..]))
+            let len = 2 + comment_body_len(&behind[1..]);
+            let kind = ItemKind::LineComment;
+            Some(FoundItem { kind, len })
         }
-        b'"' => (
-            ItemKind::CharacterString,
-            text.len() - behind_string(behind)?.len(),
-        ),
-        b'\'' => return digit_string_at(text, behind),
+        b'"' => item_before(ItemKind::CharacterString, text, behind_string(behind)),
+        b'\'' => digit_string_at(text, behind),
         b'/' if begins_with_asterisk(behind) => {
-            let left = behind_block_comment(&behind[1..])?;
-            (ItemKind::BlockComment, text.len() - left.len())
+            let left = behind_block_comment(&behind[1..]);
+            item_before(ItemKind::BlockComment, text, left)
         }
         _ => {
             let mark = mark_at(text)?;
-            (ItemKind::Mark(mark), mark.spelling().len())
+            let len = mark.spelling().len();
+            let kind = ItemKind::Mark(mark);
+            Some(FoundItem { kind, len })
         }
-    };
+    }
+}
+
+/// The item of a text that ends where what is left begins, if something is.
+fn item_before(kind: ItemKind, text: &[u8], left: Option<&[u8]>) -> Option<FoundItem>
+    requires { ForSome left (λ left. length left.now ≤ length text.now) }
+    ensures { result ≡ option_map (found_before kind text.now) (option_copied left.entry) }
+{
+    let len = text.len() - left?.len();
     Some(FoundItem { kind, len })
 }
 
@@ -89,10 +99,12 @@ fn digit_string_at(text: &[u8], behind: &[u8]) -> Option<FoundItem>
     requires { length behind.now ≤ length text.now }
     ensures { result ≡ found_digit_string text.now (behind_bits behind.now) (behind_hexadecimal behind.now) }
 {
-    let (kind, left) = match behind_bits(behind) {
-        Some(left) => (ItemKind::BitString, left),
-        None => (ItemKind::HexadecimalString, behind_hexadecimal(behind)?),
-    };
-    let len = text.len() - left.len();
-    Some(FoundItem { kind, len })
+    match behind_bits(behind) {
+        Some(left) => item_before(ItemKind::BitString, text, Some(left)),
+        None => item_before(
+            ItemKind::HexadecimalString,
+            text,
+            behind_hexadecimal(behind),
+        ),
+    }
 }

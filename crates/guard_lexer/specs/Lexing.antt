@@ -29,7 +29,7 @@ pub record OffsetFault : Type 0 where
   pub offset : ℕ
   pub fault : Site → LexFault
 
--- one hyphen, and then neither a letter, a digit nor a hyphen
+-- a hyphen that goes on with no word and begins no comment
 abbrev pub is_lone_hyphen : List ℕ → Bool
 is_lone_hyphen [] = false
 is_lone_hyphen (octet ∷ octets) = is_hyphen octet && not (begins is_letter_or_digit octets) && not (begins is_hyphen octets)

@@ -47,10 +47,5 @@ pub(crate) fn no_item_fault(left: &[u8], site: Site) -> LexFault
 fn is_lone_hyphen(text: &[u8]) -> bool
     ensures { result ≡ is_lone_hyphen text.now }
 {
-    match text {
-        [] => false,
-        [first, behind @ ..] => {
-            *first == b'-' && !begins_with_letter_or_digit(behind) && !begins_with_hyphen(behind)
-        }
-    }
+    matches!(text, [b'-', behind @ ..] if !begins_with_letter_or_digit(behind) && !begins_with_hyphen(behind))
 }

@@ -1,24 +1,25 @@
 //! The first clash of a type.
 ghost use Rattle.std.specs.Prelude.{◌≡◌, ℕ, zero, suc, ◌+◌, ◌≤◌, ◌<◌, length, map, drop, true, false, option_map, IfOk, IfErr, IsTrue, IsOk, Err, Some};
+ghost use Rattle.std.specs.Option.{option_or};
 ghost use Rattle.guard_model.specs.TypeView.{type_view, kind_view, component_view, components_of, presence_view};
 ghost use Rattle.guard_model.specs.Answer.{Gives};
 ghost use Rattle.guard_model.specs.declared.site.Step.TheVariants.{Element};
 ghost use Rattle.guard_tagcheck.specs.Limits.{is_within_limits, keeps_limits, parts_keep_limits, components_keep_limits, nesting, nesting_inside, deepest};
 ghost use Rattle.guard_tagcheck.specs.Distinct.{Distinct, IsClash, AbstractClash};
-ghost use Rattle.guard_tagcheck.specs.Search.{first_clash, clash_of_kind, inside, clash_inside, first_pair, partner, is_passed, is_mandatory, or_else, here};
+ghost use Rattle.guard_tagcheck.specs.Search.{first_clash, clash_of_kind, inside, clash_inside, first_pair, partner, is_passed, is_mandatory, here};
 ghost use Rattle.guard_tagcheck.specs.Views.{clash_view};
 
 use crate::clash::Clash;
-use crate::tags::share_tag;
+use crate::first_tags::share_tag;
 use guard_model::{Comp, Kind, Path, Presence, Step, Ty};
 
-/// Whether all tags that must differ do, in the type and in each type inside it: in a SEQUENCE those of an OPTIONAL or
-/// DEFAULT component and of each later one up to and with the next mandatory one (X.680 25.6), in a SET (27.3) and a CHOICE
-/// (29.3) those of all. An untagged CHOICE counts with the tags of all its alternatives. Types inside constraints and
-/// defaults don't count.
+/// Whether the tags tell components and alternatives apart, in the type and in each type inside it. All of a SET (X.680
+/// 27.3) and of a CHOICE (29.3) must differ in theirs; in a SEQUENCE (25.6) a component that may be left out must differ
+/// from those that may then come next, of which the first mandatory one is the last. A CHOICE without a tag counts with
+/// those of its alternatives. Types that stand in constraints and defaults have no part in it.
 ///
-/// Where some don't differ: the clash that comes first, a type before its parts and the parts in written order, and in that
-/// type the least pair of positions.
+/// Where two share a tag, it names the first such pair: a type comes before its parts, parts come as they are written, and
+/// in one type the least pair of positions counts.
 pub fn check(ty: &Ty) -> Result<(), Clash>
     requires { IsTrue (is_within_limits (type_view ty.now)) }
     // Ok says that they all differ.
@@ -75,7 +76,7 @@ fn clash_among(comps: &[Comp], in_sequence: bool) -> Option<Clash>
     requires limits { IsTrue (components_keep_limits (components_of (map component_view comps.now))) }
     requires few { length comps.now ≤ 64 }
     requires depth { deepest (components_of (map component_view comps.now)) ≤ 31 }
-    ensures { option_map clash_view result ≡ or_else (here (first_pair in_sequence 0 (components_of (map component_view comps.now)))) (clash_inside 0 (components_of (map component_view comps.now))) }
+    ensures { option_map clash_view result ≡ option_or (here (first_pair in_sequence 0 (components_of (map component_view comps.now)))) (clash_inside 0 (components_of (map component_view comps.now))) }
 {
     match first_pair(comps, in_sequence) {
         Some((first, second)) => Some(Clash {

@@ -2,7 +2,7 @@ use Rattle.std.proofs.Common.{◌≡◌, ◌≤◌}
 use Rattle.std.specs.Prelude.{IsTrue}
 use Rattle.guard_tagcheck.specs.Limits.{components_keep_limits, deepest}
 use Rattle.guard_tagcheck.specs.Search.{clash_inside}
-use Rattle.guard_tagcheck.proofs.Components.{left}
+use Rattle.guard_model.proofs.Components.{left}
 use Rattle.guard_tagcheck.proofs.search.+search.Given as goal
 
 abbrev pub invariant-clash_inside-loop-index : goal.invariant-clash_inside-loop-index

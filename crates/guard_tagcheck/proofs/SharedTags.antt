@@ -1,43 +1,14 @@
 -- The search for a shared tag finds one where there is one.
 use Rattle.std.proofs.Common.{◌≡◌, ℕ, zero, suc, Bool, true, false, [], ◌∷◌, ◌⊎◌, inl, inr, refl, sym, ap, ◌∙◌}
 use Rattle.std.specs.Prelude.{IsTrue, ◌||◌, nat_eq}
-use Rattle.std.proofs.lemmas.Bool.{and_parts, and_from, or_left, or_right, eqb-true, eq-eqb}
+use Rattle.std.proofs.lemmas.Bool.{or_cases, or_left, or_right}
 use Rattle.guard_model.specs.declared.tag.Tag.{Tag}
-use Rattle.guard_model.specs.declared.tag.Class.{Class}
-use Rattle.guard_model.specs.declared.tag.Class.TheVariants.{Universal, Application, Context, Private}
-use Rattle.guard_model.specs.Tags.{class_rank}
+use Rattle.guard_model.proofs.Tags.{equal_tags, same_tag_itself}
 use Rattle.guard_model.specs.AbstractType as type
 use Rattle.guard_model.specs.AbstractType.{AbstractType, AbstractKind, Components, type_of, no_components, component}
-use Rattle.guard_tagcheck.specs.FirstTags.{same_tag, begins_with, alternative_begins_with, one_begins_with}
+use Rattle.guard_tagcheck.specs.FirstTags.{begins_with, alternative_begins_with, one_begins_with}
 use Rattle.guard_tagcheck.specs.Distinct.{ShareTag}
 use Rattle.guard_tagcheck.specs.Search.{share_tag, alternative_shares_tag, one_shares_tag}
-
-pub either : (a b : Bool) → (a || b) ≡ true → (a ≡ true) ⊎ (b ≡ true)
-either true b e = inl refl
-either false b e = inr e
-
--- ---- tags that are the same are equal
-
-abbrev class_of : ℕ → Class
-class_of zero = Universal
-class_of (suc zero) = Application
-class_of (suc (suc zero)) = Context
-class_of (suc (suc (suc n))) = Private
-
-of_rank : (c : Class) → class_of (class_rank c) ≡ c
-of_rank Universal = refl
-of_rank Application = refl
-of_rank Context = refl
-of_rank Private = refl
-
-pub same_is : (a b : Tag) → IsTrue (same_tag a b) → a ≡ b
-same_is a b e =
-    let p = and_parts (nat_eq (class_rank a.class) (class_rank b.class)) (nat_eq a.number b.number) e in
-    let class : a.class ≡ b.class = sym (of_rank a.class) ∙ ap class_of (eqb-true (class_rank a.class) (class_rank b.class) p.0) ∙ of_rank b.class in
-    ap (λ (c : Class). record { class = c; number = a.number }) class ∙ ap (λ (n : ℕ). record { class = b.class; number = n }) (eqb-true a.number b.number p.1)
-
-pub same_self : (a : Tag) → IsTrue (same_tag a a)
-same_self a = and_from (nat_eq (class_rank a.class) (class_rank a.class)) (nat_eq a.number a.number) (eq-eqb (class_rank a.class) (class_rank a.class) refl) (eq-eqb a.number a.number refl)
 
 -- ---- what is found is shared
 
@@ -46,7 +17,7 @@ Common begins b = (tag : Tag) × IsTrue (begins tag) × IsTrue (begins_with b ta
 
 mutual
   pub share_from : (a b : AbstractType) → IsTrue (share_tag a b) → ShareTag a b
-  share_from (type_of (t ∷ ts) kind cons) b e = (t, same_self t, e)
+  share_from (type_of (t ∷ ts) kind cons) b e = (t, same_tag_itself t, e)
   share_from (type_of [] kind cons) b e = alternative_from kind b e
 
   alternative_from : (kind : AbstractKind) (b : AbstractType) → IsTrue (alternative_shares_tag kind b) → Common (alternative_begins_with kind) b
@@ -66,7 +37,7 @@ mutual
 
   one_from : (cs : Components) (b : AbstractType) → IsTrue (one_shares_tag cs b) → Common (one_begins_with cs) b
   one_from no_components b e = absurd cc
-  one_from (component name t presence rest) b e = elim (either (share_tag t b) (one_shares_tag rest b) e) [
+  one_from (component name t presence rest) b e = elim (or_cases (share_tag t b) (one_shares_tag rest b) e) [
     | inl first ↦ let s = share_from t b first in (s.0, or_left (begins_with t s.0) (one_begins_with rest s.0) s.1, s.2)
     | inr later ↦ let s = one_from rest b later in (s.0, or_right (begins_with t s.0) (one_begins_with rest s.0) s.1, s.2)
   ]
@@ -75,7 +46,7 @@ mutual
 
 mutual
   pub share_to : (a b : AbstractType) → ShareTag a b → IsTrue (share_tag a b)
-  share_to (type_of (t ∷ ts) kind cons) b (tag, first, second) = ap (begins_with b) (same_is t tag first) ∙ second
+  share_to (type_of (t ∷ ts) kind cons) b (tag, first, second) = ap (begins_with b) (equal_tags t tag first) ∙ second
   share_to (type_of [] kind cons) b (tag, first, second) = alternative_to kind b tag first second
 
   alternative_to : (kind : AbstractKind) (b : AbstractType) (tag : Tag) → IsTrue (alternative_begins_with kind tag) → IsTrue (begins_with b tag) → IsTrue (alternative_shares_tag kind b)
@@ -95,7 +66,7 @@ mutual
 
   one_to : (cs : Components) (b : AbstractType) (tag : Tag) → IsTrue (one_begins_with cs tag) → IsTrue (begins_with b tag) → IsTrue (one_shares_tag cs b)
   one_to no_components b tag first second = absurd cc
-  one_to (component name t presence rest) b tag first second = elim (either (begins_with t tag) (one_begins_with rest tag) first) [
+  one_to (component name t presence rest) b tag first second = elim (or_cases (begins_with t tag) (one_begins_with rest tag) first) [
     | inl here ↦ or_left (share_tag t b) (one_shares_tag rest b) (share_to t b (tag, here, second))
     | inr later ↦ or_right (share_tag t b) (one_shares_tag rest b) (one_to rest b tag later second)
   ]

@@ -9,16 +9,18 @@ use Rattle.guard_model.specs.AbstractType as type
 use Rattle.guard_model.specs.AbstractType.{AbstractType, AbstractKind, Components, type_of, no_components, component}
 use Rattle.guard_tagcheck.specs.Limits.{is_tagged, is_formed, has_few_components, keeps_limits, parts_keep_limits, components_keep_limits, nesting, nesting_inside, deepest}
 use Rattle.guard_tagcheck.specs.Distinct.{AbstractClash}
-use Rattle.guard_tagcheck.specs.Search.{first_clash, clash_of_kind, clash_inside, first_pair, or_else, here, inside}
-use Rattle.guard_tagcheck.proofs.Components.{tag_there}
-use Rattle.guard_tagcheck.proofs.Options.{or_else_some, inside_some, here_some}
+use Rattle.guard_tagcheck.specs.Search.{first_clash, clash_of_kind, clash_inside, first_pair, here, inside}
+use Rattle.std.specs.Option.{option_or}
+use Rattle.guard_model.proofs.Options.{option_or_some}
+use Rattle.guard_tagcheck.proofs.PartLimits.{tag_there}
+use Rattle.guard_tagcheck.proofs.Options.{inside_some, here_some}
 
 path_length : (c d : AbstractClash) → c ≡ d → length c.path ≡ length d.path
 path_length c d e = ap (λ (c : AbstractClash). length c.path) e
 
 list_paths : (in_sequence : Bool) (cs : Components) (c : AbstractClash) → ((d : AbstractClash) → clash_inside 0 cs ≡ Some d → length d.path ≤ deepest cs)
-    → or_else (here (first_pair in_sequence 0 cs)) (clash_inside 0 cs) ≡ Some c → length c.path ≤ deepest cs
-list_paths in_sequence cs c inner e = elim (or_else_some (here (first_pair in_sequence 0 cs)) (clash_inside 0 cs) c e) [
+    → option_or (here (first_pair in_sequence 0 cs)) (clash_inside 0 cs) ≡ Some c → length c.path ≤ deepest cs
+list_paths in_sequence cs c inner e = elim (option_or_some (here (first_pair in_sequence 0 cs)) (clash_inside 0 cs) c e) [
   | inl pair ↦ omega (arith, path_length c _ (here_some (first_pair in_sequence 0 cs) c pair).2)
   | inr (none, deeper) ↦ inner c deeper
 ]
@@ -52,7 +54,7 @@ mutual
   inside_paths i no_components limits c e = absurd cc
   inside_paths i (component name t presence rest) limits c e =
       let l = and_parts (keeps_limits t) (components_keep_limits rest) limits in
-      elim (or_else_some (inside (Component i) (first_clash t)) (clash_inside (suc i) rest) c e) [
+      elim (option_or_some (inside (Component i) (first_clash t)) (clash_inside (suc i) rest) c e) [
         | inl first ↦
             let d = inside_some (Component i) (first_clash t) c first in
             omega (arith, path_length c _ d.2, type_paths t d.0 l.0 d.1, le-max_left (nesting t) (deepest rest))

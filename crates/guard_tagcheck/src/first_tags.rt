@@ -1,12 +1,13 @@
 //! The tags with which an encoding of a type may begin.
 ghost use Rattle.std.specs.Prelude.{◌≡◌, map};
 ghost use Rattle.guard_model.specs.TypeView.{type_view, component_view, components_of};
-ghost use Rattle.guard_tagcheck.specs.FirstTags.{begins_with, one_begins_with, same_tag};
+ghost use Rattle.guard_model.specs.Tags.{same_tag};
+ghost use Rattle.guard_tagcheck.specs.FirstTags.{begins_with, one_begins_with};
 ghost use Rattle.guard_tagcheck.specs.Search.{share_tag, one_shares_tag};
 
 use guard_model::{Comp, Kind, Tag, Ty};
 
-/// Whether an encoding of either type may begin with the same tag. It takes as many steps as the one type has first tags
+/// Whether an encoding of or_cases type may begin with the same tag. It takes as many steps as the one type has first tags
 /// times the other, and no memory.
 #[cycle(sharing)]
 pub(crate) fn share_tag(a: &Ty, b: &Ty) -> bool

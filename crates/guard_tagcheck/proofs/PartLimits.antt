@@ -1,4 +1,4 @@
--- Going over components one after the other, and what the limits of a type say of them.
+-- What the limits of a type say of its parts.
 use Rattle.std.proofs.Common.{◌≡◌, ℕ, suc, ◌+◌, ◌<◌, ◌≤◌, List, ◌∷◌, [], length, drop, get_or, map, refl, sym, ap, ◌∙◌, add-one, arith}
 use Rattle.std.specs.Prelude.{IsTrue, nat_le, max, string_bytes, false, ◌||◌}
 use Rattle.std.specs.Global.{Vec}
@@ -14,20 +14,10 @@ use Rattle.guard_model.specs.declared.ty.Ty.{Ty}
 use Rattle.guard_model.specs.declared.ty.Kind.TheViews.{out-Ty, out-Comp}
 use Rattle.guard_model.specs.declared.ty.Comp.{Comp}
 use Rattle.guard_model.specs.declared.ty.Kind.{Sequence, Set, Choice}
-use Rattle.guard_tagcheck.specs.Limits.{count, has_tag, is_tagged, is_formed, has_few_components, keeps_limits, parts_keep_limits, components_keep_limits, nesting, nesting_inside, deepest}
-use Rattle.guard_tagcheck.proofs.TypeViews.{type_view_is, component_view_is, kind_view_sequence, kind_view_set, kind_view_choice}
-
--- the components from a place on
-abbrev pub left : List Comp → ℕ → Components
-left comps i = components_of (map component_view (drop i comps))
-
-pub left_is : (comps : List Comp) (i : ℕ) (comp : Comp) → i < length comps → comp ≡ get_or comps i comp → left comps i ≡ component (string_bytes (out-Comp comp).name) (type_view (out-Comp comp).ty) (presence_view (out-Comp comp).presence) (left comps (i + 1))
-left_is comps i comp lt is =
-    let parts : drop i comps ≡ comp ∷ drop (i + 1) comps = drop-cons comps i comp lt ∙ ap (λ (c : Comp). c ∷ drop (suc i) comps) (sym is) ∙ ap (λ (k : ℕ). comp ∷ drop k comps) (sym (add-one i)) in
-    ap (λ (cs : List Comp). components_of (map component_view cs)) parts ∙ ap (λ (c : OneComponent). component c.name c.ty c.presence (left comps (i + 1))) (component_view_is comp)
-
-pub none_left : (comps : List Comp) (i : ℕ) → length comps ≤ i → left comps i ≡ no_components
-none_left comps i le = ap (λ (cs : List Comp). components_of (map component_view cs)) (drop_all i comps le)
+use Rattle.guard_model.specs.Counts.{component_count}
+use Rattle.guard_tagcheck.specs.Limits.{has_tag, is_tagged, is_formed, has_few_components, keeps_limits, parts_keep_limits, components_keep_limits, nesting, nesting_inside, deepest}
+use Rattle.guard_model.proofs.TypeViews.{type_view_is, kind_view_sequence, kind_view_set, kind_view_choice}
+use Rattle.guard_model.proofs.Components.{left, left_is, component_count_view}
 
 pub left_limits : (comps : List Comp) (i : ℕ) (comp : Comp) → i < length comps → comp ≡ get_or comps i comp → IsTrue (components_keep_limits (left comps i)) → deepest (left comps i) ≤ 31
     → IsTrue (keeps_limits (type_view (out-Comp comp).ty)) × (nesting (type_view (out-Comp comp).ty) ≤ 31) × IsTrue (components_keep_limits (left comps (i + 1))) × (deepest (left comps (i + 1)) ≤ 31)
@@ -36,10 +26,6 @@ left_limits comps i comp lt is limits depth =
     let l = and_parts (keeps_limits (type_view (out-Comp comp).ty)) (components_keep_limits (left comps (i + 1))) (rw e at limits) in
     let d : max (nesting (type_view (out-Comp comp).ty)) (deepest (left comps (i + 1))) ≤ 31 = rw e at depth in
     (l.0, omega (arith, d, le-max_left (nesting (type_view (out-Comp comp).ty)) (deepest (left comps (i + 1)))), l.1, omega (arith, d, le-max_right (nesting (type_view (out-Comp comp).ty)) (deepest (left comps (i + 1)))))
-
-pub count_is : (cs : List OneComponent) → count (components_of cs) ≡ length cs
-count_is [] = refl
-count_is (c ∷ cs) = ap suc (count_is cs)
 
 -- a tag takes a level
 pub tag_there : (tags : List Tag) → IsTrue (has_tag tags || false) → 1 ≤ length tags
@@ -57,8 +43,8 @@ type_limits ty kind is limits depth =
     let f = and_parts (is_tagged tags kind) (has_few_components tags kind) l.0 in
     (f.0, f.1, l.1, rw is at (rw e at depth))
 
-few : (comps : List Comp) → IsTrue (nat_le (count (components_of (map component_view comps))) 64) → length comps ≤ 64
-few comps e = omega (arith, leb-true (count (components_of (map component_view comps))) 64 e, count_is (map component_view comps), length-map comps component_view)
+few : (comps : List Comp) → IsTrue (nat_le (component_count (components_of (map component_view comps))) 64) → length comps ≤ 64
+few comps e = omega (arith, leb-true (component_count (components_of (map component_view comps))) 64 e, component_count_view comps)
 
 abbrev pub Within : List Comp → Type 0
 Within comps =

@@ -4,9 +4,13 @@ use Rattle.std.specs.Prelude.{IsTrue, IfSome}
 use Rattle.guard_model.specs.AbstractType as type
 use Rattle.guard_model.specs.AbstractType.{AbstractType, AbstractPresence, Components, no_components, component}
 use Rattle.guard_model.specs.TypeView.{OneComponent}
-use Rattle.guard_tagcheck.specs.Distinct.{component_at}
+use Rattle.guard_model.specs.Components.{component_at}
 use Rattle.guard_tagcheck.specs.Search.{share_tag, is_passed, partner, first_pair, paired}
-use Rattle.guard_tagcheck.proofs.Options.{some_is, chosen, or_else_some, or_else_none, paired_some, paired_none}
+use Rattle.std.proofs.lemmas.Bool.{both_ways}
+use Rattle.std.proofs.lemmas.Option.{same_Some, none-some}
+use Rattle.guard_model.proofs.Options.{option_or_some, option_or_none}
+use Rattle.guard_model.proofs.Tests.{chosen}
+use Rattle.guard_tagcheck.proofs.Options.{paired_some, paired_none}
 
 -- behind component k a later one may come next
 abbrev pub PassedAt : Bool → Components → ℕ → Type 0
@@ -26,13 +30,6 @@ Pair in_sequence cs i j =
 abbrev one : List ℕ → AbstractType → AbstractPresence → OneComponent
 one name t presence = record { name = name; ty = t; presence = presence }
 
-differ : (b : Bool) → b ≡ true → b ≡ false → ⊥
-differ true e f = cc
-differ false e f = cc
-
-nothing_at : (b : OneComponent) → ◌≡◌ {A = Option OneComponent} None (Some b) → ⊥
-nothing_at b e = cc
-
 -- ---- the partner of a type
 
 later_partner : (s : Bool) (a : AbstractType) (name : List ℕ) (t : AbstractType) (presence : AbstractPresence) (rest : Components) (d : ℕ)
@@ -51,7 +48,7 @@ later_partner_back s a name t presence rest d (before, b) = (before 0 (omega ari
 not_first : (s : Bool) (a : AbstractType) (name : List ℕ) (t : AbstractType) (presence : AbstractPresence) (rest : Components)
     → share_tag a t ≡ false → Partner s a (component name t presence rest) 0 → ⊥
 not_first s a name t presence rest apart (before, (b, at, shared)) =
-    differ (share_tag a t) (ap (λ (c : OneComponent). share_tag a c.ty) (some_is (one name t presence) b at) ∙ shared) apart
+    both_ways (share_tag a t) apart (ap (λ (c : OneComponent). share_tag a c.ty) (same_Some (one name t presence) b at) ∙ shared)
 
 least_later : (s : Bool) (a : AbstractType) (name : List ℕ) (t : AbstractType) (presence : AbstractPresence) (rest : Components) (d : ℕ)
     → share_tag a t ≡ false → ((e : ℕ) → Partner s a rest e → d ≤ e) → (e : ℕ) → Partner s a (component name t presence rest) e → suc d ≤ e
@@ -63,7 +60,7 @@ pub partner_some : (s : Bool) (a : AbstractType) (j : ℕ) (cs : Components) (m 
 partner_some s a j no_components m e = absurd cc
 partner_some s a j (component name t presence rest) m e =
     elim (chosen (share_tag a t) (Some j) (cond (is_passed s presence) (partner s a (suc j) rest) None) (Some m) e) [
-      | inl (shared, is) ↦ (0, omega (arith, some_is j m is), (λ k lt. absurd (omega (arith, lt)), (one name t presence, refl, shared)), λ e p. omega arith)
+      | inl (shared, is) ↦ (0, omega (arith, same_Some j m is), (λ k lt. absurd (omega (arith, lt)), (one name t presence, refl, shared)), λ e p. omega arith)
       | inr (apart, more) ↦ elim (chosen (is_passed s presence) (partner s a (suc j) rest) None (Some m) more) [
         | inl (passed, is) ↦
             let p = partner_some s a (suc j) rest m is in
@@ -78,13 +75,13 @@ none_later s a name t presence rest apart none zero p = not_first s a name t pre
 none_later s a name t presence rest apart none (suc e) p = let b = later_partner_back s a name t presence rest e p in none b.0 e b.1
 
 pub partner_none : (s : Bool) (a : AbstractType) (j : ℕ) (cs : Components) → partner s a j cs ≡ None → (e : ℕ) → Partner s a cs e → ⊥
-partner_none s a j no_components is = λ e p. nothing_at p.1.0 p.1.1
+partner_none s a j no_components is = λ e p. none-some p.1.0 p.1.1
 partner_none s a j (component name t presence rest) is =
     elim (chosen (share_tag a t) (Some j) (cond (is_passed s presence) (partner s a (suc j) rest) None) None is) [
       | inl (shared, some) ↦ absurd cc
       | inr (apart, more) ↦ none_later s a name t presence rest apart (λ passed. elim (chosen (is_passed s presence) (partner s a (suc j) rest) None None more) [
         | inl (passed, none) ↦ partner_none s a (suc j) rest none
-        | inr (stopped, none) ↦ absurd (differ (is_passed s presence) passed stopped)
+        | inr (stopped, none) ↦ absurd (both_ways (is_passed s presence) stopped passed)
       ])
     ]
 
@@ -101,7 +98,7 @@ first_from s name t presence rest j passed (before, (b, at, shared)) = (omega ar
 first_to : (s : Bool) (name : List ℕ) (t : AbstractType) (presence : AbstractPresence) (rest : Components) (j : ℕ)
     → Pair s (component name t presence rest) 0 (suc j) → IsTrue (is_passed s presence) × Partner s t rest j
 first_to s name t presence rest j (lt, passed, (a, b, at, later, shared)) =
-    (passed 0 (omega arith) (omega arith), (λ k less. passed (suc k) (omega arith) (omega (arith, less)), (b, later, ap (λ (c : OneComponent). share_tag c.ty b.ty) (some_is (one name t presence) a at) ∙ shared)))
+    (passed 0 (omega arith) (omega arith), (λ k less. passed (suc k) (omega arith) (omega (arith, less)), (b, later, ap (λ (c : OneComponent). share_tag c.ty b.ty) (same_Some (one name t presence) a at) ∙ shared)))
 
 later_from : (s : Bool) (name : List ℕ) (t : AbstractType) (presence : AbstractPresence) (rest : Components) (i j : ℕ)
     → Pair s rest i j → Pair s (component name t presence rest) (suc i) (suc j)
@@ -125,7 +122,7 @@ no_first s i name t presence rest is (suc y) p =
     let b = first_to s name t presence rest y p in
     elim (chosen (is_passed s presence) (paired i (partner s t (suc i) rest)) None None is) [
       | inl (passed, none) ↦ partner_none s t (suc i) rest (paired_none i (partner s t (suc i) rest) none) y b.1
-      | inr (stopped, none) ↦ differ (is_passed s presence) b.0 stopped
+      | inr (stopped, none) ↦ both_ways (is_passed s presence) stopped b.0
     ]
 
 abbrev pub IsLeast : Bool → Components → ℕ → ℕ → Type 0
@@ -150,7 +147,7 @@ least_of_later s name t presence rest d e none least (suc x) (suc y) p = one_fur
 pub pair_some : (s : Bool) (i : ℕ) (cs : Components) (p : ℕ × ℕ) → first_pair s i cs ≡ Some p
     → (d : ℕ) × (e : ℕ) × (p.0 ≡ i + d) × (p.1 ≡ i + e) × Pair s cs d e × IsLeast s cs d e
 pair_some s i no_components p e = absurd cc
-pair_some s i (component name t presence rest) p e = elim (or_else_some (pair_of_first s i t presence rest) (first_pair s (suc i) rest) p e) [
+pair_some s i (component name t presence rest) p e = elim (option_or_some (pair_of_first s i t presence rest) (first_pair s (suc i) rest) p e) [
   | inl first ↦ elim (chosen (is_passed s presence) (paired i (partner s t (suc i) rest)) None (Some p) first) [
     | inl (passed, is) ↦
         let j = paired_some i (partner s t (suc i) rest) p is in
@@ -182,7 +179,7 @@ none_behind s name t presence rest first later (suc x) zero (lt, passed, found) 
 none_behind s name t presence rest first later (suc x) (suc y) p = later x y (later_to s name t presence rest x y p)
 
 pub pair_none : (s : Bool) (i : ℕ) (cs : Components) → first_pair s i cs ≡ None → (x y : ℕ) → Pair s cs x y → ⊥
-pair_none s i no_components is = λ x y p. nothing_at p.2.0 p.2.2
+pair_none s i no_components is = λ x y p. none-some p.2.0 p.2.2
 pair_none s i (component name t presence rest) is =
-    let n = or_else_none (pair_of_first s i t presence rest) (first_pair s (suc i) rest) is in
+    let n = option_or_none (pair_of_first s i t presence rest) (first_pair s (suc i) rest) is in
     none_behind s name t presence rest (no_first s i name t presence rest n.0) (pair_none s (suc i) rest n.1)

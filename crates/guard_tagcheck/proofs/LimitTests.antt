@@ -7,14 +7,10 @@ use Rattle.std.proofs.lemmas.List.{length-map}
 use Rattle.guard_model.specs.TypeView.{type_view, component_view}
 use Rattle.guard_model.specs.declared.ty.Comp.{Comp}
 use Rattle.guard_model.specs.declared.ty.Kind.TheViews.{out-Comp}
-use Rattle.guard_tagcheck.specs.Limits.{count, keeps_limits, components_keep_limits, nesting, deepest, type_within, all_within}
-use Rattle.guard_tagcheck.proofs.Components.{left, left_is, none_left, count_is}
-
-same_test : (a b : Bool) → (a ≡ true → b ≡ true) → (b ≡ true → a ≡ true) → a ≡ b
-same_test true true f g = refl
-same_test true false f g = sym (f refl)
-same_test false true f g = g refl
-same_test false false f g = refl
+use Rattle.guard_model.specs.Counts.{component_count}
+use Rattle.guard_model.proofs.Tests.{same_test, and_on}
+use Rattle.guard_tagcheck.specs.Limits.{keeps_limits, components_keep_limits, nesting, deepest, type_within, all_within}
+use Rattle.guard_model.proofs.Components.{left, left_is, none_left, component_count_view}
 
 leb_max : (m n depth : ℕ) → nat_le (max m n) depth ≡ (nat_le m depth && nat_le n depth)
 leb_max m n depth = same_test (leb (max m n) depth) (leb m depth && leb n depth)
@@ -37,7 +33,7 @@ step_within comps i comp depth lt is =
     ∙ rearranged (keeps_limits t) (components_keep_limits rest) (nat_le (nesting t) depth) (nat_le (deepest rest) depth))
 
 abbrev pub few_at : List Comp → ℕ → Bool
-few_at comps i = nat_le (count (left comps i)) 64
+few_at comps i = nat_le (component_count (left comps i)) 64
 
 pub list_refused : (comps : List Comp) (i : ℕ) (comp : Comp) (depth : ℕ) (r : Bool) → i < length comps → comp ≡ get_or comps i comp → r ≡ type_within (type_view (out-Comp comp).ty) depth → r ≡ false
     → all_within (left comps i) depth ≡ all_within (left comps 0) depth → false ≡ (few_at comps 0 && all_within (left comps 0) depth)
@@ -45,20 +41,13 @@ list_refused comps i comp depth r lt is tested no_more so_far =
     let t = type_view (out-Comp comp).ty in
     sym (and_right (few_at comps 0) (all_within (left comps 0) depth) (sym so_far ∙ step_within comps i comp depth lt is ∙ and_left (type_within t depth) (all_within (left comps (i + 1)) depth) (sym tested ∙ no_more)))
 
-and_true : (a b : Bool) → a ≡ true → b ≡ (a && b)
-and_true true b e = refl
-and_true false b e = absurd (false≢true e)
-
 pub list_goes_on : (comps : List Comp) (i : ℕ) (comp : Comp) (depth : ℕ) (r : Bool) → i < length comps → comp ≡ get_or comps i comp → r ≡ type_within (type_view (out-Comp comp).ty) depth → r ≡ true
     → all_within (left comps i) depth ≡ all_within (left comps 0) depth → all_within (left comps (i + 1)) depth ≡ all_within (left comps 0) depth
 list_goes_on comps i comp depth r lt is tested more so_far =
-    and_true (type_within (type_view (out-Comp comp).ty) depth) (all_within (left comps (i + 1)) depth) (sym tested ∙ more) ∙ sym (step_within comps i comp depth lt is) ∙ so_far
-
-length_is : (comps : List Comp) → count (left comps 0) ≡ length comps
-length_is comps = count_is (map component_view comps) ∙ length-map comps component_view
+    and_on (type_within (type_view (out-Comp comp).ty) depth) (all_within (left comps (i + 1)) depth) (all_within (left comps 0) depth) (sym tested ∙ more) (sym (step_within comps i comp depth lt is) ∙ so_far)
 
 pub list_too_long : (comps : List Comp) (depth : ℕ) → 64 < length comps → false ≡ (few_at comps 0 && all_within (left comps 0) depth)
-list_too_long comps depth many = sym (and_left (few_at comps 0) (all_within (left comps 0) depth) (lt-leb (count (left comps 0)) 64 (omega (arith, many, length_is comps))))
+list_too_long comps depth many = sym (and_left (few_at comps 0) (all_within (left comps 0) depth) (lt-leb (component_count (left comps 0)) 64 (omega (arith, many, component_count_view comps))))
 
 none_within : (depth : ℕ) → (true && nat_le 0 depth) ≡ true
 none_within depth = le-leb 0 depth (omega arith)
@@ -67,4 +56,4 @@ pub list_done : (comps : List Comp) (i depth : ℕ) → length comps ≤ i → l
     → all_within (left comps i) depth ≡ all_within (left comps 0) depth → true ≡ (few_at comps 0 && all_within (left comps 0) depth)
 list_done comps i depth le few so_far =
     let last : all_within (left comps i) depth ≡ true = rw (none_left comps i le) (none_within depth) in
-    sym (and_from (few_at comps 0) (all_within (left comps 0) depth) (le-leb (count (left comps 0)) 64 (omega (arith, few, length_is comps))) (sym so_far ∙ last))
+    sym (and_from (few_at comps 0) (all_within (left comps 0) depth) (le-leb (component_count (left comps 0)) 64 (omega (arith, few, component_count_view comps))) (sym so_far ∙ last))

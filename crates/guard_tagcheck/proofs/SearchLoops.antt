@@ -11,8 +11,8 @@ use Rattle.guard_tagcheck.specs.Limits.{keeps_limits, nesting}
 use Rattle.guard_tagcheck.specs.Distinct.{AbstractClash}
 use Rattle.guard_tagcheck.specs.Search.{first_clash, clash_inside, below}
 use Rattle.guard_tagcheck.specs.Views.{clash_view}
-use Rattle.guard_tagcheck.proofs.Components.{left, left_is}
-use Rattle.guard_tagcheck.proofs.Paths.{type_paths}
+use Rattle.guard_model.proofs.Components.{left, left_is}
+use Rattle.guard_tagcheck.proofs.PathLengths.{type_paths}
 
 -- the clash that was found
 pub found : (ty : Ty) (answer : Option Clash) (clash : Clash) → answer ≡ Some clash → option_map clash_view answer ≡ first_clash (type_view ty) → first_clash (type_view ty) ≡ Some (clash_view clash)

@@ -9,6 +9,7 @@ use Rattle.guard_model.specs.declared.ty.Comp.{Comp}
 use Rattle.guard_model.specs.declared.ty.Kind.TheViews.{out-Comp}
 use Rattle.guard_model.specs.Counts.{component_count}
 use Rattle.guard_model.proofs.Tests.{same_test, and_on}
+use Rattle.guard_model.specs.Limits.{most_components}
 use Rattle.guard_tagcheck.specs.Limits.{keeps_limits, components_keep_limits, nesting, deepest, type_within, all_within}
 use Rattle.guard_model.proofs.Components.{left, left_is, none_left, component_count_view}
 
@@ -33,7 +34,7 @@ step_within comps i comp depth lt is =
     ∙ rearranged (keeps_limits t) (components_keep_limits rest) (nat_le (nesting t) depth) (nat_le (deepest rest) depth))
 
 abbrev pub few_at : List Comp → ℕ → Bool
-few_at comps i = nat_le (component_count (left comps i)) 64
+few_at comps i = nat_le (component_count (left comps i)) most_components
 
 pub list_refused : (comps : List Comp) (i : ℕ) (comp : Comp) (depth : ℕ) (r : Bool) → i < length comps → comp ≡ get_or comps i comp → r ≡ type_within (type_view (out-Comp comp).ty) depth → r ≡ false
     → all_within (left comps i) depth ≡ all_within (left comps 0) depth → false ≡ (few_at comps 0 && all_within (left comps 0) depth)
@@ -46,14 +47,14 @@ pub list_goes_on : (comps : List Comp) (i : ℕ) (comp : Comp) (depth : ℕ) (r 
 list_goes_on comps i comp depth r lt is tested more so_far =
     and_on (type_within (type_view (out-Comp comp).ty) depth) (all_within (left comps (i + 1)) depth) (all_within (left comps 0) depth) (sym tested ∙ more) (sym (step_within comps i comp depth lt is) ∙ so_far)
 
-pub list_too_long : (comps : List Comp) (depth : ℕ) → 64 < length comps → false ≡ (few_at comps 0 && all_within (left comps 0) depth)
-list_too_long comps depth many = sym (and_left (few_at comps 0) (all_within (left comps 0) depth) (lt-leb (component_count (left comps 0)) 64 (omega (arith, many, component_count_view comps))))
+pub list_too_long : (comps : List Comp) (depth : ℕ) → most_components < length comps → false ≡ (few_at comps 0 && all_within (left comps 0) depth)
+list_too_long comps depth many = sym (and_left (few_at comps 0) (all_within (left comps 0) depth) (lt-leb (component_count (left comps 0)) most_components (omega (arith, many, component_count_view comps))))
 
 none_within : (depth : ℕ) → (true && nat_le 0 depth) ≡ true
 none_within depth = le-leb 0 depth (omega arith)
 
-pub list_done : (comps : List Comp) (i depth : ℕ) → length comps ≤ i → length comps ≤ 64
+pub list_done : (comps : List Comp) (i depth : ℕ) → length comps ≤ i → length comps ≤ most_components
     → all_within (left comps i) depth ≡ all_within (left comps 0) depth → true ≡ (few_at comps 0 && all_within (left comps 0) depth)
 list_done comps i depth le few so_far =
     let last : all_within (left comps i) depth ≡ true = rw (none_left comps i le) (none_within depth) in
-    sym (and_from (few_at comps 0) (all_within (left comps 0) depth) (le-leb (component_count (left comps 0)) 64 (omega (arith, few, component_count_view comps))) (sym so_far ∙ last))
+    sym (and_from (few_at comps 0) (all_within (left comps 0) depth) (le-leb (component_count (left comps 0)) most_components (omega (arith, few, component_count_view comps))) (sym so_far ∙ last))

@@ -6,6 +6,7 @@ use Rattle.guard_model.specs.TypeView.{type_view}
 use Rattle.guard_model.specs.declared.ty.Ty.{Ty}
 use Rattle.guard_model.specs.declared.ty.Comp.{Comp}
 use Rattle.guard_model.specs.declared.ty.Kind.TheViews.{out-Comp}
+use Rattle.guard_model.specs.Limits.{deepest_nesting}
 use Rattle.guard_tagcheck.specs.declared.clash.Clash.{Clash}
 use Rattle.guard_tagcheck.specs.Limits.{keeps_limits, nesting}
 use Rattle.guard_tagcheck.specs.Distinct.{AbstractClash}
@@ -21,7 +22,7 @@ found ty answer clash is told = sym told ∙ ap (λ (o : Option Clash). option_m
 pub found_none : (ty : Ty) (answer : Option Clash) → answer ≡ None → option_map clash_view answer ≡ first_clash (type_view ty) → first_clash (type_view ty) ≡ None
 found_none ty answer is told = sym told ∙ ap (λ (o : Option Clash). option_map clash_view o) is
 
-pub path_fits : (ty : Ty) (answer : Option Clash) (clash : Clash) → IsTrue (keeps_limits (type_view ty)) → nesting (type_view ty) ≤ 31 → answer ≡ Some clash → option_map clash_view answer ≡ first_clash (type_view ty) → length clash.path.items < 32
+pub path_fits : (ty : Ty) (answer : Option Clash) (clash : Clash) → IsTrue (keeps_limits (type_view ty)) → nesting (type_view ty) < deepest_nesting → answer ≡ Some clash → option_map clash_view answer ≡ first_clash (type_view ty) → length clash.path.items < deepest_nesting
 path_fits ty answer clash limits depth is told = omega (arith, type_paths (type_view ty) (clash_view clash) limits (found ty answer clash is told), depth)
 
 pub inside_found : (comps : List Comp) (i : ℕ) (comp : Comp) (c : AbstractClash) (total : Option AbstractClash) → i < length comps → comp ≡ get_or comps i comp

@@ -18,12 +18,13 @@ pub struct Clash {
 
 impl Clash {
     ghost use Rattle.std.specs.Prelude.{◌≡◌, ◌<◌, length};
+    ghost use Rattle.guard_model.specs.Limits.{deepest_nesting};
     ghost use Rattle.guard_tagcheck.specs.Search.{below};
     ghost use Rattle.guard_tagcheck.specs.Views.{clash_view};
 
     /// The clash of a part, seen from the type round it.
     pub(crate) fn below(mut self, step: Step) -> Clash
-        requires { length self.path.items < 32 }
+        requires { length self.path.items < deepest_nesting }
         ensures { clash_view result ≡ below step (clash_view self) }
     {
         self.path.insert(0, step);

@@ -3,6 +3,7 @@ ghost use Rattle.std.specs.Prelude.{◌≡◌, ℕ, zero, suc, ◌+◌, ◌≤�
 ghost use Rattle.std.specs.Option.{option_or};
 ghost use Rattle.guard_model.specs.TypeView.{type_view, kind_view, component_view, components_of, presence_view};
 ghost use Rattle.guard_model.specs.Answer.{Gives};
+ghost use Rattle.guard_model.specs.Limits.{most_components, deepest_nesting};
 ghost use Rattle.guard_model.specs.declared.site.Step.TheVariants.{Element};
 ghost use Rattle.guard_tagcheck.specs.Limits.{is_within_limits, keeps_limits, parts_keep_limits, components_keep_limits, nesting, nesting_inside, deepest};
 ghost use Rattle.guard_tagcheck.specs.Distinct.{Distinct, IsClash, AbstractClash};
@@ -40,7 +41,7 @@ pub fn check(ty: &Ty) -> Result<(), Clash>
 #[cycle(search)]
 fn first_clash(ty: &Ty) -> Option<Clash>
     requires limits { IsTrue (keeps_limits (type_view ty.now)) }
-    requires depth { nesting (type_view ty.now) ≤ 32 }
+    requires depth { nesting (type_view ty.now) ≤ deepest_nesting }
     ensures { option_map clash_view result ≡ first_clash (type_view ty.now) }
 {
     match &ty.kind {
@@ -63,7 +64,7 @@ fn first_clash(ty: &Ty) -> Option<Clash>
 #[cycle(search)]
 fn clash_of_elements(element: &Ty) -> Option<Clash>
     requires limits { IsTrue (keeps_limits (type_view element.now)) }
-    requires depth { nesting (type_view element.now) ≤ 31 }
+    requires depth { nesting (type_view element.now) < deepest_nesting }
     ensures { option_map clash_view result ≡ inside (Element 0) (first_clash (type_view element.now)) }
 {
     let clash = first_clash(element)?;
@@ -74,8 +75,8 @@ fn clash_of_elements(element: &Ty) -> Option<Clash>
 #[cycle(search)]
 fn clash_among(comps: &[Comp], in_sequence: bool) -> Option<Clash>
     requires limits { IsTrue (components_keep_limits (components_of (map component_view comps.now))) }
-    requires few { length comps.now ≤ 64 }
-    requires depth { deepest (components_of (map component_view comps.now)) ≤ 31 }
+    requires few { length comps.now ≤ most_components }
+    requires depth { deepest (components_of (map component_view comps.now)) < deepest_nesting }
     ensures { option_map clash_view result ≡ option_or (here (first_pair in_sequence 0 (components_of (map component_view comps.now)))) (clash_inside 0 (components_of (map component_view comps.now))) }
 {
     match first_pair(comps, in_sequence) {
@@ -91,8 +92,8 @@ fn clash_among(comps: &[Comp], in_sequence: bool) -> Option<Clash>
 #[cycle(search)]
 fn clash_inside(comps: &[Comp]) -> Option<Clash>
     requires limits { IsTrue (components_keep_limits (components_of (map component_view comps.now))) }
-    requires few { length comps.now ≤ 64 }
-    requires depth { deepest (components_of (map component_view comps.now)) ≤ 31 }
+    requires few { length comps.now ≤ most_components }
+    requires depth { deepest (components_of (map component_view comps.now)) < deepest_nesting }
     ensures { option_map clash_view result ≡ clash_inside 0 (components_of (map component_view comps.now)) }
 {
     for (index, comp) in comps.iter().enumerate() {
@@ -105,7 +106,7 @@ fn clash_inside(comps: &[Comp]) -> Option<Clash>
 
 /// The least pair of positions whose components must differ in their tags and share one.
 fn first_pair(comps: &[Comp], in_sequence: bool) -> Option<(u8, u8)>
-    requires { length comps.now ≤ 64 }
+    requires { length comps.now ≤ most_components }
     ensures { result ≡ first_pair in_sequence 0 (components_of (map component_view comps.now)) }
 {
     for (index, comp) in comps.iter().enumerate() {
@@ -122,7 +123,7 @@ fn first_pair(comps: &[Comp], in_sequence: bool) -> Option<(u8, u8)>
 /// component is the last that counts.
 fn partner(comps: &[Comp], index: usize, ty: &Ty, in_sequence: bool) -> Option<u8>
     requires there { index < length comps.now }
-    requires few { length comps.now ≤ 64 }
+    requires few { length comps.now ≤ most_components }
     ensures { result ≡ partner in_sequence (type_view ty.now) (suc index) (components_of (map component_view (drop (suc index) comps.now))) }
 {
     for later in index + 1..comps.len() {

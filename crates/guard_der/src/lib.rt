@@ -23,6 +23,3 @@ pub use encoding::{EncodeFault, encode};
 pub use fitting::fits;
 pub use head::header;
 pub use sound_types::sound;
-
-#[cfg(test)]
-mod tests;

@@ -1,6 +1,7 @@
 //! The distinguished encoding rules (X.690): what octets say, or why they are no encoding.
 #![tactic(auto)]
 
+mod bits;
 mod breach;
 mod characters;
 mod contents;

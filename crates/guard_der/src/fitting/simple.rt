@@ -1,10 +1,11 @@
 //! Which values the simple kinds have.
-ghost use Rattle.std.specs.Prelude.{◌≡◌, ◌^◌, ◌≤◌, chars, map};
+ghost use Rattle.std.specs.Prelude.{◌≡◌, chars, map};
 ghost use Rattle.guard_model.specs.TypeView.{named_view};
 ghost use Rattle.guard_der.specs.Contents.{is_character, is_between, is_digit, is_letter, is_printable_mark};
 ghost use Rattle.guard_der.specs.Pieces.{two_fit};
 ghost use Rattle.guard_der.specs.Fits.{all_below, all_characters, fits_128_bits, fits_arcs, fits_bits, fits_characters, is_item};
 
+use crate::bits::{has_proper_end, has_zero_end};
 use guard_model::{Bits, CharKind, Named};
 
 /// An INTEGER and an ENUMERATED lie within signed 128 bits, as each number of this type does.
@@ -26,30 +27,9 @@ pub fn are_octets(octets: &[u8]) -> bool
 pub fn bits_fit(bits: &Bits) -> bool
     ensures { result ≡ fits_bits bits.now.octets.items bits.now.unused }
 {
-    if bits.unused > 7 || !are_octets(&bits.octets) {
-        return false;
-    }
-    let count = bits.octets.len();
-    if count == 0 {
-        return bits.unused == 0;
-    }
-    bits.octets[count - 1] % power_of_two(bits.unused) == 0
-}
-
-fn power_of_two(exponent: u8) -> u8
-    requires { exponent ≤ 7 }
-    ensures { result ≡ 2 ^ exponent }
-{
-    match exponent {
-        0 => 1,
-        1 => 2,
-        2 => 4,
-        3 => 8,
-        4 => 16,
-        5 => 32,
-        6 => 64,
-        _ => 128,
-    }
+    are_octets(&bits.octets)
+        && has_proper_end(&bits.octets, bits.unused)
+        && has_zero_end(&bits.octets, bits.unused)
 }
 
 /// The first arc is 0 to 2, the second at most 39 under 0 and 1 (X.660); each subidentifier has at most 128 bits.

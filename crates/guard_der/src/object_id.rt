@@ -1,5 +1,5 @@
 //! Contents octets of an OBJECT IDENTIFIER (X.690 8.19).
-ghost use Rattle.std.specs.Prelude.{◌≡◌, ◌≤◌, ◌*◌, ◌-◌, ◌∷◌, ◌++◌, [], ℕ, List, Ok, if◌then◌else◌};
+ghost use Rattle.std.specs.Prelude.{◌≡◌, ◌≤◌, ◌*◌, ◌-◌, ◌∷◌, ◌++◌, [], ℕ, List, Ok, ◌&&◌, nat_eq, if◌then◌else◌};
 ghost use Rattle.guard_model.specs.AbstractValue as abstract;
 ghost use Rattle.guard_model.specs.Answer.{Gives};
 ghost use Rattle.guard_model.specs.ValueView.{value_view};
@@ -20,28 +20,38 @@ const FULL: u128 = 1 << 121;
 pub fn object_identifier(alloc: Global, at: usize, octets: &[u8]) -> Result<Value, DecodeFault>
     ensures { Gives value_view breach_of result (unless_fault at (object_id_fault octets.now) (abstract.object_identifier (arcs_from (subidentifiers 0 octets.now)))) }
 {
+    if octets.is_empty() {
+        return Err(fault_at(Code::ObjectIdContents, at));
+    }
     let mut arcs = Vec::new(alloc);
     let mut number = 0u128;
     let mut starts = true;
     for (index, octet) in octets.iter().enumerate() {
-        if starts && *octet == 0x80 {
+        if is_padding(starts, *octet) {
             return Err(fault_at(Code::ObjectIdContents, at));
         }
         if number >= FULL {
             return Err(fault_at(code_behind_full(starts, &octets[index..]), at));
         }
+        number = number * 128 + u128::from(*octet % 128);
         starts = *octet < 128;
         if starts {
-            push_arcs(&mut arcs, number * 128 + u128::from(*octet))?;
+            push_arcs(&mut arcs, number)?;
             number = 0;
-        } else {
-            number = number * 128 + u128::from(*octet - 128);
         }
     }
-    if !starts || arcs.is_empty() {
-        return Err(fault_at(Code::ObjectIdContents, at));
+    if starts {
+        Ok(Value::Oid(arcs))
+    } else {
+        Err(fault_at(Code::ObjectIdContents, at))
     }
-    Ok(Value::Oid(arcs))
+}
+
+/// A subidentifier may not begin with 80, seven bits that are all zero.
+fn is_padding(starts: bool, octet: u8) -> bool
+    ensures { result ≡ (starts && nat_eq octet 128) }
+{
+    starts && octet == 0x80
 }
 
 /// The name of the fault of an OBJECT IDENTIFIER with a subidentifier that is too long: the form comes first.
@@ -60,7 +70,7 @@ fn are_subidentifiers(starts: bool, octets: &[u8]) -> bool
 {
     let mut starts = starts;
     for octet in octets {
-        if starts && *octet == 0x80 {
+        if is_padding(starts, *octet) {
             return false;
         }
         starts = *octet < 128;

@@ -57,38 +57,43 @@ pub enum Code {
 }
 
 impl Code {
-    /// Its number and name, as they are reported.
-    pub fn name(self) -> &'static str {
+    ghost use Rattle.guard_der.specs.Names.{breach_name};
+
+    /// As it is reported, without its number.
+    pub fn name(self) -> &'static str
+        ensures { result.now ≡ breach_name self }
+    {
         match self {
-            Code::Truncated => "E1 Truncated",
-            Code::TagForm => "E2 TagForm",
-            Code::IndefiniteLength => "E3 IndefiniteLength",
-            Code::NonMinimalLength => "E4 NonMinimalLength",
-            Code::LengthTooLarge => "E5 LengthTooLarge",
-            Code::UnexpectedTag => "E6 UnexpectedTag",
-            Code::MissingComponent => "E7 MissingComponent",
-            Code::WrongForm => "E8 WrongForm",
-            Code::BooleanContents => "E9 BooleanContents",
-            Code::IntegerContents => "E10 IntegerContents",
-            Code::IntegerTooLong => "E11 IntegerTooLong",
-            Code::UnknownEnumeration => "E12 UnknownEnumeration",
-            Code::NullContents => "E13 NullContents",
-            Code::BitStringContents => "E14 BitStringContents",
-            Code::UnusedBits => "E15 UnusedBits",
-            Code::ObjectIdContents => "E16 ObjectIdContents",
-            Code::ObjectIdTooLong => "E17 ObjectIdTooLong",
-            Code::Characters => "E18 Characters",
-            Code::SetOrder => "E19 SetOrder",
-            Code::SetOfOrder => "E20 SetOfOrder",
-            Code::DefaultPresent => "E21 DefaultPresent",
-            Code::TrailingOctets => "E22 TrailingOctets",
+            Code::Truncated => "Truncated",
+            Code::TagForm => "TagForm",
+            Code::IndefiniteLength => "IndefiniteLength",
+            Code::NonMinimalLength => "NonMinimalLength",
+            Code::LengthTooLarge => "LengthTooLarge",
+            Code::UnexpectedTag => "UnexpectedTag",
+            Code::MissingComponent => "MissingComponent",
+            Code::WrongForm => "WrongForm",
+            Code::BooleanContents => "BooleanContents",
+            Code::IntegerContents => "IntegerContents",
+            Code::IntegerTooLong => "IntegerTooLong",
+            Code::UnknownEnumeration => "UnknownEnumeration",
+            Code::NullContents => "NullContents",
+            Code::BitStringContents => "BitStringContents",
+            Code::UnusedBits => "UnusedBits",
+            Code::ObjectIdContents => "ObjectIdContents",
+            Code::ObjectIdTooLong => "ObjectIdTooLong",
+            Code::Characters => "Characters",
+            Code::SetOrder => "SetOrder",
+            Code::SetOfOrder => "SetOfOrder",
+            Code::DefaultPresent => "DefaultPresent",
+            Code::TrailingOctets => "TrailingOctets",
         }
     }
 }
 
+/// With its number: `E1 Truncated`.
 impl fmt::Display for Code {
     fn fmt<W: fmt::Write>(&self, f: &mut fmt::Formatter<W>) -> fmt::Result {
-        write!(f, "{}", self.name())
+        write!(f, "E{} {}", *self as u8 + 1, self.name())
     }
 }
 

@@ -111,10 +111,6 @@ inner_proper (t ∷ u ∷ ts) kind more e =
 some_tags : (t : Tag) (ts : List Tag) → eqb (length (t ∷ ts)) 0 ≡ true → ⊥
 some_tags t ts e = absurd (omega (arith, eqb-true (length (t ∷ ts)) 0 e))
 
-pub was_true : (b : Bool) → not b ≡ false → b ≡ true
-was_true true e = refl
-was_true false e = absurd cc
-
 pub element_none : (tags : List Tag) (kind : AbstractKind) (at : ℕ) (h : Head) (os : List ℕ) → eqb (length tags) 0 ≡ true → element_at (whole tags kind) at h os ≡ untagged_at kind at h os
 unfolding element_at tags_at
 element_none [] kind at h os e = refl

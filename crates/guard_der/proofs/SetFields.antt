@@ -1,7 +1,7 @@
 -- The components of a SET that are sent, and those that are filled one by one.
 use Rattle.std.proofs.Common.{◌≡◌, ℕ, zero, suc, Bool, true, false, cond, List, [], ◌∷◌, ◌++◌, Option, Some, None, Ok, Err, refl, sym, ap, subst, ◌∙◌, inl, inr}
 use Rattle.std.specs.Prelude.{◌&&◌, not}
-use Rattle.std.proofs.lemmas.Bool.{cond-true, cond-false, and_parts, and_from}
+use Rattle.std.proofs.lemmas.Bool.{cond-true, cond-false, and_parts, and_from, not-true}
 use Rattle.guard_model.specs.Answer.{◌>>=◌}
 use Rattle.guard_model.specs.declared.tag.Tag.{Tag}
 use Rattle.guard_model.specs.AbstractType as type
@@ -109,16 +109,12 @@ sent_filled (suc j) (component name t presence rest) (value.present v fs) e =
 sent_filled zero (component name t presence rest) (value.absent fs) e = refl
 sent_filled (suc j) (component name t presence rest) (value.absent fs) e = sent_filled j rest fs e
 
-was_false : (b : Bool) → not b ≡ true → b ≡ false
-was_false true e = absurd cc
-was_false false e = refl
-
 pub sent_already : (cs : Components) (fs : Fields) → all_sent cs fs ≡ true → sent_only cs fs ≡ fs
 sent_already no_components fs e = refl
 sent_already (component name t presence rest) value.no_fields e = refl
 sent_already (component name t presence rest) (value.present v fs) e =
     let p = and_parts (not (is_left_out presence v)) (all_sent rest fs) e in
-    cond-false (is_left_out presence v) _ _ (was_false (is_left_out presence v) p.0) ∙ ap (value.present v) (sent_already rest fs p.1)
+    cond-false (is_left_out presence v) _ _ (not-true (is_left_out presence v) p.0) ∙ ap (value.present v) (sent_already rest fs p.1)
 sent_already (component name t presence rest) (value.absent fs) e = ap value.absent (sent_already rest fs e)
 
 pub partly : (cs : Components) (fs : Fields) → fits_fields cs fs ≡ true → fits_partly cs fs ≡ true

@@ -1,7 +1,7 @@
 -- What was read of a SET, element by element, and what that says of its fields, its parts and its octets.
 use Rattle.std.proofs.Common.{◌≡◌, ℕ, zero, suc, ◌≤◌, Bool, true, false, List, [], ◌∷◌, ◌++◌, Option, Some, None, refl, sym, ap, ◌∙◌, arith, inl, inr}
 use Rattle.std.specs.Prelude.{◌&&◌, not, ◌⊎◌}
-use Rattle.std.proofs.lemmas.Bool.{and_parts, and_from, true≢false}
+use Rattle.std.proofs.lemmas.Bool.{and_parts, and_from, true≢false, not-true}
 use Rattle.guard_model.specs.declared.tag.Tag.{Tag}
 use Rattle.guard_model.specs.AbstractType.{AbstractType, AbstractPresence, Components, no_components, component}
 use Rattle.guard_model.specs.AbstractValue as value
@@ -113,10 +113,6 @@ begins_first t v octets law fit e = let a = law.again 0 v octets [] fit e in ap 
 pub begins_part : (cs : Components) (j : ℕ) (v : AbstractValue) (octets : List ℕ) → AllLawful cs → fits_alternative cs j v ≡ true → alternative_octets cs j v ≡ Some octets → part_begins cs j (outermost_alternative cs j v) ≡ true
 begins_part cs j v octets laws fit e = let a = (part_lawful cs j laws (within_fits cs j v fit)).again 0 v octets [] fit e in ap (part_begins cs j) (sym a.tag_is) ∙ a.due
 
-was_false : (b : Bool) → not b ≡ true → b ≡ false
-was_false true e = absurd cc
-was_false false e = refl
-
 no_parts : (cs : Components) (gs : Fields) (ps : List Part) → gs ≡ all_absent cs → parts_of cs gs ≡ Some ps → ps ≡ []
 no_parts cs gs ps none e = same_Some ps [] (sym e ∙ ap (parts_of cs) none ∙ absent_parts cs)
 
@@ -219,7 +215,7 @@ greatest (component name t presence rest) (value.present v gs) ps laws distinct 
     let d = and_parts (differs_from_all t rest) (all_differ rest) distinct in
     let f = and_parts (fits t v) (fits_partly rest gs) fit in
     let s = and_parts (not (is_left_out presence v)) (all_sent rest gs) sent in
-    let kept = was_false (is_left_out presence v) s.0 in
+    let kept = not-true (is_left_out presence v) s.0 in
     let part : List ℕ → Part = λ os. record { tag = outermost t v; octets = os } in
     let a = option_parts (der t v) (λ os. bind (parts_of rest gs) (λ ps. Some (part os ∷ ps))) ps (sym (ap (λ (left : Bool). part_unless left (outermost t v) (der t v) (parts_of rest gs)) kept) ∙ e) in
     let b = option_parts (parts_of rest gs) (λ ps. Some (part a.0 ∷ ps)) ps a.2 in

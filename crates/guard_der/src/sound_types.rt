@@ -14,11 +14,9 @@ mod forms;
 use crate::encoding::{EncodeFault, encode};
 use crate::fitting::fits;
 use crate::sound_types::forms::is_formed;
-use guard_model::{Comp, Kind, OutOfMemory, Presence, Ty, Value};
+use guard_model::{Comp, Kind, MOST_COMPONENTS, OutOfMemory, Presence, Ty, Value};
 use guard_tagcheck::{check, is_within_limits};
 use std::alloc::Global;
-
-const MOST_COMPONENTS: usize = 64;
 
 /// Whether the type is sound: a tag at each node but a CHOICE, numbers of tags up to 268,435,455, at most 64 components or
 /// alternatives in each list, nesting up to 32; tags that tell components and alternatives apart (X.680 25.6, 27.3, 29.3);

@@ -24,13 +24,13 @@ use Rattle.guard_der.proofs.Paths.{room_below, room_below_item}
 use Rattle.guard_der.proofs.Items.{item_reads}
 use Rattle.guard_der.proofs.ItemLoop.{due_some, item_tags, item_not_due, item_not_read, item_descends, item_is_read, item_refused, items_go_on, items_refused, items_done, sequence_of_contents, set_of_contents, contents_refused, contents_read}
 use Rattle.guard_der.proofs.Decodings as decodings
-use Rattle.guard_der.proofs.Decodings.{several, was_true, whole, due_room, inner_proper, proper_inside, element_none, element_one, element_one_wrong, element_more, element_more_wrong, part_is, chosen_none, chosen_some, chosen_refused, end_ok, no_header, stray_ok, stray_refused, sent_done, default_sent, inside_refused, sequence_parts, choice_parts, choice_proper, choice_contents, choice_element, tags_element, tags_proper, tags_nesting, refuses_as, inside_room}
+use Rattle.guard_der.proofs.Decodings.{several, whole, due_room, inner_proper, proper_inside, element_none, element_one, element_one_wrong, element_more, element_more_wrong, part_is, chosen_none, chosen_some, chosen_refused, end_ok, no_header, stray_ok, stray_refused, sent_done, default_sent, inside_refused, sequence_parts, choice_parts, choice_proper, choice_contents, choice_element, tags_element, tags_proper, tags_nesting, refuses_as, inside_room}
 use Rattle.guard_der.proofs.SetSteps.{member_reads, member_default}
 use Rattle.guard_der.proofs.Slots.{slot_filled}
 use Rattle.guard_der.proofs.Members as members
 use Rattle.guard_der.proofs.Members.{set_parts, set_read, set_given, set_refused, presence_is, head_size}
 use Rattle.guard_der.proofs.decoding.+reading.Goals as goal
-use Rattle.std.proofs.lemmas.Bool.{not-true}
+use Rattle.std.proofs.lemmas.Bool.{not-true, not-false}
 use Rattle.guard_model.proofs.ValueViews.{value_view_chosen}
 use Rattle.guard_model.proofs.Components.{in_view}
 
@@ -87,12 +87,12 @@ element-returns-then-is_empty t c =
 pub element-returns-then-not-is_form : goal.element-returns-then-not-is_form
 element-returns-then-not-is_form t c =
     rw c.wrong_form.ensures (element_one_wrong c.args.tags.now (kind_view c.args.kind.now) c.args.at (head_view c.args.head) c.args.octets.now c.if-tags-eq1.true
-    (ap (same_form c.args.head.constructed) (sym c.is_kind_constructed.ensures) ∙ sym c.is_form.ensures ∙ c.if-not-is_form.true))
+    (ap (same_form c.args.head.constructed) (sym c.is_constructed.ensures) ∙ sym c.is_form.ensures ∙ c.if-not-is_form.true))
 
 pub element-returns-then-tags-eq1 : goal.element-returns-then-tags-eq1
 element-returns-then-tags-eq1 t c =
     subst (λ r. Gives value_view breach_of c.contents.result r) (sym (element_one c.args.tags.now (kind_view c.args.kind.now) c.args.at (head_view c.args.head) c.args.octets.now c.if-tags-eq1.true
-    (ap (same_form c.args.head.constructed) (sym c.is_kind_constructed.ensures) ∙ sym c.is_form.ensures ∙ c.if-not-is_form.false)))
+    (ap (same_form c.args.head.constructed) (sym c.is_constructed.ensures) ∙ sym c.is_form.ensures ∙ c.if-not-is_form.false)))
     (rw (c.split_at-2.ensures.front, c.split_at.ensures.back) at c.contents.ensures)
 
 pub element-returns-then-not-head : goal.element-returns-then-not-head
@@ -103,7 +103,7 @@ element-returns-then-not-head t c =
 pub element-returns : goal.element-returns
 element-returns t c =
     subst (λ r. Gives value_view breach_of c.alone.result r) (sym (element_more c.args.tags.now (kind_view c.args.kind.now) c.args.at (head_view c.args.head) c.args.octets.now
-    (several c.args.tags.now (sym c.is_empty.ensures ∙ c.if-is_empty.false) c.if-tags-eq1.false) (was_true c.args.head.constructed c.if-not-head.false)))
+    (several c.args.tags.now (sym c.is_empty.ensures ∙ c.if-is_empty.false) c.if-tags-eq1.false) (not-false c.args.head.constructed c.if-not-head.false)))
     (rw (c.split_at-2.ensures.front, c.split_at.ensures.back) at c.alone.ensures)
 
 -- ---- CHOICE

@@ -1,6 +1,7 @@
 //! The distinguished encoding rules (X.690): what octets say, or why they are no encoding.
 #![tactic(auto)]
 
+mod bits;
 mod breach;
 mod characters;
 mod contents;
@@ -13,6 +14,7 @@ mod forms;
 mod head;
 pub mod laws;
 mod object_id;
+mod presence;
 mod sound_types;
 mod tags;
 
@@ -23,6 +25,3 @@ pub use encoding::{EncodeFault, encode};
 pub use fitting::fits;
 pub use head::header;
 pub use sound_types::sound;
-
-#[cfg(test)]
-mod tests;

@@ -8,7 +8,7 @@ use Rattle.guard_model.specs.AbstractType.{AbstractType, type_of}
 use Rattle.guard_model.specs.AbstractValue.{AbstractValue}
 use Rattle.guard_der.specs.Fits.{fits}
 use Rattle.guard_der.specs.Sound.{is_sound}
-use Rattle.derguard.specs.Policies.{AbstractMessage, AbstractRule, FitsAlso, IsConsistent, declared_among}
+use Rattle.guard_policy.specs.Policies.{AbstractMessage, AbstractRule, FitsAlso, IsConsistent, declared_among}
 use Rattle.derguard.specs.BuiltIn.{is_integer_type, built_in_messages, built_in_rules}
 
 integers_fit : (t u : AbstractType) → IsTrue (is_integer_type t) → IsTrue (is_integer_type u) → FitsAlso t u

@@ -2,10 +2,10 @@
 use Rattle.std.specs.Prelude.{ℕ, List, IfSome}
 use Rattle.derguard.specs.declared.first_run.FirstFault.{FirstFault}
 use Rattle.derguard.specs.declared.first_run.FirstFault.TheVariants.{Schema, NoType, OutOfMemory}
-use Rattle.derguard.specs.SchemaFaults.{named}
-use Rattle.derguard.specs.Schemas.{AbstractSchema}
-use Rattle.derguard.specs.SchemaAccepts.{Accepts, IsRefused}
-use Rattle.derguard.specs.Policies.{AbstractPolicy}
+use Rattle.guard_schema.specs.Faults.{named}
+use Rattle.guard_schema.specs.Schemas.{AbstractSchema}
+use Rattle.guard_schema.specs.Accepts.{Accepts, IsRefused}
+use Rattle.guard_policy.specs.Policies.{AbstractPolicy}
 use Rattle.derguard.specs.BuiltIn.{IsBuiltIn, HasNoBuiltIn}
 use Rattle.derguard.specs.Printing.{AreLines}
 use Rattle.derguard.specs.FirstRun.{first_messages}

@@ -1,14 +1,14 @@
 //! Four messages, decided by the policy that is built in.
 ghost use Rattle.std.specs.Prelude.{◌≡◌, ◌++◌, codes, IfOk, IfErr, OnOk};
-ghost use Rattle.derguard.specs.PolicyView.{policy_view};
+ghost use Rattle.guard_policy.specs.PolicyView.{policy_view};
 ghost use Rattle.derguard.specs.Printing.{AreLines, AppendsLine};
 ghost use Rattle.derguard.specs.FirstRun.{sent, first_messages};
 ghost use Rattle.derguard.specs.FirstFaults.{Prints, IsFirstFault};
 
 use crate::built_in::built_in;
-use crate::guard_policy::{Policy, Route};
-use crate::guard_report::verdict_text;
-use crate::guard_schema::{Schema, SchemaFault};
+use guard_policy::{Policy, Route};
+use guard_report::verdict_text;
+use guard_schema::{Schema, SchemaFault};
 use guard_model::OutOfMemory;
 use std::alloc::Global;
 use thiserror::Error;

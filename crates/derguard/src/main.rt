@@ -3,12 +3,6 @@
 
 mod built_in;
 mod first_run;
-mod guard_eval;
-mod guard_policy;
-mod guard_report;
-mod guard_schema;
-#[cfg(test)]
-mod tests;
 
 use first_run::first_run;
 use std::io;

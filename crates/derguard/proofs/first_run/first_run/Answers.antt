@@ -1,5 +1,5 @@
-use Rattle.derguard.specs.PolicyView.{policy_view}
-use Rattle.derguard.specs.SchemaView.{schema_view}
+use Rattle.guard_policy.specs.PolicyView.{policy_view}
+use Rattle.guard_schema.specs.SchemaView.{schema_view}
 use Rattle.derguard.proofs.first_run.first_run.Goals as goal
 
 pub returns-in_default-clause-refused : goal.returns-in_default-clause-refused

@@ -1,0 +1,9 @@
+pub mod Chosen
+pub mod Components
+pub mod Items
+pub mod Law
+pub mod Members
+pub mod Paths
+pub mod Proper
+pub mod Views
+pub mod Violations

@@ -1,0 +1,4 @@
+pub mod Components
+pub mod Member
+pub mod Violations
+pub mod Rows

@@ -1,0 +1,4 @@
+pub mod Goes
+pub mod Ready
+pub mod Reasons
+pub mod Shortfalls

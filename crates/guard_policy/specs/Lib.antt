@@ -1,0 +1,4 @@
+pub mod Policies
+pub mod PolicyView
+pub mod Verdicts
+pub mod Decisions

@@ -1,0 +1,14 @@
+pub mod Bare
+pub mod Build
+pub mod Each
+pub mod Entries
+pub mod Kinds
+pub mod Laws
+pub mod Loops
+pub mod Numbers
+pub mod Only
+pub mod Seen
+pub mod Sound
+pub mod SoundAt
+pub mod Text
+pub mod Trees

@@ -1,0 +1,13 @@
+pub mod First
+pub mod Basic
+pub mod Forms
+pub mod Names
+pub mod Types
+pub mod Tagging
+pub mod Constraints
+pub mod Faults
+pub mod Reading
+pub mod Schemas
+pub mod Accepts
+pub mod Views
+pub mod SchemaView

@@ -1,5 +1,5 @@
 -- What the first run prints, and why it prints nothing.
-use Rattle.std.specs.Prelude.{ℕ, List, IfSome}
+use Rattle.std.specs.Prelude.{ℕ, List, IsSomeAnd}
 use Rattle.derguard.specs.declared.first_run.FirstFault.{FirstFault}
 use Rattle.derguard.specs.declared.first_run.FirstFault.TheVariants.{Schema, NoType, OutOfMemory}
 use Rattle.guard_schema.specs.Faults.{named}
@@ -15,7 +15,9 @@ abbrev pub Prints : List ℕ → List ℕ → Type 0
 Prints text out =
     (s : AbstractSchema) × (p : AbstractPolicy) × Accepts text s × IsBuiltIn s p × AreLines p first_messages out
 
+-- Why the text makes nothing to print: it makes no schema, or none with the types. Want of memory names no reason, and stands by its
+-- own name alone.
 abbrev pub IsFirstFault : List ℕ → FirstFault → Type 0
-IsFirstFault text (Schema f) = IfSome (named f) (IsRefused text)
+IsFirstFault text (Schema f) = IsSomeAnd (named f) (IsRefused text)
 IsFirstFault text NoType = (s : AbstractSchema) × Accepts text s × HasNoBuiltIn s
 IsFirstFault text OutOfMemory = Unit {0}

@@ -2,7 +2,7 @@
 ghost use Rattle.std.specs.Prelude.{◌≡◌, ◌++◌, codes, IfOk, IfErr, OnOk};
 ghost use Rattle.guard_policy.specs.PolicyView.{policy_view};
 ghost use Rattle.derguard.specs.Printing.{AreLines, AppendsLine};
-ghost use Rattle.derguard.specs.FirstRun.{sent, first_messages};
+ghost use Rattle.derguard.specs.FirstRun.{first_text, sent, first_messages};
 ghost use Rattle.derguard.specs.FirstFaults.{Prints, IsFirstFault};
 
 use crate::built_in::built_in;
@@ -14,7 +14,7 @@ use std::alloc::Global;
 use thiserror::Error;
 
 /// The module that is built in.
-pub const FIRST: &str =
+const FIRST: &str =
     "First DEFINITIONS EXPLICIT TAGS ::= BEGIN\nLevel ::= INTEGER (0..100)\nLow ::= INTEGER (0..9)\nPing ::= SEQUENCE { level INTEGER (0..100), urgent BOOLEAN }\nEND\n";
 
 /// Why the first run has no lines.
@@ -45,8 +45,8 @@ impl From<OutOfMemory> for FirstFault {
 /// It refuses with Schema where the built-in module makes no schema, and with NoType where it lacks a type. OutOfMemory
 /// may stand in place of any answer.
 pub fn first_run(alloc: Global) -> Result<Vec<u8>, FirstFault>
-    ensures printed { IfOk result (λ out. Prints FIRST.now out.items) }
-    ensures refused { IfErr result (IsFirstFault FIRST.now) }
+    ensures printed { IfOk result (λ out. Prints first_text out.items) }
+    ensures refused { IfErr result (IsFirstFault first_text) }
 {
     let schema = match Schema::build(alloc, FIRST.as_bytes()) {
         Ok(schema) => schema,

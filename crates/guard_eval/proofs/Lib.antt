@@ -2,8 +2,7 @@ pub mod Chosen
 pub mod Components
 pub mod Items
 pub mod Law
-pub mod Members
+pub mod AtEnd
 pub mod Paths
 pub mod Proper
 pub mod Views
-pub mod Violations

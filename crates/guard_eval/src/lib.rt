@@ -1,4 +1,12 @@
-//! Members of a type, and why a value is none.
+//! Members of a type: whether a value that fits it keeps its constraints, and the first of them that it fails.
+//!
+//! Where to look, or to add:
+//! - which values a constraint allows: `constraint.rt`, `specs/Member.antt`
+//! - which values are members of a type with all its parts: `members.rt`, `specs/Member.antt`
+//! - which constraint is failed first, and in which part: `violation.rt`, `specs/Violations.antt`
+//! - that a value violates nothing exactly where it is a member: `laws.rt`
+//! - a component by its place: `specs/Components.antt`
+//! - examples that the checker computes: `specs/Rows.antt`
 #![tactic(auto)]
 
 mod constraint;

@@ -1,4 +1,4 @@
 pub mod Goes
-pub mod Ready
+pub mod Applicable
 pub mod Reasons
 pub mod Shortfalls

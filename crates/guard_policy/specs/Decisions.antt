@@ -98,5 +98,5 @@ IsReason p route octets w =
     ⊎ ((t : AbstractType) × (declared_type p route.message ≡ Some t) × DeclaredReason t (rules_of p route) octets w)
 
 -- Each rule's type is sound, and has the value where the rule speaks of the route.
-abbrev pub AreReady : AbstractRoute → AbstractValue → List AbstractRule → Type 0
-AreReady route v rules = All (λ r. IsTrue (is_sound r.ty) × (IsTrue (speaks_of route r) → IsTrue (fits r.ty v))) rules
+abbrev pub AreApplicable : AbstractRoute → AbstractValue → List AbstractRule → Type 0
+AreApplicable route v rules = All (λ r. IsTrue (is_sound r.ty) × (IsTrue (speaks_of route r) → IsTrue (fits r.ty v))) rules

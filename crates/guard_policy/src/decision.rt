@@ -7,7 +7,7 @@ ghost use Rattle.guard_der.specs.Sound.{is_sound};
 ghost use Rattle.guard_policy.specs.Policies.{rule_view};
 ghost use Rattle.guard_policy.specs.PolicyView.{route_view};
 ghost use Rattle.guard_policy.specs.Verdicts.{verdict_view};
-ghost use Rattle.guard_policy.specs.Decisions.{speaks_of, speaking, is_allowing, denies, first_denying, by_allowing, judged, AreReady};
+ghost use Rattle.guard_policy.specs.Decisions.{speaks_of, speaking, is_allowing, denies, first_denying, by_allowing, judged, AreApplicable};
 
 use super::policy::{Effect, Rule};
 use super::route::Route;
@@ -26,7 +26,7 @@ pub fn judge(
 ) -> Result<Verdict, OutOfMemory>
     requires type_sound { IsTrue (is_sound (type_view ty.now)) }
     requires value_fits { IsTrue (fits (type_view ty.now) (value_view value.now)) }
-    requires rules_ready { AreReady (route_view route.now) (value_view value.now) (map rule_view rules.now) }
+    requires rules_applicable { AreApplicable (route_view route.now) (value_view value.now) (map rule_view rules.now) }
     ensures { IfOk result (λ w. verdict_view w ≡ judged (type_view ty.now) (speaking (route_view route.now) 0 (map rule_view rules.now)) (value_view value.now)) }
 {
     if let Some(violation) = first_violation(ty, value) {
@@ -57,7 +57,7 @@ fn judge_by_allowing(
     route: &Route,
     value: &Value,
 ) -> Result<Verdict, OutOfMemory>
-    requires { AreReady (route_view route.now) (value_view value.now) (map rule_view rules.now) }
+    requires { AreApplicable (route_view route.now) (value_view value.now) (map rule_view rules.now) }
     ensures { IfOk result (λ w. verdict_view w ≡ by_allowing (speaking (route_view route.now) 0 (map rule_view rules.now)) (value_view value.now)) }
 {
     let mut shortfalls = Vec::new(alloc);

@@ -1,8 +1,8 @@
 pub mod Bare
-pub mod Build
+pub mod Steps
 pub mod Each
 pub mod Entries
-pub mod Kinds
+pub mod ListKinds
 pub mod Laws
 pub mod Loops
 pub mod Numbers

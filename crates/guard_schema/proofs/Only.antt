@@ -29,7 +29,7 @@ use Rattle.guard_tagcheck.specs.Distinct.{AbstractClash}
 use Rattle.guard_tagcheck.specs.Search.{first_clash}
 use Rattle.guard_model.specs.AbstractType.{AbstractType}
 use Rattle.guard_schema.specs.Faults.{AbstractFault}
-use Rattle.guard_schema.proofs.Build.{reads, one_finder}
+use Rattle.guard_schema.proofs.Steps.{reads, one_finder}
 
 both_ok : {A F : Type 0} (x y : A) → ◌≡◌ {A = Result A F} (Ok x) (Ok y) → x ≡ y
 both_ok x y e = cc

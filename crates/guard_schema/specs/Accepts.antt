@@ -1,9 +1,10 @@
 -- Which texts make which schema, and why a text makes none.
 use Rattle.std.specs.Prelude.{◌≡◌, ◌⊎◌, ℕ, List, Some, None, Ok, Err}
 use Rattle.guard_lexer.specs.declared.token.Token.{Token}
+use Rattle.guard_lexer.specs.declared.fault.LexFault.TheVariants as lex
 use Rattle.guard_lexer.specs.Lexing.{Lexes, FirstFault}
 use Rattle.guard_syntax.specs.declared.fault.SyntaxFault.{SyntaxFault}
-use Rattle.guard_syntax.specs.declared.fault.SyntaxFault.TheVariants.{Unexpected}
+use Rattle.guard_syntax.specs.declared.fault.SyntaxFault.TheVariants.{Unexpected, Unsupported, TooDeep, OutOfMemory}
 use Rattle.guard_model.specs.declared.site.Site.{Site}
 use Rattle.guard_syntax.specs.Trees.{WrittenModule}
 use Rattle.guard_syntax.specs.Lexemes.{lexemes_of, sites_of}
@@ -46,11 +47,14 @@ abbrev pub LeavesOut : List ℕ → Site → Type 0
 LeavesOut text site = (tokens : List Token) × (tree : WrittenModule) × IsModuleText text tokens tree × (basic_module tokens tree ≡ Err site)
 
 -- The text makes no schema for this reason: its first fault as a text; that no tree is written with its tokens, or, as P1, that
--- a form of its tree is left out; or its first fault as a module.
+-- a form of its tree is left out; or its first fault as a module. Want of memory is no fault of a text.
 abbrev pub IsRefused : List ℕ → AbstractFault → Type 0
+IsRefused text (Lex lex.OutOfMemory) = ⊥
 IsRefused text (Lex f) = FirstFault place text f
 IsRefused text (Syntax (Unexpected site)) = WritesNothing text (Unexpected site) ⊎ LeavesOut text site
-IsRefused text (Syntax f) = WritesNothing text f
+IsRefused text (Syntax (Unsupported spelling site)) = WritesNothing text (Unsupported spelling site)
+IsRefused text (Syntax (TooDeep site)) = WritesNothing text (TooDeep site)
+IsRefused text (Syntax OutOfMemory) = ⊥
 IsRefused text (Name f) = HasFault text (Name f)
 IsRefused text (Tag f) = HasFault text (Tag f)
 IsRefused text (Clash site c) = HasFault text (Clash site c)

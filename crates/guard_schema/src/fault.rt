@@ -13,10 +13,8 @@ use guard_tagcheck::Clash;
 use std::alloc::{AllocError, AllocFailed};
 use thiserror::Error;
 
-/// Why a text makes no schema: the first fault, or want of memory in place of any other answer. The text is cut into
-/// tokens, then read as a module, then the first form that is left out is looked for, then its names are looked at, then
-/// its definitions in written order, and of each first the tags, then whether they tell its parts apart, and then the
-/// constraints. Each fault prints as itself.
+/// Why a text makes no schema. `Schema::build` says in which order faults are looked for. Each prints as the fault that it
+/// wraps; OutOfMemory may stand in place of any answer, and is never wrapped.
 #[derive(Debug, Drop, Error)]
 pub enum SchemaFault {
     #[error("{0}")]

@@ -39,20 +39,21 @@ impl Schema {
 
     /// The schema of a text, whose place in the list of texts is 1.
     ///
-    /// The faults are looked for in this order: those of the lexer (`Lex`), those of the parser (`Syntax`), the first form
-    /// that is left out (`Syntax`, as P1 Unexpected at its first token), a name that is assigned twice (`Name`), and then
-    /// in each definition in written order first its tags (`Tag`), parts before the whole, then whether tags tell its
-    /// components and alternatives apart (`Clash`), and then its constraints (`Cons`), parts before the whole. OutOfMemory
-    /// may stand in place of any answer.
+    /// Faults are looked for in this order: in the tokens (`Lex`), in how they follow each other (`Syntax`), forms that have no
+    /// meaning yet (`Syntax`, as P1 Unexpected at the first token of the first of them), a name that is assigned twice
+    /// (`Name`), and then one definition after the other: in each its tags and limits (`Tag`), parts before the whole, then
+    /// whether tags tell its components and alternatives apart (`Clash`), then its constraints (`Cons`), parts before the
+    /// whole. OutOfMemory may stand in place of any answer.
     ///
-    /// Forms that are built: no tag default or EXPLICIT TAGS, EXPORTS ALL or no exports, no imports, type assignments, and
-    /// in them, without tags, BOOLEAN, INTEGER without named numbers and with at most one range between two integers, and
-    /// SEQUENCE of one or more mandatory components. Any other form of the grammar is left out.
+    /// A meaning have modules with EXPLICIT TAGS or no tag default, with EXPORTS ALL or no exports, and without imports, that
+    /// assign types without tags: BOOLEAN, BIT STRING, OCTET STRING, NULL, OBJECT IDENTIFIER, the five character strings,
+    /// INTEGER without named numbers and with at most one constraint, a range between two integers, SEQUENCE and SET of
+    /// components that are mandatory or OPTIONAL, CHOICE, SEQUENCE OF and SET OF.
     pub fn build(alloc: Global, text: &[u8]) -> Result<Schema, SchemaFault>
         // What is answered is what the text denotes.
         ensures accepted { IfOk result (λ schema. Accepts text.now (schema_view schema)) }
         ensures sound { IfOk result (λ schema. AreDefinitions (schema_view schema).types) }
-        // What is refused has this fault first.
+        // A refusal names the text's first fault; where it is the parser's, one whose condition stands.
         ensures refused { IfErr result (λ f. IfSome (named f) (IsRefused text.now)) }
         // A text that denotes a schema is answered with it, unless memory runs out. So a fault comes only where it denotes none.
         ensures only { (s : AbstractSchema) → Accepts text.now s → Gives schema_view named result (Ok s) }

@@ -4,7 +4,7 @@ use Rattle.std.specs.Iterator.Adapters.{zip_first, zip_second}
 use Rattle.guard_model.specs.TypeView.{component_view, components_of}
 use Rattle.guard_model.specs.ValueView.{value_view}
 use Rattle.guard_eval.proofs.Chosen.{found_there, found_nowhere, chosen_member, no_member}
-use Rattle.guard_eval.proofs.Members.{members_at_end}
+use Rattle.guard_eval.proofs.AtEnd.{members_at_end}
 use Rattle.guard_eval.proofs.Views.{kind_of_sequence, kind_of_set, kind_of_choice, value_of_fields}
 use Rattle.guard_eval.proofs.members.+members.Goals as goal
 

@@ -15,7 +15,7 @@ use Rattle.guard_eval.proofs.Chosen.{found_there, found_nowhere, chosen_violatio
 use Rattle.guard_eval.proofs.Items.{items_fit}
 use Rattle.guard_eval.proofs.Paths.{path_has_room}
 use Rattle.guard_eval.proofs.Views.{type_opened, kind_of_sequence, kind_of_set, kind_of_choice, kind_of_sequence_of, kind_of_set_of, value_of_fields, value_of_items, value_of_chosen}
-use Rattle.guard_eval.proofs.Violations.{violation_at_end}
+use Rattle.guard_eval.proofs.AtEnd.{violation_at_end}
 use Rattle.guard_eval.proofs.Proper.{type_is, sequence_is, set_is, choice_is, sequence_of_is, set_of_is, next_is, count_is_length}
 use Rattle.guard_eval.proofs.violation.+violations.Goals as goal
 

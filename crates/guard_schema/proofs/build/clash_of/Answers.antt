@@ -2,7 +2,7 @@ use Rattle.std.proofs.Common.{ap}
 use Rattle.guard_model.specs.TypeView as model
 use Rattle.guard_tagcheck.specs.Views.{clash_view}
 use Rattle.guard_schema.specs.Reading.{clash_result}
-use Rattle.guard_schema.proofs.Build.{distinct_has_none, clash_is_first}
+use Rattle.guard_schema.proofs.Steps.{distinct_has_none, clash_is_first}
 use Rattle.guard_schema.proofs.build.clash_of.Goals as goal
 
 pub returns-in-Ok : goal.returns-in-Ok

@@ -6,7 +6,7 @@ use Rattle.guard_policy.specs.Policies.{message_view, rule_view}
 use Rattle.guard_policy.specs.PolicyView.{policy_view, route_view}
 use Rattle.guard_policy.specs.Verdicts.{AbstractVerdict, verdict_view, pass}
 use Rattle.guard_policy.specs.Decisions.{rules_of, judged, Goes}
-use Rattle.guard_policy.proofs.Ready.{declared_sound, ready_from_consistent}
+use Rattle.guard_policy.proofs.Applicable.{declared_sound, applicable_from_consistent}
 use Rattle.guard_policy.proofs.Reasons.{reason_of_value, reason_of_breach, if_ok_map, passes_exactly}
 use Rattle.guard_policy.proofs.policy.Policy.verdict.Goals as goal
 
@@ -46,9 +46,9 @@ returns-in-Err-Breach-clause-only c = λ w reason.
     (reason_of_breach (policy_view c.args.self.now) (route_view c.args.route.now) c.args.octets.now (type_view c.in-Some.ty.now) (breach_view c.in-Err-Breach.breach) w
     (sym c.in-Some.ensures) (rw c.in-Err-Breach.field-0-is at c.in-Err-Breach.ensures.only) (rw c.in-Err-Breach.field-0-is at c.in-Err-Breach.ensures.breach_only) reason)
 
-pub judge-requires-clause-rules_ready : goal.judge-requires-clause-rules_ready
-judge-requires-clause-rules_ready c =
+pub judge-requires-clause-rules_applicable : goal.judge-requires-clause-rules_applicable
+judge-requires-clause-rules_applicable c =
     let p = c.args.self.now in
     rw c.deref.ensures.value
-    (ready_from_consistent (map message_view p.messages.items) (map rule_view p.rules.items) (route_view c.args.route.now) (type_view c.in-Some.ty.now) (value_view c.in-Ok.value)
+    (applicable_from_consistent (map message_view p.messages.items) (map rule_view p.rules.items) (route_view c.args.route.now) (type_view c.in-Some.ty.now) (value_view c.in-Ok.value)
     p.consistent (sym c.in-Some.ensures) c.in-Ok.ensures.decoded.0)

@@ -12,7 +12,7 @@ use Rattle.guard_schema.specs.Faults.{form_named}
 use Rattle.guard_schema.specs.Forms.{basic_module}
 use Rattle.guard_schema.specs.Views.{module_view}
 use Rattle.guard_schema.specs.Accepts.{IsModuleText}
-use Rattle.guard_schema.proofs.Build.{lex_refused, syntax_refused, form_refused, built, names_are_texts}
+use Rattle.guard_schema.proofs.Steps.{lex_refused, syntax_refused, form_refused, built, names_are_texts}
 use Rattle.guard_schema.proofs.Only.{lex_only, syntax_only, form_only, built_only}
 use Rattle.guard_schema.proofs.schema.Schema.build.Goals as goal
 

@@ -1,7 +1,7 @@
 use Rattle.std.proofs.Common.{◌≡◌, Ok, map}
 use Rattle.guard_schema.specs.Views.{assignment_view, definition_view}
 use Rattle.guard_schema.specs.Reading.{check_assigned, read_definitions}
-use Rattle.guard_schema.proofs.Build.{definitions_kept}
+use Rattle.guard_schema.proofs.Steps.{definitions_kept}
 use Rattle.guard_schema.proofs.schema.Schema.of_basic.Goals as goal
 
 pub invariant_of-result : goal.invariant_of-result

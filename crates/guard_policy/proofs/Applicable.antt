@@ -1,4 +1,4 @@
--- The rules that a loop looks at are ready for the value.
+-- The rules that a loop looks at apply to the value.
 use Rattle.std.proofs.Common.{◌≡◌, ℕ, suc, ◌+◌, ◌<◌, List, [], ◌∷◌, length, get_or, drop, map, All, Bool, true, false, ◌&&◌, cond, Option, Some, None, refl, ap, sym, ◌∙◌, subst, arith, add-one}
 use Rattle.std.specs.Prelude.{IsTrue}
 use Rattle.std.proofs.Math.ListN.{get_or-map}
@@ -15,17 +15,17 @@ use Rattle.guard_der.specs.Fits.{fits}
 use Rattle.guard_der.specs.Sound.{is_sound}
 use Rattle.guard_policy.specs.declared.policy.Rule.{Rule}
 use Rattle.guard_policy.specs.Policies.{AbstractMessage, AbstractRule, AbstractRoute, rule_view, declared_among, FitsAlso, IsConsistent}
-use Rattle.guard_policy.specs.Decisions.{speaks_of, AreReady}
+use Rattle.guard_policy.specs.Decisions.{speaks_of, AreApplicable}
 
 same_some : {A : Type 0} {x y : A} → Some x ≡ Some y → x ≡ y
 same_some e = cc
 
-pub ready_at : (route : AbstractRoute) (v : AbstractValue) (rules : List Rule) (i : ℕ) (r : Rule)
-    → i < length rules → r ≡ get_or rules i r → AreReady route v (map rule_view rules)
+pub applicable_at : (route : AbstractRoute) (v : AbstractValue) (rules : List Rule) (i : ℕ) (r : Rule)
+    → i < length rules → r ≡ get_or rules i r → AreApplicable route v (map rule_view rules)
     → IsTrue (is_sound (type_view r.ty)) × (IsTrue (speaks_of route (rule_view r)) → IsTrue (fits (type_view r.ty) v))
-ready_at route v rules i r lt is ready =
+applicable_at route v rules i r lt is applicable =
     let P : AbstractRule → Type 0 = λ x. IsTrue (is_sound x.ty) × (IsTrue (speaks_of route x) → IsTrue (fits x.ty v)) in
-    subst P (get_or-map rule_view rules i r ∙ ap rule_view (sym is)) (All-get_or P (map rule_view rules) i (rule_view r) (rw (length-map rules rule_view) lt) ready)
+    subst P (get_or-map rule_view rules i r ∙ ap rule_view (sym is)) (All-get_or P (map rule_view rules) i (rule_view r) (rw (length-map rules rule_view) lt) applicable)
 
 -- what is left begins with the rule
 pub left_is : (rules : List Rule) (i : ℕ) (r : Rule) → i < length rules → r ≡ get_or rules i r
@@ -46,22 +46,22 @@ speaks_of-message route r e =
 abbrev Fit : List AbstractMessage → AbstractRule → Type 0
 Fit messages r = (t : AbstractType) → declared_among messages r.message ≡ Some t → FitsAlso t r.ty
 
-ready_rules : (messages : List AbstractMessage) (route : AbstractRoute) (t : AbstractType) (v : AbstractValue) (rules : List AbstractRule)
+applicable_rules : (messages : List AbstractMessage) (route : AbstractRoute) (t : AbstractType) (v : AbstractValue) (rules : List AbstractRule)
     → declared_among messages route.message ≡ Some t → IsTrue (fits t v)
     → AllByRecursion (λ r. IsTrue (is_sound r.ty)) rules → AllByRecursion (Fit messages) rules
     → AllByRecursion (λ r. IsTrue (is_sound r.ty) × (IsTrue (speaks_of route r) → IsTrue (fits r.ty v))) rules
-ready_rules messages route t v [] declared fitting sound fit = tt
-ready_rules messages route t v (r ∷ rs) declared fitting sound fit = (
+applicable_rules messages route t v [] declared fitting sound fit = tt
+applicable_rules messages route t v (r ∷ rs) declared fitting sound fit = (
   (sound.0, λ speaks. fit.0 t (ap (declared_among messages) (speaks_of-message route r speaks) ∙ declared) v fitting),
-  ready_rules messages route t v rs declared fitting sound.1 fit.1,
+  applicable_rules messages route t v rs declared fitting sound.1 fit.1,
 )
 
--- in a consistent policy the rules are ready for a value that fits the declared type
-pub ready_from_consistent : (messages : List AbstractMessage) (rules : List AbstractRule) (route : AbstractRoute) (t : AbstractType) (v : AbstractValue)
-    → IsConsistent messages rules → declared_among messages route.message ≡ Some t → IsTrue (fits t v) → AreReady route v rules
-ready_from_consistent messages rules route t v c declared fitting =
+-- in a consistent policy the rules apply to a value that fits the declared type
+pub applicable_from_consistent : (messages : List AbstractMessage) (rules : List AbstractRule) (route : AbstractRoute) (t : AbstractType) (v : AbstractValue)
+    → IsConsistent messages rules → declared_among messages route.message ≡ Some t → IsTrue (fits t v) → AreApplicable route v rules
+applicable_from_consistent messages rules route t v c declared fitting =
     All-from_recursion (λ r. IsTrue (is_sound r.ty) × (IsTrue (speaks_of route r) → IsTrue (fits r.ty v))) rules
-    (ready_rules messages route t v rules declared fitting (recursion_from_All (λ r. IsTrue (is_sound r.ty)) rules c.rules_sound) (recursion_from_All (Fit messages) rules c.rules_fit))
+    (applicable_rules messages route t v rules declared fitting (recursion_from_All (λ r. IsTrue (is_sound r.ty)) rules c.rules_sound) (recursion_from_All (Fit messages) rules c.rules_fit))
 
 -- a declared type is sound
 sound_among : (messages : List AbstractMessage) (name : List ℕ) (t : AbstractType) → AllByRecursion (λ m. IsTrue (is_sound m.ty)) messages

@@ -1,4 +1,6 @@
+-- the policy that is built in
 pub mod BuiltIn
-pub mod Printing
+-- what the first run prints, or why it prints nothing
 pub mod FirstRun
+pub mod Printing
 pub mod FirstFaults

@@ -8,14 +8,15 @@ use Rattle.guard_model.specs.AbstractType.{AbstractType, AbstractKind, Component
 use Rattle.guard_model.specs.AbstractValue as value
 use Rattle.guard_model.specs.AbstractValue.{AbstractValue, Fields, Items}
 use Rattle.guard_eval.specs.Member.{holds_element, all_hold, every_item, is_member, parts_are_members, fields_are_members, chosen_is_member}
-use Rattle.guard_eval.specs.Violations.{AbstractViolation, below, or_else, unless, first_failing, first_among, violation, violation_inside, violation_from, violation_of_chosen, MembersViolateNothing}
+use Rattle.guard_eval.specs.Violations.{AbstractViolation, below, unless, first_failing, first_among, violation, violation_inside, violation_from, violation_of_chosen, MembersViolateNothing}
+use Rattle.std.specs.Option.{option_or}
 
 -- the test is true exactly where nothing is found
 abbrev pub is_clear : Option AbstractViolation → Bool
 is_clear None = true
 is_clear (Some w) = false
 
-clear_either : (v w : Option AbstractViolation) → is_clear (or_else v w) ≡ (is_clear v && is_clear w)
+clear_either : (v w : Option AbstractViolation) → is_clear (option_or v w) ≡ (is_clear v && is_clear w)
 clear_either None w = refl
 clear_either (Some v) w = refl
 

@@ -1,8 +1,9 @@
-pub mod Chosen
-pub mod Components
-pub mod Items
-pub mod Law
-pub mod AtEnd
-pub mod Paths
+-- what a sound type and a value that fits it say of their parts
 pub mod Proper
-pub mod Views
+pub mod Items
+pub mod Chosen
+-- loops over components and fields
+pub mod AtEnd
+-- violations
+pub mod Paths
+pub mod Law

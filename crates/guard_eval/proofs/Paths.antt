@@ -13,13 +13,14 @@ use Rattle.guard_tagcheck.specs.Limits.{nesting, nesting_inside, deepest, is_tag
 use Rattle.guard_der.specs.Sound.{is_proper, is_proper_kind, are_proper}
 use Rattle.guard_eval.specs.declared.violation.Violation.{Violation}
 use Rattle.guard_eval.specs.Member.{holds_element}
-use Rattle.guard_eval.specs.Violations.{AbstractViolation, violation_view, below, or_else, unless, first_failing, first_among, violation, violation_inside, violation_from, violation_of_chosen}
+use Rattle.guard_eval.specs.Violations.{AbstractViolation, violation_view, below, unless, first_failing, first_among, violation, violation_inside, violation_from, violation_of_chosen}
 use Rattle.guard_eval.proofs.Proper.{type_is, sequence_is, set_is, choice_is, sequence_of_is, set_of_is, components_are}
+use Rattle.std.specs.Option.{option_or}
 
 abbrev IsShorter : ℕ → Option AbstractViolation → Type 0
 IsShorter n w = IfSome w (λ x. length x.path < n)
 
-either_shorter : (n : ℕ) (v w : Option AbstractViolation) → IsShorter n v → IsShorter n w → IsShorter n (or_else v w)
+either_shorter : (n : ℕ) (v w : Option AbstractViolation) → IsShorter n v → IsShorter n w → IsShorter n (option_or v w)
 either_shorter n None w d e = e
 either_shorter n (Some v) w d e = d
 

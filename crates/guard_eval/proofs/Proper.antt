@@ -10,7 +10,7 @@ use Rattle.guard_model.specs.TypeView.{type_view, component_view, components_of}
 use Rattle.guard_tagcheck.specs.Limits.{nesting, deepest, count, is_tagged, are_low}
 use Rattle.guard_tagcheck.specs.Search.{first_clash}
 use Rattle.guard_der.specs.Sound.{is_sound, is_proper, is_proper_kind, is_proper_presence, are_proper, all_apply, none_clash}
-use Rattle.guard_eval.proofs.Views.{component_opened}
+use Rattle.guard_model.proofs.TypeViews.{component_view_is}
 
 pub sound_is_proper : (t : AbstractType) → IsTrue (is_sound t) → IsTrue (is_proper t) × (nesting t ≤ 32)
 sound_is_proper t h =
@@ -58,4 +58,4 @@ next_is c cs rest e h d =
     let k = components_are o.name o.ty o.presence (components_of (map component_view rest)) (rw e at h) in
     let d1 : max (nesting o.ty) (deepest (components_of (map component_view rest))) ≤ 32 = rw e at d in
     let n : nesting o.ty ≤ 32 = omega arith in
-    subst (λ t. IsTrue (is_proper t) × (nesting t ≤ 32)) (ap (λ x. x.ty) (component_opened c)) (k.0, n)
+    subst (λ t. IsTrue (is_proper t) × (nesting t ≤ 32)) (ap (λ x. x.ty) (component_view_is c)) (k.0, n)

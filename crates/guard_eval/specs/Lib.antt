@@ -1,4 +1,6 @@
-pub mod Components
+-- members
 pub mod Member
+-- what is violated first
 pub mod Violations
+-- examples
 pub mod Rows

@@ -9,6 +9,7 @@ use Rattle.guard_model.specs.AbstractValue as value
 use Rattle.guard_model.specs.AbstractValue.{AbstractValue, Fields, Items}
 use Rattle.guard_eval.specs.declared.violation.Violation.{Violation}
 use Rattle.guard_eval.specs.Member.{holds_element, is_member}
+use Rattle.std.specs.Option.{option_or}
 
 pub record AbstractViolation : Type 0 where
   pub site : Site
@@ -26,10 +27,6 @@ abbrev pub below : Step → Option AbstractViolation → Option AbstractViolatio
 below step None = None
 below step (Some w) = Some (record { site = w.site; path = step ∷ w.path })
 
-abbrev pub or_else : Option AbstractViolation → Option AbstractViolation → Option AbstractViolation
-or_else None second = second
-or_else (Some w) second = Some w
-
 -- blamed where it doesn't hold
 abbrev pub unless : Bool → Site → Option AbstractViolation
 unless true site = None
@@ -41,17 +38,17 @@ blame (at site element) v = unless (holds_element element v) site
 
 abbrev pub first_failing : Constraints → AbstractValue → Option AbstractViolation
 first_failing no_constraints v = None
-first_failing (constraint c cs) v = or_else (blame c v) (first_failing cs v)
+first_failing (constraint c cs) v = option_or (blame c v) (first_failing cs v)
 
 -- the first of what is found in the elements, the first of which is element i
 abbrev pub first_among : (AbstractValue → Option AbstractViolation) → ℕ → Items → Option AbstractViolation
 first_among find i value.no_items = None
-first_among find i (value.item v vs) = or_else (below (Element i) (find v)) (first_among find (suc i) vs)
+first_among find i (value.item v vs) = option_or (below (Element i) (find v)) (first_among find (suc i) vs)
 
 abbrev mutual
   -- the constraints of the type itself, then those of its components in written order, of the chosen alternative, or of its elements in turn
   pub violation : AbstractType → AbstractValue → Option AbstractViolation
-  violation (type_of tags kind cons) v = or_else (first_failing cons v) (violation_inside kind v)
+  violation (type_of tags kind cons) v = option_or (first_failing cons v) (violation_inside kind v)
 
   pub violation_inside : AbstractKind → AbstractValue → Option AbstractViolation
   violation_inside (type.sequence cs) (value.fields fs) = violation_from 0 cs fs
@@ -63,7 +60,7 @@ abbrev mutual
 
   -- from component i on
   pub violation_from : ℕ → Components → Fields → Option AbstractViolation
-  violation_from i (component name t presence cs) (value.present v fs) = or_else (below (Component i) (violation t v)) (violation_from (suc i) cs fs)
+  violation_from i (component name t presence cs) (value.present v fs) = option_or (below (Component i) (violation t v)) (violation_from (suc i) cs fs)
   violation_from i (component name t presence cs) (value.absent fs) = violation_from (suc i) cs fs
   violation_from i _ _ = None
 

@@ -5,7 +5,6 @@
 //! - which values are members of a type with all its parts: `members.rt`, `specs/Member.antt`
 //! - which constraint is failed first, and in which part: `violation.rt`, `specs/Violations.antt`
 //! - that a value violates nothing exactly where it is a member: `laws.rt`
-//! - a component by its place: `specs/Components.antt`
 //! - examples that the checker computes: `specs/Rows.antt`
 #![tactic(auto)]
 

@@ -16,9 +16,7 @@ use Rattle.guard_der.specs.Sound.{is_sound}
 use Rattle.guard_policy.specs.declared.policy.Rule.{Rule}
 use Rattle.guard_policy.specs.Policies.{AbstractMessage, AbstractRule, AbstractRoute, rule_view, declared_among, FitsAlso, IsConsistent}
 use Rattle.guard_policy.specs.Decisions.{speaks_of, AreApplicable}
-
-same_some : {A : Type 0} {x y : A} → Some x ≡ Some y → x ≡ y
-same_some e = cc
+use Rattle.std.proofs.lemmas.Option.{same_Some}
 
 pub applicable_at : (route : AbstractRoute) (v : AbstractValue) (rules : List Rule) (i : ℕ) (r : Rule)
     → i < length rules → r ≡ get_or rules i r → AreApplicable route v (map rule_view rules)
@@ -70,7 +68,7 @@ sound_among [] name t sound e = absurd cc
 sound_among (m ∷ ms) name t sound e =
     let f = λ (b : Bool). cond b (Some m.ty) (declared_among ms name) ≡ Some t → IsTrue (is_sound t) in
     (elim (bytes_eq m.name name) as f [
-      | true ↦ λ (is : Some m.ty ≡ Some t). subst (λ u. IsTrue (is_sound u)) (same_some is) sound.0
+      | true ↦ λ (is : Some m.ty ≡ Some t). subst (λ u. IsTrue (is_sound u)) (same_Some _ _ is) sound.0
       | false ↦ sound_among ms name t sound.1
     ]) e
 

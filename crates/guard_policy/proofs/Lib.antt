@@ -1,4 +1,6 @@
-pub mod Goes
+-- the rules that are asked
 pub mod Applicable
-pub mod Reasons
 pub mod Shortfalls
+-- the verdict
+pub mod Goes
+pub mod Reasons

@@ -9,6 +9,8 @@ use Rattle.guard_policy.specs.Verdicts.{AbstractVerdict, pass, not_allowed, no_r
 use Rattle.guard_policy.specs.Policies.{AbstractRule, AbstractRoute}
 use Rattle.guard_policy.specs.Decisions.{NumberedRule, speaks_of, speaking, is_allowing, allows, shortfalls, by_allowing}
 use Rattle.guard_eval.proofs.Law.{type_clear, is_clear}
+use Rattle.guard_model.proofs.Tests.{not_both}
+use Rattle.std.proofs.lemmas.Bool.{and_parts}
 
 abbrev pub is_some_item : {A : Type 0} → List A → Bool
 is_some_item [] = false
@@ -81,14 +83,6 @@ pub none_allows : (all : List NumberedRule) (v : AbstractValue) (found : List (�
 none_allows all v [] g = rw (← g.allowed, ← g.allowing) refl
 none_allows all v (w ∷ ws) g = rw (← g.allowed, ← g.allowing, ← g.found_all) (ap not_allowed (append-nil (w ∷ ws)))
 
-not_both : (b a : Bool) → (b && a) ≡ false → (b ≡ false) ⊎ ((b ≡ true) × (a ≡ false))
-not_both true a e = inr (refl, e)
-not_both false a e = inl refl
-
-pub are_both : (b a : Bool) → (b && a) ≡ true → (b ≡ true) × (a ≡ true)
-are_both true a e = (refl, e)
-are_both false a e = absurd cc
-
 speaking-there : (route : AbstractRoute) (i : ℕ) (r : AbstractRule) (rest : List AbstractRule) → speaks_of route r ≡ true
     → speaking route i (r ∷ rest) ≡ record { number = i; rule = r } ∷ speaking route (i + 1) rest
 speaking-there route i r rest e = ap (λ b. cond b (record { number = i; rule = r } ∷ speaking route (i + 1) rest) (speaking route (i + 1) rest)) e
@@ -114,7 +108,7 @@ pub goes_on_with : (all : List NumberedRule) (route : AbstractRoute) (v : Abstra
     → rules ≡ r ∷ rest → (speaks_of route r && is_allowing r) ≡ true → violation r.ty v ≡ Some w
     → Gathered all (speaking route i rules) v found → Gathered all (speaking route (i + 1) rest) v (found ++ (i, w) ∷ [])
 goes_on_with all route v found rules rest i r w is e h g =
-    let q = are_both (speaks_of route r) (is_allowing r) e in
+    let q = and_parts (speaks_of route r) (is_allowing r) e in
     let here : Gathered all (speaking route i (r ∷ rest)) v found = subst (λ (rs : List AbstractRule). Gathered all (speaking route i rs) v found) is g in
     falls_short all (record { number = i; rule = r }) (speaking route (i + 1) rest) v found w q.1 h
     (subst (λ (rs : List NumberedRule). Gathered all rs v found) (speaking-there route i r rest q.0) here)
@@ -124,7 +118,7 @@ pub ends_with : (all : List NumberedRule) (route : AbstractRoute) (v : AbstractV
     → rules ≡ r ∷ rest → (speaks_of route r && is_allowing r) ≡ true → violation r.ty v ≡ None
     → Gathered all (speaking route i rules) v found → by_allowing all v ≡ pass
 ends_with all route v found rules rest i r is e h g =
-    let q = are_both (speaks_of route r) (is_allowing r) e in
+    let q = and_parts (speaks_of route r) (is_allowing r) e in
     let here : Gathered all (speaking route i (r ∷ rest)) v found = subst (λ (rs : List AbstractRule). Gathered all (speaking route i rs) v found) is g in
     passes all (record { number = i; rule = r }) (speaking route (i + 1) rest) v found q.1 h
     (subst (λ (rs : List NumberedRule). Gathered all rs v found) (speaking-there route i r rest q.0) here)

@@ -1,2 +1,3 @@
 pub mod Text
+-- examples
 pub mod Rows

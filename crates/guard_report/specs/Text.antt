@@ -4,15 +4,15 @@ use Rattle.guard_model.specs.declared.site.Site.{Site}
 use Rattle.guard_model.specs.declared.site.Step.{Step}
 use Rattle.guard_model.specs.declared.site.Step.TheVariants.{Component, Element}
 use Rattle.guard_model.specs.AbstractType as type
-use Rattle.guard_model.specs.AbstractType.{AbstractType, AbstractKind, Components, type_of, no_components, component}
+use Rattle.guard_model.specs.AbstractType.{AbstractType, AbstractKind, type_of}
 use Rattle.guard_model.specs.TypeView.{OneComponent}
 use Rattle.guard_der.specs.declared.breach.Code.{Code}
 use Rattle.guard_der.specs.declared.breach.Code.TheVariants as code
 use Rattle.guard_der.specs.Breach.{AbstractBreach}
 use Rattle.guard_policy.specs.Policies.{AbstractPolicy, AbstractRoute, declared_type, rule_name_of, module_name}
-use Rattle.guard_eval.specs.Components.{component_among}
 use Rattle.guard_eval.specs.Violations.{AbstractViolation}
 use Rattle.guard_policy.specs.Verdicts.{AbstractVerdict, pass, unknown_message, undecodable, outside_type, denied_by, not_allowed, no_rule}
+use Rattle.guard_model.specs.Components.{component_at, components_in}
 
 -- what has no name stands by its number
 abbrev pub name_or_number : Option (List ℕ) → ℕ → List ℕ
@@ -47,15 +47,10 @@ breach_name code.TrailingOctets = codes "TrailingOctets"
 abbrev pub site_text : AbstractPolicy → Site → List ℕ
 site_text p s = name_or_number (module_name p s.text) s.text ++ codes ":" ++ decimal s.line ++ codes ":" ++ decimal s.column
 
-abbrev pub component_of_kind : AbstractKind → ℕ → Option OneComponent
-component_of_kind (type.sequence cs) i = component_among cs i
-component_of_kind (type.set cs) i = component_among cs i
-component_of_kind (type.choice cs) i = component_among cs i
-component_of_kind _ i = None
-
-abbrev pub component_at : Option AbstractType → ℕ → Option OneComponent
-component_at None i = None
-component_at (Some (type_of tags kind cons)) i = component_of_kind kind i
+-- the component or alternative at this place of the written list, from 0
+abbrev pub component_of : Option AbstractType → ℕ → Option OneComponent
+component_of None i = None
+component_of (Some (type_of tags kind cons)) i = component_at i (components_in kind)
 
 -- the type of the elements of an OF type
 abbrev pub element_of_kind : AbstractKind → Option AbstractType
@@ -69,11 +64,11 @@ element_type (Some (type_of tags kind cons)) = element_of_kind kind
 
 -- the type one step further in, if one is known
 abbrev pub type_within : Option AbstractType → Step → Option AbstractType
-type_within t (Component i) = option_map (λ c. c.ty) (component_at t i)
+type_within t (Component i) = option_map (λ c. c.ty) (component_of t i)
 type_within t (Element i) = element_type t
 
 abbrev pub step_text : Option AbstractType → Step → List ℕ
-step_text t (Component i) = codes "." ++ name_or_number (option_map (λ c. c.name) (component_at t i)) i
+step_text t (Component i) = codes "." ++ name_or_number (option_map (λ c. c.name) (component_of t i)) i
 step_text t (Element i) = codes "[" ++ decimal i ++ codes "]"
 
 -- from a value of the type, if one is known, further in

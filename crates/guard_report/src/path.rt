@@ -1,7 +1,7 @@
 //! The text of a path.
 ghost use Rattle.std.specs.Prelude.{◌≡◌, ◌++◌, OnOk, codes, option_map};
 ghost use Rattle.guard_model.specs.TypeView.{type_view, component_view};
-ghost use Rattle.guard_report.specs.Text.{component_at, element_type, type_within, step_text, steps_text};
+ghost use Rattle.guard_report.specs.Text.{component_of, element_type, type_within, step_text, steps_text};
 
 use super::words::{add, add_name, add_number};
 use guard_model::{Comp, Kind, OutOfMemory, Step, Ty};
@@ -48,7 +48,7 @@ fn type_within(ty: Option<&Ty>, step: Step) -> Option<&Ty>
 
 /// The component or alternative at this place of the written list, from 0.
 fn component_at(ty: Option<&Ty>, place: u8) -> Option<&Comp>
-    ensures { option_map (λ comp. component_view comp.now) result ≡ component_at (option_map (λ ty. type_view ty.now) ty.entry) place }
+    ensures { option_map (λ comp. component_view comp.now) result ≡ component_of (option_map (λ ty. type_view ty.now) ty.entry) place }
 {
     match &ty?.kind {
         Kind::Sequence(comps) => comps.get(place as usize),

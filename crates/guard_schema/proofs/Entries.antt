@@ -7,7 +7,6 @@ use Rattle.guard_syntax.specs.declared.tree.JoinedIntersection.{JoinedIntersecti
 use Rattle.guard_syntax.specs.declared.tree.JoinedDifference.{JoinedDifference}
 use Rattle.guard_syntax.specs.SetViews.{joined_intersection_view, joined_difference_view}
 use Rattle.guard_syntax.specs.declared.tree.Collection.{Collection}
-use Rattle.guard_schema.specs.First.{each}
 use Rattle.guard_schema.specs.Basic as basic
 use Rattle.guard_schema.specs.Basic.{BasicType, BasicBase, BasicComponent}
 use Rattle.std.specs.Global.{Vec}
@@ -19,6 +18,7 @@ use Rattle.guard_schema.specs.Views as view
 use Rattle.guard_schema.specs.Views.{base_step, component_step, type_step, base_view}
 use Rattle.guard_schema.specs.Forms.{ends_of_difference_alone, ends_of_intersection_alone, is_optional, basic_type, basic_base, basic_components, basic_alternatives}
 use Rattle.guard_schema.specs.Reading.{basic_entry, basic_component, basic_alternative}
+use Rattle.guard_model.specs.Each.{each}
 
 -- whether a component is optional, its type, and the others
 in_order : {A B : Type 0} (must : Result Bool Site) (ty : Result A Site) (make : Bool → A → B) (others : Result (List B) Site)

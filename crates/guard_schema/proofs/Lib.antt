@@ -1,14 +1,18 @@
-pub mod Bare
-pub mod Steps
-pub mod Each
+-- parts of trees, one after another
+pub mod Numbers
+pub mod BasicLists
 pub mod Entries
 pub mod ListKinds
-pub mod Laws
 pub mod Loops
-pub mod Numbers
-pub mod Only
-pub mod Seen
+pub mod SeenNames
+-- names are texts
+pub mod TextNames
+-- what the steps of the code give
+pub mod Bare
+pub mod Readings
+-- types without fault are sound
 pub mod Sound
 pub mod SoundAt
-pub mod Text
-pub mod Trees
+-- what a build answers
+pub mod Steps
+pub mod Accepted

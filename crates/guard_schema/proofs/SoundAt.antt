@@ -10,7 +10,7 @@ use Rattle.guard_schema.specs.Types.{denoted}
 use Rattle.guard_schema.specs.Tagging.{nodes, tag_fault}
 use Rattle.guard_schema.specs.Reading.{check_type, build_type}
 use Rattle.guard_schema.proofs.Bare.{bare, within_bare}
-use Rattle.guard_schema.proofs.Laws.{tag_result, counted, check_type-is, build_bare}
+use Rattle.guard_schema.proofs.Readings.{tag_result, counted, check_type-is, build_bare}
 use Rattle.guard_schema.proofs.Sound.{within}
 use Rattle.std.specs.Prelude.{IsTrue}
 use Rattle.std.proofs.Math.ListN.{get_or-map}
@@ -22,6 +22,7 @@ use Rattle.guard_der.specs.Sound.{is_sound}
 use Rattle.guard_schema.specs.declared.build.Definition.{Definition}
 use Rattle.guard_schema.specs.Schemas.{AreDefinitions}
 use Rattle.guard_schema.specs.Views.{definition_view}
+use Rattle.guard_model.proofs.Results.{same_Ok}
 
 pub sound_at : (definitions : List Definition) (i : ℕ) (d : Definition)
     → i < length definitions → d ≡ get_or definitions i d → AreDefinitions (map definition_view definitions) → IsTrue (is_sound (type_view d.ty))
@@ -38,10 +39,7 @@ no_fault (Some f) c d e = absurd cc
 pub within_checked : (before : ℕ) (t : BasicType) (c : Checked) → check_type before t ≡ Ok c → IsTrue (is_within_limits (denoted t))
 within_checked before t c e = within before t (no_fault (tag_fault before t) (counted before (length (nodes t)) (nesting (denoted t))) c (sym (check_type-is before t) ∙ e))
 
-same_ok : (t u : AbstractType) → ◌≡◌ {A = Result AbstractType AbstractFault} (Ok t) (Ok u) → t ≡ u
-same_ok t u e = cc
-
 -- and so does the type without its constraints
 pub within_bare_type : (t : BasicType) (u : AbstractType) → HasTextNames t → IsTrue (is_within_limits (denoted t)) → build_type false t ≡ Ok u → IsTrue (is_within_limits u)
 within_bare_type t u texts limits e =
-    subst (λ (x : AbstractType). IsTrue (is_within_limits x)) (same_ok (bare (denoted t)) u (sym (build_bare t texts) ∙ e)) (subst IsTrue (sym (within_bare (denoted t))) limits)
+    subst (λ (x : AbstractType). IsTrue (is_within_limits x)) (same_Ok (bare (denoted t)) u (sym (build_bare t texts) ∙ e)) (subst IsTrue (sym (within_bare (denoted t))) limits)

@@ -29,7 +29,6 @@ use Rattle.guard_schema.specs.declared.constraints.ConsFault.{ConsFault}
 use Rattle.guard_schema.specs.declared.fault.FormFault.{FormFault}
 use Rattle.guard_schema.specs.declared.fault.FormFault.TheVariants as form
 use Rattle.guard_schema.specs.declared.schema.Schema.{Schema}
-use Rattle.guard_schema.specs.First.{or_else}
 use Rattle.guard_schema.specs.Basic.{BasicAssignment, BasicModule}
 use Rattle.guard_schema.specs.Forms.{basic_module}
 use Rattle.guard_schema.specs.SchemaView.{schema_view}
@@ -40,9 +39,11 @@ use Rattle.guard_schema.specs.Faults.{AbstractFault, Lex, Syntax, Name, Tag, Cla
 use Rattle.guard_schema.specs.Schemas.{AbstractSchema, AreDefinitions, denoted_definition, denoted_schema}
 use Rattle.guard_schema.specs.Accepts.{IsModuleText, IsBasicText, Accepts, IsRefused}
 use Rattle.guard_schema.specs.Reading.{assigned_result, check_assigned, read_definitions, read_module}
-use Rattle.guard_schema.proofs.Laws.{fault_result, read_definitions-is, read_module-is}
-use Rattle.guard_schema.proofs.Sound.{neither, definitions_are}
-use Rattle.guard_schema.proofs.Text.{AreTextLexemes, spans_text, module_text}
+use Rattle.guard_schema.proofs.Readings.{fault_result, read_definitions-is, read_module-is}
+use Rattle.guard_schema.proofs.Sound.{definitions_are}
+use Rattle.guard_schema.proofs.TextNames.{AreTextLexemes, spans_text, module_text}
+use Rattle.std.specs.Option.{option_or}
+use Rattle.guard_model.proofs.Options.{option_or_none}
 
 not_memory : {P : Type 0} (f : LexFault) → (f ≡ lex.OutOfMemory → ⊥) → (f ≡ lex.OutOfMemory) ⊎ P → P
 not_memory f never (inl e) = absurd (never e)
@@ -104,7 +105,7 @@ abbrev IfFault : Option AbstractFault → Type 0
 IfFault None = Unit {0}
 IfFault (Some f) = IsOfModule f
 
-either_fault : (a b : Option AbstractFault) → IfFault a → IfFault b → IfFault (or_else a b)
+either_fault : (a b : Option AbstractFault) → IfFault a → IfFault b → IfFault (option_or a b)
 either_fault None b p q = q
 either_fault (Some f) b p q = p
 
@@ -126,7 +127,7 @@ of_cons (Some f) = tt
 
 of_definition : (before : ℕ) (a : BasicAssignment) → IfFault (definition_fault first_clash before a)
 of_definition before a =
-    either_fault (option_map (λ f. Tag f) (tag_fault before a.ty)) (or_else (option_map (λ c. Clash a.site c) (first_clash (denoted a.ty))) (option_map (λ f. Cons f) (constraint_fault a.ty))) (of_tag (tag_fault before a.ty))
+    either_fault (option_map (λ f. Tag f) (tag_fault before a.ty)) (option_or (option_map (λ c. Clash a.site c) (first_clash (denoted a.ty))) (option_map (λ f. Cons f) (constraint_fault a.ty))) (of_tag (tag_fault before a.ty))
     (either_fault (option_map (λ c. Clash a.site c) (first_clash (denoted a.ty))) (option_map (λ f. Cons f) (constraint_fault a.ty)) (of_clash a.site (first_clash (denoted a.ty))) (of_cons (constraint_fault a.ty)))
 
 of_definitions : (before : ℕ) (assigned : List BasicAssignment) → IfFault (definitions_fault first_clash before assigned)
@@ -202,7 +203,7 @@ module _ (text : List ℕ) (tokens : List Token) (tree : WrittenModule) (is : Is
   built_sound : (s : AbstractSchema) → read_module m ≡ Ok s → AreDefinitions s.types
   built_sound s h =
       let p = none_where_ok (faults_of_module first_clash m) (denoted_schema m) s (sym reads ∙ h) in
-      let q = neither (name_fault m.assignments) (definitions_fault first_clash 0 m.assignments) p.0 in
+      let q = option_or_none (name_fault m.assignments) (definitions_fault first_clash 0 m.assignments) p.0 in
       subst (λ (t : AbstractSchema). AreDefinitions t.types) (sym p.1) (definitions_are m.assignments (no_name (repeated (assigned_names m.assignments)) q.0) q.1)
 
   pub built : (r : Result Schema SchemaFault) → Gives schema_view named r (read_module m) → IfOk r (λ s. Accepts text (schema_view s)) × IfOk r (λ s. AreDefinitions (schema_view s).types) × IfErr r (λ f. IfSome (named f) (IsRefused text))

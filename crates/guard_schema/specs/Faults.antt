@@ -17,11 +17,11 @@ use Rattle.guard_schema.specs.declared.tagging.TagFault.{TagFault}
 use Rattle.guard_schema.specs.declared.constraints.ConsFault.{ConsFault}
 use Rattle.guard_schema.specs.declared.names.NameFault.TheVariants.{Duplicate}
 use Rattle.guard_schema.specs.Basic.{BasicAssignment, BasicModule}
-use Rattle.guard_schema.specs.First.{or_else}
 use Rattle.guard_schema.specs.Names.{assigned_names, repeated}
 use Rattle.guard_schema.specs.Types.{denoted}
 use Rattle.guard_schema.specs.Tagging.{nodes, tag_fault}
 use Rattle.guard_schema.specs.Constraints.{constraint_fault}
+use Rattle.std.specs.Option.{option_or}
 
 -- a fault of a text
 pub data AbstractFault : Type 0 where
@@ -87,17 +87,17 @@ module _ (clash_of : AbstractType → Option AbstractClash) where
   -- what is wrong with a definition, with so many type nodes in those before it: its tags, a clash, its constraints
   abbrev pub definition_fault : ℕ → BasicAssignment → Option AbstractFault
   definition_fault before a =
-      or_else (option_map (λ f. Tag f) (tag_fault before a.ty))
-      (or_else (option_map (λ c. Clash a.site c) (clash_of (denoted a.ty)))
+      option_or (option_map (λ f. Tag f) (tag_fault before a.ty))
+      (option_or (option_map (λ c. Clash a.site c) (clash_of (denoted a.ty)))
       (option_map (λ f. Cons f) (constraint_fault a.ty)))
 
   -- the first definition with which something is wrong, with so many type nodes in those before these
   abbrev pub definitions_fault : ℕ → List BasicAssignment → Option AbstractFault
   definitions_fault before [] = None
-  definitions_fault before (a ∷ rest) = or_else (definition_fault before a) (definitions_fault (before + length (nodes a.ty)) rest)
+  definitions_fault before (a ∷ rest) = option_or (definition_fault before a) (definitions_fault (before + length (nodes a.ty)) rest)
 
   abbrev pub faults_of_module : BasicModule → Option AbstractFault
-  faults_of_module m = or_else (name_fault m.assignments) (definitions_fault 0 m.assignments)
+  faults_of_module m = option_or (name_fault m.assignments) (definitions_fault 0 m.assignments)
 
 -- The first fault of a module in which no form is left out, or that it has none. Names are looked at over the whole module before
 -- any definition.

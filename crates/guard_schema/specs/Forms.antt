@@ -11,9 +11,9 @@ use Rattle.guard_syntax.specs.declared.tree.TagDefault.{TagDefault}
 use Rattle.guard_syntax.specs.declared.tree.TagDefault.TheVariants as tag_default
 use Rattle.guard_syntax.specs.Kinds.{same_kind}
 use Rattle.guard_syntax.specs.Trees.{WrittenNumber, WrittenValue, WrittenEndForm, end_integer, end_reference, end_characters, WrittenEnd, WrittenRange, WrittenSet, set_node, WrittenSetForm, all_except, union, WrittenUnited, none_united, united, WrittenIntersection, intersection, WrittenMet, none_met, met, WrittenDifference, element_alone, element_except, WrittenElement, element_node, WrittenElementForm, parentheses, value, contained, range, size, from, with_component, with_components, WrittenConstraint, constraint, WrittenTag, WrittenNamed, WrittenOfConstraint, WrittenPresence, mandatory, optional, default, WrittenType, type_node, WrittenBase, plain, numbers, enumerated, structure, choice, of_type, named_type, WrittenComponents, no_components, component, components_from, WrittenAlternatives, no_alternatives, alternative, WrittenExports, all_exported, exported, WrittenImport, WrittenAssignment, WrittenModule}
-use Rattle.guard_schema.specs.First.{each}
 use Rattle.guard_schema.specs.Basic as basic
 use Rattle.guard_schema.specs.Basic.{BasicRange, BasicType, BasicBase, BasicComponent, BasicAssignment, BasicModule}
+use Rattle.guard_model.specs.Each.{each}
 
 -- ---- constraints
 

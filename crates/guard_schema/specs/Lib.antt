@@ -1,13 +1,17 @@
-pub mod First
-pub mod Basic
-pub mod Forms
-pub mod Names
-pub mod Types
-pub mod Tagging
-pub mod Constraints
-pub mod Faults
-pub mod Reading
+-- schemas, and which texts make them
 pub mod Schemas
 pub mod Accepts
-pub mod Views
+-- from the tree of a module to the types that it denotes
+pub mod Forms
+pub mod Basic
+pub mod Types
+-- faults
+pub mod Faults
+pub mod Names
+pub mod Tagging
+pub mod Constraints
+-- what those of the code stand for
 pub mod SchemaView
+pub mod Views
+-- the steps of the code
+pub mod Reading

@@ -25,7 +25,9 @@ use Rattle.guard_schema.specs.Basic.{BasicRange, BasicType, type_node, BasicBase
 use Rattle.guard_schema.specs.Forms.{is_optional, basic_type}
 use Rattle.guard_schema.specs.Names.{repeated, component_names, assigned_names}
 use Rattle.guard_schema.specs.Types.{number_of, tags_of, plain_kind, structure_kind, of_kind, presence_of, denoted_components}
-use Rattle.guard_schema.specs.Tagging.{most_components, most_nesting, most_nodes}
+use Rattle.guard_schema.specs.Tagging.{most_nodes}
+use Rattle.guard_model.specs.Each.{each}
+use Rattle.guard_model.specs.Limits.{most_components, deepest_nesting}
 
 -- the octets of a name as text
 unfoldable pub text_octets : List ℕ → List ℕ
@@ -44,9 +46,11 @@ abbrev pub in_schema : {A : Type 0} → Result A ConsFault → Result A Abstract
 in_schema (Ok x) = Ok x
 in_schema (Err f) = Err (Cons f)
 
-unfoldable pub read_ranges : List BasicRange → Result (List Constraint) AbstractFault
-read_ranges [] = Ok []
-read_ranges (r ∷ rs) = in_schema (read_range r) >>= λ one. read_ranges rs >>= λ others. Ok (one ∷ others)
+abbrev pub read_constraint : BasicRange → Result Constraint AbstractFault
+read_constraint r = in_schema (read_range r)
+
+abbrev pub read_ranges : List BasicRange → Result (List Constraint) AbstractFault
+read_ranges rs = each read_constraint rs
 
 abbrev pub list_result : Site → Option Site → Bool → Result (Unit {0}) AbstractFault
 list_result site (Some name) long = Err (Tag (DuplicateName name))
@@ -63,7 +67,7 @@ check_list site _ = Ok tt
 
 unfoldable pub check_size : Site → Checked → Result Checked AbstractFault
 check_size site parts =
-    if nat_lt most_nesting (suc parts.nesting) then Err (Tag (TooDeep site))
+    if nat_lt deepest_nesting (suc parts.nesting) then Err (Tag (TooDeep site))
     else (if nat_lt most_nodes (suc parts.nodes) then Err (Tag (SchemaTooLarge site))
     else Ok (record { nodes = suc parts.nodes; nesting = suc parts.nesting }))
 

@@ -5,9 +5,10 @@ use Rattle.guard_tagcheck.specs.Limits.{count, nesting}
 use Rattle.guard_schema.specs.declared.tagging.TagFault.{TagFault}
 use Rattle.guard_schema.specs.declared.tagging.TagFault.TheVariants.{DuplicateName, TooManyComponents, TooDeep, SchemaTooLarge}
 use Rattle.guard_schema.specs.Basic.{BasicType, type_node, BasicBase, plain, integer, structure, choice, of_type, BasicComponents, no_components, component}
-use Rattle.guard_schema.specs.First.{or_else}
 use Rattle.guard_schema.specs.Names.{repeated, component_names}
 use Rattle.guard_schema.specs.Types.{denoted, denoted_components}
+use Rattle.std.specs.Option.{option_or}
+use Rattle.guard_model.specs.Limits.{most_components, deepest_nesting}
 
 abbrev mutual
   -- the type nodes of a type: its parts in written order, and then the whole
@@ -25,14 +26,7 @@ abbrev mutual
   nodes_of_components no_components = []
   nodes_of_components (component site name ty optional others) = nodes ty ++ nodes_of_components others
 
--- this profile's limits
-abbrev pub most_components : ℕ
-most_components = 64
-
-abbrev pub most_nesting : ℕ
-most_nesting = 32
-
--- over all types of a schema
+-- the limit on type nodes over all types of a schema
 abbrev pub most_nodes : ℕ
 most_nodes = 100000
 
@@ -55,9 +49,9 @@ too_many_components site cs = fault_where (nat_lt most_components (count (denote
 -- What is wrong at a node of this nesting, the last of so many nodes. Where several things are wrong the first of these is named.
 abbrev pub node_fault : Site → BasicBase → ℕ → ℕ → Option TagFault
 node_fault site base nesting nodes =
-    or_else (duplicate_name (list_of base))
-    (or_else (too_many_components site (list_of base))
-    (or_else (fault_where (nat_lt most_nesting nesting) (TooDeep site))
+    option_or (duplicate_name (list_of base))
+    (option_or (too_many_components site (list_of base))
+    (option_or (fault_where (nat_lt deepest_nesting nesting) (TooDeep site))
     (fault_where (nat_lt most_nodes nodes) (SchemaTooLarge site))))
 
 -- what is wrong at a node, with so many nodes before it
@@ -67,7 +61,7 @@ fault_at before (type_node site base) = node_fault site base (nesting (denoted (
 -- the first node at which something is wrong, with so many nodes before these
 abbrev pub first_fault : ℕ → List BasicType → Option TagFault
 first_fault before [] = None
-first_fault before (t ∷ ts) = or_else (fault_at before t) (first_fault (suc before) ts)
+first_fault before (t ∷ ts) = option_or (fault_at before t) (first_fault (suc before) ts)
 
 -- what is wrong with a type, with so many nodes in the types before it
 abbrev pub tag_fault : ℕ → BasicType → Option TagFault

@@ -5,7 +5,7 @@ ghost use Rattle.guard_syntax.specs.Trees.{components_of, alternatives_of, struc
 ghost use Rattle.guard_syntax.specs.TypeViews as written;
 ghost use Rattle.guard_syntax.specs.SetViews.{constraint_view};
 ghost use Rattle.guard_syntax.specs.ModuleViews as modules;
-ghost use Rattle.guard_schema.specs.First.{each};
+ghost use Rattle.guard_model.specs.Each.{each};
 ghost use Rattle.guard_schema.specs.Faults.{form_named};
 ghost use Rattle.guard_schema.specs.Forms as forms;
 ghost use Rattle.guard_schema.specs.Reading.{basic_component, basic_alternative};

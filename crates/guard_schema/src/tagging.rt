@@ -11,7 +11,7 @@ ghost use Rattle.guard_schema.specs.Reading.{check_type, check_base, check_compo
 use crate::basic::{BasicBase, BasicComp, BasicType};
 use crate::fault::SchemaFault;
 use crate::names::{PlacedName, first_repeated};
-use guard_model::Site;
+use guard_model::{DEEPEST_NESTING, MOST_COMPONENTS, Site};
 use std::alloc::{AllocError, Global};
 use thiserror::Error;
 
@@ -33,10 +33,7 @@ pub enum TagFault {
     SchemaTooLarge(Site),
 }
 
-const MOST_COMPONENTS: usize = 64;
-
-const MOST_NESTING: usize = 32;
-
+/// Type nodes over all definitions.
 const MOST_NODES: usize = 100000;
 
 /// A type that keeps the limits.
@@ -163,7 +160,7 @@ fn names_of<'a>(alloc: Global, comps: &[BasicComp<'a>]) -> Result<Vec<PlacedName
 fn check_size(site: Site, parts: Checked) -> Result<Checked, SchemaFault>
     ensures { Gives (λ c. c) named result (reading.check_size site parts) }
 {
-    if parts.nesting >= MOST_NESTING {
+    if parts.nesting >= DEEPEST_NESTING {
         return Err(SchemaFault::Tag(TagFault::TooDeep(site)));
     }
     if parts.nodes >= MOST_NODES {

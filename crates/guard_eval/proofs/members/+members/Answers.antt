@@ -3,9 +3,11 @@ use Rattle.std.specs.Slice.Iter.{iter_rest}
 use Rattle.std.specs.Iterator.Adapters.{zip_first, zip_second}
 use Rattle.guard_model.specs.TypeView.{component_view, components_of}
 use Rattle.guard_model.specs.ValueView.{value_view}
-use Rattle.guard_eval.proofs.Chosen.{found_there, found_nowhere, chosen_member, no_member}
+use Rattle.guard_eval.proofs.Chosen.{chosen_member, no_member}
 use Rattle.guard_eval.proofs.AtEnd.{members_at_end}
-use Rattle.guard_eval.proofs.Views.{kind_of_sequence, kind_of_set, kind_of_choice, value_of_fields}
+use Rattle.guard_model.proofs.TypeViews.{kind_view_sequence, kind_view_set, kind_view_choice}
+use Rattle.guard_model.proofs.ValueViews.{value_view_fields}
+use Rattle.guard_model.proofs.Components.{found_there, found_nowhere}
 use Rattle.guard_eval.proofs.members.+members.Goals as goal
 
 pub fields_are_members-returns : goal.fields_are_members-returns
@@ -17,11 +19,11 @@ fields_are_members-returns t c =
 
 pub parts_are_members-returns-in-Sequence-Fields :
     goal.parts_are_members-returns-in-Sequence-Fields
-parts_are_members-returns-in-Sequence-Fields t c = search (rules, kind_of_sequence, value_of_fields)
+parts_are_members-returns-in-Sequence-Fields t c = search (rules, kind_view_sequence, value_view_fields)
 
 pub parts_are_members-returns-in-Set-Fields :
     goal.parts_are_members-returns-in-Set-Fields
-parts_are_members-returns-in-Set-Fields t c = search (rules, kind_of_set, value_of_fields)
+parts_are_members-returns-in-Set-Fields t c = search (rules, kind_view_set, value_view_fields)
 
 pub chosen_is_member-returns-in-Some : goal.chosen_is_member-returns-in-Some
 chosen_is_member-returns-in-Some t c =

@@ -11,29 +11,31 @@ use Rattle.guard_tagcheck.specs.Limits.{nesting, nesting_inside, deepest}
 use Rattle.guard_der.specs.Fits.{fits}
 use Rattle.guard_der.specs.Sound.{is_proper}
 use Rattle.guard_eval.specs.Violations.{violation_view, below}
-use Rattle.guard_eval.proofs.Chosen.{found_there, found_nowhere, chosen_violation, no_violation, chosen_fits, chosen_is}
+use Rattle.guard_eval.proofs.Chosen.{chosen_violation, no_violation, chosen_fits, chosen_is}
 use Rattle.guard_eval.proofs.Items.{items_fit}
 use Rattle.guard_eval.proofs.Paths.{path_has_room}
-use Rattle.guard_eval.proofs.Views.{type_opened, kind_of_sequence, kind_of_set, kind_of_choice, kind_of_sequence_of, kind_of_set_of, value_of_fields, value_of_items, value_of_chosen}
+use Rattle.guard_model.proofs.TypeViews.{type_view_is, kind_view_sequence, kind_view_set, kind_view_choice, kind_view_sequence_of, kind_view_set_of}
+use Rattle.guard_model.proofs.ValueViews.{value_view_fields, value_view_items, value_view_chosen}
 use Rattle.guard_eval.proofs.AtEnd.{violation_at_end}
 use Rattle.guard_eval.proofs.Proper.{type_is, sequence_is, set_is, choice_is, sequence_of_is, set_of_is, next_is, count_is_length}
+use Rattle.guard_model.proofs.Components.{found_there, found_nowhere}
 use Rattle.guard_eval.proofs.violation.+violations.Goals as goal
 
 pub violation_of-violation_inside-requires : goal.violation_of-violation_inside-requires
 violation_of-violation_inside-requires t c =
     let ty = c.args.ty.now in
     let o = out-Ty ty in
-    let whole = subst (λ x. IsTrue (is_proper x) × (nesting x ≤ 32)) (type_opened ty) (c.requires.proper, c.requires.depth) in
+    let whole = subst (λ x. IsTrue (is_proper x) × (nesting x ≤ 32)) (type_view_is ty) (c.requires.proper, c.requires.depth) in
     let h = type_is o.tags.items (kind_view o.kind) (constraints_of (map constraint_view o.cons.items)) whole.0 in
     let d : nesting_inside (kind_view o.kind) ≤ 32 = omega (arith, whole.1) in
-    let f = subst (λ x. IsTrue (fits x (value_view c.args.value.now))) (type_opened ty) c.requires.fits in
+    let f = subst (λ x. IsTrue (fits x (value_view c.args.value.now))) (type_view_is ty) c.requires.fits in
     (search (rules, the_lemmas), (h.1, (d, f)))
 
 pub violation_inside-violation_from-requires : goal.violation_inside-violation_from-requires
 violation_inside-violation_from-requires t c =
     let cs = c.in-Sequence-Fields.comps in
-    let e = ap kind_view c.in-Sequence-Fields.is-0 ∙ kind_of_sequence cs in
-    let v = ap value_view c.in-Sequence-Fields.is-1 ∙ value_of_fields c.in-Sequence-Fields.fields in
+    let e = ap kind_view c.in-Sequence-Fields.is-0 ∙ kind_view_sequence cs in
+    let v = ap value_view c.in-Sequence-Fields.is-1 ∙ value_view_fields c.in-Sequence-Fields.fields in
     let k = sequence_is (components_of (map component_view cs.items)) (rw e at c.requires.proper) in
     let d = rw e at c.requires.depth in
     let f = rw (e, v) at c.requires.fits in
@@ -44,8 +46,8 @@ violation_inside-violation_from-requires t c =
 pub violation_inside-violation_from-requires-in-Set-Fields : goal.violation_inside-violation_from-requires-in-Set-Fields
 violation_inside-violation_from-requires-in-Set-Fields t c =
     let cs = c.in-Set-Fields.comps in
-    let e = ap kind_view c.in-Set-Fields.is-0 ∙ kind_of_set cs in
-    let v = ap value_view c.in-Set-Fields.is-1 ∙ value_of_fields c.in-Set-Fields.fields in
+    let e = ap kind_view c.in-Set-Fields.is-0 ∙ kind_view_set cs in
+    let v = ap value_view c.in-Set-Fields.is-1 ∙ value_view_fields c.in-Set-Fields.fields in
     let k = set_is (components_of (map component_view cs.items)) (rw e at c.requires.proper) in
     let d = rw e at c.requires.depth in
     let f = rw (e, v) at c.requires.fits in
@@ -56,18 +58,18 @@ violation_inside-violation_from-requires-in-Set-Fields t c =
 pub violation_inside-violation_of_chosen-requires : goal.violation_inside-violation_of_chosen-requires
 violation_inside-violation_of_chosen-requires t c =
     let cs = c.in-Choice-Chosen.comps in
-    let e = ap kind_view c.in-Choice-Chosen.is-0 ∙ kind_of_choice cs in
+    let e = ap kind_view c.in-Choice-Chosen.is-0 ∙ kind_view_choice cs in
     let k = choice_is (components_of (map component_view cs.items)) (rw e at c.requires.proper) in
     let d : deepest (components_of (map component_view cs.items)) ≤ 32 = omega (arith, rw e at c.requires.depth) in
-    let v = ap value_view c.in-Choice-Chosen.is-1 ∙ value_of_chosen c.in-Choice-Chosen.at c.in-Choice-Chosen.value in
+    let v = ap value_view c.in-Choice-Chosen.is-1 ∙ value_view_chosen c.in-Choice-Chosen.at c.in-Choice-Chosen.value in
     let f = rw (e, v) at c.requires.fits in
     let here = c.deref-in-Choice-Chosen.ensures.value in
     (search (rules, the_lemmas), (rw here k.1, (rw here d, rw (here, c.deref-in-Choice-Chosen-2.ensures) f)))
 
 pub violation_inside-violation_among-requires : goal.violation_inside-violation_among-requires
 violation_inside-violation_among-requires t c =
-    let e = ap kind_view c.in-SequenceOf-Items.is-0 ∙ kind_of_sequence_of c.in-SequenceOf-Items.ty in
-    let v = ap value_view c.in-SequenceOf-Items.is-1 ∙ value_of_items c.in-SequenceOf-Items.items in
+    let e = ap kind_view c.in-SequenceOf-Items.is-0 ∙ kind_view_sequence_of c.in-SequenceOf-Items.ty in
+    let v = ap value_view c.in-SequenceOf-Items.is-1 ∙ value_view_items c.in-SequenceOf-Items.items in
     let f = rw (e, v) at c.requires.fits in
     let a = c.deref-in-SequenceOf-Items.ensures in
     let b = c.deref-in-SequenceOf-Items-2.ensures.value in
@@ -76,8 +78,8 @@ violation_inside-violation_among-requires t c =
 
 pub violation_inside-violation_among-requires-in-SetOf-Items : goal.violation_inside-violation_among-requires-in-SetOf-Items
 violation_inside-violation_among-requires-in-SetOf-Items t c =
-    let e = ap kind_view c.in-SetOf-Items.is-0 ∙ kind_of_set_of c.in-SetOf-Items.ty in
-    let v = ap value_view c.in-SetOf-Items.is-1 ∙ value_of_items c.in-SetOf-Items.items in
+    let e = ap kind_view c.in-SetOf-Items.is-0 ∙ kind_view_set_of c.in-SetOf-Items.ty in
+    let v = ap value_view c.in-SetOf-Items.is-1 ∙ value_view_items c.in-SetOf-Items.items in
     let f = rw (e, v) at c.requires.fits in
     let a = c.deref-in-SetOf-Items.ensures in
     let b = c.deref-in-SetOf-Items-2.ensures.value in
@@ -85,21 +87,21 @@ violation_inside-violation_among-requires-in-SetOf-Items t c =
     (search (rules, the_lemmas), (rw a (set_of_is (type_view c.in-SetOf-Items.ty.value) (rw e at c.requires.proper)), (rw a (rw e at c.requires.depth), (rw b k.0, rw (a, b) k.1))))
 
 pub violation_inside-returns-in-Sequence-Fields : goal.violation_inside-returns-in-Sequence-Fields
-violation_inside-returns-in-Sequence-Fields t c = search (rules, kind_of_sequence, value_of_fields)
+violation_inside-returns-in-Sequence-Fields t c = search (rules, kind_view_sequence, value_view_fields)
 
 pub violation_inside-returns-in-Set-Fields : goal.violation_inside-returns-in-Set-Fields
-violation_inside-returns-in-Set-Fields t c = search (rules, kind_of_set, value_of_fields)
+violation_inside-returns-in-Set-Fields t c = search (rules, kind_view_set, value_view_fields)
 
 pub violation_inside-returns-in-SequenceOf-Items : goal.violation_inside-returns-in-SequenceOf-Items
 violation_inside-returns-in-SequenceOf-Items t c =
-    let e = ap kind_view c.in-SequenceOf-Items.is-0 ∙ kind_of_sequence_of c.in-SequenceOf-Items.ty in
-    let v = ap value_view c.in-SequenceOf-Items.is-1 ∙ value_of_items c.in-SequenceOf-Items.items in
+    let e = ap kind_view c.in-SequenceOf-Items.is-0 ∙ kind_view_sequence_of c.in-SequenceOf-Items.ty in
+    let v = ap value_view c.in-SequenceOf-Items.is-1 ∙ value_view_items c.in-SequenceOf-Items.items in
     rw (e, v) (rw (c.deref-in-SequenceOf-Items.ensures, c.deref-in-SequenceOf-Items-2.ensures.value) at c.violation_among.ensures)
 
 pub violation_inside-returns-in-SetOf-Items : goal.violation_inside-returns-in-SetOf-Items
 violation_inside-returns-in-SetOf-Items t c =
-    let e = ap kind_view c.in-SetOf-Items.is-0 ∙ kind_of_set_of c.in-SetOf-Items.ty in
-    let v = ap value_view c.in-SetOf-Items.is-1 ∙ value_of_items c.in-SetOf-Items.items in
+    let e = ap kind_view c.in-SetOf-Items.is-0 ∙ kind_view_set_of c.in-SetOf-Items.ty in
+    let v = ap value_view c.in-SetOf-Items.is-1 ∙ value_view_items c.in-SetOf-Items.items in
     rw (e, v) (rw (c.deref-in-SetOf-Items.ensures, c.deref-in-SetOf-Items-2.ensures.value) at c.violation_among-in-SetOf-Items.ensures)
 
 pub violation_from-below-requires : goal.violation_from-below-requires

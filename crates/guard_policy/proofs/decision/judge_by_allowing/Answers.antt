@@ -7,9 +7,10 @@ use Rattle.guard_eval.specs.Violations.{violation_view, shortfall_view}
 use Rattle.guard_policy.specs.PolicyView.{route_view}
 use Rattle.guard_policy.specs.Decisions.{speaks_of, is_allowing, speaking}
 use Rattle.guard_policy.proofs.Applicable.{applicable_at, left_is}
-use Rattle.guard_policy.proofs.Shortfalls.{are_both, goes_on_past, goes_on_with, ends_with, none_allows}
+use Rattle.guard_policy.proofs.Shortfalls.{goes_on_past, goes_on_with, ends_with, none_allows}
 use Rattle.guard_policy.proofs.decision.judge_by_allowing.Goals as goal
 use Rattle.guard_policy.proofs.decision.judge_by_allowing.Goals.{then-rule_may_allow+in-Some+in_ok-push-in-Some, else-rule_may_allow}
+use Rattle.std.proofs.lemmas.Bool.{and_parts}
 
 pub first_violation-requires-clause-sound : goal.first_violation-requires-clause-sound
 first_violation-requires-clause-sound c =
@@ -18,7 +19,7 @@ first_violation-requires-clause-sound c =
 pub first_violation-requires-clause-fits : goal.first_violation-requires-clause-fits
 first_violation-requires-clause-fits c =
     (applicable_at (route_view c.args.route.now) (value_view c.args.value.now) c.args.rules.now c.loop-number.number c.index-rules-number.result c.loop-number-test.true c.index-rules-number.is c.requires).1
-    (are_both (speaks_of (route_view c.args.route.now) (rule_view c.index-rules-number.result)) (is_allowing (rule_view c.index-rules-number.result)) (sym c.rule_may_allow.ensures ∙ c.if-rule_may_allow.true)).0
+    (and_parts (speaks_of (route_view c.args.route.now) (rule_view c.index-rules-number.result)) (is_allowing (rule_view c.index-rules-number.result)) (sym c.rule_may_allow.ensures ∙ c.if-rule_may_allow.true)).0
 
 pub returns-in-None : goal.returns-in-None
 returns-in-None c = sym (ends_with (speaking (route_view c.args.route.now) 0 (map rule_view c.args.rules.now)) (route_view c.args.route.now) (value_view c.args.value.now)

@@ -6,9 +6,9 @@ use Rattle.guard_schema.specs.Basic.{components_of}
 use Rattle.guard_schema.specs.Views.{component_view}
 use Rattle.guard_schema.specs.Faults.{named}
 use Rattle.guard_schema.specs.Reading.{build_components}
-use Rattle.guard_tagcheck.proofs.TypeViews.{kind_view_choice}
 use Rattle.guard_schema.proofs.Loops.{part_stops, next_part, no_part}
 use Rattle.guard_schema.proofs.ListKinds.{structure_stops, choice_stops, structure_read, choice_read}
+use Rattle.guard_model.proofs.TypeViews.{kind_view_choice}
 use Rattle.guard_schema.proofs.build.+building.Goals as goal
 
 pub comps_of-returns-in_err-part : goal.comps_of-returns-in_err-part

@@ -2,7 +2,7 @@ use Rattle.std.proofs.Common.{◌≡◌, drop, map}
 use Rattle.guard_schema.specs.Views.{assignment_view}
 use Rattle.guard_schema.specs.Reading.{read_definitions}
 use Rattle.guard_schema.specs.Views.{definition_view}
-use Rattle.guard_schema.proofs.Loops.{with_front}
+use Rattle.guard_model.proofs.Loops.{with_front}
 use Rattle.guard_schema.proofs.build.definitions.Given as goal
 
 abbrev pub invariant-loop-assignment : goal.invariant-loop-assignment

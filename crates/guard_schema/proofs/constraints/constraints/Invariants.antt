@@ -2,7 +2,7 @@ use Rattle.std.proofs.Common.{◌≡◌, drop, map}
 use Rattle.guard_model.specs.TypeView as model
 use Rattle.guard_schema.specs.Views.{range_view}
 use Rattle.guard_schema.specs.Reading.{read_ranges}
-use Rattle.guard_schema.proofs.Loops.{with_front}
+use Rattle.guard_model.proofs.Loops.{with_front}
 use Rattle.guard_schema.proofs.constraints.constraints.Given as goal
 
 abbrev pub invariant-loop-range : goal.invariant-loop-range

@@ -3,11 +3,11 @@ use Rattle.std.proofs.lemmas.Result.{err_from_is_err_and}
 use Rattle.std.proofs.lemmas.List.{map_push}
 use Rattle.guard_syntax.specs.TypeViews as written
 use Rattle.guard_schema.specs.Faults.{form_named}
-use Rattle.guard_schema.specs.First.{each}
 use Rattle.guard_schema.specs.Reading.{basic_component, basic_alternative}
 use Rattle.guard_schema.specs.Views.{component_view}
 use Rattle.guard_schema.proofs.Entries.{structure_stops, structure_made, base_of_structure, choice_stops, choice_made, base_of_choice}
-use Rattle.guard_schema.proofs.Each.{stops_at, goes_on, ends_there}
+use Rattle.guard_model.specs.Each.{each}
+use Rattle.guard_model.proofs.Loops.{stops_at, goes_on, ends_there}
 use Rattle.guard_schema.proofs.forms.+forms.Goals as goal
 
 pub basic_comps-returns-in_err-comp : goal.basic_comps-returns-in_err-comp

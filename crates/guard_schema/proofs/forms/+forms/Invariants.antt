@@ -1,9 +1,9 @@
 use Rattle.std.proofs.Common.{◌≡◌, drop, map}
 use Rattle.guard_syntax.specs.TypeViews as written
-use Rattle.guard_schema.specs.First.{each}
 use Rattle.guard_schema.specs.Reading.{basic_component, basic_alternative}
 use Rattle.guard_schema.specs.Views.{component_view}
-use Rattle.guard_schema.proofs.Loops.{with_front}
+use Rattle.guard_model.specs.Each.{each}
+use Rattle.guard_model.proofs.Loops.{with_front}
 use Rattle.guard_schema.proofs.forms.+forms.Given as goal
 
 abbrev pub invariant-basic_comps-loop-tree : goal.invariant-basic_comps-loop-tree

@@ -3,10 +3,10 @@ use Rattle.std.proofs.lemmas.Result.{err_from_is_err_and}
 use Rattle.std.proofs.lemmas.List.{map_push}
 use Rattle.guard_syntax.specs.ModuleViews as modules
 use Rattle.guard_schema.specs.Faults.{form_named}
-use Rattle.guard_schema.specs.First.{each}
 use Rattle.guard_schema.specs.Forms.{basic_assignment}
 use Rattle.guard_schema.specs.Views.{assignment_view}
-use Rattle.guard_schema.proofs.Each.{stops_at, goes_on, ends_there}
+use Rattle.guard_model.specs.Each.{each}
+use Rattle.guard_model.proofs.Loops.{stops_at, goes_on, ends_there}
 use Rattle.guard_schema.proofs.forms.basic_assignments.Goals as goal
 
 pub returns-in_err-assignment : goal.returns-in_err-assignment

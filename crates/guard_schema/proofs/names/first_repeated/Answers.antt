@@ -1,7 +1,7 @@
 use Rattle.std.proofs.Common.{map}
 use Rattle.guard_schema.specs.Names.{repeated}
 use Rattle.guard_schema.specs.Views.{placed_name_view}
-use Rattle.guard_schema.proofs.Seen.{seen_after, next_name}
+use Rattle.guard_schema.proofs.SeenNames.{seen_after, next_name}
 use Rattle.guard_schema.proofs.names.first_repeated.Goals as goal
 
 pub loop-name-preserved : goal.loop-name-preserved

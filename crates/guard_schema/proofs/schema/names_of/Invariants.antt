@@ -1,6 +1,6 @@
 use Rattle.std.proofs.Common.{◌≡◌, take, map}
 use Rattle.guard_schema.specs.Views.{placed_name_view}
-use Rattle.guard_schema.proofs.Trees.{name_of_assignment}
+use Rattle.guard_schema.proofs.BasicLists.{name_of_assignment}
 use Rattle.guard_schema.proofs.schema.names_of.Given as goal
 
 abbrev pub invariant-loop-assignment : goal.invariant-loop-assignment

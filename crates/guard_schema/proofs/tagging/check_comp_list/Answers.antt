@@ -1,6 +1,6 @@
 use Rattle.std.proofs.Common.{true, false, sym, ◌∙◌}
 use Rattle.std.proofs.lemmas.Bool.{lt-ltb, le-ltb}
-use Rattle.guard_schema.proofs.Trees.{list_repeats, list_none}
+use Rattle.guard_schema.proofs.BasicLists.{list_repeats, list_none}
 use Rattle.guard_schema.proofs.tagging.check_comp_list.Goals as goal
 
 pub returns-in-Some : goal.returns-in-Some

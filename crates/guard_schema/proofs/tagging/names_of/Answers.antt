@@ -1,6 +1,6 @@
 use Rattle.std.proofs.Common.{map, sym, ap, ◌∙◌}
 use Rattle.std.proofs.lemmas.List.{take_all}
-use Rattle.guard_schema.proofs.Trees.{name_of_component, names_of_components}
+use Rattle.guard_schema.proofs.BasicLists.{name_of_component, names_of_components}
 use Rattle.guard_schema.proofs.tagging.names_of.Goals as goal
 
 pub returns : goal.returns

@@ -1,6 +1,6 @@
 use Rattle.std.proofs.Common.{◌≡◌, take, map}
 use Rattle.guard_schema.specs.Views.{placed_name_view}
-use Rattle.guard_schema.proofs.Trees.{name_of_component}
+use Rattle.guard_schema.proofs.BasicLists.{name_of_component}
 use Rattle.guard_schema.proofs.tagging.names_of.Given as goal
 
 abbrev pub invariant-loop-comp : goal.invariant-loop-comp

@@ -13,7 +13,7 @@ use Rattle.guard_schema.specs.Forms.{basic_module}
 use Rattle.guard_schema.specs.Views.{module_view}
 use Rattle.guard_schema.specs.Accepts.{IsModuleText}
 use Rattle.guard_schema.proofs.Steps.{lex_refused, syntax_refused, form_refused, built, names_are_texts}
-use Rattle.guard_schema.proofs.Only.{lex_only, syntax_only, form_only, built_only}
+use Rattle.guard_schema.proofs.Accepted.{lex_only, syntax_only, form_only, built_only}
 use Rattle.guard_schema.proofs.schema.Schema.build.Goals as goal
 
 pub returns-in_err-tokens-clause-refused : goal.returns-in_err-tokens-clause-refused

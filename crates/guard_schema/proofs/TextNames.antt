@@ -24,11 +24,13 @@ use Rattle.guard_syntax.specs.Trees.{WrittenNumber, WrittenValue, WrittenEndForm
 use Rattle.guard_syntax.specs.TokensOf.{each_then, perhaps_then, if_there_then, number_then, arc_form_then, end_form_then, end_or_then, range_then, set_form_then, intersection_then, difference_then, element_then, element_form_then, constraint_then, tag_then, numbers_then, plain_then, alternatives_comma, alternatives_then, presence_then, components_comma, type_then, base_then, components_then, identifier_part_then, identifier_then, tag_default_then, exports_then, imports_then, assigned_then, assignment_then, tokens_of}
 use Rattle.guard_model.specs.Answer.{◌>>=◌}
 use Rattle.guard_model.specs.declared.site.Site.{Site}
-use Rattle.guard_schema.specs.First.{each}
 use Rattle.guard_schema.specs.Basic as basic
 use Rattle.guard_schema.specs.Basic.{BasicRange, BasicType, BasicBase, BasicComponent, BasicAssignment, BasicModule}
 use Rattle.guard_schema.specs.Forms.{ends_of_element_form, ends_of_element, ends_of_difference, ends_of_intersection, ends_of_set_form, range_between, basic_constraint, no_constraints, perhaps_one, with_constraints, no_tags, no_numbers, is_optional, basic_type, basic_base, basic_components, basic_alternatives, no_value, basic_assignment, basic_assignments, explicit_tags, all_exports, no_imports, basic_header, basic_module}
 use Rattle.guard_schema.specs.Names.{HasTextNames, HasTextNamesInside, HaveTextNames, AssignTextNames}
+use Rattle.guard_model.specs.Each.{each}
+use Rattle.std.proofs.lemmas.Bool.{and_parts}
+use Rattle.guard_model.proofs.Results.{bind_ok, same_Ok}
 
 alphanumeric_ascii : (c : ℕ) → is_ascii_alphanumeric c ≡ true → c < 128
 alphanumeric_ascii c h = grind (arith, nat_tests)
@@ -39,18 +41,14 @@ alphabetic_ascii c h = grind (arith, nat_tests)
 of_word_ascii : (c : ℕ) (behind : List ℕ) → is_of_word c behind ≡ true → c < 128
 of_word_ascii c behind h = grind (arith, nat_tests)
 
-both_true : (a b : Bool) → (a && b) ≡ true → (a ≡ true) × (b ≡ true)
-both_true true b h = (refl, h)
-both_true false b h = absurd cc
-
 are_ascii : (octets : List ℕ) → are_of_word octets ≡ true → IsAscii octets
 are_ascii [] h = IsAscii-nil
-are_ascii (c ∷ cs) h = let p = both_true (is_of_word c cs) (are_of_word cs) h in IsAscii-cons c cs (of_word_ascii c cs p.0) (are_ascii cs p.1)
+are_ascii (c ∷ cs) h = let p = and_parts (is_of_word c cs) (are_of_word cs) h in IsAscii-cons c cs (of_word_ascii c cs p.0) (are_ascii cs p.1)
 
 word_is_text : (octets : List ℕ) → IsTrue (is_word octets) → IsUtf8 octets
 word_is_text [] h = absurd cc
 word_is_text (c ∷ cs) h =
-    let p = both_true (is_ascii_alphabetic c) (are_of_word cs) h in
+    let p = and_parts (is_ascii_alphabetic c) (are_of_word cs) h in
     IsUtf8-from_ascii (c ∷ cs) (IsAscii-cons c cs (alphabetic_ascii c p.0) (are_ascii cs p.1))
 
 -- a name is a text
@@ -83,14 +81,6 @@ pub spans_text : (text : List ℕ) (tokens : List Token) → AreSpans text token
 spans_text text [] h = tt
 spans_text text (t ∷ ts) h =
     (spelled_text t.kind (octets_of text t) (All-head (IsSpan text) t ts h).spelled, spans_text text ts (All-tail (IsSpan text) t ts h))
-
--- a first step that is made, and what is made behind it
-bound : {A B F : Type 0} (step : Result A F) (next : A → Result B F) (y : B) → (step >>= next) ≡ Ok y → (x : A) × (step ≡ Ok x) × (next x ≡ Ok y)
-bound (Ok x) next y e = (x, refl, e)
-bound (Err f) next y e = absurd cc
-
-ok_is : {A F : Type 0} (x y : A) → ◌≡◌ {A = Result A F} (Ok x) (Ok y) → x ≡ y
-ok_is x y e = cc
 
 -- ---- constraints
 
@@ -158,27 +148,27 @@ past_none (constraint site (set_node at form) ∷ cs) u rest is h = absurd cc
 past_one : (cs : List WrittenConstraint) (rs : List BasicRange) (rest : List Lexeme) → perhaps_one cs ≡ Ok rs → AreTextLexemes (each_then constraint_then cs rest) → AreTextLexemes rest
 past_one [] rs rest is h = h
 past_one (c ∷ cs) rs rest is h =
-    let one = bound (basic_constraint c) _ rs is in
-    let none = bound (no_constraints cs) _ rs one.2 in
+    let one = bind_ok (basic_constraint c) _ rs is in
+    let none = bind_ok (no_constraints cs) _ rs one.2 in
     past_none cs none.0 rest none.1 (past_constraint c one.0 _ one.1 h)
 
 past_constraints : (base : BasicBase) (cs : List WrittenConstraint) (b : BasicBase) (rest : List Lexeme) → with_constraints base cs ≡ Ok b → HasTextNamesInside base → AreTextLexemes (each_then constraint_then cs rest)
     → HasTextNamesInside b × AreTextLexemes rest
 past_constraints (basic.integer rs) cs b rest is t h =
-    let ranges = bound (perhaps_one cs) _ b is in
-    (subst HasTextNamesInside (ok_is (basic.integer ranges.0) b ranges.2) tt, past_one cs ranges.0 rest ranges.1 h)
+    let ranges = bind_ok (perhaps_one cs) _ b is in
+    (subst HasTextNamesInside (same_Ok (basic.integer ranges.0) b ranges.2) tt, past_one cs ranges.0 rest ranges.1 h)
 past_constraints (basic.plain p) cs b rest is t h =
-    let none = bound (no_constraints cs) _ b is in
-    (subst HasTextNamesInside (ok_is (basic.plain p) b none.2) t, past_none cs none.0 rest none.1 h)
+    let none = bind_ok (no_constraints cs) _ b is in
+    (subst HasTextNamesInside (same_Ok (basic.plain p) b none.2) t, past_none cs none.0 rest none.1 h)
 past_constraints (basic.structure k parts) cs b rest is t h =
-    let none = bound (no_constraints cs) _ b is in
-    (subst HasTextNamesInside (ok_is (basic.structure k parts) b none.2) t, past_none cs none.0 rest none.1 h)
+    let none = bind_ok (no_constraints cs) _ b is in
+    (subst HasTextNamesInside (same_Ok (basic.structure k parts) b none.2) t, past_none cs none.0 rest none.1 h)
 past_constraints (basic.choice parts) cs b rest is t h =
-    let none = bound (no_constraints cs) _ b is in
-    (subst HasTextNamesInside (ok_is (basic.choice parts) b none.2) t, past_none cs none.0 rest none.1 h)
+    let none = bind_ok (no_constraints cs) _ b is in
+    (subst HasTextNamesInside (same_Ok (basic.choice parts) b none.2) t, past_none cs none.0 rest none.1 h)
 past_constraints (basic.of_type k element) cs b rest is t h =
-    let none = bound (no_constraints cs) _ b is in
-    (subst HasTextNamesInside (ok_is (basic.of_type k element) b none.2) t, past_none cs none.0 rest none.1 h)
+    let none = bind_ok (no_constraints cs) _ b is in
+    (subst HasTextNamesInside (same_Ok (basic.of_type k element) b none.2) t, past_none cs none.0 rest none.1 h)
 
 -- ---- types
 
@@ -199,7 +189,7 @@ past_plain plain_type.Ia5String rest h = h.1
 past_plain plain_type.VisibleString rest h = h.1
 
 numbers_text : (site : Site) (ns : List WrittenNamed) (b : BasicBase) (rest : List Lexeme) → no_numbers site ns ≡ Ok b → AreTextLexemes (numbers_then ns rest) → HasTextNamesInside b × AreTextLexemes rest
-numbers_text site [] b rest is h = (subst HasTextNamesInside (ok_is (basic.integer []) b is) tt, h)
+numbers_text site [] b rest is h = (subst HasTextNamesInside (same_Ok (basic.integer []) b is) tt, h)
 numbers_text site (n ∷ ns) b rest is h = absurd cc
 
 past_presence : (site : Site) (p : WrittenPresence) (o : Bool) (rest : List Lexeme) → is_optional site p ≡ Ok o → AreTextLexemes (presence_then p rest) → AreTextLexemes rest
@@ -221,52 +211,52 @@ mutual
 
   type_text : (t : WrittenType) (b : BasicType) (rest : List Lexeme) → basic_type t ≡ Ok b → AreTextLexemes (type_then t rest) → HasTextNames b × AreTextLexemes rest
   type_text (type_node site tags base cs) b rest is h =
-      let none = bound (no_tags tags) _ b is in
-      let one = bound (basic_base site base) _ b none.2 in
-      let whole = bound (with_constraints one.0 cs) _ b one.2 in
+      let none = bind_ok (no_tags tags) _ b is in
+      let one = bind_ok (basic_base site base) _ b none.2 in
+      let whole = bind_ok (with_constraints one.0 cs) _ b one.2 in
       let inside = base_text site base one.0 (each_then constraint_then cs rest) one.1 (past_tags tags none.0 _ none.1 h) in
       let all = past_constraints one.0 cs whole.0 rest whole.1 inside.0 inside.1 in
-      (subst HasTextNames (ok_is (basic.type_node site whole.0) b whole.2) all.0, all.1)
+      (subst HasTextNames (same_Ok (basic.type_node site whole.0) b whole.2) all.0, all.1)
 
   base_text : (site : Site) (base : WrittenBase) (b : BasicBase) (rest : List Lexeme) → basic_base site base ≡ Ok b → AreTextLexemes (base_then base rest) → HasTextNamesInside b × AreTextLexemes rest
-  base_text site (plain p) b rest is h = (subst HasTextNamesInside (ok_is (basic.plain p) b is) tt, past_plain p rest h)
+  base_text site (plain p) b rest is h = (subst HasTextNamesInside (same_Ok (basic.plain p) b is) tt, past_plain p rest h)
   base_text site (numbers ns) b rest is h = numbers_text site ns b rest is h.1
   base_text site (structure k cs) b rest is h =
-      let parts = bound (basic_components cs) _ b is in
+      let parts = bind_ok (basic_components cs) _ b is in
       let inside = components_text cs parts.0 _ parts.1 h.1.1 in
-      (subst HasTextNamesInside (ok_is (basic.structure k (basic.components_of parts.0)) b parts.2) inside.0, inside.1.1)
+      (subst HasTextNamesInside (same_Ok (basic.structure k (basic.components_of parts.0)) b parts.2) inside.0, inside.1.1)
   base_text site (choice alternatives) b rest is h =
-      let parts = bound (basic_alternatives alternatives) _ b is in
+      let parts = bind_ok (basic_alternatives alternatives) _ b is in
       let inside = alternatives_text alternatives parts.0 _ parts.1 h.1.1 in
-      (subst HasTextNamesInside (ok_is (basic.choice (basic.components_of parts.0)) b parts.2) inside.0, inside.1.1)
+      (subst HasTextNamesInside (same_Ok (basic.choice (basic.components_of parts.0)) b parts.2) inside.0, inside.1.1)
   base_text site (of_type k None ty) b rest is h =
-      let one = bound (basic_type ty) _ b is in
+      let one = bind_ok (basic_type ty) _ b is in
       let inside = type_text ty one.0 rest one.1 h.1.1 in
-      (subst HasTextNamesInside (ok_is (basic.of_type k one.0) b one.2) inside.0, inside.1)
+      (subst HasTextNamesInside (same_Ok (basic.of_type k one.0) b one.2) inside.0, inside.1)
   base_text site (of_type k (Some c) ty) b rest is h = absurd cc
   base_text site (enumerated is) b rest e h = absurd cc
   base_text site (named_type name) b rest is h = absurd cc
 
   components_text : (cs : WrittenComponents) (parts : List BasicComponent) (rest : List Lexeme) → basic_components cs ≡ Ok parts → AreTextLexemes (components_then cs rest) → HaveTextNames (basic.components_of parts) × AreTextLexemes rest
-  components_text no_components parts rest is h = (subst (λ (ps : List BasicComponent). HaveTextNames (basic.components_of ps)) (ok_is [] parts is) tt, h)
+  components_text no_components parts rest is h = (subst (λ (ps : List BasicComponent). HaveTextNames (basic.components_of ps)) (same_Ok [] parts is) tt, h)
   components_text (component site name ty presence others) parts rest is h =
-      let must = bound (is_optional site presence) _ parts is in
-      let one = bound (basic_type ty) _ parts must.2 in
-      let more = bound (basic_components others) _ parts one.2 in
+      let must = bind_ok (is_optional site presence) _ parts is in
+      let one = bind_ok (basic_type ty) _ parts must.2 in
+      let more = bind_ok (basic_components others) _ parts one.2 in
       let t = type_text ty one.0 _ one.1 h.1 in
       let behind = past_comma others (components_then others rest) (past_presence site presence must.0 _ must.1 t.1) in
       let last = components_text others more.0 rest more.1 behind in
-      (subst (λ (ps : List BasicComponent). HaveTextNames (basic.components_of ps)) (ok_is (record { site = site; name = name; ty = one.0; optional = must.0 } ∷ more.0) parts more.2) (h.0, t.0, last.0), last.1)
+      (subst (λ (ps : List BasicComponent). HaveTextNames (basic.components_of ps)) (same_Ok (record { site = site; name = name; ty = one.0; optional = must.0 } ∷ more.0) parts more.2) (h.0, t.0, last.0), last.1)
   components_text (components_from site ty others) parts rest is h = absurd cc
 
   alternatives_text : (cs : WrittenAlternatives) (parts : List BasicComponent) (rest : List Lexeme) → basic_alternatives cs ≡ Ok parts → AreTextLexemes (alternatives_then cs rest) → HaveTextNames (basic.components_of parts) × AreTextLexemes rest
-  alternatives_text no_alternatives parts rest is h = (subst (λ (ps : List BasicComponent). HaveTextNames (basic.components_of ps)) (ok_is [] parts is) tt, h)
+  alternatives_text no_alternatives parts rest is h = (subst (λ (ps : List BasicComponent). HaveTextNames (basic.components_of ps)) (same_Ok [] parts is) tt, h)
   alternatives_text (alternative site name ty others) parts rest is h =
-      let one = bound (basic_type ty) _ parts is in
-      let more = bound (basic_alternatives others) _ parts one.2 in
+      let one = bind_ok (basic_type ty) _ parts is in
+      let more = bind_ok (basic_alternatives others) _ parts one.2 in
       let t = type_text ty one.0 _ one.1 h.1 in
       let last = alternatives_text others more.0 rest more.1 (past_alternatives_comma others (alternatives_then others rest) t.1) in
-      (subst (λ (ps : List BasicComponent). HaveTextNames (basic.components_of ps)) (ok_is (record { site = site; name = name; ty = one.0; optional = false } ∷ more.0) parts more.2) (h.0, t.0, last.0), last.1)
+      (subst (λ (ps : List BasicComponent). HaveTextNames (basic.components_of ps)) (same_Ok (record { site = site; name = name; ty = one.0; optional = false } ∷ more.0) parts more.2) (h.0, t.0, last.0), last.1)
 
 -- ---- modules
 
@@ -277,15 +267,15 @@ assigned_text site name ty (Some v) u b rest none is h = absurd cc
 
 assignments_text : (all : List WrittenAssignment) (assigned : List BasicAssignment) (rest : List Lexeme) → basic_assignments all ≡ Ok assigned → AreTextLexemes (each_then assignment_then all rest) → AssignTextNames assigned
 unfolding each basic_assignment
-assignments_text [] assigned rest is h = subst AssignTextNames (ok_is [] assigned is) tt
+assignments_text [] assigned rest is h = subst AssignTextNames (same_Ok [] assigned is) tt
 assignments_text (a ∷ all) assigned rest is h =
-    let one = bound (basic_assignment a) _ assigned is in
-    let more = bound (each basic_assignment all) _ assigned one.2 in
-    let none = bound (no_value a.site a.value) _ one.0 one.1 in
-    let ty = bound (basic_type a.ty) _ one.0 none.2 in
+    let one = bind_ok (basic_assignment a) _ assigned is in
+    let more = bind_ok (each basic_assignment all) _ assigned one.2 in
+    let none = bind_ok (no_value a.site a.value) _ one.0 one.1 in
+    let ty = bind_ok (basic_type a.ty) _ one.0 none.2 in
     let t = assigned_text a.site a.name a.ty a.value none.0 ty.0 (each_then assignment_then all rest) none.1 ty.1 h in
-    let first = ok_is (record { site = a.site; name = a.name; ty = ty.0 }) one.0 ty.2 in
-    subst AssignTextNames (ok_is (one.0 ∷ more.0) assigned more.2)
+    let first = same_Ok (record { site = a.site; name = a.name; ty = ty.0 }) one.0 ty.2 in
+    subst AssignTextNames (same_Ok (one.0 ∷ more.0) assigned more.2)
     (subst (λ (x : BasicAssignment). IsUtf8 x.name) first t.0, subst (λ (x : BasicAssignment). HasTextNames x.ty) first t.1, assignments_text all more.0 rest more.1 t.2)
 
 past_arc : (name : Option (List ℕ)) (digits : List ℕ) (rest : List Lexeme) → AreTextLexemes (arc_form_then name digits rest) → AreTextLexemes rest
@@ -323,11 +313,11 @@ module _ (tokens : List Token) (site : Site) where
 pub module_text : (tokens : List Token) (m : WrittenModule) (b : BasicModule) → basic_module tokens m ≡ Ok b → AreTextLexemes (tokens_of m) → IsUtf8 b.name × AssignTextNames b.assignments
 unfolding basic_module basic_header
 module_text tokens m b is h =
-    let header = bound (basic_header tokens m) _ b is in
-    let all = bound (basic_assignments m.assignments) _ b header.2 in
-    let default = bound (explicit_tags tokens m.site m.tag_default) _ header.0 header.1 in
-    let exports = bound (all_exports tokens m.site m.exports) _ header.0 default.2 in
+    let header = bind_ok (basic_header tokens m) _ b is in
+    let all = bind_ok (basic_assignments m.assignments) _ b header.2 in
+    let default = bind_ok (explicit_tags tokens m.site m.tag_default) _ header.0 header.1 in
+    let exports = bind_ok (all_exports tokens m.site m.exports) _ header.0 default.2 in
     let begun = (past_tag_default m.tag_default _ (past_identifier m.identifier _ h.1).1).1.1 in
     let behind = past_imports tokens m.site m.imports header.0 _ exports.2 (past_exports tokens m.site m.exports exports.0 _ exports.1 begun) in
-    let whole = ok_is (record { name = m.name; assignments = all.0 }) b all.2 in
+    let whole = same_Ok (record { name = m.name; assignments = all.0 }) b all.2 in
     (subst (λ (x : BasicModule). IsUtf8 x.name) whole h.0, subst (λ (x : BasicModule). AssignTextNames x.assignments) whole (assignments_text m.assignments all.0 _ all.1 behind))

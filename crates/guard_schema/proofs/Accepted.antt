@@ -24,15 +24,13 @@ use Rattle.guard_schema.specs.Schemas.{AbstractSchema, denoted_schema}
 use Rattle.guard_schema.specs.Accepts.{IsModuleText, Accepts}
 use Rattle.guard_schema.specs.Reading.{read_module}
 use Rattle.guard_schema.specs.SchemaView.{schema_view}
-use Rattle.guard_schema.proofs.Laws.{fault_result}
+use Rattle.guard_schema.proofs.Readings.{fault_result}
 use Rattle.guard_tagcheck.specs.Distinct.{AbstractClash}
 use Rattle.guard_tagcheck.specs.Search.{first_clash}
 use Rattle.guard_model.specs.AbstractType.{AbstractType}
 use Rattle.guard_schema.specs.Faults.{AbstractFault}
 use Rattle.guard_schema.proofs.Steps.{reads, one_finder}
-
-both_ok : {A F : Type 0} (x y : A) → ◌≡◌ {A = Result A F} (Ok x) (Ok y) → x ≡ y
-both_ok x y e = cc
+use Rattle.guard_model.proofs.Results.{same_Ok}
 
 -- an accepted text has tokens
 module _ (text : List ℕ) (s : AbstractSchema) where
@@ -48,7 +46,7 @@ module _ (text : List ℕ) (s : AbstractSchema) where
 
 module _ (text : List ℕ) (s : AbstractSchema) (tokens : List Token) (one_lexing : (ts : List Token) → Lexes 1 text ts → ◌≡◌ {A = Result (List Token) LexFault} (Ok ts) (Ok tokens)) (a : Accepts text s) where
   same_tokens : a.1.0 ≡ tokens
-  same_tokens = both_ok a.1.0 tokens (one_lexing a.1.0 a.1.2.lexes)
+  same_tokens = same_Ok a.1.0 tokens (one_lexing a.1.0 a.1.2.lexes)
 
   written : IsWritten a.1.1 (lexemes_of text tokens)
   written = subst (λ (ts : List Token). IsWritten a.1.1 (lexemes_of text ts)) same_tokens a.1.2.written
@@ -64,7 +62,7 @@ module _ (text : List ℕ) (s : AbstractSchema) (tokens : List Token) (one_lexin
     same_tree : a.1.1 ≡ tree
     same_tree =
         sym a.1.2.sites ∙ ap (λ (ts : List Token). sited a.1.1 (sites_of ts)) same_tokens
-        ∙ both_ok (sited a.1.1 (sites_of tokens)) tree (one_tree a.1.1 written)
+        ∙ same_Ok (sited a.1.1 (sites_of tokens)) tree (one_tree a.1.1 written)
 
     made : basic_module tokens tree ≡ Ok a.0
     made = (λ i. basic_module (sym same_tokens i) (sym same_tree i)) ∙ a.1.3
@@ -77,7 +75,7 @@ module _ (text : List ℕ) (s : AbstractSchema) (tokens : List Token) (one_lexin
     -- and no fault
     pub built_only : IsModuleText text tokens tree → AreSpans text tokens → (m : BasicModule) → basic_module tokens tree ≡ Ok m → (r : Result Schema SchemaFault) → Gives schema_view named r (read_module m) → Gives schema_view named r (Ok s)
     built_only is spans m e r h =
-        let same : a.0 ≡ m = both_ok a.0 m (sym made ∙ e) in
+        let same : a.0 ≡ m = same_Ok a.0 m (sym made ∙ e) in
         let none : faults_of_module first_clash m ≡ None = (λ i. faults_of_module (sym (one_finder a.2.0 a.2.1) i) (sym same i)) ∙ a.2.2 in
         let denotes : denoted_schema m ≡ s = ap denoted_schema (sym same) ∙ sym a.3 in
         let answer : read_module m ≡ Ok s = reads text tokens tree is spans m e ∙ (λ i. fault_result (none i) (denotes i)) in

@@ -24,10 +24,9 @@ use Rattle.guard_schema.specs.declared.values.ValueFault.TheVariants.{TooLarge}
 use Rattle.guard_schema.specs.Constraints.{ends_of_ranges, ends, ends_inside, ends_of_components, first_too_large, constraint_fault}
 use Rattle.guard_schema.specs.Schemas.{AbstractSchema, denoted_definition, denoted_schema}
 use Rattle.guard_schema.specs.Faults.{name_fault, definition_fault, definitions_fault, faults_of_module}
-use Rattle.guard_schema.specs.First.{or_else}
 use Rattle.guard_schema.specs.Names.{repeated, component_names, assigned_names, HasTextNames, HasTextNamesInside, HaveTextNames, AssignTextNames}
 use Rattle.guard_schema.specs.Types.{number_of, denoted_range, denoted_ranges, universal, plain_number, collection_number, plain_kind, structure_kind, of_kind, presence_of, tags_of, denoted, denoted_kind, denoted_components}
-use Rattle.guard_schema.specs.Tagging.{nodes, nodes_inside, nodes_of_components, list_of, most_components, most_nesting, most_nodes, fault_where, node_fault, fault_at, first_fault, tag_fault}
+use Rattle.guard_schema.specs.Tagging.{nodes, nodes_inside, nodes_of_components, list_of, most_nodes, fault_where, node_fault, fault_at, first_fault, tag_fault}
 use Rattle.guard_tagcheck.specs.Distinct.{AbstractClash}
 use Rattle.guard_tagcheck.specs.Search.{first_clash}
 use Rattle.guard_syntax.specs.declared.tree.PlainType.{PlainType}
@@ -37,42 +36,45 @@ use Rattle.guard_syntax.specs.declared.tree.Collection.TheVariants as collection
 use Rattle.guard_schema.proofs.Bare.{bare, bare_kind, bare_components, clash_bare}
 use Rattle.guard_schema.proofs.Loops.{deeper}
 use Rattle.guard_schema.specs.Reading.{text_octets, list_result, check_components_list, check_list, check_size, check_node, check_type, check_base, check_components, read_range, in_schema, read_ranges, read_behind, clash_result, check_clash, build_type, build_base, build_components, read_definition, read_definitions, assigned_result, check_assigned, read_module}
+use Rattle.std.specs.Option.{option_or}
+use Rattle.guard_model.specs.Each.{each}
+use Rattle.guard_model.specs.Limits.{most_components, deepest_nesting}
 
 -- where no tag fault stands
 abbrev pub tag_result : {A : Type 0} → Option TagFault → A → Result A AbstractFault
 tag_result None x = Ok x
 tag_result (Some f) x = Err (Tag f)
 
-pub or_else-none : {A : Type 0} (o : Option A) → or_else o None ≡ o
-or_else-none None = refl
-or_else-none (Some x) = refl
+pub option_or-none : {A : Type 0} (o : Option A) → option_or o None ≡ o
+option_or-none None = refl
+option_or-none (Some x) = refl
 
-pub or_else-assoc : {A : Type 0} (a b c : Option A) → or_else (or_else a b) c ≡ or_else a (or_else b c)
-or_else-assoc None b c = refl
-or_else-assoc (Some x) b c = refl
+pub option_or-assoc : {A : Type 0} (a b c : Option A) → option_or (option_or a b) c ≡ option_or a (option_or b c)
+option_or-assoc None b c = refl
+option_or-assoc (Some x) b c = refl
 
 size_cases : (deep large : Bool) (f g : TagFault) (x : Checked)
-    → cond deep (Err (Tag f)) (cond large (Err (Tag g)) (Ok x)) ≡ tag_result (or_else (fault_where deep f) (fault_where large g)) x
+    → cond deep (Err (Tag f)) (cond large (Err (Tag g)) (Ok x)) ≡ tag_result (option_or (fault_where deep f) (fault_where large g)) x
 size_cases true large f g x = refl
 size_cases false true f g x = refl
 size_cases false false f g x = refl
 
 list_cases : (at : Site) (name : Option Site) (long : Bool) (rest : Option TagFault) (x : Checked)
     → (list_result at name long >>= λ _. tag_result rest x)
-    ≡ tag_result (or_else (option_map (λ site. DuplicateName site) name) (or_else (fault_where long (TooManyComponents at)) rest)) x
+    ≡ tag_result (option_or (option_map (λ site. DuplicateName site) name) (option_or (fault_where long (TooManyComponents at)) rest)) x
 list_cases at (Some site) long rest x = refl
 list_cases at None true rest x = refl
 list_cases at None false rest x = refl
 
 abbrev size_fault : Site → Checked → Option TagFault
-size_fault site parts = or_else (fault_where (ltb most_nesting (suc parts.nesting)) (TooDeep site)) (fault_where (ltb most_nodes (suc parts.nodes)) (SchemaTooLarge site))
+size_fault site parts = option_or (fault_where (ltb deepest_nesting (suc parts.nesting)) (TooDeep site)) (fault_where (ltb most_nodes (suc parts.nodes)) (SchemaTooLarge site))
 
 abbrev with_whole : Checked → Checked
 with_whole parts = record { nodes = suc parts.nodes; nesting = suc parts.nesting }
 
 check_size-is : (site : Site) (parts : Checked) → check_size site parts ≡ tag_result (size_fault site parts) (with_whole parts)
 unfolding check_size
-check_size-is site parts = size_cases (ltb most_nesting (suc parts.nesting)) (ltb most_nodes (suc parts.nodes)) (TooDeep site) (SchemaTooLarge site) (with_whole parts)
+check_size-is site parts = size_cases (ltb deepest_nesting (suc parts.nesting)) (ltb most_nodes (suc parts.nodes)) (TooDeep site) (SchemaTooLarge site) (with_whole parts)
 
 check_node-is : (site : Site) (base : BasicBase) (parts : Checked) → check_node site base parts ≡ tag_result (node_fault site base (suc parts.nesting) (suc parts.nodes)) (with_whole parts)
 unfolding check_node check_list check_components_list
@@ -84,12 +86,12 @@ check_node-is site (choice cs) parts =
     rw (check_size-is site parts) (list_cases site (repeated (component_names cs)) (ltb most_components (count (denoted_components cs))) (size_fault site parts) (with_whole parts))
 check_node-is site (of_type k t) parts = check_size-is site parts
 
-pub first_fault-append : (before : ℕ) (xs ys : List BasicType) → first_fault before (xs ++ ys) ≡ or_else (first_fault before xs) (first_fault (before + length xs) ys)
+pub first_fault-append : (before : ℕ) (xs ys : List BasicType) → first_fault before (xs ++ ys) ≡ option_or (first_fault before xs) (first_fault (before + length xs) ys)
 first_fault-append before [] ys = ap (λ (n : ℕ). first_fault n ys) (omega arith)
 first_fault-append before (x ∷ xs) ys =
     let k : suc before + length xs ≡ before + suc (length xs) = omega arith in
-    ap (λ (o : Option TagFault). or_else (fault_at before x) o) (first_fault-append (suc before) xs ys ∙ ap (λ (n : ℕ). or_else (first_fault (suc before) xs) (first_fault n ys)) k)
-    ∙ sym (or_else-assoc (fault_at before x) (first_fault (suc before) xs) (first_fault (before + suc (length xs)) ys))
+    ap (λ (o : Option TagFault). option_or (fault_at before x) o) (first_fault-append (suc before) xs ys ∙ ap (λ (n : ℕ). option_or (first_fault (suc before) xs) (first_fault n ys)) k)
+    ∙ sym (option_or-assoc (fault_at before x) (first_fault (suc before) xs) (first_fault (before + suc (length xs)) ys))
 
 length-append' : (xs ys : List BasicType) → length (xs ++ ys) ≡ length xs + length ys
 length-append' xs ys = simp length-append
@@ -99,7 +101,7 @@ counted before more depth = record { nodes = before + more; nesting = depth }
 
 -- a step that may be at fault, and then the whole of which it is a part
 node_after : (parts_fault : Option TagFault) (site : Site) (base : BasicBase) (parts : Checked)
-    → (tag_result parts_fault parts >>= λ p. check_node site base p) ≡ tag_result (or_else parts_fault (node_fault site base (suc parts.nesting) (suc parts.nodes))) (with_whole parts)
+    → (tag_result parts_fault parts >>= λ p. check_node site base p) ≡ tag_result (option_or parts_fault (node_fault site base (suc parts.nesting) (suc parts.nodes))) (with_whole parts)
 node_after None site base parts = check_node-is site base parts
 node_after (Some f) site base parts = refl
 
@@ -108,7 +110,7 @@ bind_tag None one k = refl
 bind_tag (Some f) one k = refl
 
 both : (first others : Option TagFault) (one more : Checked)
-    → (tag_result first one >>= λ _. deeper one.nesting (tag_result others more)) ≡ tag_result (or_else first others) (record { nodes = more.nodes; nesting = max one.nesting more.nesting })
+    → (tag_result first one >>= λ _. deeper one.nesting (tag_result others more)) ≡ tag_result (option_or first others) (record { nodes = more.nodes; nesting = max one.nesting more.nesting })
 both None None one more = refl
 both None (Some f) one more = refl
 both (Some f) others one more = refl
@@ -153,9 +155,9 @@ mutual
       let depth : ℕ = parts_nesting base in
       let deep : suc depth ≡ nesting (denoted here) = one_level site base in
       let long : suc (before + inside) ≡ before + length (nodes_inside base ++ here ∷ []) = omega (arith, length-append' (nodes_inside base) (here ∷ [])) in
-      let fault : or_else (first_fault before (nodes_inside base)) (node_fault site base (suc depth) (suc (before + inside))) ≡ first_fault before (nodes_inside base ++ here ∷ []) =
-      ap (λ (n : ℕ). or_else (first_fault before (nodes_inside base)) (node_fault site base n (suc (before + inside)))) deep
-      ∙ ap (λ (o : Option TagFault). or_else (first_fault before (nodes_inside base)) o) (sym (or_else-none (fault_at (before + inside) here)))
+      let fault : option_or (first_fault before (nodes_inside base)) (node_fault site base (suc depth) (suc (before + inside))) ≡ first_fault before (nodes_inside base ++ here ∷ []) =
+      ap (λ (n : ℕ). option_or (first_fault before (nodes_inside base)) (node_fault site base n (suc (before + inside)))) deep
+      ∙ ap (λ (o : Option TagFault). option_or (first_fault before (nodes_inside base)) o) (sym (option_or-none (fault_at (before + inside) here)))
       ∙ sym (first_fault-append before (nodes_inside base) (here ∷ [])) in
       ap (λ (r : Result Checked AbstractFault). r >>= λ p. check_node site base p) (check_base-is before base)
       ∙ node_after (first_fault before (nodes_inside base)) site base (counted before inside depth)
@@ -176,7 +178,7 @@ mutual
       let rest : Option TagFault = first_fault one.nodes (nodes_of_components others) in
       let more : Checked = counted one.nodes (length (nodes_of_components others)) (deepest (denoted_components others)) in
       let long : more.nodes ≡ before + length (nodes ty ++ nodes_of_components others) = omega (arith, length-append' (nodes ty) (nodes_of_components others)) in
-      let fault : or_else first rest ≡ first_fault before (nodes ty ++ nodes_of_components others) = sym (first_fault-append before (nodes ty) (nodes_of_components others)) in
+      let fault : option_or first rest ≡ first_fault before (nodes ty ++ nodes_of_components others) = sym (first_fault-append before (nodes ty) (nodes_of_components others)) in
       let beyond : Checked → Result Checked AbstractFault = λ c. deeper c.nesting (check_components c.nodes others) in
       ap (λ (r : Result Checked AbstractFault). r >>= beyond) (check_type-is before ty)
       ∙ bind_tag first one beyond
@@ -190,10 +192,10 @@ abbrev pub cons_result : {A : Type 0} → Option ConsFault → A → Result A Ab
 cons_result None x = Ok x
 cons_result (Some f) x = Err (Cons f)
 
-pub first_too_large-append : (xs ys : List WrittenNumber) → first_too_large (xs ++ ys) ≡ or_else (first_too_large xs) (first_too_large ys)
+pub first_too_large-append : (xs ys : List WrittenNumber) → first_too_large (xs ++ ys) ≡ option_or (first_too_large xs) (first_too_large ys)
 first_too_large-append [] ys = refl
 first_too_large-append (x ∷ xs) ys =
-    elim (fits_128_bits (number_of x)) as (λ b. cond b (first_too_large (xs ++ ys)) (Some (Value (TooLarge x.site))) ≡ or_else (cond b (first_too_large xs) (Some (Value (TooLarge x.site)))) (first_too_large ys)) [
+    elim (fits_128_bits (number_of x)) as (λ b. cond b (first_too_large (xs ++ ys)) (Some (Value (TooLarge x.site))) ≡ option_or (cond b (first_too_large xs) (Some (Value (TooLarge x.site)))) (first_too_large ys)) [
       | true ↦ first_too_large-append xs ys
       | false ↦ refl
     ]
@@ -214,13 +216,13 @@ read_range-is r = ends_cases (fits_128_bits (number_of r.low)) (fits_128_bits (n
 
 -- one after the other
 in_turn : {A B C : Type 0} (first others : Option ConsFault) (x : A) (y : B) (f : A → B → C)
-    → (cons_result first x >>= λ a. cons_result others y >>= λ b. Ok (f a b)) ≡ cons_result (or_else first others) (f x y)
+    → (cons_result first x >>= λ a. cons_result others y >>= λ b. Ok (f a b)) ≡ cons_result (option_or first others) (f x y)
 in_turn None None x y f = refl
 in_turn None (Some o) x y f = refl
 in_turn (Some o) others x y f = refl
 
 pub read_ranges-is : (rs : List BasicRange) → read_ranges rs ≡ cons_result (first_too_large (ends_of_ranges rs)) (map denoted_range rs)
-unfolding read_ranges
+unfolding each
 read_ranges-is [] = refl
 read_ranges-is (r ∷ rs) =
     let step : Result Constraint AbstractFault → Result (List Constraint) AbstractFault → Result (List Constraint) AbstractFault = λ p q. p >>= λ one. q >>= λ others. Ok (one ∷ others) in
@@ -350,7 +352,7 @@ counted_definition name c t = ((name, t), c.nodes)
 
 definition_cases : (tag : Option TagFault) (site : Site) (clash : Option AbstractClash) (cons : Option ConsFault) (c : Checked) (name : List ℕ) (t : AbstractType)
     → (tag_result tag c >>= λ d. clash_result site clash >>= λ _. cons_result cons t >>= λ u. Ok (counted_definition name d u))
-    ≡ fault_result (or_else (option_map (λ f. Tag f) tag) (or_else (option_map (λ x. Clash site x) clash) (option_map (λ f. Cons f) cons))) (counted_definition name c t)
+    ≡ fault_result (option_or (option_map (λ f. Tag f) tag) (option_or (option_map (λ x. Clash site x) clash) (option_map (λ f. Cons f) cons))) (counted_definition name c t)
 definition_cases None site None None c name t = refl
 definition_cases None site None (Some f) c name t = refl
 definition_cases None site (Some x) cons c name t = refl
@@ -367,7 +369,7 @@ read_definition-is before a text texts =
     ∙ definition_cases (tag_fault before a.ty) a.site (first_clash (denoted a.ty)) (constraint_fault a.ty) (counted before (length (nodes a.ty)) (nesting (denoted a.ty))) a.name (denoted a.ty)
 
 definitions_cases : (first others : Option AbstractFault) (one : Counted) (more : List (List ℕ × AbstractType))
-    → (fault_result first one >>= λ x. fault_result others more >>= λ xs. Ok (x.0 ∷ xs)) ≡ fault_result (or_else first others) (one.0 ∷ more)
+    → (fault_result first one >>= λ x. fault_result others more >>= λ xs. Ok (x.0 ∷ xs)) ≡ fault_result (option_or first others) (one.0 ∷ more)
 definitions_cases None None one more = refl
 definitions_cases None (Some f) one more = refl
 definitions_cases (Some f) others one more = refl
@@ -390,7 +392,7 @@ read_definitions-is before (a ∷ others) texts =
 
 -- ---- modules
 module_cases : (names definitions : Option AbstractFault) (name : List ℕ) (types : List (List ℕ × AbstractType))
-    → (fault_result {A = Unit {0}} names tt >>= λ _. fault_result definitions types >>= λ ts. Ok (one_module name ts)) ≡ fault_result (or_else names definitions) (one_module name types)
+    → (fault_result {A = Unit {0}} names tt >>= λ _. fault_result definitions types >>= λ ts. Ok (one_module name ts)) ≡ fault_result (option_or names definitions) (one_module name types)
 module_cases None None name types = refl
 module_cases None (Some f) name types = refl
 module_cases (Some f) definitions name types = refl

@@ -1,2 +1,3 @@
 pub mod Consistent
+pub mod Refusals
 pub mod Lines

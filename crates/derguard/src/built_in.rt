@@ -8,9 +8,9 @@ ghost use Rattle.derguard.specs.BuiltIn.{is_integer_type, rule_from_a_to_b, buil
 ghost use Rattle.guard_schema.specs.Schemas.{module_named};
 ghost use Rattle.guard_schema.specs.SchemaView.{schema_view};
 
+use guard_model::{Kind, OutOfMemory, Ty};
 use guard_policy::{Effect, Message, Policy, Rule};
 use guard_schema::Schema;
-use guard_model::{Kind, OutOfMemory, Ty};
 use std::alloc::Global;
 
 /// The policy over the types Level, Low and Ping of module First. None where the schema lacks one of them, or where

@@ -6,10 +6,10 @@ ghost use Rattle.derguard.specs.FirstRun.{first_text, sent, first_messages};
 ghost use Rattle.derguard.specs.FirstFaults.{Prints, IsFirstFault};
 
 use crate::built_in::built_in;
+use guard_model::OutOfMemory;
 use guard_policy::{Policy, Route};
 use guard_report::verdict_text;
 use guard_schema::{Schema, SchemaFault};
-use guard_model::OutOfMemory;
 use std::alloc::Global;
 use thiserror::Error;
 
@@ -30,6 +30,20 @@ pub enum FirstFault {
     OutOfMemory,
 }
 
+impl From<SchemaFault> for FirstFault {
+    ghost use Rattle.std.specs.Prelude.{◌≡◌};
+    ghost use Rattle.derguard.specs.FirstFaults.{schema_fault};
+
+    ghost from_gives = { λ f e. e ≡ schema_fault f };
+
+    fn from(fault: SchemaFault) -> FirstFault {
+        match fault {
+            SchemaFault::OutOfMemory => FirstFault::OutOfMemory,
+            fault => FirstFault::Schema(fault),
+        }
+    }
+}
+
 impl From<OutOfMemory> for FirstFault {
     ghost use Rattle.derguard.specs.declared.first_run.FirstFault.TheVariants as fault;
 
@@ -48,11 +62,7 @@ pub fn first_run(alloc: Global) -> Result<Vec<u8>, FirstFault>
     ensures printed { IfOk result (λ out. Prints first_text out.items) }
     ensures refused { IfErr result (IsFirstFault first_text) }
 {
-    let schema = match Schema::build(alloc, FIRST.as_bytes()) {
-        Ok(schema) => schema,
-        Err(SchemaFault::OutOfMemory) => return Err(FirstFault::OutOfMemory),
-        Err(fault) => return Err(FirstFault::Schema(fault)),
-    };
+    let schema = Schema::build(alloc, FIRST.as_bytes())?;
     let Some(policy) = built_in(alloc, &schema)? else {
         return Err(FirstFault::NoType);
     };

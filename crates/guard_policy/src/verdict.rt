@@ -1,6 +1,6 @@
 //! What becomes of a message, and why.
-use guard_eval::Violation;
 use guard_der::Breach;
+use guard_eval::Violation;
 
 /// The first of these that stands. Rules are numbered from 0 in the order of the policy.
 #[derive(Debug, Drop)]

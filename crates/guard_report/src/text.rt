@@ -8,10 +8,10 @@ ghost use Rattle.guard_report.specs.Text.{verdict_octets, breach_text, violation
 
 use super::path::add_path;
 use super::words::{add, add_name, add_number, breach_name};
-use guard_eval::Violation;
-use guard_policy::{Policy, Route, Verdict};
 use guard_der::Breach;
+use guard_eval::Violation;
 use guard_model::{OutOfMemory, Site};
+use guard_policy::{Policy, Route, Verdict};
 use std::alloc::Global;
 
 /// The text of a verdict on a message of the route. Its one refusal is want of memory.

@@ -11,9 +11,7 @@ ghost use Rattle.guard_schema.specs.Forms as forms;
 ghost use Rattle.guard_schema.specs.Reading.{basic_component, basic_alternative};
 ghost use Rattle.guard_schema.specs.Views.{type_view, base_view, component_view, assignment_view, module_view, range_view};
 
-use crate::basic::{
-    BasicAssignment, BasicBase, BasicComp, BasicModule, BasicRange, BasicType,
-};
+use crate::basic::{BasicAssignment, BasicBase, BasicComp, BasicModule, BasicRange, BasicType};
 use crate::fault::FormFault;
 use crate::header::check_header;
 use crate::ranges::basic_constraint;

@@ -6,42 +6,17 @@ use Rattle.guard_model.specs.declared.site.Step.TheVariants.{Component, Element}
 use Rattle.guard_model.specs.AbstractType as type
 use Rattle.guard_model.specs.AbstractType.{AbstractType, AbstractKind, type_of}
 use Rattle.guard_model.specs.TypeView.{OneComponent}
-use Rattle.guard_der.specs.declared.breach.Code.{Code}
-use Rattle.guard_der.specs.declared.breach.Code.TheVariants as code
 use Rattle.guard_der.specs.Breach.{AbstractBreach}
 use Rattle.guard_policy.specs.Policies.{AbstractPolicy, AbstractRoute, declared_type, rule_name_of, module_name}
 use Rattle.guard_eval.specs.Violations.{AbstractViolation}
 use Rattle.guard_policy.specs.Verdicts.{AbstractVerdict, pass, unknown_message, undecodable, outside_type, denied_by, not_allowed, no_rule}
 use Rattle.guard_model.specs.Components.{component_at, components_in}
+use Rattle.guard_der.specs.Names.{breach_name}
 
 -- what has no name stands by its number
 abbrev pub name_or_number : Option (List ℕ) → ℕ → List ℕ
 name_or_number (Some name) number = name
 name_or_number None number = decimal number
-
-abbrev pub breach_name : Code → List ℕ
-breach_name code.Truncated = codes "Truncated"
-breach_name code.TagForm = codes "TagForm"
-breach_name code.IndefiniteLength = codes "IndefiniteLength"
-breach_name code.NonMinimalLength = codes "NonMinimalLength"
-breach_name code.LengthTooLarge = codes "LengthTooLarge"
-breach_name code.UnexpectedTag = codes "UnexpectedTag"
-breach_name code.MissingComponent = codes "MissingComponent"
-breach_name code.WrongForm = codes "WrongForm"
-breach_name code.BooleanContents = codes "BooleanContents"
-breach_name code.IntegerContents = codes "IntegerContents"
-breach_name code.IntegerTooLong = codes "IntegerTooLong"
-breach_name code.UnknownEnumeration = codes "UnknownEnumeration"
-breach_name code.NullContents = codes "NullContents"
-breach_name code.BitStringContents = codes "BitStringContents"
-breach_name code.UnusedBits = codes "UnusedBits"
-breach_name code.ObjectIdContents = codes "ObjectIdContents"
-breach_name code.ObjectIdTooLong = codes "ObjectIdTooLong"
-breach_name code.Characters = codes "Characters"
-breach_name code.SetOrder = codes "SetOrder"
-breach_name code.SetOfOrder = codes "SetOfOrder"
-breach_name code.DefaultPresent = codes "DefaultPresent"
-breach_name code.TrailingOctets = codes "TrailingOctets"
 
 -- the name of the module, then line and column
 abbrev pub site_text : AbstractPolicy → Site → List ℕ

@@ -7,7 +7,7 @@ ghost use Rattle.guard_der.specs.Views.{breach_view};
 ghost use Rattle.guard_report.specs.Text.{verdict_octets, breach_text, violation_text, site_text, rule_text, shortfall_text, shortfalls_text};
 
 use super::path::add_path;
-use super::words::{add, add_name, add_number, breach_name};
+use super::words::{add, add_name, add_number};
 use guard_der::Breach;
 use guard_eval::Violation;
 use guard_model::{OutOfMemory, Site};
@@ -56,7 +56,7 @@ fn add_breach(
 ) -> Result<(), OutOfMemory>
     ensures { OnOk result (text.new.items ≡ text.old.items ++ breach_text (policy_view policy.now) (route_view route.now) (breach_view breach.now)) }
 {
-    add(text, breach_name(breach.code).as_bytes())?;
+    add(text, breach.code.name().as_bytes())?;
     add(text, b" at ")?;
     add_number(text, breach.at as u64)?;
     add(text, b" ")?;

@@ -1,8 +1,7 @@
 //! Names and numbers.
 ghost use Rattle.std.specs.Prelude.{◌≡◌, ◌++◌, OnOk, decimal, option_map};
-ghost use Rattle.guard_report.specs.Text.{name_or_number, breach_name};
+ghost use Rattle.guard_report.specs.Text.{name_or_number};
 
-use guard_der::Code;
 use guard_model::OutOfMemory;
 use itoa::Buffer;
 
@@ -29,35 +28,5 @@ pub fn add_name(text: &mut Vec<u8>, name: Option<&str>, number: u64) -> Result<(
     match name {
         Some(name) => add(text, name.as_bytes()),
         None => add_number(text, number),
-    }
-}
-
-/// The name of what is wrong, without its number.
-pub fn breach_name(code: Code) -> &'static str
-    ensures { result.now ≡ breach_name code }
-{
-    match code {
-        Code::Truncated => "Truncated",
-        Code::TagForm => "TagForm",
-        Code::IndefiniteLength => "IndefiniteLength",
-        Code::NonMinimalLength => "NonMinimalLength",
-        Code::LengthTooLarge => "LengthTooLarge",
-        Code::UnexpectedTag => "UnexpectedTag",
-        Code::MissingComponent => "MissingComponent",
-        Code::WrongForm => "WrongForm",
-        Code::BooleanContents => "BooleanContents",
-        Code::IntegerContents => "IntegerContents",
-        Code::IntegerTooLong => "IntegerTooLong",
-        Code::UnknownEnumeration => "UnknownEnumeration",
-        Code::NullContents => "NullContents",
-        Code::BitStringContents => "BitStringContents",
-        Code::UnusedBits => "UnusedBits",
-        Code::ObjectIdContents => "ObjectIdContents",
-        Code::ObjectIdTooLong => "ObjectIdTooLong",
-        Code::Characters => "Characters",
-        Code::SetOrder => "SetOrder",
-        Code::SetOfOrder => "SetOfOrder",
-        Code::DefaultPresent => "DefaultPresent",
-        Code::TrailingOctets => "TrailingOctets",
     }
 }

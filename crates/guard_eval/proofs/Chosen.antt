@@ -1,8 +1,8 @@
 -- The alternative at a place.
-use Rattle.std.proofs.Common.{◌≡◌, refl, ap, ◌∙◌, sym, subst, ℕ, zero, suc, ◌≤◌, ◌<◌, max, List, length, map, option_map, string_bytes, true, IsTrue, Option, Some, None, Bor, MatchOption, arith}
-use Rattle.guard_model.specs.AbstractType.{AbstractType, Components, no_components, component}
+use Rattle.std.proofs.Common.{◌≡◌, refl, ap, subst, ℕ, zero, suc, ◌≤◌, true, IsTrue, Some, None, arith}
+use Rattle.guard_model.specs.AbstractType.{Components, no_components, component}
 use Rattle.guard_model.specs.AbstractValue.{AbstractValue}
-use Rattle.guard_model.specs.TypeView.{OneComponent, type_view, component_view, components_of, presence_view}
+use Rattle.guard_model.specs.TypeView.{OneComponent}
 use Rattle.guard_tagcheck.specs.Limits.{nesting, deepest}
 use Rattle.guard_der.specs.Fits.{fits, fits_alternative}
 use Rattle.guard_der.specs.Sound.{is_proper, are_proper}

@@ -1,5 +1,5 @@
 -- What it says of elements that their list fits.
-use Rattle.std.proofs.Common.{◌≡◌, refl, ap, ℕ, zero, suc, ◌≤◌, ◌<◌, length, List, [], ◌∷◌, Bool, ◌&&◌, IsTrue, arith}
+use Rattle.std.proofs.Common.{◌≡◌, refl, ap, suc, ◌<◌, length, List, [], ◌∷◌, ◌&&◌, IsTrue, arith}
 use Rattle.std.proofs.lemmas.Bool.{and_parts, leb-true}
 use Rattle.guard_model.specs.AbstractType.{AbstractType}
 use Rattle.guard_model.specs.ValueView.{items_view}

@@ -1,5 +1,5 @@
 -- What it says of the parts of a type that it is sound, and so proper.
-use Rattle.std.proofs.Common.{◌≡◌, refl, ap, subst, ℕ, suc, ◌≤◌, max, length, List, [], ◌∷◌, map, Bool, ◌&&◌, nat_le, IsTrue, arith}
+use Rattle.std.proofs.Common.{◌≡◌, refl, ap, subst, ℕ, suc, ◌≤◌, max, length, List, [], ◌∷◌, map, ◌&&◌, nat_le, IsTrue, arith}
 use Rattle.std.proofs.lemmas.Bool.{and_parts, leb-true}
 use Rattle.guard_model.specs.AbstractType as type
 use Rattle.guard_model.specs.AbstractType.{AbstractType, AbstractKind, AbstractPresence, Components, Constraints, type_of, component}

@@ -1,14 +1,13 @@
 -- The reason is to pass exactly where the message goes.
-use Rattle.std.proofs.Common.{◌≡◌, ℕ, List, [], ◌∷◌, Bool, true, false, ◌&&◌, ◌||◌, not, cond, Option, Some, None, refl, ap, sym, ◌∙◌, subst, ◌⊎◌, inl, inr}
-use Rattle.std.specs.Prelude.{IsTrue}
-use Rattle.std.specs.List.{list_any, list_all}
+use Rattle.std.proofs.Common.{◌≡◌, ℕ, List, [], ◌∷◌, Bool, true, false, ◌&&◌, not, cond, Option, Some, None, refl, ap, sym, ◌∙◌, inl, inr}
+use Rattle.std.specs.List.{list_all}
 use Rattle.guard_model.specs.AbstractType.{AbstractType}
 use Rattle.guard_model.specs.AbstractValue.{AbstractValue}
 use Rattle.guard_eval.specs.Member.{is_member}
 use Rattle.guard_eval.specs.Violations.{AbstractViolation, violation}
-use Rattle.guard_policy.specs.Verdicts.{AbstractVerdict, pass, outside_type, denied_by, not_allowed, no_rule, unknown_message, undecodable}
-use Rattle.guard_policy.specs.Policies.{AbstractPolicy, AbstractRoute, declared_type}
-use Rattle.guard_policy.specs.Decisions.{NumberedRule, denies, is_allowing, rules_of, first_denying, shortfalls, by_allowing, by_rules, judged, DeclaredReason, IsReason, Goes}
+use Rattle.guard_policy.specs.Verdicts.{AbstractVerdict, pass, outside_type, denied_by, not_allowed, no_rule}
+use Rattle.guard_policy.specs.Policies.{AbstractPolicy, AbstractRoute}
+use Rattle.guard_policy.specs.Decisions.{NumberedRule, denies, rules_of, first_denying, shortfalls, by_allowing, by_rules, judged, IsReason, Goes}
 use Rattle.guard_eval.proofs.Law.{type_clear, is_clear}
 use Rattle.guard_policy.proofs.Shortfalls.{some_allows, some_allowing}
 

@@ -1,12 +1,12 @@
 -- There is one reason.
-use Rattle.std.proofs.Common.{◌≡◌, List, Option, Some, None, Result, Ok, Err, refl, ap, sym, ◌∙◌, subst, ◌⊎◌, inl, inr, ℕ, ◌↔◌}
+use Rattle.std.proofs.Common.{◌≡◌, List, Some, Result, Ok, Err, ap, sym, ◌∙◌, subst, inl, inr, ℕ, ◌↔◌}
 use Rattle.std.specs.Prelude.{IsTrue, IfOk}
 use Rattle.guard_model.specs.AbstractType.{AbstractType}
 use Rattle.guard_model.specs.AbstractValue.{AbstractValue}
 use Rattle.guard_der.specs.Der.{der}
 use Rattle.guard_der.specs.Fits.{fits}
 use Rattle.guard_der.specs.Breach.{AbstractBreach, IsBreach}
-use Rattle.guard_policy.specs.Verdicts.{AbstractVerdict, unknown_message, undecodable, pass}
+use Rattle.guard_policy.specs.Verdicts.{AbstractVerdict, undecodable, pass}
 use Rattle.guard_policy.specs.Policies.{AbstractPolicy, AbstractRoute, declared_type}
 use Rattle.guard_policy.specs.Decisions.{NumberedRule, rules_of, judged, DeclaredReason, IsReason, Goes}
 use Rattle.guard_policy.proofs.Goes.{passes_from_goes, goes_from_passes}

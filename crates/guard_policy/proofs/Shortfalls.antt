@@ -1,11 +1,11 @@
 -- The allowing rules that fall short, gathered one by one.
-use Rattle.std.proofs.Common.{◌≡◌, ℕ, ◌+◌, ◌++◌, List, [], ◌∷◌, Bool, true, false, ◌||◌, ◌&&◌, not, cond, map, Option, Some, None, refl, ap, sym, ◌∙◌, append_assoc, subst, ◌⊎◌, inl, inr}
+use Rattle.std.proofs.Common.{◌≡◌, ℕ, ◌+◌, ◌++◌, List, [], ◌∷◌, Bool, true, false, ◌||◌, ◌&&◌, cond, Some, None, refl, ap, sym, ◌∙◌, append_assoc, subst, inl, inr}
 use Rattle.std.specs.List.{list_any}
 use Rattle.std.proofs.lemmas.List.{append-nil}
 use Rattle.guard_model.specs.AbstractValue.{AbstractValue}
 use Rattle.guard_eval.specs.Member.{is_member}
 use Rattle.guard_eval.specs.Violations.{AbstractViolation, violation}
-use Rattle.guard_policy.specs.Verdicts.{AbstractVerdict, pass, not_allowed, no_rule}
+use Rattle.guard_policy.specs.Verdicts.{pass, not_allowed, no_rule}
 use Rattle.guard_policy.specs.Policies.{AbstractRule, AbstractRoute}
 use Rattle.guard_policy.specs.Decisions.{NumberedRule, speaks_of, speaking, is_allowing, allows, shortfalls, by_allowing}
 use Rattle.guard_eval.proofs.Law.{type_clear, is_clear}

@@ -1,5 +1,5 @@
 -- A text that denotes a schema is answered with it.
-use Rattle.std.proofs.Common.{◌≡◌, ℕ, List, Option, Some, None, Result, Ok, Err, refl, sym, ap, subst, ◌∙◌}
+use Rattle.std.proofs.Common.{◌≡◌, ℕ, List, None, Result, Ok, Err, sym, ap, subst, ◌∙◌}
 use Rattle.guard_model.specs.Answer.{Gives, Refuses}
 use Rattle.guard_lexer.specs.declared.token.Token.{Token}
 use Rattle.guard_lexer.specs.declared.fault.LexFault.{LexFault}
@@ -19,15 +19,13 @@ use Rattle.guard_schema.specs.declared.fault.SchemaFault.{SchemaFault}
 use Rattle.guard_schema.specs.declared.schema.Schema.{Schema}
 use Rattle.guard_schema.specs.Basic.{BasicModule}
 use Rattle.guard_schema.specs.Forms.{basic_module}
-use Rattle.guard_schema.specs.Faults.{named, lex_fault, syntax_fault, form_named, form_fault, FindsClashes, faults_of_module}
+use Rattle.guard_schema.specs.Faults.{named, lex_fault, syntax_fault, form_named, form_fault, faults_of_module}
 use Rattle.guard_schema.specs.Schemas.{AbstractSchema, denoted_schema}
 use Rattle.guard_schema.specs.Accepts.{IsModuleText, Accepts}
 use Rattle.guard_schema.specs.Reading.{read_module}
 use Rattle.guard_schema.specs.SchemaView.{schema_view}
 use Rattle.guard_schema.proofs.Readings.{fault_result}
-use Rattle.guard_tagcheck.specs.Distinct.{AbstractClash}
 use Rattle.guard_tagcheck.specs.Search.{first_clash}
-use Rattle.guard_model.specs.AbstractType.{AbstractType}
 use Rattle.guard_schema.specs.Faults.{AbstractFault}
 use Rattle.guard_schema.proofs.Steps.{reads, one_finder}
 use Rattle.guard_model.proofs.Results.{same_Ok}

@@ -1,5 +1,5 @@
 -- Types without their constraints: they have the same tags, nesting and clash.
-use Rattle.std.proofs.Common.{◌≡◌, ℕ, suc, ◌+◌, max, length, Bool, true, false, ◌&&◌, ◌||◌, cond, List, [], ◌∷◌, Option, Some, None, refl, ap}
+use Rattle.std.proofs.Common.{◌≡◌, ℕ, suc, ◌+◌, max, length, Bool, true, false, ◌&&◌, ◌||◌, cond, List, [], ◌∷◌, Some, None, refl, ap}
 use Rattle.std.specs.Prelude.{nat_le}
 use Rattle.guard_model.specs.declared.tag.Tag.{Tag}
 use Rattle.guard_model.specs.declared.site.Step.TheVariants.{Component, Element}

@@ -6,7 +6,7 @@ use Rattle.guard_schema.specs.declared.basic.BasicComp.{BasicComp}
 use Rattle.guard_schema.specs.declared.basic.BasicAssignment.{BasicAssignment}
 use Rattle.guard_schema.specs.Basic.{components_of}
 use Rattle.guard_schema.specs.Views.{component_view, assignment_view}
-use Rattle.guard_schema.specs.Faults.{AbstractFault, Tag}
+use Rattle.guard_schema.specs.Faults.{Tag}
 use Rattle.guard_schema.specs.declared.tagging.TagFault.TheVariants.{DuplicateName}
 use Rattle.guard_schema.specs.Reading.{check_components_list, list_result}
 use Rattle.guard_schema.specs.Names.{PlacedName, assigned_names, component_names, repeated}

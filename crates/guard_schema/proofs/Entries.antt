@@ -1,5 +1,5 @@
 -- The entries of a component list one by one.
-use Rattle.std.proofs.Common.{◌≡◌, Bool, true, false, ◌≤◌, ap, arith, map, length, List, [], ◌∷◌, Option, Some, None, Result, Ok, Err, refl, sym, ◌∙◌}
+use Rattle.std.proofs.Common.{◌≡◌, Bool, false, ◌≤◌, ap, arith, map, length, List, [], ◌∷◌, Option, Some, None, Result, Ok, Err, refl, sym, ◌∙◌}
 use Rattle.guard_model.specs.Answer.{◌>>=◌, Refuses}
 use Rattle.guard_model.specs.declared.site.Site.{Site}
 use Rattle.guard_syntax.specs.Trees.{WrittenComponentForm, named, components_of_type, WrittenComponents, WrittenComponent, component_before, components_of, structure, choice, WrittenAlternative, alternatives_of, WrittenIntersection, WrittenDifference, united_of, met_of}

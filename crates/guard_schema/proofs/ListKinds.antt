@@ -1,5 +1,5 @@
 -- The kind of a type with a list of components.
-use Rattle.std.proofs.Common.{◌≡◌, Bool, List, map, Option, Some, None, Result, Ok, Err, ap, ◌∙◌}
+use Rattle.std.proofs.Common.{◌≡◌, Bool, List, map, Option, Some, None, Result, Ok, ap, ◌∙◌}
 use Rattle.std.specs.Global.{Vec}
 use Rattle.guard_model.specs.Answer.{◌>>=◌, Refuses}
 use Rattle.guard_model.specs.AbstractType as type

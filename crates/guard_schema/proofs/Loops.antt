@@ -1,5 +1,5 @@
 -- Reading one item after the other, as a loop does.
-use Rattle.std.proofs.Common.{◌≡◌, Bool, ℕ, zero, suc, subst, ◌+◌, ◌<◌, ◌≤◌, List, [], ◌∷◌, ◌++◌, max, map, length, get_or, drop, Option, Some, None, Result, Ok, Err, refl, sym, ap, ◌∙◌, append_assoc, arith, add-one}
+use Rattle.std.proofs.Common.{◌≡◌, Bool, ℕ, zero, suc, subst, ◌+◌, ◌<◌, ◌≤◌, List, [], ◌∷◌, ◌++◌, max, map, length, get_or, drop, Option, Some, None, Result, Ok, Err, refl, sym, ap, ◌∙◌, arith}
 use Rattle.std.proofs.lemmas.List.{append-nil, at_drop_more, at_drop_all}
 use Rattle.guard_model.specs.Answer.{◌>>=◌, Refuses}
 use Rattle.guard_model.specs.AbstractType.{AbstractType}

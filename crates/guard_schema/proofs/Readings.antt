@@ -21,12 +21,12 @@ use Rattle.guard_der.specs.Fits.{fits_128_bits}
 use Rattle.guard_schema.specs.declared.constraints.ConsFault.{ConsFault}
 use Rattle.guard_schema.specs.declared.constraints.ConsFault.TheVariants.{Value}
 use Rattle.guard_schema.specs.declared.values.ValueFault.TheVariants.{TooLarge}
-use Rattle.guard_schema.specs.Constraints.{ends_of_ranges, ends, ends_inside, ends_of_components, first_too_large, constraint_fault}
+use Rattle.guard_schema.specs.Constraints.{ends_of_ranges, ends, ends_of_components, first_too_large, constraint_fault}
 use Rattle.guard_schema.specs.Schemas.{AbstractSchema, denoted_definition, denoted_schema}
 use Rattle.guard_schema.specs.Faults.{name_fault, definition_fault, definitions_fault, faults_of_module}
-use Rattle.guard_schema.specs.Names.{repeated, component_names, assigned_names, HasTextNames, HasTextNamesInside, HaveTextNames, AssignTextNames}
-use Rattle.guard_schema.specs.Types.{number_of, denoted_range, denoted_ranges, universal, plain_number, collection_number, plain_kind, structure_kind, of_kind, presence_of, tags_of, denoted, denoted_kind, denoted_components}
-use Rattle.guard_schema.specs.Tagging.{nodes, nodes_inside, nodes_of_components, list_of, most_nodes, fault_where, node_fault, fault_at, first_fault, tag_fault}
+use Rattle.guard_schema.specs.Names.{repeated, component_names, assigned_names, HasTextNames, HaveTextNames, AssignTextNames}
+use Rattle.guard_schema.specs.Types.{number_of, denoted_range, universal, collection_number, plain_kind, structure_kind, of_kind, presence_of, tags_of, denoted, denoted_components}
+use Rattle.guard_schema.specs.Tagging.{nodes, nodes_inside, nodes_of_components, most_nodes, fault_where, node_fault, fault_at, first_fault, tag_fault}
 use Rattle.guard_tagcheck.specs.Distinct.{AbstractClash}
 use Rattle.guard_tagcheck.specs.Search.{first_clash}
 use Rattle.guard_syntax.specs.declared.tree.PlainType.{PlainType}
@@ -35,7 +35,7 @@ use Rattle.guard_syntax.specs.declared.tree.Collection.{Collection}
 use Rattle.guard_syntax.specs.declared.tree.Collection.TheVariants as collection
 use Rattle.guard_schema.proofs.Bare.{bare, bare_kind, bare_components, clash_bare}
 use Rattle.guard_schema.proofs.Loops.{deeper}
-use Rattle.guard_schema.specs.Reading.{text_octets, list_result, check_components_list, check_list, check_size, check_node, check_type, check_base, check_components, read_range, in_schema, read_ranges, read_behind, clash_result, check_clash, build_type, build_base, build_components, read_definition, read_definitions, assigned_result, check_assigned, read_module}
+use Rattle.guard_schema.specs.Reading.{text_octets, list_result, check_components_list, check_list, check_size, check_node, check_type, check_base, check_components, read_range, in_schema, read_ranges, clash_result, check_clash, build_type, build_base, build_components, read_definition, read_definitions, assigned_result, check_assigned, read_module}
 use Rattle.std.specs.Option.{option_or}
 use Rattle.guard_model.specs.Each.{each}
 use Rattle.guard_model.specs.Limits.{most_components, deepest_nesting}

@@ -1,5 +1,5 @@
 -- What no fault says: types are sound, and names differ.
-use Rattle.std.proofs.Common.{◌≡◌, ℕ, suc, ◌+◌, ◌≤◌, Bool, true, false, cond, ltb, leb, List, [], ◌∷◌, ◌++◌, map, length, Option, Some, None, refl, sym, ap, subst, ◌∙◌, append_assoc}
+use Rattle.std.proofs.Common.{◌≡◌, ℕ, ◌+◌, ◌≤◌, Bool, true, false, cond, ltb, leb, List, [], ◌∷◌, ◌++◌, map, length, Option, Some, None, refl, sym, ap, subst, ◌∙◌, append_assoc}
 use Rattle.std.specs.Prelude.{◌&&◌, IsTrue, option_map, bytes_eq}
 use Rattle.std.specs.List.{list_any, IsDistinct, AllByRecursion}
 use Rattle.std.proofs.lemmas.Bool.{ltb-false, le-leb, and_from, and_parts}
@@ -10,7 +10,7 @@ use Rattle.std.proofs.lemmas.List.Elements.{All-from_recursion}
 use Rattle.std.proofs.lemmas.List.{append-nil}
 use Rattle.std.proofs.lemmas.Map.Keys.{IsDistinct-push}
 use Rattle.guard_model.specs.declared.site.Site.{Site}
-use Rattle.guard_tagcheck.specs.Limits.{count, nesting, deepest, is_formed, keeps_limits, parts_keep_limits, components_keep_limits, is_within_limits}
+use Rattle.guard_tagcheck.specs.Limits.{count, nesting, is_formed, keeps_limits, parts_keep_limits, components_keep_limits, is_within_limits}
 use Rattle.guard_tagcheck.specs.Search.{first_clash}
 use Rattle.guard_tagcheck.specs.Distinct.{AbstractClash}
 use Rattle.guard_model.specs.AbstractType as type
@@ -18,9 +18,9 @@ use Rattle.guard_model.specs.AbstractType.{Components}
 use Rattle.guard_syntax.specs.declared.tree.PlainType.{PlainType}
 use Rattle.guard_syntax.specs.declared.tree.PlainType.TheVariants as plain_type
 use Rattle.guard_syntax.specs.declared.tree.Collection.TheVariants as collection
-use Rattle.guard_der.specs.Sound.{is_proper, is_proper_kind, is_proper_presence, are_proper, all_apply, none_clash, is_sound}
+use Rattle.guard_der.specs.Sound.{is_proper, is_proper_presence, are_proper, all_apply, none_clash, is_sound}
 use Rattle.guard_schema.specs.Basic.{BasicRange, BasicType, type_node, BasicBase, plain, integer, structure, choice, of_type, BasicComponents, no_components, component, BasicAssignment}
-use Rattle.guard_schema.specs.Faults.{AbstractFault, Tag, Clash, Cons}
+use Rattle.guard_schema.specs.Faults.{Tag, Clash, Cons}
 use Rattle.guard_schema.specs.declared.tagging.TagFault.{TagFault}
 use Rattle.guard_schema.specs.declared.tagging.TagFault.TheVariants.{TooDeep}
 use Rattle.guard_schema.specs.Names.{PlacedName, repeated_after, repeated, assigned_names}
@@ -30,7 +30,6 @@ use Rattle.guard_schema.specs.Constraints.{constraint_fault}
 use Rattle.guard_schema.specs.Faults.{definition_fault, definitions_fault}
 use Rattle.guard_schema.specs.Schemas.{AreDefinitions, denoted_definition}
 use Rattle.guard_schema.proofs.Readings.{first_fault-append}
-use Rattle.std.specs.Option.{option_or}
 use Rattle.guard_model.proofs.Options.{option_or_none}
 
 not_wrong : (wrong : Bool) (f : TagFault) → fault_where wrong f ≡ None → wrong ≡ false

@@ -1,10 +1,9 @@
 -- Each definition of a schema has a sound type.
-use Rattle.std.proofs.Common.{◌≡◌, ℕ, ◌<◌, false, List, length, get_or, map, Option, Some, None, Result, Ok, refl, ap, sym, ◌∙◌, subst}
+use Rattle.std.proofs.Common.{◌≡◌, ℕ, ◌<◌, false, List, length, get_or, map, Option, Some, None, Ok, refl, ap, sym, ◌∙◌, subst}
 use Rattle.guard_tagcheck.specs.Limits.{nesting, is_within_limits}
 use Rattle.guard_schema.specs.declared.tagging.Checked.{Checked}
 use Rattle.guard_schema.specs.declared.tagging.TagFault.{TagFault}
 use Rattle.guard_schema.specs.Basic.{BasicType}
-use Rattle.guard_schema.specs.Faults.{AbstractFault}
 use Rattle.guard_schema.specs.Names.{HasTextNames}
 use Rattle.guard_schema.specs.Types.{denoted}
 use Rattle.guard_schema.specs.Tagging.{nodes, tag_fault}

@@ -17,7 +17,6 @@ use Rattle.guard_syntax.specs.Parses.{IsWritten}
 use Rattle.guard_syntax.specs.Sites.{sited}
 use Rattle.guard_syntax.specs.Faults.{NamesToken, fault_of}
 use Rattle.guard_schema.specs.declared.fault.SchemaFault.{SchemaFault}
-use Rattle.guard_schema.specs.declared.fault.SchemaFault.TheVariants as code
 use Rattle.guard_tagcheck.specs.Distinct.{AbstractClash, Distinct, IsClash}
 use Rattle.guard_tagcheck.specs.Search.{first_clash}
 use Rattle.guard_tagcheck.proofs.Clashes.{type_some, type_none}

@@ -1,6 +1,6 @@
 -- The names of a basic tree are texts, since the tokens of its module are words of letters, digits and hyphens. What is written
 -- is walked from left to right, as far as a basic tree is made of it.
-use Rattle.std.proofs.Common.{◌≡◌, ℕ, ◌<◌, Bool, true, false, ◌&&◌, List, [], ◌∷◌, Option, Some, None, Result, Ok, Err, refl, subst, arith}
+use Rattle.std.proofs.Common.{◌≡◌, ℕ, ◌<◌, Bool, true, false, List, [], ◌∷◌, Option, Some, None, Ok, refl, subst, arith}
 use Rattle.std.specs.Prelude.{IsUtf8, IsTrue}
 use Rattle.std.specs.Str.{IsAscii}
 use Rattle.std.specs.Char.{is_ascii_alphabetic, is_ascii_alphanumeric}
@@ -18,15 +18,13 @@ use Rattle.guard_lexer.specs.Spans.{IsSpan, AreSpans, IsSpelled}
 use Rattle.guard_syntax.specs.declared.tree.TagDefault.{TagDefault}
 use Rattle.guard_syntax.specs.declared.tree.PlainType.{PlainType}
 use Rattle.guard_syntax.specs.declared.tree.PlainType.TheVariants as plain_type
-use Rattle.guard_syntax.specs.declared.tree.Collection.TheVariants as collection
 use Rattle.guard_syntax.specs.Lexemes.{Lexeme, word, mark, upper_name, lower_name, number, character_string, bit_string, hexadecimal_string, unsupported, lexeme_of, octets_of, lexemes_of}
-use Rattle.guard_syntax.specs.Trees.{WrittenNumber, WrittenValue, WrittenEndForm, end_integer, end_reference, end_characters, WrittenEnd, WrittenRange, WrittenSetForm, all_except, union, none_united, united, WrittenIntersection, intersection, none_met, met, WrittenDifference, element_alone, element_except, WrittenElement, element_node, WrittenElementForm, parentheses, value, contained, range, size, from, with_component, with_components, set_node, WrittenConstraint, constraint, WrittenTag, WrittenNamed, WrittenPresence, mandatory, optional, default, WrittenType, type_node, WrittenBase, plain, numbers, enumerated, structure, choice, of_type, named_type, WrittenComponents, no_components, component, components_from, WrittenAlternatives, no_alternatives, alternative, WrittenIdentifierPart, bare_name, arc_part, WrittenExports, all_exported, exported, WrittenImport, WrittenAssignment, WrittenModule}
-use Rattle.guard_syntax.specs.TokensOf.{each_then, perhaps_then, if_there_then, number_then, arc_form_then, end_form_then, end_or_then, range_then, set_form_then, intersection_then, difference_then, element_then, element_form_then, constraint_then, tag_then, numbers_then, plain_then, alternatives_comma, alternatives_then, presence_then, components_comma, type_then, base_then, components_then, identifier_part_then, identifier_then, tag_default_then, exports_then, imports_then, assigned_then, assignment_then, tokens_of}
-use Rattle.guard_model.specs.Answer.{◌>>=◌}
+use Rattle.guard_syntax.specs.Trees.{WrittenNumber, WrittenValue, WrittenEndForm, end_integer, end_reference, end_characters, WrittenEnd, WrittenRange, WrittenSetForm, all_except, union, none_united, united, WrittenIntersection, intersection, none_met, met, WrittenDifference, element_alone, element_except, WrittenElement, element_node, parentheses, value, contained, range, size, from, with_component, with_components, set_node, WrittenConstraint, constraint, WrittenTag, WrittenNamed, WrittenPresence, mandatory, optional, default, WrittenType, type_node, WrittenBase, plain, numbers, enumerated, structure, choice, of_type, named_type, WrittenComponents, no_components, component, components_from, WrittenAlternatives, no_alternatives, alternative, WrittenIdentifierPart, bare_name, arc_part, WrittenExports, all_exported, exported, WrittenImport, WrittenAssignment, WrittenModule}
+use Rattle.guard_syntax.specs.TokensOf.{each_then, perhaps_then, if_there_then, number_then, arc_form_then, end_form_then, end_or_then, range_then, set_form_then, intersection_then, difference_then, element_then, constraint_then, tag_then, numbers_then, plain_then, alternatives_comma, alternatives_then, presence_then, components_comma, type_then, base_then, components_then, identifier_part_then, identifier_then, tag_default_then, exports_then, imports_then, assigned_then, assignment_then, tokens_of}
 use Rattle.guard_model.specs.declared.site.Site.{Site}
 use Rattle.guard_schema.specs.Basic as basic
 use Rattle.guard_schema.specs.Basic.{BasicRange, BasicType, BasicBase, BasicComponent, BasicAssignment, BasicModule}
-use Rattle.guard_schema.specs.Forms.{ends_of_element_form, ends_of_element, ends_of_difference, ends_of_intersection, ends_of_set_form, range_between, basic_constraint, no_constraints, perhaps_one, with_constraints, no_tags, no_numbers, is_optional, basic_type, basic_base, basic_components, basic_alternatives, no_value, basic_assignment, basic_assignments, explicit_tags, all_exports, no_imports, basic_header, basic_module}
+use Rattle.guard_schema.specs.Forms.{ends_of_element, ends_of_difference, ends_of_intersection, ends_of_set_form, range_between, basic_constraint, no_constraints, perhaps_one, with_constraints, no_tags, no_numbers, is_optional, basic_type, basic_base, basic_components, basic_alternatives, no_value, basic_assignment, basic_assignments, explicit_tags, all_exports, no_imports, basic_header, basic_module}
 use Rattle.guard_schema.specs.Names.{HasTextNames, HasTextNamesInside, HaveTextNames, AssignTextNames}
 use Rattle.guard_model.specs.Each.{each}
 use Rattle.std.proofs.lemmas.Bool.{and_parts}

@@ -1,6 +1,6 @@
 -- The basic trees of written modules, and the forms that are left out: those that mean nothing yet. Each definition answers
 -- `Ok` with the basic tree, or `Err` with where the first token of the first form stands that is left out, in document order.
-use Rattle.std.specs.Prelude.{ℕ, Bool, true, false, List, [], ◌∷◌, Option, Some, None, Result, Ok, Err, if◌then◌else◌}
+use Rattle.std.specs.Prelude.{Bool, true, false, List, [], ◌∷◌, Option, Some, None, Result, Ok, Err, if◌then◌else◌}
 use Rattle.guard_model.specs.Answer.{◌>>=◌}
 use Rattle.guard_model.specs.declared.site.Site.{Site}
 use Rattle.guard_lexer.specs.declared.token.Token.{Token}

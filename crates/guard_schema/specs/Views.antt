@@ -7,7 +7,7 @@ use Rattle.guard_syntax.specs.Trees.{WrittenNumber}
 use Rattle.guard_syntax.specs.Views.{number_view}
 use Rattle.guard_schema.specs.declared.basic.BasicRange as code_range
 use Rattle.guard_schema.specs.declared.basic.BasicBase as code_base
-use Rattle.guard_schema.specs.declared.basic.BasicBase.TheFolds.{fold-BasicBase, fold-BasicComp, fold-BasicType}
+use Rattle.guard_schema.specs.declared.basic.BasicBase.TheFolds.{fold-BasicBase, fold-BasicType}
 use Rattle.guard_schema.specs.declared.basic.BasicBase.TheOpen.{BasicBase-F, BasicComp-F, BasicType-F}
 use Rattle.guard_schema.specs.declared.basic.BasicType as code_type
 use Rattle.guard_schema.specs.declared.basic.BasicComp as code_component

@@ -5,7 +5,7 @@ use Rattle.guard_model.specs.TypeView.{component_view, components_of}
 use Rattle.guard_model.specs.ValueView.{value_view}
 use Rattle.guard_eval.proofs.Chosen.{chosen_member, no_member}
 use Rattle.guard_eval.proofs.AtEnd.{members_at_end}
-use Rattle.guard_model.proofs.TypeViews.{kind_view_sequence, kind_view_set, kind_view_choice}
+use Rattle.guard_model.proofs.TypeViews.{kind_view_sequence, kind_view_set}
 use Rattle.guard_model.proofs.ValueViews.{value_view_fields}
 use Rattle.guard_model.proofs.Components.{found_there, found_nowhere}
 use Rattle.guard_eval.proofs.members.+members.Goals as goal

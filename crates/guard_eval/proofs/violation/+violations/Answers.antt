@@ -3,7 +3,7 @@ use Rattle.std.proofs.lemmas.Bool.{and_parts}
 use Rattle.std.specs.Slice.Iter.{iter_rest}
 use Rattle.std.specs.Iterator.Adapters.{zip_first, zip_second, enumerate_source, enumerate_count}
 use Rattle.guard_model.specs.TypeView.{type_view, kind_view, component_view, constraint_view, components_of, constraints_of}
-use Rattle.guard_model.specs.ValueView.{value_view, items_view}
+use Rattle.guard_model.specs.ValueView.{value_view}
 use Rattle.guard_model.specs.declared.site.Step.TheVariants.{Component}
 use Rattle.guard_model.specs.declared.ty.Kind.{the_lemmas}
 use Rattle.guard_model.specs.declared.ty.Kind.TheViews.{out-Ty, out-Comp}

@@ -1,13 +1,12 @@
-use Rattle.std.proofs.Common.{◌≡◌, ◌+◌, ◌++◌, ◌∷◌, [], ◌∙◌, sym, ap, map, drop, subst}
+use Rattle.std.proofs.Common.{◌+◌, ◌∙◌, sym, map, drop}
 use Rattle.std.proofs.lemmas.List.{map_push}
-use Rattle.guard_model.specs.TypeView.{type_view}
 use Rattle.guard_model.specs.ValueView.{value_view}
 use Rattle.guard_policy.specs.Policies.{rule_view}
 use Rattle.guard_eval.specs.Violations.{violation_view, shortfall_view}
 use Rattle.guard_policy.specs.PolicyView.{route_view}
 use Rattle.guard_policy.specs.Decisions.{speaks_of, is_allowing, speaking}
 use Rattle.guard_policy.proofs.Applicable.{applicable_at, left_is}
-use Rattle.guard_policy.proofs.Shortfalls.{goes_on_past, goes_on_with, ends_with, none_allows}
+use Rattle.guard_policy.proofs.Shortfalls.{goes_on_past, goes_on_with, ends_with}
 use Rattle.guard_policy.proofs.decision.judge_by_allowing.Goals as goal
 use Rattle.guard_policy.proofs.decision.judge_by_allowing.Goals.{then-rule_may_allow+in-Some+in_ok-push-in-Some, else-rule_may_allow}
 use Rattle.std.proofs.lemmas.Bool.{and_parts}

@@ -1,10 +1,10 @@
-use Rattle.std.proofs.Common.{◌≡◌, map, option_map, IfOk, ◌↔◌, sym, ap, ◌∙◌}
+use Rattle.std.proofs.Common.{◌≡◌, map, ◌↔◌, sym, ◌∙◌}
 use Rattle.guard_model.specs.TypeView.{type_view}
 use Rattle.guard_model.specs.ValueView.{value_view}
 use Rattle.guard_der.specs.Views.{breach_view}
 use Rattle.guard_policy.specs.Policies.{message_view, rule_view}
 use Rattle.guard_policy.specs.PolicyView.{policy_view, route_view}
-use Rattle.guard_policy.specs.Verdicts.{AbstractVerdict, verdict_view, pass}
+use Rattle.guard_policy.specs.Verdicts.{verdict_view, pass}
 use Rattle.guard_policy.specs.Decisions.{rules_of, judged, Goes}
 use Rattle.guard_policy.proofs.Applicable.{declared_sound, applicable_from_consistent}
 use Rattle.guard_policy.proofs.Reasons.{reason_of_value, reason_of_breach, if_ok_map, passes_exactly}

@@ -1,4 +1,4 @@
-use Rattle.std.proofs.Common.{◌≡◌, List, Option, Result, Ok}
+use Rattle.std.proofs.Common.{◌≡◌, Result, Ok}
 use Rattle.std.proofs.lemmas.Result.{err_from_is_err_and}
 use Rattle.guard_model.specs.Answer.{Refuses}
 use Rattle.guard_syntax.specs.declared.fault.SyntaxFault.{SyntaxFault}

@@ -8,8 +8,8 @@ use Rattle.guard_model.specs.declared.site.Step.{Step}
 use Rattle.guard_model.specs.declared.site.Step.TheVariants.{Component}
 use Rattle.guard_tagcheck.specs.Distinct.{AbstractClash}
 use Rattle.guard_tagcheck.specs.Search as search
-use Rattle.guard_tagcheck.specs.Search.{share_tag, partner, first_pair, paired, here, inside, or_else, first_clash, clash_inside}
-use Rattle.guard_der.specs.Sound.{is_mandatory, none_clash}
+use Rattle.guard_tagcheck.specs.Search.{share_tag, partner, first_pair, paired, here, inside, or_else, first_clash, clash_inside, is_mandatory}
+use Rattle.guard_der.specs.Sound.{none_clash}
 
 -- no tag begins encodings of both
 abbrev pub differ : AbstractType → AbstractType → Bool

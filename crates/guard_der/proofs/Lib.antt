@@ -1,6 +1,5 @@
 mod Room
 mod Digits
-mod Results
 mod Fields
 mod Heads
 mod Headers
@@ -32,12 +31,12 @@ mod Messages
 mod Components
 mod ObjectIds
 mod Texts
+mod LastOctets
 mod Paths
 mod Decodings
 mod ItemLoop
 pub mod Numbers
 pub mod Arranging
-pub mod WrittenTexts
 pub mod Arcs
 pub mod TypeLevels
 pub mod EncodingSteps

@@ -2,12 +2,12 @@
 ghost use Rattle.std.specs.Prelude.{◌≡◌, ◌&&◌, map, nat_le, IfOk, IsTrue};
 ghost use Rattle.guard_model.specs.TypeView.{type_view, kind_view, component_view, components_of, presence_view};
 ghost use Rattle.guard_model.specs.ValueView.{value_view};
-ghost use Rattle.guard_tagcheck.specs.Limits.{count};
 ghost use Rattle.guard_tagcheck.specs.Distinct.{Distinct};
 ghost use Rattle.guard_der.specs.Sound.{is_sound, is_proper, is_proper_kind, are_proper, is_proper_presence, is_short};
 ghost use Rattle.guard_der.specs.Der.{der};
 ghost use Rattle.guard_der.specs.Fits.{fits};
 ghost use Rattle.guard_der.specs.Pieces.{default_fits};
+ghost use Rattle.guard_model.specs.Counts.{component_count};
 
 mod forms;
 
@@ -72,7 +72,7 @@ fn is_proper_kind(alloc: Global, kind: &Kind) -> Result<bool, OutOfMemory>
 /// Of a SEQUENCE, SET or CHOICE.
 #[cycle(proper)]
 fn list_is_proper(alloc: Global, comps: &[Comp]) -> Result<bool, OutOfMemory>
-    ensures { IfOk result (λ b. b ≡ (nat_le (count (components_of (map component_view comps.now))) 64 && are_proper (components_of (map component_view comps.now)))) }
+    ensures { IfOk result (λ b. b ≡ (nat_le (component_count (components_of (map component_view comps.now))) 64 && are_proper (components_of (map component_view comps.now)))) }
 {
     if comps.len() > MOST_COMPONENTS {
         return Ok(false);

@@ -1,0 +1,44 @@
+//! Answers that say why there is none.
+use conformance_notation::{read, type_of};
+use conformance_rows::text_of;
+use guard_der::sound;
+use guard_model::Ty;
+use std::alloc::{AllocError, Global};
+
+/// What isn't written as it should be.
+pub fn not_read(alloc: Global) -> Result<String, AllocError> {
+    String::from_str(alloc, "(not read)")
+}
+
+/// A directive that a layer doesn't have.
+pub fn unknown(alloc: Global) -> Result<String, AllocError> {
+    String::from_str(alloc, "unknown")
+}
+
+/// The directive `@type TYPE`: sets the type for the rows below, and answers whether it is sound.
+pub fn set_type(
+    alloc: Global,
+    ty: &mut Option<Box<Ty>>,
+    name: &str,
+    text: &[u8],
+) -> Result<String, AllocError> {
+    if name != "type" {
+        return unknown(alloc);
+    }
+    let Some(written) = read(type_of(alloc, text_of(text)))? else {
+        *ty = None;
+        return not_read(alloc);
+    };
+    let answer = soundness(alloc, &written);
+    *ty = Some(written);
+    answer
+}
+
+/// Whether a type is sound, in words.
+pub fn soundness(alloc: Global, ty: &Ty) -> Result<String, AllocError> {
+    match sound(alloc, ty) {
+        Ok(true) => String::from_str(alloc, "sound"),
+        Ok(false) => String::from_str(alloc, "not sound"),
+        Err(_) => Err(AllocError),
+    }
+}

@@ -142,18 +142,7 @@ fn untagged(
 {
     match kind {
         Kind::Choice(alternatives) => chosen(alloc, alternatives, at, head, octets),
-        Kind::Bool => Err(fault_at(Code::UnexpectedTag, at)),
-        Kind::Int(_) => Err(fault_at(Code::UnexpectedTag, at)),
-        Kind::Bits => Err(fault_at(Code::UnexpectedTag, at)),
-        Kind::Octets => Err(fault_at(Code::UnexpectedTag, at)),
-        Kind::Null => Err(fault_at(Code::UnexpectedTag, at)),
-        Kind::Oid => Err(fault_at(Code::UnexpectedTag, at)),
-        Kind::Enumerated(_) => Err(fault_at(Code::UnexpectedTag, at)),
-        Kind::Chars(_) => Err(fault_at(Code::UnexpectedTag, at)),
-        Kind::Sequence(_) => Err(fault_at(Code::UnexpectedTag, at)),
-        Kind::Set(_) => Err(fault_at(Code::UnexpectedTag, at)),
-        Kind::SequenceOf(_) => Err(fault_at(Code::UnexpectedTag, at)),
-        Kind::SetOf(_) => Err(fault_at(Code::UnexpectedTag, at)),
+        _ => Err(fault_at(Code::UnexpectedTag, at)),
     }
 }
 
@@ -203,18 +192,11 @@ fn contents(
         Kind::Sequence(comps) => Ok(Value::Fields(components(alloc, comps, start, octets)?)),
         Kind::Set(comps) => Ok(Value::Fields(members(alloc, comps, start, octets)?)),
         Kind::Choice(_) => alone(alloc, &[], kind, start, octets),
-        Kind::Bool => value_of_simple(alloc, kind, at, octets),
-        Kind::Int(_) => value_of_simple(alloc, kind, at, octets),
-        Kind::Bits => value_of_simple(alloc, kind, at, octets),
-        Kind::Octets => value_of_simple(alloc, kind, at, octets),
-        Kind::Null => value_of_simple(alloc, kind, at, octets),
-        Kind::Oid => value_of_simple(alloc, kind, at, octets),
-        Kind::Enumerated(_) => value_of_simple(alloc, kind, at, octets),
-        Kind::Chars(_) => value_of_simple(alloc, kind, at, octets),
         Kind::SequenceOf(element) => {
             Ok(Value::Items(items(alloc, element, false, start, octets)?))
         }
         Kind::SetOf(element) => Ok(Value::Items(items(alloc, element, true, start, octets)?)),
+        _ => value_of_simple(alloc, kind, at, octets),
     }
 }
 

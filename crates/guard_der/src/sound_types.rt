@@ -51,19 +51,12 @@ fn is_proper_kind(alloc: Global, kind: &Kind) -> Result<bool, OutOfMemory>
     ensures { IfOk result (λ b. b ≡ is_proper_kind (kind_view kind.now)) }
 {
     match kind {
-        Kind::Bool => Ok(true),
-        Kind::Int(_) => Ok(true),
-        Kind::Bits => Ok(true),
-        Kind::Octets => Ok(true),
-        Kind::Null => Ok(true),
-        Kind::Oid => Ok(true),
-        Kind::Enumerated(_) => Ok(true),
-        Kind::Chars(_) => Ok(true),
         Kind::Sequence(comps) => list_is_proper(alloc, comps),
         Kind::Set(comps) => list_is_proper(alloc, comps),
         Kind::Choice(alternatives) => list_is_proper(alloc, alternatives),
         Kind::SequenceOf(element) => is_proper(alloc, element),
         Kind::SetOf(element) => is_proper(alloc, element),
+        _ => Ok(true),
     }
 }
 

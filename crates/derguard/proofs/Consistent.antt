@@ -1,14 +1,11 @@
 -- The policy that is built in is consistent.
-use Rattle.std.proofs.Common.{◌≡◌, List, [], ◌∷◌, All, ℕ, cond, true, false, Option, Some, None, refl, ap, sym, ◌∙◌, subst}
+use Rattle.std.proofs.Common.{◌≡◌, Some, subst}
 use Rattle.std.specs.Prelude.{IsTrue}
 use Rattle.std.proofs.lemmas.List.Elements.{All-from_recursion}
-use Rattle.std.specs.Str.{bytes_eq}
 use Rattle.guard_model.specs.AbstractType as type
 use Rattle.guard_model.specs.AbstractType.{AbstractType, type_of}
-use Rattle.guard_model.specs.AbstractValue.{AbstractValue}
-use Rattle.guard_der.specs.Fits.{fits}
 use Rattle.guard_der.specs.Sound.{is_sound}
-use Rattle.guard_policy.specs.Policies.{AbstractMessage, AbstractRule, FitsAlso, IsConsistent, declared_among}
+use Rattle.guard_policy.specs.Policies.{FitsAlso, IsConsistent, declared_among}
 use Rattle.derguard.specs.BuiltIn.{is_integer_type, built_in_messages, built_in_rules}
 use Rattle.std.proofs.lemmas.Option.{same_Some}
 

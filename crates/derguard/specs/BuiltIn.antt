@@ -1,5 +1,5 @@
 -- The policy that is built in: two messages, and for each a rule that allows it from a to b.
-use Rattle.std.specs.Prelude.{◌≡◌, ℕ, List, [], ◌∷◌, Bool, true, false, codes, Option, Some, None, IsTrue, option_to_list}
+use Rattle.std.specs.Prelude.{◌≡◌, ℕ, List, [], ◌∷◌, Bool, true, false, codes, Option, Some, IsTrue, option_to_list}
 use Rattle.guard_model.specs.AbstractType as type
 use Rattle.guard_model.specs.AbstractType.{AbstractType, AbstractKind, type_of}
 use Rattle.guard_policy.specs.declared.policy.Effect.TheVariants.{Allow}

@@ -16,11 +16,11 @@ use Rattle.guard_der.specs.Fits.{fits_kind}
 use Rattle.guard_der.proofs.Distinctness.{all_differ}
 use Rattle.guard_der.specs.Breach.{AbstractBreach, FaultInChosen, FaultInPart, one_with, is_found, after, below}
 use Rattle.guard_der.specs.Reading.{Reader, chosen_at, part_at, inside, fault}
-use Rattle.guard_der.proofs.Results.{bind_ok, ok_is}
-use Rattle.guard_der.proofs.Steps.{err_is, bind_err, inside_ok, inside_err, head_is}
+use Rattle.guard_der.proofs.Steps.{inside_ok, inside_err, head_is}
 use Rattle.guard_der.proofs.Digits.{AreDigits}
 use Rattle.guard_der.proofs.Lawful.{Lawful, Takes, Again, Found, FoundAgain}
 use Rattle.guard_der.proofs.Parts.{AllLawful, part_lawful, with_tag, tag_again, found_begins, within_fits}
+use Rattle.guard_model.proofs.Results.{bind_ok, same_Ok, same_Err, bind_err}
 
 abbrev pub read_chosen : (ℕ → Reader) → Option ℕ → ℕ → Head → List ℕ → Result AbstractValue AbstractBreach
 read_chosen read found at h os = elim found [ None ↦ Err (fault code.UnexpectedTag at) | Some j ↦ inside (Component j) (read j at h os) >>= λ v. Ok (value.chosen j v) ]
@@ -29,7 +29,7 @@ chosen_ok : (read : ℕ → Reader) (found : Option ℕ) (at : ℕ) (h : Head) (
 chosen_ok read None at h os v e = absurd cc
 chosen_ok read (Some j) at h os v e =
     let b = bind_ok (inside (Component j) (read j at h os)) (λ v. Ok (value.chosen j v)) v e in
-    (j, b.0, refl, inside_ok (Component j) (read j at h os) b.0 b.1, ok_is {F = AbstractBreach} (value.chosen j b.0) v b.2)
+    (j, b.0, refl, inside_ok (Component j) (read j at h os) b.0 b.1, same_Ok {F = AbstractBreach} (value.chosen j b.0) v b.2)
 
 chosen_err : (read : ℕ → Reader) (found : Option ℕ) (at : ℕ) (h : Head) (os : List ℕ) (b : AbstractBreach) → is_found found ≡ true → read_chosen read found at h os ≡ Err b → (j : ℕ) × (c : AbstractBreach) × (found ≡ Some j) × (read j at h os ≡ Err c) × (b ≡ below (Component j) c)
 chosen_err read None at h os b some e = absurd cc
@@ -41,7 +41,7 @@ chosen_err read (Some j) at h os b some e =
 
 chosen_length : (read : ℕ → Reader) (found : Option ℕ) (at : ℕ) (h : Head) (os : List ℕ) (b : AbstractBreach) (deep : ℕ) → ((j : ℕ) (c : AbstractBreach) → found ≡ Some j → read j at h os ≡ Err c → length c.path < deep)
     → read_chosen read found at h os ≡ Err b → length b.path < suc deep
-chosen_length read None at h os b deep inner e = omega (arith, ap (λ (b : AbstractBreach). length b.path) (err_is {A = AbstractValue} (fault code.UnexpectedTag at) b e))
+chosen_length read None at h os b deep inner e = omega (arith, ap (λ (b : AbstractBreach). length b.path) (same_Err {A = AbstractValue} (fault code.UnexpectedTag at) b e))
 chosen_length read (Some j) at h os b deep inner e =
     let c = chosen_err read (Some j) at h os b refl e in
     let same : length b.path ≡ suc (length c.1.path) = ap (λ (b : AbstractBreach). length b.path) c.4 in

@@ -11,11 +11,12 @@ use Rattle.guard_der.specs.declared.breach.Code.{Code}
 use Rattle.guard_der.specs.declared.breach.Code.TheVariants as code
 use Rattle.guard_der.specs.Head.{Head, head_of}
 use Rattle.guard_der.specs.Der.{is_left_out}
-use Rattle.guard_der.specs.Sound.{is_mandatory}
 use Rattle.guard_der.specs.Breach.{AbstractBreach, below}
 use Rattle.guard_der.specs.Reading.{Reader, component_at, sent_at, not_sent, missing_at, fault, located}
-use Rattle.guard_der.proofs.Results.{bind_ok, ok_is, chosen}
-use Rattle.guard_der.proofs.Steps.{err_is, bind_err, inside_ok, inside_err}
+use Rattle.guard_der.proofs.Steps.{inside_ok, inside_err}
+use Rattle.guard_tagcheck.specs.Search.{is_mandatory}
+use Rattle.guard_model.proofs.Results.{bind_ok, same_Ok, same_Err, bind_err}
+use Rattle.guard_model.proofs.Tests.{chosen}
 
 abbrev Component2 : Type 0
 Component2 = Option AbstractValue × ℕ
@@ -24,9 +25,9 @@ Component2 = Option AbstractValue × ℕ
 
 pub skips_again : (presence : AbstractPresence) (b c : AbstractBreach) (f : Option AbstractValue) → not_sent presence b ≡ Ok f → not_sent presence c ≡ Ok f
 skips_again type.mandatory b c f e = absurd cc
-skips_again type.optional b c f e = ap (λ (f : Option AbstractValue). Ok f) (ok_is {F = AbstractBreach} None f e)
-skips_again type.pending b c f e = ap (λ (f : Option AbstractValue). Ok f) (ok_is {F = AbstractBreach} None f e)
-skips_again (type.default d) b c f e = ap (λ (f : Option AbstractValue). Ok f) (ok_is {F = AbstractBreach} (Some d) f e)
+skips_again type.optional b c f e = ap (λ (f : Option AbstractValue). Ok f) (same_Ok {F = AbstractBreach} None f e)
+skips_again type.pending b c f e = ap (λ (f : Option AbstractValue). Ok f) (same_Ok {F = AbstractBreach} None f e)
+skips_again (type.default d) b c f e = ap (λ (f : Option AbstractValue). Ok f) (same_Ok {F = AbstractBreach} (Some d) f e)
 
 pub skips_optional : (presence : AbstractPresence) (b : AbstractBreach) (f : Option AbstractValue) → not_sent presence b ≡ Ok f → is_mandatory presence ≡ false
 skips_optional type.mandatory b f e = absurd cc
@@ -41,7 +42,7 @@ optional_skips type.pending b e = (None, refl)
 optional_skips (type.default d) b e = (Some d, refl)
 
 wanting : (presence : AbstractPresence) (b c : AbstractBreach) → not_sent presence b ≡ Err c → (is_mandatory presence ≡ true) × (b ≡ c)
-wanting type.mandatory b c e = (refl, err_is {A = Option AbstractValue} b c e)
+wanting type.mandatory b c e = (refl, same_Err {A = Option AbstractValue} b c e)
 wanting type.optional b c e = absurd cc
 wanting type.pending b c e = absurd cc
 wanting (type.default d) b c e = absurd cc
@@ -78,22 +79,22 @@ ComponentErr i presence wanted read at os b =
     ⊎ ((h : Head) × (v : AbstractValue) × (head_of os ≡ Ok h) × (wanted h.tag ≡ true) × (read at h os ≡ Ok v) × (is_left_out presence v ≡ true) × (b ≡ below (Component i) (fault code.DefaultPresent at)))
 
 pair_is : (x y : Component2) → ◌≡◌ {A = Result Component2 AbstractBreach} (Ok x) (Ok y) → x ≡ y
-pair_is x y e = ok_is {F = AbstractBreach} x y e
+pair_is x y e = same_Ok {F = AbstractBreach} x y e
 
 pub located_is : (at : ℕ) (r : Result Head Code) (h : Head) → located at r ≡ Ok h → r ≡ Ok h
-located_is at (Ok x) h e = ap (λ (h : Head). Ok h) (ok_is {F = AbstractBreach} x h e)
+located_is at (Ok x) h e = ap (λ (h : Head). Ok h) (same_Ok {F = AbstractBreach} x h e)
 located_is at (Err c) h e = absurd cc
 
 located_fault : (at : ℕ) (r : Result Head Code) (b : AbstractBreach) → located at r ≡ Err b → (c : Code) × (r ≡ Err c) × (b ≡ fault c at)
 located_fault at (Ok x) b e = absurd cc
-located_fault at (Err c) b e = (c, refl, sym (err_is {A = Head} (fault c at) b e))
+located_fault at (Err c) b e = (c, refl, sym (same_Err {A = Head} (fault c at) b e))
 
 kept_ok : (left : Bool) (at : ℕ) (v w : AbstractValue) → ◌≡◌ {A = Result AbstractValue AbstractBreach} (cond left (Err (fault code.DefaultPresent at)) (Ok v)) (Ok w) → (left ≡ false) × (v ≡ w)
 kept_ok true at v w e = absurd cc
-kept_ok false at v w e = (refl, ok_is {F = AbstractBreach} v w e)
+kept_ok false at v w e = (refl, same_Ok {F = AbstractBreach} v w e)
 
 kept_err : (left : Bool) (at : ℕ) (v : AbstractValue) (b : AbstractBreach) → ◌≡◌ {A = Result AbstractValue AbstractBreach} (cond left (Err (fault code.DefaultPresent at)) (Ok v)) (Err b) → (left ≡ true) × (b ≡ fault code.DefaultPresent at)
-kept_err true at v b e = (refl, sym (err_is {A = AbstractValue} (fault code.DefaultPresent at) b e))
+kept_err true at v b e = (refl, sym (same_Err {A = AbstractValue} (fault code.DefaultPresent at) b e))
 kept_err false at v b e = absurd cc
 
 abbrev kept : AbstractPresence → ℕ → AbstractValue → Result AbstractValue AbstractBreach

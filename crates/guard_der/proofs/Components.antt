@@ -12,10 +12,10 @@ use Rattle.guard_model.specs.declared.ty.Comp.{Comp}
 use Rattle.guard_model.specs.declared.ty.Kind.TheViews.{out-Comp}
 use Rattle.guard_tagcheck.specs.FirstTags.{begins_with}
 use Rattle.guard_tagcheck.specs.Limits.{nesting, deepest}
-use Rattle.guard_tagcheck.proofs.Components.{left, left_is, none_left}
 use Rattle.guard_der.specs.Sound.{is_proper, is_proper_presence, are_proper}
 use Rattle.guard_der.specs.Breach.{AbstractBreach}
 use Rattle.guard_der.specs.Reading.{element_at, fields_at, end_at, component_at, field_before}
+use Rattle.guard_model.proofs.Components.{left, left_is, none_left}
 
 -- fields, and then more
 abbrev pub followed : List (Option AbstractValue) → Fields → Fields

@@ -17,8 +17,7 @@ use Rattle.guard_model.specs.declared.ty.Ty.{Ty}
 use Rattle.guard_model.specs.declared.ty.Comp.{Comp}
 use Rattle.guard_model.specs.declared.ty.Kind.TheViews.{out-Ty, out-Comp}
 use Rattle.guard_tagcheck.specs.FirstTags.{begins_with}
-use Rattle.guard_tagcheck.specs.Limits.{nesting, nesting_inside, deepest, count, is_tagged, are_low}
-use Rattle.guard_tagcheck.proofs.TypeViews.{type_view_is, component_view_is, kind_view_sequence, kind_view_choice}
+use Rattle.guard_tagcheck.specs.Limits.{nesting, nesting_inside, deepest, is_tagged, are_low}
 use Rattle.guard_model.specs.ValueView.{value_view, value_step}
 use Rattle.guard_model.specs.declared.value.Value.{Value}
 use Rattle.guard_model.specs.declared.value.Value.TheFolds.{fold-roll-Value}
@@ -27,7 +26,6 @@ use Rattle.guard_model.specs.declared.value.Value.TheVariants.{rolls-Chosen}
 use Rattle.guard_model.specs.declared.value.Value.TheOpen.{Value-F}
 use Rattle.guard_model.specs.declared.ty.Kind.{Kind, Sequence, Choice}
 use Rattle.std.specs.Global.{Vec, Box}
-use Rattle.guard_tagcheck.proofs.Components.{count_is}
 use Rattle.guard_der.specs.declared.breach.Code.TheVariants as code
 use Rattle.guard_der.specs.Head.{Head, head_of}
 use Rattle.guard_der.specs.Der.{is_constructed, is_left_out}
@@ -39,6 +37,9 @@ use Rattle.guard_der.proofs.Digits.{AreDigits}
 use Rattle.guard_der.proofs.Headers.{head_room}
 use Rattle.guard_der.proofs.ComponentSteps.{sent_again, sent_fails, sent_default}
 use Rattle.guard_der.proofs.Choice.{chosen_is, chosen_reads, chosen_fails}
+use Rattle.guard_model.specs.Counts.{component_count}
+use Rattle.guard_model.proofs.TypeViews.{type_view_is, component_view_is, kind_view_sequence, kind_view_choice}
+use Rattle.guard_model.proofs.Components.{component_count_is, in_view}
 
 abbrev pub whole : List Tag → AbstractKind → AbstractType
 whole tags kind = type_of tags kind no_constraints
@@ -109,14 +110,6 @@ inner_proper (t ∷ u ∷ ts) kind more e =
 
 some_tags : (t : Tag) (ts : List Tag) → eqb (length (t ∷ ts)) 0 ≡ true → ⊥
 some_tags t ts e = absurd (omega (arith, eqb-true (length (t ∷ ts)) 0 e))
-
-pub was_false : (b : Bool) → not b ≡ true → b ≡ false
-was_false true e = absurd cc
-was_false false e = refl
-
-pub was_true : (b : Bool) → not b ≡ false → b ≡ true
-was_true true e = refl
-was_true false e = absurd cc
 
 pub element_none : (tags : List Tag) (kind : AbstractKind) (at : ℕ) (h : Head) (os : List ℕ) → eqb (length tags) 0 ≡ true → element_at (whole tags kind) at h os ≡ untagged_at kind at h os
 unfolding element_at tags_at
@@ -281,57 +274,50 @@ inside_refused (Some b) i presence wanted read at os h some e due got =
 
 -- ---- kinds of the code
 
--- `Choice` as a value
-pub value_chosen : (n : ℕ) (b : Box Value) → value_view (values.Chosen n b) ≡ value.chosen n (value_view b.value)
-value_chosen n b = ap value_view (sym (rolls-Chosen n b)) ∙ fold-roll-Value AbstractValue value_step (Value-F.Chosen n b)
-
-sequence_list : (cs : Components) → is_proper_kind (type.sequence cs) ≡ true → (are_proper cs ≡ true) × (count cs ≤ 64)
+sequence_list : (cs : Components) → is_proper_kind (type.sequence cs) ≡ true → (are_proper cs ≡ true) × (component_count cs ≤ 64)
 sequence_list cs e =
-    let p = and_parts (nat_le (count cs) 64) (are_proper cs) e in
-    (p.1, leb-true (count cs) 64 p.0)
+    let p = and_parts (nat_le (component_count cs) 64) (are_proper cs) e in
+    (p.1, leb-true (component_count cs) 64 p.0)
 
-choice_list : (cs : Components) → is_proper_kind (type.choice cs) ≡ true → (are_proper cs ≡ true) × (count cs ≤ 64)
+choice_list : (cs : Components) → is_proper_kind (type.choice cs) ≡ true → (are_proper cs ≡ true) × (component_count cs ≤ 64)
 choice_list cs e =
-    let p = and_parts (nat_le (count cs) 64) (are_proper cs) e in
-    (p.1, leb-true (count cs) 64 p.0)
+    let p = and_parts (nat_le (component_count cs) 64) (are_proper cs) e in
+    (p.1, leb-true (component_count cs) 64 p.0)
 
-list_count : (comps : List Comp) → count (components_of (map component_view comps)) ≡ length comps
-list_count comps = count_is (map component_view comps) ∙ length-map comps component_view
-
-abbrev pub components_in : List Comp → Components
-components_in comps = components_of (map component_view comps)
+list_count : (comps : List Comp) → component_count (components_of (map component_view comps)) ≡ length comps
+list_count comps = component_count_is (map component_view comps) ∙ length-map comps component_view
 
 pub sequence_parts : (kind : Kind) (comps : Vec Comp) → kind ≡ Sequence comps → is_proper_kind (kind_view kind) ≡ true
-    → (are_proper (components_in comps.items) ≡ true) × (length comps.items ≤ 64) × (nesting_inside (kind_view kind) ≡ deepest (components_in comps.items))
+    → (are_proper (in_view comps.items) ≡ true) × (length comps.items ≤ 64) × (nesting_inside (kind_view kind) ≡ deepest (in_view comps.items))
 sequence_parts kind comps is proper =
-    let e : kind_view kind ≡ type.sequence (components_in comps.items) = rw is (kind_view_sequence comps) in
-    let l = sequence_list (components_in comps.items) (rw e at proper) in
+    let e : kind_view kind ≡ type.sequence (in_view comps.items) = rw is (kind_view_sequence comps) in
+    let l = sequence_list (in_view comps.items) (rw e at proper) in
     (l.0, omega (arith, l.1, list_count comps.items), ap nesting_inside e)
 
 pub choice_parts : (kind : Kind) (comps : Vec Comp) → kind ≡ Choice comps → is_proper_kind (kind_view kind) ≡ true
-    → (are_proper (components_in comps.items) ≡ true) × (length comps.items ≤ 64) × (nesting_inside (kind_view kind) ≡ suc (deepest (components_in comps.items)))
+    → (are_proper (in_view comps.items) ≡ true) × (length comps.items ≤ 64) × (nesting_inside (kind_view kind) ≡ suc (deepest (in_view comps.items)))
 choice_parts kind comps is proper =
-    let e : kind_view kind ≡ type.choice (components_in comps.items) = rw is (kind_view_choice comps) in
-    let l = choice_list (components_in comps.items) (rw e at proper) in
+    let e : kind_view kind ≡ type.choice (in_view comps.items) = rw is (kind_view_choice comps) in
+    let l = choice_list (in_view comps.items) (rw e at proper) in
     (l.0, omega (arith, l.1, list_count comps.items), ap nesting_inside e)
 
 choice_whole : (k : AbstractKind) (cs : Components) → k ≡ type.choice cs → is_proper_kind k ≡ true → is_proper (whole [] k) ≡ true
 choice_whole k cs e proper = subst (λ (k : AbstractKind). is_proper (whole [] k) ≡ true) (sym e) (subst (λ (k : AbstractKind). is_proper_kind k ≡ true) e proper)
 
 pub choice_proper : (kind : Kind) (comps : Vec Comp) → kind ≡ Choice comps → is_proper_kind (kind_view kind) ≡ true → is_proper (whole [] (kind_view kind)) ≡ true
-choice_proper kind comps is proper = choice_whole (kind_view kind) (components_in comps.items) (rw is (kind_view_choice comps)) proper
+choice_proper kind comps is proper = choice_whole (kind_view kind) (in_view comps.items) (rw is (kind_view_choice comps)) proper
 
 pub choice_contents : (kind : Kind) (comps : Vec Comp) (at start : ℕ) (os : List ℕ) → kind ≡ Choice comps
     → alone_at (begins_with (whole [] (kind_view kind))) (element_at (whole [] (kind_view kind))) start os ≡ contents_at (kind_view kind) at start os
 choice_contents kind comps at start os is =
-    let e : kind_view kind ≡ type.choice (components_in comps.items) = rw is (kind_view_choice comps) in
-    subst (λ (k : AbstractKind). alone_at (begins_with (whole [] k)) (element_at (whole [] k)) start os ≡ contents_at k at start os) (sym e) (sym (choice_body (components_in comps.items) at start os))
+    let e : kind_view kind ≡ type.choice (in_view comps.items) = rw is (kind_view_choice comps) in
+    subst (λ (k : AbstractKind). alone_at (begins_with (whole [] k)) (element_at (whole [] k)) start os ≡ contents_at k at start os) (sym e) (sym (choice_body (in_view comps.items) at start os))
 
 pub choice_element : (kind : Kind) (comps : Vec Comp) (at : ℕ) (h : Head) (os : List ℕ) → kind ≡ Choice comps
-    → chosen_at (components_in comps.items) (part_at (components_in comps.items)) at h os ≡ untagged_at (kind_view kind) at h os
+    → chosen_at (in_view comps.items) (part_at (in_view comps.items)) at h os ≡ untagged_at (kind_view kind) at h os
 choice_element kind comps at h os is =
-    let e : kind_view kind ≡ type.choice (components_in comps.items) = rw is (kind_view_choice comps) in
-    subst (λ (k : AbstractKind). chosen_at (components_in comps.items) (part_at (components_in comps.items)) at h os ≡ untagged_at k at h os) (sym e) (sym (choice_untagged (components_in comps.items) at h os))
+    let e : kind_view kind ≡ type.choice (in_view comps.items) = rw is (kind_view_choice comps) in
+    subst (λ (k : AbstractKind). chosen_at (in_view comps.items) (part_at (in_view comps.items)) at h os ≡ untagged_at k at h os) (sym e) (sym (choice_untagged (in_view comps.items) at h os))
 
 -- an element of the type by its tags and its kind
 pub tags_element : (ty : Ty) (tags : List Tag) (at : ℕ) (h : Head) (os : List ℕ) → tags ≡ (out-Ty ty).tags.items → element_at (type_view ty) at h os ≡ element_at (whole tags (kind_view (out-Ty ty).kind)) at h os

@@ -8,8 +8,9 @@ use Rattle.guard_model.specs.declared.site.Step.{Step}
 use Rattle.guard_model.specs.declared.site.Step.TheVariants.{Component}
 use Rattle.guard_tagcheck.specs.Distinct.{AbstractClash}
 use Rattle.guard_tagcheck.specs.Search as search
-use Rattle.guard_tagcheck.specs.Search.{share_tag, partner, first_pair, paired, here, inside, or_else, first_clash, clash_inside}
-use Rattle.guard_der.specs.Sound.{is_mandatory, none_clash}
+use Rattle.guard_tagcheck.specs.Search.{share_tag, partner, first_pair, paired, here, inside, or_else, first_clash, clash_inside, is_mandatory}
+use Rattle.guard_der.specs.Sound.{none_clash}
+use Rattle.guard_tagcheck.proofs.Options.{or_else_none, inside_none, here_none, paired_none}
 
 -- no tag begins encodings of both
 abbrev pub differ : AbstractType → AbstractType → Bool
@@ -36,28 +37,6 @@ pub no_clash : (c : Option AbstractClash) → none_clash c ≡ true → c ≡ No
 no_clash None e = refl
 no_clash (Some c) e = absurd cc
 
-pub neither : {A : Type 0} (a b : Option A) → or_else a b ≡ None → (a ≡ None) × (b ≡ None)
-neither None b e = (refl, e)
-neither (Some x) b e = absurd cc
-
-pub none_inside : (step : Step) (c : Option AbstractClash) → inside step c ≡ None → c ≡ None
-none_inside step None e = refl
-none_inside step (Some c) e = absurd cc
-
-none_here : (pair : Option (ℕ × ℕ)) → here pair ≡ None → pair ≡ None
-none_here None e = refl
-none_here (Some pair) e = absurd cc
-
-none_paired : (i : ℕ) (j : Option ℕ) → paired i j ≡ None → j ≡ None
-none_paired i None e = refl
-none_paired i (Some j) e = absurd cc
-
-same_test : (presence : AbstractPresence) → search.is_mandatory presence ≡ is_mandatory presence
-same_test type.mandatory = refl
-same_test type.optional = refl
-same_test type.pending = refl
-same_test (type.default d) = refl
-
 -- ---- partners
 
 all_from : (shares : Bool) (j : ℕ) (later : Option ℕ) → ◌≡◌ {A = Option ℕ} (cond shares (Some j) (cond true later None)) None → (shares ≡ false) × (later ≡ None)
@@ -81,7 +60,7 @@ no_partner t j (component name u presence rest) e =
     and_from (differ t u) (differs_from_all t rest) (ap not a.0) (no_partner t (suc j) rest a.1)
 
 later : (t : AbstractType) (presence : AbstractPresence) (rest : Components) (o : Option ℕ) → (o ≡ None → differs_from_next t rest ≡ true) → (search.is_mandatory presence ≡ true) ⊎ (o ≡ None) → (is_mandatory presence ≡ true) ⊎ (differs_from_next t rest ≡ true)
-later t presence rest o next (inl e) = inl (sym (same_test presence) ∙ e)
+later t presence rest o next (inl e) = inl e
 later t presence rest o next (inr e) = inr (next e)
 
 no_next : (t : AbstractType) (j : ℕ) (cs : Components) → partner true t j cs ≡ None → differs_from_next t cs ≡ true
@@ -95,28 +74,28 @@ no_next t j (component name u presence rest) e =
 pub no_pair : (i : ℕ) (cs : Components) → first_pair false i cs ≡ None → all_differ cs ≡ true
 no_pair i no_components e = refl
 no_pair i (component name t presence rest) e =
-    let n = neither (paired i (partner false t (suc i) rest)) (first_pair false (suc i) rest) e in
-    and_from (differs_from_all t rest) (all_differ rest) (no_partner t (suc i) rest (none_paired i (partner false t (suc i) rest) n.0)) (no_pair (suc i) rest n.1)
+    let n = or_else_none (paired i (partner false t (suc i) rest)) (first_pair false (suc i) rest) e in
+    and_from (differs_from_all t rest) (all_differ rest) (no_partner t (suc i) rest (paired_none i (partner false t (suc i) rest) n.0)) (no_pair (suc i) rest n.1)
 
 passed : (mandatory : Bool) (pair : Option (ℕ × ℕ)) → ◌≡◌ {A = Option (ℕ × ℕ)} (cond (not mandatory) pair None) None → (mandatory ≡ true) ⊎ (pair ≡ None)
 passed true pair e = inl refl
 passed false pair e = inr e
 
 either : (t : AbstractType) (presence : AbstractPresence) (rest : Components) (i : ℕ) → (search.is_mandatory presence ≡ true) ⊎ (paired i (partner true t (suc i) rest) ≡ None) → (is_mandatory presence ≡ true) ⊎ (differs_from_next t rest ≡ true)
-either t presence rest i (inl e) = inl (sym (same_test presence) ∙ e)
-either t presence rest i (inr e) = inr (no_next t (suc i) rest (none_paired i (partner true t (suc i) rest) e))
+either t presence rest i (inl e) = inl e
+either t presence rest i (inr e) = inr (no_next t (suc i) rest (paired_none i (partner true t (suc i) rest) e))
 
 pub no_optional_pair : (i : ℕ) (cs : Components) → first_pair true i cs ≡ None → optional_differ cs ≡ true
 no_optional_pair i no_components e = refl
 no_optional_pair i (component name t presence rest) e =
-    let n = neither (cond (not (search.is_mandatory presence)) (paired i (partner true t (suc i) rest)) None) (first_pair true (suc i) rest) e in
+    let n = or_else_none (cond (not (search.is_mandatory presence)) (paired i (partner true t (suc i) rest)) None) (first_pair true (suc i) rest) e in
     and_from (is_mandatory presence || differs_from_next t rest) (optional_differ rest)
     (or_true (is_mandatory presence) (differs_from_next t rest) (either t presence rest i (passed (search.is_mandatory presence) (paired i (partner true t (suc i) rest)) n.0))) (no_optional_pair (suc i) rest n.1)
 
 -- ---- kinds
 
 pub list_clash : (in_sequence : Bool) (cs : Components) → or_else (here (first_pair in_sequence 0 cs)) (clash_inside 0 cs) ≡ None → (first_pair in_sequence 0 cs ≡ None) × (clash_inside 0 cs ≡ None)
-list_clash in_sequence cs e = let n = neither (here (first_pair in_sequence 0 cs)) (clash_inside 0 cs) e in (none_here (first_pair in_sequence 0 cs) n.0, n.1)
+list_clash in_sequence cs e = let n = or_else_none (here (first_pair in_sequence 0 cs)) (clash_inside 0 cs) e in (here_none (first_pair in_sequence 0 cs) n.0, n.1)
 
 pub part_clash : (i : ℕ) (name : List ℕ) (t : AbstractType) (presence : AbstractPresence) (rest : Components) → clash_inside i (component name t presence rest) ≡ None → (first_clash t ≡ None) × (clash_inside (suc i) rest ≡ None)
-part_clash i name t presence rest e = let n = neither (inside (Component i) (first_clash t)) (clash_inside (suc i) rest) e in (none_inside (Component i) (first_clash t) n.0, n.1)
+part_clash i name t presence rest e = let n = or_else_none (inside (Component i) (first_clash t)) (clash_inside (suc i) rest) e in (inside_none (Component i) (first_clash t) n.0, n.1)

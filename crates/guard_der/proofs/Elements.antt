@@ -3,41 +3,19 @@ use Rattle.std.proofs.Common.{◌≡◌, ℕ, ◌+◌, ◌<◌, ◌^◌, Bool, t
 use Rattle.std.proofs.lemmas.Bool.{cond-true, lt-ltb, ltb-true, eqb-true, eq-eqb, and_parts, and_from, false≢true, true≢false}
 use Rattle.std.specs.Prelude.{◌≢◌}
 use Rattle.std.proofs.lemmas.List.{length-append, length-take, take_at, drop_at, take-append-drop}
-use Rattle.guard_model.specs.Tags.{class_rank}
+use Rattle.guard_model.specs.Tags.{class_rank, same_tag}
 use Rattle.guard_model.specs.declared.tag.Class.{Class}
 use Rattle.guard_model.specs.declared.tag.Class.TheVariants.{Universal, Application, Context, Private}
 use Rattle.guard_model.specs.declared.tag.Tag.{Tag}
-use Rattle.guard_tagcheck.specs.FirstTags.{same_tag}
 use Rattle.guard_der.specs.Element.{identifier_octets, length_octets, element}
 use Rattle.guard_der.specs.Head.{Head, head_of}
 use Rattle.guard_der.specs.Reading.{same_form}
-use Rattle.guard_der.proofs.Results.{chosen}
-use Rattle.guard_der.proofs.Steps.{some_is}
 use Rattle.guard_der.proofs.Digits.{AreDigits}
 use Rattle.guard_der.proofs.Heads.{head_takes, head_again, head}
+use Rattle.guard_model.proofs.Tests.{chosen}
+use Rattle.std.proofs.lemmas.Option.{same_Some}
 
 -- ---- tags and forms
-
-rank_is : (a b : Class) → class_rank a ≡ class_rank b → a ≡ b
-rank_is Universal Universal e = refl
-rank_is Application Application e = refl
-rank_is Context Context e = refl
-rank_is Private Private e = refl
-rank_is a b e = absurd (omega arith)
-
-tag_is : (a b : Tag) → a.class ≡ b.class → a.number ≡ b.number → a ≡ b
-tag_is a b p q =
-    let classed : Class → Tag = λ c. record { class = c; number = a.number } in
-    let numbered : ℕ → Tag = λ n. record { class = b.class; number = n } in
-    ap classed p ∙ ap numbered q
-
-pub same_is : (a b : Tag) → same_tag a b ≡ true → a ≡ b
-same_is a b e =
-    let parts = and_parts (eqb (class_rank a.class) (class_rank b.class)) (eqb a.number b.number) e in
-    tag_is a b (rank_is a.class b.class (eqb-true (class_rank a.class) (class_rank b.class) parts.0)) (eqb-true a.number b.number parts.1)
-
-pub same_self : (a : Tag) → same_tag a a ≡ true
-same_self a = and_from (eqb (class_rank a.class) (class_rank a.class)) (eqb a.number a.number) (eq-eqb (class_rank a.class) (class_rank a.class) refl) (eq-eqb a.number a.number refl)
 
 pub form_is : (a b : Bool) → same_form a b ≡ true → a ≡ b
 form_is true true e = refl
@@ -90,7 +68,7 @@ front_again tag constructed contents front rest number e =
     let before : List ℕ = identifier_octets tag constructed ++ length_octets (length contents) in
     elim (chosen (ltb (length contents) (2 ^ 32)) (Some (before ++ contents)) None (Some front) e) [
       | inl small ↦
-          let is : before ++ contents ≡ front = some_is (before ++ contents) front small.1 in
+          let is : before ++ contents ≡ front = same_Some (before ++ contents) front small.1 in
           let whole : front ++ rest ≡ identifier_octets tag constructed ++ (length_octets (length contents) ++ (contents ++ rest)) = ap (λ (x : List ℕ). x ++ rest) (sym is) ∙ append_assoc before contents rest ∙ append_assoc (identifier_octets tag constructed) (length_octets (length contents)) (contents ++ rest) in
           let parts : front ++ rest ≡ before ++ (contents ++ rest) = ap (λ (x : List ℕ). x ++ rest) (sym is) ∙ append_assoc before contents rest in
           let size : length before ≡ length (identifier_octets tag constructed) + length (length_octets (length contents)) = length-append (identifier_octets tag constructed) (length_octets (length contents)) in (

@@ -21,14 +21,15 @@ use Rattle.guard_model.specs.declared.value.Value.TheVariants as variant
 use Rattle.guard_model.specs.declared.value.Value.TheVariants.{rolls-Items}
 use Rattle.guard_model.specs.declared.value.Value.TheFolds.{fold-roll-Value}
 use Rattle.guard_model.specs.declared.value.Value.TheOpen.{Value-F}
-use Rattle.guard_model.proofs.ValueViews.{value_view_fields}
+use Rattle.guard_model.proofs.ValueViews.{value_view_fields, value_view_items}
 use Rattle.guard_der.specs.Der.{Part, der, contents_octets, parts_of, part_unless, is_left_out, outermost, item_encodings, ◌>>=◌}
 use Rattle.guard_der.specs.Fits.{fits_kind, fits_fields}
 use Rattle.guard_der.specs.Encoding.{refusal}
 use Rattle.guard_der.specs.Sent.{or_too_long, part_of, with_parts, field_fits, all_joined, sequence_octets, set_octets}
 use Rattle.guard_der.specs.declared.encoding.EncodeFault.{EncodeFault}
 use Rattle.guard_der.specs.declared.encoding.EncodeFault.TheVariants.{TooLong, OutOfMemory}
-use Rattle.guard_der.proofs.TypeLevels.{left, left_is, none_left, kind_view_sequence, kind_view_set, kind_view_sequence_of, kind_view_set_of}
+use Rattle.guard_model.proofs.Components.{left, left_is, none_left}
+use Rattle.guard_model.proofs.TypeViews.{kind_view_sequence, kind_view_set, kind_view_sequence_of, kind_view_set_of}
 
 -- what is refused inside is refused whole
 pub refused_whole : {A B : Type 0} (e : EncodeFault) (x : Option A) (f : A → Option B) → Refuses (refusal e) (or_too_long x) → Refuses (refusal e) (or_too_long (x >>= f))
@@ -57,9 +58,6 @@ pub set_contents : (kind : Kind) (v : Value) (comps : Vec Comp) (fs : Vec (Optio
 set_contents kind v comps fs k w = rw (k, kind_view_set comps, w, value_view_fields fs) refl
 
 -- ---- OF types
-
-pub value_view_items : (vs : Vec Value) → value_view (variant.Items vs) ≡ value.items (items_view vs.items)
-value_view_items vs = ap value_view (sym (rolls-Items vs)) ∙ fold-roll-Value AbstractValue value_step (Value-F.Items vs)
 
 pub sequence_of_contents : (kind : Kind) (v : Value) (t : Box Ty) (vs : Vec Value) → kind ≡ SequenceOf t → v ≡ variant.Items vs → contents_octets (kind_view kind) (value_view v) ≡ all_joined (item_encodings (der (type_view t.value)) (items_view vs.items))
 sequence_of_contents kind v t vs k w = rw (k, kind_view_sequence_of t, w, value_view_items vs) refl

@@ -11,8 +11,9 @@ use Rattle.guard_der.specs.declared.breach.Code.TheVariants.{Truncated, TagForm,
 use Rattle.guard_der.specs.Octets.{fewest, big_endian, unsigned_octets, base_128}
 use Rattle.guard_der.specs.Element.{length_octets}
 use Rattle.guard_der.specs.Head.{number_from, high_number, long_length, length_at}
-use Rattle.guard_der.proofs.Results.{bind_ok, guard_ok, ok_is, chosen}
 use Rattle.guard_der.proofs.Digits.{spell, spell_bound, AreDigits, AreLeast, least_fewest, fewest_least, fewest_spells, fewest_digits, fewest_length, fewest_enough}
+use Rattle.guard_model.proofs.Results.{bind_ok, guard_ok, same_Ok}
+use Rattle.guard_model.proofs.Tests.{chosen}
 
 abbrev Read : Type 0
 Read = Result (ℕ × List ℕ) Code
@@ -41,7 +42,7 @@ number_takes zero n m (o ∷ os) rest octets e = absurd cc
 number_takes (suc tries) n m (o ∷ os) rest octets e =
     elim (chosen (ltb o 128) (read (n * 128 + o) os) (number_from tries (n * 128 + (o - 128)) os) (Ok (m, rest)) e) [
       | inl last ↦
-          let pair = ok_is (n * 128 + o, os) (m, rest) last.1 in
+          let pair = same_Ok (n * 128 + o, os) (m, rest) last.1 in
           record { ds = []; d = o; parts = ap (λ (p : ℕ × List ℕ). o ∷ p.1) pair; digits = tt; last = ltb-true o 128 last.0; short = omega arith; number = sym (ap (λ (p : ℕ × List ℕ). p.0) pair) }
       | inr more ↦
           let high : 128 ≤ o = ltb-false o 128 more.0 in
@@ -81,13 +82,13 @@ high_takes (o ∷ os) m rest octets e =
     let a = guard_ok (eqb o 128) TagForm (number_from 4 0 (o ∷ os) >>= λ r. cond (ltb r.0 31) (Err TagForm) (Ok r)) (m, rest) e in
     let b = bind_ok (number_from 4 0 (o ∷ os)) (λ r. cond (ltb r.0 31) (Err TagForm) (Ok r)) (m, rest) a.1 in
     let c = guard_ok (ltb b.0.0 31) TagForm (Ok b.0) (m, rest) b.2 in
-    let pair : b.0 ≡ (m, rest) = ok_is b.0 (m, rest) c.1 in
+    let pair : b.0 ≡ (m, rest) = same_Ok b.0 (m, rest) c.1 in
     let high : 31 ≤ m = rw (← ap (λ (p : ℕ × List ℕ). p.0) pair) (ltb-false b.0.0 31 c.0) in
     let whole : number_from 4 0 (o ∷ os) ≡ Ok (m, rest) = b.1 ∙ ap (λ (p : ℕ × List ℕ). read p.0 p.1) pair in
     let ne : o ≡ 128 → ⊥ = eqb-false o 128 a.0 in
     elim (chosen (ltb o 128) (read (0 * 128 + o) os) (number_from 3 (0 * 128 + (o - 128)) os) (Ok (m, rest)) whole) [
       | inl last ↦
-          let single = ok_is (0 * 128 + o, os) (m, rest) last.1 in
+          let single = same_Ok (0 * 128 + o, os) (m, rest) last.1 in
           let number : o ≡ m = omega (arith, ap (λ (p : ℕ × List ℕ). p.0) single) in
           let low : o < 128 = ltb-true o 128 last.0 in
           (rw (← number, cond-true (ltb o 128) (o ∷ []) _ last.0) (ap (λ (p : ℕ × List ℕ). o ∷ p.1) single), high, omega (arith, low, number))
@@ -177,7 +178,7 @@ long_takes k os n rest octets some few e =
     let n0 = big_endian (take k os) in
     let a = guard_ok (ltb (length os) k) Truncated (cond (ltb n0 128 || eqb (big_endian (take 1 os)) 0) (Err NonMinimalLength) (read n0 (drop k os))) (n, rest) e in
     let b = guard_ok (ltb n0 128 || eqb (big_endian (take 1 os)) 0) NonMinimalLength (read n0 (drop k os)) (n, rest) a.1 in
-    let pair = ok_is (n0, drop k os) (n, rest) b.1 in
+    let pair = same_Ok (n0, drop k os) (n, rest) b.1 in
     let c = or_parts (ltb n0 128) (eqb (big_endian (take 1 os)) 0) b.0 in
     let enough : k ≤ length os = ltb-false (length os) k a.0 in
     let large : 128 ≤ n0 = ltb-false n0 128 c.0 in
@@ -199,7 +200,7 @@ length_takes [] n rest octets e = absurd cc
 length_takes (o ∷ os) n rest octets e =
     elim (chosen (ltb o 128) (read o os) (cond (eqb o 128) (Err IndefiniteLength) (cond (ltb 132 o) (Err LengthTooLarge) (long_length (o - 128) os))) (Ok (n, rest)) e) [
       | inl low ↦
-          let pair = ok_is (o, os) (n, rest) low.1 in
+          let pair = same_Ok (o, os) (n, rest) low.1 in
           let small : o < 128 = ltb-true o 128 low.0 in
           (rw (← ap (λ (p : ℕ × List ℕ). p.0) pair, ← ap (λ (p : ℕ × List ℕ). p.1) pair, cond-true (ltb o 128) (o ∷ []) ((128 + length (unsigned_octets o)) ∷ unsigned_octets o) low.0) refl, rw (← ap (λ (p : ℕ × List ℕ). p.0) pair) (omega (arith, small)))
       | inr high ↦

@@ -14,20 +14,15 @@ use Rattle.guard_model.specs.declared.ty.Kind.TheViews.{out-Comp}
 use Rattle.guard_model.specs.declared.ty.Kind.{Kind, Sequence, Set, SequenceOf, SetOf}
 use Rattle.guard_model.specs.declared.value.Value.{Value}
 use Rattle.guard_model.specs.declared.value.Value.TheVariants as variant
-use Rattle.guard_model.proofs.ValueViews.{value_view_fields}
-use Rattle.guard_der.specs.Fits.{fits, fits_kind, fits_fields, every_fits, are_few, count, may_be_absent}
+use Rattle.guard_model.proofs.ValueViews.{value_view_fields, value_view_items}
+use Rattle.guard_der.specs.Fits.{fits, fits_kind, fits_fields, every_fits, are_few, may_be_absent}
 use Rattle.guard_der.specs.Sent.{field_fits}
 use Rattle.guard_der.specs.Pieces.{few_fit, set_fits}
-use Rattle.guard_der.proofs.TypeLevels.{left, left_is, none_left, kind_view_sequence, kind_view_set, kind_view_sequence_of, kind_view_set_of}
-use Rattle.guard_der.proofs.EncodingSteps.{fields_is, value_view_items}
-
-pub and_on : (a b w : Bool) → a ≡ true → (a && b) ≡ w → b ≡ w
-and_on true b w h e = e
-and_on false b w h e = absurd (false≢true h)
-
-pub and_stop : (a b w : Bool) → a ≡ false → (a && b) ≡ w → false ≡ w
-and_stop true b w h e = absurd (false≢true (sym h))
-and_stop false b w h e = e
+use Rattle.guard_der.proofs.EncodingSteps.{fields_is}
+use Rattle.guard_model.specs.Counts.{item_count}
+use Rattle.guard_model.proofs.Components.{left, left_is, none_left, item_count_view}
+use Rattle.guard_model.proofs.TypeViews.{kind_view_sequence, kind_view_set, kind_view_sequence_of, kind_view_set_of}
+use Rattle.guard_model.proofs.Tests.{and_on, and_stop}
 
 -- ---- components
 
@@ -84,15 +79,8 @@ items_fit_is kind v t vs k w = rw (k, kind_view_sequence_of t, w, value_view_ite
 pub set_items_fit_is : (kind : Kind) (v : Value) (t : Box Ty) (vs : Vec Value) → kind ≡ SetOf t → v ≡ variant.Items vs → fits_kind (kind_view kind) (value_view v) ≡ set_fits (type_view t.value) (items_view vs.items)
 set_items_fit_is kind v t vs k w = rw (k, kind_view_set_of t, w, value_view_items vs) refl
 
-count_is : (vs : List AbstractValue) → count (items_of vs) ≡ length vs
-count_is [] = refl
-count_is (v ∷ vs) = ap suc (count_is vs)
-
-pub items_counted : (vs : List Value) → count (items_view vs) ≡ length vs
-items_counted vs = count_is (map value_view vs) ∙ length-map vs value_view
-
 pub too_many : (fit : AbstractValue → Bool) (vs : List Value) → 4294967295 < length vs → false ≡ few_fit fit (items_view vs)
-too_many fit vs many = and_stop (are_few (items_view vs)) (every_fits fit (items_view vs)) _ (lt-leb (count (items_view vs)) 4294967295 (omega (arith, items_counted vs, many))) refl
+too_many fit vs many = and_stop (are_few (items_view vs)) (every_fits fit (items_view vs)) _ (lt-leb (item_count (items_view vs)) 4294967295 (omega (arith, item_count_view vs, many))) refl
 
 pub few_enough : (fit : AbstractValue → Bool) (vs : List Value) → length vs ≤ 4294967295 → every_fits fit (items_view vs) ≡ few_fit fit (items_view vs)
-few_enough fit vs few = and_on (are_few (items_view vs)) (every_fits fit (items_view vs)) _ (le-leb (count (items_view vs)) 4294967295 (omega (arith, items_counted vs, few))) refl
+few_enough fit vs few = and_on (are_few (items_view vs)) (every_fits fit (items_view vs)) _ (le-leb (item_count (items_view vs)) 4294967295 (omega (arith, item_count_view vs, few))) refl

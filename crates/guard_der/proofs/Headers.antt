@@ -11,10 +11,10 @@ use Rattle.guard_der.specs.Head.{Head, head_of}
 use Rattle.guard_der.specs.Header.{IsHeader, header_at, placed}
 use Rattle.guard_der.specs.Breach.{AbstractBreach}
 use Rattle.guard_der.specs.Views.{breach_view}
-use Rattle.guard_der.proofs.Results.{ok_is}
 use Rattle.guard_der.proofs.Digits.{AreDigits}
 use Rattle.guard_der.proofs.Fields.{digits_take, digits_drop}
 use Rattle.guard_der.proofs.Heads.{head_takes, head_again, head}
+use Rattle.guard_model.proofs.Results.{same_Ok}
 
 -- an element ends within the octets in which it was read
 pub head_room : (os : List ℕ) (h : Head) → AreDigits 256 os → head_of os ≡ Ok h → h.size + h.contents ≤ length os
@@ -27,7 +27,7 @@ placed_stands octets at (Err c) h digits e is = absurd cc
 placed_stands octets at (Ok read) h digits e is =
     let s = head_takes (drop at octets) read digits e in
     let made : Header = record { tag = read.tag; constructed = read.constructed; contents = at + read.size; end = at + read.size + read.contents } in
-    let same : made ≡ h = ok_is {F = AbstractBreach} made h is in
+    let same : made ≡ h = same_Ok {F = AbstractBreach} made h is in
     let len : length (take read.contents s.rest) ≡ read.contents = omega (arith, length-take read.contents s.rest, s.room) in
     rw (← same) (record {
       contents = take read.contents s.rest;
@@ -56,7 +56,7 @@ header_again octets at h is =
     ap (placed at) whole ∙ ap (λ (p : ℕ × ℕ). Ok (record { tag = h.tag; constructed = h.constructed; contents = p.0; end = p.1 })) (pair made.contents h.contents made.end h.end contents_is end_is)
 
 pub header_only : (octets : List ℕ) (at : ℕ) (r : Result Header Breach) → Gives (λ h. h) (λ b. Some (breach_view b)) r (header_at at octets) → (h : Header) → IsHeader octets at h → r ≡ Ok h
-header_only octets at (Ok x) given h is = let same : x ≡ h = ok_is {F = AbstractBreach} x h (sym given ∙ header_again octets at h is) in ap (λ (y : Header). Ok y) same
+header_only octets at (Ok x) given h is = let same : x ≡ h = same_Ok {F = AbstractBreach} x h (sym given ∙ header_again octets at h is) in ap (λ (y : Header). Ok y) same
 header_only octets at (Err b) given h is = let e = header_again octets at h is in absurd cc
 
 -- the same of the octets from an offset on

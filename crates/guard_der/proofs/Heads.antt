@@ -12,9 +12,10 @@ use Rattle.guard_der.specs.declared.breach.Code.TheVariants.{Truncated}
 use Rattle.guard_der.specs.Octets.{base_128}
 use Rattle.guard_der.specs.Element.{form_bit, identifier_octets, length_octets}
 use Rattle.guard_der.specs.Head.{Head, class_of, tag_number, high_number, length_at, head_of}
-use Rattle.guard_der.proofs.Results.{bind_ok, guard_ok, ok_is, chosen}
 use Rattle.guard_der.proofs.Digits.{AreDigits}
 use Rattle.guard_der.proofs.Fields.{high_takes, high_again, length_takes, length_again}
+use Rattle.guard_model.proofs.Results.{bind_ok, guard_ok, same_Ok}
+use Rattle.guard_model.proofs.Tests.{chosen}
 
 -- the identifier with these bits 8 to 6
 abbrev tag_octets : ℕ → ℕ → List ℕ
@@ -35,7 +36,7 @@ unfolding tag_number
 tag_takes bits low m os rest small octets e =
     elim (chosen (ltb low 31) (read low os) (high_number os) (Ok (m, rest)) e) [
       | inl here ↦
-          let pair = ok_is (low, os) (m, rest) here.1 in
+          let pair = same_Ok (low, os) (m, rest) here.1 in
           let below : low < 31 = ltb-true low 31 here.0 in
           (rw (← ap (λ (p : ℕ × List ℕ). p.0) pair, ← ap (λ (p : ℕ × List ℕ). p.1) pair, cond-true (ltb low 31) ((bits + low) ∷ []) ((bits + 31) ∷ base_128 low) here.0) refl, rw (← ap (λ (p : ℕ × List ℕ). p.0) pair) (omega (arith, below)))
       | inr there ↦
@@ -69,7 +70,7 @@ head_takes (o ∷ os) h octets e =
     let a = bind_ok (tag_number (o % 32) os) (λ t. length_at t.1 >>= λ l. cond (ltb (length l.1) l.0) (Err Truncated) (Ok (made t.0 l))) h e in
     let b = bind_ok (length_at a.0.1) (λ l. cond (ltb (length l.1) l.0) (Err Truncated) (Ok (made a.0.0 l))) h a.2 in
     let c = guard_ok (ltb (length b.0.1) b.0.0) Truncated (Ok (made a.0.0 b.0)) h b.2 in
-    let is : made a.0.0 b.0 ≡ h = ok_is (made a.0.0 b.0) h c.1 in
+    let is : made a.0.0 b.0 ≡ h = same_Ok (made a.0.0 b.0) h c.1 in
     let bits : ℕ = 64 * class_rank (class_of o) + form_bit (leb 32 (o % 64)) in
     let octet : o ≡ bits + o % 32 = octet_parts o octets.0 in
     let t = tag_takes bits (o % 32) a.0.0 os a.0.1 (omega arith) octets.1 a.1 in

@@ -15,17 +15,19 @@ use Rattle.guard_tagcheck.specs.Limits.{nesting}
 use Rattle.guard_der.specs.declared.breach.Code.TheVariants as code
 use Rattle.guard_der.specs.Head.{Head, head_of}
 use Rattle.guard_der.specs.Der.{der, contents_octets, item_encodings, joined}
-use Rattle.guard_der.specs.Fits.{fits, fits_kind, every_fits, count, are_few, are_ascending, descends, ascend_from}
+use Rattle.guard_der.specs.Fits.{fits, fits_kind, every_fits, are_few, are_ascending, descends, ascend_from}
 use Rattle.guard_der.specs.Breach.{AbstractBreach, FaultIn, FaultInContents, ItemFault, last_of, here, after, below}
 use Rattle.guard_der.specs.Reading.{Reader, element_at, contents_at, item_at, items_at, items_read, fault}
-use Rattle.guard_der.proofs.Results.{ok_is}
-use Rattle.guard_der.proofs.Steps.{some_is, err_is, bind_err, option_parts, fault_after, after_after}
+use Rattle.guard_der.proofs.Steps.{option_parts, fault_after, after_after}
 use Rattle.guard_der.proofs.Digits.{AreDigits}
 use Rattle.guard_der.proofs.Fields.{digits_drop}
 use Rattle.guard_der.proofs.Headers.{head_room}
 use Rattle.guard_der.proofs.Lawful.{LawfulBody, Found}
 use Rattle.guard_der.proofs.Parts.{LawfulType}
 use Rattle.guard_der.proofs.Items.{ItemsTaken, AloneErr, Read, prefixed, append_none, last_behind, item_ok, item_err, item_fails, alone_err, alone_descends, alone_fails, alone_strays, items_fail, items_end, items_takes, items_through, some_front, count_octets, encoded_first, ascends_first, any_up}
+use Rattle.guard_model.specs.Counts.{item_count}
+use Rattle.guard_model.proofs.Results.{same_Ok, same_Err, bind_err}
+use Rattle.std.proofs.lemmas.Option.{same_Some}
 
 last_is : (os : List ℕ) (es : List (List ℕ)) → last_behind os es ≡ last_of (os ∷ es)
 last_is os [] = refl
@@ -80,7 +82,7 @@ record ItemsFault (t : AbstractType) (ordered : Bool) (i at : ℕ) (before os : 
   fit : every_fits (fits t) passed ≡ true
   encoded : item_encodings (der t) passed ≡ Some encodings
   ascend : (not ordered || ascend_from before encodings) ≡ true
-  found : ItemFault t ordered (λ os b. FaultIn t os b) (i + count passed) (last_behind before encodings) rest inner
+  found : ItemFault t ordered (λ os b. FaultIn t os b) (i + item_count passed) (last_behind before encodings) rest inner
   seen : b ≡ after (at + length (joined encodings)) inner
 
 -- the first of several elements isn't read
@@ -105,7 +107,7 @@ first_fault t ordered i at before os b one =
 later_fault : (t : AbstractType) (ordered : Bool) (i at n : ℕ) (before os : List ℕ) (v : AbstractValue) (b : AbstractBreach) → n ≤ length os → fits t v ≡ true → der t v ≡ Some (take n os) → (ordered && descends before (take n os)) ≡ false
     → ItemsFault t ordered (suc i) (at + n) (take n os) (drop n os) b → ItemsFault t ordered i at before os b
 later_fault t ordered i at n before os v b room fit encoded up f =
-    let place : suc i + count f.passed ≡ i + suc (count f.passed) = omega arith in
+    let place : suc i + item_count f.passed ≡ i + suc (item_count f.passed) = omega arith in
     let len : length (take n os ++ joined f.encodings) ≡ n + length (joined f.encodings) = omega (arith, length-append (take n os) (joined f.encodings), length-take n os, room) in
     let offset : at + n + length (joined f.encodings) ≡ at + length (take n os ++ joined f.encodings) = omega (arith, len) in
     record {
@@ -175,43 +177,43 @@ fault_read t ordered i at before os c law (inr (inr (front, behind, order, (v, f
     ∙ ap (λ (b : AbstractBreach). Err b) (ap (below (Element i)) (fault_after code.SetOfOrder at) ∙ ap (after at) (sym is))
 
 items_found : (t : AbstractType) (ordered : Bool) (at : ℕ) (os : List ℕ) (vs : Items) (es : List (List ℕ)) (rest : List ℕ) (c : AbstractBreach) → LawfulType t → os ≡ joined es ++ rest → every_fits (fits t) vs ≡ true → item_encodings (der t) vs ≡ Some es
-    → (not ordered || ascend_from [] es) ≡ true → ItemFault t ordered (λ os b. FaultIn t os b) (count vs) (last_of es) rest c → Read t ordered (length os) 0 [] at os ≡ Err (after (at + length (joined es)) c)
+    → (not ordered || ascend_from [] es) ≡ true → ItemFault t ordered (λ os b. FaultIn t os b) (item_count vs) (last_of es) rest c → Read t ordered (length os) 0 [] at os ≡ Err (after (at + length (joined es)) c)
 items_found t ordered at os vs es rest c law parts fit encoded up found =
-    let left : ℕ = length os - count vs - 1 in
+    let left : ℕ = length os - item_count vs - 1 in
     let from : ℕ = at + length (joined es) in
-    let some = fault_octets t ordered (count vs) (last_of es) rest c law found in
-    let more : length os ≡ count vs + suc left = omega (arith, some, ap length parts, length-append (joined es) rest, count_octets t vs es law fit encoded) in
-    let wrong : Read t ordered (suc left) (count vs) (last_behind [] es) from rest ≡ Err (after from c) =
-    ap (λ (x : List ℕ). Read t ordered (suc left) (count vs) x from rest) (last_of_all es)
-    ∙ items_fail left ordered (λ tag. begins_with t tag) (element_at t) (count vs) (last_of es) from rest (after from c) some (fault_read t ordered (count vs) from (last_of es) rest c law found) in
-    items_through t ordered vs es (length os) (suc left) 0 (count vs) at from [] os rest law fit encoded up more (omega arith) refl parts
+    let some = fault_octets t ordered (item_count vs) (last_of es) rest c law found in
+    let more : length os ≡ item_count vs + suc left = omega (arith, some, ap length parts, length-append (joined es) rest, count_octets t vs es law fit encoded) in
+    let wrong : Read t ordered (suc left) (item_count vs) (last_behind [] es) from rest ≡ Err (after from c) =
+    ap (λ (x : List ℕ). Read t ordered (suc left) (item_count vs) x from rest) (last_of_all es)
+    ∙ items_fail left ordered (λ tag. begins_with t tag) (element_at t) (item_count vs) (last_of es) from rest (after from c) some (fault_read t ordered (item_count vs) from (last_of es) rest c law found) in
+    items_through t ordered vs es (length os) (suc left) 0 (item_count vs) at from [] os rest law fit encoded up more (omega arith) refl parts
     ∙ ap (prefixed vs) wrong
 
 -- ---- what is read of the contents
 
 items_ok : (r : Result Items AbstractBreach) (v : AbstractValue) → items_read r ≡ Ok v → (vs : Items) × (r ≡ Ok vs) × (value.items vs ≡ v)
-items_ok (Ok vs) v e = (vs, refl, ok_is {F = AbstractBreach} (value.items vs) v e)
+items_ok (Ok vs) v e = (vs, refl, same_Ok {F = AbstractBreach} (value.items vs) v e)
 items_ok (Err b) v e = absurd cc
 
 pub items_err : (r : Result Items AbstractBreach) (b : AbstractBreach) → items_read r ≡ Err b → r ≡ Err b
 items_err (Ok vs) b e = absurd cc
-items_err (Err c) b e = ap (λ (c : AbstractBreach). Err c) (err_is {A = AbstractValue} c b e)
+items_err (Err c) b e = ap (λ (c : AbstractBreach). Err c) (same_Err {A = AbstractValue} c b e)
 
 few_items : (t : AbstractType) (ordered : Bool) (os : List ℕ) (vs : Items) → LawfulType t → length os < 2 ^ 32 → ItemsTaken t ordered [] os vs → are_few vs ≡ true
-few_items t ordered os vs law short taken = le-leb (count vs) 4294967295 (omega (arith, short, ap length taken.all, count_octets t vs taken.encodings law taken.fit taken.encoded))
+few_items t ordered os vs law short taken = le-leb (item_count vs) 4294967295 (omega (arith, short, ap length taken.all, count_octets t vs taken.encodings law taken.fit taken.encoded))
 
 items_again : (t : AbstractType) (ordered : Bool) (at : ℕ) (os : List ℕ) (vs : Items) (es : List (List ℕ)) → LawfulType t → every_fits (fits t) vs ≡ true → item_encodings (der t) vs ≡ Some es → (not ordered || ascend_from [] es) ≡ true → joined es ≡ os
     → Read t ordered (length os) 0 [] at os ≡ Ok vs
 items_again t ordered at os vs es law fit encoded up all =
-    let left : ℕ = length os - count vs in
+    let left : ℕ = length os - item_count vs in
     let from : ℕ = at + length (joined es) in
-    let more : length os ≡ count vs + left = omega (arith, ap length all, count_octets t vs es law fit encoded) in
-    items_through t ordered vs es (length os) left 0 (count vs) at from [] os [] law fit encoded up more (omega arith) refl (sym all ∙ sym (append-nil (joined es)))
-    ∙ ap (prefixed vs) (items_end left ordered (λ tag. begins_with t tag) (element_at t) (count vs) (last_behind [] es) from)
+    let more : length os ≡ item_count vs + left = omega (arith, ap length all, count_octets t vs es law fit encoded) in
+    items_through t ordered vs es (length os) left 0 (item_count vs) at from [] os [] law fit encoded up more (omega arith) refl (sym all ∙ sym (append-nil (joined es)))
+    ∙ ap (prefixed vs) (items_end left ordered (λ tag. begins_with t tag) (element_at t) (item_count vs) (last_behind [] es) from)
     ∙ ap (λ (ws : Items). Ok ws) (append_none vs)
 
 contents_items : (t : AbstractType) (vs : Items) (os : List ℕ) → contents_octets (type.sequence_of t) (value.items vs) ≡ Some os → (es : List (List ℕ)) × (item_encodings (der t) vs ≡ Some es) × (joined es ≡ os)
-contents_items t vs os e = let a = option_parts (item_encodings (der t) vs) (λ es. Some (joined es)) os e in (a.0, a.1, some_is (joined a.0) os a.2)
+contents_items t vs os e = let a = option_parts (item_encodings (der t) vs) (λ es. Some (joined es)) os e in (a.0, a.1, same_Some (joined a.0) os a.2)
 
 items_contents : (t : AbstractType) (vs : Items) (os : List ℕ) (es : List (List ℕ)) → item_encodings (der t) vs ≡ Some es → joined es ≡ os → contents_octets (type.sequence_of t) (value.items vs) ≡ Some os
 items_contents t vs os es e all = rw e (ap (λ (os : List ℕ). Some os) all)
@@ -228,7 +230,7 @@ pub items_paths : (tries : ℕ) (ordered : Bool) (wanted : Tag → Bool) (read :
 unfolding items_at
 items_paths zero ordered wanted read deep some inner i at before [] b e = absurd cc
 items_paths (suc tries) ordered wanted read deep some inner i at before [] b e = absurd cc
-items_paths zero ordered wanted read deep some inner i at before (o ∷ os) b e = omega (arith, ap (λ (b : AbstractBreach). length b.path) (err_is {A = Items} (fault code.UnexpectedTag at) b e))
+items_paths zero ordered wanted read deep some inner i at before (o ∷ os) b e = omega (arith, ap (λ (b : AbstractBreach). length b.path) (same_Err {A = Items} (fault code.UnexpectedTag at) b e))
 items_paths (suc tries) ordered wanted read deep some inner i at before (o ∷ os) b e =
     elim (bind_err (item_at ordered wanted read i before at (o ∷ os)) (λ x. items_at tries ordered wanted read (suc i) (take x.1 (o ∷ os)) (at + x.1) (drop x.1 (o ∷ os)) >>= λ vs. Ok (value.item x.0 vs)) b e) [
       | inl wrong ↦
@@ -281,11 +283,11 @@ set_again t law at start os (value.items vs) fit e =
 set_again t law at start os v fit e = absurd cc
 
 -- what was found from the front of the contents on, as it is defined
-fault_from : (t : AbstractType) (ordered : Bool) (vs : Items) (es : List (List ℕ)) (rest : List ℕ) (c : AbstractBreach) → ItemFault t ordered (λ os b. FaultIn t os b) (0 + count vs) (last_behind [] es) rest c
-    → ItemFault t ordered (λ os b. FaultIn t os b) (count vs) (last_of es) rest c
+fault_from : (t : AbstractType) (ordered : Bool) (vs : Items) (es : List (List ℕ)) (rest : List ℕ) (c : AbstractBreach) → ItemFault t ordered (λ os b. FaultIn t os b) (0 + item_count vs) (last_behind [] es) rest c
+    → ItemFault t ordered (λ os b. FaultIn t os b) (item_count vs) (last_of es) rest c
 fault_from t ordered vs es rest c found =
-    let place : 0 + count vs ≡ count vs = omega arith in
-    subst (λ (x : List ℕ). ItemFault t ordered (λ os b. FaultIn t os b) (count vs) x rest c) (last_of_all es) (subst (λ (k : ℕ). ItemFault t ordered (λ os b. FaultIn t os b) k (last_behind [] es) rest c) place found)
+    let place : 0 + item_count vs ≡ item_count vs = omega arith in
+    subst (λ (x : List ℕ). ItemFault t ordered (λ os b. FaultIn t os b) (item_count vs) x rest c) (last_of_all es) (subst (λ (k : ℕ). ItemFault t ordered (λ os b. FaultIn t os b) k (last_behind [] es) rest c) place found)
 
 seen_from : (at size n : ℕ) (b c : AbstractBreach) → b ≡ after (at + size + n) c → b ≡ after at (after (size + n) c)
 seen_from at size n b c e =

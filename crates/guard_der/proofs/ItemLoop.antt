@@ -18,7 +18,6 @@ use Rattle.guard_model.specs.AbstractValue.{AbstractValue, Items, items_of}
 use Rattle.guard_model.specs.TypeView.{type_view, kind_view}
 use Rattle.guard_model.specs.ValueView.{value_view, items_view}
 use Rattle.guard_tagcheck.specs.FirstTags.{begins_with}
-use Rattle.guard_tagcheck.proofs.TypeViews.{type_view_is}
 use Rattle.guard_der.specs.declared.breach.Code.TheVariants as code
 use Rattle.guard_der.specs.Element.{identifier_octets}
 use Rattle.guard_der.specs.Octets.{base_128}
@@ -26,13 +25,14 @@ use Rattle.guard_der.specs.Head.{Head, head_of}
 use Rattle.guard_der.specs.Fits.{descends}
 use Rattle.guard_der.specs.Breach.{AbstractBreach, below}
 use Rattle.guard_der.specs.Reading.{Reader, due_at, element_at, contents_at, item_alone, item_at, items_at, items_read, fault}
-use Rattle.guard_der.proofs.Steps.{refuses_bind, due_ok}
+use Rattle.guard_der.proofs.Steps.{due_ok}
 use Rattle.guard_der.proofs.Digits.{AreDigits}
 use Rattle.guard_der.proofs.Heads.{head_takes}
 use Rattle.guard_der.proofs.Decodings.{whole}
-use Rattle.guard_der.proofs.TypeLevels.{kind_view_sequence_of, kind_view_set_of}
-use Rattle.guard_der.proofs.EncodingSteps.{value_view_items}
 use Rattle.guard_der.proofs.Items.{Read, item_fails, alone_reads, alone_fails, alone_descends, items_on, items_fail, items_end}
+use Rattle.guard_model.proofs.TypeViews.{type_view_is, kind_view_sequence_of, kind_view_set_of}
+use Rattle.guard_model.proofs.Results.{refuses_bind}
+use Rattle.guard_model.proofs.ValueViews.{value_view_items}
 
 -- ---- one element
 

@@ -14,14 +14,17 @@ use Rattle.guard_der.specs.declared.breach.Code.{Code}
 use Rattle.guard_der.specs.declared.breach.Code.TheVariants as code
 use Rattle.guard_der.specs.Head.{Head, head_of}
 use Rattle.guard_der.specs.Der.{der, item_encodings, joined}
-use Rattle.guard_der.specs.Fits.{fits, every_fits, count, descends, ascend_from}
+use Rattle.guard_der.specs.Fits.{fits, every_fits, descends, ascend_from}
 use Rattle.guard_der.specs.Breach.{AbstractBreach, NotDue, below}
 use Rattle.guard_der.specs.Reading.{Reader, element_at, item_alone, item_at, items_at, due_at, fault}
-use Rattle.guard_der.proofs.Results.{bind_ok, ok_is, chosen}
-use Rattle.guard_der.proofs.Steps.{some_is, err_is, bind_err, bind, option_parts, due_ok, due_again, due_err, due_err_again, inside_ok, inside_err}
+use Rattle.guard_der.proofs.Steps.{bind, option_parts, due_ok, due_again, due_err, due_err_again, inside_ok, inside_err}
 use Rattle.guard_der.proofs.Digits.{AreDigits}
 use Rattle.guard_der.proofs.Fields.{digits_drop}
 use Rattle.guard_der.proofs.Parts.{LawfulType}
+use Rattle.guard_model.specs.Counts.{item_count}
+use Rattle.guard_model.proofs.Results.{bind_ok, same_Ok, same_Err, bind_err}
+use Rattle.guard_model.proofs.Tests.{chosen}
+use Rattle.std.proofs.lemmas.Option.{same_Some}
 
 -- ---- one element
 
@@ -46,7 +49,7 @@ item_pair : (ordered : Bool) (before : List ℕ) (at : ℕ) (h : Head) (os : Lis
 item_pair ordered before at h os v x e =
     elim (chosen (ordered && descends before (take (h.size + h.contents) os)) (Err (fault code.SetOfOrder at)) (Ok (v, h.size + h.contents)) (Ok x) e) [
       | inl (down, none) ↦ absurd cc
-      | inr (up, is) ↦ (up, ok_is {F = AbstractBreach} (v, h.size + h.contents) x is)
+      | inr (up, is) ↦ (up, same_Ok {F = AbstractBreach} (v, h.size + h.contents) x is)
     ]
 
 pub alone_ok : (ordered : Bool) (wanted : Tag → Bool) (read : Reader) (before : List ℕ) (at : ℕ) (os : List ℕ) (x : AbstractValue × ℕ) → item_alone ordered wanted read before at os ≡ Ok x → ItemOk ordered wanted read before at os x
@@ -113,7 +116,7 @@ alone_err ordered wanted read before at os b e =
           elim (bind_err (read at h os) (λ v. ordered_item ordered before at os v h) b rest) [
             | inl wrong ↦ inr (inl (h, d.0, d.1, wrong))
             | inr (v, got, order) ↦ elim (chosen (ordered && descends before (take (h.size + h.contents) os)) (Err (fault code.SetOfOrder at)) (Ok (v, h.size + h.contents)) (Err b) order) [
-              | inl (down, is) ↦ inr (inr (h, v, d.0, d.1, got, down, sym (err_is {A = AbstractValue × ℕ} (fault code.SetOfOrder at) b is)))
+              | inl (down, is) ↦ inr (inr (h, v, d.0, d.1, got, down, sym (same_Err {A = AbstractValue × ℕ} (fault code.SetOfOrder at) b is)))
               | inr (up, none) ↦ absurd cc
             ]
           ]
@@ -198,7 +201,7 @@ pub record ItemsTaken (t : AbstractType) (ordered : Bool) (before : List ℕ) (o
   pub ascend : (not ordered || ascend_from before encodings) ≡ true
 
 none_taken : (t : AbstractType) (ordered : Bool) (before : List ℕ) (vs : Items) → ◌≡◌ {A = Result Items AbstractBreach} (Ok value.no_items) (Ok vs) → ItemsTaken t ordered before [] vs
-none_taken t ordered before vs e = subst (λ (x : Items). ItemsTaken t ordered before [] x) (ok_is {F = AbstractBreach} value.no_items vs e)
+none_taken t ordered before vs e = subst (λ (x : Items). ItemsTaken t ordered before [] x) (same_Ok {F = AbstractBreach} value.no_items vs e)
     (record { encodings = []; fit = refl; encoded = refl; all = refl; ascend = any_up ordered })
 
 pub encoded_first : (t : AbstractType) (v : AbstractValue) (vs : Items) (front : List ℕ) (others : List (List ℕ)) → der t v ≡ Some front → item_encodings (der t) vs ≡ Some others → item_encodings (der t) (value.item v vs) ≡ Some (front ∷ others)
@@ -218,7 +221,7 @@ items_takes (suc tries) t ordered i before at (o ∷ os) vs law digits e =
     let taken = law.takes at one.header (o ∷ os) a.0.0 digits one.stands one.due one.got in
     let encoded : der t a.0.0 ≡ Some (take a.0.1 (o ∷ os)) = taken.encoded ∙ ap (λ (n : ℕ). Some (take n (o ∷ os))) (sym one.size) in
     let rest = items_takes tries t ordered (suc i) (take a.0.1 (o ∷ os)) (at + a.0.1) (drop a.0.1 (o ∷ os)) b.0 law (digits_drop a.0.1 (o ∷ os) digits) b.1 in
-    subst (λ (x : Items). ItemsTaken t ordered before (o ∷ os) x) (ok_is {F = AbstractBreach} (value.item a.0.0 b.0) vs b.2)
+    subst (λ (x : Items). ItemsTaken t ordered before (o ∷ os) x) (same_Ok {F = AbstractBreach} (value.item a.0.0 b.0) vs b.2)
     (record {
       encodings = take a.0.1 (o ∷ os) ∷ rest.encodings;
       fit = and_from (fits t a.0.0) (every_fits (fits t) b.0) taken.fits rest.fit;
@@ -247,9 +250,9 @@ first_item : (t : AbstractType) (v : AbstractValue) (vs : Items) (es : List (Lis
 first_item t v vs es e =
     let a = option_parts (der t v) (λ first. bind (item_encodings (der t) vs) (λ others. Some (first ∷ others))) es e in
     let b = option_parts (item_encodings (der t) vs) (λ others. Some (a.0 ∷ others)) es a.2 in
-    record { front = a.0; others = b.0; encoded = a.1; behind = b.1; parts = some_is (a.0 ∷ b.0) es b.2 }
+    record { front = a.0; others = b.0; encoded = a.1; behind = b.1; parts = same_Some (a.0 ∷ b.0) es b.2 }
 
-pub count_octets : (t : AbstractType) (vs : Items) (es : List (List ℕ)) → LawfulType t → every_fits (fits t) vs ≡ true → item_encodings (der t) vs ≡ Some es → count vs ≤ length (joined es)
+pub count_octets : (t : AbstractType) (vs : Items) (es : List (List ℕ)) → LawfulType t → every_fits (fits t) vs ≡ true → item_encodings (der t) vs ≡ Some es → item_count vs ≤ length (joined es)
 count_octets t value.no_items es law fit e = omega arith
 count_octets t (value.item v vs) es law fit e =
     let f = first_item t v vs es e in
@@ -298,10 +301,10 @@ Read t ordered tries i before at os = items_at tries ordered (λ tag. begins_wit
 
 -- elements that fit are passed, and what is behind them is read
 pub items_through : (t : AbstractType) (ordered : Bool) (vs : Items) (es : List (List ℕ)) (tries left i j at from : ℕ) (before os behind : List ℕ) → LawfulType t → every_fits (fits t) vs ≡ true → item_encodings (der t) vs ≡ Some es
-    → (not ordered || ascend_from before es) ≡ true → tries ≡ count vs + left → j ≡ i + count vs → from ≡ at + length (joined es) → os ≡ joined es ++ behind
+    → (not ordered || ascend_from before es) ≡ true → tries ≡ item_count vs + left → j ≡ i + item_count vs → from ≡ at + length (joined es) → os ≡ joined es ++ behind
     → Read t ordered tries i before at os ≡ prefixed vs (Read t ordered left j (last_behind before es) from behind)
 items_through t ordered value.no_items es tries left i j at from before os behind law fit e up more place offset parts =
-    let none : [] ≡ es = some_is [] es e in
+    let none : [] ≡ es = same_Some [] es e in
     let n : tries ≡ left = omega (arith, more) in
     let p : i ≡ j = omega (arith, place) in
     let o : at ≡ from = omega (arith, offset, ap (λ (x : List (List ℕ)). length (joined x)) none) in

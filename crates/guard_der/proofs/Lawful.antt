@@ -6,19 +6,21 @@ use Rattle.std.proofs.lemmas.List.{append-nil, length-append, length-take, lengt
 use Rattle.guard_model.specs.Answer.{◌>>=◌}
 use Rattle.guard_model.specs.declared.tag.Tag.{Tag}
 use Rattle.guard_model.specs.AbstractValue.{AbstractValue}
-use Rattle.guard_tagcheck.specs.FirstTags.{same_tag}
 use Rattle.guard_der.specs.declared.breach.Code.TheVariants as code
 use Rattle.guard_der.specs.Head.{Head, head_of}
 use Rattle.guard_der.specs.Element.{element, tagged}
 use Rattle.guard_der.specs.Breach.{AbstractBreach, Faulty, FaultyContents, FaultInElement, FaultAlone, FaultInWrapper, FaultInTags, Encodes, here, after}
 use Rattle.guard_der.specs.Reading.{Reader, Body, framed, alone_at, tags_at, ended, due_at, fault, same_form}
-use Rattle.guard_der.proofs.Results.{bind_ok, guard_ok, ok_is, chosen}
 use Rattle.guard_der.proofs.Digits.{AreDigits}
 use Rattle.guard_der.proofs.Fields.{digits_take, digits_drop}
 use Rattle.guard_der.proofs.Heads.{head}
 use Rattle.guard_der.proofs.Headers.{head_room, head_small}
-use Rattle.guard_der.proofs.Steps.{err_is, bind_err, bind, option_parts, due_ok, due_again, due_err, due_err_again, fault_after, after_after, due_path}
-use Rattle.guard_der.proofs.Elements.{same_is, same_self, form_is, form_self, other_form, same_form_not, front_is, front_again}
+use Rattle.guard_der.proofs.Steps.{bind, option_parts, due_ok, due_again, due_err, due_err_again, fault_after, after_after, due_path}
+use Rattle.guard_der.proofs.Elements.{form_is, form_self, other_form, same_form_not, front_is, front_again}
+use Rattle.guard_model.specs.Tags.{same_tag}
+use Rattle.guard_model.proofs.Results.{bind_ok, guard_ok, same_Ok, same_Err, bind_err}
+use Rattle.guard_model.proofs.Tests.{chosen}
+use Rattle.guard_model.proofs.Tags.{equal_tags, same_tag_itself}
 
 abbrev pub Fit : Type 0
 Fit = AbstractValue → Bool
@@ -84,8 +86,8 @@ section_takes t constructed fit encode body faulty deep law at h os v digits e t
           let c = law.takes at (at + h.size) (take h.contents (drop h.size os)) v (digits_take h.contents (drop h.size os) (digits_drop h.size os digits)) (head_small os h digits e) inside in
           record {
             fits = c.0;
-            encoded = rw (c.1, same_is t h.tag tag, ← form_is h.constructed constructed right) (front_is os h digits e).0;
-            tag = same_is t h.tag tag;
+            encoded = rw (c.1, equal_tags t h.tag tag, ← form_is h.constructed constructed right) (front_is os h digits e).0;
+            tag = equal_tags t h.tag tag;
           }
       | inr (wrong, is) ↦ absurd cc
     ]
@@ -102,7 +104,7 @@ section_again t constructed fit encode body faulty deep number law at v front re
       header = h;
       stands = f.0;
       tag_is = refl;
-      due = same_self t;
+      due = same_tag_itself t;
       size = f.2;
       read = cond-true (same_form constructed constructed) _ _ (form_self constructed) ∙ ap (body at (at + h.size)) f.1 ∙ inner;
     }
@@ -116,7 +118,7 @@ section_fault t constructed fit encode body faulty deep law at h os b digits e t
           let c = law.fault at h.size (take h.contents (drop h.size os)) b (digits_take h.contents (drop h.size os) (digits_drop h.size os digits)) (head_small os h digits e) inside in
           record { inner = c.inner; found = (h, e, tag, inr (form_is h.constructed constructed right, c.found)); seen = c.seen }
       | inr (other, is) ↦
-          record { inner = here code.WrongForm; found = (h, e, tag, inl (other_form h.constructed constructed other, refl)); seen = sym (err_is {A = AbstractValue} (fault code.WrongForm at) b is) ∙ fault_after code.WrongForm at }
+          record { inner = here code.WrongForm; found = (h, e, tag, inl (other_form h.constructed constructed other, refl)); seen = sym (same_Err {A = AbstractValue} (fault code.WrongForm at) b is) ∙ fault_after code.WrongForm at }
     ]
 
 section_found : (t : Tag) (constructed : Bool) (fit : Fit) (encode : Encode) (body : Body) (faulty : FaultyContents) (deep : ℕ) → LawfulBody fit encode body faulty deep
@@ -144,7 +146,7 @@ unfolding framed
 section_paths t constructed fit encode body faulty deep law at h os b e =
     elim (chosen (same_form h.constructed constructed) (body at (at + h.size) (take h.contents (drop h.size os))) (Err (fault code.WrongForm at)) (Err b) e) [
       | inl (right, inside) ↦ omega (arith, law.paths at (at + h.size) (take h.contents (drop h.size os)) b inside)
-      | inr (wrong, is) ↦ omega (arith, ap (λ (b : AbstractBreach). length b.path) (err_is {A = AbstractValue} (fault code.WrongForm at) b is))
+      | inr (wrong, is) ↦ omega (arith, ap (λ (b : AbstractBreach). length b.path) (same_Err {A = AbstractValue} (fault code.WrongForm at) b is))
     ]
 
 pub framed_lawful : (t : Tag) (constructed : Bool) (fit : Fit) (encode : Encode) (body : Body) (faulty : FaultyContents) (deep : ℕ) → t.number < 2 ^ 28 → LawfulBody fit encode body faulty deep
@@ -169,7 +171,7 @@ alone_takes wanted fit encode first read faulty deep law at os v digits e =
     let due = due_ok wanted at os a.0 a.1 in
     let one = law.takes at a.0 os b.0 digits due.0 due.1 b.1 in
     let all : take (a.0.size + a.0.contents) os ≡ os = take_all (a.0.size + a.0.contents) os (ltb-false (a.0.size + a.0.contents) (length os) c.0) in
-    rw (← ok_is {F = AbstractBreach} b.0 v c.1) (one.fits, one.encoded ∙ ap (λ (x : List ℕ). Some x) all)
+    rw (← same_Ok {F = AbstractBreach} b.0 v c.1) (one.fits, one.encoded ∙ ap (λ (x : List ℕ). Some x) all)
 
 alone_read : (wanted : Tag → Bool) (read : Reader) (at : ℕ) (os : List ℕ) (h : Head) (v : AbstractValue) → head_of os ≡ Ok h → wanted h.tag ≡ true → read at h os ≡ Ok v → alone_at wanted read at os ≡ ended at h os v
 unfolding alone_at
@@ -204,7 +206,7 @@ alone_fault wanted fit encode first read faulty deep law at os b digits e =
                   record {
                     inner = after (length (take (h.size + h.contents) os)) (here code.TrailingOctets);
                     found = inr (inr (take (h.size + h.contents) os, drop (h.size + h.contents) os, (v, one.fits, one.encoded), sym (take-append-drop (h.size + h.contents) os), some, refl));
-                    seen = sym (err_is {A = AbstractValue} (fault code.TrailingOctets (at + (h.size + h.contents))) b is) ∙ place;
+                    seen = sym (same_Err {A = AbstractValue} (fault code.TrailingOctets (at + (h.size + h.contents))) b is) ∙ place;
                   }
               | inr (none, is) ↦ absurd cc
             ]
@@ -241,7 +243,7 @@ alone_paths wanted fit encode first read faulty deep law at os b e =
       | inr (h, due, rest) ↦ elim (bind_err (read at h os) (λ v. ended at h os v) b rest) [
         | inl inside ↦ omega (arith, law.paths at h os b inside)
         | inr (v, got, more) ↦ elim (chosen (ltb (h.size + h.contents) (length os)) (Err (fault code.TrailingOctets (at + (h.size + h.contents)))) (Ok v) (Err b) more) [
-          | inl (behind, is) ↦ omega (arith, ap (λ (b : AbstractBreach). length b.path) (err_is {A = AbstractValue} (fault code.TrailingOctets (at + (h.size + h.contents))) b is))
+          | inl (behind, is) ↦ omega (arith, ap (λ (b : AbstractBreach). length b.path) (same_Err {A = AbstractValue} (fault code.TrailingOctets (at + (h.size + h.contents))) b is))
           | inr (none, is) ↦ absurd cc
         ]
       ]

@@ -1,6 +1,5 @@
 mod Room
 mod Digits
-mod Results
 mod Fields
 mod Heads
 mod Headers

@@ -18,9 +18,7 @@ use Rattle.guard_model.proofs.ValueViews.{value_view_fields}
 use Rattle.guard_model.specs.declared.ty.Comp.{Comp}
 use Rattle.guard_model.specs.declared.ty.Kind.{Kind, Set}
 use Rattle.guard_model.specs.declared.ty.Kind.TheViews.{out-Comp}
-use Rattle.guard_tagcheck.specs.Limits.{nesting_inside, deepest, count}
-use Rattle.guard_tagcheck.proofs.Components.{count_is}
-use Rattle.guard_tagcheck.proofs.TypeViews.{component_view_is, kind_view_set}
+use Rattle.guard_tagcheck.specs.Limits.{nesting_inside, deepest}
 use Rattle.guard_der.specs.Head.{Head, head_of}
 use Rattle.guard_model.specs.Tags.{class_rank}
 use Rattle.guard_der.specs.Octets.{base_128}
@@ -28,13 +26,15 @@ use Rattle.guard_der.specs.Element.{form_bit, identifier_octets}
 use Rattle.guard_der.specs.Sound.{is_proper_kind, are_proper}
 use Rattle.guard_der.specs.Breach.{AbstractBreach}
 use Rattle.guard_der.specs.Reading.{Reader, located, fill, presence_at, placed_at, member_at, completed, set_at, part_at, sent_at, all_absent, contents_at, fields_read}
-use Rattle.guard_der.proofs.Steps.{refuses_bind}
 use Rattle.guard_der.proofs.Digits.{AreDigits}
 use Rattle.guard_der.proofs.Heads.{head_takes}
 use Rattle.guard_der.proofs.ComponentSteps.{located_is}
 use Rattle.guard_der.proofs.Decodings.{below_if}
 use Rattle.guard_der.proofs.SetSteps.{Member, member_strays, member_fails}
-use Rattle.guard_der.proofs.Slots.{in_view}
+use Rattle.guard_model.specs.Counts.{component_count}
+use Rattle.guard_model.proofs.Components.{component_count_is, in_view}
+use Rattle.guard_model.proofs.TypeViews.{component_view_is, kind_view_set}
+use Rattle.guard_model.proofs.Results.{refuses_bind}
 
 -- ---- one element
 
@@ -106,17 +106,17 @@ ends cs gs before at (o ∷ os) total none going = absurd (omega (arith, eqb-tru
 
 -- ---- kinds of the code
 
-set_list : (cs : Components) → is_proper_kind (type.set cs) ≡ true → (are_proper cs ≡ true) × (count cs ≤ 64)
+set_list : (cs : Components) → is_proper_kind (type.set cs) ≡ true → (are_proper cs ≡ true) × (component_count cs ≤ 64)
 set_list cs e =
-    let p = and_parts (nat_le (count cs) 64) (are_proper cs) e in
-    (p.1, leb-true (count cs) 64 p.0)
+    let p = and_parts (nat_le (component_count cs) 64) (are_proper cs) e in
+    (p.1, leb-true (component_count cs) 64 p.0)
 
 pub set_parts : (kind : Kind) (comps : Vec Comp) → kind ≡ Set comps → is_proper_kind (kind_view kind) ≡ true
     → (are_proper (in_view comps.items) ≡ true) × (length comps.items ≤ 64) × (nesting_inside (kind_view kind) ≡ deepest (in_view comps.items))
 set_parts kind comps is proper =
     let e : kind_view kind ≡ type.set (in_view comps.items) = rw is (kind_view_set comps) in
     let l = set_list (in_view comps.items) (rw e at proper) in
-    (l.0, omega (arith, l.1, count_is (map component_view comps.items), length-map comps.items component_view), ap nesting_inside e)
+    (l.0, omega (arith, l.1, component_count_is (map component_view comps.items), length-map comps.items component_view), ap nesting_inside e)
 
 abbrev pub set_read : List Comp → ℕ → List ℕ → Result Fields AbstractBreach
 set_read comps start os = set_at (length os) (in_view comps) (part_at (in_view comps)) (all_absent (in_view comps)) None start os

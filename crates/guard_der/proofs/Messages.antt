@@ -20,13 +20,13 @@ use Rattle.guard_der.specs.Sound.{is_sound, is_proper, none_clash}
 use Rattle.guard_der.specs.Breach.{AbstractBreach, IsBreach, FaultIn}
 use Rattle.guard_der.specs.Reading.{element_at, message_of}
 use Rattle.guard_der.specs.Views.{breach_view, breach_of}
-use Rattle.guard_der.proofs.Results.{ok_is}
-use Rattle.guard_der.proofs.Steps.{err_is, after_none, head_is}
+use Rattle.guard_der.proofs.Steps.{after_none, head_is}
 use Rattle.guard_der.proofs.Digits.{AreDigits}
 use Rattle.guard_der.proofs.Lawful.{alone_takes, alone_again, alone_fault, alone_found}
 use Rattle.guard_der.proofs.Parts.{LawfulType}
 use Rattle.guard_der.proofs.Distinctness.{no_clash}
 use Rattle.guard_der.proofs.Types.{type_lawful}
+use Rattle.guard_model.proofs.Results.{same_Ok, same_Err}
 
 pub sound_law : (t : AbstractType) → IsTrue (is_sound t) → LawfulType t
 sound_law t sound =
@@ -82,7 +82,7 @@ is_breach_only t os r sound given b is = subst (λ (a : Result AbstractValue Abs
 -- ---- laws
 
 pub one_encoding : (t : AbstractType) (v w : AbstractValue) (os : List ℕ) → IsTrue (is_sound t) → IsTrue (fits t v) → IsTrue (fits t w) → der t v ≡ Some os → der t w ≡ Some os → v ≡ w
-one_encoding t v w os sound fit_v fit_w e f = ok_is {F = AbstractBreach} v w (sym (message_again t os v sound fit_v e) ∙ message_again t os w sound fit_w f)
+one_encoding t v w os sound fit_v fit_w e f = same_Ok {F = AbstractBreach} v w (sym (message_again t os v sound fit_v e) ∙ message_again t os w sound fit_w f)
 
 pub no_prefix : (t : AbstractType) (v w : AbstractValue) (first second x y : List ℕ) → IsTrue (is_sound t) → IsTrue (fits t v) → IsTrue (fits t w) → der t v ≡ Some first → der t w ≡ Some second → first ++ x ≡ second ++ y → (v ≡ w) × (x ≡ y)
 no_prefix t v w first second x y sound fit_v fit_w e f same =
@@ -92,7 +92,7 @@ no_prefix t v w first second x y sound fit_v fit_w e f same =
     let heads : a.header ≡ b.header = head_is (second ++ y) a.header b.header (ap head_of (sym same) ∙ a.stands) b.stands in
     let len : length first ≡ length second = sym a.size ∙ ap (λ (h : Head). h.size + h.contents) heads ∙ b.size in
     let read : element_at t 0 a.header (first ++ x) ≡ Ok w = ap (λ (h : Head). element_at t 0 h (first ++ x)) heads ∙ ap (element_at t 0 b.header) same ∙ b.read in (
-      ok_is {F = AbstractBreach} v w (sym a.read ∙ read),
+      same_Ok {F = AbstractBreach} v w (sym a.read ∙ read),
       sym (drop_at first x (length first) refl) ∙ ap (drop (length first)) same ∙ ap (λ (n : ℕ). drop n (second ++ y)) len ∙ drop_at second y (length second) refl,
     )
 
@@ -108,4 +108,4 @@ pub never_both : (t : AbstractType) (os : List ℕ) (v : AbstractValue) (b : Abs
 never_both t os v b sound fit e is = let both : ◌≡◌ {A = Result AbstractValue AbstractBreach} (Ok v) (Err b) = sym (message_again t os v sound fit e) ∙ message_found t os b sound is in absurd cc
 
 pub one_breach : (t : AbstractType) (os : List ℕ) (b c : AbstractBreach) → IsTrue (is_sound t) → IsBreach t os b → IsBreach t os c → b ≡ c
-one_breach t os b c sound p q = err_is {A = AbstractValue} b c (sym (message_found t os b sound p) ∙ message_found t os c sound q)
+one_breach t os b c sound p q = same_Err {A = AbstractValue} b c (sym (message_found t os b sound p) ∙ message_found t os c sound q)

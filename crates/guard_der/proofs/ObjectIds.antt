@@ -84,7 +84,7 @@ module _ (octets arcs : List ℕ) (starts : Bool) (number o : ℕ) (left : List 
         ended = read.ended ++ ended ∷ [];
         arcs_are = arcs_are;
         all = ap (λ (n : ℕ). (read.ended ++ ended ∷ []) ++ subidentifiers n left) starts_anew ∙ append_assoc read.ended (ended ∷ []) (subidentifiers 0 left)
-        ∙ ap (λ (n : ℕ). read.ended ++ n ∷ subidentifiers 0 left) number_is ∙ sym (ap (λ (ns : List ℕ). read.ended ++ ns) (cond-true (ltb o 128) _ _ (lt-ltb o 128 small))) ∙ read.all;
+            ∙ ap (λ (n : ℕ). read.ended ++ n ∷ subidentifiers 0 left) number_is ∙ sym (ap (λ (ns : List ℕ). read.ended ++ ns) (cond-true (ltb o 128) _ _ (lt-ltb o 128 small))) ∙ read.all;
         below = all_of_both (2 ^ 128) read.ended (ended ∷ []) read.below (and_from (ltb ended (2 ^ 128)) true (lt-ltb ended (2 ^ 128) (omega (arith, is, room))) refl);
       }
 

@@ -2,23 +2,25 @@
 use Rattle.std.proofs.Common.{◌≡◌, ℕ, zero, suc, ◌+◌, ◌<◌, ◌≤◌, Bool, true, false, cond, [], ◌∷◌, Some, refl, sym, ap, subst, ◌∙◌, arith, inl, inr}
 use Rattle.std.specs.Prelude.{◌||◌, not, max}
 use Rattle.std.proofs.Math.Nat.{le-max_left, le-max_right}
-use Rattle.std.proofs.lemmas.Bool.{cond-true, cond-false, and_parts, or_parts, or_from, false≢true}
+use Rattle.std.proofs.lemmas.Bool.{cond-true, cond-false, and_parts, or_parts, or_from, false≢true, not-true}
 use Rattle.guard_model.specs.declared.tag.Tag.{Tag}
 use Rattle.guard_model.specs.AbstractType as type
 use Rattle.guard_model.specs.AbstractType.{AbstractType, AbstractKind, AbstractPresence, Components, type_of, no_components, component}
 use Rattle.guard_model.specs.AbstractValue.{AbstractValue}
-use Rattle.guard_tagcheck.specs.FirstTags.{same_tag, begins_with, alternative_begins_with, one_begins_with}
-use Rattle.guard_tagcheck.specs.Limits.{nesting, deepest, count}
+use Rattle.guard_tagcheck.specs.FirstTags.{begins_with, alternative_begins_with, one_begins_with}
+use Rattle.guard_tagcheck.specs.Limits.{nesting, deepest}
 use Rattle.guard_der.specs.Der.{der, outermost, outermost_alternative, alternative_octets}
 use Rattle.guard_der.specs.Fits.{fits, fits_alternative}
 use Rattle.guard_tagcheck.specs.Search.{share_tag, alternative_shares_tag, one_shares_tag}
 use Rattle.guard_der.proofs.Distinctness.{differ, differs_from_all, all_differ}
 use Rattle.guard_der.specs.Breach.{Faulty, FaultIn, FaultInPart, one_with, is_found}
 use Rattle.guard_der.specs.Reading.{Reader, element_at, part_at}
-use Rattle.guard_der.proofs.Results.{chosen}
-use Rattle.guard_der.proofs.Steps.{some_is}
-use Rattle.guard_der.proofs.Elements.{same_is}
 use Rattle.guard_der.proofs.Lawful.{Fit, Encode, Lawful}
+use Rattle.guard_model.specs.Tags.{same_tag}
+use Rattle.guard_model.specs.Counts.{component_count}
+use Rattle.guard_model.proofs.Tests.{chosen}
+use Rattle.std.proofs.lemmas.Option.{same_Some}
+use Rattle.guard_model.proofs.Tags.{equal_tags}
 
 abbrev pub LawfulType : AbstractType → Type 0
 LawfulType t = Lawful (λ tag. begins_with t tag) (λ v. fits t v) (λ v. der t v) (λ v. outermost t v) (element_at t) (λ os b. FaultIn t os b) (nesting t)
@@ -45,7 +47,7 @@ part_begins (component name t presence rest) (suc i) tag = part_begins rest i ta
 abbrev pub LawfulPart : Components → ℕ → Type 0
 LawfulPart cs i = Lawful (λ tag. part_begins cs i tag) (λ v. fits_alternative cs i v) (λ v. alternative_octets cs i v) (λ v. outermost_alternative cs i v) (part_at cs i) (λ os b. FaultInPart cs i os b) (deepest cs)
 
-pub part_lawful : (cs : Components) (i : ℕ) → AllLawful cs → i < count cs → LawfulPart cs i
+pub part_lawful : (cs : Components) (i : ℕ) → AllLawful cs → i < component_count cs → LawfulPart cs i
 unfolding part_at
 part_lawful no_components i laws within = absurd (omega (arith, within))
 part_lawful (component name t presence rest) zero laws within =
@@ -56,12 +58,8 @@ part_lawful (component name t presence rest) (suc i) laws within =
 
 -- ---- distinct tags
 
-not_true : (b : Bool) → not b ≡ true → b ≡ false
-not_true true e = absurd cc
-not_true false e = refl
-
 not_same : (x tag : Tag) (u : AbstractType) (same : Bool) → same_tag x tag ≡ same → begins_with u x ≡ false → begins_with u tag ≡ true → same ≡ false
-not_same x tag u true e none is = absurd (false≢true (sym none ∙ ap (begins_with u) (same_is x tag e) ∙ is))
+not_same x tag u true e none is = absurd (false≢true (sym none ∙ ap (begins_with u) (equal_tags x tag e) ∙ is))
 not_same x tag u false e none is = refl
 
 mutual
@@ -81,7 +79,7 @@ mutual
       or_from (begins_with t tag) (one_begins_with rest tag) (apart t u tag n.0 is) (apart_all rest u tag n.1 is)
 
 pub differ_tags : (t u : AbstractType) (tag : Tag) → differ t u ≡ true → begins_with u tag ≡ true → begins_with t tag ≡ false
-differ_tags t u tag e is = apart t u tag (not_true (share_tag t u) e) is
+differ_tags t u tag e is = apart t u tag (not-true (share_tag t u) e) is
 
 pub differ_all : (t : AbstractType) (cs : Components) (i : ℕ) (tag : Tag) → differs_from_all t cs ≡ true → part_begins cs i tag ≡ true → begins_with t tag ≡ false
 differ_all t no_components i tag e is = absurd cc
@@ -93,18 +91,18 @@ differ_all t (component name u presence rest) (suc i) tag e is = differ_all t re
 record WithTag (i : ℕ) (cs : Components) (tag : Tag) (j : ℕ) : Type 0 where
   place : ℕ
   is : j ≡ i + place
-  within : place < count cs
+  within : place < component_count cs
   begins : part_begins cs place tag ≡ true
 
 tag_at : (i : ℕ) (cs : Components) (tag : Tag) (j : ℕ) → one_with i cs tag ≡ Some j → WithTag i cs tag j
 tag_at i no_components tag j e = absurd cc
 tag_at i (component name t presence rest) tag j e =
     elim (chosen (begins_with t tag) (Some i) (one_with (suc i) rest tag) (Some j) e) [
-      | inl (begins, is) ↦ let same : i ≡ j = some_is i j is in record { place = 0; is = omega (arith, same); within = omega arith; begins = begins }
+      | inl (begins, is) ↦ let same : i ≡ j = same_Some i j is in record { place = 0; is = omega (arith, same); within = omega arith; begins = begins }
       | inr (other, later) ↦ let w = tag_at (suc i) rest tag j later in record { place = suc w.place; is = omega (arith, w.is); within = omega (arith, w.within); begins = w.begins }
     ]
 
-pub with_tag : (cs : Components) (tag : Tag) (j : ℕ) → one_with 0 cs tag ≡ Some j → (j < count cs) × (part_begins cs j tag ≡ true)
+pub with_tag : (cs : Components) (tag : Tag) (j : ℕ) → one_with 0 cs tag ≡ Some j → (j < component_count cs) × (part_begins cs j tag ≡ true)
 with_tag cs tag j e =
     let w = tag_at 0 cs tag j e in
     let same : w.place ≡ j = omega (arith, w.is) in
@@ -129,7 +127,7 @@ pub found_begins : (i : ℕ) (cs : Components) (tag : Tag) → is_found (one_wit
 found_begins i no_components tag = refl
 found_begins i (component name t presence rest) tag = some_with i t rest tag (begins_with t tag) (found_begins (suc i) rest tag)
 
-pub within_fits : (cs : Components) (i : ℕ) (v : AbstractValue) → fits_alternative cs i v ≡ true → i < count cs
+pub within_fits : (cs : Components) (i : ℕ) (v : AbstractValue) → fits_alternative cs i v ≡ true → i < component_count cs
 within_fits no_components i v e = absurd cc
 within_fits (component name t presence rest) zero v e = omega arith
 within_fits (component name t presence rest) (suc i) v e = omega (arith, within_fits rest i v e)

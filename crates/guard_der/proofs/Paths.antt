@@ -10,16 +10,15 @@ use Rattle.guard_model.specs.AbstractType as type
 use Rattle.guard_model.specs.AbstractType.{AbstractType, AbstractKind, AbstractPresence, Components, Constraints, type_of, no_components, component}
 use Rattle.guard_model.specs.AbstractValue as value
 use Rattle.guard_model.specs.AbstractValue.{AbstractValue}
-use Rattle.guard_tagcheck.specs.FirstTags.{same_tag, begins_with, one_begins_with}
-use Rattle.guard_tagcheck.specs.Limits.{nesting, nesting_inside, deepest, count, is_tagged, are_low}
+use Rattle.guard_tagcheck.specs.FirstTags.{begins_with, one_begins_with}
+use Rattle.guard_tagcheck.specs.Limits.{nesting, nesting_inside, deepest, is_tagged, are_low}
 use Rattle.guard_der.specs.declared.breach.Code.TheVariants as code
 use Rattle.guard_der.specs.Head.{Head}
 use Rattle.guard_der.specs.Der.{is_constructed}
 use Rattle.guard_der.specs.Sound.{is_proper, is_proper_kind, are_proper, is_proper_presence, all_apply}
 use Rattle.guard_der.specs.Breach.{AbstractBreach, one_with}
 use Rattle.guard_der.specs.Reading.{Reader, Body, due_at, element_at, untagged_at, contents_at, fields_at, part_at, end_at, component_at, chosen_at, items_at, item_alone, alone_at, tags_at, framed, ended, field_before, inside, fault, same_form, all_absent, set_at}
-use Rattle.guard_der.proofs.Results.{chosen}
-use Rattle.guard_der.proofs.Steps.{err_is, bind_err, due_path, inside_err}
+use Rattle.guard_der.proofs.Steps.{due_path, inside_err}
 use Rattle.guard_der.proofs.ComponentSteps.{ComponentErr, component_err}
 use Rattle.guard_der.proofs.SimpleKinds.{simple_paths}
 use Rattle.guard_der.proofs.Parts.{with_tag}
@@ -28,6 +27,10 @@ use Rattle.guard_der.proofs.SequenceFaults.{some_nesting, fields_err}
 use Rattle.guard_der.proofs.Items.{alone_err}
 use Rattle.guard_der.proofs.ItemFaults.{items_err, items_paths, alone_paths}
 use Rattle.guard_der.proofs.SetPaths.{set_shallow}
+use Rattle.guard_model.specs.Tags.{same_tag}
+use Rattle.guard_model.specs.Counts.{component_count}
+use Rattle.guard_model.proofs.Tests.{chosen}
+use Rattle.guard_model.proofs.Results.{same_Err, bind_err}
 
 abbrev pub Shallow : Reader → ℕ → Type 0
 Shallow read deep = (at : ℕ) (h : Head) (os : List ℕ) (b : AbstractBreach) → read at h os ≡ Err b → length b.path < deep
@@ -40,7 +43,7 @@ unfolding framed
 framed_shallow constructed body deep inner at h os b e =
     elim (chosen (same_form h.constructed constructed) (body at (at + h.size) (take h.contents (drop h.size os))) (Err (fault code.WrongForm at)) (Err b) e) [
       | inl (right, inside) ↦ omega (arith, inner at (at + h.size) (take h.contents (drop h.size os)) b inside)
-      | inr (wrong, is) ↦ omega (arith, ap (λ (b : AbstractBreach). length b.path) (err_is {A = AbstractValue} (fault code.WrongForm at) b is))
+      | inr (wrong, is) ↦ omega (arith, ap (λ (b : AbstractBreach). length b.path) (same_Err {A = AbstractValue} (fault code.WrongForm at) b is))
     ]
 
 alone_shallow : (wanted : Tag → Bool) (read : Reader) (deep : ℕ) → Shallow read deep → (at : ℕ) (os : List ℕ) (b : AbstractBreach) → alone_at wanted read at os ≡ Err b → length b.path ≤ deep
@@ -51,7 +54,7 @@ alone_shallow wanted read deep inner at os b e =
       | inr (h, due, rest) ↦ elim (bind_err (read at h os) (λ v. ended at h os v) b rest) [
         | inl inside ↦ omega (arith, inner at h os b inside)
         | inr (v, got, more) ↦ elim (chosen (ltb (h.size + h.contents) (length os)) (Err (fault code.TrailingOctets (at + (h.size + h.contents)))) (Ok v) (Err b) more) [
-          | inl (behind, is) ↦ omega (arith, ap (λ (b : AbstractBreach). length b.path) (err_is {A = AbstractValue} (fault code.TrailingOctets (at + (h.size + h.contents))) b is))
+          | inl (behind, is) ↦ omega (arith, ap (λ (b : AbstractBreach). length b.path) (same_Err {A = AbstractValue} (fault code.TrailingOctets (at + (h.size + h.contents))) b is))
           | inr (none, is) ↦ absurd cc
         ]
       ]
@@ -69,7 +72,7 @@ tags_shallow t (u ∷ ts) constructed body other deep inner at h os b e =
 
 chosen_from : (read : ℕ → Reader) (found : Option ℕ) (at : ℕ) (h : Head) (os : List ℕ) (b : AbstractBreach) (deep : ℕ) → ((j : ℕ) (c : AbstractBreach) → found ≡ Some j → read j at h os ≡ Err c → length c.path < deep)
     → ◌≡◌ {A = Result AbstractValue AbstractBreach} (elim found [ None ↦ Err (fault code.UnexpectedTag at) | Some j ↦ inside (Component j) (read j at h os) >>= λ v. Ok (value.chosen j v) ]) (Err b) → length b.path < suc deep
-chosen_from read None at h os b deep inner e = omega (arith, ap (λ (b : AbstractBreach). length b.path) (err_is {A = AbstractValue} (fault code.UnexpectedTag at) b e))
+chosen_from read None at h os b deep inner e = omega (arith, ap (λ (b : AbstractBreach). length b.path) (same_Err {A = AbstractValue} (fault code.UnexpectedTag at) b e))
 chosen_from read (Some j) at h os b deep inner e =
     elim (bind_err (inside (Component j) (read j at h os)) (λ v. Ok (value.chosen j v)) b e) [
       | inl wrong ↦ let c = inside_err (Component j) (read j at h os) b wrong in omega (arith, ap (λ (b : AbstractBreach). length b.path) c.2, inner j c.0 refl c.1)
@@ -92,7 +95,7 @@ end_shallow at (o ∷ os) b e = elim (bind_err (due_at (λ tag. false) at (o ∷
   | inr (h, due, none) ↦ absurd cc
 ]
 
-choice_shallow : (cs : Components) → ((j at : ℕ) (h : Head) (os : List ℕ) (c : AbstractBreach) → j < count cs → part_at cs j at h os ≡ Err c → length c.path < deepest cs) → Shallow (chosen_at cs (part_at cs)) (suc (deepest cs))
+choice_shallow : (cs : Components) → ((j at : ℕ) (h : Head) (os : List ℕ) (c : AbstractBreach) → j < component_count cs → part_at cs j at h os ≡ Err c → length c.path < deepest cs) → Shallow (chosen_at cs (part_at cs)) (suc (deepest cs))
 choice_shallow cs inner at h os b read =
     chosen_from (part_at cs) (one_with 0 cs h.tag) at h os b (deepest cs) (λ j c found e. inner j at h os c (with_tag cs h.tag j found).0 e) (sym (chosen_is cs (part_at cs) at h os (one_with 0 cs h.tag) refl) ∙ read)
 
@@ -115,21 +118,21 @@ mutual
 
   untagged_shallow : (kind : AbstractKind) → is_tagged [] kind ≡ true → is_proper_kind kind ≡ true → Shallow (untagged_at kind) (nesting_inside kind)
   untagged_shallow (type.choice cs) tagged e at h os b read =
-      let p = and_parts (nat_le (count cs) 64) (are_proper cs) e in
+      let p = and_parts (nat_le (component_count cs) 64) (are_proper cs) e in
       choice_shallow cs (part_shallow cs p.1) at h os b read
   untagged_shallow kind tagged e at h os b read = absurd cc
 
   kind_shallow : (kind : AbstractKind) → is_proper_kind kind ≡ true → ShallowBody (contents_at kind) (nesting_inside kind)
   kind_shallow (type.sequence cs) e at start os b read =
-      let p = and_parts (nat_le (count cs) 64) (are_proper cs) e in
+      let p = and_parts (nat_le (component_count cs) 64) (are_proper cs) e in
       fields_shallow 0 cs start os b p.1 (fields_err (fields_at 0 cs start os) b read)
   kind_shallow (type.choice cs) e at start os b read =
-      let p = and_parts (nat_le (count cs) 64) (are_proper cs) e in
+      let p = and_parts (nat_le (component_count cs) 64) (are_proper cs) e in
       alone_shallow (λ tag. one_begins_with cs tag) (chosen_at cs (part_at cs)) (suc (deepest cs)) (choice_shallow cs (part_shallow cs p.1)) start os b read
   kind_shallow (type.sequence_of t) e at start os b read = items_shallow false t (length os) start os b (some_nesting t e) (type_shallow t e) (items_err (items_at (length os) false (λ tag. begins_with t tag) (element_at t) 0 [] start os) b read)
   kind_shallow (type.set_of t) e at start os b read = items_shallow true t (length os) start os b (some_nesting t e) (type_shallow t e) (items_err (items_at (length os) true (λ tag. begins_with t tag) (element_at t) 0 [] start os) b read)
   kind_shallow (type.set cs) e at start os b read =
-      let p = and_parts (nat_le (count cs) 64) (are_proper cs) e in
+      let p = and_parts (nat_le (component_count cs) 64) (are_proper cs) e in
       set_shallow cs (part_shallow cs p.1) p.1 (length os) (all_absent cs) None start os b (fields_err (set_at (length os) cs (part_at cs) (all_absent cs) None start os) b read)
   kind_shallow type.boolean e at start os b read = simple_paths type.boolean at start os b read
   kind_shallow (type.integer ns) e at start os b read = simple_paths (type.integer ns) at start os b read
@@ -153,7 +156,7 @@ mutual
         ]
       ]
 
-  part_shallow : (cs : Components) → are_proper cs ≡ true → (j at : ℕ) (h : Head) (os : List ℕ) (b : AbstractBreach) → j < count cs → part_at cs j at h os ≡ Err b → length b.path < deepest cs
+  part_shallow : (cs : Components) → are_proper cs ≡ true → (j at : ℕ) (h : Head) (os : List ℕ) (b : AbstractBreach) → j < component_count cs → part_at cs j at h os ≡ Err b → length b.path < deepest cs
   part_shallow no_components e j at h os b within read = absurd (omega (arith, within))
   part_shallow (component name t presence cs) e zero at h os b within read =
       let p = and_parts (is_proper t && is_proper_presence t presence) (are_proper cs) e in

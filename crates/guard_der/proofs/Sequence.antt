@@ -10,21 +10,23 @@ use Rattle.guard_model.specs.AbstractValue as value
 use Rattle.guard_model.specs.AbstractValue.{AbstractValue, Fields}
 use Rattle.guard_model.proofs.Sameness.{equal_values, same_itself}
 use Rattle.guard_tagcheck.specs.FirstTags.{begins_with}
-use Rattle.guard_tagcheck.specs.Limits.{count}
 use Rattle.guard_der.specs.declared.breach.Code.TheVariants as code
 use Rattle.guard_der.specs.Head.{head_of}
 use Rattle.guard_der.specs.Der.{Part, der, outermost, parts_of, parts_joined, contents_octets, is_left_out, part_unless}
 use Rattle.guard_der.specs.Fits.{fits, fits_fields, may_be_absent}
-use Rattle.guard_der.specs.Sound.{is_proper, is_proper_presence, are_proper, is_mandatory, is_short}
+use Rattle.guard_der.specs.Sound.{is_proper, is_proper_presence, are_proper, is_short}
 use Rattle.guard_der.proofs.Distinctness.{differ, differs_from_next, optional_differ}
 use Rattle.guard_der.specs.Breach.{AbstractBreach, first_components, other_components, last_is_sent, here}
 use Rattle.guard_der.specs.Reading.{element_at, fields_at, end_at, component_at, not_sent, field_before, due_at}
-use Rattle.guard_der.proofs.Results.{bind_ok, ok_is}
-use Rattle.guard_der.proofs.Steps.{some_is, bind, option_parts, due_ok}
+use Rattle.guard_der.proofs.Steps.{bind, option_parts, due_ok}
 use Rattle.guard_der.proofs.Digits.{AreDigits}
 use Rattle.guard_der.proofs.Fields.{digits_drop}
 use Rattle.guard_der.proofs.Parts.{LawfulType, AllLawful, differ_tags}
 use Rattle.guard_der.proofs.ComponentSteps.{Unsent, ComponentOk, component_ok, component_sends, component_skips, skips_optional}
+use Rattle.guard_model.specs.Counts.{component_count}
+use Rattle.guard_tagcheck.specs.Search.{is_mandatory}
+use Rattle.guard_model.proofs.Results.{bind_ok, same_Ok}
+use Rattle.std.proofs.lemmas.Option.{same_Some}
 
 -- ---- fields
 
@@ -36,7 +38,7 @@ pub sends_contents : (cs : Components) (fs : Fields) (octets : List ℕ) → Sen
 sends_contents cs fs octets (ps, e, is) = rw e (ap (λ (os : List ℕ). Some os) is)
 
 pub contents_sends : (cs : Components) (fs : Fields) (octets : List ℕ) → contents_octets (type.sequence cs) (value.fields fs) ≡ Some octets → Sends cs fs octets
-contents_sends cs fs octets e = let a = option_parts (parts_of cs fs) (λ ps. Some (parts_joined ps)) octets e in (a.0, a.1, some_is (parts_joined a.0) octets a.2)
+contents_sends cs fs octets e = let a = option_parts (parts_of cs fs) (λ ps. Some (parts_joined ps)) octets e in (a.0, a.1, same_Some (parts_joined a.0) octets a.2)
 
 pub sent_first : (name : List ℕ) (t : AbstractType) (presence : AbstractPresence) (cs : Components) (v : AbstractValue) (fs : Fields) (first others : List ℕ)
     → is_left_out presence v ≡ false → der t v ≡ Some first → Sends cs fs others → Sends (component name t presence cs) (value.present v fs) (first ++ others)
@@ -55,10 +57,10 @@ pub unsent_first : (name : List ℕ) (t : AbstractType) (presence : AbstractPres
     → (fits_fields (component name t presence cs) (field_before f fs) ≡ true) × Sends (component name t presence cs) (field_before f fs) others
 unsent_first name t type.mandatory cs f fs others b proper skip fit sends = absurd cc
 unsent_first name t type.pending cs f fs others b proper skip fit sends = absurd cc
-unsent_first name t type.optional cs f fs others b proper skip fit sends = rw (← ok_is {F = AbstractBreach} None f skip) (fit, sends)
+unsent_first name t type.optional cs f fs others b proper skip fit sends = rw (← same_Ok {F = AbstractBreach} None f skip) (fit, sends)
 unsent_first name t (type.default d) cs f fs others b proper skip fit sends =
     let p = default_fits t d proper in
-    rw (← ok_is {F = AbstractBreach} (Some d) f skip) (and_from (fits t d) (fits_fields cs fs) p fit, left_first name t (type.default d) cs d fs others (same_itself d) sends)
+    rw (← same_Ok {F = AbstractBreach} (Some d) f skip) (and_from (fits t d) (fits_fields cs fs) p fit, left_first name t (type.default d) cs d fs others (same_itself d) sends)
 
 -- what a value that is sent, or not, leaves of the rest
 sends_sent : (name : List ℕ) (t : AbstractType) (presence : AbstractPresence) (cs : Components) (v : AbstractValue) (fs : Fields) (octets : List ℕ)
@@ -67,7 +69,7 @@ sends_sent name t presence cs v fs octets kept (ps, e, is) =
     let whole : bind (der t v) (λ os. bind (parts_of cs fs) (λ ps. Some (record { tag = outermost t v; octets = os } ∷ ps))) ≡ Some ps = sym (ap (λ (b : Bool). part_unless b (outermost t v) (der t v) (parts_of cs fs)) kept) ∙ e in
     let a = option_parts (der t v) (λ os. bind (parts_of cs fs) (λ ps. Some (record { tag = outermost t v; octets = os } ∷ ps))) ps whole in
     let b = option_parts (parts_of cs fs) (λ ps. Some (record { tag = outermost t v; octets = a.0 } ∷ ps)) ps a.2 in
-    (a.0, parts_joined b.0, a.1, (b.0, b.1, refl), ap parts_joined (some_is (record { tag = outermost t v; octets = a.0 } ∷ b.0) ps b.2) ∙ is)
+    (a.0, parts_joined b.0, a.1, (b.0, b.1, refl), ap parts_joined (same_Some (record { tag = outermost t v; octets = a.0 } ∷ b.0) ps b.2) ∙ is)
 
 sends_left : (name : List ℕ) (t : AbstractType) (presence : AbstractPresence) (cs : Components) (v : AbstractValue) (fs : Fields) (octets : List ℕ)
     → is_left_out presence v ≡ true → Sends (component name t presence cs) (value.present v fs) octets → Sends cs fs octets
@@ -77,7 +79,7 @@ sends_left name t presence cs v fs octets left (ps, e, is) = (ps, sym (ap (λ (b
 
 end_ok : (at : ℕ) (os : List ℕ) (fs : Fields) → end_at at os ≡ Ok fs → (os ≡ []) × (value.no_fields ≡ fs)
 unfolding end_at
-end_ok at [] fs e = (refl, ok_is {F = AbstractBreach} value.no_fields fs e)
+end_ok at [] fs e = (refl, same_Ok {F = AbstractBreach} value.no_fields fs e)
 end_ok at (o ∷ os) fs e =
     let d = bind_ok (due_at (λ tag. false) at (o ∷ os)) (λ h. Ok value.no_fields) fs e in
     absurd (false≢true (due_ok (λ tag. false) at (o ∷ os) d.0 d.1).1)
@@ -107,7 +109,7 @@ fields_takes i (component name t presence cs) at os fs digits laws proper e =
     let b = bind_ok (fields_at (suc i) cs (at + a.0.1) (drop a.0.1 os)) (λ fs. Ok (field_before a.0.0 fs)) fs a.2 in
     let others = fields_takes (suc i) cs (at + a.0.1) (drop a.0.1 os) b.0 (digits_drop a.0.1 os digits) laws.1 p.1 b.1 in
     let one = first_takes name t presence cs i at os a.0 b.0 digits laws.0 q.1 (component_ok i presence (λ tag. begins_with t tag) (element_at t) at os a.0 a.1) others.0 others.1 in
-    rw (← ok_is {F = AbstractBreach} (field_before a.0.0 b.0) fs b.2) one
+    rw (← same_Ok {F = AbstractBreach} (field_before a.0.0 b.0) fs b.2) one
 
 -- ---- what fits and is sent is read
 
@@ -172,7 +174,7 @@ next_of true next e f = absurd cc
 next_of false next e f = e
 
 pub none_sent : (fs : Fields) (front : List ℕ) → fits_fields no_components fs ≡ true → Sends no_components fs front → front ≡ []
-none_sent value.no_fields front fit (ps, e, is) = sym is ∙ ap parts_joined (sym (some_is [] ps e))
+none_sent value.no_fields front fit (ps, e, is) = sym is ∙ ap parts_joined (sym (same_Some [] ps e))
 none_sent (value.present v fs) front fit sends = absurd cc
 none_sent (value.absent fs) front fit sends = absurd cc
 
@@ -329,7 +331,7 @@ through (suc k) (component name t presence cs) laws distinct i at (value.absent 
     through_unsent name t presence cs k i at None fs front behind (here code.MissingComponent) skip unsent f.1 sends (through k cs laws.1 d.1) (some_end (first_components k cs) fs behind e)
 through (suc k) (component name t presence cs) laws distinct i at value.no_fields front behind fit sends end = absurd cc
 
-all_first : (cs : Components) → (first_components (count cs) cs ≡ cs) × (other_components (count cs) cs ≡ no_components)
+all_first : (cs : Components) → (first_components (component_count cs) cs ≡ cs) × (other_components (component_count cs) cs ≡ no_components)
 all_first no_components = (refl, refl)
 all_first (component name t presence cs) = let a = all_first cs in (ap (component name t presence) a.0, a.1)
 
@@ -340,10 +342,10 @@ end_none i at = refl
 pub fields_again : (i : ℕ) (cs : Components) (at : ℕ) (os : List ℕ) (fs : Fields) → AllLawful cs → optional_differ cs ≡ true → fits_fields cs fs ≡ true → Sends cs fs os → fields_at i cs at os ≡ Ok fs
 fields_again i cs at os fs laws distinct fit sends =
     let a = all_first cs in
-    let fits_all : fits_fields (first_components (count cs) cs) fs ≡ true = rw a.0 fit in
-    let sends_all : Sends (first_components (count cs) cs) fs os = subst (λ (x : Components). Sends x fs os) (sym a.0) sends in
+    let fits_all : fits_fields (first_components (component_count cs) cs) fs ≡ true = rw a.0 fit in
+    let sends_all : Sends (first_components (component_count cs) cs) fs os = subst (λ (x : Components). Sends x fs os) (sym a.0) sends in
     ap (fields_at i cs at) (sym (append-nil os))
-    ∙ through (count cs) cs laws distinct i at fs os [] fits_all sends_all (inl refl)
-    ∙ ap (λ (x : Components). prefixed fs (fields_at (i + count cs) x (at + length os) [])) a.1
-    ∙ ap (prefixed fs) (end_none (i + count cs) (at + length os))
+    ∙ through (component_count cs) cs laws distinct i at fs os [] fits_all sends_all (inl refl)
+    ∙ ap (λ (x : Components). prefixed fs (fields_at (i + component_count cs) x (at + length os) [])) a.1
+    ∙ ap (prefixed fs) (end_none (i + component_count cs) (at + length os))
     ∙ ap (λ (fs : Fields). Ok fs) (append_none fs)

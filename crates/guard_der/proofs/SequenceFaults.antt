@@ -12,18 +12,17 @@ use Rattle.guard_model.specs.AbstractType.{AbstractType, AbstractKind, AbstractP
 use Rattle.guard_model.specs.AbstractValue as value
 use Rattle.guard_model.specs.AbstractValue.{AbstractValue, Fields}
 use Rattle.guard_tagcheck.specs.FirstTags.{begins_with}
-use Rattle.guard_tagcheck.specs.Limits.{nesting, deepest, count}
+use Rattle.guard_tagcheck.specs.Limits.{nesting, deepest}
 use Rattle.guard_der.specs.declared.breach.Code.{Code}
 use Rattle.guard_der.specs.declared.breach.Code.TheVariants as code
 use Rattle.guard_der.specs.Head.{Head, head_of}
 use Rattle.guard_der.specs.Der.{der, contents_octets, is_left_out}
 use Rattle.guard_der.specs.Fits.{fits, fits_fields, fits_kind}
-use Rattle.guard_der.specs.Sound.{is_proper, is_proper_presence, are_proper, is_mandatory}
+use Rattle.guard_der.specs.Sound.{is_proper, is_proper_presence, are_proper}
 use Rattle.guard_der.proofs.Distinctness.{optional_differ}
 use Rattle.guard_der.specs.Breach.{AbstractBreach, Faulty, NotDue, FaultInPart, FaultInSent, FaultInContents, SequenceFault, first_components, other_components, last_is_sent, next_with, next_mandatory, is_found, here, after, below}
 use Rattle.guard_der.specs.Reading.{element_at, contents_at, fields_at, fields_read, end_at, component_at, missing_at, not_sent, field_before, due_at, fault}
-use Rattle.guard_der.proofs.Results.{ok_is, chosen}
-use Rattle.guard_der.proofs.Steps.{some_is, err_is, bind_err, due_err, due_err_again, due_path, moved, fault_after, after_after, head_is}
+use Rattle.guard_der.proofs.Steps.{due_err, due_err_again, due_path, moved, fault_after, after_after, head_is}
 use Rattle.guard_der.proofs.Digits.{AreDigits}
 use Rattle.guard_der.proofs.Fields.{digits_drop}
 use Rattle.guard_der.proofs.Headers.{head_room}
@@ -31,6 +30,11 @@ use Rattle.guard_der.proofs.Lawful.{LawfulBody, Found}
 use Rattle.guard_der.proofs.Parts.{LawfulType, AllLawful}
 use Rattle.guard_der.proofs.ComponentSteps.{Unsent, ComponentOk, ComponentErr, component_ok, component_err, component_skips, component_ends, component_bad, component_strays, component_fails, sent_fails, sent_default, skips_optional, optional_skips, none_stands}
 use Rattle.guard_der.proofs.Sequence.{Sends, sends_contents, contents_sends, sent_first, unsent_first, none_sent, fields_takes, fields_again, through, prefixed}
+use Rattle.guard_model.specs.Counts.{component_count}
+use Rattle.guard_tagcheck.specs.Search.{is_mandatory}
+use Rattle.guard_model.proofs.Results.{same_Ok, same_Err, bind_err}
+use Rattle.guard_model.proofs.Tests.{chosen}
+use Rattle.std.proofs.lemmas.Option.{same_Some}
 
 -- the element of one of these components is at fault
 abbrev SentHere : Components → ℕ → Faulty
@@ -103,7 +107,7 @@ extend i name t presence cs Sent os c optional (inr (g, stands, other)) (inr (in
 
 record FoundAt (i : ℕ) (cs : Components) (Sent : ℕ → Faulty) (at : ℕ) (os : List ℕ) (b : AbstractBreach) : Type 0 where
   passed : ℕ
-  within : passed ≤ count cs
+  within : passed ≤ component_count cs
   fields : Fields
   front : List ℕ
   rest : List ℕ
@@ -149,7 +153,7 @@ last_sent : (name : List ℕ) (t : AbstractType) (presence : AbstractPresence) (
 last_sent name t presence no_components v fs kept e = ap not kept
 last_sent name t presence (component name2 u p cs) v fs kept e = e
 
-last_more : (name : List ℕ) (t : AbstractType) (presence : AbstractPresence) (k : ℕ) (cs : Components) (f : Option AbstractValue) (fs : Fields) → 1 ≤ k → k ≤ count cs → last_is_sent (first_components k cs) fs ≡ true
+last_more : (name : List ℕ) (t : AbstractType) (presence : AbstractPresence) (k : ℕ) (cs : Components) (f : Option AbstractValue) (fs : Fields) → 1 ≤ k → k ≤ component_count cs → last_is_sent (first_components k cs) fs ≡ true
     → last_is_sent (component name t presence (first_components k cs)) (field_before f fs) ≡ true
 last_more name t presence zero cs f fs some within e = absurd (omega (arith, some))
 last_more name t presence (suc k) no_components f fs some within e = absurd (omega (arith, within))
@@ -186,7 +190,7 @@ passed_sent i name t presence cs Sent at os b v n room fit kept encoded f =
 
 passed_by : (i : ℕ) (name : List ℕ) (t : AbstractType) (presence : AbstractPresence) (cs : Components) (Sent : ℕ → Faulty) (at : ℕ) (os : List ℕ) (b m : AbstractBreach) (x : Option AbstractValue) (k : ℕ) (fs : Fields) (front rest : List ℕ) (inner : AbstractBreach)
     → is_proper_presence t presence ≡ true → not_sent_is presence m x → Unsent (λ tag. begins_with t tag) os
-    → k ≤ count cs → os ≡ front ++ rest → fits_fields (first_components k cs) fs ≡ true → Sends (first_components k cs) fs front → last_is_sent (first_components k cs) fs ≡ true
+    → k ≤ component_count cs → os ≡ front ++ rest → fits_fields (first_components k cs) fs ≡ true → Sends (first_components k cs) fs front → last_is_sent (first_components k cs) fs ≡ true
     → SequenceFault (suc i + k) (other_components k cs) Sent rest inner → b ≡ after (at + length front) inner → FoundAt i (component name t presence cs) Sent at os b
 passed_by i name t presence cs Sent at os b m x zero fs front rest inner proper skip unsent within parts fit sends last found seen =
     let nothing = none_sent fs front fit sends in
@@ -303,7 +307,7 @@ not_found false true i later e = (refl, λ f. absurd (true≢false f))
 not_found false false i later e = (refl, λ f. e)
 
 split_next : (begins mandatory : Bool) (i j : ℕ) (later : Option ℕ) → cond begins (Some i) (cond mandatory None later) ≡ Some j → ((begins ≡ true) × (i ≡ j)) ⊎ ((begins ≡ false) × (mandatory ≡ false) × (later ≡ Some j))
-split_next true mandatory i j later e = inl (refl, some_is i j e)
+split_next true mandatory i j later e = inl (refl, same_Some i j e)
 split_next false true i j later e = absurd cc
 split_next false false i j later e = inr (refl, refl, e)
 
@@ -319,7 +323,7 @@ place_found j no_components Sent at os c take laws (inr (inr (h, m, d, e, next, 
 place_found j (component name t presence cs) Sent at os c take laws (inl (m, empty, next, is)) =
     elim (chosen (is_mandatory presence) (Some j) (next_mandatory (suc j) cs) (Some m) next) [
       | inl (mandatory, here_is) ↦
-          let same : j ≡ m = some_is j m here_is in
+          let same : j ≡ m = same_Some j m here_is in
           first_fails j name t presence cs at os (after at c)
           (ap (component_at j presence (λ tag. begins_with t tag) (element_at t) at) empty ∙ component_ends j presence (λ tag. begins_with t tag) (element_at t) at mandatory
           ∙ ap (λ (b : AbstractBreach). Err b) (moved (missing_at j at) at (at + 0) (omega arith) ∙ ap (λ (k : ℕ). after at (below (Component k) (here code.MissingComponent))) same ∙ ap (after at) (sym is)))
@@ -363,12 +367,12 @@ other_sent (suc k) (component name t presence cs) m os c sent =
 -- ---- the law of a SEQUENCE's contents
 
 fields_ok : (r : Result Fields AbstractBreach) (v : AbstractValue) → fields_read r ≡ Ok v → (fs : Fields) × (r ≡ Ok fs) × (value.fields fs ≡ v)
-fields_ok (Ok fs) v e = (fs, refl, ok_is {F = AbstractBreach} (value.fields fs) v e)
+fields_ok (Ok fs) v e = (fs, refl, same_Ok {F = AbstractBreach} (value.fields fs) v e)
 fields_ok (Err b) v e = absurd cc
 
 pub fields_err : (r : Result Fields AbstractBreach) (b : AbstractBreach) → fields_read r ≡ Err b → r ≡ Err b
 fields_err (Ok fs) b e = absurd cc
-fields_err (Err c) b e = ap (λ (c : AbstractBreach). Err c) (err_is {A = AbstractValue} c b e)
+fields_err (Err c) b e = ap (λ (c : AbstractBreach). Err c) (same_Err {A = AbstractValue} c b e)
 
 untagged_nesting : (kind : AbstractKind) (cons : Constraints) → is_proper (type_of [] kind cons) ≡ true → 1 ≤ nesting (type_of [] kind cons)
 untagged_nesting (type.choice cs) cons e = omega arith

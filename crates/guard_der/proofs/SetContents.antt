@@ -17,8 +17,7 @@ use Rattle.guard_der.specs.Fits.{fits_kind, fits_alternative}
 use Rattle.guard_der.specs.Sound.{are_proper}
 use Rattle.guard_der.specs.Breach.{AbstractBreach, FaultInPart, FaultInSent, FaultInContents, SendsDefault, SetFault, one_with, is_found, is_after, is_sent, missing, fits_partly, here, after, below}
 use Rattle.guard_der.specs.Reading.{all_absent, is_filled, presence_at, follows, member_at, completed, set_at, part_at, contents_at, fields_read, missing_at, fault}
-use Rattle.guard_der.proofs.Results.{ok_is}
-use Rattle.guard_der.proofs.Steps.{some_is, option_parts, moved, fault_after, after_after, head_is}
+use Rattle.guard_der.proofs.Steps.{option_parts, moved, fault_after, after_after, head_is}
 use Rattle.guard_der.proofs.Digits.{AreDigits}
 use Rattle.guard_der.proofs.ComponentSteps.{none_stands}
 use Rattle.guard_der.proofs.Lawful.{LawfulBody, Found}
@@ -30,6 +29,8 @@ use Rattle.guard_der.proofs.SetTraces.{Entry, slots, last_tag, octets_read, IsTr
 use Rattle.guard_der.proofs.SetSteps.{MemberErr, member_err, member_bad, member_strays, member_fails, member_default, place_free, place_unknown, place_descends, place_full}
 use Rattle.guard_der.proofs.SetReading.{through, well, badly, rest_at, FaultHere}
 use Rattle.guard_der.proofs.SetPaths.{set_shallow}
+use Rattle.guard_model.proofs.Results.{same_Ok}
+use Rattle.std.proofs.lemmas.Option.{same_Some}
 
 abbrev Sent : Components → ℕ → List ℕ → AbstractBreach → Type 0
 Sent cs j os c = FaultInSent cs (λ j os c. FaultInPart cs j os c) j os c
@@ -40,7 +41,7 @@ set_octets : (cs : Components) (fs : Fields) (ps : List Part) (octets : List ℕ
 set_octets cs fs ps octets e is = rw e (ap (λ (os : List ℕ). Some os) is)
 
 octets_set : (cs : Components) (fs : Fields) (octets : List ℕ) → contents_octets (type.set cs) (value.fields fs) ≡ Some octets → (ps : List Part) × (parts_of cs fs ≡ Some ps) × (parts_joined (ascending ps) ≡ octets)
-octets_set cs fs octets e = let a = option_parts (parts_of cs fs) (λ ps. Some (parts_joined (ascending ps))) octets e in (a.0, a.1, some_is (parts_joined (ascending a.0)) octets a.2)
+octets_set cs fs octets e = let a = option_parts (parts_of cs fs) (λ ps. Some (parts_joined (ascending ps))) octets e in (a.0, a.1, same_Some (parts_joined (ascending a.0)) octets a.2)
 
 -- the elements as which fields are sent, and their octets
 record Elements (cs : Components) (fs : Fields) (ps : List Part) (octets : List ℕ) : Type 0 where
@@ -55,7 +56,7 @@ elements cs fs ps octets laws distinct fit e is =
     let sent : parts_of cs (sent_only cs fs) ≡ Some ps = sent_parts cs fs ∙ e in
     let t = traced cs (sent_only cs fs) ps laws distinct (sent_fits cs fs fit) (sent_all cs fs) sent in
     let r = reached cs t.entries t.trace in
-    let same : r.parts ≡ ps = some_is r.parts ps (sym r.parts_are ∙ ap (parts_of cs) t.are ∙ sent) in
+    let same : r.parts ≡ ps = same_Some r.parts ps (sym r.parts_are ∙ ap (parts_of cs) t.are ∙ sent) in
     record {
       entries = t.entries;
       trace = t.trace;
@@ -188,7 +189,7 @@ place_found n cs es fs ps at os c laws enough held (inr (inr (h, j, e, found, in
 -- ---- the law of a SET's contents
 
 fields_ok : (r : Result Fields AbstractBreach) (v : AbstractValue) → fields_read r ≡ Ok v → (fs : Fields) × (r ≡ Ok fs) × (value.fields fs ≡ v)
-fields_ok (Ok fs) v e = (fs, refl, ok_is {F = AbstractBreach} (value.fields fs) v e)
+fields_ok (Ok fs) v e = (fs, refl, same_Ok {F = AbstractBreach} (value.fields fs) v e)
 fields_ok (Err b) v e = absurd cc
 
 set_takes : (cs : Components) → AllLawful cs → are_proper cs ≡ true → (at start : ℕ) (os : List ℕ) (v : AbstractValue) → AreDigits 256 os → length os < 2 ^ 32 → contents_at (type.set cs) at start os ≡ Ok v
@@ -230,7 +231,7 @@ set_found : (cs : Components) → AllLawful cs → all_differ cs ≡ true → (a
 unfolding contents_at
 set_found cs laws distinct at size os c (fs, ps, front, rest, d, parts, (fit, sent, encoded), found, is) =
     let o = octets_set cs fs front encoded in
-    let same : o.0 ≡ ps = some_is o.0 ps (sym o.1 ∙ sent) in
+    let same : o.0 ≡ ps = same_Some o.0 ps (sym o.1 ∙ sent) in
     let joined : parts_joined (ascending ps) ≡ front = ap (λ (ps : List Part). parts_joined (ascending ps)) (sym same) ∙ o.2 in
     let t = elements cs fs ps front laws distinct fit sent joined in
     let all : octets_read t.entries ++ rest ≡ os = ap (λ (x : List ℕ). x ++ rest) t.octets_are ∙ sym parts in

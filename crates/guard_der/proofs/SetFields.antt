@@ -1,7 +1,7 @@
 -- The components of a SET that are sent, and those that are filled one by one.
 use Rattle.std.proofs.Common.{◌≡◌, ℕ, zero, suc, Bool, true, false, cond, List, [], ◌∷◌, ◌++◌, Option, Some, None, Ok, Err, refl, sym, ap, subst, ◌∙◌, inl, inr}
 use Rattle.std.specs.Prelude.{◌&&◌, not}
-use Rattle.std.proofs.lemmas.Bool.{cond-true, cond-false, and_parts, and_from}
+use Rattle.std.proofs.lemmas.Bool.{cond-true, cond-false, and_parts, and_from, not-true}
 use Rattle.guard_model.specs.Answer.{◌>>=◌}
 use Rattle.guard_model.specs.declared.tag.Tag.{Tag}
 use Rattle.guard_model.specs.AbstractType as type
@@ -11,12 +11,15 @@ use Rattle.guard_model.specs.AbstractValue.{AbstractValue, Fields}
 use Rattle.guard_model.proofs.Sameness.{equal_values, same_itself}
 use Rattle.guard_der.specs.Der.{Part, der, outermost, outermost_alternative, alternative_octets, parts_of, is_left_out, part_unless}
 use Rattle.guard_der.specs.Fits.{fits, fits_fields, fits_alternative, may_be_absent}
-use Rattle.guard_der.specs.Sound.{is_proper, is_proper_presence, are_proper, is_mandatory, is_short}
+use Rattle.guard_der.specs.Sound.{is_proper, is_proper_presence, are_proper, is_short}
 use Rattle.guard_der.specs.Breach.{AbstractBreach, fits_partly, is_sent, missing}
 use Rattle.guard_der.specs.Reading.{all_absent, is_filled, fill, presence_at, settled, completed, not_sent, missing_at, field_before}
-use Rattle.guard_der.proofs.Results.{bind_ok, ok_is, chosen}
-use Rattle.guard_der.proofs.Steps.{some_is, err_is, bind, option_parts, bind_err}
+use Rattle.guard_der.proofs.Steps.{bind, option_parts}
 use Rattle.guard_der.proofs.ComponentSteps.{wanting_again, optional_skips}
+use Rattle.guard_tagcheck.specs.Search.{is_mandatory}
+use Rattle.guard_model.proofs.Results.{bind_ok, same_Ok, same_Err, bind_err}
+use Rattle.guard_model.proofs.Tests.{chosen}
+use Rattle.std.proofs.lemmas.Option.{same_Some}
 
 -- each value that is there is sent
 abbrev pub all_sent : Components → Fields → Bool
@@ -106,16 +109,12 @@ sent_filled (suc j) (component name t presence rest) (value.present v fs) e =
 sent_filled zero (component name t presence rest) (value.absent fs) e = refl
 sent_filled (suc j) (component name t presence rest) (value.absent fs) e = sent_filled j rest fs e
 
-was_false : (b : Bool) → not b ≡ true → b ≡ false
-was_false true e = absurd cc
-was_false false e = refl
-
 pub sent_already : (cs : Components) (fs : Fields) → all_sent cs fs ≡ true → sent_only cs fs ≡ fs
 sent_already no_components fs e = refl
 sent_already (component name t presence rest) value.no_fields e = refl
 sent_already (component name t presence rest) (value.present v fs) e =
     let p = and_parts (not (is_left_out presence v)) (all_sent rest fs) e in
-    cond-false (is_left_out presence v) _ _ (was_false (is_left_out presence v) p.0) ∙ ap (value.present v) (sent_already rest fs p.1)
+    cond-false (is_left_out presence v) _ _ (not-true (is_left_out presence v) p.0) ∙ ap (value.present v) (sent_already rest fs p.1)
 sent_already (component name t presence rest) (value.absent fs) e = ap value.absent (sent_already rest fs e)
 
 pub partly : (cs : Components) (fs : Fields) → fits_fields cs fs ≡ true → fits_partly cs fs ≡ true
@@ -172,10 +171,10 @@ unsent_field : (name : List ℕ) (t : AbstractType) (presence : AbstractPresence
     → (fits_fields (component name t presence rest) (field_before f fs) ≡ true) × (parts_of (component name t presence rest) (field_before f fs) ≡ parts_of rest fs)
 unsent_field name t type.mandatory rest f fs b proper skip fit = absurd cc
 unsent_field name t type.pending rest f fs b proper skip fit = absurd cc
-unsent_field name t type.optional rest f fs b proper skip fit = rw (← ok_is {F = AbstractBreach} None f skip) (fit, refl)
+unsent_field name t type.optional rest f fs b proper skip fit = rw (← same_Ok {F = AbstractBreach} None f skip) (fit, refl)
 unsent_field name t (type.default d) rest f fs b proper skip fit =
     let p = (and_parts (fits t d) (is_short (der t d)) proper).0 in
-    rw (← ok_is {F = AbstractBreach} (Some d) f skip) (and_from (fits t d) (fits_fields rest fs) p fit, ap (λ (left : Bool). part_unless left (outermost t d) (der t d) (parts_of rest fs)) (same_itself d))
+    rw (← same_Ok {F = AbstractBreach} (Some d) f skip) (and_from (fits t d) (fits_fields rest fs) p fit, ap (λ (left : Bool). part_unless left (outermost t d) (der t d) (parts_of rest fs)) (same_itself d))
 
 abbrev Whole : Components → Fields → Fields → Type 0
 Whole cs gs fs = (fits_fields cs fs ≡ true) × (parts_of cs fs ≡ parts_of cs gs)
@@ -183,7 +182,7 @@ Whole cs gs fs = (fits_fields cs fs ≡ true) × (parts_of cs fs ≡ parts_of cs
 -- what is completed fits, and nothing more is sent
 pub completed_takes : (i : ℕ) (cs : Components) (gs : Fields) (at : ℕ) (fs : Fields) → are_proper cs ≡ true → fits_partly cs gs ≡ true → completed i cs gs at ≡ Ok fs → (fits_fields cs fs ≡ true) × (parts_of cs fs ≡ parts_of cs gs)
 unfolding completed
-completed_takes i no_components value.no_fields at fs proper fit e = subst (λ (fs : Fields). Whole no_components value.no_fields fs) (ok_is {F = AbstractBreach} value.no_fields fs e) (refl, refl)
+completed_takes i no_components value.no_fields at fs proper fit e = subst (λ (fs : Fields). Whole no_components value.no_fields fs) (same_Ok {F = AbstractBreach} value.no_fields fs e) (refl, refl)
 completed_takes i no_components (value.present v gs) at fs proper fit e = absurd cc
 completed_takes i no_components (value.absent gs) at fs proper fit e = absurd cc
 completed_takes i (component name t presence rest) value.no_fields at fs proper fit e = absurd cc
@@ -192,7 +191,7 @@ completed_takes i (component name t presence rest) (value.present v gs) at fs pr
     let q = and_parts (fits t v) (fits_partly rest gs) fit in
     let a = bind_ok (completed (suc i) rest gs at) (λ gs. Ok (field_before (Some v) gs)) fs e in
     let others = completed_takes (suc i) rest gs at a.0 p.1 q.1 a.1 in
-    subst (λ (fs : Fields). Whole (component name t presence rest) (value.present v gs) fs) (ok_is {F = AbstractBreach} (value.present v a.0) fs a.2)
+    subst (λ (fs : Fields). Whole (component name t presence rest) (value.present v gs) fs) (same_Ok {F = AbstractBreach} (value.present v a.0) fs a.2)
     (and_from (fits t v) (fits_fields rest a.0) q.0 others.0, ap (part_unless (is_left_out presence v) (outermost t v) (der t v)) others.1)
 completed_takes i (component name t presence rest) (value.absent gs) at fs proper fit e =
     let p = and_parts (is_proper t && is_proper_presence t presence) (are_proper rest) proper in
@@ -201,10 +200,10 @@ completed_takes i (component name t presence rest) (value.absent gs) at fs prope
     let b = bind_ok (completed (suc i) rest gs at) (λ gs. Ok (field_before a.0 gs)) fs a.2 in
     let others = completed_takes (suc i) rest gs at b.0 p.1 fit b.1 in
     let one = unsent_field name t presence rest a.0 b.0 (missing_at i at) q.1 a.1 others.0 in
-    subst (λ (fs : Fields). Whole (component name t presence rest) (value.absent gs) fs) (ok_is {F = AbstractBreach} (field_before a.0 b.0) fs b.2) (one.0, one.1 ∙ others.1)
+    subst (λ (fs : Fields). Whole (component name t presence rest) (value.absent gs) fs) (same_Ok {F = AbstractBreach} (field_before a.0 b.0) fs b.2) (one.0, one.1 ∙ others.1)
 
 settled_err : (presence : AbstractPresence) (b c : AbstractBreach) → not_sent presence b ≡ Err c → (is_mandatory presence ≡ true) × (b ≡ c)
-settled_err type.mandatory b c e = (refl, err_is {A = Option AbstractValue} b c e)
+settled_err type.mandatory b c e = (refl, same_Err {A = Option AbstractValue} b c e)
 settled_err type.optional b c e = absurd cc
 settled_err type.pending b c e = absurd cc
 settled_err (type.default d) b c e = absurd cc
@@ -245,7 +244,7 @@ completed_found i (component name t presence rest) value.no_fields at j e = absu
 completed_found i (component name t presence rest) (value.present v gs) at j e = rw (completed_found (suc i) rest gs at j e) refl
 completed_found i (component name t presence rest) (value.absent gs) at j e =
     elim (chosen (is_mandatory presence) (Some i) (missing (suc i) rest gs) (Some j) e) [
-      | inl (mandatory, is) ↦ rw (wanting_again presence (missing_at i at) mandatory) (ap (λ (k : ℕ). Err (missing_at k at)) (some_is i j is))
+      | inl (mandatory, is) ↦ rw (wanting_again presence (missing_at i at) mandatory) (ap (λ (k : ℕ). Err (missing_at k at)) (same_Some i j is))
       | inr (optional, later) ↦ let skip = optional_skips presence (missing_at i at) optional in rw (skip.1, completed_found (suc i) rest gs at j later) refl
     ]
 
@@ -309,7 +308,7 @@ between_first name t presence rest w j v octets gs ps false is e others =
     record {
       xs = part a.0 ∷ r.xs;
       ys = r.ys;
-      are = sym (some_is (part a.0 ∷ b.0) ps b.2) ∙ ap (λ (qs : List Part). part a.0 ∷ qs) r.are;
+      are = sym (same_Some (part a.0 ∷ b.0) ps b.2) ∙ ap (λ (qs : List Part). part a.0 ∷ qs) r.are;
       filled = ap (λ (b : Bool). part_unless b (outermost t w) (der t w) (parts_of rest (fill j v gs))) is ∙ both_sent (outermost t w) (der t w) (parts_of rest (fill j v gs)) a.0 (r.xs ++ part_from rest j v octets ∷ r.ys) a.1 r.filled;
     }
 

@@ -11,7 +11,7 @@ use Rattle.guard_model.specs.Tags.{class_rank}
 use Rattle.guard_model.specs.declared.tag.Tag.{Tag}
 use Rattle.guard_der.specs.Der.{Part, tag_before, insert_part, ascending, parts_joined}
 use Rattle.guard_der.specs.Breach.{is_after}
-use Rattle.guard_der.proofs.Elements.{same_is}
+use Rattle.guard_model.proofs.Tags.{equal_tags}
 
 -- ---- tags
 
@@ -78,7 +78,7 @@ not_after a b p = false_from_ne_true (tag_before b a) (λ e. not_both a b (befor
 pub only_same : (a b : Tag) → tag_before a b ≡ false → tag_before b a ≡ false → a ≡ b
 only_same a b p q =
     let l = level a b (not_before_is a b p) (not_before_is b a q) in
-    same_is a b (and_from (eqb (class_rank a.class) (class_rank b.class)) (eqb a.number b.number) (eq-eqb (class_rank a.class) (class_rank b.class) l.0) (eq-eqb a.number b.number l.1))
+    equal_tags a b (and_from (eqb (class_rank a.class) (class_rank b.class)) (eqb a.number b.number) (eq-eqb (class_rank a.class) (class_rank b.class) l.0) (eq-eqb a.number b.number l.1))
 
 -- ---- parts
 

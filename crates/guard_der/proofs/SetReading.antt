@@ -10,8 +10,6 @@ use Rattle.guard_der.specs.Der.{alternative_octets}
 use Rattle.guard_der.specs.Fits.{fits_alternative}
 use Rattle.guard_der.specs.Breach.{AbstractBreach}
 use Rattle.guard_der.specs.Reading.{all_absent, fill, follows, member_at, completed, set_at, part_at}
-use Rattle.guard_der.proofs.Results.{bind_ok}
-use Rattle.guard_der.proofs.Steps.{bind_err}
 use Rattle.guard_der.proofs.Digits.{AreDigits}
 use Rattle.guard_der.proofs.Fields.{digits_drop}
 use Rattle.guard_der.proofs.Headers.{head_room}
@@ -20,6 +18,7 @@ use Rattle.guard_der.proofs.Distinctness.{all_differ}
 use Rattle.guard_der.proofs.Parts.{AllLawful, part_lawful, with_tag, tag_again, within_fits}
 use Rattle.guard_der.proofs.SetTraces.{Entry, entry_tag, slots, last_tag, octets_read, IsNext, IsTrace}
 use Rattle.guard_der.proofs.SetSteps.{Member, MemberOk, member_ok, member_reads, place_free}
+use Rattle.guard_model.proofs.Results.{bind_ok, bind_err}
 
 -- ---- one element more
 

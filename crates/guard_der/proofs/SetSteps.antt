@@ -12,9 +12,9 @@ use Rattle.guard_der.specs.Head.{Head, head_of}
 use Rattle.guard_der.specs.Der.{is_left_out}
 use Rattle.guard_der.specs.Breach.{AbstractBreach, below, one_with}
 use Rattle.guard_der.specs.Reading.{Reader, fault, located, sent_at, follows, is_filled, presence_at, placed_at, member_at}
-use Rattle.guard_der.proofs.Results.{bind_ok, ok_is, chosen}
-use Rattle.guard_der.proofs.Steps.{err_is, bind_err}
 use Rattle.guard_der.proofs.ComponentSteps.{located_is, sent_ok, sent_err, sent_again, sent_fails, sent_default}
+use Rattle.guard_model.proofs.Results.{bind_ok, same_Ok, same_Err, bind_err}
+use Rattle.guard_model.proofs.Tests.{chosen}
 
 abbrev pub Member : Type 0
 Member = ℕ × AbstractValue × Head
@@ -46,20 +46,20 @@ placed_ok (Some i) gs before at tag j e =
     elim (chosen (follows before tag) (cond (is_filled i gs) (Err (fault code.UnexpectedTag at)) (Ok i)) (Err (below (Component i) (fault code.SetOrder at))) (Ok j) e) [
       | inl (after, more) ↦ elim (chosen (is_filled i gs) (Err (fault code.UnexpectedTag at)) (Ok i) (Ok j) more) [
         | inl (full, none) ↦ absurd cc
-        | inr (free, is) ↦ let same : i ≡ j = ok_is {F = AbstractBreach} i j is in (ap (λ (k : ℕ). Some k) same, after, ap (λ (k : ℕ). is_filled k gs) (sym same) ∙ free)
+        | inr (free, is) ↦ let same : i ≡ j = same_Ok {F = AbstractBreach} i j is in (ap (λ (k : ℕ). Some k) same, after, ap (λ (k : ℕ). is_filled k gs) (sym same) ∙ free)
       ]
       | inr (before, none) ↦ absurd cc
     ]
 
 placed_err : (found : Option ℕ) (gs : Fields) (before : Option Tag) (at : ℕ) (tag : Tag) (b : AbstractBreach) → placed found gs before at tag ≡ Err b → PlacedErr found gs before at tag b
-placed_err None gs before at tag b e = inl (refl, sym (err_is {A = ℕ} (fault code.UnexpectedTag at) b e))
+placed_err None gs before at tag b e = inl (refl, sym (same_Err {A = ℕ} (fault code.UnexpectedTag at) b e))
 placed_err (Some i) gs before at tag b e =
     elim (chosen (follows before tag) (cond (is_filled i gs) (Err (fault code.UnexpectedTag at)) (Ok i)) (Err (below (Component i) (fault code.SetOrder at))) (Err b) e) [
       | inl (after, more) ↦ elim (chosen (is_filled i gs) (Err (fault code.UnexpectedTag at)) (Ok i) (Err b) more) [
-        | inl (full, is) ↦ inr (inr (i, refl, after, full, sym (err_is {A = ℕ} (fault code.UnexpectedTag at) b is)))
+        | inl (full, is) ↦ inr (inr (i, refl, after, full, sym (same_Err {A = ℕ} (fault code.UnexpectedTag at) b is)))
         | inr (free, none) ↦ absurd cc
       ]
-      | inr (descends, is) ↦ inr (inl (i, refl, descends, sym (err_is {A = ℕ} (below (Component i) (fault code.SetOrder at)) b is)))
+      | inr (descends, is) ↦ inr (inl (i, refl, descends, sym (same_Err {A = ℕ} (below (Component i) (fault code.SetOrder at)) b is)))
     ]
 
 pub place_free : (cs : Components) (gs : Fields) (before : Option Tag) (at : ℕ) (tag : Tag) (j : ℕ) → one_with 0 cs tag ≡ Some j → follows before tag ≡ true → is_filled j gs ≡ false → placed_at cs gs before at tag ≡ Ok j
@@ -101,7 +101,7 @@ from_header cs read gs before at os h = placed_at cs gs before at h.tag >>= λ j
 
 located_fault : (at : ℕ) (r : Result Head Code) (b : AbstractBreach) → located at r ≡ Err b → (c : Code) × (r ≡ Err c) × (b ≡ fault c at)
 located_fault at (Ok x) b e = absurd cc
-located_fault at (Err c) b e = (c, refl, sym (err_is {A = Head} (fault c at) b e))
+located_fault at (Err c) b e = (c, refl, sym (same_Err {A = Head} (fault c at) b e))
 
 pub member_ok : (cs : Components) (read : ℕ → Reader) (gs : Fields) (before : Option Tag) (at : ℕ) (os : List ℕ) (x : Member) → member_at cs read gs before at os ≡ Ok x → MemberOk cs read gs before at os x
 unfolding member_at
@@ -112,7 +112,7 @@ member_ok cs read gs before at os x e =
     let p = placed_ok (one_with 0 cs a.0.tag) gs before at a.0.tag b.0 (sym (placed_is cs gs before at a.0.tag (one_with 0 cs a.0.tag) refl) ∙ b.1) in
     let s = sent_ok b.0 (presence_at b.0 cs) (read b.0) at a.0 os c.0 c.1 in
     let made : Member = (b.0, c.0, a.0) in
-    let same : made ≡ x = ok_is {F = AbstractBreach} made x c.2 in
+    let same : made ≡ x = same_Ok {F = AbstractBreach} made x c.2 in
     let given : MemberOk cs read gs before at os made = record { stands = located_is at (head_of os) a.0 a.1; found = p.0; after = p.1; free = p.2; gives = s.0; kept = s.1 } in
     rw (← same) given
 

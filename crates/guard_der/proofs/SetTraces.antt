@@ -1,7 +1,7 @@
 -- What was read of a SET, element by element, and what that says of its fields, its parts and its octets.
 use Rattle.std.proofs.Common.{◌≡◌, ℕ, zero, suc, ◌≤◌, Bool, true, false, List, [], ◌∷◌, ◌++◌, Option, Some, None, refl, sym, ap, ◌∙◌, arith, inl, inr}
 use Rattle.std.specs.Prelude.{◌&&◌, not, ◌⊎◌}
-use Rattle.std.proofs.lemmas.Bool.{and_parts, and_from, true≢false}
+use Rattle.std.proofs.lemmas.Bool.{and_parts, and_from, true≢false, not-true}
 use Rattle.guard_model.specs.declared.tag.Tag.{Tag}
 use Rattle.guard_model.specs.AbstractType.{AbstractType, AbstractPresence, Components, no_components, component}
 use Rattle.guard_model.specs.AbstractValue as value
@@ -11,11 +11,12 @@ use Rattle.guard_der.specs.Der.{Part, der, outermost, outermost_alternative, alt
 use Rattle.guard_der.specs.Fits.{fits, fits_alternative}
 use Rattle.guard_der.specs.Breach.{fits_partly, is_after}
 use Rattle.guard_der.specs.Reading.{all_absent, is_filled, fill, presence_at, follows}
-use Rattle.guard_der.proofs.Steps.{some_is, bind, option_parts}
+use Rattle.guard_der.proofs.Steps.{bind, option_parts}
 use Rattle.guard_der.proofs.Distinctness.{differs_from_all, all_differ}
 use Rattle.guard_der.proofs.Parts.{LawfulType, AllLawful, part_begins, part_lawful, differ_all, within_fits}
 use Rattle.guard_der.proofs.SetOrder.{only_same, after_on, after_between, joined_grows}
 use Rattle.guard_der.proofs.SetFields.{all_sent, absent_fits, absent_sent, absent_parts, filled_fits, filled_sent, filled_parts, both_sent, part_from}
+use Rattle.std.proofs.lemmas.Option.{same_Some}
 
 -- an element that was read: the place of its component, its value, its octets
 pub record Entry : Type 0 where
@@ -112,12 +113,8 @@ begins_first t v octets law fit e = let a = law.again 0 v octets [] fit e in ap 
 pub begins_part : (cs : Components) (j : ℕ) (v : AbstractValue) (octets : List ℕ) → AllLawful cs → fits_alternative cs j v ≡ true → alternative_octets cs j v ≡ Some octets → part_begins cs j (outermost_alternative cs j v) ≡ true
 begins_part cs j v octets laws fit e = let a = (part_lawful cs j laws (within_fits cs j v fit)).again 0 v octets [] fit e in ap (part_begins cs j) (sym a.tag_is) ∙ a.due
 
-was_false : (b : Bool) → not b ≡ true → b ≡ false
-was_false true e = absurd cc
-was_false false e = refl
-
 no_parts : (cs : Components) (gs : Fields) (ps : List Part) → gs ≡ all_absent cs → parts_of cs gs ≡ Some ps → ps ≡ []
-no_parts cs gs ps none e = some_is ps [] (sym e ∙ ap (parts_of cs) none ∙ absent_parts cs)
+no_parts cs gs ps none e = same_Some ps [] (sym e ∙ ap (parts_of cs) none ∙ absent_parts cs)
 
 by_order : (t : AbstractType) (x y : Tag) (b : Bool) → begins_with t x ≡ true → begins_with t y ≡ false → tag_before x y ≡ false → tag_before y x ≡ b → b ≡ true
 by_order t x y true own other before e = refl
@@ -150,7 +147,7 @@ choose name t presence rest v gs first ps law laws distinct fit kept encoded fit
     let own : begins_with t (outermost t v) ≡ true = begins_first t v first law fit encoded in
     let less : tag_before (entry_tag rest g.entry) (outermost t v) ≡ true = less_of t (outermost t v) (entry_tag rest g.entry) own other before in
     let b = filled_parts rest g.entry.place g.entry.value g.entry.octets g.others g.parts g.parts_are g.free g.kept g.encoded in
-    let parts : ps ≡ b.xs ++ part_from rest g.entry.place g.entry.value g.entry.octets ∷ b.ys = some_is ps _ (sym e ∙ ap (parts_of rest) g.is ∙ b.filled) in
+    let parts : ps ≡ b.xs ++ part_from rest g.entry.place g.entry.value g.entry.octets ∷ b.ys = same_Some ps _ (sym e ∙ ap (parts_of rest) g.is ∙ b.filled) in
     let lower : is_after (entry_tag rest g.entry) (b.xs ++ b.ys) ≡ true = ap (is_after (entry_tag rest g.entry)) (sym b.are) ∙ g.after in
     record {
       entry = record { place = 0; value = v; octets = first };
@@ -218,7 +215,7 @@ greatest (component name t presence rest) (value.present v gs) ps laws distinct 
     let d = and_parts (differs_from_all t rest) (all_differ rest) distinct in
     let f = and_parts (fits t v) (fits_partly rest gs) fit in
     let s = and_parts (not (is_left_out presence v)) (all_sent rest gs) sent in
-    let kept = was_false (is_left_out presence v) s.0 in
+    let kept = not-true (is_left_out presence v) s.0 in
     let part : List ℕ → Part = λ os. record { tag = outermost t v; octets = os } in
     let a = option_parts (der t v) (λ os. bind (parts_of rest gs) (λ ps. Some (part os ∷ ps))) ps (sym (ap (λ (left : Bool). part_unless left (outermost t v) (der t v) (parts_of rest gs)) kept) ∙ e) in
     let b = option_parts (parts_of rest gs) (λ ps. Some (part a.0 ∷ ps)) ps a.2 in
@@ -236,7 +233,7 @@ pub record Traced (cs : Components) (gs : Fields) : Type 0 where
 one_more : (cs : Components) (gs : Fields) (g : Greatest cs gs) → Traced cs g.others → Traced cs gs
 one_more cs gs g t =
     let r = reached cs t.entries t.trace in
-    let parts : r.parts ≡ g.parts = some_is r.parts g.parts (sym r.parts_are ∙ ap (parts_of cs) t.are ∙ g.parts_are) in
+    let parts : r.parts ≡ g.parts = same_Some r.parts g.parts (sym r.parts_are ∙ ap (parts_of cs) t.are ∙ g.parts_are) in
     record {
       entries = g.entry ∷ t.entries;
       trace = (

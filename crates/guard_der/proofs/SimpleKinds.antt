@@ -18,12 +18,13 @@ use Rattle.guard_der.specs.Fits.{fits_kind, fits_128_bits, all_below, is_item, h
 use Rattle.guard_der.specs.Simple.{simple_fault, simple_value, integer_fault, are_subidentifiers, subidentifiers, arcs_of, is_text, characters_of}
 use Rattle.guard_der.specs.Breach.{AbstractBreach, FaultInSimple, here, after}
 use Rattle.guard_der.specs.Reading.{simple_at, unless_fault, fault}
-use Rattle.guard_der.proofs.Results.{ok_is}
-use Rattle.guard_der.proofs.Steps.{some_is, err_is, fault_after}
+use Rattle.guard_der.proofs.Steps.{fault_after}
 use Rattle.guard_der.proofs.Digits.{AreDigits}
 use Rattle.guard_der.proofs.Integers.{integer_takes, integer_again}
 use Rattle.guard_der.proofs.Subidentifiers.{takes_start, again_all, base_some}
 use Rattle.guard_der.proofs.Lawful.{LawfulBody, Found}
+use Rattle.guard_model.proofs.Results.{same_Ok, same_Err}
+use Rattle.std.proofs.lemmas.Option.{same_Some}
 
 pub record SimpleLaw (kind : AbstractKind) : Type 0 where
   pub takes : (os : List ℕ) → AreDigits 256 os → simple_fault kind os ≡ None → IsTrue (fits_kind kind (simple_value kind os)) × (contents_octets kind (simple_value kind os) ≡ Some os)
@@ -32,7 +33,7 @@ pub record SimpleLaw (kind : AbstractKind) : Type 0 where
 -- ---- what reading makes of it
 
 read_ok : (f : Option Code) (at : ℕ) (x v : AbstractValue) → unless_fault at f x ≡ Ok v → (f ≡ None) × (x ≡ v)
-read_ok None at x v e = (refl, ok_is {F = AbstractBreach} x v e)
+read_ok None at x v e = (refl, same_Ok {F = AbstractBreach} x v e)
 read_ok (Some c) at x v e = absurd cc
 
 read_again : (f : Option Code) (at : ℕ) (x v : AbstractValue) → f ≡ None → x ≡ v → unless_fault at f x ≡ Ok v
@@ -41,11 +42,11 @@ read_again (Some c) at x v e is = absurd cc
 
 read_err : (f : Option Code) (at : ℕ) (x : AbstractValue) (b : AbstractBreach) → unless_fault at f x ≡ Err b → (c : Code) × (f ≡ Some c) × (b ≡ fault c at)
 read_err None at x b e = absurd cc
-read_err (Some c) at x b e = (c, refl, sym (err_is {A = AbstractValue} (fault c at) b e))
+read_err (Some c) at x b e = (c, refl, sym (same_Err {A = AbstractValue} (fault c at) b e))
 
 read_err_again : (f : Option Code) (at : ℕ) (x : AbstractValue) (c : Code) → f ≡ Some c → unless_fault at f x ≡ Err (fault c at)
 read_err_again None at x c e = absurd cc
-read_err_again (Some d) at x c e = ap (λ (c : Code). Err (fault c at)) (some_is d c e)
+read_err_again (Some d) at x c e = ap (λ (c : Code). Err (fault c at)) (same_Some d c e)
 
 simple_takes : (kind : AbstractKind) → SimpleLaw kind → (at start : ℕ) (os : List ℕ) (v : AbstractValue) → AreDigits 256 os → length os < 2 ^ 32 → simple_at kind at start os ≡ Ok v → IsTrue (fits_kind kind v) × (contents_octets kind v ≡ Some os)
 unfolding simple_at
@@ -104,7 +105,7 @@ boolean_bit true = (refl, refl)
 boolean_bit false = (refl, refl)
 
 boolean_again : (os : List ℕ) (v : AbstractValue) → IsTrue (fits_kind type.boolean v) → contents_octets type.boolean v ≡ Some os → (simple_fault type.boolean os ≡ None) × (simple_value type.boolean os ≡ v)
-boolean_again os (value.boolean b) fits e = rw (← some_is (boolean_octet b ∷ []) os e) (boolean_bit b)
+boolean_again os (value.boolean b) fits e = rw (← same_Some (boolean_octet b ∷ []) os e) (boolean_bit b)
 boolean_again os v fits e = absurd cc
 
 pub boolean_law : SimpleLaw type.boolean
@@ -115,7 +116,7 @@ null_takes [] digits e = (refl, refl)
 null_takes (o ∷ os) digits e = absurd cc
 
 null_again : (os : List ℕ) (v : AbstractValue) → IsTrue (fits_kind type.null v) → contents_octets type.null v ≡ Some os → (simple_fault type.null os ≡ None) × (simple_value type.null os ≡ v)
-null_again os value.null fits e = rw (← some_is [] os e) (refl, refl)
+null_again os value.null fits e = rw (← same_Some [] os e) (refl, refl)
 null_again os v fits e = absurd cc
 
 pub null_law : SimpleLaw type.null
@@ -126,7 +127,7 @@ all_octets [] digits = refl
 all_octets (o ∷ os) digits = and_from (ltb o 256) (all_below 256 os) (lt-ltb o 256 digits.0) (all_octets os digits.1)
 
 octets_again : (os : List ℕ) (v : AbstractValue) → IsTrue (fits_kind type.octet_string v) → contents_octets type.octet_string v ≡ Some os → (simple_fault type.octet_string os ≡ None) × (simple_value type.octet_string os ≡ v)
-octets_again os (value.octet_string x) fits e = (refl, ap value.octet_string (sym (some_is x os e)))
+octets_again os (value.octet_string x) fits e = (refl, ap value.octet_string (sym (same_Some x os e)))
 octets_again os v fits e = absurd cc
 
 pub octets_law : SimpleLaw type.octet_string
@@ -135,7 +136,7 @@ octets_law = record { takes = λ os digits e. (all_octets os digits, refl); agai
 -- ---- INTEGER, ENUMERATED
 
 integer_values : (ns : List NamedNumber) (os : List ℕ) (v : AbstractValue) → IsTrue (fits_kind (type.integer ns) v) → contents_octets (type.integer ns) v ≡ Some os → (simple_fault (type.integer ns) os ≡ None) × (simple_value (type.integer ns) os ≡ v)
-integer_values ns os (value.integer z) fits e = let a = integer_again z fits in rw (← some_is (signed_octets z) os e) (a.0, ap value.integer a.1)
+integer_values ns os (value.integer z) fits e = let a = integer_again z fits in rw (← same_Some (signed_octets z) os e) (a.0, ap value.integer a.1)
 integer_values ns os v fits e = absurd cc
 
 pub integer_law : (ns : List NamedNumber) → SimpleLaw (type.integer ns)
@@ -156,7 +157,7 @@ enumerated_values : (ns : List NamedNumber) (os : List ℕ) (v : AbstractValue) 
 enumerated_values ns os (value.enumerated z) fits e =
     let f = and_parts (fits_128_bits z) (is_item z ns) fits in
     let a = integer_again z f.0 in
-    rw (← some_is (signed_octets z) os e) (known_number (integer_fault (signed_octets z)) (is_item (twos_complement (signed_octets z)) ns) a.0 (rw a.1 f.1), ap value.enumerated a.1)
+    rw (← same_Some (signed_octets z) os e) (known_number (integer_fault (signed_octets z)) (is_item (twos_complement (signed_octets z)) ns) a.0 (rw a.1 f.1), ap value.enumerated a.1)
 enumerated_values ns os v fits e = absurd cc
 
 pub enumerated_law : (ns : List NamedNumber) → SimpleLaw (type.enumerated ns)
@@ -190,7 +191,7 @@ bits_again : (os : List ℕ) (v : AbstractValue) → IsTrue (fits_kind type.bit_
 bits_again os (value.bit_string x unused) fits e =
     let a = and_parts (all_below 256 x && has_proper_end x unused) (has_zero_end x unused) fits in
     let b = and_parts (all_below 256 x) (has_proper_end x unused) a.0 in
-    rw (← some_is (unused ∷ x) os e) (fine_end (has_proper_end x unused) (has_zero_end x unused) b.1 a.1, refl)
+    rw (← same_Some (unused ∷ x) os e) (fine_end (has_proper_end x unused) (has_zero_end x unused) b.1 a.1, refl)
 bits_again os v fits e = absurd cc
 
 pub bits_law : SimpleLaw type.bit_string
@@ -288,7 +289,7 @@ id_values os (value.object_identifier (x ∷ y ∷ arcs)) fits e =
     let a = arcs_again x y arcs fits in
     let n = again_all ((40 * x + y) ∷ arcs) a.0 in
     let some = some_octets (40 * x + y) (flat_map base_128 arcs) in
-    rw (← some_is (arcs_octets (x ∷ y ∷ arcs)) os e) (
+    rw (← same_Some (arcs_octets (x ∷ y ∷ arcs)) os e) (
       fine_id (not (eqb (length (arcs_octets (x ∷ y ∷ arcs))) 0) && are_subidentifiers true (arcs_octets (x ∷ y ∷ arcs))) (all_below (2 ^ 128) (subidentifiers 0 (arcs_octets (x ∷ y ∷ arcs))))
           (and_from (not (eqb (length (arcs_octets (x ∷ y ∷ arcs))) 0)) (are_subidentifiers true (arcs_octets (x ∷ y ∷ arcs))) some n.0) (rw n.1 a.0),
       rw n.1 (ap value.object_identifier a.1),
@@ -317,7 +318,7 @@ text_again Visible cs e = (e, refl)
 text_values : (k : CharKind) (os : List ℕ) (v : AbstractValue) → IsTrue (fits_kind (type.characters k) v) → contents_octets (type.characters k) v ≡ Some os → (simple_fault (type.characters k) os ≡ None) × (simple_value (type.characters k) os ≡ v)
 text_values k os (value.characters cs) fits e =
     let t = text_again k cs fits in
-    rw (← some_is (character_octets k cs) os e) (cond-true (is_text k (character_octets k cs)) _ _ t.0, ap value.characters t.1)
+    rw (← same_Some (character_octets k cs) os e) (cond-true (is_text k (character_octets k cs)) _ _ t.0, ap value.characters t.1)
 text_values k os v fits e = absurd cc
 
 pub text_law : (k : CharKind) → SimpleLaw (type.characters k)

@@ -12,16 +12,13 @@ use Rattle.guard_model.specs.ValueView.{value_view, field_view, fields_view}
 use Rattle.guard_model.specs.declared.value.Value.{Value}
 use Rattle.guard_model.specs.declared.ty.Comp.{Comp}
 use Rattle.guard_model.specs.declared.ty.Kind.TheViews.{out-Comp}
-use Rattle.guard_tagcheck.proofs.Components.{left, left_is, none_left}
 use Rattle.guard_der.specs.Breach.{AbstractBreach}
 use Rattle.guard_der.specs.Reading.{all_absent, is_filled, fill, settled, completed, missing_at, field_before}
 use Rattle.guard_der.proofs.Components.{with_front, regroup, followed_all}
+use Rattle.guard_model.proofs.Components.{left, left_is, none_left, in_view}
 
 abbrev pub Slots : Type 0
 Slots = List (Option Value)
-
-abbrev pub in_view : List Comp → Components
-in_view comps = components_of (map component_view comps)
 
 pub slots_absent : (comps : List Comp) → all_absent (in_view comps) ≡ fields_view (replicate (length comps) None)
 slots_absent [] = refl

@@ -5,24 +5,18 @@ use Rattle.std.proofs.lemmas.Bool.{le-leb, lt-leb}
 use Rattle.std.proofs.lemmas.List.{length-map}
 use Rattle.guard_model.specs.TypeView.{OneComponent, component_view, components_of}
 use Rattle.guard_model.specs.declared.ty.Comp.{Comp}
-use Rattle.guard_tagcheck.specs.Limits.{count}
 use Rattle.guard_der.specs.declared.encoding.EncodeFault.{EncodeFault}
 use Rattle.guard_der.specs.declared.encoding.EncodeFault.TheVariants.{TooLong}
 use Rattle.guard_der.specs.Encoding.{limited}
 use Rattle.guard_der.specs.Sound.{is_short}
+use Rattle.guard_model.specs.Counts.{component_count}
+use Rattle.guard_model.proofs.Components.{component_count_view}
 
-count_is : (cs : List OneComponent) → count (components_of cs) ≡ length cs
-count_is [] = refl
-count_is (c ∷ cs) = ap suc (count_is cs)
+pub many_components : (comps : List Comp) (proper : Bool) → 64 < length comps → false ≡ (nat_le (component_count (components_of (map component_view comps))) 64 && proper)
+many_components comps proper many = ap (λ (b : Bool). b && proper) (sym (lt-leb (component_count (components_of (map component_view comps))) 64 (omega (arith, component_count_view comps, many))))
 
-pub components_counted : (comps : List Comp) → count (components_of (map component_view comps)) ≡ length comps
-components_counted comps = count_is (map component_view comps) ∙ length-map comps component_view
-
-pub many_components : (comps : List Comp) (proper : Bool) → 64 < length comps → false ≡ (nat_le (count (components_of (map component_view comps))) 64 && proper)
-many_components comps proper many = ap (λ (b : Bool). b && proper) (sym (lt-leb (count (components_of (map component_view comps))) 64 (omega (arith, components_counted comps, many))))
-
-pub few_components : (comps : List Comp) (proper : Bool) → length comps ≤ 64 → proper ≡ (nat_le (count (components_of (map component_view comps))) 64 && proper)
-few_components comps proper few = ap (λ (b : Bool). b && proper) (sym (le-leb (count (components_of (map component_view comps))) 64 (omega (arith, components_counted comps, few))))
+pub few_components : (comps : List Comp) (proper : Bool) → length comps ≤ 64 → proper ≡ (nat_le (component_count (components_of (map component_view comps))) 64 && proper)
+few_components comps proper few = ap (λ (b : Bool). b && proper) (sym (le-leb (component_count (components_of (map component_view comps))) 64 (omega (arith, component_count_view comps, few))))
 
 -- ---- defaults
 

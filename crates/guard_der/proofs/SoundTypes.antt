@@ -4,12 +4,14 @@ use Rattle.std.specs.Prelude.{◌&&◌, nat_le}
 use Rattle.std.proofs.lemmas.Bool.{and_parts, and_from, false≢true}
 use Rattle.guard_model.specs.AbstractType as type
 use Rattle.guard_model.specs.AbstractType.{AbstractType, AbstractKind, Components, type_of, no_components, component}
-use Rattle.guard_tagcheck.specs.Limits.{nesting, count, components_in, every_part, every_component, is_formed, is_tagged, are_low, keeps_limits, is_within_limits}
+use Rattle.guard_tagcheck.specs.Limits.{nesting, every_part, every_component, is_formed, is_tagged, are_low, keeps_limits, is_within_limits}
 use Rattle.guard_tagcheck.specs.Distinct.{Distinct, IsClash, AbstractClash}
 use Rattle.guard_tagcheck.specs.Search.{first_clash}
 use Rattle.guard_tagcheck.proofs.Clashes.{type_none, type_some}
 use Rattle.guard_tagcheck.proofs.OneClash.{not_distinct}
 use Rattle.guard_der.specs.Sound.{is_sound, is_proper, is_proper_kind, are_proper, is_proper_presence, all_apply, none_clash}
+use Rattle.guard_model.specs.Counts.{component_count}
+use Rattle.guard_model.specs.Components.{components_in}
 
 mutual
   proper_limits : (t : AbstractType) → is_proper t ≡ true → keeps_limits t ≡ true
@@ -18,12 +20,12 @@ mutual
       let q = and_parts (is_tagged tags kind && are_low tags) (all_apply kind cons) p.0 in
       let r = and_parts (is_tagged tags kind) (are_low tags) q.0 in
       let k = kind_limits kind p.1 in
-      and_from (is_formed tags kind) (every_part (λ tags kind. is_formed tags kind) kind) (and_from (is_tagged tags kind) (nat_le (count (components_in kind)) 64) r.0 k.0) k.1
+      and_from (is_formed tags kind) (every_part (λ tags kind. is_formed tags kind) kind) (and_from (is_tagged tags kind) (nat_le (component_count (components_in kind)) 64) r.0 k.0) k.1
 
-  kind_limits : (kind : AbstractKind) → is_proper_kind kind ≡ true → (nat_le (count (components_in kind)) 64 ≡ true) × (every_part (λ tags kind. is_formed tags kind) kind ≡ true)
-  kind_limits (type.sequence cs) e = let p = and_parts (nat_le (count cs) 64) (are_proper cs) e in (p.0, all_limits cs p.1)
-  kind_limits (type.set cs) e = let p = and_parts (nat_le (count cs) 64) (are_proper cs) e in (p.0, all_limits cs p.1)
-  kind_limits (type.choice cs) e = let p = and_parts (nat_le (count cs) 64) (are_proper cs) e in (p.0, all_limits cs p.1)
+  kind_limits : (kind : AbstractKind) → is_proper_kind kind ≡ true → (nat_le (component_count (components_in kind)) 64 ≡ true) × (every_part (λ tags kind. is_formed tags kind) kind ≡ true)
+  kind_limits (type.sequence cs) e = let p = and_parts (nat_le (component_count cs) 64) (are_proper cs) e in (p.0, all_limits cs p.1)
+  kind_limits (type.set cs) e = let p = and_parts (nat_le (component_count cs) 64) (are_proper cs) e in (p.0, all_limits cs p.1)
+  kind_limits (type.choice cs) e = let p = and_parts (nat_le (component_count cs) 64) (are_proper cs) e in (p.0, all_limits cs p.1)
   kind_limits (type.sequence_of t) e = (refl, proper_limits t e)
   kind_limits (type.set_of t) e = (refl, proper_limits t e)
   kind_limits type.boolean e = (refl, refl)

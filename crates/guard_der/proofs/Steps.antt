@@ -10,21 +10,7 @@ use Rattle.guard_der.specs.declared.breach.Code.TheVariants as code
 use Rattle.guard_der.specs.Head.{Head, head_of}
 use Rattle.guard_der.specs.Breach.{AbstractBreach, NotDue, here, after, below}
 use Rattle.guard_der.specs.Reading.{due_at, fault, located, inside}
-use Rattle.guard_der.proofs.Results.{ok_is}
-
-pub some_is : {A : Type 0} (x y : A) → Some x ≡ Some y → x ≡ y
-some_is x y e = cc
-
-pub err_is : {A F : Type 0} (b c : F) → ◌≡◌ {A = Result A F} (Err b) (Err c) → b ≡ c
-err_is b c e = cc
-
-pub bind_err : {A B F : Type 0} (r : Result A F) (f : A → Result B F) (b : F) → (r >>= f) ≡ Err b → (r ≡ Err b) ⊎ ((x : A) × (r ≡ Ok x) × (f x ≡ Err b))
-bind_err (Ok x) f b e = inr (x, refl, e)
-bind_err (Err d) f b e = inl cc
-
-pub refuses_bind : {A B F : Type 0} (f : Option F) (r : Result A F) (k : A → Result B F) → Refuses f r → Refuses f (r >>= k)
-refuses_bind None r k e = tt
-refuses_bind (Some b) r k e = rw e refl
+use Rattle.guard_model.proofs.Results.{same_Ok, same_Err}
 
 abbrev pub bind : {A B : Type 0} → Option A → (A → Option B) → Option B
 bind None f = None
@@ -37,7 +23,7 @@ option_parts None f y e = absurd cc
 -- ---- an element that is due
 
 due_tag : (wanted : Tag → Bool) (at : ℕ) (x h : Head) (b : Bool) → wanted x.tag ≡ b → ◌≡◌ {A = Result Head AbstractBreach} (cond b (Ok x) (Err (fault code.UnexpectedTag at))) (Ok h) → (◌≡◌ {A = Result Head Code} (Ok x) (Ok h)) × (wanted h.tag ≡ true)
-due_tag wanted at x h true t e = let same : x ≡ h = ok_is {F = AbstractBreach} x h e in (ap (λ (x : Head). Ok x) same, rw (← same) t)
+due_tag wanted at x h true t e = let same : x ≡ h = same_Ok {F = AbstractBreach} x h e in (ap (λ (x : Head). Ok x) same, rw (← same) t)
 due_tag wanted at x h false t e = absurd cc
 
 -- an element that is due has a header with such a tag
@@ -56,12 +42,12 @@ due_again wanted at os h e t = rw (e, t) refl
 due_err_tag : (wanted : Tag → Bool) (at : ℕ) (x : Head) (b : AbstractBreach) (t : Bool) → wanted x.tag ≡ t → ◌≡◌ {A = Result Head AbstractBreach} (cond t (Ok x) (Err (fault code.UnexpectedTag at))) (Err b)
     → (c : Code) × ((◌≡◌ {A = Result Head Code} (Ok x) (Err c)) ⊎ ((h : Head) × (◌≡◌ {A = Result Head Code} (Ok x) (Ok h)) × (wanted h.tag ≡ false) × (c ≡ code.UnexpectedTag))) × (b ≡ fault c at)
 due_err_tag wanted at x b true t e = absurd cc
-due_err_tag wanted at x b false t e = (code.UnexpectedTag, inr (x, refl, t, refl), sym (err_is {A = Head} (fault code.UnexpectedTag at) b e))
+due_err_tag wanted at x b false t e = (code.UnexpectedTag, inr (x, refl, t, refl), sym (same_Err {A = Head} (fault code.UnexpectedTag at) b e))
 
 -- an element that isn't due: its header's fault, or its tag
 due_err_from : (wanted : Tag → Bool) (at : ℕ) (read : Result Head Code) (b : AbstractBreach) → (located at read >>= λ h. cond (wanted h.tag) (Ok h) (Err (fault code.UnexpectedTag at))) ≡ Err b
     → (c : Code) × ((read ≡ Err c) ⊎ ((h : Head) × (read ≡ Ok h) × (wanted h.tag ≡ false) × (c ≡ code.UnexpectedTag))) × (b ≡ fault c at)
-due_err_from wanted at (Err c) b e = (c, inl refl, sym (err_is {A = Head} (fault c at) b e))
+due_err_from wanted at (Err c) b e = (c, inl refl, sym (same_Err {A = Head} (fault c at) b e))
 due_err_from wanted at (Ok x) b e = due_err_tag wanted at x b (wanted x.tag) refl e
 
 pub due_err : (wanted : Tag → Bool) (at : ℕ) (os : List ℕ) (b : AbstractBreach) → due_at wanted at os ≡ Err b → (c : Code) × NotDue wanted os c × (b ≡ fault c at)
@@ -79,7 +65,7 @@ head_some [] h e = absurd cc
 head_some (o ∷ os) h e = ne_eqb (suc (length os)) 0 (λ e. absurd (omega (arith, e)))
 
 pub head_is : (os : List ℕ) (g h : Head) → head_of os ≡ Ok g → head_of os ≡ Ok h → g ≡ h
-head_is os g h e f = ok_is {F = Code} g h (sym e ∙ f)
+head_is os g h e f = same_Ok {F = Code} g h (sym e ∙ f)
 
 -- ---- faults seen from outside
 
@@ -89,7 +75,7 @@ inside_ok step (Err b) v e = absurd cc
 
 pub inside_err : {A : Type 0} (step : Step) (r : Result A AbstractBreach) (b : AbstractBreach) → inside step r ≡ Err b → (c : AbstractBreach) × (r ≡ Err c) × (b ≡ below step c)
 inside_err step (Ok x) b e = absurd cc
-inside_err {A} step (Err c) b e = (c, refl, sym (err_is {A = A} (below step c) b e))
+inside_err {A} step (Err c) b e = (c, refl, sym (same_Err {A = A} (below step c) b e))
 
 pub moved : (c : AbstractBreach) (m n : ℕ) → m ≡ n → ◌≡◌ {A = AbstractBreach} (record { code = c.code; at = m; path = c.path }) (record { code = c.code; at = n; path = c.path })
 moved c m n e = let at : ℕ → AbstractBreach = λ k. record { code = c.code; at = k; path = c.path } in ap at e

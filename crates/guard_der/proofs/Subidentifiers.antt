@@ -2,7 +2,7 @@
 use Rattle.std.proofs.Common.{◌≡◌, ℕ, suc, ◌+◌, ◌-◌, ◌*◌, ◌/◌, ◌%◌, ◌^◌, ◌<◌, ◌≤◌, Bool, true, false, cond, ltb, eqb, List, [], ◌∷◌, ◌++◌, length, refl, sym, ap, ◌∙◌, append_assoc, arith, inl, inr}
 use Rattle.std.specs.Prelude.{◌&&◌, not, flat_map}
 use Rattle.std.proofs.Math.Nat.{pow-succ', mul_assoc, pow-le-pow_right, pow-zero, mul-one}
-use Rattle.std.proofs.lemmas.Bool.{cond-true, cond-false, lt-ltb, le-ltb, ltb-true, ltb-false, eqb-false, ne_eqb, cases_lt, and_parts}
+use Rattle.std.proofs.lemmas.Bool.{cond-true, cond-false, lt-ltb, le-ltb, ltb-true, ltb-false, eqb-false, ne_eqb, cases_lt, and_parts, not-true}
 use Rattle.std.proofs.lemmas.Nat.{mul-le, div-add-mod'}
 use Rattle.std.proofs.lemmas.List.{map-append, length-append}
 use Rattle.guard_der.specs.Octets.{fewest, base_128}
@@ -32,10 +32,6 @@ few_digits a d ds some small =
           let power : 128 ^ 18 ≤ 128 ^ length ds = pow-le-pow_right {n = 128} (omega arith) {i = 18} {j = length ds} many in
           absurd (omega (arith, large, one, power, small))
     ]
-
-not_true : (b : Bool) → not b ≡ true → b ≡ false
-not_true true e = absurd cc
-not_true false e = refl
 
 single : (n : ℕ) → n < 128 → base_128 n ≡ n ∷ []
 unfolding base_128
@@ -98,7 +94,7 @@ both (o ∷ os) octets =
     let ih = both os octets.1 in (
       λ form below.
           let f = and_parts (not (eqb o 128)) (are_subidentifiers (ltb o 128) os) form in
-          started_step o os (ltb o 128) ih.0 ih.1 octets.0 refl (not_true (eqb o 128) f.0) f.1 below,
+          started_step o os (ltb o 128) ih.0 ih.1 octets.0 refl (not-true (eqb o 128) f.0) f.1 below,
       λ a ds some small digits form below. begun_step o os (ltb o 128) ih.0 ih.1 octets.0 refl a ds some small digits form below,
     )
 

@@ -7,11 +7,11 @@ use Rattle.guard_model.specs.declared.tag.Tag.{Tag}
 use Rattle.guard_model.specs.AbstractType as type
 use Rattle.guard_model.specs.AbstractType.{AbstractType, AbstractKind, Components, Constraints, type_of, no_components, component}
 use Rattle.guard_tagcheck.specs.FirstTags.{one_begins_with}
-use Rattle.guard_tagcheck.specs.Limits.{nesting_inside, deepest, count, is_tagged, are_low}
+use Rattle.guard_tagcheck.specs.Limits.{nesting_inside, deepest, is_tagged, are_low}
 use Rattle.guard_der.specs.Der.{contents_octets, outermost_inside, is_constructed}
 use Rattle.guard_der.specs.Fits.{fits_kind}
 use Rattle.guard_der.specs.Sound.{is_proper, is_proper_kind, are_proper, is_proper_presence, all_apply}
-use Rattle.guard_der.proofs.Distinctness.{all_differ, none_inside, no_pair, no_optional_pair, list_clash, part_clash}
+use Rattle.guard_der.proofs.Distinctness.{all_differ, no_pair, no_optional_pair, list_clash, part_clash}
 use Rattle.guard_tagcheck.specs.Search.{first_clash, clash_of_kind, clash_inside}
 use Rattle.guard_der.specs.Breach.{FaultInContents, FaultUntagged, FaultInChosen, FaultInPart}
 use Rattle.guard_der.specs.Reading.{element_at, untagged_at, contents_at, tags_at, chosen_at, part_at}
@@ -23,6 +23,8 @@ use Rattle.guard_der.proofs.Choice.{choice_lawful}
 use Rattle.guard_der.proofs.SequenceFaults.{some_nesting, sequence_lawful}
 use Rattle.guard_der.proofs.ItemFaults.{items_lawful}
 use Rattle.guard_der.proofs.SetContents.{set_lawful}
+use Rattle.guard_model.specs.Counts.{component_count}
+use Rattle.guard_tagcheck.proofs.Options.{inside_none}
 
 abbrev pub LawfulKind : AbstractKind → Type 0
 LawfulKind kind = LawfulBody (λ v. fits_kind kind v) (λ v. contents_octets kind v) (contents_at kind) (λ size os b. FaultInContents kind size os b) (nesting_inside kind)
@@ -72,7 +74,7 @@ mutual
 
   untagged_lawful : (kind : AbstractKind) (cons : Constraints) → is_tagged [] kind ≡ true → is_proper_kind kind ≡ true → clash_of_kind kind ≡ None → LawfulType (type_of [] kind cons)
   untagged_lawful (type.choice cs) cons tagged e none =
-      let p = and_parts (nat_le (count cs) 64) (are_proper cs) e in
+      let p = and_parts (nat_le (component_count cs) 64) (are_proper cs) e in
       let n = list_clash false cs none in
       untagged_choice cs cons (no_pair 0 cs n.0) (all_lawful 0 cs p.1 n.1)
   untagged_lawful kind cons tagged e none = absurd cc
@@ -87,19 +89,19 @@ mutual
   kind_lawful (type.enumerated ns) e none = simple_lawful (type.enumerated ns) (enumerated_law ns)
   kind_lawful (type.characters k) e none = simple_lawful (type.characters k) (text_law k)
   kind_lawful (type.sequence cs) e none =
-      let p = and_parts (nat_le (count cs) 64) (are_proper cs) e in
+      let p = and_parts (nat_le (component_count cs) 64) (are_proper cs) e in
       let n = list_clash true cs none in
       sequence_lawful cs (all_lawful 0 cs p.1 n.1) p.1 (no_optional_pair 0 cs n.0)
   kind_lawful (type.set cs) e none =
-      let p = and_parts (nat_le (count cs) 64) (are_proper cs) e in
+      let p = and_parts (nat_le (component_count cs) 64) (are_proper cs) e in
       let n = list_clash false cs none in
       set_lawful cs (all_lawful 0 cs p.1 n.1) p.1 (no_pair 0 cs n.0)
   kind_lawful (type.choice cs) e none =
-      let p = and_parts (nat_le (count cs) 64) (are_proper cs) e in
+      let p = and_parts (nat_le (component_count cs) 64) (are_proper cs) e in
       let n = list_clash false cs none in
       choice_contents cs (no_pair 0 cs n.0) (all_lawful 0 cs p.1 n.1)
-  kind_lawful (type.sequence_of t) e none = items_lawful false t (type_lawful t e (none_inside (Element 0) (first_clash t) none)) (some_nesting t e)
-  kind_lawful (type.set_of t) e none = items_lawful true t (type_lawful t e (none_inside (Element 0) (first_clash t) none)) (some_nesting t e)
+  kind_lawful (type.sequence_of t) e none = items_lawful false t (type_lawful t e (inside_none (Element 0) (first_clash t) none)) (some_nesting t e)
+  kind_lawful (type.set_of t) e none = items_lawful true t (type_lawful t e (inside_none (Element 0) (first_clash t) none)) (some_nesting t e)
 
   all_lawful : (i : ℕ) (cs : Components) → are_proper cs ≡ true → clash_inside i cs ≡ None → AllLawful cs
   all_lawful i no_components e none = tt

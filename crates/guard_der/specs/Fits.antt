@@ -10,6 +10,7 @@ use Rattle.guard_model.specs.AbstractValue as value
 use Rattle.guard_model.specs.AbstractValue.{AbstractValue, Fields, Items}
 use Rattle.guard_model.specs.Alphabets.{is_character}
 use Rattle.guard_der.specs.Der.{der, item_encodings}
+use Rattle.guard_model.specs.Counts.{item_count}
 
 -- this profile's limit on INTEGER and ENUMERATED: signed 128 bits
 abbrev pub fits_128_bits : ℤ → Bool
@@ -60,13 +61,9 @@ abbrev pub every_fits : (AbstractValue → Bool) → Items → Bool
 every_fits fit value.no_items = true
 every_fits fit (value.item v vs) = fit v && every_fits fit vs
 
-abbrev pub count : Items → ℕ
-count value.no_items = 0
-count (value.item v vs) = suc (count vs)
-
 -- this profile's limit on the elements of an OF type
 abbrev pub are_few : Items → Bool
-are_few vs = nat_le (count vs) 4294967295
+are_few vs = nat_le (item_count vs) 4294967295
 
 -- The first descends to the second, the shorter one padded with zero octets (X.690 11.6).
 abbrev pub descends : List ℕ → List ℕ → Bool

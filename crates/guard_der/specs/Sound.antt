@@ -4,13 +4,10 @@ use Rattle.guard_model.specs.AbstractType as type
 use Rattle.guard_model.specs.AbstractType.{AbstractType, AbstractKind, AbstractPresence, Components, Constraint, Constraints, Element, type_of, no_components, component}
 use Rattle.guard_tagcheck.specs.Distinct.{AbstractClash}
 use Rattle.guard_tagcheck.specs.Search.{first_clash}
-use Rattle.guard_tagcheck.specs.Limits.{nesting, count, is_tagged, are_low}
+use Rattle.guard_tagcheck.specs.Limits.{nesting, is_tagged, are_low}
 use Rattle.guard_der.specs.Der.{der}
 use Rattle.guard_der.specs.Fits.{fits}
-
-abbrev pub is_mandatory : AbstractPresence → Bool
-is_mandatory type.mandatory = true
-is_mandatory _ = false
+use Rattle.guard_model.specs.Counts.{component_count}
 
 -- ---- constraints and defaults
 
@@ -42,9 +39,9 @@ abbrev mutual
   is_proper (type_of tags kind cons) = is_tagged tags kind && are_low tags && all_apply kind cons && is_proper_kind kind
 
   pub is_proper_kind : AbstractKind → Bool
-  is_proper_kind (type.sequence cs) = nat_le (count cs) 64 && are_proper cs
-  is_proper_kind (type.set cs) = nat_le (count cs) 64 && are_proper cs
-  is_proper_kind (type.choice cs) = nat_le (count cs) 64 && are_proper cs
+  is_proper_kind (type.sequence cs) = nat_le (component_count cs) 64 && are_proper cs
+  is_proper_kind (type.set cs) = nat_le (component_count cs) 64 && are_proper cs
+  is_proper_kind (type.choice cs) = nat_le (component_count cs) 64 && are_proper cs
   is_proper_kind (type.sequence_of t) = is_proper t
   is_proper_kind (type.set_of t) = is_proper t
   is_proper_kind _ = true

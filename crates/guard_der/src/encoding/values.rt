@@ -3,7 +3,7 @@ ghost use Rattle.std.specs.Prelude.{◌≡◌, map, IsTrue};
 ghost use Rattle.guard_model.specs.Answer.{Gives};
 ghost use Rattle.guard_model.specs.TypeView.{type_view, kind_view, component_view, components_of, presence_view};
 ghost use Rattle.guard_model.specs.ValueView.{value_view, field_view, fields_view, items_view};
-ghost use Rattle.guard_der.specs.Der.{der, contents_octets, parts_of, alternative_octets, item_encodings, is_constructed, is_left_out};
+ghost use Rattle.guard_der.specs.Der.{der, contents_octets, parts_of, alternative_octets, item_encodings};
 ghost use Rattle.guard_der.specs.Fits.{fits, fits_kind, fits_fields, fits_alternative, every_fits};
 ghost use Rattle.guard_der.specs.Encoding.{refusal};
 ghost use Rattle.guard_der.specs.Sent.{or_too_long, part_of, parts_view, field_fits, with_parts, all_joined, sequence_octets, set_octets};
@@ -13,6 +13,8 @@ use crate::encoding::element::tagged;
 use crate::encoding::first_tag::outermost;
 use crate::encoding::parts::{Sent, ascending, joined};
 use crate::encoding::simple::{bit_string, boolean, characters, integer, object_identifier};
+use crate::forms::is_constructed;
+use crate::presence::is_left_out;
 use guard_model::{Comp, Kind, Presence, Ty, Value};
 use std::alloc::Global;
 
@@ -24,26 +26,6 @@ pub fn encoding(alloc: Global, ty: &Ty, value: &Value) -> Result<Vec<u8>, Encode
 {
     let inside = contents(alloc, &ty.kind, value)?;
     tagged(alloc, &ty.tags, is_constructed(&ty.kind), inside)
-}
-
-fn is_constructed(kind: &Kind) -> bool
-    ensures { result ≡ is_constructed (kind_view kind.now) }
-{
-    match kind {
-        Kind::Bool => false,
-        Kind::Int(_) => false,
-        Kind::Bits => false,
-        Kind::Octets => false,
-        Kind::Null => false,
-        Kind::Oid => false,
-        Kind::Enumerated(_) => false,
-        Kind::Chars(_) => false,
-        Kind::Sequence(_) => true,
-        Kind::Set(_) => true,
-        Kind::Choice(_) => true,
-        Kind::SequenceOf(_) => true,
-        Kind::SetOf(_) => true,
-    }
 }
 
 #[cycle(encoding)]
@@ -149,18 +131,6 @@ fn push_part(
         tag: outermost(ty, value),
         octets,
     })?)
-}
-
-/// A component whose value is its default is not sent (X.690 11.5).
-fn is_left_out(presence: &Presence, value: &Value) -> bool
-    ensures { result ≡ is_left_out (presence_view presence.now) (value_view value.now) }
-{
-    match presence {
-        Presence::Mandatory => false,
-        Presence::Optional => false,
-        Presence::Pending => false,
-        Presence::Default(default) => default.same(value),
-    }
 }
 
 /// The encodings of an OF type's elements, one after the other.

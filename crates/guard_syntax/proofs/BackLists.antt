@@ -47,7 +47,7 @@ NotBefore k ls = (ss : List Site) → begins_with k (place ls ss) ≡ false
 not_forty_eight : (c : ℕ) → (c ≡ 48 → ⊥) → eqb c 48 ≡ false
 not_forty_eight c h = grind (arith, nat_tests)
 
-not_zero : (digits : List ℕ) → (digits ≡ zero_digits → ⊥) → is_zero digits ≡ false
+pub not_zero : (digits : List ℕ) → (digits ≡ zero_digits → ⊥) → is_zero digits ≡ false
 not_zero [] h = refl
 not_zero (c ∷ []) h = not_forty_eight c (λ e. h (ap (λ (d : ℕ). d ∷ []) e))
 not_zero (c ∷ d ∷ cs) h = refl

@@ -24,7 +24,7 @@ use Rattle.guard_syntax.specs.ReadSets.{begins_dots, begins_range, read_end_form
 use Rattle.guard_syntax.proofs.Steps.{Sound}
 use Rattle.guard_syntax.proofs.WrittenSets.{part_then, sited_part, IsPart, parts_print, parts_sited, joined_difference_then, sited_joined_difference, IsJoinedDifference, met_print, met_sited, joined_intersection_then, sited_joined_intersection, IsJoinedIntersection, united_print, united_sited, constraint_in, part_is_in, element_form_in, element_in, difference_in, joined_difference_in, intersection_in, joined_intersection_in, set_form_in, set_in}
 use Rattle.guard_syntax.proofs.WrittenValues.{value_in}
-use Rattle.guard_syntax.proofs.BackLists.{place, length-place, ReadsBack, Whatever, NotBefore, number_back, site_first, each_back, parted_back}
+use Rattle.guard_syntax.proofs.BackLists.{place, length-place, ReadsBack, Whatever, NotBefore, not_zero, number_back, site_first, each_back, parted_back}
 use Rattle.guard_syntax.proofs.BackValues.{AfterValue, value_back}
 
 -- ---- what does not lengthen an element, a difference, an intersection, a set
@@ -173,28 +173,29 @@ module _ (levels : ℕ) {values : Reader WrittenValue} {sets : Reader WrittenSet
   value_shown (value_node site (list es)) ls ss after = refl
   value_shown (value_node site (arcs all)) ls ss after = refl
 
-  integer_range_shown : (n : WrittenNumber) (minus above : Bool) (ls : List Lexeme) (ss : List Site) → n.minus ≡ minus → let ps = place (number_then n (if_there_then above (mark LessThan) (mark RangeSeparator ∷ ls))) ss in
+  integer_range_shown : (site : Site) (minus : Bool) (digits : List ℕ) (above : Bool) (ls : List Lexeme) (ss : List Site) → MayFollowSign minus digits → let n : WrittenNumber = record { site = site; minus = minus; digits = digits } in
+      let ps = place (number_then n (if_there_then above (mark LessThan) (mark RangeSeparator ∷ ls))) ss in
       read_element_form values sets ps ≡ (read_range ps >>= λ r. Ok (range r.0, r.1))
   unfolding read_element_form read_range_or_value
-  integer_range_shown n true true ls ss e = rw e refl
-  integer_range_shown n true false ls ss e = rw e refl
-  integer_range_shown n false true ls ss e = rw e refl
-  integer_range_shown n false false ls ss e = rw e refl
+  integer_range_shown site true digits true ls ss h = rw (not_zero digits h) refl
+  integer_range_shown site true digits false ls ss h = rw (not_zero digits h) refl
+  integer_range_shown site false digits true ls ss h = refl
+  integer_range_shown site false digits false ls ss h = refl
 
-  form_range_shown : (f : WrittenEndForm) (above : Bool) (ls : List Lexeme) (ss : List Site) → let ps = place (end_form_then f (if_there_then above (mark LessThan) (mark RangeSeparator ∷ ls))) ss in
+  form_range_shown : (f : WrittenEndForm) (above : Bool) (ls : List Lexeme) (ss : List Site) → IsEndForm f → let ps = place (end_form_then f (if_there_then above (mark LessThan) (mark RangeSeparator ∷ ls))) ss in
       read_element_form values sets ps ≡ (read_range ps >>= λ r. Ok (range r.0, r.1))
   unfolding read_element_form read_range_or_value
-  form_range_shown (end_integer n) above ls ss = integer_range_shown n n.minus above ls ss refl
-  form_range_shown (end_reference name) true ls ss = refl
-  form_range_shown (end_reference name) false ls ss = refl
-  form_range_shown (end_characters spelling) true ls ss = refl
-  form_range_shown (end_characters spelling) false ls ss = refl
+  form_range_shown (end_integer n) above ls ss h = integer_range_shown n.site n.minus n.digits above ls ss h
+  form_range_shown (end_reference name) true ls ss h = refl
+  form_range_shown (end_reference name) false ls ss h = refl
+  form_range_shown (end_characters spelling) true ls ss h = refl
+  form_range_shown (end_characters spelling) false ls ss h = refl
 
-  range_shown : (low : Option WrittenEnd) (above : Bool) (ls : List Lexeme) (ss : List Site) → let ps = place (end_or_then Min low (if_there_then above (mark LessThan) (mark RangeSeparator ∷ ls))) ss in
+  range_shown : (low : Option WrittenEnd) (above : Bool) (ls : List Lexeme) (ss : List Site) → IsPerhaps IsEnd low → let ps = place (end_or_then Min low (if_there_then above (mark LessThan) (mark RangeSeparator ∷ ls))) ss in
       read_element_form values sets ps ≡ (read_range ps >>= λ r. Ok (range r.0, r.1))
   unfolding read_element_form read_range_or_value
-  range_shown None above ls ss = refl
-  range_shown (Some e) above ls ss = form_range_shown e.form above ls ss
+  range_shown None above ls ss h = refl
+  range_shown (Some e) above ls ss h = form_range_shown e.form above ls ss h
 
   -- ---- parts
 
@@ -263,7 +264,7 @@ module _ (levels : ℕ) {values : Reader WrittenValue} {sets : Reader WrittenSet
   element_form_back (contained true name) ls ss h after = refl
   element_form_back (contained false name) ls ss h after = refl
   element_form_back (range r) ls ss h after =
-      range_shown r.low r.above_low (if_there_then r.below_high (mark LessThan) (end_or_then Max r.high ls)) ss ∙ rw (range_back_at r.low r.above_low r.below_high r.high ls ss h.0 h.1) refl
+      range_shown r.low r.above_low (if_there_then r.below_high (mark LessThan) (end_or_then Max r.high ls)) ss h.0 ∙ rw (range_back_at r.low r.above_low r.below_high r.high ls ss h.0 h.1) refl
   element_form_back (size c) ls ss h after = rw (constraint_back c ls (past ss) h tt) refl
   element_form_back (from c) ls ss h after = rw (constraint_back c ls (past ss) h tt) refl
   element_form_back (with_component c) ls ss h after = rw (constraint_back c ls (past (past ss)) h tt) refl

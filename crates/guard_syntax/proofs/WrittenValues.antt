@@ -1,5 +1,5 @@
 -- What is read of values is what they write.
-use Rattle.std.proofs.Common.{◌≡◌, ℕ, zero, suc, ◌+◌, ◌≤◌, ◌<◌, Bool, true, false, List, [], ◌∷◌, length, Option, Some, None, Result, Ok, Err, refl, ap, sym, ◌∙◌, subst, arith}
+use Rattle.std.proofs.Common.{◌≡◌, ℕ, zero, suc, ◌+◌, ◌≤◌, ◌<◌, ◌==◌, Bool, true, false, List, [], ◌∷◌, length, Option, Some, None, Result, Ok, Err, refl, ap, sym, ◌∙◌, subst, arith}
 use Rattle.guard_model.specs.Answer.{◌>>=◌}
 use Rattle.guard_model.specs.declared.site.Site.{Site}
 use Rattle.guard_lexer.specs.declared.token.TokenKind.TheVariants.{Reserved, CharacterString, BitString, HexadecimalString, LowerName, Mark}
@@ -116,18 +116,19 @@ module _ (levels : ℕ) {values : Reader WrittenValue} (inside_in : Sound value_
         lawful = v.lawful;
       })))
 
-  entries_in : (ps : List Placed) → Holds (read_entries values ps) (λ x. EntriesIn levels ps x.0 x.1)
+  entries_in : (ps : List Placed) → Holds (read_entries levels values ps) (λ x. EntriesIn levels ps x.0 x.1)
   unfolding read_entries
   entries_in ps =
       if_holds (begins_with (Mark RightBrace) ps) _ _ (λ h. ok_holds _ (record { lexemes_are = refl; sites_are = refl; shorter = omega arith; lawful = tt })) (λ h.
+      if_holds (levels == 0) _ _ (λ h. if_holds (begins_value ps) _ _ (λ h. err_holds _) (λ h. err_holds _)) (λ h.
       so_holds (parted_in entry_in (length ps) ps) (λ a es. record {
         lexemes_are = es.lexemes_are ∙ sym (entries_print a.0 (lexemes a.1));
         sites_are = entries_sited a.0 (sites ps) ∙ ap (λ (x : List WrittenEntry × List Site). (entries_of x.0, x.1)) es.sites_are;
         shorter = omega (arith, es.shorter);
         lawful = entries_lawful levels a.0 (some_each (IsEntry levels) a.0 es.lawful);
-      }))
+      })))
 
-  braces_in : Sound value_form_then sited_value_form (IsValueForm levels) (read_braces values)
+  braces_in : Sound value_form_then sited_value_form (IsValueForm levels) (read_braces levels values)
   unfolding read_braces
   braces_in ps =
       then_holds _ (took_mark LeftBrace ps) (λ opening o.
@@ -160,7 +161,7 @@ module _ (levels : ℕ) {values : Reader WrittenValue} (inside_in : Sound value_
         lawful = v.lawful;
       }))) (λ h. ok_holds _ (record { lexemes_are = name.lexemes_are; sites_are = rw name.sites_are refl; shorter = omega (arith, name.shorter); lawful = tt })))
 
-  pub form_in : Sound value_form_then sited_value_form (IsValueForm levels) (read_value_form values)
+  pub form_in : Sound value_form_then sited_value_form (IsValueForm levels) (read_value_form levels values)
   unfolding read_value_form
   form_in ps =
       if_holds (begins_with (Reserved True) ps) _ _ (λ h. let t = took (Reserved True) ps h in ok_holds _ (record { lexemes_are = t.lexemes_are; sites_are = rw t.sites_are refl; shorter = omega (arith, t.shorter); lawful = tt })) (λ h.

@@ -30,10 +30,3 @@ pub use tree::{
     PresenceTree, PresenceWord, RangeTree, SetForm, SetTree, StringKind, SymbolKind, SymbolTree,
     TagClass, TagDefault, TagMode, TagTree, TypeTree, ValueForm, ValueTree,
 };
-
-#[cfg(test)]
-mod printer;
-#[cfg(test)]
-mod session;
-#[cfg(test)]
-mod tests;

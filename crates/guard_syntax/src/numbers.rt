@@ -47,7 +47,7 @@ fn digits<'a, 't>(
 }
 
 /// Whether the first token is the number 0.
-fn begins_with_zero(text: &[u8], tokens: &[Token]) -> bool
+pub fn begins_with_zero(text: &[u8], tokens: &[Token]) -> bool
     ensures { result ≡ reading.begins_with_zero (placed_of text.now tokens.now) }
 {
     match tokens {

@@ -6,7 +6,7 @@ ghost use Rattle.guard_syntax.specs.ReadSets as reading;
 ghost use Rattle.guard_syntax.specs.SetViews.{end_form_view, end_or_view, range_view};
 
 use crate::halt::Halt;
-use crate::numbers::number;
+use crate::numbers::{begins_with_zero, number};
 use crate::tokens::{begins_with, behind, behind_if, site_at, token_of_kind, word_of_kind};
 use crate::tree::{EndForm, EndTree, RangeTree};
 use crate::values::begins_number;
@@ -20,10 +20,18 @@ pub fn begins_range(text: &[u8], tokens: &[Token]) -> bool
     begins_with(TokenKind::Reserved(Reserved::Min), text, tokens)
         || begins_with(TokenKind::Mark(Mark::Minus), text, tokens)
             && begins_dots(text, behind(text, next))
+            && begins_with_nonzero(text, next)
         || (begins_with(TokenKind::Number, text, tokens)
             || begins_with(TokenKind::LowerName, text, tokens)
             || begins_with(TokenKind::CharacterString, text, tokens))
             && begins_dots(text, next)
+}
+
+/// Whether a number stands here that may follow a minus sign.
+fn begins_with_nonzero(text: &[u8], tokens: &[Token]) -> bool
+    ensures { result ≡ reading.begins_with_nonzero (placed_of text.now tokens.now) }
+{
+    begins_with(TokenKind::Number, text, tokens) && !begins_with_zero(text, tokens)
 }
 
 fn begins_dots(text: &[u8], tokens: &[Token]) -> bool

@@ -84,7 +84,7 @@ fn form<'a, 't>(
     text: &'a [u8],
     tokens: &'t [Token],
 ) -> Result<(ValueForm<'a>, &'t [Token]), Halt>
-    ensures { Gives (λ x. (value_form_view x.0, placed_of text.now x.1.now)) stop_of result (reading.read_value_form (reading.read_value levels) (placed_of text.now tokens.now)) }
+    ensures { Gives (λ x. (value_form_view x.0, placed_of text.now x.1.now)) stop_of result (reading.read_value_form levels (reading.read_value levels) (placed_of text.now tokens.now)) }
 {
     if begins_with(TokenKind::Reserved(Reserved::True), text, tokens) {
         Ok((ValueForm::Boolean(true), behind(text, tokens)))
@@ -158,7 +158,7 @@ fn braces<'a, 't>(
     text: &'a [u8],
     tokens: &'t [Token],
 ) -> Result<(ValueForm<'a>, &'t [Token]), Halt>
-    ensures { Gives (λ x. (value_form_view x.0, placed_of text.now x.1.now)) stop_of result (reading.read_braces (reading.read_value levels) (placed_of text.now tokens.now)) }
+    ensures { Gives (λ x. (value_form_view x.0, placed_of text.now x.1.now)) stop_of result (reading.read_braces levels (reading.read_value levels) (placed_of text.now tokens.now)) }
 {
     let rest = token_of_kind(TokenKind::Mark(Mark::LeftBrace), text, tokens)?;
     if begins_arcs(text, rest) {
@@ -183,7 +183,7 @@ fn begins_arcs(text: &[u8], tokens: &[Token]) -> bool
             && begins_with(TokenKind::Mark(Mark::LeftParenthesis), text, next)
 }
 
-/// Entries up to the closing brace, perhaps none.
+/// Entries up to the closing brace, perhaps none. Where no value may stand in the braces the first entry is too deep.
 #[cycle(values)]
 #[tactic(auto, unfolding(crate::specs::ReadValues::read_entries))]
 fn entries<'a, 't>(
@@ -192,10 +192,13 @@ fn entries<'a, 't>(
     text: &'a [u8],
     tokens: &'t [Token],
 ) -> Result<(Vec<EntryTree<'a>>, &'t [Token]), Halt>
-    ensures { Gives (λ x. (map entry_view x.0.items, placed_of text.now x.1.now)) stop_of result (reading.read_entries (reading.read_value levels) (placed_of text.now tokens.now)) }
+    ensures { Gives (λ x. (map entry_view x.0.items, placed_of text.now x.1.now)) stop_of result (reading.read_entries levels (reading.read_value levels) (placed_of text.now tokens.now)) }
 {
     if begins_with(TokenKind::Mark(Mark::RightBrace), text, tokens) {
         return Ok((Vec::new(alloc), tokens));
+    }
+    if levels == 0 {
+        return Err(too_deep(begins_value(text, tokens), tokens));
     }
     some_entries(alloc, levels, text, tokens)
 }

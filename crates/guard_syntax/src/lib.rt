@@ -2,6 +2,7 @@
 #![tactic(auto)]
 
 mod constraint;
+mod cursor;
 mod ending;
 mod fault;
 mod halt;
@@ -15,7 +16,6 @@ mod numbers;
 mod ranges;
 mod reading;
 mod tags;
-mod tokens;
 mod tree;
 mod types;
 mod values;

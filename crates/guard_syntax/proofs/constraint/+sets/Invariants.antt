@@ -1,4 +1,5 @@
 use Rattle.std.proofs.Common.{◌≡◌, map, length, ◌+◌, ◌-◌, ◌*◌}
+use Rattle.guard_syntax.specs.Cursors.{ahead}
 use Rattle.guard_syntax.specs.ReadTokens.{placed_of, read_each, read_parted}
 use Rattle.guard_syntax.specs.ReadValues.{read_value}
 use Rattle.guard_syntax.specs.ReadSets.{begins_union_mark, begins_intersection_mark, read_joined_intersection, read_joined_difference, read_part, read_set}
@@ -65,15 +66,15 @@ decreases-inner_set l = l.levels * 20 + 19
 
 abbrev pub invariant-joined_intersections-loop : goal.invariant-joined_intersections-loop
 invariant-joined_intersections-loop l =
-    with_front (map joined_intersection_view l.all.items) (read_each begins_union_mark (read_joined_intersection (read_value l.levels) (read_set l.levels)) (length l.tokens - l.counter) (placed_of l.text l.rest))
-    ≡ read_each begins_union_mark (read_joined_intersection (read_value l.levels) (read_set l.levels)) (length l.tokens) (placed_of l.text l.tokens)
+    with_front (map joined_intersection_view l.all.items) (read_each begins_union_mark (read_joined_intersection (read_value l.levels) (read_set l.levels)) (length (ahead l.at) - l.counter) (ahead l.rest))
+    ≡ read_each begins_union_mark (read_joined_intersection (read_value l.levels) (read_set l.levels)) (length (ahead l.at)) (ahead l.at)
 
 abbrev pub invariant-joined_differences-loop : goal.invariant-joined_differences-loop
 invariant-joined_differences-loop l =
-    with_front (map joined_difference_view l.all.items) (read_each begins_intersection_mark (read_joined_difference (read_value l.levels) (read_set l.levels)) (length l.tokens - l.counter) (placed_of l.text l.rest))
-    ≡ read_each begins_intersection_mark (read_joined_difference (read_value l.levels) (read_set l.levels)) (length l.tokens) (placed_of l.text l.tokens)
+    with_front (map joined_difference_view l.all.items) (read_each begins_intersection_mark (read_joined_difference (read_value l.levels) (read_set l.levels)) (length (ahead l.at) - l.counter) (ahead l.rest))
+    ≡ read_each begins_intersection_mark (read_joined_difference (read_value l.levels) (read_set l.levels)) (length (ahead l.at)) (ahead l.at)
 
 abbrev pub invariant-parts-loop : goal.invariant-parts-loop
 invariant-parts-loop l =
-    with_front (map part_view l.all.items) (read_parted (read_part (read_set l.levels)) (length l.tokens - l.counter) (placed_of l.text l.rest))
-    ≡ read_parted (read_part (read_set l.levels)) (length l.tokens) (placed_of l.text l.tokens)
+    with_front (map part_view l.all.items) (read_parted (read_part (read_set l.levels)) (length (ahead l.at) - l.counter) (ahead l.rest))
+    ≡ read_parted (read_part (read_set l.levels)) (length (ahead l.at)) (ahead l.at)

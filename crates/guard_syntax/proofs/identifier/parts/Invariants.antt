@@ -1,4 +1,5 @@
 use Rattle.std.proofs.Common.{◌≡◌, map, length, ◌-◌}
+use Rattle.guard_syntax.specs.Cursors.{ahead}
 use Rattle.guard_syntax.specs.ReadTokens.{placed_of, read_each}
 use Rattle.guard_syntax.specs.ReadValues.{does_not_close}
 use Rattle.guard_syntax.specs.ReadModule.{read_identifier_part}
@@ -8,5 +9,5 @@ use Rattle.guard_syntax.proofs.identifier.parts.Given as goal
 
 abbrev pub invariant-loop : goal.invariant-loop
 invariant-loop l =
-    with_front (map identifier_part_view l.all.items) (read_each does_not_close read_identifier_part (length l.tokens - l.counter) (placed_of l.text l.rest))
-    ≡ read_each does_not_close read_identifier_part (length l.tokens) (placed_of l.text l.tokens)
+    with_front (map identifier_part_view l.all.items) (read_each does_not_close read_identifier_part (length (ahead l.at) - l.counter) (ahead l.rest))
+    ≡ read_each does_not_close read_identifier_part (length (ahead l.at)) (ahead l.at)

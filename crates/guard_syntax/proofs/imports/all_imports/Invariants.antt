@@ -1,4 +1,5 @@
 use Rattle.std.proofs.Common.{◌≡◌, map, length, ◌-◌}
+use Rattle.guard_syntax.specs.Cursors.{ahead}
 use Rattle.guard_syntax.specs.ReadTokens.{placed_of, read_each}
 use Rattle.guard_syntax.specs.ReadModule.{goes_on_importing, read_import}
 use Rattle.guard_syntax.specs.ModuleViews.{import_view}
@@ -7,5 +8,5 @@ use Rattle.guard_syntax.proofs.imports.all_imports.Given as goal
 
 abbrev pub invariant-loop : goal.invariant-loop
 invariant-loop l =
-    with_front (map import_view l.all.items) (read_each goes_on_importing read_import (length l.tokens - l.counter) (placed_of l.text l.rest))
-    ≡ read_each goes_on_importing read_import (length l.tokens) (placed_of l.text l.tokens)
+    with_front (map import_view l.all.items) (read_each goes_on_importing read_import (length (ahead l.at) - l.counter) (ahead l.rest))
+    ≡ read_each goes_on_importing read_import (length (ahead l.at)) (ahead l.at)

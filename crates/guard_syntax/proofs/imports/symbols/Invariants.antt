@@ -1,4 +1,5 @@
 use Rattle.std.proofs.Common.{◌≡◌, map, length, ◌-◌}
+use Rattle.guard_syntax.specs.Cursors.{ahead}
 use Rattle.guard_syntax.specs.ReadTokens.{placed_of, read_parted}
 use Rattle.guard_syntax.specs.ReadModule.{read_symbol}
 use Rattle.guard_syntax.specs.ModuleViews.{symbol_view}
@@ -7,5 +8,5 @@ use Rattle.guard_syntax.proofs.imports.symbols.Given as goal
 
 abbrev pub invariant-loop : goal.invariant-loop
 invariant-loop l =
-    with_front (map symbol_view l.all.items) (read_parted read_symbol (length l.tokens - l.counter) (placed_of l.text l.rest))
-    ≡ read_parted read_symbol (length l.tokens) (placed_of l.text l.tokens)
+    with_front (map symbol_view l.all.items) (read_parted read_symbol (length (ahead l.at) - l.counter) (ahead l.rest))
+    ≡ read_parted read_symbol (length (ahead l.at)) (ahead l.at)

@@ -1,4 +1,5 @@
 use Rattle.std.proofs.Common.{◌≡◌, map, length, ◌-◌}
+use Rattle.guard_syntax.specs.Cursors.{ahead}
 use Rattle.guard_syntax.specs.ReadTokens.{placed_of, read_parted}
 use Rattle.guard_syntax.specs.ReadTypes.{read_item}
 use Rattle.guard_syntax.specs.TypeViews.{item_view}
@@ -7,5 +8,5 @@ use Rattle.guard_syntax.proofs.items.some_items.Given as goal
 
 abbrev pub invariant-loop : goal.invariant-loop
 invariant-loop l =
-    with_front (map item_view l.all.items) (read_parted read_item (length l.tokens - l.counter) (placed_of l.text l.rest))
-    ≡ read_parted read_item (length l.tokens) (placed_of l.text l.tokens)
+    with_front (map item_view l.all.items) (read_parted read_item (length (ahead l.at) - l.counter) (ahead l.rest))
+    ≡ read_parted read_item (length (ahead l.at)) (ahead l.at)

@@ -1,4 +1,5 @@
 use Rattle.std.proofs.Common.{◌≡◌, map, length, ◌+◌, ◌-◌, ◌*◌}
+use Rattle.guard_syntax.specs.Cursors.{ahead}
 use Rattle.guard_syntax.specs.ReadTokens.{placed_of, read_parted}
 use Rattle.guard_syntax.specs.ReadValues.{read_value}
 use Rattle.guard_syntax.specs.ReadTypes.{read_component, read_alternative, read_type}
@@ -47,10 +48,10 @@ decreases-inner_type l = l.levels * 12 + 11
 
 abbrev pub invariant-some_components-loop : goal.invariant-some_components-loop
 invariant-some_components-loop l =
-    with_front (map component_view l.all.items) (read_parted (read_component (read_value l.levels) (read_type l.levels)) (length l.tokens - l.counter) (placed_of l.text l.rest))
-    ≡ read_parted (read_component (read_value l.levels) (read_type l.levels)) (length l.tokens) (placed_of l.text l.tokens)
+    with_front (map component_view l.all.items) (read_parted (read_component (read_value l.levels) (read_type l.levels)) (length (ahead l.at) - l.counter) (ahead l.rest))
+    ≡ read_parted (read_component (read_value l.levels) (read_type l.levels)) (length (ahead l.at)) (ahead l.at)
 
 abbrev pub invariant-alternatives-loop : goal.invariant-alternatives-loop
 invariant-alternatives-loop l =
-    with_front (map alternative_view l.all.items) (read_parted (read_alternative (read_type l.levels)) (length l.tokens - l.counter) (placed_of l.text l.rest))
-    ≡ read_parted (read_alternative (read_type l.levels)) (length l.tokens) (placed_of l.text l.tokens)
+    with_front (map alternative_view l.all.items) (read_parted (read_alternative (read_type l.levels)) (length (ahead l.at) - l.counter) (ahead l.rest))
+    ≡ read_parted (read_alternative (read_type l.levels)) (length (ahead l.at)) (ahead l.at)

@@ -1,4 +1,5 @@
 use Rattle.std.proofs.Common.{◌≡◌, map, length, ◌-◌}
+use Rattle.guard_syntax.specs.Cursors.{ahead}
 use Rattle.guard_syntax.specs.ReadTokens.{placed_of, read_each}
 use Rattle.guard_syntax.specs.ReadSets.{read_constraint, read_set}
 use Rattle.guard_syntax.specs.ReadTypes.{begins_constraint}
@@ -8,5 +9,5 @@ use Rattle.guard_syntax.proofs.types.each_constraint.Given as goal
 
 abbrev pub invariant-loop : goal.invariant-loop
 invariant-loop l =
-    with_front (map constraint_view l.all.items) (read_each begins_constraint (read_constraint (read_set l.levels)) (length l.tokens - l.counter) (placed_of l.text l.rest))
-    ≡ read_each begins_constraint (read_constraint (read_set l.levels)) (length l.tokens) (placed_of l.text l.tokens)
+    with_front (map constraint_view l.all.items) (read_each begins_constraint (read_constraint (read_set l.levels)) (length (ahead l.at) - l.counter) (ahead l.rest))
+    ≡ read_each begins_constraint (read_constraint (read_set l.levels)) (length (ahead l.at)) (ahead l.at)

@@ -1,4 +1,5 @@
 use Rattle.std.proofs.Common.{◌≡◌, map, length, ◌+◌, ◌-◌, ◌*◌}
+use Rattle.guard_syntax.specs.Cursors.{ahead}
 use Rattle.guard_syntax.specs.ReadTokens.{placed_of, read_parted}
 use Rattle.guard_syntax.specs.ReadValues.{read_value, read_entry}
 use Rattle.guard_syntax.specs.Views.{entry_view}
@@ -28,5 +29,5 @@ decreases-entry l = l.levels * 8 + 3
 
 abbrev pub invariant-some_entries-loop : goal.invariant-some_entries-loop
 invariant-some_entries-loop l =
-    with_front (map entry_view l.all.items) (read_parted (read_entry (read_value l.levels)) (length l.tokens - l.counter) (placed_of l.text l.rest))
-    ≡ read_parted (read_entry (read_value l.levels)) (length l.tokens) (placed_of l.text l.tokens)
+    with_front (map entry_view l.all.items) (read_parted (read_entry (read_value l.levels)) (length (ahead l.at) - l.counter) (ahead l.rest))
+    ≡ read_parted (read_entry (read_value l.levels)) (length (ahead l.at)) (ahead l.at)

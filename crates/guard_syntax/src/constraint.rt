@@ -56,7 +56,7 @@ pub fn constraint<'a, 't>(
 }
 
 #[cycle(sets)]
-#[tactic(auto, unfolding(crate::specs::ReadSets::read_set))]
+#[tactic(auto, using(crate::proofs::Levels::read_set_above), unfolding(crate::specs::ReadSets::read_set))]
 fn set<'a, 't>(alloc: Global, levels: u8, at: Cursor<'a, 't>) -> Read<'a, 't, Box<SetTree<'a>>>
     ensures { Reads (boxed_view set_view) result (reading.read_set levels (ahead at.entry)) }
 {
@@ -98,6 +98,7 @@ fn set_form<'a, 't>(alloc: Global, levels: u8, at: Cursor<'a, 't>) -> Read<'a, '
 
 /// The further intersections of a union. Each takes a token, so there are no more than tokens.
 #[cycle(sets)]
+#[tactic(auto, using(crate::proofs::Loops::each_loop))]
 fn joined_intersections<'a, 't>(
     alloc: Global,
     levels: u8,
@@ -183,6 +184,7 @@ fn intersection<'a, 't>(
 
 /// The further differences of an intersection. Each takes a token, so there are no more than tokens.
 #[cycle(sets)]
+#[tactic(auto, using(crate::proofs::Loops::each_loop))]
 fn joined_differences<'a, 't>(
     alloc: Global,
     levels: u8,
@@ -386,6 +388,7 @@ fn partial<'a, 't>(at: Cursor<'a, 't>) -> Read<'a, 't, bool>
 
 /// One or more parts, parted by commas. Each takes a token, so there are no more than tokens.
 #[cycle(sets)]
+#[tactic(auto, using(crate::proofs::Loops::parted_loop))]
 fn parts<'a, 't>(
     alloc: Global,
     levels: u8,

@@ -43,6 +43,7 @@ fn exported<'a, 't>(alloc: Global, at: Cursor<'a, 't>) -> Read<'a, 't, ExportsTr
 }
 
 /// One or more names, parted by commas. Each takes a token, so there are no more than tokens.
+#[tactic(auto, using(crate::proofs::Loops::parted_loop))]
 fn symbols<'a, 't>(alloc: Global, at: Cursor<'a, 't>) -> Read<'a, 't, Vec<SymbolTree<'a>>>
     ensures { Reads (each_view symbol_view) result (tokens_reading.read_parted reading.read_symbol (length (ahead at.entry)) (ahead at.entry)) }
 {
@@ -92,6 +93,7 @@ pub fn imports<'a, 't>(
 }
 
 /// Imports up to the semicolon. Each takes a token, so there are no more than tokens.
+#[tactic(auto, using(crate::proofs::Loops::each_loop))]
 fn all_imports<'a, 't>(alloc: Global, at: Cursor<'a, 't>) -> Read<'a, 't, Vec<ImportTree<'a>>>
     ensures { Reads (each_view import_view) result (tokens_reading.read_each reading.goes_on_importing reading.read_import (length (ahead at.entry)) (ahead at.entry)) }
 {

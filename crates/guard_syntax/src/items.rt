@@ -27,6 +27,7 @@ pub fn numbers<'a, 't>(alloc: Global, at: Cursor<'a, 't>) -> Read<'a, 't, Vec<Na
 }
 
 /// One or more named numbers, parted by commas. Each takes a token, so there are no more than tokens.
+#[tactic(auto, using(crate::proofs::Loops::parted_loop))]
 fn some_named<'a, 't>(alloc: Global, at: Cursor<'a, 't>) -> Read<'a, 't, Vec<NamedTree<'a>>>
     ensures { Reads (each_view named_view) result (tokens_reading.read_parted reading.read_named (length (ahead at.entry)) (ahead at.entry)) }
 {
@@ -76,6 +77,7 @@ pub fn items<'a, 't>(alloc: Global, at: Cursor<'a, 't>) -> Read<'a, 't, Vec<Item
 }
 
 /// One or more items, parted by commas. Each takes a token, so there are no more than tokens.
+#[tactic(auto, using(crate::proofs::Loops::parted_loop))]
 fn some_items<'a, 't>(alloc: Global, at: Cursor<'a, 't>) -> Read<'a, 't, Vec<ItemTree<'a>>>
     ensures { Reads (each_view item_view) result (tokens_reading.read_parted reading.read_item (length (ahead at.entry)) (ahead at.entry)) }
 {

@@ -90,6 +90,7 @@ fn two_words<'a, 't>(at: Cursor<'a, 't>) -> Read<'a, 't, PlainType>
 
 /// A type. `levels` says how many types, values and sets may stand one in the other here.
 #[cycle(types)]
+#[tactic(auto, using(crate::proofs::Levels::read_type_above))]
 pub fn type_tree<'a, 't>(
     alloc: Global,
     levels: u8,
@@ -165,6 +166,7 @@ fn constraints<'a, 't>(
 }
 
 /// Constraints one after the other. Each takes a token, so there are no more than tokens.
+#[tactic(auto, using(crate::proofs::Loops::each_loop))]
 fn each_constraint<'a, 't>(
     alloc: Global,
     levels: u8,
@@ -328,6 +330,7 @@ fn components<'a, 't>(
 
 /// One or more components, parted by commas. Each takes a token, so there are no more than tokens.
 #[cycle(types)]
+#[tactic(auto, using(crate::proofs::Loops::parted_loop))]
 fn some_components<'a, 't>(
     alloc: Global,
     levels: u8,
@@ -408,6 +411,7 @@ fn choice<'a, 't>(alloc: Global, levels: u8, at: Cursor<'a, 't>) -> Read<'a, 't,
 
 /// One or more alternatives, parted by commas. Each takes a token, so there are no more than tokens.
 #[cycle(types)]
+#[tactic(auto, using(crate::proofs::Loops::parted_loop))]
 fn alternatives<'a, 't>(
     alloc: Global,
     levels: u8,

@@ -176,6 +176,7 @@ fn entries<'a, 't>(
 
 /// One or more entries, parted by commas. Each takes a token, so there are no more than tokens.
 #[cycle(values)]
+#[tactic(auto, using(crate::proofs::Loops::parted_loop))]
 fn some_entries<'a, 't>(
     alloc: Global,
     levels: u8,
@@ -252,6 +253,7 @@ fn are_arcs(all: &[ArcTree]) -> bool
     }
 }
 
+#[tactic(auto, using(crate::proofs::Loops::each_loop))]
 fn all_arcs<'a, 't>(alloc: Global, at: Cursor<'a, 't>) -> Read<'a, 't, Vec<ArcTree<'a>>>
     ensures { Reads (each_view arc_view) result (tokens_reading.read_each reading.does_not_close tokens_reading.read_arc (length (ahead at.entry)) (ahead at.entry)) }
 {

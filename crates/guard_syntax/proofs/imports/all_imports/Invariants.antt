@@ -3,10 +3,8 @@ use Rattle.guard_syntax.specs.Cursors.{ahead}
 use Rattle.guard_syntax.specs.ReadTokens.{placed_of, read_each}
 use Rattle.guard_syntax.specs.ReadModule.{goes_on_importing, read_import}
 use Rattle.guard_syntax.specs.ModuleViews.{import_view}
-use Rattle.guard_syntax.proofs.Loops.{with_front}
+use Rattle.guard_syntax.proofs.Loops.{EachSoFar}
 use Rattle.guard_syntax.proofs.imports.all_imports.Given as goal
 
 abbrev pub invariant-loop : goal.invariant-loop
-invariant-loop l =
-    with_front (map import_view l.all.items) (read_each goes_on_importing read_import (length (ahead l.at) - l.counter) (ahead l.rest))
-    ≡ read_each goes_on_importing read_import (length (ahead l.at)) (ahead l.at)
+invariant-loop l = EachSoFar import_view goes_on_importing read_import (ahead l.at) l.all.items l.counter (ahead l.rest)

@@ -3,10 +3,8 @@ use Rattle.guard_syntax.specs.Cursors.{ahead}
 use Rattle.guard_syntax.specs.ReadTokens.{placed_of, read_parted}
 use Rattle.guard_syntax.specs.ReadTypes.{read_item}
 use Rattle.guard_syntax.specs.TypeViews.{item_view}
-use Rattle.guard_syntax.proofs.Loops.{with_front}
+use Rattle.guard_syntax.proofs.Loops.{PartedSoFar}
 use Rattle.guard_syntax.proofs.items.some_items.Given as goal
 
 abbrev pub invariant-loop : goal.invariant-loop
-invariant-loop l =
-    with_front (map item_view l.all.items) (read_parted read_item (length (ahead l.at) - l.counter) (ahead l.rest))
-    ≡ read_parted read_item (length (ahead l.at)) (ahead l.at)
+invariant-loop l = PartedSoFar item_view read_item (ahead l.at) l.all.items l.counter (ahead l.rest)

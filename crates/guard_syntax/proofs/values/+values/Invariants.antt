@@ -3,7 +3,7 @@ use Rattle.guard_syntax.specs.Cursors.{ahead}
 use Rattle.guard_syntax.specs.ReadTokens.{placed_of, read_parted}
 use Rattle.guard_syntax.specs.ReadValues.{read_value, read_entry}
 use Rattle.guard_syntax.specs.Views.{entry_view}
-use Rattle.guard_syntax.proofs.Loops.{with_front}
+use Rattle.guard_syntax.proofs.Loops.{PartedSoFar}
 use Rattle.guard_syntax.proofs.values.+values.Given as goal
 
 abbrev pub decreases-value : goal.decreases-value
@@ -28,6 +28,4 @@ abbrev pub decreases-entry : goal.decreases-entry
 decreases-entry l = l.levels * 8 + 3
 
 abbrev pub invariant-some_entries-loop : goal.invariant-some_entries-loop
-invariant-some_entries-loop l =
-    with_front (map entry_view l.all.items) (read_parted (read_entry (read_value l.levels)) (length (ahead l.at) - l.counter) (ahead l.rest))
-    ≡ read_parted (read_entry (read_value l.levels)) (length (ahead l.at)) (ahead l.at)
+invariant-some_entries-loop l = PartedSoFar entry_view (read_entry (read_value l.levels)) (ahead l.at) l.all.items l.counter (ahead l.rest)

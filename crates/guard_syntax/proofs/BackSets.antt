@@ -1,11 +1,11 @@
 -- What sets of values and constraints write is read again.
-use Rattle.std.proofs.Common.{◌≡◌, ℕ, zero, suc, ◌+◌, ◌≤◌, ◌<◌, Bool, true, false, List, [], ◌∷◌, length, Option, Some, None, Result, Ok, refl, ap, sym, ◌∙◌, subst, arith}
+use Rattle.std.proofs.Common.{◌≡◌, ℕ, zero, suc, ◌≤◌, Bool, true, false, List, [], ◌∷◌, length, Option, Some, None, Result, Ok, refl, ap, sym, ◌∙◌, subst, arith}
 use Rattle.guard_model.specs.Answer.{◌>>=◌}
 use Rattle.guard_model.specs.declared.site.Site.{Site}
 use Rattle.guard_lexer.specs.declared.token.TokenKind.TheVariants.{Reserved, Mark}
 use Rattle.guard_lexer.specs.declared.token.Reserved.{Reserved as ReservedWord}
 use Rattle.guard_lexer.specs.declared.token.Reserved.TheVariants.{All, Except, Max, Min}
-use Rattle.guard_lexer.specs.declared.token.Mark.TheVariants.{Colon, Comma, LeftParenthesis, LessThan, RangeSeparator, RightBrace, RightParenthesis}
+use Rattle.guard_lexer.specs.declared.token.Mark.TheVariants.{Colon, LeftParenthesis, LessThan, RangeSeparator, RightBrace, RightParenthesis}
 use Rattle.guard_syntax.specs.declared.halt.Stop.{Stop}
 use Rattle.guard_syntax.specs.declared.tree.JoinMark.{JoinMark}
 use Rattle.guard_syntax.specs.declared.tree.JoinMark.TheVariants as join
@@ -14,17 +14,16 @@ use Rattle.guard_syntax.specs.declared.tree.PresenceWord.TheVariants as presence
 use Rattle.guard_syntax.specs.declared.tree.StringKind.TheVariants as string
 use Rattle.guard_syntax.specs.Kinds.{same_kind}
 use Rattle.guard_syntax.specs.Lexemes.{Lexeme, word, mark}
-use Rattle.guard_syntax.specs.Trees.{WrittenNumber, WrittenValue, value_node, boolean, null, integer, text, reference, chosen, list, arcs, WrittenEndForm, end_integer, end_reference, end_characters, WrittenEnd, WrittenRange, WrittenSet, set_node, WrittenSetForm, all_except, union, WrittenUnited, none_united, united, WrittenJoinedIntersection, united_of, WrittenIntersection, intersection, WrittenMet, none_met, met, WrittenJoinedDifference, met_of, WrittenDifference, element_alone, element_except, WrittenElement, element_node, WrittenElementForm, parentheses, value, contained, range, size, from, with_component, with_components, WrittenConstraint, constraint, WrittenParts, no_parts, part, part_in, WrittenPart, parts_of}
-use Rattle.guard_syntax.specs.TokensOf.{each_then, parted_then, perhaps_then, if_there_then, number_then, value_then, end_form_then, end_or_then, range_then, union_mark, intersection_mark, presence_word_then, set_then, set_form_then, united_then, intersection_then, met_then, difference_then, element_then, element_form_then, constraint_then, parts_then}
-use Rattle.guard_syntax.specs.Sites.{first, past, sited_each, sited_parted, sited_number, sited_value, sited_end_form, sited_end_or, sited_range, past_partial, sited_set, sited_set_form, sited_united, sited_intersection, sited_met, sited_difference, sited_element, sited_element_form, sited_constraint, sited_parts}
-use Rattle.guard_syntax.specs.Grammar.{MayFollowSign, IsNumber, AreEach, AreSome, IsPerhaps, IsValue, IsEndForm, IsEnd, IsRange, HasParts, IsSet, IsSetForm, AreUnited, IsIntersection, AreMet, IsDifference, IsElement, IsElementForm, IsConstraint, AreParts}
-use Rattle.guard_syntax.specs.ReadTokens.{Placed, Reader, begins_with, behind, site_at, read_token, read_word, read_each, read_parted, read_number}
-use Rattle.guard_syntax.specs.ReadValues.{read_value}
-use Rattle.guard_syntax.specs.ReadSets.{begins_dots, begins_range, read_end_form, read_end_or, read_range, read_constraint, read_parentheses, read_contained, presence_at, read_perhaps_constraint, read_part, read_partial, read_with_components, read_with, read_range_or_value, read_element_form, read_element, read_except, read_difference, begins_intersection_mark, begins_union_mark, read_intersection_mark, read_union_mark, read_joined_difference, read_intersection, read_joined_intersection, read_union, read_all_except, read_set_form, read_set}
+use Rattle.guard_syntax.specs.Trees.{WrittenNumber, WrittenValue, value_node, boolean, null, integer, text, reference, chosen, list, arcs, WrittenEndForm, end_integer, end_reference, end_characters, WrittenEnd, WrittenRange, WrittenSet, set_node, WrittenSetForm, all_except, union, WrittenUnited, none_united, united, WrittenJoinedIntersection, united_of, WrittenIntersection, intersection, WrittenMet, none_met, met, WrittenJoinedDifference, met_of, WrittenDifference, element_alone, element_except, WrittenElement, element_node, parentheses, value, contained, range, size, from, with_component, with_components, WrittenConstraint, constraint, WrittenParts, no_parts, part, part_in, WrittenPart, parts_of}
+use Rattle.guard_syntax.specs.TokensOf.{each_then, parted_then, if_there_then, number_then, value_then, end_form_then, end_or_then, range_then, union_mark, intersection_mark, presence_word_then, set_then, set_form_then, united_then, intersection_then, met_then, difference_then, element_then, element_form_then, constraint_then}
+use Rattle.guard_syntax.specs.Sites.{first, past, sited_each, sited_number, sited_value, sited_end_form, sited_end_or, sited_range, sited_set, sited_set_form, sited_intersection, sited_difference, sited_element, sited_element_form, sited_constraint}
+use Rattle.guard_syntax.specs.Grammar.{MayFollowSign, AreEach, IsPerhaps, IsValue, IsEndForm, IsEnd, HasParts, IsSet, IsSetForm, AreUnited, IsIntersection, AreMet, IsDifference, IsElement, IsElementForm, IsConstraint, AreParts}
+use Rattle.guard_syntax.specs.ReadTokens.{Placed, Reader, begins_with, read_token, read_word, read_each}
+use Rattle.guard_syntax.specs.ReadSets.{begins_dots, read_end_form, read_end_or, read_range, read_constraint, read_parentheses, read_contained, presence_at, read_perhaps_constraint, read_part, read_partial, read_with_components, read_with, read_range_or_value, read_element_form, read_element, read_except, read_difference, begins_intersection_mark, begins_union_mark, read_intersection_mark, read_union_mark, read_joined_difference, read_intersection, read_joined_intersection, read_union, read_all_except, read_set_form, read_set}
 use Rattle.guard_syntax.proofs.Steps.{Sound}
-use Rattle.guard_syntax.proofs.WrittenSets.{part_then, sited_part, IsPart, parts_print, parts_sited, joined_difference_then, sited_joined_difference, IsJoinedDifference, met_print, met_sited, joined_intersection_then, sited_joined_intersection, IsJoinedIntersection, united_print, united_sited, constraint_in, part_is_in, element_form_in, element_in, difference_in, joined_difference_in, intersection_in, joined_intersection_in, set_form_in, set_in}
+use Rattle.guard_syntax.proofs.WrittenSets.{part_then, sited_part, IsPart, parts_print, parts_sited, joined_difference_then, sited_joined_difference, IsJoinedDifference, met_print, met_sited, joined_intersection_then, sited_joined_intersection, IsJoinedIntersection, united_print, united_sited, part_is_in, element_form_in, element_in, difference_in, joined_difference_in, joined_intersection_in, set_form_in, set_in}
 use Rattle.guard_syntax.proofs.WrittenValues.{value_in}
-use Rattle.guard_syntax.proofs.BackLists.{place, length-place, ReadsBack, Whatever, NotBefore, not_zero, number_back, site_first, each_back, parted_back}
+use Rattle.guard_syntax.proofs.BackLists.{place, ReadsBack, Whatever, NotBefore, not_zero, number_back, site_first, each_back, parted_back}
 use Rattle.guard_syntax.proofs.BackValues.{AfterValue, value_back}
 
 -- ---- what does not lengthen an element, a difference, an intersection, a set

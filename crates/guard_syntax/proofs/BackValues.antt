@@ -1,23 +1,23 @@
 -- What values write is read again.
-use Rattle.std.proofs.Common.{◌≡◌, ℕ, zero, suc, ◌+◌, ◌≤◌, ◌<◌, ◌==◌, Bool, true, false, List, [], ◌∷◌, length, Option, Some, None, Result, Ok, refl, ap, sym, ◌∙◌, subst, arith}
+use Rattle.std.proofs.Common.{◌≡◌, ℕ, zero, suc, ◌==◌, Bool, true, false, List, [], ◌∷◌, length, Option, Some, None, Ok, refl, ap, subst, arith}
 use Rattle.std.proofs.lemmas.Bool.Decides.{nat_tests}
 use Rattle.guard_model.specs.declared.site.Site.{Site}
 use Rattle.guard_lexer.specs.declared.token.TokenKind.TheVariants.{Mark, LowerName, Number}
 use Rattle.guard_lexer.specs.declared.token.Mark.{Mark as Sign}
-use Rattle.guard_lexer.specs.declared.token.Mark.TheVariants.{Colon, Comma, LeftBrace, LeftParenthesis, Minus, RightBrace}
+use Rattle.guard_lexer.specs.declared.token.Mark.TheVariants.{Colon, LeftBrace, LeftParenthesis, Minus, RightBrace}
 use Rattle.guard_syntax.specs.Kinds.{same_kind}
 use Rattle.guard_syntax.specs.declared.tree.StringKind.TheVariants as string
-use Rattle.guard_syntax.specs.Lexemes.{Lexeme, mark, lower_name}
+use Rattle.guard_syntax.specs.Lexemes.{Lexeme, mark}
 use Rattle.guard_syntax.specs.Trees.{WrittenNumber, WrittenArc, WrittenValue, value_node, WrittenValueForm, boolean, null, integer, text, reference, chosen, list, arcs, WrittenEntries, no_entries, entry, WrittenEntry, entries_of}
 use Rattle.guard_syntax.specs.TokensOf.{number_then, arc_form_then, arc_then, each_then, parted_then, comma_before, entry_name_then, entries_comma, value_then, value_form_then, entries_then}
-use Rattle.guard_syntax.specs.Sites.{first, past, past_perhaps, sited_arc, sited_each, sited_parted, sited_number, sited_value, sited_value_form, sited_entries}
-use Rattle.guard_syntax.specs.Grammar.{MayFollowSign, Any, AreEach, AreSome, IsNumber, AreArcs, IsValue, IsValueForm, AreEntries}
-use Rattle.guard_syntax.specs.ReadTokens.{Placed, Reader, begins_with, read_token, read_word, read_parted, read_each, read_arc}
+use Rattle.guard_syntax.specs.Sites.{past, sited_arc, sited_each, sited_parted, sited_number, sited_value, sited_value_form}
+use Rattle.guard_syntax.specs.Grammar.{MayFollowSign, Any, AreEach, AreArcs, IsValue, IsValueForm, AreEntries}
+use Rattle.guard_syntax.specs.ReadTokens.{Reader, begins_with, read_token, read_word}
 use Rattle.guard_syntax.specs.ReadValues.{is_there, begins_value, begins_arcs, are_arcs, does_not_close, read_entry_name, read_entry, read_entries, read_arcs, read_braces, read_name, read_integer_form, read_string, read_value_form, read_value}
 use Rattle.guard_syntax.proofs.Steps.{Sound}
 use Rattle.guard_syntax.proofs.WrittenLists.{arc_in}
 use Rattle.guard_syntax.proofs.WrittenValues.{entry_then, sited_entry, IsEntry, entries_print, entries_sited, entry_in, form_in, value_in}
-use Rattle.guard_syntax.proofs.BackLists.{place, length-place, ReadsBack, Whatever, NotBefore, number_back, arc_back, site_first, each_back, parted_back}
+use Rattle.guard_syntax.proofs.BackLists.{place, ReadsBack, NotBefore, number_back, arc_back, site_first, each_back, parted_back}
 
 -- the token behind does not lengthen a value
 abbrev pub AfterValue : List Lexeme → Type 0

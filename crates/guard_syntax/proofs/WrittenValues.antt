@@ -1,20 +1,17 @@
 -- What is read of values is what they write.
-use Rattle.std.proofs.Common.{◌≡◌, ℕ, zero, suc, ◌+◌, ◌≤◌, ◌<◌, ◌==◌, Bool, true, false, List, [], ◌∷◌, length, Option, Some, None, Result, Ok, Err, refl, ap, sym, ◌∙◌, subst, arith}
-use Rattle.guard_model.specs.Answer.{◌>>=◌}
+use Rattle.std.proofs.Common.{◌≡◌, ℕ, zero, suc, ◌≤◌, ◌==◌, true, List, [], ◌∷◌, length, Option, None, refl, ap, sym, ◌∙◌, subst, arith}
 use Rattle.guard_model.specs.declared.site.Site.{Site}
 use Rattle.guard_lexer.specs.declared.token.TokenKind.TheVariants.{Reserved, CharacterString, BitString, HexadecimalString, LowerName, Mark}
 use Rattle.guard_lexer.specs.declared.token.Reserved.TheVariants.{False, Null, True}
 use Rattle.guard_lexer.specs.declared.token.Mark.TheVariants.{Colon, Comma, LeftBrace, RightBrace}
-use Rattle.guard_syntax.specs.declared.halt.Stop.{Stop}
-use Rattle.guard_syntax.specs.declared.tree.StringKind.TheVariants as string
 use Rattle.guard_syntax.specs.Lexemes.{Lexeme, mark}
-use Rattle.guard_syntax.specs.Trees.{WrittenNumber, WrittenArc, WrittenValue, value_node, WrittenValueForm, boolean, null, integer, text, reference, chosen, list, arcs, WrittenEntries, no_entries, entry, WrittenEntry, entries_of}
+use Rattle.guard_syntax.specs.Trees.{WrittenNumber, WrittenArc, WrittenValue, integer, WrittenEntries, entry, WrittenEntry, entries_of}
 use Rattle.guard_syntax.specs.TokensOf.{arc_then, each_then, parted_then, entry_name_then, value_then, value_form_then, entries_then}
 use Rattle.guard_syntax.specs.Sites.{first, past, past_perhaps, sited_arc, sited_each, sited_parted, sited_value, sited_value_form, sited_entries}
 use Rattle.guard_syntax.specs.Grammar.{AreEach, AreSome, AreArcs, IsValue, IsValueForm, AreEntries}
-use Rattle.guard_syntax.specs.ReadTokens.{Placed, Reader, begins_with, behind, read_arc}
+use Rattle.guard_syntax.specs.ReadTokens.{Placed, Reader, begins_with, behind}
 use Rattle.guard_syntax.specs.ReadValues.{is_there, begins_number, begins_value, begins_arcs, are_arcs, does_not_close, read_entry_name, read_entry, read_entries, read_arcs, read_braces, read_name, read_integer_form, read_string, read_value_form, read_value}
-use Rattle.guard_syntax.proofs.Steps.{lexemes, sites, Holds, then_holds, ok_holds, err_holds, if_holds, so_holds, Took, took, took_mark, took_spelled, In, Sound}
+use Rattle.guard_syntax.proofs.Steps.{lexemes, sites, Holds, then_holds, ok_holds, err_holds, if_holds, so_holds, took, took_mark, took_spelled, Sound}
 use Rattle.guard_syntax.proofs.WrittenLists.{number_in, arc_in, each_in, parted_in}
 
 -- one entry

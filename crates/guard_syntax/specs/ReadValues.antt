@@ -1,14 +1,13 @@
 -- Reading values.
-use Rattle.std.specs.Prelude.{ℕ, zero, suc, Bool, true, false, ◌||◌, ◌&&◌, ◌==◌, not, if◌then◌else◌, List, [], ◌∷◌, length, Option, Some, None, Result, Ok, Err}
+use Rattle.std.specs.Prelude.{ℕ, zero, suc, Bool, true, false, ◌||◌, ◌&&◌, ◌==◌, not, if◌then◌else◌, List, [], ◌∷◌, length, Option, Some, None, Ok}
 use Rattle.guard_model.specs.Answer.{◌>>=◌}
 use Rattle.guard_lexer.specs.declared.token.TokenKind.TheVariants.{Reserved, LowerName, Number, CharacterString, BitString, HexadecimalString, Mark}
 use Rattle.guard_lexer.specs.declared.token.Reserved.TheVariants.{False, Null, True}
 use Rattle.guard_lexer.specs.declared.token.Mark.TheVariants.{Colon, LeftBrace, LeftParenthesis, Minus, RightBrace}
-use Rattle.guard_syntax.specs.declared.halt.Stop.{Stop}
 use Rattle.guard_syntax.specs.declared.tree.StringKind.{StringKind}
 use Rattle.guard_syntax.specs.declared.tree.StringKind.TheVariants as string
 use Rattle.guard_syntax.specs.Trees.{WrittenArc, WrittenValue, value_node, WrittenValueForm, boolean, null, integer, text, reference, chosen, list, arcs, WrittenEntry, entries_of}
-use Rattle.guard_syntax.specs.ReadTokens.{Placed, Reader, begins_with, behind, site_at, spelling_at, unexpected, too_deep, read_token, read_word, read_each, read_parted, read_number, read_arc}
+use Rattle.guard_syntax.specs.ReadTokens.{Placed, Reader, begins_with, behind, site_at, unexpected, too_deep, read_token, read_word, read_each, read_parted, read_number, read_arc}
 
 -- which string is written
 abbrev pub string_at : List Placed → Option StringKind

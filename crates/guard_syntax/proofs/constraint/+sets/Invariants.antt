@@ -1,6 +1,5 @@
-use Rattle.std.proofs.Common.{◌≡◌, map, length, ◌+◌, ◌-◌, ◌*◌}
+use Rattle.std.proofs.Common.{◌+◌, ◌*◌}
 use Rattle.guard_syntax.specs.Cursors.{ahead}
-use Rattle.guard_syntax.specs.ReadTokens.{placed_of, read_each, read_parted}
 use Rattle.guard_syntax.specs.ReadValues.{read_value}
 use Rattle.guard_syntax.specs.ReadSets.{begins_union_mark, begins_intersection_mark, read_joined_intersection, read_joined_difference, read_part, read_set}
 use Rattle.guard_syntax.specs.SetViews.{joined_intersection_view, joined_difference_view, part_view}

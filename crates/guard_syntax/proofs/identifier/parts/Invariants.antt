@@ -1,6 +1,4 @@
-use Rattle.std.proofs.Common.{◌≡◌, map, length, ◌-◌}
 use Rattle.guard_syntax.specs.Cursors.{ahead}
-use Rattle.guard_syntax.specs.ReadTokens.{placed_of, read_each}
 use Rattle.guard_syntax.specs.ReadValues.{does_not_close}
 use Rattle.guard_syntax.specs.ReadModule.{read_identifier_part}
 use Rattle.guard_syntax.specs.ModuleViews.{identifier_part_view}

@@ -1,6 +1,4 @@
-use Rattle.std.proofs.Common.{◌≡◌, map, length, ◌-◌}
 use Rattle.guard_syntax.specs.Cursors.{ahead}
-use Rattle.guard_syntax.specs.ReadTokens.{placed_of, read_each}
 use Rattle.guard_syntax.specs.ReadModule.{goes_on_importing, read_import}
 use Rattle.guard_syntax.specs.ModuleViews.{import_view}
 use Rattle.guard_syntax.proofs.Loops.{EachSoFar}

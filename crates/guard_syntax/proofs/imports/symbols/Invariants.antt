@@ -1,6 +1,4 @@
-use Rattle.std.proofs.Common.{◌≡◌, map, length, ◌-◌}
 use Rattle.guard_syntax.specs.Cursors.{ahead}
-use Rattle.guard_syntax.specs.ReadTokens.{placed_of, read_parted}
 use Rattle.guard_syntax.specs.ReadModule.{read_symbol}
 use Rattle.guard_syntax.specs.ModuleViews.{symbol_view}
 use Rattle.guard_syntax.proofs.Loops.{PartedSoFar}

@@ -1,6 +1,4 @@
-use Rattle.std.proofs.Common.{◌≡◌, map, length, ◌-◌}
 use Rattle.guard_syntax.specs.Cursors.{ahead}
-use Rattle.guard_syntax.specs.ReadTokens.{placed_of, read_parted}
 use Rattle.guard_syntax.specs.ReadTypes.{read_item}
 use Rattle.guard_syntax.specs.TypeViews.{item_view}
 use Rattle.guard_syntax.proofs.Loops.{PartedSoFar}

@@ -1,6 +1,5 @@
-use Rattle.std.proofs.Common.{◌≡◌, map, length, ◌+◌, ◌-◌, ◌*◌}
+use Rattle.std.proofs.Common.{◌+◌, ◌*◌}
 use Rattle.guard_syntax.specs.Cursors.{ahead}
-use Rattle.guard_syntax.specs.ReadTokens.{placed_of, read_parted}
 use Rattle.guard_syntax.specs.ReadValues.{read_value}
 use Rattle.guard_syntax.specs.ReadTypes.{read_component, read_alternative, read_type}
 use Rattle.guard_syntax.specs.TypeViews.{component_view, alternative_view}

@@ -1,6 +1,4 @@
-use Rattle.std.proofs.Common.{◌≡◌, map, length, ◌-◌}
 use Rattle.guard_syntax.specs.Cursors.{ahead}
-use Rattle.guard_syntax.specs.ReadTokens.{placed_of, read_each}
 use Rattle.guard_syntax.specs.ReadSets.{read_constraint, read_set}
 use Rattle.guard_syntax.specs.ReadTypes.{begins_constraint}
 use Rattle.guard_syntax.specs.SetViews.{constraint_view}

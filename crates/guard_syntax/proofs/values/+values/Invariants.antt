@@ -1,6 +1,5 @@
-use Rattle.std.proofs.Common.{◌≡◌, map, length, ◌+◌, ◌-◌, ◌*◌}
+use Rattle.std.proofs.Common.{◌+◌, ◌*◌}
 use Rattle.guard_syntax.specs.Cursors.{ahead}
-use Rattle.guard_syntax.specs.ReadTokens.{placed_of, read_parted}
 use Rattle.guard_syntax.specs.ReadValues.{read_value, read_entry}
 use Rattle.guard_syntax.specs.Views.{entry_view}
 use Rattle.guard_syntax.proofs.Loops.{PartedSoFar}

@@ -1,6 +1,5 @@
-use Rattle.std.proofs.Common.{◌≡◌, map, length, ◌-◌}
 use Rattle.guard_syntax.specs.Cursors.{ahead}
-use Rattle.guard_syntax.specs.ReadTokens.{placed_of, read_each, read_arc}
+use Rattle.guard_syntax.specs.ReadTokens.{read_arc}
 use Rattle.guard_syntax.specs.ReadValues.{does_not_close}
 use Rattle.guard_syntax.specs.Views.{arc_view}
 use Rattle.guard_syntax.proofs.Loops.{EachSoFar}

@@ -3,10 +3,9 @@ ghost use Rattle.std.specs.Prelude.{◌≡◌, ◌&&◌, map, nat_le, IfOk, IsTr
 ghost use Rattle.guard_model.specs.TypeView.{type_view, kind_view, component_view, components_of, presence_view};
 ghost use Rattle.guard_model.specs.ValueView.{value_view};
 ghost use Rattle.guard_tagcheck.specs.Distinct.{Distinct};
-ghost use Rattle.guard_der.specs.Sound.{is_sound, is_proper, is_proper_kind, are_proper, is_proper_presence, is_short};
+ghost use Rattle.guard_der.specs.Sound.{is_sound, is_proper, is_proper_kind, are_proper, is_proper_presence, is_short, fits_as_default};
 ghost use Rattle.guard_der.specs.Der.{der};
 ghost use Rattle.guard_der.specs.Fits.{fits};
-ghost use Rattle.guard_der.specs.Pieces.{default_fits};
 ghost use Rattle.guard_model.specs.Counts.{component_count};
 
 mod forms;
@@ -106,7 +105,7 @@ fn is_proper_presence(alloc: Global, ty: &Ty, presence: &Presence) -> Result<boo
 
 /// A default is a value of its component's type, and its encoding isn't too long.
 fn default_fits(alloc: Global, ty: &Ty, value: &Value) -> Result<bool, OutOfMemory>
-    ensures { IfOk result (λ b. b ≡ default_fits (type_view ty.now) (value_view value.now)) }
+    ensures { IfOk result (λ b. b ≡ fits_as_default (type_view ty.now) (value_view value.now)) }
 {
     if !fits(alloc, ty, value)? {
         return Ok(false);

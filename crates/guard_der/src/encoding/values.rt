@@ -4,14 +4,14 @@ ghost use Rattle.guard_model.specs.Answer.{Gives};
 ghost use Rattle.guard_model.specs.TypeView.{type_view, kind_view, component_view, components_of, presence_view};
 ghost use Rattle.guard_model.specs.ValueView.{value_view, field_view, fields_view, items_view};
 ghost use Rattle.guard_der.specs.Der.{der, contents_octets, parts_of, alternative_octets, item_encodings};
-ghost use Rattle.guard_der.specs.Fits.{fits, fits_kind, fits_fields, fits_alternative, every_fits};
+ghost use Rattle.guard_der.specs.Fits.{fits, fits_kind, fits_fields, fits_alternative, every_fits, fits_field};
 ghost use Rattle.guard_der.specs.Encoding.{refusal};
-ghost use Rattle.guard_der.specs.Sent.{or_too_long, part_of, parts_view, field_fits, with_parts, all_joined, sequence_octets, set_octets};
+ghost use Rattle.guard_der.specs.EncodingSteps.{or_too_long, part_of, parts_view, with_parts, all_joined, sequence_octets, set_octets};
 
 use crate::encoding::EncodeFault;
 use crate::encoding::element::tagged;
 use crate::encoding::first_tag::outermost;
-use crate::encoding::parts::{Sent, ascending, joined};
+use crate::encoding::parts::{EncodedPart, ascending, joined};
 use crate::encoding::simple::{bit_string, boolean, characters, integer, object_identifier};
 use crate::forms::is_constructed;
 use crate::presence::is_left_out;
@@ -93,7 +93,11 @@ fn alternative(
 
 /// What is sent of the components, in written order.
 #[cycle(encoding)]
-fn parts(alloc: Global, comps: &[Comp], fields: &[Option<Value>]) -> Result<Vec<Sent>, EncodeFault>
+fn parts(
+    alloc: Global,
+    comps: &[Comp],
+    fields: &[Option<Value>],
+) -> Result<Vec<EncodedPart>, EncodeFault>
     requires { IsTrue (fits_fields (components_of (map component_view comps.now)) (fields_view fields.now)) }
     ensures { Gives (λ v. parts_view v.items) refusal result (or_too_long (parts_of (components_of (map component_view comps.now)) (fields_view fields.now))) }
 {
@@ -112,12 +116,12 @@ fn parts(alloc: Global, comps: &[Comp], fields: &[Option<Value>]) -> Result<Vec<
 #[cycle(encoding)]
 fn push_part(
     alloc: Global,
-    parts: &mut Vec<Sent>,
+    parts: &mut Vec<EncodedPart>,
     presence: &Presence,
     ty: &Ty,
     field: &Option<Value>,
 ) -> Result<(), EncodeFault>
-    requires { IsTrue (field_fits (presence_view presence.now) (type_view ty.now) (field_view field.now)) }
+    requires { IsTrue (fits_field (presence_view presence.now) (type_view ty.now) (field_view field.now)) }
     ensures { Gives (λ _. parts_view parts.new.items) refusal result (or_too_long (with_parts (parts_view parts.old.items) (part_of (presence_view presence.now) (type_view ty.now) (field_view field.now)))) }
 {
     let Some(value) = field else {
@@ -127,7 +131,7 @@ fn push_part(
         return Ok(());
     }
     let octets = encoding(alloc, ty, value)?;
-    Ok(parts.push(Sent {
+    Ok(parts.push(EncodedPart {
         tag: outermost(ty, value),
         octets,
     })?)

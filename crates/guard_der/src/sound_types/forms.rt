@@ -2,8 +2,7 @@
 ghost use Rattle.std.specs.Prelude.{◌≡◌, map};
 ghost use Rattle.guard_model.specs.TypeView.{type_view, kind_view, constraint_view, constraints_of, element_view};
 ghost use Rattle.guard_tagcheck.specs.Limits.{is_tagged, is_choice, are_low};
-ghost use Rattle.guard_der.specs.Sound.{applies, all_apply};
-ghost use Rattle.guard_der.specs.Pieces.{is_formed};
+ghost use Rattle.guard_der.specs.Sound.{applies, all_apply, is_formed};
 
 use guard_model::{Cons, GREATEST_TAG_NUMBER, Kind, Rule, Tag, Ty};
 

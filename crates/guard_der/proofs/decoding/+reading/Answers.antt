@@ -15,20 +15,20 @@ use Rattle.guard_der.specs.Der.{is_left_out as left_out}
 use Rattle.guard_der.specs.Breach.{below}
 use Rattle.guard_der.specs.Reading.{element_at, part_at, fields_at, contents_at, missing_at, fault, same_form}
 use Rattle.guard_der.specs.Views.{head_view, breach_of}
-use Rattle.guard_der.proofs.Digits.{are_digits}
-use Rattle.guard_der.proofs.Headers.{head_room, head_small}
-use Rattle.guard_der.proofs.Steps.{due_ok}
-use Rattle.guard_der.proofs.ComponentSteps.{located_is}
-use Rattle.guard_der.proofs.Components.{left_proper, goes_on, refused, end_refused, is_done}
-use Rattle.guard_der.proofs.Paths.{room_below, room_below_item}
-use Rattle.guard_der.proofs.Items.{item_reads}
-use Rattle.guard_der.proofs.ItemLoop.{due_some, item_tags, item_not_due, item_not_read, item_descends, item_is_read, item_refused, items_go_on, items_refused, items_done, sequence_of_contents, set_of_contents, contents_refused, contents_read}
-use Rattle.guard_der.proofs.Decodings as decodings
-use Rattle.guard_der.proofs.Decodings.{several, whole, due_room, inner_proper, proper_inside, element_none, element_one, element_one_wrong, element_more, element_more_wrong, part_is, chosen_none, chosen_some, chosen_refused, end_ok, no_header, stray_ok, stray_refused, sent_done, default_sent, inside_refused, sequence_parts, choice_parts, choice_proper, choice_contents, choice_element, tags_element, tags_proper, tags_nesting, refuses_as, inside_room}
-use Rattle.guard_der.proofs.SetSteps.{member_reads, member_default}
-use Rattle.guard_der.proofs.Slots.{slot_filled}
-use Rattle.guard_der.proofs.Members as members
-use Rattle.guard_der.proofs.Members.{set_parts, set_read, set_given, set_refused, presence_is, head_size}
+use Rattle.guard_der.proofs.Numbers.Digits.{are_digits}
+use Rattle.guard_der.proofs.Headers.Offsets.{head_room, head_small}
+use Rattle.guard_der.proofs.Elements.Steps.{due_ok}
+use Rattle.guard_der.proofs.Components.OneComponent.{located_is}
+use Rattle.guard_der.proofs.Functions.ComponentLoop.{left_proper, goes_on, refused, end_refused, is_done}
+use Rattle.guard_der.proofs.Types.Paths.{room_below, room_below_item}
+use Rattle.guard_der.proofs.Lists.Elements.{item_reads}
+use Rattle.guard_der.proofs.Functions.ElementLoop.{due_some, item_tags, item_not_due, item_not_read, item_descends, item_is_read, item_refused, items_go_on, items_refused, items_done, sequence_of_contents, set_of_contents, contents_refused, contents_read}
+use Rattle.guard_der.proofs.Functions.Decoding as decodings
+use Rattle.guard_der.proofs.Functions.Decoding.{several, whole, due_room, inner_proper, proper_inside, element_none, element_one, element_one_wrong, element_more, element_more_wrong, part_is, chosen_none, chosen_some, chosen_refused, end_ok, no_header, stray_ok, stray_refused, sent_done, default_sent, inside_refused, sequence_parts, choice_parts, choice_proper, choice_contents, choice_element, tags_element, tags_proper, tags_nesting, refuses_as, inside_room}
+use Rattle.guard_der.proofs.Sets.OneElement.{member_reads, member_default}
+use Rattle.guard_der.proofs.Functions.SetFields.{slot_filled}
+use Rattle.guard_der.proofs.Functions.SetLoop as members
+use Rattle.guard_der.proofs.Functions.SetLoop.{set_parts, set_read, set_given, set_refused, presence_is, head_size}
 use Rattle.guard_der.proofs.decoding.+reading.Goals as goal
 use Rattle.std.proofs.lemmas.Bool.{not-true, not-false}
 use Rattle.guard_model.proofs.ValueViews.{value_view_chosen}

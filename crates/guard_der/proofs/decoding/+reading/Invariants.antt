@@ -7,9 +7,9 @@ use Rattle.guard_tagcheck.specs.FirstTags.{begins_with}
 use Rattle.guard_tagcheck.specs.Limits.{nesting, nesting_inside, deepest}
 use Rattle.guard_der.specs.Sound.{are_proper}
 use Rattle.guard_der.specs.Reading.{element_at, fields_at, items_at, all_absent, part_at, set_at}
-use Rattle.guard_der.proofs.Components.{with_front}
-use Rattle.guard_der.proofs.ItemLoop.{with_items, items_left}
-use Rattle.guard_der.proofs.Members.{Going}
+use Rattle.guard_der.proofs.Functions.ComponentLoop.{with_front}
+use Rattle.guard_der.proofs.Functions.ElementLoop.{with_items, items_left}
+use Rattle.guard_der.proofs.Functions.SetLoop.{Going}
 use Rattle.guard_der.proofs.decoding.+reading.Given as goal
 use Rattle.guard_model.proofs.Components.{left, in_view}
 

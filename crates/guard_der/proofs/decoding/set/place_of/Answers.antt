@@ -3,8 +3,8 @@ use Rattle.std.specs.Prelude.{option_map}
 use Rattle.guard_model.specs.declared.site.Step.TheVariants.{Component}
 use Rattle.guard_model.specs.ValueView.{fields_view}
 use Rattle.guard_der.specs.Breach.{below}
-use Rattle.guard_der.proofs.SetSteps.{place_free, place_unknown, place_descends, place_full}
-use Rattle.guard_der.proofs.Slots.{filled_slot}
+use Rattle.guard_der.proofs.Sets.OneElement.{place_free, place_unknown, place_descends, place_full}
+use Rattle.guard_der.proofs.Functions.SetFields.{filled_slot}
 use Rattle.guard_der.proofs.decoding.set.place_of.Goals as goal
 use Rattle.guard_model.proofs.Components.{in_view}
 

@@ -1,10 +1,9 @@
 -- The test of a type's limits, one step at a time.
-use Rattle.std.proofs.Common.{◌≡◌, ℕ, ◌+◌, ◌-◌, ◌<◌, ◌≤◌, Bool, true, false, leb, List, length, map, get_or, refl, sym, ap, ◌∙◌, arith}
+use Rattle.std.proofs.Common.{◌≡◌, ℕ, ◌+◌, ◌<◌, ◌≤◌, Bool, true, false, leb, List, length, get_or, refl, sym, ap, ◌∙◌, arith}
 use Rattle.std.specs.Prelude.{◌&&◌, nat_le, max}
 use Rattle.std.proofs.Math.Nat.{le-max_left, le-max_right}
-use Rattle.std.proofs.lemmas.Bool.{le-leb, lt-leb, leb-true, and_left, and_right, and_from, and_parts, false≢true}
-use Rattle.std.proofs.lemmas.List.{length-map}
-use Rattle.guard_model.specs.TypeView.{type_view, component_view}
+use Rattle.std.proofs.lemmas.Bool.{le-leb, lt-leb, leb-true, and_left, and_right, and_from, and_parts}
+use Rattle.guard_model.specs.TypeView.{type_view}
 use Rattle.guard_model.specs.declared.ty.Comp.{Comp}
 use Rattle.guard_model.specs.declared.ty.Kind.TheViews.{out-Comp}
 use Rattle.guard_model.specs.Counts.{component_count}

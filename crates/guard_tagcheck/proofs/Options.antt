@@ -1,5 +1,5 @@
 -- What an answer of the search that may be missing has come from.
-use Rattle.std.proofs.Common.{◌≡◌, Bool, true, false, cond, Option, Some, None, ◌⊎◌, inl, inr, refl, sym}
+use Rattle.std.proofs.Common.{◌≡◌, Option, Some, None, refl, sym}
 use Rattle.std.specs.Prelude.{ℕ, []}
 use Rattle.std.proofs.lemmas.Option.{same_Some}
 use Rattle.guard_model.specs.declared.site.Step.{Step}

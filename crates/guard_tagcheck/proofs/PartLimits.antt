@@ -1,15 +1,13 @@
 -- What the limits of a type say of its parts.
-use Rattle.std.proofs.Common.{◌≡◌, ℕ, suc, ◌+◌, ◌<◌, ◌≤◌, List, ◌∷◌, [], length, drop, get_or, map, refl, sym, ap, ◌∙◌, add-one, arith}
-use Rattle.std.specs.Prelude.{IsTrue, nat_le, max, string_bytes, false, ◌||◌}
+use Rattle.std.proofs.Common.{◌≡◌, ℕ, ◌+◌, ◌<◌, ◌≤◌, List, ◌∷◌, [], length, get_or, map, ap, ◌∙◌, arith}
+use Rattle.std.specs.Prelude.{IsTrue, nat_le, max, false, ◌||◌}
 use Rattle.std.specs.Global.{Vec}
-use Rattle.std.proofs.Math.Seq.{drop-cons}
 use Rattle.std.proofs.Math.Nat.{le-max_left, le-max_right}
 use Rattle.std.proofs.lemmas.Bool.{and_parts, leb-true}
-use Rattle.std.proofs.lemmas.List.{drop_all, length-map}
 use Rattle.guard_model.specs.declared.tag.Tag.{Tag}
 use Rattle.guard_model.specs.AbstractType as type
-use Rattle.guard_model.specs.AbstractType.{AbstractKind, Components, no_components, component}
-use Rattle.guard_model.specs.TypeView.{OneComponent, type_view, kind_view, component_view, components_of, presence_view}
+use Rattle.guard_model.specs.AbstractType.{AbstractKind}
+use Rattle.guard_model.specs.TypeView.{type_view, kind_view, component_view, components_of}
 use Rattle.guard_model.specs.declared.ty.Ty.{Ty}
 use Rattle.guard_model.specs.declared.ty.Kind.TheViews.{out-Ty, out-Comp}
 use Rattle.guard_model.specs.declared.ty.Comp.{Comp}

@@ -1,6 +1,6 @@
 -- The search for a shared tag finds one where there is one.
-use Rattle.std.proofs.Common.{◌≡◌, ℕ, zero, suc, Bool, true, false, [], ◌∷◌, ◌⊎◌, inl, inr, refl, sym, ap, ◌∙◌}
-use Rattle.std.specs.Prelude.{IsTrue, ◌||◌, nat_eq}
+use Rattle.std.proofs.Common.{Bool, [], ◌∷◌, inl, inr, ap, ◌∙◌}
+use Rattle.std.specs.Prelude.{IsTrue}
 use Rattle.std.proofs.lemmas.Bool.{or_cases, or_left, or_right}
 use Rattle.guard_model.specs.declared.tag.Tag.{Tag}
 use Rattle.guard_model.proofs.Tags.{equal_tags, same_tag_itself}

@@ -60,9 +60,6 @@ abbrev pub are_low : List Tag → Bool
 are_low [] = true
 are_low (t ∷ ts) = nat_le t.number greatest_tag_number && are_low ts
 
-abbrev pub has_low_tags : List Tag → AbstractKind → Bool
-has_low_tags tags kind = are_low tags
-
 -- Tags are there except on a CHOICE, and no list of components or alternatives is too long.
 abbrev pub is_formed : List Tag → AbstractKind → Bool
 is_formed tags kind = is_tagged tags kind && has_few_components tags kind
@@ -75,9 +72,6 @@ parts_keep_limits kind = every_part is_formed kind
 
 abbrev pub components_keep_limits : Components → Bool
 components_keep_limits cs = every_component is_formed cs
-
-abbrev pub keeps_tag_limit : AbstractType → Bool
-keeps_tag_limit t = every_type has_low_tags t
 
 -- ---- the same with a bound on the nesting
 

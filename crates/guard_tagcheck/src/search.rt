@@ -1,13 +1,13 @@
 //! The first clash of a type.
-ghost use Rattle.std.specs.Prelude.{◌≡◌, ℕ, zero, suc, ◌+◌, ◌≤◌, ◌<◌, length, map, drop, true, false, option_map, IfOk, IfErr, IsTrue, IsOk, Err, Some};
+ghost use Rattle.std.specs.Prelude.{◌≡◌, suc, ◌≤◌, ◌<◌, length, map, drop, option_map, IfOk, IfErr, IsTrue, IsOk, Err, Some};
 ghost use Rattle.std.specs.Option.{option_or};
-ghost use Rattle.guard_model.specs.TypeView.{type_view, kind_view, component_view, components_of, presence_view};
+ghost use Rattle.guard_model.specs.TypeView.{type_view, component_view, components_of, presence_view};
 ghost use Rattle.guard_model.specs.Answer.{Gives};
 ghost use Rattle.guard_model.specs.Limits.{most_components, deepest_nesting};
 ghost use Rattle.guard_model.specs.declared.site.Step.TheVariants.{Element};
-ghost use Rattle.guard_tagcheck.specs.Limits.{is_within_limits, keeps_limits, parts_keep_limits, components_keep_limits, nesting, nesting_inside, deepest};
+ghost use Rattle.guard_tagcheck.specs.Limits.{is_within_limits, keeps_limits, components_keep_limits, nesting, deepest};
 ghost use Rattle.guard_tagcheck.specs.Distinct.{Distinct, IsClash, AbstractClash};
-ghost use Rattle.guard_tagcheck.specs.Search.{first_clash, clash_of_kind, inside, clash_inside, first_pair, partner, is_passed, is_mandatory, here};
+ghost use Rattle.guard_tagcheck.specs.Search.{first_clash, inside, clash_inside, first_pair, partner, is_passed, here};
 ghost use Rattle.guard_tagcheck.specs.Views.{clash_view};
 
 use crate::clash::Clash;

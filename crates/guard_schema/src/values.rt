@@ -1,6 +1,6 @@
 //! Values that are written in module texts.
 ghost use Rattle.std.specs.Prelude.{◌≡◌, ◌^◌, ◌<◌, ◌≤◌, SomeIff};
-ghost use Rattle.guard_lexer.specs.Shapes.{number_value};
+ghost use Rattle.guard_lexer.specs.Items.{number_value};
 ghost use Rattle.guard_syntax.specs.Views.{number_view};
 ghost use Rattle.guard_schema.specs.Reading.{read_number};
 

@@ -1,15 +1,26 @@
-//! Rows of inputs and expected answers for the layers that read texts and decide messages: those of `data/`, a file
-//! for each layer.
+//! Tries the calls on texts, schemas, members and verdicts on rows: inputs with the answers that are expected, in the files
+//! of `data/`.
+//!
+//! | question | file |
+//! |---|---|
+//! | what answers a layer's rows | the file of the layer's name |
+//! | what stands round a row's text | `around.rt` |
+//! | how a file of rows is read and compared | the crate `conformance_rows` |
 #![tactic(auto)]
 
+mod around;
 mod lexer;
+mod parser;
 
 use anyhow::ensure;
 use conformance_rows::check_rows;
 use lexer::Lexer;
+use parser::Parser;
 
 fn main(rt: HostRuntime) -> anyhow::Result<()> {
+    let alloc = rt.alloc();
     let lexer = check_rows(&rt, "lexer.rows", &mut Lexer::new())?;
-    ensure!(lexer, "a row has another answer");
+    let parser = check_rows(&rt, "parser.rows", &mut Parser::new(alloc))?;
+    ensure!(lexer && parser, "a row has another answer");
     Ok(())
 }

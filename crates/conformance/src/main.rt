@@ -11,16 +11,20 @@
 mod around;
 mod lexer;
 mod parser;
+mod schema;
+mod types;
 
 use anyhow::ensure;
 use conformance_rows::check_rows;
 use lexer::Lexer;
 use parser::Parser;
+use schema::Schemas;
 
 fn main(rt: HostRuntime) -> anyhow::Result<()> {
     let alloc = rt.alloc();
     let lexer = check_rows(&rt, "lexer.rows", &mut Lexer::new())?;
     let parser = check_rows(&rt, "parser.rows", &mut Parser::new(alloc))?;
-    ensure!(lexer && parser, "a row has another answer");
+    let schema = check_rows(&rt, "schema.rows", &mut Schemas::new(alloc))?;
+    ensure!(lexer && parser && schema, "a row has another answer");
     Ok(())
 }

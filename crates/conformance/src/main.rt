@@ -10,21 +10,34 @@
 
 mod around;
 mod lexer;
+mod member;
 mod parser;
+mod policies;
 mod schema;
 mod types;
+mod verdict;
+mod verdict_notation;
 
 use anyhow::ensure;
 use conformance_rows::check_rows;
 use lexer::Lexer;
+use member::Members;
 use parser::Parser;
 use schema::Schemas;
+use verdict::Verdicts;
 
 fn main(rt: HostRuntime) -> anyhow::Result<()> {
     let alloc = rt.alloc();
     let lexer = check_rows(&rt, "lexer.rows", &mut Lexer::new())?;
     let parser = check_rows(&rt, "parser.rows", &mut Parser::new(alloc))?;
     let schema = check_rows(&rt, "schema.rows", &mut Schemas::new(alloc))?;
-    ensure!(lexer && parser && schema, "a row has another answer");
+    let member = check_rows(&rt, "member.rows", &mut Members::new())?;
+    let verdict = check_rows(&rt, "verdict.rows", &mut Verdicts::new(alloc))?;
+    let report = check_rows(&rt, "report.rows", &mut Verdicts::new(alloc))?;
+    let texts = lexer && parser && schema;
+    ensure!(
+        texts && member && verdict && report,
+        "a row has another answer"
+    );
     Ok(())
 }

@@ -1,12 +1,15 @@
 //! A policy that is made of rows, a message and a rule at a time.
-ghost use Rattle.std.specs.Prelude.{◌≡◌, map, option_map, IsTrue};
+ghost use Rattle.std.specs.Prelude.{◌≡◌, map, option_map, IsTrue, [], IfOk, IfSome, string_bytes};
 ghost use Rattle.guard_model.specs.TypeView.{type_view};
+ghost use Rattle.guard_der.specs.Sound.{is_sound};
 ghost use Rattle.guard_policy.specs.Policies.{message_view, rule_view, IsConsistent, declared_among, FitsAlso};
+ghost use Rattle.conformance.specs.IntegerTypes.{is_integer_type};
+ghost use Rattle.conformance.specs.Rules.{FitsDeclared};
 
 use guard_der::sound;
 use guard_model::{Kind, OutOfMemory, Ty};
 use guard_policy::{Effect, Message, Policy, Rule};
-use std::alloc::Global;
+use std::alloc::{AllocError, Global};
 
 /// Messages and rules that a policy may have.
 #[derive(Drop)]
@@ -41,7 +44,7 @@ impl Draft {
         }
         let name = String::from_str(alloc, name)?;
         let ty = ty.copy(alloc)?;
-        self.messages.push(Message { name, ty })?;
+        self.add_message(Message { name, ty })?;
         Ok(true)
     }
 
@@ -50,23 +53,37 @@ impl Draft {
     pub fn rule(
         &mut self,
         alloc: Global,
-        heading: Heading,
+        heading: &Heading,
         ty: Option<&Ty>,
     ) -> Result<bool, OutOfMemory> {
         let Some(declared) = declared_type(&self.messages, heading.message) else {
             return Ok(false);
         };
-        let ty = match ty {
-            None => declared.copy(alloc)?,
-            Some(ty) if is_integer(declared) && is_integer(ty) => ty.copy(alloc)?,
-            Some(_) => return Ok(false),
+        let Some(ty) = type_of_rule(declared, ty) else {
+            return Ok(false);
         };
-        if !sound(alloc, &ty)? {
+        if !sound(alloc, ty)? {
             return Ok(false);
         }
         let rule = rule_of(alloc, heading, ty)?;
-        self.rules.push(rule)?;
+        self.add_rule(rule)?;
         Ok(true)
+    }
+
+    fn add_message(&mut self, message: Message) -> Result<(), AllocError>
+        requires first { self.old.rules.items ≡ [] }
+        requires sound { IsTrue (is_sound (type_view message.ty)) }
+    {
+        self.messages.push(message)?;
+        Ok(())
+    }
+
+    fn add_rule(&mut self, rule: Rule) -> Result<(), AllocError>
+        requires sound { IsTrue (is_sound (type_view rule.ty)) }
+        requires fits { FitsDeclared (map message_view self.old.messages.items) (rule_view rule) }
+    {
+        self.rules.push(rule)?;
+        Ok(())
     }
 
     /// The policy, over modules of these names.
@@ -88,20 +105,36 @@ fn declared_type<'a>(messages: &'a [Message], name: &str) -> Option<&'a Ty>
     None
 }
 
-fn is_integer(ty: &Ty) -> bool {
+/// The type of a rule: the given one, if both are INTEGERs, and the declared one where none is given.
+fn type_of_rule<'a>(declared: &'a Ty, ty: Option<&'a Ty>) -> Option<&'a Ty>
+    ensures { IfSome result (λ t. FitsAlso (type_view declared.now) (type_view t.now)) }
+{
+    match ty {
+        None => Some(declared),
+        Some(ty) if is_integer(declared) && is_integer(ty) => Some(ty),
+        Some(_) => None,
+    }
+}
+
+fn is_integer(ty: &Ty) -> bool
+    ensures { result ≡ is_integer_type (type_view ty.now) }
+{
     match ty.kind {
         Kind::Int(_) => true,
         _ => false,
     }
 }
 
-fn rule_of(alloc: Global, heading: Heading, ty: Ty) -> Result<Rule, OutOfMemory> {
+fn rule_of(alloc: Global, heading: &Heading, ty: &Ty) -> Result<Rule, OutOfMemory>
+    ensures message { IfOk result (λ r. string_bytes r.message ≡ heading.now.message.now) }
+    ensures ty { IfOk result (λ r. type_view r.ty ≡ type_view ty.now) }
+{
     Ok(Rule {
         name: String::from_str(alloc, heading.name)?,
         effect: heading.effect,
         from: String::from_str(alloc, heading.from)?,
         to: String::from_str(alloc, heading.to)?,
         message: String::from_str(alloc, heading.message)?,
-        ty,
+        ty: ty.copy(alloc)?,
     })
 }

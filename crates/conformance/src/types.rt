@@ -36,15 +36,15 @@ fn add_kind(alloc: Global, text: &mut String, kind: &Kind) -> Result<(), AllocEr
 
 #[cycle(types)]
 fn add_comps(alloc: Global, text: &mut String, comps: &[Comp]) -> Result<(), AllocError> {
-    let mut before = "";
     text.push_str(" {")?;
-    for comp in comps {
-        text.push_str(before)?;
+    for (place, comp) in comps.iter().enumerate() {
+        if place > 0 {
+            text.push_str(", ")?;
+        }
         text.push_str(&comp.name)?;
         text.push_str(" ")?;
         add_type(alloc, text, &comp.ty)?;
         text.push_str(presence_word(&comp.presence))?;
-        before = ", ";
     }
     text.push_str("}")
 }

@@ -78,7 +78,7 @@ impl Verdicts {
         let found = self.schema.as_ref().and_then(|it| type_named(it, ty));
         match &mut self.draft {
             Some(draft) if found.is_some() || ty.is_empty() => {
-                done(alloc, draft.rule(alloc, heading, found))
+                done(alloc, draft.rule(alloc, &heading, found))
             }
             _ => String::from_str(alloc, "no type"),
         }

@@ -1,14 +1,13 @@
 //! The guard: decides messages by a policy, and says why it stops one.
+//!
+//! Where to look, or to add:
+//! - the policy that is built in: `built_in.rt`, `specs/BuiltIn.antt`
+//! - the text of its module, the four messages and their lines: `first_run.rt`, `specs/FirstRun.antt`, `specs/Printing.antt`
+//! - what may keep it from printing: `specs/FirstFaults.antt`
 #![tactic(auto)]
 
 mod built_in;
 mod first_run;
-mod guard_eval;
-mod guard_policy;
-mod guard_report;
-mod guard_schema;
-#[cfg(test)]
-mod tests;
 
 use first_run::first_run;
 use std::io;

@@ -32,12 +32,12 @@ mod Messages
 mod Components
 mod ObjectIds
 mod Texts
+mod LastOctets
 mod Paths
 mod Decodings
 mod ItemLoop
 pub mod Numbers
 pub mod Arranging
-pub mod WrittenTexts
 pub mod Arcs
 pub mod TypeLevels
 pub mod EncodingSteps

@@ -17,7 +17,7 @@ use Rattle.guard_der.specs.Der.{contents_octets}
 use Rattle.guard_der.specs.Fits.{fits_kind, fits_128_bits, all_below, is_item, has_proper_end, has_zero_end, fits_arcs, fits_characters}
 use Rattle.guard_der.specs.Simple.{simple_fault, simple_value, integer_fault, are_subidentifiers, subidentifiers, arcs_of, is_text, characters_of}
 use Rattle.guard_der.specs.Breach.{AbstractBreach, FaultInSimple, here, after}
-use Rattle.guard_der.specs.Reading.{simple_at, fault}
+use Rattle.guard_der.specs.Reading.{simple_at, unless_fault, fault}
 use Rattle.guard_der.proofs.Results.{ok_is}
 use Rattle.guard_der.proofs.Steps.{some_is, err_is, fault_after}
 use Rattle.guard_der.proofs.Digits.{AreDigits}
@@ -31,19 +31,19 @@ pub record SimpleLaw (kind : AbstractKind) : Type 0 where
 
 -- ---- what reading makes of it
 
-read_ok : (f : Option Code) (at : ℕ) (x v : AbstractValue) → ◌≡◌ {A = Result AbstractValue AbstractBreach} (elim f [ Some c ↦ Err (fault c at) | None ↦ Ok x ]) (Ok v) → (f ≡ None) × (x ≡ v)
+read_ok : (f : Option Code) (at : ℕ) (x v : AbstractValue) → unless_fault at f x ≡ Ok v → (f ≡ None) × (x ≡ v)
 read_ok None at x v e = (refl, ok_is {F = AbstractBreach} x v e)
 read_ok (Some c) at x v e = absurd cc
 
-read_again : (f : Option Code) (at : ℕ) (x v : AbstractValue) → f ≡ None → x ≡ v → ◌≡◌ {A = Result AbstractValue AbstractBreach} (elim f [ Some c ↦ Err (fault c at) | None ↦ Ok x ]) (Ok v)
+read_again : (f : Option Code) (at : ℕ) (x v : AbstractValue) → f ≡ None → x ≡ v → unless_fault at f x ≡ Ok v
 read_again None at x v e is = ap (λ (v : AbstractValue). Ok v) is
 read_again (Some c) at x v e is = absurd cc
 
-read_err : (f : Option Code) (at : ℕ) (x : AbstractValue) (b : AbstractBreach) → ◌≡◌ {A = Result AbstractValue AbstractBreach} (elim f [ Some c ↦ Err (fault c at) | None ↦ Ok x ]) (Err b) → (c : Code) × (f ≡ Some c) × (b ≡ fault c at)
+read_err : (f : Option Code) (at : ℕ) (x : AbstractValue) (b : AbstractBreach) → unless_fault at f x ≡ Err b → (c : Code) × (f ≡ Some c) × (b ≡ fault c at)
 read_err None at x b e = absurd cc
 read_err (Some c) at x b e = (c, refl, sym (err_is {A = AbstractValue} (fault c at) b e))
 
-read_err_again : (f : Option Code) (at : ℕ) (x : AbstractValue) (c : Code) → f ≡ Some c → ◌≡◌ {A = Result AbstractValue AbstractBreach} (elim f [ Some c ↦ Err (fault c at) | None ↦ Ok x ]) (Err (fault c at))
+read_err_again : (f : Option Code) (at : ℕ) (x : AbstractValue) (c : Code) → f ≡ Some c → unless_fault at f x ≡ Err (fault c at)
 read_err_again None at x c e = absurd cc
 read_err_again (Some d) at x c e = ap (λ (c : Code). Err (fault c at)) (some_is d c e)
 

@@ -5,59 +5,14 @@ use Rattle.std.proofs.Math.Nat.{zero-mod}
 use Rattle.std.proofs.lemmas.Bool.{and_parts, and_from, leb-true, ltb-true, lt-ltb, le-leb, lt-leb, false≢true}
 use Rattle.std.proofs.lemmas.List.{at_drop_more, drop_all}
 use Rattle.guard_model.specs.declared.ty.CharKind.{CharKind}
-use Rattle.guard_der.specs.Contents.{is_character}
+use Rattle.guard_model.proofs.Tests.{same_test}
+use Rattle.guard_model.specs.Alphabets.{is_character}
 use Rattle.guard_der.specs.Fits.{all_characters, all_below, last_octet, has_proper_end, has_zero_end, fits_bits, fits_arcs}
 use Rattle.guard_der.specs.Pieces.{two_fit}
-
-pub same_test : (a b : Bool) → (a ≡ true → b ≡ true) → (b ≡ true → a ≡ true) → a ≡ b
-same_test true true f g = refl
-same_test true false f g = sym (f refl)
-same_test false true f g = g refl
-same_test false false f g = refl
 
 pub all_below_from : (limit : ℕ) (xs : List ℕ) → ((i : ℕ) → i < length xs → get_or xs i 0 < limit) → all_below limit xs ≡ true
 all_below_from limit [] h = refl
 all_below_from limit (x ∷ xs) h = and_from (nat_lt x limit) (all_below limit xs) (lt-ltb x limit (h 0 (omega arith))) (all_below_from limit xs (λ i lt. h (suc i) (omega arith)))
-
--- ---- BIT STRING
-
-last_is : (os : List ℕ) → 0 < length os → last_octet os ≡ get_or os (length os - 1) 0
-last_is [] h = absurd (omega arith)
-last_is (o ∷ []) h = refl
-last_is (o ∷ p ∷ os) h =
-    let e : length (o ∷ p ∷ os) - 1 ≡ suc (length (p ∷ os) - 1) = omega arith in
-    last_is (p ∷ os) (omega arith) ∙ ap (λ (i : ℕ). get_or (o ∷ p ∷ os) i 0) (sym e)
-
-all_true : (a b d : Bool) → a ≡ true → b ≡ true → ((a && b) && d) ≡ d
-all_true true true d h k = refl
-all_true true false d h k = absurd (false≢true k)
-all_true false b d h k = absurd (false≢true h)
-
-or_end : (a b : Bool) → b ≡ true → (a || b) ≡ true
-or_end true b h = refl
-or_end false b h = h
-
-pub bits_some : (os : List ℕ) (unused : ℕ) → unused ≤ 7 → all_below 256 os ≡ true → 0 < length os → fits_bits os unused ≡ nat_eq (get_or os (length os - 1) 0 % 2 ^ unused) 0
-bits_some os unused few below some =
-    all_true (all_below 256 os) (has_proper_end os unused) (has_zero_end os unused) below (and_from (nat_le unused 7) _ (le-leb unused 7 few) (or_end (nat_eq unused 0) (nat_lt 0 (length os)) (lt-ltb 0 (length os) some)))
-    ∙ ap (λ (o : ℕ). nat_eq (o % 2 ^ unused) 0) (last_is os some)
-
-none_of : (few none : Bool) → few ≡ true → ((few && (none || false)) && true) ≡ none
-none_of true true h = refl
-none_of true false h = refl
-none_of false none h = absurd (false≢true h)
-
-pub bits_none : (os : List ℕ) (unused : ℕ) → unused ≤ 7 → length os ≡ 0 → fits_bits os unused ≡ nat_eq unused 0
-bits_none [] unused few none =
-    ap (λ (r : ℕ). (nat_le unused 7 && (nat_eq unused 0 || false)) && nat_eq r 0) (zero-mod (2 ^ unused)) ∙ none_of (nat_le unused 7) (nat_eq unused 0) (le-leb unused 7 few)
-bits_none (o ∷ os) unused few none = absurd (omega arith)
-
-never : (a b c d : Bool) → b ≡ false → ((a && (b && c)) && d) ≡ false
-never true b c d h = rw h refl
-never false b c d h = refl
-
-pub bits_many : (os : List ℕ) (unused : ℕ) → 7 < unused → fits_bits os unused ≡ false
-bits_many os unused many = never (all_below 256 os) (nat_le unused 7) (nat_eq unused 0 || nat_lt 0 (length os)) (has_zero_end os unused) (lt-leb unused 7 many)
 
 -- ---- OBJECT IDENTIFIER
 

@@ -8,7 +8,7 @@ use Rattle.guard_model.specs.AbstractType as type
 use Rattle.guard_model.specs.AbstractType.{AbstractType, AbstractKind, AbstractPresence, Components, NamedNumber, type_of, no_components, component}
 use Rattle.guard_model.specs.AbstractValue as value
 use Rattle.guard_model.specs.AbstractValue.{AbstractValue, Fields, Items}
-use Rattle.guard_der.specs.Contents.{is_character}
+use Rattle.guard_model.specs.Alphabets.{is_character}
 use Rattle.guard_der.specs.Der.{der, item_encodings}
 
 -- this profile's limit on INTEGER and ENUMERATED: signed 128 bits

@@ -13,6 +13,7 @@ pub mod Header
 pub mod Simple
 pub mod Breach
 pub mod Views
+pub mod Names
 pub mod Reading
 pub mod Rows
 pub mod BreachRows

@@ -67,8 +67,13 @@ tags_at (t ∷ []) constructed body untagged at h octets = framed constructed bo
 tags_at (t ∷ u ∷ ts) constructed body untagged at h octets =
     framed true (λ at start inner. alone_at (same_tag u) (tags_at (u ∷ ts) constructed body untagged) start inner) at h octets
 
+-- the value, unless there is a fault
+abbrev pub unless_fault : ℕ → Option Code → AbstractValue → Result AbstractValue AbstractBreach
+unless_fault at None v = Ok v
+unless_fault at (Some c) v = Err (fault c at)
+
 unfoldable pub simple_at : AbstractKind → Body
-simple_at kind at start octets = elim (simple_fault kind octets) [ Some c ↦ Err (fault c at) | None ↦ Ok (simple_value kind octets) ]
+simple_at kind at start octets = unless_fault at (simple_fault kind octets) (simple_value kind octets)
 
 -- ---- components
 

@@ -12,13 +12,13 @@ ghost use Rattle.guard_der.specs.Der.{der, is_left_out as left_out};
 ghost use Rattle.guard_der.specs.Fits.{fits, descends as descending};
 ghost use Rattle.guard_der.specs.Sound.{is_sound, is_proper, is_proper_kind, are_proper, is_proper_presence};
 ghost use Rattle.guard_der.specs.Breach.{AbstractBreach, IsBreach};
-ghost use Rattle.guard_der.specs.Reading.{due_at, alone_at, component_at, end_at, element_at, untagged_at, contents_at, chosen_at, part_at, simple_at, fields_at, item_alone, item_at, items_at, message_of, not_sent as unsent, all_absent, member_at, set_at};
+ghost use Rattle.guard_der.specs.Reading.{due_at, alone_at, component_at, end_at, element_at, untagged_at, contents_at, chosen_at, part_at, fields_at, item_alone, item_at, items_at, message_of, not_sent as unsent, all_absent, member_at, set_at};
 ghost use Rattle.guard_der.specs.Views.{head_view, breach_of};
 
 mod set;
 
 use crate::breach::{Code, DecodeFault};
-use crate::contents::{fault_of_simple, value_of_simple};
+use crate::contents::value_of_simple;
 use crate::decoding::set::{completed, empty_slots, place_of, put};
 use crate::faults::{end, fault_at, header_at_front, wrong_form};
 use crate::fitting::ascending::descends;
@@ -184,7 +184,7 @@ fn chosen(
 
 /// Contents octets from the offset `start`, of an element that begins at the offset `at`.
 #[cycle(reading)]
-#[tactic(auto, unfolding(crate::specs::Reading::contents_at))]
+#[tactic(auto, unfolding(crate::specs::Reading::contents_at, crate::specs::Reading::simple_at))]
 fn contents(
     alloc: Global,
     kind: &Kind,
@@ -202,38 +202,18 @@ fn contents(
         Kind::Sequence(comps) => Ok(Value::Fields(components(alloc, comps, start, octets)?)),
         Kind::Set(comps) => Ok(Value::Fields(members(alloc, comps, start, octets)?)),
         Kind::Choice(_) => alone(alloc, &[], kind, start, octets),
-        Kind::Bool => simple(alloc, kind, at, start, octets),
-        Kind::Int(_) => simple(alloc, kind, at, start, octets),
-        Kind::Bits => simple(alloc, kind, at, start, octets),
-        Kind::Octets => simple(alloc, kind, at, start, octets),
-        Kind::Null => simple(alloc, kind, at, start, octets),
-        Kind::Oid => simple(alloc, kind, at, start, octets),
-        Kind::Enumerated(_) => simple(alloc, kind, at, start, octets),
-        Kind::Chars(_) => simple(alloc, kind, at, start, octets),
+        Kind::Bool => value_of_simple(alloc, kind, at, octets),
+        Kind::Int(_) => value_of_simple(alloc, kind, at, octets),
+        Kind::Bits => value_of_simple(alloc, kind, at, octets),
+        Kind::Octets => value_of_simple(alloc, kind, at, octets),
+        Kind::Null => value_of_simple(alloc, kind, at, octets),
+        Kind::Oid => value_of_simple(alloc, kind, at, octets),
+        Kind::Enumerated(_) => value_of_simple(alloc, kind, at, octets),
+        Kind::Chars(_) => value_of_simple(alloc, kind, at, octets),
         Kind::SequenceOf(element) => {
             Ok(Value::Items(items(alloc, element, false, start, octets)?))
         }
         Kind::SetOf(element) => Ok(Value::Items(items(alloc, element, true, start, octets)?)),
-    }
-}
-
-/// Contents octets of a simple kind.
-#[tactic(auto, unfolding(crate::specs::Reading::simple_at))]
-fn simple(
-    alloc: Global,
-    kind: &Kind,
-    at: usize,
-    start: usize,
-    octets: &[u8],
-) -> Result<Value, DecodeFault>
-    ensures { Gives value_view breach_of result (simple_at (kind_view kind.now) at start octets.now) }
-{
-    match fault_of_simple(kind, octets) {
-        Some(code) => Err(fault_at(code, at)),
-        None => match value_of_simple(alloc, kind, octets) {
-            Ok(value) => Ok(value),
-            Err(_) => Err(DecodeFault::OutOfMemory),
-        },
     }
 }
 

@@ -7,7 +7,7 @@ ghost use Rattle.guard_der.specs.Sent.{field_fits};
 ghost use Rattle.guard_der.specs.Pieces.{few_fit, set_fits};
 
 pub(crate) mod ascending;
-mod simple;
+pub(crate) mod simple;
 
 use crate::fitting::ascending::are_ascending;
 use crate::fitting::simple::{

@@ -1,6 +1,7 @@
 //! The distinguished encoding rules (X.690): what octets say, or why they are no encoding.
 #![tactic(auto)]
 
+mod bits;
 mod breach;
 mod characters;
 mod contents;
@@ -23,6 +24,3 @@ pub use encoding::{EncodeFault, encode};
 pub use fitting::fits;
 pub use head::header;
 pub use sound_types::sound;
-
-#[cfg(test)]
-mod tests;

@@ -9,11 +9,9 @@ use Rattle.std.proofs.lemmas.Bool.Decides.{Decides-eqb, Decides-int_eq}
 use Rattle.std.proofs.lemmas.Slice.Eq.{bytes_eq-Decides}
 use Rattle.guard_model.specs.AbstractType.{AbstractType, AbstractKind, AbstractPresence, Components, Constraint, Constraints, Element, NamedNumber, Parts, mandatory, optional, pending, default, type_of, boolean, integer, bit_string, octet_string, null, object_identifier, enumerated, characters, sequence, set, choice, sequence_of, set_of, no_components, component, at, no_constraints, constraint, single_value, contained_subtype, range, size, permitted_alphabet, with_component, with_components, union, intersection, except, all_except, no_parts, part, part_within}
 use Rattle.guard_model.specs.Same.{same, same_truth}
-use Rattle.guard_model.specs.SameType.{same_tag, same_site, same_named, character_rank, same_limit, word_rank, same_word, same_range, same_presence, same_type, same_kind, same_components, same_constraints, same_constraint, same_element, same_parts, same_base}
+use Rattle.guard_model.specs.SameType.{same_site, same_named, character_rank, same_limit, word_rank, same_word, same_range, same_presence, same_type, same_kind, same_components, same_constraints, same_constraint, same_element, same_parts, same_base}
 use Rattle.guard_model.specs.SameBase.{HasSameBase, bare_kind_of}
-use Rattle.guard_model.specs.Tags.{class_rank}
-use Rattle.guard_model.specs.declared.tag.Class.{Class}
-use Rattle.guard_model.specs.declared.tag.Class.TheVariants as class
+use Rattle.guard_model.specs.Tags.{same_tag}
 use Rattle.guard_model.specs.declared.tag.Tag.{Tag}
 use Rattle.guard_model.specs.declared.site.Site.{Site}
 use Rattle.guard_model.specs.declared.ty.CharKind.{CharKind}
@@ -22,17 +20,11 @@ use Rattle.guard_model.specs.declared.ty.Limit.{Limit}
 use Rattle.guard_model.specs.declared.ty.Limit.TheVariants.{Free, At, Past}
 use Rattle.guard_model.specs.declared.ty.Word.{Word}
 use Rattle.guard_model.specs.declared.ty.Word.TheVariants.{Present, Absent, Optional}
+use Rattle.guard_model.proofs.Tags.{equal_tags, same_tag_itself}
 use Rattle.guard_model.proofs.Sameness.{left_of, right_of, both_of, equal_values, same_itself, equal_truth, same_truth_itself}
 
 number_itself : (n : ℕ) → nat_eq n n ≡ true
 number_itself n = (Decides-eqb n n).1 refl
-
-class_of_rank : (a b : Class) → class_rank a ≡ class_rank b → a ≡ b
-class_of_rank class.Universal class.Universal h = refl
-class_of_rank class.Application class.Application h = refl
-class_of_rank class.Context class.Context h = refl
-class_of_rank class.Private class.Private h = refl
-class_of_rank _ _ h = absurd (omega arith)
 
 kind_of_rank : (a b : CharKind) → character_rank a ≡ character_rank b → a ≡ b
 kind_of_rank Numeric Numeric h = refl
@@ -49,13 +41,7 @@ word_of_rank Optional Optional h = refl
 word_of_rank _ _ h = absurd (omega arith)
 
 tag_Decides : (a b : Tag) → Decides (same_tag a b) (a ≡ b)
-tag_Decides a b = (
-  λ h.
-      let class : a.class ≡ b.class = class_of_rank _ _ ((Decides-eqb (class_rank a.class) (class_rank b.class)).0 (left_of _ _ h)) in
-      let number : a.number ≡ b.number = (Decides-eqb a.number b.number).0 (right_of (nat_eq (class_rank a.class) (class_rank b.class)) _ h) in
-      λ i. record { class = class i; number = number i },
-  λ e. rw e (both_of _ _ (number_itself (class_rank b.class)) (number_itself b.number)),
-)
+tag_Decides a b = (equal_tags a b, λ e. rw e (same_tag_itself b))
 
 equal_sites : (a b : Site) → same_site a b ≡ true → a ≡ b
 equal_sites a b h =

@@ -1,0 +1,6 @@
+-- members
+pub mod Member
+-- what is violated first
+pub mod Violations
+-- examples
+pub mod Rows

@@ -1,0 +1,3 @@
+pub mod Text
+-- examples
+pub mod Rows

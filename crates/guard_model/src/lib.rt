@@ -18,6 +18,3 @@ pub use site::{Path, PathText, Site, Step};
 pub use tag::{Class, Tag};
 pub use ty::{CharKind, Comp, Cons, Kind, Limit, Named, Part, Presence, Rule, Ty, Word};
 pub use value::{Bits, Value};
-
-#[cfg(test)]
-mod tests;

@@ -68,11 +68,19 @@ fn are_same_items(items: &[Named], others: &[Named]) -> bool
         return false;
     }
     for (item, other) in items.iter().zip(others) {
-        if item.name != other.name || item.number != other.number {
+        if !item.is_same(other) {
             return false;
         }
     }
     true
+}
+
+impl Named {
+    fn is_same(&self, other: &Named) -> bool
+        ensures { result ≡ same_named (named_view self.now) (named_view other.now) }
+    {
+        self.name == other.name && self.number == other.number
+    }
 }
 
 #[cycle(same_types)]

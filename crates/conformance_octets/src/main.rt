@@ -7,6 +7,7 @@
 //! | `types.rows`, `values.rows` | `alike.rt` |
 //! | `tagcheck.rows` | `clashes.rt` |
 //! | `sound.rows`, `fits.rows` | `sound_types.rt`, `fitting.rt` |
+//! | `int_sets.rows` | `int_sets.rt` |
 //! | `header.rows`, `encode.rows`, `decode.rows` | `headers.rt`, `encoding.rt`, `decoding.rt` |
 #![tactic(auto)]
 
@@ -18,6 +19,7 @@ mod digits;
 mod encoding;
 mod fitting;
 mod headers;
+mod int_sets;
 mod notes;
 mod sound_types;
 mod tags;
@@ -33,6 +35,7 @@ use encoding::Encoding;
 use fitting::Fitting;
 use guard_model::{Ty, Value};
 use headers::Headers;
+use int_sets::IntSets;
 use sound_types::SoundTypes;
 use std::io;
 use std::rt::Files;
@@ -47,14 +50,15 @@ fn main(rt: HostRuntime) -> anyhow::Result<()> {
     Ok(())
 }
 
-/// Whether all rows of `guard_model` are answered as expected.
+/// Whether all rows of tags, alphabets, types, values and sets of integers are answered as expected.
 fn model_rows<R: Files + Print + AllocGlobal>(rt: &R) -> io::Result<bool> {
     let tags = check_rows(rt, "tags.rows", &mut Tags::new(rt.alloc()))?;
     let alphabets = check_rows(rt, "alphabets.rows", &mut Alphabets {})?;
     let texts = check_rows(rt, "texts.rows", &mut Texts {})?;
     let types = check_rows(rt, "types.rows", &mut Alike::<Ty>::new(rt.alloc()))?;
     let values = check_rows(rt, "values.rows", &mut Alike::<Value>::new(rt.alloc()))?;
-    Ok(tags && alphabets && texts && types && values)
+    let int_sets = check_rows(rt, "int_sets.rows", &mut IntSets { set: None })?;
+    Ok(tags && alphabets && texts && types && values && int_sets)
 }
 
 /// The same of types: whether tags tell their parts apart, whether they are sound, and which values fit them.

@@ -25,12 +25,12 @@ use Rattle.guard_der.specs.Octets.{base_128}
 use Rattle.guard_der.specs.Element.{form_bit, identifier_octets}
 use Rattle.guard_der.specs.Sound.{is_proper_kind, are_proper}
 use Rattle.guard_der.specs.Breach.{AbstractBreach}
-use Rattle.guard_der.specs.Reading.{Reader, located, fill, presence_at, placed_at, member_at, completed, set_at, part_at, sent_at, all_absent, contents_at, fields_read}
+use Rattle.guard_der.specs.Reading.{Reader, located, fill, presence_at, placed_at, set_element_at, completed, set_at, part_at, sent_at, all_absent, contents_at, fields_read}
 use Rattle.guard_der.proofs.Numbers.Digits.{AreDigits}
 use Rattle.guard_der.proofs.Headers.Heads.{head_takes}
 use Rattle.guard_der.proofs.Components.OneComponent.{located_is}
 use Rattle.guard_der.proofs.Functions.Decoding.{below_if}
-use Rattle.guard_der.proofs.Sets.OneElement.{Member, member_strays, member_fails}
+use Rattle.guard_der.proofs.Sets.OneElement.{PlacedElement, set_element_strays, set_element_fails}
 use Rattle.guard_model.specs.Counts.{component_count}
 use Rattle.guard_model.proofs.Components.{component_count_is, in_view}
 use Rattle.guard_model.proofs.TypeViews.{component_view_is, kind_view_set}
@@ -42,18 +42,18 @@ refused_later : {A B : Type 0} (b : Option AbstractBreach) (r : Result A Abstrac
 refused_later None r x k e refused = tt
 refused_later (Some b) r x k e refused = rw e refused
 
-pub no_header : (b : Option AbstractBreach) (cs : Components) (read : ℕ → Reader) (gs : Fields) (before : Option Tag) (at : ℕ) (os : List ℕ) → Refuses b (located at (head_of os)) → Refuses b (member_at cs read gs before at os)
-unfolding member_at
+pub no_header : (b : Option AbstractBreach) (cs : Components) (read : ℕ → Reader) (gs : Fields) (before : Option Tag) (at : ℕ) (os : List ℕ) → Refuses b (located at (head_of os)) → Refuses b (set_element_at cs read gs before at os)
+unfolding set_element_at
 no_header b cs read gs before at os e = refuses_bind b (located at (head_of os)) (λ h. placed_at cs gs before at h.tag >>= λ j. sent_at j (presence_at j cs) (read j) at h os >>= λ v. Ok (j, v, h)) e
 
-pub no_place : (b : Option AbstractBreach) (cs : Components) (read : ℕ → Reader) (gs : Fields) (before : Option Tag) (at : ℕ) (os : List ℕ) (h : Head) → located at (head_of os) ≡ Ok h → Refuses b (placed_at cs gs before at h.tag) → Refuses b (member_at cs read gs before at os)
+pub no_place : (b : Option AbstractBreach) (cs : Components) (read : ℕ → Reader) (gs : Fields) (before : Option Tag) (at : ℕ) (os : List ℕ) (h : Head) → located at (head_of os) ≡ Ok h → Refuses b (placed_at cs gs before at h.tag) → Refuses b (set_element_at cs read gs before at os)
 no_place None cs read gs before at os h stands e = tt
-no_place (Some b) cs read gs before at os h stands e = member_strays cs read gs before at os h b (located_is at (head_of os) h stands) e
+no_place (Some b) cs read gs before at os h stands e = set_element_strays cs read gs before at os h b (located_is at (head_of os) h stands) e
 
 pub no_value : (b : Option AbstractBreach) (cs : Components) (read : ℕ → Reader) (gs : Fields) (before : Option Tag) (at : ℕ) (os : List ℕ) (h : Head) (j : ℕ) → located at (head_of os) ≡ Ok h → placed_at cs gs before at h.tag ≡ Ok j
-    → Refuses b (read j at h os) → Refuses (below_if (Component j) b) (member_at cs read gs before at os)
+    → Refuses b (read j at h os) → Refuses (below_if (Component j) b) (set_element_at cs read gs before at os)
 no_value None cs read gs before at os h j stands place e = tt
-no_value (Some b) cs read gs before at os h j stands place e = member_fails cs read gs before at os h j b (located_is at (head_of os) h stands) place e
+no_value (Some b) cs read gs before at os h j stands place e = set_element_fails cs read gs before at os h j b (located_is at (head_of os) h stands) place e
 
 pub presence_is : (comps : List Comp) (i : ℕ) (comp : Comp) → i < length comps → comp ≡ get_or comps i comp → presence_at i (in_view comps) ≡ presence_view (out-Comp comp).presence
 presence_is [] i comp lt is = absurd (omega (arith, lt))
@@ -79,7 +79,7 @@ head_size os h digits e = omega (arith, (head_takes os h digits e).size, some_id
 abbrev pub Going : Components → Fields → Option Tag → ℕ → List ℕ → Result Fields AbstractBreach → Type 0
 Going cs gs before at os total = (n : ℕ) × (length os ≤ n) × (set_at n cs (part_at cs) gs before at os ≡ total)
 
-pub goes_on : (cs : Components) (gs : Fields) (before : Option Tag) (at : ℕ) (os : List ℕ) (j : ℕ) (v : AbstractValue) (h : Head) (total : Result Fields AbstractBreach) → eqb (length os) 0 ≡ false → 1 ≤ h.size → member_at cs (part_at cs) gs before at os ≡ Ok (j, v, h)
+pub goes_on : (cs : Components) (gs : Fields) (before : Option Tag) (at : ℕ) (os : List ℕ) (j : ℕ) (v : AbstractValue) (h : Head) (total : Result Fields AbstractBreach) → eqb (length os) 0 ≡ false → 1 ≤ h.size → set_element_at cs (part_at cs) gs before at os ≡ Ok (j, v, h)
     → Going cs gs before at os total → Going cs (fill j v gs) (Some h.tag) (at + (h.size + h.contents)) (drop (h.size + h.contents) os) total
 unfolding set_at
 goes_on cs gs before at [] j v h total more some e going = absurd cc
@@ -87,17 +87,17 @@ goes_on cs gs before at (o ∷ os) j v h total more some e (zero, enough, so_far
 goes_on cs gs before at (o ∷ os) j v h total more some e (suc n, enough, so_far) = (
   n,
   omega (arith, enough, some, length-drop (h.size + h.contents) (o ∷ os)),
-  sym (ap (λ (r : Result Member AbstractBreach). r >>= λ x. set_at n cs (part_at cs) (fill x.0 x.1 gs) (Some x.2.tag) (at + (x.2.size + x.2.contents)) (drop (x.2.size + x.2.contents) (o ∷ os))) e) ∙ so_far,
+  sym (ap (λ (r : Result PlacedElement AbstractBreach). r >>= λ x. set_at n cs (part_at cs) (fill x.0 x.1 gs) (Some x.2.tag) (at + (x.2.size + x.2.contents)) (drop (x.2.size + x.2.contents) (o ∷ os))) e) ∙ so_far,
 )
 
-pub stops : (b : Option AbstractBreach) (cs : Components) (gs : Fields) (before : Option Tag) (at : ℕ) (os : List ℕ) (total : Result Fields AbstractBreach) → eqb (length os) 0 ≡ false → Refuses b (member_at cs (part_at cs) gs before at os)
+pub stops : (b : Option AbstractBreach) (cs : Components) (gs : Fields) (before : Option Tag) (at : ℕ) (os : List ℕ) (total : Result Fields AbstractBreach) → eqb (length os) 0 ≡ false → Refuses b (set_element_at cs (part_at cs) gs before at os)
     → Going cs gs before at os total → Refuses b total
 unfolding set_at
 stops None cs gs before at os total some e going = tt
 stops (Some b) cs gs before at [] total some e going = absurd cc
 stops (Some b) cs gs before at (o ∷ os) total some e (zero, enough, so_far) = absurd (omega (arith, enough))
 stops (Some b) cs gs before at (o ∷ os) total some e (suc n, enough, so_far) =
-    sym so_far ∙ ap (λ (r : Result Member AbstractBreach). r >>= λ x. set_at n cs (part_at cs) (fill x.0 x.1 gs) (Some x.2.tag) (at + (x.2.size + x.2.contents)) (drop (x.2.size + x.2.contents) (o ∷ os))) e
+    sym so_far ∙ ap (λ (r : Result PlacedElement AbstractBreach). r >>= λ x. set_at n cs (part_at cs) (fill x.0 x.1 gs) (Some x.2.tag) (at + (x.2.size + x.2.contents)) (drop (x.2.size + x.2.contents) (o ∷ os))) e
 
 pub ends : (cs : Components) (gs : Fields) (before : Option Tag) (at : ℕ) (os : List ℕ) (total : Result Fields AbstractBreach) → eqb (length os) 0 ≡ true → Going cs gs before at os total → completed 0 cs gs at ≡ total
 unfolding set_at

@@ -269,7 +269,7 @@ fn components_of(kind: &Kind) -> &[Comp] {
 fn component_of<'a>(comps: &'a [Comp], name: &str) -> Result<(u8, &'a Comp), Unread> {
     for (place, comp) in comps.iter().enumerate() {
         if comp.name.as_str() == name {
-            let place = u8::try_from(place).map_err(|_| Unread::Malformed)?;
+            let place = u8::try_from(place)?;
             return Ok((place, comp));
         }
     }

@@ -24,7 +24,7 @@ impl Words<'_> {
     pub fn tag(&mut self) -> Result<Tag, Unread> {
         self.expect("[")?;
         let class = self.class();
-        let number = self.word().parse::<u32>().map_err(|_| Unread::Malformed)?;
+        let number = self.word().parse::<u32>()?;
         self.expect("]")?;
         Ok(Tag { class, number })
     }

@@ -1,5 +1,7 @@
 //! Why a notation isn't read.
 use std::alloc::{AllocError, AllocFailed};
+use std::num::{ParseIntError, TryFromIntError};
+use std::str::Utf8Error;
 
 /// Why a notation isn't read.
 #[derive(Clone, Copy, Debug, PartialEq, Eq)]
@@ -24,6 +26,24 @@ impl<T: Drop> From<AllocFailed<T>> for Unread {
 impl From<guard_model::OutOfMemory> for Unread {
     fn from(_e: guard_model::OutOfMemory) -> Unread {
         Unread::OutOfMemory
+    }
+}
+
+impl From<ParseIntError> for Unread {
+    fn from(_e: ParseIntError) -> Unread {
+        Unread::Malformed
+    }
+}
+
+impl From<TryFromIntError> for Unread {
+    fn from(_e: TryFromIntError) -> Unread {
+        Unread::Malformed
+    }
+}
+
+impl From<Utf8Error> for Unread {
+    fn from(_e: Utf8Error) -> Unread {
+        Unread::Malformed
     }
 }
 

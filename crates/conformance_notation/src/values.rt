@@ -86,7 +86,7 @@ impl Words<'_> {
         self.expect(":")?;
         for (place, alternative) in alternatives.iter().enumerate() {
             if alternative.name.as_str() == name {
-                let place = u8::try_from(place).map_err(|_| Unread::Malformed)?;
+                let place = u8::try_from(place)?;
                 let value = self.value(alloc, &alternative.ty.kind)?;
                 return Ok(Value::Chosen(place, value));
             }
@@ -119,7 +119,7 @@ impl Words<'_> {
             bits_of_digits(alloc, text)?
         };
         if self.take("UNUSED") {
-            bits.unused = self.word().parse::<u8>().map_err(|_| Unread::Malformed)?;
+            bits.unused = self.word().parse::<u8>()?;
         }
         Ok(bits)
     }
@@ -139,7 +139,7 @@ impl Words<'_> {
             if self.take("}") {
                 return Ok(arcs);
             }
-            arcs.push(self.word().parse::<u128>().map_err(|_| Unread::Malformed)?)?;
+            arcs.push(self.word().parse::<u128>()?)?;
         }
         Err(Unread::Malformed)
     }
@@ -150,7 +150,7 @@ impl Words<'_> {
             return Ok(String::from_str(alloc, self.quoted('"')?)?);
         }
         let octets = self.octets(alloc)?;
-        let text = str::from_utf8(&octets).map_err(|_| Unread::Malformed)?;
+        let text = str::from_utf8(&octets)?;
         Ok(String::from_str(alloc, text)?)
     }
 

@@ -79,7 +79,7 @@ impl<'a> Words<'a> {
 
     /// Takes the number in front.
     pub fn number(&mut self) -> Result<i128, Unread> {
-        self.word().parse::<i128>().map_err(|_| Unread::Malformed)
+        Ok(self.word().parse::<i128>()?)
     }
 
     /// Whether nothing is left behind what was read.

@@ -1,14 +1,13 @@
 -- The test `same_type` decides equality of abstract types.
-use Rattle.std.proofs.Common.{◌≡◌, ℕ, Bool, true, false, ◌&&◌, List, Option, Some, None, nat_eq, refl, ap, arith}
+use Rattle.std.proofs.Common.{◌≡◌, ℕ, true, ◌&&◌, Option, Some, None, nat_eq, refl, ap, arith}
 use Rattle.std.specs.Bool.{Decides}
 use Rattle.std.specs.Cmp.Lexicographic.{pointwise, pointwise_decides}
-use Rattle.std.specs.Ordering.{int_eq}
 use Rattle.std.specs.Str.{bytes_eq}
 use Rattle.std.proofs.lemmas.Bool.{and_from, and_parts, false≢true}
 use Rattle.std.proofs.lemmas.Bool.Decides.{Decides-eqb, Decides-int_eq}
 use Rattle.std.proofs.lemmas.Slice.Eq.{bytes_eq-Decides}
 use Rattle.guard_model.specs.AbstractType.{AbstractType, AbstractKind, AbstractPresence, Components, Constraint, Constraints, Element, NamedNumber, Parts, mandatory, optional, pending, default, type_of, boolean, integer, bit_string, octet_string, null, object_identifier, enumerated, characters, sequence, set, choice, sequence_of, set_of, no_components, component, at, no_constraints, constraint, single_value, contained_subtype, range, size, permitted_alphabet, with_component, with_components, union, intersection, except, all_except, no_parts, part, part_within}
-use Rattle.guard_model.specs.Same.{same, same_truth}
+use Rattle.guard_model.specs.Same.{same_truth}
 use Rattle.guard_model.specs.SameType.{same_site, same_named, character_rank, same_limit, word_rank, same_word, same_range, same_presence, same_type, same_kind, same_components, same_constraints, same_constraint, same_element, same_parts, same_base}
 use Rattle.guard_model.specs.SameBase.{HasSameBase, bare_kind_of}
 use Rattle.guard_model.specs.Tags.{same_tag}

@@ -11,7 +11,7 @@ impl Words<'_> {
         Site {
             text: 1,
             line: 1,
-            column: u32::try_from(self.len()).unwrap_or(u32::MAX),
+            column: u32::try_from(self.octets_left()).unwrap_or(u32::MAX),
         }
     }
 

@@ -8,7 +8,7 @@ use guard_model::{CharKind, Class, Comp, Kind, Named, Presence, Tag, Ty};
 use std::alloc::Global;
 
 /// How deep parts may stand in each other.
-const DEEPEST: u32 = 1_000;
+pub const DEEPEST: u32 = 1_000;
 
 /// The type that a text writes.
 pub fn type_of(alloc: Global, text: &str) -> Result<Box<Ty>, Unread> {

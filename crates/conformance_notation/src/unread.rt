@@ -4,7 +4,7 @@ use std::num::{ParseIntError, TryFromIntError};
 use std::str::Utf8Error;
 
 /// Why a notation isn't read.
-#[derive(Clone, Copy, Debug, PartialEq, Eq)]
+#[derive(Clone, Copy)]
 pub enum Unread {
     /// The text isn't written so.
     Malformed,

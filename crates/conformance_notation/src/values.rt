@@ -1,13 +1,13 @@
 //! Values of a type, whether or not they fit it.
 use crate::octets::{bits_of, bits_of_digits, octets_of};
-use crate::types::type_of;
+use crate::types::DEEPEST;
 use crate::unread::Unread;
 use crate::words::Words;
 use guard_model::{Bits, Comp, Kind, Named, Presence, Ty, Value};
 use std::alloc::Global;
 use std::str;
 
-/// The value that a text writes for a type.
+/// The value that a text writes in the notation of a type. It need not fit the type.
 pub fn value_of(alloc: Global, ty: &Ty, text: &str) -> Result<Box<Value>, Unread> {
     let mut words = Words::new(text);
     let value = words.value(alloc, &ty.kind)?;
@@ -15,11 +15,14 @@ pub fn value_of(alloc: Global, ty: &Ty, text: &str) -> Result<Box<Value>, Unread
     Ok(value)
 }
 
-/// `TYPE : VALUE`
+/// The value of `TYPE : VALUE`.
 pub fn typed_value_of(alloc: Global, text: &str) -> Result<Box<Value>, Unread> {
-    let (ty, value) = text.split_once(" : ").ok_or(Unread::Malformed)?;
-    let ty = type_of(alloc, ty)?;
-    value_of(alloc, &ty, value)
+    let mut words = Words::new(text);
+    let ty = words.ty(alloc, DEEPEST)?;
+    words.expect(":")?;
+    let value = words.value(alloc, &ty.kind)?;
+    words.end()?;
+    Ok(value)
 }
 
 impl Words<'_> {
@@ -99,13 +102,22 @@ impl Words<'_> {
             Kind::Bool if self.take("TRUE") => Ok(Value::Bool(true)),
             Kind::Bool if self.take("FALSE") => Ok(Value::Bool(false)),
             Kind::Null if self.take("NULL") => Ok(Value::Null),
-            Kind::Int(_) => Ok(Value::Int(self.number()?)),
+            Kind::Int(named) => Ok(Value::Int(self.number_of(named)?)),
             Kind::Enumerated(items) => Ok(Value::Enumerated(number_of(items, self.word())?)),
             Kind::Bits => Ok(Value::Bits(self.bits(alloc)?)),
             Kind::Octets => Ok(Value::Octets(self.octets(alloc)?)),
             Kind::Oid => Ok(Value::Oid(self.arcs(alloc)?)),
             Kind::Chars(_) => Ok(Value::Chars(self.characters(alloc)?)),
             _ => Err(Unread::Malformed),
+        }
+    }
+
+    /// A number, or the name of one.
+    fn number_of(&mut self, named: &[Named]) -> Result<i128, Unread> {
+        let word = self.word();
+        match word.parse::<i128>() {
+            Ok(number) => Ok(number),
+            Err(_) => number_of(named, word),
         }
     }
 
@@ -165,7 +177,7 @@ impl Words<'_> {
     }
 }
 
-/// The number of the item with this name.
+/// The number that has this name.
 fn number_of(items: &[Named], name: &str) -> Result<i128, Unread> {
     for item in items {
         if item.name.as_str() == name {

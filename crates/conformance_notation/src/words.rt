@@ -15,12 +15,8 @@ impl<'a> Words<'a> {
     }
 
     /// How many octets are left.
-    pub fn len(&self) -> usize {
+    pub fn octets_left(&self) -> usize {
         self.left.len()
-    }
-
-    pub fn is_empty(&self) -> bool {
-        self.left.is_empty()
     }
 
     /// The word in front, which stays: letters, digits and hyphens. It is empty where another character stands there.
@@ -82,7 +78,7 @@ impl<'a> Words<'a> {
         Ok(self.word().parse::<i128>()?)
     }
 
-    /// Whether nothing is left behind what was read.
+    /// Nothing must be left behind what was read.
     pub fn end(&self) -> Result<(), Unread> {
         if self.left.is_empty() {
             Ok(())

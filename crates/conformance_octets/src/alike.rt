@@ -1,6 +1,6 @@
 //! `Value::same` and `Value::copy`, `Ty::same_base` and `Ty::copy`: the row above that is like a row, or `new` where none is.
 //! The copy of each is like it, and prints as it does itself.
-use crate::notes::{not_read, unknown};
+use crate::unanswered::{not_read, unknown};
 use conformance_notation::{Unread, read, type_of, typed_value_of};
 use conformance_rows::{Layer, text_of};
 use guard_model::{Ty, Value};

@@ -1,12 +1,12 @@
 //! `CharKind::has`: the codes of all characters that a kind of character string may have, as ranges.
-use crate::notes::{not_read, unknown};
+use crate::unanswered::{not_read, unknown};
 use conformance_notation::{characters_of, read};
 use conformance_rows::{Layer, text_of};
 use guard_model::CharKind;
 use std::alloc::{AllocError, Global};
 
 #[derive(Drop)]
-pub struct Alphabets {}
+pub struct Alphabets;
 
 /// A code behind that of the last character.
 const END: u32 = 0x11_0000;

@@ -1,12 +1,12 @@
 //! `is_within_limits` and `check`: `distinct` where all tags differ that must, else the first clash.
-use crate::notes::{not_read, unknown};
+use crate::unanswered::{not_read, unknown};
 use conformance_notation::{read, type_of};
 use conformance_rows::{Layer, text_of};
 use guard_tagcheck::{check, is_within_limits};
 use std::alloc::{AllocError, Global};
 
 #[derive(Drop)]
-pub struct Clashes {}
+pub struct Clashes;
 
 impl Layer for Clashes {
     fn answer(&mut self, alloc: Global, input: &[u8]) -> Result<String, AllocError> {

@@ -3,7 +3,8 @@ ghost use Rattle.std.specs.Prelude.{IsTrue};
 ghost use Rattle.guard_model.specs.TypeView.{type_view};
 ghost use Rattle.guard_der.specs.Sound.{is_sound};
 
-use crate::notes::{not_read, set_type};
+use crate::type_row::set_type;
+use crate::unanswered::not_read;
 use conformance_notation::{octets_of, read};
 use conformance_rows::{Layer, text_of};
 use guard_der::{Breach, Code, DecodeFault, decode, header, sound};

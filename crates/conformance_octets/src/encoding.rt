@@ -7,7 +7,8 @@ ghost use Rattle.guard_der.specs.Fits.{fits};
 ghost use Rattle.guard_der.specs.Sound.{is_sound};
 
 use crate::digits::digits_of;
-use crate::notes::{not_read, set_type};
+use crate::type_row::set_type;
+use crate::unanswered::not_read;
 use conformance_notation::{read, value_of};
 use conformance_rows::{Layer, text_of};
 use guard_der::{Code, DecodeFault, decode, encode, fits, header, sound};

@@ -1,5 +1,6 @@
 //! `fits`: whether a value, written with a type of its own, fits the type that is set.
-use crate::notes::{not_read, set_type};
+use crate::type_row::set_type;
+use crate::unanswered::not_read;
 use conformance_notation::{read, typed_value_of};
 use conformance_rows::{Layer, text_of};
 use guard_der::fits;

@@ -1,5 +1,5 @@
 //! `header`: the header at an offset, or why none stands there.
-use crate::notes::{not_read, unknown};
+use crate::unanswered::{not_read, unknown};
 use conformance_notation::{octets_of, read};
 use conformance_rows::{Layer, text_of};
 use guard_der::{Header, header};
@@ -7,7 +7,7 @@ use guard_model::Class;
 use std::alloc::{AllocError, Global};
 
 #[derive(Drop)]
-pub struct Headers {}
+pub struct Headers;
 
 /// `OCTETS at OFFSET`, or `OCTETS` for the offset 0.
 fn parts_of(text: &str) -> (&str, usize) {

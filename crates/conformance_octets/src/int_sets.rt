@@ -1,5 +1,5 @@
 //! `IntSet`: whether the set that the directives above made holds an integer, `in` or `out`.
-use crate::notes::{not_read, unknown};
+use crate::unanswered::{not_read, unknown};
 use conformance_rows::{Layer, text_of};
 use guard_constraints::IntSet;
 use guard_model::OutOfMemory;

@@ -20,10 +20,11 @@ mod encoding;
 mod fitting;
 mod headers;
 mod int_sets;
-mod notes;
 mod sound_types;
 mod tags;
 mod texts;
+mod type_row;
+mod unanswered;
 
 use alike::Alike;
 use alphabets::Alphabets;
@@ -53,8 +54,8 @@ fn main(rt: HostRuntime) -> anyhow::Result<()> {
 /// Whether all rows of tags, alphabets, types, values and sets of integers are answered as expected.
 fn model_rows<R: Files + Print + AllocGlobal>(rt: &R) -> io::Result<bool> {
     let tags = check_rows(rt, "tags.rows", &mut Tags::new(rt.alloc()))?;
-    let alphabets = check_rows(rt, "alphabets.rows", &mut Alphabets {})?;
-    let texts = check_rows(rt, "texts.rows", &mut Texts {})?;
+    let alphabets = check_rows(rt, "alphabets.rows", &mut Alphabets)?;
+    let texts = check_rows(rt, "texts.rows", &mut Texts)?;
     let types = check_rows(rt, "types.rows", &mut Alike::<Ty>::new(rt.alloc()))?;
     let values = check_rows(rt, "values.rows", &mut Alike::<Value>::new(rt.alloc()))?;
     let int_sets = check_rows(rt, "int_sets.rows", &mut IntSets { set: None })?;
@@ -63,15 +64,15 @@ fn model_rows<R: Files + Print + AllocGlobal>(rt: &R) -> io::Result<bool> {
 
 /// The same of types: whether tags tell their parts apart, whether they are sound, and which values fit them.
 fn type_rows<R: Files + Print + AllocGlobal>(rt: &R) -> io::Result<bool> {
-    let tagcheck = check_rows(rt, "tagcheck.rows", &mut Clashes {})?;
-    let sound = check_rows(rt, "sound.rows", &mut SoundTypes {})?;
+    let tagcheck = check_rows(rt, "tagcheck.rows", &mut Clashes)?;
+    let sound = check_rows(rt, "sound.rows", &mut SoundTypes)?;
     let fits = check_rows(rt, "fits.rows", &mut Fitting { ty: None })?;
     Ok(tagcheck && sound && fits)
 }
 
 /// The same of octets.
 fn octet_rows<R: Files + Print + AllocGlobal>(rt: &R) -> io::Result<bool> {
-    let header = check_rows(rt, "header.rows", &mut Headers {})?;
+    let header = check_rows(rt, "header.rows", &mut Headers)?;
     let encode = check_rows(rt, "encode.rows", &mut Encoding { ty: None })?;
     let decode = check_rows(rt, "decode.rows", &mut Decoding { ty: None })?;
     Ok(header && encode && decode)

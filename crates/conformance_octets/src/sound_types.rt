@@ -1,11 +1,12 @@
 //! `sound`: whether a type is sound.
-use crate::notes::{not_read, soundness, unknown};
+use crate::type_row::soundness;
+use crate::unanswered::{not_read, unknown};
 use conformance_notation::{read, type_of};
 use conformance_rows::{Layer, text_of};
 use std::alloc::{AllocError, Global};
 
 #[derive(Drop)]
-pub struct SoundTypes {}
+pub struct SoundTypes;
 
 impl Layer for SoundTypes {
     fn answer(&mut self, alloc: Global, input: &[u8]) -> Result<String, AllocError> {

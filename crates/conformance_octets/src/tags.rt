@@ -1,5 +1,5 @@
 //! `Tag::order`: how many of the tags above a row stand below its own, equal it and stand above it.
-use crate::notes::{not_read, unknown};
+use crate::unanswered::{not_read, unknown};
 use conformance_notation::{read, tag_of};
 use conformance_rows::{Layer, text_of};
 use guard_model::Tag;

@@ -1,12 +1,12 @@
 //! How sites, paths and want of memory print.
-use crate::notes::{not_read, unknown};
+use crate::unanswered::{not_read, unknown};
 use conformance_rows::{Layer, text_of};
 use guard_der::{DecodeFault, EncodeFault};
 use guard_model::{OutOfMemory, Path, PathText, Site, Step};
 use std::alloc::{AllocError, Global};
 
 #[derive(Drop)]
-pub struct Texts {}
+pub struct Texts;
 
 /// `TEXT LINE COLUMN`
 fn site_of(numbers: &str) -> Option<Site> {

@@ -1,21 +1,12 @@
-//! Answers that say why there is none.
+//! The row `@type TYPE`, which sets the type of the rows below it.
+use crate::unanswered::{not_read, unknown};
 use conformance_notation::{read, type_of};
 use conformance_rows::text_of;
 use guard_der::sound;
 use guard_model::Ty;
 use std::alloc::{AllocError, Global};
 
-/// What isn't written as it should be.
-pub fn not_read(alloc: Global) -> Result<String, AllocError> {
-    String::from_str(alloc, "(not read)")
-}
-
-/// A directive that a layer doesn't have.
-pub fn unknown(alloc: Global) -> Result<String, AllocError> {
-    String::from_str(alloc, "unknown")
-}
-
-/// The directive `@type TYPE`: sets the type for the rows below, and answers whether it is sound.
+/// Sets the type, and answers whether it is sound.
 pub fn set_type(
     alloc: Global,
     ty: &mut Option<Box<Ty>>,

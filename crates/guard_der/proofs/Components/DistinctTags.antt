@@ -8,9 +8,11 @@ use Rattle.guard_model.specs.declared.site.Step.{Step}
 use Rattle.guard_model.specs.declared.site.Step.TheVariants.{Component}
 use Rattle.guard_tagcheck.specs.Distinct.{AbstractClash}
 use Rattle.guard_tagcheck.specs.Search as search
-use Rattle.guard_tagcheck.specs.Search.{share_tag, partner, first_pair, paired, here, inside, or_else, first_clash, clash_inside, is_mandatory}
+use Rattle.guard_tagcheck.specs.Search.{share_tag, partner, first_pair, paired, here, inside, first_clash, clash_inside, is_mandatory}
 use Rattle.guard_der.specs.Sound.{none_clash}
-use Rattle.guard_tagcheck.proofs.Options.{or_else_none, inside_none, here_none, paired_none}
+use Rattle.guard_tagcheck.proofs.Options.{inside_none, here_none, paired_none}
+use Rattle.std.specs.Option.{option_or}
+use Rattle.guard_model.proofs.Options.{option_or_none}
 
 -- no tag begins encodings of both
 abbrev pub differ : AbstractType → AbstractType → Bool
@@ -74,7 +76,7 @@ no_next t j (component name u presence rest) e =
 pub no_pair : (i : ℕ) (cs : Components) → first_pair false i cs ≡ None → all_differ cs ≡ true
 no_pair i no_components e = refl
 no_pair i (component name t presence rest) e =
-    let n = or_else_none (paired i (partner false t (suc i) rest)) (first_pair false (suc i) rest) e in
+    let n = option_or_none (paired i (partner false t (suc i) rest)) (first_pair false (suc i) rest) e in
     and_from (differs_from_all t rest) (all_differ rest) (no_partner t (suc i) rest (paired_none i (partner false t (suc i) rest) n.0)) (no_pair (suc i) rest n.1)
 
 passed : (mandatory : Bool) (pair : Option (ℕ × ℕ)) → ◌≡◌ {A = Option (ℕ × ℕ)} (cond (not mandatory) pair None) None → (mandatory ≡ true) ⊎ (pair ≡ None)
@@ -88,14 +90,14 @@ either t presence rest i (inr e) = inr (no_next t (suc i) rest (paired_none i (p
 pub no_optional_pair : (i : ℕ) (cs : Components) → first_pair true i cs ≡ None → optional_differ cs ≡ true
 no_optional_pair i no_components e = refl
 no_optional_pair i (component name t presence rest) e =
-    let n = or_else_none (cond (not (search.is_mandatory presence)) (paired i (partner true t (suc i) rest)) None) (first_pair true (suc i) rest) e in
+    let n = option_or_none (cond (not (search.is_mandatory presence)) (paired i (partner true t (suc i) rest)) None) (first_pair true (suc i) rest) e in
     and_from (is_mandatory presence || differs_from_next t rest) (optional_differ rest)
     (or_true (is_mandatory presence) (differs_from_next t rest) (either t presence rest i (passed (search.is_mandatory presence) (paired i (partner true t (suc i) rest)) n.0))) (no_optional_pair (suc i) rest n.1)
 
 -- ---- kinds
 
-pub list_clash : (in_sequence : Bool) (cs : Components) → or_else (here (first_pair in_sequence 0 cs)) (clash_inside 0 cs) ≡ None → (first_pair in_sequence 0 cs ≡ None) × (clash_inside 0 cs ≡ None)
-list_clash in_sequence cs e = let n = or_else_none (here (first_pair in_sequence 0 cs)) (clash_inside 0 cs) e in (here_none (first_pair in_sequence 0 cs) n.0, n.1)
+pub list_clash : (in_sequence : Bool) (cs : Components) → option_or (here (first_pair in_sequence 0 cs)) (clash_inside 0 cs) ≡ None → (first_pair in_sequence 0 cs ≡ None) × (clash_inside 0 cs ≡ None)
+list_clash in_sequence cs e = let n = option_or_none (here (first_pair in_sequence 0 cs)) (clash_inside 0 cs) e in (here_none (first_pair in_sequence 0 cs) n.0, n.1)
 
 pub part_clash : (i : ℕ) (name : List ℕ) (t : AbstractType) (presence : AbstractPresence) (rest : Components) → clash_inside i (component name t presence rest) ≡ None → (first_clash t ≡ None) × (clash_inside (suc i) rest ≡ None)
-part_clash i name t presence rest e = let n = or_else_none (inside (Component i) (first_clash t)) (clash_inside (suc i) rest) e in (inside_none (Component i) (first_clash t) n.0, n.1)
+part_clash i name t presence rest e = let n = option_or_none (inside (Component i) (first_clash t)) (clash_inside (suc i) rest) e in (inside_none (Component i) (first_clash t) n.0, n.1)

@@ -9,7 +9,7 @@ use guard_syntax::NumberTree;
 use thiserror::Error;
 
 /// Why a text is no value of its type.
-#[derive(Clone, Copy, Debug, PartialEq, Eq, Error)]
+#[derive(Clone, Copy, Debug, Error)]
 pub enum ValueFault {
     /// A number outside signed 128 bits, at its first token.
     #[error("V8 TooLarge {0}")]

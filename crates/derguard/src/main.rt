@@ -1,9 +1,11 @@
 //! The guard: decides messages by a policy, and says why it stops one.
 //!
-//! Where to look, or to add:
-//! - the policy that is built in: `built_in.rt`, `specs/BuiltIn.antt`
-//! - the text of its module, the four messages and their lines: `first_run.rt`, `specs/FirstRun.antt`, `specs/Printing.antt`
-//! - what may keep it from printing: `specs/FirstFaults.antt`
+//! | question | code | definition |
+//! |---|---|---|
+//! | Which policy is built in? | `built_in.rt` | `specs/BuiltIn.antt` |
+//! | Which module, and which messages? | `first_run.rt` | `specs/FirstRun.antt` |
+//! | What is printed for them? | `first_run.rt` | `specs/Printing.antt`, `specs/FirstFaults.antt` |
+//! | Why is nothing printed? | `first_run.rt` (`FirstFault`) | `specs/FirstFaults.antt` |
 #![tactic(auto)]
 
 mod built_in;

@@ -9,7 +9,7 @@ use Rattle.guard_model.specs.AbstractType as type
 use Rattle.guard_model.specs.AbstractType.{AbstractType, AbstractKind, AbstractPresence, Components, type_of, no_components, component}
 use Rattle.guard_model.specs.AbstractValue as value
 use Rattle.guard_model.specs.AbstractValue.{AbstractValue, Fields, Items}
-use Rattle.guard_tagcheck.specs.FirstTags.{same_tag, begins_with, one_begins_with}
+use Rattle.guard_tagcheck.specs.FirstTags.{begins_with, one_begins_with}
 use Rattle.guard_der.specs.declared.breach.Code.{Code}
 use Rattle.guard_der.specs.declared.breach.Code.TheVariants as code
 use Rattle.guard_der.specs.Head.{Head, head_of}
@@ -17,6 +17,7 @@ use Rattle.guard_der.specs.Der.{is_constructed, is_left_out, tag_before}
 use Rattle.guard_der.specs.Fits.{descends}
 use Rattle.guard_der.specs.Simple.{simple_fault, simple_value}
 use Rattle.guard_der.specs.Breach.{AbstractBreach, below, one_with}
+use Rattle.guard_model.specs.Tags.{same_tag}
 
 abbrev pub fault : Code → ℕ → AbstractBreach
 fault c at = record { code = c; at = at; path = [] }

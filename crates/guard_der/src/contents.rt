@@ -37,11 +37,7 @@ pub fn value_of_simple(
         Kind::Oid => object_identifier(alloc, at, octets),
         Kind::Enumerated(items) => enumerated(items, at, octets),
         Kind::Chars(characters) => text(alloc, *characters, at, octets),
-        Kind::Sequence(_) => Ok(Value::Null),
-        Kind::Set(_) => Ok(Value::Null),
-        Kind::Choice(_) => Ok(Value::Null),
-        Kind::SequenceOf(_) => Ok(Value::Null),
-        Kind::SetOf(_) => Ok(Value::Null),
+        _ => Ok(Value::Null),
     }
 }
 

@@ -1,5 +1,5 @@
 //! The value that octets encode, or their breach.
-ghost use Rattle.std.specs.Prelude.{◌≡◌, ◌≢◌, ◌&&◌, ℕ, ◌+◌, ◌-◌, ◌<◌, ◌≤◌, ◌^◌, [], length, map, List, Some, None, Ok, Err, IfOk, IfErr, IfSome, IsTrue};
+ghost use Rattle.std.specs.Prelude.{◌≡◌, ◌&&◌, ℕ, ◌+◌, ◌-◌, ◌<◌, ◌≤◌, ◌^◌, [], length, map, List, Some, None, Ok, Err, IfOk, IfErr, IfSome, IsTrue};
 ghost use Rattle.guard_model.specs.Answer.{Gives};
 ghost use Rattle.guard_model.specs.AbstractType.{type_of, no_constraints};
 ghost use Rattle.guard_model.specs.AbstractValue.{AbstractValue, no_fields};
@@ -8,11 +8,11 @@ ghost use Rattle.guard_model.specs.ValueView.{value_view, field_view, fields_vie
 ghost use Rattle.guard_tagcheck.specs.FirstTags.{begins_with};
 ghost use Rattle.guard_tagcheck.specs.Limits.{nesting, nesting_inside, deepest};
 ghost use Rattle.guard_der.specs.Head.{head_of};
-ghost use Rattle.guard_der.specs.Der.{der, is_left_out as left_out};
+ghost use Rattle.guard_der.specs.Der.{der};
 ghost use Rattle.guard_der.specs.Fits.{fits, descends as descending};
 ghost use Rattle.guard_der.specs.Sound.{is_sound, is_proper, is_proper_kind, are_proper, is_proper_presence};
 ghost use Rattle.guard_der.specs.Breach.{AbstractBreach, IsBreach};
-ghost use Rattle.guard_der.specs.Reading.{due_at, alone_at, component_at, end_at, element_at, untagged_at, contents_at, chosen_at, part_at, fields_at, item_alone, item_at, items_at, message_of, not_sent as unsent, all_absent, member_at, set_at};
+ghost use Rattle.guard_der.specs.Reading.{due_at, alone_at, component_at, end_at, element_at, untagged_at, contents_at, chosen_at, part_at, fields_at, item_alone, item_at, items_at, message_of, all_absent, member_at, set_at};
 ghost use Rattle.guard_der.specs.Views.{head_view, breach_of};
 
 mod set;
@@ -22,8 +22,9 @@ use crate::contents::value_of_simple;
 use crate::decoding::set::{completed, empty_slots, place_of, put};
 use crate::faults::{end, fault_at, header_at_front, wrong_form};
 use crate::fitting::ascending::descends;
-use crate::forms::{is_form, is_kind_constructed};
+use crate::forms::{is_constructed, is_form};
 use crate::head::Head;
+use crate::presence::{is_left_out, not_sent};
 use crate::tags::{begins, begins_in, one_with};
 use guard_model::{Comp, Kind, Presence, Step, Tag, Ty, Value};
 use std::alloc::Global;
@@ -112,7 +113,7 @@ fn element(
     let (_, behind) = octets.split_at(head.size);
     let (inside, _) = behind.split_at(head.contents);
     if tags.len() == 1 {
-        if !is_form(head.constructed, is_kind_constructed(kind)) {
+        if !is_form(head.constructed, is_constructed(kind)) {
             return Err(wrong_form(at));
         }
         return contents(alloc, kind, at, at + head.size, inside);
@@ -141,18 +142,7 @@ fn untagged(
 {
     match kind {
         Kind::Choice(alternatives) => chosen(alloc, alternatives, at, head, octets),
-        Kind::Bool => Err(fault_at(Code::UnexpectedTag, at)),
-        Kind::Int(_) => Err(fault_at(Code::UnexpectedTag, at)),
-        Kind::Bits => Err(fault_at(Code::UnexpectedTag, at)),
-        Kind::Octets => Err(fault_at(Code::UnexpectedTag, at)),
-        Kind::Null => Err(fault_at(Code::UnexpectedTag, at)),
-        Kind::Oid => Err(fault_at(Code::UnexpectedTag, at)),
-        Kind::Enumerated(_) => Err(fault_at(Code::UnexpectedTag, at)),
-        Kind::Chars(_) => Err(fault_at(Code::UnexpectedTag, at)),
-        Kind::Sequence(_) => Err(fault_at(Code::UnexpectedTag, at)),
-        Kind::Set(_) => Err(fault_at(Code::UnexpectedTag, at)),
-        Kind::SequenceOf(_) => Err(fault_at(Code::UnexpectedTag, at)),
-        Kind::SetOf(_) => Err(fault_at(Code::UnexpectedTag, at)),
+        _ => Err(fault_at(Code::UnexpectedTag, at)),
     }
 }
 
@@ -202,18 +192,11 @@ fn contents(
         Kind::Sequence(comps) => Ok(Value::Fields(components(alloc, comps, start, octets)?)),
         Kind::Set(comps) => Ok(Value::Fields(members(alloc, comps, start, octets)?)),
         Kind::Choice(_) => alone(alloc, &[], kind, start, octets),
-        Kind::Bool => value_of_simple(alloc, kind, at, octets),
-        Kind::Int(_) => value_of_simple(alloc, kind, at, octets),
-        Kind::Bits => value_of_simple(alloc, kind, at, octets),
-        Kind::Octets => value_of_simple(alloc, kind, at, octets),
-        Kind::Null => value_of_simple(alloc, kind, at, octets),
-        Kind::Oid => value_of_simple(alloc, kind, at, octets),
-        Kind::Enumerated(_) => value_of_simple(alloc, kind, at, octets),
-        Kind::Chars(_) => value_of_simple(alloc, kind, at, octets),
         Kind::SequenceOf(element) => {
             Ok(Value::Items(items(alloc, element, false, start, octets)?))
         }
         Kind::SetOf(element) => Ok(Value::Items(items(alloc, element, true, start, octets)?)),
+        _ => value_of_simple(alloc, kind, at, octets),
     }
 }
 
@@ -430,37 +413,5 @@ fn member(
             Ok((place, value, head))
         }
         Err(fault) => Err(fault.below(Step::Component(place as u8))),
-    }
-}
-
-/// What a component is that isn't sent; or this fault, if it is mandatory.
-fn not_sent(
-    alloc: Global,
-    presence: &Presence,
-    fault: DecodeFault,
-) -> Result<Option<Value>, DecodeFault>
-    requires named { breach_of fault ≢ None }
-    ensures { (b : AbstractBreach) → breach_of fault ≡ Some b → Gives field_view breach_of result (unsent (presence_view presence.now) b) }
-{
-    match presence {
-        Presence::Mandatory => Err(fault),
-        Presence::Optional => Ok(None),
-        Presence::Pending => Ok(None),
-        Presence::Default(value) => match value.copy(alloc) {
-            Ok(copy) => Ok(Some(copy)),
-            Err(_) => Err(DecodeFault::OutOfMemory),
-        },
-    }
-}
-
-/// A component whose value is its default isn't sent.
-fn is_left_out(presence: &Presence, value: &Value) -> bool
-    ensures { result ≡ left_out (presence_view presence.now) (value_view value.now) }
-{
-    match presence {
-        Presence::Default(default) => default.same(value),
-        Presence::Mandatory => false,
-        Presence::Optional => false,
-        Presence::Pending => false,
     }
 }

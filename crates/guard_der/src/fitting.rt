@@ -2,9 +2,8 @@
 ghost use Rattle.std.specs.Prelude.{◌≡◌, map, IfOk};
 ghost use Rattle.guard_model.specs.TypeView.{type_view, kind_view, component_view, components_of, presence_view};
 ghost use Rattle.guard_model.specs.ValueView.{value_view, field_view, fields_view, items_view};
-ghost use Rattle.guard_der.specs.Fits.{fits, fits_kind, fits_fields, fits_alternative, every_fits, may_be_absent};
-ghost use Rattle.guard_der.specs.Sent.{field_fits};
-ghost use Rattle.guard_der.specs.Pieces.{few_fit, set_fits};
+ghost use Rattle.guard_der.specs.Der.{der};
+ghost use Rattle.guard_der.specs.Fits.{fits, fits_kind, fits_fields, fits_alternative, every_fits, may_be_absent, fits_field, fits_items, fits_set};
 
 pub(crate) mod ascending;
 pub(crate) mod simple;
@@ -79,7 +78,7 @@ fn field_fits(
     ty: &Ty,
     field: &Option<Value>,
 ) -> Result<bool, OutOfMemory>
-    ensures { IfOk result (λ b. b ≡ field_fits (presence_view presence.now) (type_view ty.now) (field_view field.now)) }
+    ensures { IfOk result (λ b. b ≡ fits_field (presence_view presence.now) (type_view ty.now) (field_view field.now)) }
 {
     match field {
         Some(value) => fits(alloc, ty, value),
@@ -116,7 +115,7 @@ fn alternative_fits(
 /// Few enough elements, each of them fitting.
 #[cycle(fitting)]
 fn items_fit(alloc: Global, ty: &Ty, items: &[Value]) -> Result<bool, OutOfMemory>
-    ensures { IfOk result (λ b. b ≡ few_fit (fits (type_view ty.now)) (items_view items.now)) }
+    ensures { IfOk result (λ b. b ≡ fits_items (fits (type_view ty.now)) (items_view items.now)) }
 {
     if items.len() > MOST_ITEMS {
         return Ok(false);
@@ -139,7 +138,7 @@ fn all_fit(alloc: Global, ty: &Ty, items: &[Value]) -> Result<bool, OutOfMemory>
 /// Of a SET OF also the encodings ascend.
 #[cycle(fitting)]
 fn set_fits(alloc: Global, ty: &Ty, items: &[Value]) -> Result<bool, OutOfMemory>
-    ensures { IfOk result (λ b. b ≡ set_fits (type_view ty.now) (items_view items.now)) }
+    ensures { IfOk result (λ b. b ≡ fits_set (fits (type_view ty.now)) (der (type_view ty.now)) (items_view items.now)) }
 {
     if !items_fit(alloc, ty, items)? {
         return Ok(false);

@@ -14,6 +14,7 @@ mod forms;
 mod head;
 pub mod laws;
 mod object_id;
+mod presence;
 mod sound_types;
 mod tags;
 

@@ -7,10 +7,11 @@ use Rattle.guard_model.specs.declared.tag.Tag.{Tag}
 use Rattle.guard_model.specs.declared.ty.Comp.{Comp}
 use Rattle.guard_model.specs.declared.ty.Kind.TheViews.{out-Comp}
 use Rattle.guard_model.specs.TypeView.{type_view, component_view, components_of}
-use Rattle.guard_tagcheck.specs.Limits.{nesting, deepest, count, is_tagged, are_low}
+use Rattle.guard_tagcheck.specs.Limits.{nesting, deepest, is_tagged, are_low}
 use Rattle.guard_tagcheck.specs.Search.{first_clash}
 use Rattle.guard_der.specs.Sound.{is_sound, is_proper, is_proper_kind, is_proper_presence, are_proper, all_apply, none_clash}
 use Rattle.guard_model.proofs.TypeViews.{component_view_is}
+use Rattle.guard_model.specs.Counts.{component_count}
 
 pub sound_is_proper : (t : AbstractType) → IsTrue (is_sound t) → IsTrue (is_proper t) × (nesting t ≤ 32)
 sound_is_proper t h =
@@ -23,16 +24,16 @@ type_is tags kind cons h =
     let b = and_parts (is_tagged tags kind && are_low tags) (all_apply kind cons) a.0 in
     ((and_parts (is_tagged tags kind) (are_low tags) b.0).0, a.1)
 
-list_is : (cs : Components) → IsTrue (nat_le (count cs) 64 && are_proper cs) → (count cs ≤ 64) × IsTrue (are_proper cs)
-list_is cs h = let a = and_parts (nat_le (count cs) 64) (are_proper cs) h in (leb-true (count cs) 64 a.0, a.1)
+list_is : (cs : Components) → IsTrue (nat_le (component_count cs) 64 && are_proper cs) → (component_count cs ≤ 64) × IsTrue (are_proper cs)
+list_is cs h = let a = and_parts (nat_le (component_count cs) 64) (are_proper cs) h in (leb-true (component_count cs) 64 a.0, a.1)
 
-pub sequence_is : (cs : Components) → IsTrue (is_proper_kind (type.sequence cs)) → (count cs ≤ 64) × IsTrue (are_proper cs)
+pub sequence_is : (cs : Components) → IsTrue (is_proper_kind (type.sequence cs)) → (component_count cs ≤ 64) × IsTrue (are_proper cs)
 sequence_is cs h = list_is cs h
 
-pub set_is : (cs : Components) → IsTrue (is_proper_kind (type.set cs)) → (count cs ≤ 64) × IsTrue (are_proper cs)
+pub set_is : (cs : Components) → IsTrue (is_proper_kind (type.set cs)) → (component_count cs ≤ 64) × IsTrue (are_proper cs)
 set_is cs h = list_is cs h
 
-pub choice_is : (cs : Components) → IsTrue (is_proper_kind (type.choice cs)) → (count cs ≤ 64) × IsTrue (are_proper cs)
+pub choice_is : (cs : Components) → IsTrue (is_proper_kind (type.choice cs)) → (component_count cs ≤ 64) × IsTrue (are_proper cs)
 choice_is cs h = list_is cs h
 
 pub sequence_of_is : (t : AbstractType) → IsTrue (is_proper_kind (type.sequence_of t)) → IsTrue (is_proper t)
@@ -45,10 +46,6 @@ pub components_are : (name : List ℕ) (t : AbstractType) (presence : AbstractPr
 components_are name t presence cs h =
     let a = and_parts (is_proper t && is_proper_presence t presence) (are_proper cs) h in
     ((and_parts (is_proper t) (is_proper_presence t presence) a.0).0, a.1)
-
-pub count_is_length : (cs : List Comp) → count (components_of (map component_view cs)) ≡ length cs
-count_is_length [] = refl
-count_is_length (c ∷ cs) = ap suc (count_is_length cs)
 
 -- of the first of some components
 pub next_is : (c : Comp) (cs rest : List Comp) → cs ≡ c ∷ rest → IsTrue (are_proper (components_of (map component_view cs))) → deepest (components_of (map component_view cs)) ≤ 32

@@ -1,6 +1,4 @@
--- members
 pub mod Member
--- what is violated first
 pub mod Violations
--- examples
+-- ---- worked examples, which the checker computes
 pub mod Rows

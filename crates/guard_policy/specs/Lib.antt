@@ -1,6 +1,6 @@
--- policies
+-- ---- policies
 pub mod Policies
 pub mod PolicyView
--- verdicts
+-- ---- verdicts
 pub mod Verdicts
 pub mod Decisions

@@ -1,11 +1,11 @@
 //! Policies: which messages may go from whom to whom, and the verdict on each.
 //!
-//! Where to look, or to add:
-//! - the messages and rules of a policy, and what is asked of them: `policy.rt`, `specs/Policies.antt`
-//! - who sends what to whom: `route.rt`
-//! - the verdicts: `verdict.rt`, `specs/Verdicts.antt`
-//! - which verdict stands, and when a message goes: `decision.rt`, `specs/Decisions.antt`
-//! - which of these a policy or route of the code stands for: `specs/PolicyView.antt`
+//! | question | code | definition |
+//! |---|---|---|
+//! | Which messages and rules has a policy, and what is asked of them? | `policy.rt` | `specs/Policies.antt`, `specs/PolicyView.antt` |
+//! | Who sends what to whom? | `route.rt` | `specs/Policies.antt`, `specs/PolicyView.antt` |
+//! | Which verdicts are there? | `verdict.rt` | `specs/Verdicts.antt` |
+//! | Which verdict stands, and when does a message go? | `policy.rt` (`verdict`), `decision.rt` | `specs/Decisions.antt` |
 #![tactic(auto)]
 
 mod decision;

@@ -18,14 +18,14 @@ pub enum Effect {
 }
 
 /// A message that may be sent, and its declared type.
-#[derive(Debug, Drop)]
+#[derive(Drop)]
 pub struct Message {
     pub name: String,
     pub ty: Ty,
 }
 
 /// What is said of one message on one route.
-#[derive(Debug, Drop)]
+#[derive(Drop)]
 pub struct Rule {
     pub name: String,
     pub effect: Effect,
@@ -37,7 +37,7 @@ pub struct Rule {
 }
 
 /// A policy over a schema: messages and rules in file order, and the names of the schema's modules.
-#[derive(Debug, Drop)]
+#[derive(Drop)]
 pub struct Policy {
     messages: Vec<Message>,
     rules: Vec<Rule>,

@@ -1,3 +1,3 @@
 pub mod Text
--- examples
+-- ---- worked examples, which the checker computes
 pub mod Rows

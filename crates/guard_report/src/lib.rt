@@ -1,10 +1,10 @@
 //! Reports: the text of a verdict, with names in place of numbers.
 //!
-//! Where to look, or to add:
-//! - the text of each verdict, with its breach, site and rules: `text.rt`, `specs/Text.antt`
-//! - how a path is written, by the names of a type: `path.rt`
-//! - numbers, and names that may be missing: `words.rt`
-//! - examples that the checker computes: `specs/Rows.antt`
+//! | question | code | definition |
+//! |---|---|---|
+//! | What is the text of a verdict, with its breach, site and rules? | `text.rt` (`verdict_text`) | `specs/Text.antt` |
+//! | How is a path written by the names of a type? | `path.rt` | `specs/Text.antt` |
+//! | What stands for a name that is missing? | `words.rt` | `specs/Text.antt` |
 #![tactic(auto)]
 
 mod path;

@@ -6,8 +6,10 @@ use Rattle.guard_model.specs.declared.site.Step.TheVariants.{Component, Element}
 use Rattle.guard_model.specs.AbstractType as type
 use Rattle.guard_model.specs.AbstractType.{AbstractType, AbstractKind, Components, type_of, no_components, component}
 use Rattle.guard_tagcheck.specs.FirstTags.{begins_with, alternative_begins_with, one_begins_with}
-use Rattle.guard_tagcheck.specs.Limits.{nesting, nesting_inside, deepest, every_type, every_part, every_component, count, is_tagged, is_formed, is_within_limits}
-use Rattle.guard_tagcheck.specs.Search.{share_tag, alternative_shares_tag, one_shares_tag, is_passed, partner, or_else, paired, first_pair, here, inside, first_clash, clash_of_kind, clash_inside}
+use Rattle.guard_tagcheck.specs.Limits.{nesting, nesting_inside, deepest, every_type, every_part, every_component, is_tagged, is_formed, is_within_limits}
+use Rattle.guard_tagcheck.specs.Search.{share_tag, alternative_shares_tag, one_shares_tag, is_passed, partner, paired, first_pair, here, inside, first_clash, clash_of_kind, clash_inside}
+use Rattle.guard_model.specs.Counts.{component_count}
+use Rattle.std.specs.Option.{option_or}
 
 abbrev mutual
   pub bare : AbstractType → AbstractType
@@ -61,27 +63,27 @@ partner_bare s a j (component name t presence rest) = λ i. cond (share_bare a t
 
 pair_bare : (s : Bool) (k : ℕ) (cs : Components) → first_pair s k (bare_components cs) ≡ first_pair s k cs
 pair_bare s k no_components = refl
-pair_bare s k (component name t presence rest) = λ i. or_else (cond (is_passed s presence) (paired k (partner_bare s t (suc k) rest i)) None) (pair_bare s (suc k) rest i)
+pair_bare s k (component name t presence rest) = λ i. option_or (cond (is_passed s presence) (paired k (partner_bare s t (suc k) rest i)) None) (pair_bare s (suc k) rest i)
 
 mutual
   pub clash_bare : (t : AbstractType) → first_clash (bare t) ≡ first_clash t
   clash_bare (type_of tags kind cons) = clash_bare_kind kind
 
   clash_bare_kind : (kind : AbstractKind) → clash_of_kind (bare_kind kind) ≡ clash_of_kind kind
-  clash_bare_kind (type.sequence cs) = λ i. or_else (here (pair_bare true 0 cs i)) (clash_bare_inside 0 cs i)
-  clash_bare_kind (type.set cs) = λ i. or_else (here (pair_bare false 0 cs i)) (clash_bare_inside 0 cs i)
-  clash_bare_kind (type.choice cs) = λ i. or_else (here (pair_bare false 0 cs i)) (clash_bare_inside 0 cs i)
+  clash_bare_kind (type.sequence cs) = λ i. option_or (here (pair_bare true 0 cs i)) (clash_bare_inside 0 cs i)
+  clash_bare_kind (type.set cs) = λ i. option_or (here (pair_bare false 0 cs i)) (clash_bare_inside 0 cs i)
+  clash_bare_kind (type.choice cs) = λ i. option_or (here (pair_bare false 0 cs i)) (clash_bare_inside 0 cs i)
   clash_bare_kind (type.sequence_of t) = ap (inside (Element 0)) (clash_bare t)
   clash_bare_kind (type.set_of t) = ap (inside (Element 0)) (clash_bare t)
   clash_bare_kind _ = refl
 
   clash_bare_inside : (k : ℕ) (cs : Components) → clash_inside k (bare_components cs) ≡ clash_inside k cs
   clash_bare_inside k no_components = refl
-  clash_bare_inside k (component name t presence rest) = λ i. or_else (inside (Component k) (clash_bare t i)) (clash_bare_inside (suc k) rest i)
+  clash_bare_inside k (component name t presence rest) = λ i. option_or (inside (Component k) (clash_bare t i)) (clash_bare_inside (suc k) rest i)
 
 -- ---- limits
 
-count_bare : (cs : Components) → count (bare_components cs) ≡ count cs
+count_bare : (cs : Components) → component_count (bare_components cs) ≡ component_count cs
 count_bare no_components = refl
 count_bare (component name t presence rest) = ap suc (count_bare rest)
 

@@ -3,7 +3,7 @@ use Rattle.std.proofs.Common.{◌≡◌, ℕ, suc, ◌+◌, ◌-◌, ◌*◌, �
 use Rattle.std.specs.Prelude.{fold}
 use Rattle.std.proofs.Math.Seq.{drop-cons}
 use Rattle.std.proofs.lemmas.List.{drop_all}
-use Rattle.guard_lexer.specs.Shapes.{number_value}
+use Rattle.guard_lexer.specs.Items.{number_value}
 
 abbrev pub with_digit : ℕ → ℕ → ℕ
 with_digit value digit = value * 10 + (digit - 48)

@@ -5,7 +5,7 @@ use Rattle.std.proofs.lemmas.Str.{utf8_lossy-IsUtf8}
 use Rattle.std.proofs.lemmas.List.{length-append}
 use Rattle.guard_model.specs.Answer.{◌>>=◌}
 use Rattle.guard_model.specs.declared.site.Site.{Site}
-use Rattle.guard_tagcheck.specs.Limits.{count, nesting, nesting_inside, deepest}
+use Rattle.guard_tagcheck.specs.Limits.{nesting, nesting_inside, deepest}
 use Rattle.guard_syntax.specs.Trees.{WrittenNumber}
 use Rattle.guard_schema.specs.Basic.{BasicRange, BasicType, type_node, BasicBase, plain, integer, structure, choice, of_type, BasicComponents, no_components, component, BasicAssignment, BasicModule}
 use Rattle.guard_schema.specs.Faults.{AbstractFault, Name, Tag, Clash, Cons}
@@ -39,6 +39,7 @@ use Rattle.guard_schema.specs.Reading.{text_octets, list_result, check_component
 use Rattle.std.specs.Option.{option_or}
 use Rattle.guard_model.specs.Each.{each}
 use Rattle.guard_model.specs.Limits.{most_components, deepest_nesting}
+use Rattle.guard_model.specs.Counts.{component_count}
 
 -- where no tag fault stands
 abbrev pub tag_result : {A : Type 0} → Option TagFault → A → Result A AbstractFault
@@ -81,9 +82,9 @@ unfolding check_node check_list check_components_list
 check_node-is site (plain p) parts = check_size-is site parts
 check_node-is site (integer rs) parts = check_size-is site parts
 check_node-is site (structure k cs) parts =
-    rw (check_size-is site parts) (list_cases site (repeated (component_names cs)) (ltb most_components (count (denoted_components cs))) (size_fault site parts) (with_whole parts))
+    rw (check_size-is site parts) (list_cases site (repeated (component_names cs)) (ltb most_components (component_count (denoted_components cs))) (size_fault site parts) (with_whole parts))
 check_node-is site (choice cs) parts =
-    rw (check_size-is site parts) (list_cases site (repeated (component_names cs)) (ltb most_components (count (denoted_components cs))) (size_fault site parts) (with_whole parts))
+    rw (check_size-is site parts) (list_cases site (repeated (component_names cs)) (ltb most_components (component_count (denoted_components cs))) (size_fault site parts) (with_whole parts))
 check_node-is site (of_type k t) parts = check_size-is site parts
 
 pub first_fault-append : (before : ℕ) (xs ys : List BasicType) → first_fault before (xs ++ ys) ≡ option_or (first_fault before xs) (first_fault (before + length xs) ys)

@@ -10,7 +10,7 @@ use Rattle.std.proofs.lemmas.List.Elements.{All-from_recursion}
 use Rattle.std.proofs.lemmas.List.{append-nil}
 use Rattle.std.proofs.lemmas.Map.Keys.{IsDistinct-push}
 use Rattle.guard_model.specs.declared.site.Site.{Site}
-use Rattle.guard_tagcheck.specs.Limits.{count, nesting, is_formed, keeps_limits, parts_keep_limits, components_keep_limits, is_within_limits}
+use Rattle.guard_tagcheck.specs.Limits.{nesting, is_formed, keeps_limits, parts_keep_limits, components_keep_limits, is_within_limits}
 use Rattle.guard_tagcheck.specs.Search.{first_clash}
 use Rattle.guard_tagcheck.specs.Distinct.{AbstractClash}
 use Rattle.guard_model.specs.AbstractType as type
@@ -31,6 +31,7 @@ use Rattle.guard_schema.specs.Faults.{definition_fault, definitions_fault}
 use Rattle.guard_schema.specs.Schemas.{AreDefinitions, denoted_definition}
 use Rattle.guard_schema.proofs.Readings.{first_fault-append}
 use Rattle.guard_model.proofs.Options.{option_or_none}
+use Rattle.guard_model.specs.Counts.{component_count}
 
 not_wrong : (wrong : Bool) (f : TagFault) → fault_where wrong f ≡ None → wrong ≡ false
 not_wrong true f e = absurd cc
@@ -72,8 +73,8 @@ proper_plain plain_type.PrintableString = refl
 proper_plain plain_type.Ia5String = refl
 proper_plain plain_type.VisibleString = refl
 
-few : (site : Site) (cs : BasicComponents) → too_many_components site cs ≡ None → leb (count (denoted_components cs)) 64 ≡ true
-few site cs e = le-leb (count (denoted_components cs)) 64 (ltb-false 64 (count (denoted_components cs)) (not_wrong _ _ e))
+few : (site : Site) (cs : BasicComponents) → too_many_components site cs ≡ None → leb (component_count (denoted_components cs)) 64 ≡ true
+few site cs e = le-leb (component_count (denoted_components cs)) 64 (ltb-false 64 (component_count (denoted_components cs)) (not_wrong _ _ e))
 
 formed : (site : Site) (base : BasicBase) → too_many_components site (list_of base) ≡ None → is_formed (tags_of base) (denoted_kind base) ≡ true
 formed site (plain p) e = formed_plain p
@@ -130,11 +131,11 @@ mutual
   proper (type_node site (plain p)) limits = proper_plain p
   proper (type_node site (integer rs)) limits = and_from _ _ (all_ranges rs) refl
   proper (type_node site (structure collection.Sequence cs)) limits =
-      keeping (leb (count (denoted_components cs)) 64) (components_keep_limits (denoted_components cs)) (are_proper (denoted_components cs)) limits (λ kept. proper_each cs kept)
+      keeping (leb (component_count (denoted_components cs)) 64) (components_keep_limits (denoted_components cs)) (are_proper (denoted_components cs)) limits (λ kept. proper_each cs kept)
   proper (type_node site (structure collection.Set cs)) limits =
-      keeping (leb (count (denoted_components cs)) 64) (components_keep_limits (denoted_components cs)) (are_proper (denoted_components cs)) limits (λ kept. proper_each cs kept)
+      keeping (leb (component_count (denoted_components cs)) 64) (components_keep_limits (denoted_components cs)) (are_proper (denoted_components cs)) limits (λ kept. proper_each cs kept)
   proper (type_node site (choice cs)) limits =
-      keeping (leb (count (denoted_components cs)) 64) (components_keep_limits (denoted_components cs)) (are_proper (denoted_components cs)) limits (λ kept. proper_each cs kept)
+      keeping (leb (component_count (denoted_components cs)) 64) (components_keep_limits (denoted_components cs)) (are_proper (denoted_components cs)) limits (λ kept. proper_each cs kept)
   proper (type_node site (of_type collection.Sequence t)) limits = proper t limits
   proper (type_node site (of_type collection.Set t)) limits = proper t limits
 

@@ -13,7 +13,6 @@ use Rattle.guard_lexer.specs.declared.token.Token.{Token}
 use Rattle.guard_lexer.specs.declared.token.Reserved.{Reserved}
 use Rattle.guard_lexer.specs.declared.token.TokenKind.{TokenKind}
 use Rattle.guard_lexer.specs.declared.token.TokenKind.TheVariants as kind
-use Rattle.guard_lexer.specs.Shapes.{is_of_word, are_of_word, is_word}
 use Rattle.guard_lexer.specs.Spans.{IsSpan, AreSpans, IsSpelled}
 use Rattle.guard_syntax.specs.declared.tree.TagDefault.{TagDefault}
 use Rattle.guard_syntax.specs.declared.tree.PlainType.{PlainType}
@@ -29,6 +28,7 @@ use Rattle.guard_schema.specs.Names.{HasTextNames, HasTextNamesInside, HaveTextN
 use Rattle.guard_model.specs.Each.{each}
 use Rattle.std.proofs.lemmas.Bool.{and_parts}
 use Rattle.guard_model.proofs.Results.{bind_ok, same_Ok}
+use Rattle.guard_lexer.specs.Items.{is_of_word, are_of_word, is_word}
 
 alphanumeric_ascii : (c : ℕ) → is_ascii_alphanumeric c ≡ true → c < 128
 alphanumeric_ascii c h = grind (arith, nat_tests)

@@ -8,7 +8,6 @@ use Rattle.guard_model.specs.AbstractType as type
 use Rattle.guard_model.specs.AbstractType.{AbstractType, AbstractKind, Components, Constraint, Constraints, type_of}
 use Rattle.guard_model.specs.TypeView.{OneComponent, components_of, constraints_of}
 use Rattle.guard_der.specs.Fits.{fits_128_bits}
-use Rattle.guard_tagcheck.specs.Limits.{count}
 use Rattle.guard_syntax.specs.Trees.{WrittenNumber, WrittenComponentForm, named, components_of_type, WrittenComponent, WrittenAlternative}
 use Rattle.guard_schema.specs.Faults.{AbstractFault, Name, Tag, Clash, Cons}
 use Rattle.guard_tagcheck.specs.Distinct.{AbstractClash}
@@ -28,6 +27,7 @@ use Rattle.guard_schema.specs.Types.{number_of, tags_of, plain_kind, structure_k
 use Rattle.guard_schema.specs.Tagging.{most_nodes}
 use Rattle.guard_model.specs.Each.{each}
 use Rattle.guard_model.specs.Limits.{most_components, deepest_nesting}
+use Rattle.guard_model.specs.Counts.{component_count}
 
 -- the octets of a name as text
 unfoldable pub text_octets : List ℕ → List ℕ
@@ -58,7 +58,7 @@ list_result site None true = Err (Tag (TooManyComponents site))
 list_result site None false = Ok tt
 
 unfoldable pub check_components_list : Site → BasicComponents → Result (Unit {0}) AbstractFault
-check_components_list site cs = list_result site (repeated (component_names cs)) (nat_lt most_components (count (denoted_components cs)))
+check_components_list site cs = list_result site (repeated (component_names cs)) (nat_lt most_components (component_count (denoted_components cs)))
 
 unfoldable pub check_list : Site → BasicBase → Result (Unit {0}) AbstractFault
 check_list site (structure k cs) = check_components_list site cs

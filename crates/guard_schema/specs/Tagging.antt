@@ -1,7 +1,7 @@
 -- What is wrong with the parts and tags of the types of a module.
 use Rattle.std.specs.Prelude.{ℕ, suc, Bool, List, [], ◌∷◌, ◌++◌, Option, Some, None, nat_lt, option_map, if◌then◌else◌}
 use Rattle.guard_model.specs.declared.site.Site.{Site}
-use Rattle.guard_tagcheck.specs.Limits.{count, nesting}
+use Rattle.guard_tagcheck.specs.Limits.{nesting}
 use Rattle.guard_schema.specs.declared.tagging.TagFault.{TagFault}
 use Rattle.guard_schema.specs.declared.tagging.TagFault.TheVariants.{DuplicateName, TooManyComponents, TooDeep, SchemaTooLarge}
 use Rattle.guard_schema.specs.Basic.{BasicType, type_node, BasicBase, plain, integer, structure, choice, of_type, BasicComponents, no_components, component}
@@ -9,6 +9,7 @@ use Rattle.guard_schema.specs.Names.{repeated, component_names}
 use Rattle.guard_schema.specs.Types.{denoted, denoted_components}
 use Rattle.std.specs.Option.{option_or}
 use Rattle.guard_model.specs.Limits.{most_components, deepest_nesting}
+use Rattle.guard_model.specs.Counts.{component_count}
 
 abbrev mutual
   -- the type nodes of a type: its parts in written order, and then the whole
@@ -44,7 +45,7 @@ abbrev pub duplicate_name : BasicComponents → Option TagFault
 duplicate_name cs = option_map (λ site. DuplicateName site) (repeated (component_names cs))
 
 abbrev pub too_many_components : Site → BasicComponents → Option TagFault
-too_many_components site cs = fault_where (nat_lt most_components (count (denoted_components cs))) (TooManyComponents site)
+too_many_components site cs = fault_where (nat_lt most_components (component_count (denoted_components cs))) (TooManyComponents site)
 
 -- What is wrong at a node of this nesting, the last of so many nodes. Where several things are wrong the first of these is named.
 abbrev pub node_fault : Site → BasicBase → ℕ → ℕ → Option TagFault

@@ -7,13 +7,13 @@ use Rattle.guard_model.specs.declared.ty.CharKind.TheVariants as kind
 use Rattle.guard_model.specs.AbstractType as type
 use Rattle.guard_model.specs.AbstractType.{AbstractType, AbstractKind, AbstractPresence, Components, Constraint, Constraints, type_of}
 use Rattle.guard_model.specs.TypeView.{constraints_of}
-use Rattle.guard_lexer.specs.Shapes.{number_value}
 use Rattle.guard_syntax.specs.declared.tree.PlainType.{PlainType}
 use Rattle.guard_syntax.specs.declared.tree.PlainType.TheVariants as plain_type
 use Rattle.guard_syntax.specs.declared.tree.Collection.{Collection}
 use Rattle.guard_syntax.specs.declared.tree.Collection.TheVariants as collection
 use Rattle.guard_syntax.specs.Trees.{WrittenNumber}
 use Rattle.guard_schema.specs.Basic.{BasicRange, BasicType, type_node, BasicBase, plain, integer, structure, choice, of_type, BasicComponents, no_components, component}
+use Rattle.guard_lexer.specs.Items.{number_value}
 
 abbrev pub signed : Bool → ℕ → ℤ
 signed false n = pos n

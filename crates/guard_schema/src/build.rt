@@ -22,7 +22,7 @@ use guard_model::{Comp, Cons, Kind, Presence, Site, Ty};
 use std::alloc::Global;
 
 /// A type, and the name to which it is assigned.
-#[derive(Debug, Drop)]
+#[derive(Drop)]
 pub struct Definition {
     pub name: String,
     pub ty: Ty,

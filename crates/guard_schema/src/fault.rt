@@ -63,7 +63,7 @@ impl From<SyntaxFault> for SchemaFault {
 }
 
 /// Why a tree has no basic tree.
-#[derive(Debug, Drop)]
+#[derive(Drop)]
 pub enum FormFault {
     /// The first form that is left out, at its first token.
     LeftOut(Site),

@@ -1,14 +1,15 @@
-//! Schemas: from the text of a module to the types that it assigns, or the first fault of the text.
+//! Schemas: from the text of a module to the types that it assigns, or to the first fault of the text.
 //!
-//! Where to look, or to add:
-//! - which texts make which schema, and why others make none: `schema.rt`, `specs/Accepts.antt`
-//! - the faults, and how those of the layers below are taken in: `fault.rt`, `specs/Faults.antt`
-//! - which forms of the grammar have a meaning: `forms.rt`, before the assignments `header.rt`, in constraints `ranges.rt`,
-//!   all in `specs/Forms.antt`; what is left of a tree: `basic.rt`, `specs/Basic.antt`
-//! - the type that a form denotes: `build.rt`, with its kind and tags `kinds.rt`; `specs/Types.antt`
-//! - names that stand twice: `names.rt`, `specs/Names.antt`
-//! - limits on components, nesting and type nodes: `tagging.rt`, `specs/Tagging.antt`
-//! - numbers in constraints: `constraints.rt`, `values.rt`, `specs/Constraints.antt`
+//! | question | code | definition |
+//! |---|---|---|
+//! | Which texts make which schema, and why do others make none? | `schema.rt` (`Schema::build`) | `specs/Accepts.antt`, `specs/Schemas.antt`, `specs/SchemaView.antt` |
+//! | Which faults are there, and which comes first? | `fault.rt` | `specs/Faults.antt` |
+//! | Which forms of the grammar have a meaning? | `forms.rt`, before the assignments `header.rt`, in constraints `ranges.rt` | `specs/Forms.antt` |
+//! | What is left of a tree of such forms? | `basic.rt` | `specs/Basic.antt`, `specs/Views.antt` |
+//! | Which type does a form denote? | `build.rt`, its kind and tags `kinds.rt` | `specs/Types.antt` |
+//! | Which name stands twice? | `names.rt` | `specs/Names.antt` |
+//! | Which types are too large, too deep or too long? | `tagging.rt` | `specs/Tagging.antt` |
+//! | Which numbers in constraints are too large? | `constraints.rt`, `values.rt` | `specs/Constraints.antt` |
 #![tactic(auto)]
 
 mod basic;

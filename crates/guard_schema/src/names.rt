@@ -10,7 +10,7 @@ use std::collections::BTreeSet;
 use thiserror::Error;
 
 /// Why names of modules mean nothing.
-#[derive(Clone, Copy, Debug, PartialEq, Eq, Error)]
+#[derive(Clone, Copy, Debug, Error)]
 pub enum NameFault {
     /// A name that is assigned twice, at the second assignment.
     #[error("N1 Duplicate {0}")]

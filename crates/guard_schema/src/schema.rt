@@ -24,7 +24,7 @@ const PLACE: u32 = 1;
 
 /// What the text of a module says: its name, and the types that it assigns. Each type is sound, and no name is assigned
 /// twice.
-#[derive(Debug, Drop)]
+#[derive(Drop)]
 pub struct Schema {
     module: String,
     definitions: Vec<Definition>,

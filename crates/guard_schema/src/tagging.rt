@@ -16,7 +16,7 @@ use std::alloc::{AllocError, Global};
 use thiserror::Error;
 
 /// Why a type can't be tagged, or is larger than this profile allows.
-#[derive(Clone, Copy, Debug, PartialEq, Eq, Error)]
+#[derive(Clone, Copy, Debug, Error)]
 pub enum TagFault {
     /// Two components or alternatives of one list have one name (X.680 25.7, 27.3, 29.2), at the name of the later one.
     #[error("G7 DuplicateName {0}")]

@@ -1,6 +1,6 @@
 //! Values that are written in module texts.
 ghost use Rattle.std.specs.Prelude.{◌≡◌, ◌^◌, ◌<◌, ◌≤◌, SomeIff};
-ghost use Rattle.guard_lexer.specs.Shapes.{number_value};
+ghost use Rattle.guard_lexer.specs.Items.{number_value};
 ghost use Rattle.guard_syntax.specs.Views.{number_view};
 ghost use Rattle.guard_schema.specs.Reading.{read_number};
 
@@ -9,7 +9,7 @@ use guard_syntax::NumberTree;
 use thiserror::Error;
 
 /// Why a text is no value of its type.
-#[derive(Clone, Copy, Debug, PartialEq, Eq, Error)]
+#[derive(Clone, Copy, Debug, Error)]
 pub enum ValueFault {
     /// A number outside signed 128 bits, at its first token.
     #[error("V8 TooLarge {0}")]

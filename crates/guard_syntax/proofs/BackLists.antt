@@ -1,5 +1,5 @@
 -- What numbers and lists write is read again.
-use Rattle.std.proofs.Common.{◌≡◌, ℕ, zero, suc, ◌+◌, ◌≤◌, ◌<◌, eqb, Bool, true, false, List, [], ◌∷◌, map, length, Option, Some, None, Result, Ok, refl, ap, sym, ◌∙◌, arith}
+use Rattle.std.proofs.Common.{◌≡◌, ℕ, zero, suc, ◌≤◌, ◌<◌, eqb, Bool, true, false, List, [], ◌∷◌, map, length, Option, Some, None, Ok, refl, ap, arith}
 use Rattle.std.proofs.lemmas.Bool.Decides.{nat_tests}
 use Rattle.guard_model.specs.declared.site.Site.{Site}
 use Rattle.guard_lexer.specs.declared.token.TokenKind.{TokenKind}
@@ -7,11 +7,11 @@ use Rattle.guard_lexer.specs.declared.token.TokenKind.TheVariants.{Mark}
 use Rattle.guard_lexer.specs.declared.token.Mark.TheVariants.{Comma}
 use Rattle.guard_syntax.specs.Lexemes.{Lexeme, mark}
 use Rattle.guard_syntax.specs.Trees.{WrittenNumber, WrittenArc}
-use Rattle.guard_syntax.specs.TokensOf.{number_then, arc_form_then, arc_then, each_then, parted_then}
-use Rattle.guard_syntax.specs.Sites.{first, past, sited_number, past_arc, sited_arc, sited_each, sited_parted}
+use Rattle.guard_syntax.specs.TokensOf.{number_then, arc_then, each_then, parted_then}
+use Rattle.guard_syntax.specs.Sites.{first, past, sited_number, sited_arc, sited_each, sited_parted}
 use Rattle.guard_syntax.specs.Grammar.{zero_digits, MayFollowSign, IsNumber, Any, AreEach, AreSome}
 use Rattle.guard_syntax.specs.ReadTokens.{Placed, Reader, begins_with, site_at, is_zero, read_token, read_word, read_each, read_parted, read_digits, read_number, read_arc, read_named_arc, read_bare_arc}
-use Rattle.guard_syntax.proofs.Steps.{In, Sound}
+use Rattle.guard_syntax.proofs.Steps.{Sound}
 
 -- these lexemes, at these sites
 abbrev pub place : List Lexeme → List Site → List Placed
@@ -47,7 +47,7 @@ NotBefore k ls = (ss : List Site) → begins_with k (place ls ss) ≡ false
 not_forty_eight : (c : ℕ) → (c ≡ 48 → ⊥) → eqb c 48 ≡ false
 not_forty_eight c h = grind (arith, nat_tests)
 
-not_zero : (digits : List ℕ) → (digits ≡ zero_digits → ⊥) → is_zero digits ≡ false
+pub not_zero : (digits : List ℕ) → (digits ≡ zero_digits → ⊥) → is_zero digits ≡ false
 not_zero [] h = refl
 not_zero (c ∷ []) h = not_forty_eight c (λ e. h (ap (λ (d : ℕ). d ∷ []) e))
 not_zero (c ∷ d ∷ cs) h = refl

@@ -1,26 +1,24 @@
 -- What modules write is read again.
-use Rattle.std.proofs.Common.{◌≡◌, ℕ, zero, suc, ◌+◌, ◌≤◌, ◌<◌, Bool, true, false, not, List, [], ◌∷◌, length, Option, Some, None, Result, Ok, refl, ap, sym, ◌∙◌, subst, arith}
-use Rattle.guard_model.specs.Answer.{◌>>=◌}
+use Rattle.std.proofs.Common.{◌≡◌, ℕ, true, false, not, List, [], ◌∷◌, length, Option, Some, None, Ok, refl, ap, arith}
 use Rattle.guard_model.specs.declared.site.Site.{Site}
-use Rattle.guard_lexer.specs.declared.token.TokenKind.TheVariants.{Reserved, LowerName, Mark}
+use Rattle.guard_lexer.specs.declared.token.TokenKind.TheVariants.{Reserved, Mark}
 use Rattle.guard_lexer.specs.declared.token.Reserved.TheVariants.{All, Begin, Definitions, End, Exports, From, Imports}
-use Rattle.guard_lexer.specs.declared.token.Mark.TheVariants.{Assignment, Colon, Comma, LeftBrace, LeftParenthesis, RightBrace, Semicolon}
-use Rattle.guard_syntax.specs.declared.halt.Stop.{Stop}
+use Rattle.guard_lexer.specs.declared.token.Mark.TheVariants.{Assignment, Colon, LeftBrace, LeftParenthesis, RightBrace, Semicolon}
 use Rattle.guard_syntax.specs.declared.tree.TagDefault.{TagDefault}
 use Rattle.guard_syntax.specs.declared.tree.TagDefault.TheVariants as tag_default
 use Rattle.guard_syntax.specs.declared.tree.SymbolKind.{SymbolKind}
 use Rattle.guard_syntax.specs.declared.tree.SymbolKind.TheVariants as symbol
-use Rattle.guard_syntax.specs.Lexemes.{Lexeme, word, mark, upper_name, lower_name}
+use Rattle.guard_syntax.specs.Lexemes.{Lexeme, word, mark, upper_name}
 use Rattle.guard_syntax.specs.Trees.{WrittenArc, WrittenValue, WrittenType, WrittenIdentifierPart, bare_name, arc_part, WrittenSymbol, WrittenExports, all_exported, exported, WrittenImport, WrittenAssignment, WrittenModule}
-use Rattle.guard_syntax.specs.TokensOf.{each_then, parted_then, comma_before, perhaps_then, arc_form_then, type_then, value_then, identifier_part_then, identifier_then, tag_default_then, symbol_lexeme, symbol_then, exports_then, import_then, imports_then, assigned_then, assignment_then, tokens_of}
-use Rattle.guard_syntax.specs.Sites.{first, past, sited_each, sited_parted, sited_perhaps, sited_arc, sited_type, sited_value, sited_identifier_part, sited_identifier, past_tag_default, sited_symbol, sited_exports, sited_import, sited_imports, sited_assigned, sited_assignment, sited}
+use Rattle.guard_syntax.specs.TokensOf.{each_then, parted_then, comma_before, perhaps_then, arc_form_then, value_then, identifier_part_then, identifier_then, tag_default_then, symbol_lexeme, symbol_then, exports_then, import_then, imports_then, assigned_then, assignment_then, tokens_of}
+use Rattle.guard_syntax.specs.Sites.{past, sited_each, sited_parted, sited_perhaps, sited_arc, sited_type, sited_identifier_part, sited_identifier, past_tag_default, sited_symbol, sited_exports, sited_import, sited_imports, sited_assigned, sited_assignment, sited}
 use Rattle.guard_syntax.specs.Grammar.{Any, AreEach, AreSome, IsPerhaps, IsImport, most_levels, IsType, IsValue, IsAssignment, IsModule}
-use Rattle.guard_syntax.specs.ReadTokens.{Placed, begins_with, site_at, read_token, read_word, read_each, read_parted, read_arc}
+use Rattle.guard_syntax.specs.ReadTokens.{begins_with, read_token, read_word, read_each}
 use Rattle.guard_syntax.specs.ReadValues.{does_not_close}
 use Rattle.guard_syntax.specs.ReadModule.{read_identifier_part, read_identifier_parts, read_identifier, read_tag_default, read_symbol, read_exported, read_exports, read_import, goes_on_importing, read_imports, read_type_assignment, read_value_assignment, read_assignment, goes_on_assigning, WrittenHead, read_head, read_end, read_module}
 use Rattle.guard_syntax.proofs.WrittenModule.{identifier_part_in, symbol_in, import_in, assignment_in}
-use Rattle.guard_syntax.proofs.BackLists.{place, length-place, ReadsBack, Whatever, NotBefore, arc_back, site_first, each_back, parted_back}
-use Rattle.guard_syntax.proofs.BackValues.{AfterValue, value_back}
+use Rattle.guard_syntax.proofs.BackLists.{place, ReadsBack, Whatever, NotBefore, arc_back, each_back, parted_back}
+use Rattle.guard_syntax.proofs.BackValues.{value_back}
 use Rattle.guard_syntax.proofs.BackTypes.{AfterType, type_back}
 
 -- ---- object identifiers

@@ -1,11 +1,11 @@
 -- What sets of values and constraints write is read again.
-use Rattle.std.proofs.Common.{◌≡◌, ℕ, zero, suc, ◌+◌, ◌≤◌, ◌<◌, Bool, true, false, List, [], ◌∷◌, length, Option, Some, None, Result, Ok, refl, ap, sym, ◌∙◌, subst, arith}
+use Rattle.std.proofs.Common.{◌≡◌, ℕ, zero, suc, ◌≤◌, Bool, true, false, List, [], ◌∷◌, length, Option, Some, None, Result, Ok, refl, ap, sym, ◌∙◌, subst, arith}
 use Rattle.guard_model.specs.Answer.{◌>>=◌}
 use Rattle.guard_model.specs.declared.site.Site.{Site}
 use Rattle.guard_lexer.specs.declared.token.TokenKind.TheVariants.{Reserved, Mark}
 use Rattle.guard_lexer.specs.declared.token.Reserved.{Reserved as ReservedWord}
 use Rattle.guard_lexer.specs.declared.token.Reserved.TheVariants.{All, Except, Max, Min}
-use Rattle.guard_lexer.specs.declared.token.Mark.TheVariants.{Colon, Comma, LeftParenthesis, LessThan, RangeSeparator, RightBrace, RightParenthesis}
+use Rattle.guard_lexer.specs.declared.token.Mark.TheVariants.{Colon, LeftParenthesis, LessThan, RangeSeparator, RightBrace, RightParenthesis}
 use Rattle.guard_syntax.specs.declared.halt.Stop.{Stop}
 use Rattle.guard_syntax.specs.declared.tree.JoinMark.{JoinMark}
 use Rattle.guard_syntax.specs.declared.tree.JoinMark.TheVariants as join
@@ -14,17 +14,16 @@ use Rattle.guard_syntax.specs.declared.tree.PresenceWord.TheVariants as presence
 use Rattle.guard_syntax.specs.declared.tree.StringKind.TheVariants as string
 use Rattle.guard_syntax.specs.Kinds.{same_kind}
 use Rattle.guard_syntax.specs.Lexemes.{Lexeme, word, mark}
-use Rattle.guard_syntax.specs.Trees.{WrittenNumber, WrittenValue, value_node, boolean, null, integer, text, reference, chosen, list, arcs, WrittenEndForm, end_integer, end_reference, end_characters, WrittenEnd, WrittenRange, WrittenSet, set_node, WrittenSetForm, all_except, union, WrittenUnited, none_united, united, WrittenJoinedIntersection, united_of, WrittenIntersection, intersection, WrittenMet, none_met, met, WrittenJoinedDifference, met_of, WrittenDifference, element_alone, element_except, WrittenElement, element_node, WrittenElementForm, parentheses, value, contained, range, size, from, with_component, with_components, WrittenConstraint, constraint, WrittenParts, no_parts, part, part_in, WrittenPart, parts_of}
-use Rattle.guard_syntax.specs.TokensOf.{each_then, parted_then, perhaps_then, if_there_then, number_then, value_then, end_form_then, end_or_then, range_then, union_mark, intersection_mark, presence_word_then, set_then, set_form_then, united_then, intersection_then, met_then, difference_then, element_then, element_form_then, constraint_then, parts_then}
-use Rattle.guard_syntax.specs.Sites.{first, past, sited_each, sited_parted, sited_number, sited_value, sited_end_form, sited_end_or, sited_range, past_partial, sited_set, sited_set_form, sited_united, sited_intersection, sited_met, sited_difference, sited_element, sited_element_form, sited_constraint, sited_parts}
-use Rattle.guard_syntax.specs.Grammar.{MayFollowSign, IsNumber, AreEach, AreSome, IsPerhaps, IsValue, IsEndForm, IsEnd, IsRange, HasParts, IsSet, IsSetForm, AreUnited, IsIntersection, AreMet, IsDifference, IsElement, IsElementForm, IsConstraint, AreParts}
-use Rattle.guard_syntax.specs.ReadTokens.{Placed, Reader, begins_with, behind, site_at, read_token, read_word, read_each, read_parted, read_number}
-use Rattle.guard_syntax.specs.ReadValues.{read_value}
-use Rattle.guard_syntax.specs.ReadSets.{begins_dots, begins_range, read_end_form, read_end_or, read_range, read_constraint, read_parentheses, read_contained, presence_at, read_perhaps_constraint, read_part, read_partial, read_with_components, read_with, read_range_or_value, read_element_form, read_element, read_except, read_difference, begins_intersection_mark, begins_union_mark, read_intersection_mark, read_union_mark, read_joined_difference, read_intersection, read_joined_intersection, read_union, read_all_except, read_set_form, read_set}
+use Rattle.guard_syntax.specs.Trees.{WrittenNumber, WrittenValue, value_node, boolean, null, integer, text, reference, chosen, list, arcs, WrittenEndForm, end_integer, end_reference, end_characters, WrittenEnd, WrittenRange, WrittenSet, set_node, WrittenSetForm, all_except, union, WrittenUnited, none_united, united, WrittenJoinedIntersection, united_of, WrittenIntersection, intersection, WrittenMet, none_met, met, WrittenJoinedDifference, met_of, WrittenDifference, element_alone, element_except, WrittenElement, element_node, parentheses, value, contained, range, size, from, with_component, with_components, WrittenConstraint, constraint, WrittenParts, no_parts, part, part_in, WrittenPart, parts_of}
+use Rattle.guard_syntax.specs.TokensOf.{each_then, parted_then, if_there_then, number_then, value_then, end_form_then, end_or_then, range_then, union_mark, intersection_mark, presence_word_then, set_then, set_form_then, united_then, intersection_then, met_then, difference_then, element_then, element_form_then, constraint_then}
+use Rattle.guard_syntax.specs.Sites.{first, past, sited_each, sited_number, sited_value, sited_end_form, sited_end_or, sited_range, sited_set, sited_set_form, sited_intersection, sited_difference, sited_element, sited_element_form, sited_constraint}
+use Rattle.guard_syntax.specs.Grammar.{MayFollowSign, AreEach, IsPerhaps, IsValue, IsEndForm, IsEnd, HasParts, IsSet, IsSetForm, AreUnited, IsIntersection, AreMet, IsDifference, IsElement, IsElementForm, IsConstraint, AreParts}
+use Rattle.guard_syntax.specs.ReadTokens.{Placed, Reader, begins_with, read_token, read_word, read_each}
+use Rattle.guard_syntax.specs.ReadSets.{begins_dots, read_end_form, read_end_or, read_range, read_constraint, read_parentheses, read_contained, presence_at, read_perhaps_constraint, read_part, read_partial, read_with_components, read_with, read_range_or_value, read_element_form, read_element, read_except, read_difference, begins_intersection_mark, begins_union_mark, read_intersection_mark, read_union_mark, read_joined_difference, read_intersection, read_joined_intersection, read_union, read_all_except, read_set_form, read_set}
 use Rattle.guard_syntax.proofs.Steps.{Sound}
-use Rattle.guard_syntax.proofs.WrittenSets.{part_then, sited_part, IsPart, parts_print, parts_sited, joined_difference_then, sited_joined_difference, IsJoinedDifference, met_print, met_sited, joined_intersection_then, sited_joined_intersection, IsJoinedIntersection, united_print, united_sited, constraint_in, part_is_in, element_form_in, element_in, difference_in, joined_difference_in, intersection_in, joined_intersection_in, set_form_in, set_in}
+use Rattle.guard_syntax.proofs.WrittenSets.{part_then, sited_part, IsPart, parts_print, parts_sited, joined_difference_then, sited_joined_difference, IsJoinedDifference, met_print, met_sited, joined_intersection_then, sited_joined_intersection, IsJoinedIntersection, united_print, united_sited, part_is_in, element_form_in, element_in, difference_in, joined_difference_in, joined_intersection_in, set_form_in, set_in}
 use Rattle.guard_syntax.proofs.WrittenValues.{value_in}
-use Rattle.guard_syntax.proofs.BackLists.{place, length-place, ReadsBack, Whatever, NotBefore, number_back, site_first, each_back, parted_back}
+use Rattle.guard_syntax.proofs.BackLists.{place, ReadsBack, Whatever, NotBefore, not_zero, number_back, site_first, each_back, parted_back}
 use Rattle.guard_syntax.proofs.BackValues.{AfterValue, value_back}
 
 -- ---- what does not lengthen an element, a difference, an intersection, a set
@@ -173,28 +172,29 @@ module _ (levels : ℕ) {values : Reader WrittenValue} {sets : Reader WrittenSet
   value_shown (value_node site (list es)) ls ss after = refl
   value_shown (value_node site (arcs all)) ls ss after = refl
 
-  integer_range_shown : (n : WrittenNumber) (minus above : Bool) (ls : List Lexeme) (ss : List Site) → n.minus ≡ minus → let ps = place (number_then n (if_there_then above (mark LessThan) (mark RangeSeparator ∷ ls))) ss in
+  integer_range_shown : (site : Site) (minus : Bool) (digits : List ℕ) (above : Bool) (ls : List Lexeme) (ss : List Site) → MayFollowSign minus digits → let n : WrittenNumber = record { site = site; minus = minus; digits = digits } in
+      let ps = place (number_then n (if_there_then above (mark LessThan) (mark RangeSeparator ∷ ls))) ss in
       read_element_form values sets ps ≡ (read_range ps >>= λ r. Ok (range r.0, r.1))
   unfolding read_element_form read_range_or_value
-  integer_range_shown n true true ls ss e = rw e refl
-  integer_range_shown n true false ls ss e = rw e refl
-  integer_range_shown n false true ls ss e = rw e refl
-  integer_range_shown n false false ls ss e = rw e refl
+  integer_range_shown site true digits true ls ss h = rw (not_zero digits h) refl
+  integer_range_shown site true digits false ls ss h = rw (not_zero digits h) refl
+  integer_range_shown site false digits true ls ss h = refl
+  integer_range_shown site false digits false ls ss h = refl
 
-  form_range_shown : (f : WrittenEndForm) (above : Bool) (ls : List Lexeme) (ss : List Site) → let ps = place (end_form_then f (if_there_then above (mark LessThan) (mark RangeSeparator ∷ ls))) ss in
+  form_range_shown : (f : WrittenEndForm) (above : Bool) (ls : List Lexeme) (ss : List Site) → IsEndForm f → let ps = place (end_form_then f (if_there_then above (mark LessThan) (mark RangeSeparator ∷ ls))) ss in
       read_element_form values sets ps ≡ (read_range ps >>= λ r. Ok (range r.0, r.1))
   unfolding read_element_form read_range_or_value
-  form_range_shown (end_integer n) above ls ss = integer_range_shown n n.minus above ls ss refl
-  form_range_shown (end_reference name) true ls ss = refl
-  form_range_shown (end_reference name) false ls ss = refl
-  form_range_shown (end_characters spelling) true ls ss = refl
-  form_range_shown (end_characters spelling) false ls ss = refl
+  form_range_shown (end_integer n) above ls ss h = integer_range_shown n.site n.minus n.digits above ls ss h
+  form_range_shown (end_reference name) true ls ss h = refl
+  form_range_shown (end_reference name) false ls ss h = refl
+  form_range_shown (end_characters spelling) true ls ss h = refl
+  form_range_shown (end_characters spelling) false ls ss h = refl
 
-  range_shown : (low : Option WrittenEnd) (above : Bool) (ls : List Lexeme) (ss : List Site) → let ps = place (end_or_then Min low (if_there_then above (mark LessThan) (mark RangeSeparator ∷ ls))) ss in
+  range_shown : (low : Option WrittenEnd) (above : Bool) (ls : List Lexeme) (ss : List Site) → IsPerhaps IsEnd low → let ps = place (end_or_then Min low (if_there_then above (mark LessThan) (mark RangeSeparator ∷ ls))) ss in
       read_element_form values sets ps ≡ (read_range ps >>= λ r. Ok (range r.0, r.1))
   unfolding read_element_form read_range_or_value
-  range_shown None above ls ss = refl
-  range_shown (Some e) above ls ss = form_range_shown e.form above ls ss
+  range_shown None above ls ss h = refl
+  range_shown (Some e) above ls ss h = form_range_shown e.form above ls ss h
 
   -- ---- parts
 
@@ -263,7 +263,7 @@ module _ (levels : ℕ) {values : Reader WrittenValue} {sets : Reader WrittenSet
   element_form_back (contained true name) ls ss h after = refl
   element_form_back (contained false name) ls ss h after = refl
   element_form_back (range r) ls ss h after =
-      range_shown r.low r.above_low (if_there_then r.below_high (mark LessThan) (end_or_then Max r.high ls)) ss ∙ rw (range_back_at r.low r.above_low r.below_high r.high ls ss h.0 h.1) refl
+      range_shown r.low r.above_low (if_there_then r.below_high (mark LessThan) (end_or_then Max r.high ls)) ss h.0 ∙ rw (range_back_at r.low r.above_low r.below_high r.high ls ss h.0 h.1) refl
   element_form_back (size c) ls ss h after = rw (constraint_back c ls (past ss) h tt) refl
   element_form_back (from c) ls ss h after = rw (constraint_back c ls (past ss) h tt) refl
   element_form_back (with_component c) ls ss h after = rw (constraint_back c ls (past (past ss)) h tt) refl

@@ -1,6 +1,5 @@
 -- What types write is read again.
-use Rattle.std.proofs.Common.{◌≡◌, ℕ, zero, suc, ◌+◌, ◌≤◌, ◌<◌, Bool, true, false, List, [], ◌∷◌, length, Option, Some, None, Result, Ok, refl, ap, sym, ◌∙◌, subst, arith}
-use Rattle.guard_model.specs.Answer.{◌>>=◌}
+use Rattle.std.proofs.Common.{◌≡◌, ℕ, zero, suc, ◌≤◌, Bool, true, false, List, [], ◌∷◌, length, Option, Some, None, Result, Ok, refl, ap, sym, subst, arith}
 use Rattle.guard_model.specs.declared.site.Site.{Site}
 use Rattle.guard_lexer.specs.declared.token.TokenKind.TheVariants.{Reserved, Mark}
 use Rattle.guard_lexer.specs.declared.token.Reserved.TheVariants.{Default, Of, Optional}
@@ -14,20 +13,19 @@ use Rattle.guard_syntax.specs.declared.tree.PlainType.{PlainType}
 use Rattle.guard_syntax.specs.declared.tree.PlainType.TheVariants as plain_type
 use Rattle.guard_syntax.specs.declared.tree.Collection.{Collection}
 use Rattle.guard_syntax.specs.declared.tree.Collection.TheVariants as collection
-use Rattle.guard_syntax.specs.Lexemes.{Lexeme, word, mark, lower_name}
-use Rattle.guard_syntax.specs.Trees.{WrittenNumber, WrittenValue, WrittenSet, WrittenConstraint, constraint, WrittenTag, WrittenNamed, WrittenItem, WrittenOfConstraint, WrittenPresence, mandatory, optional, default, WrittenType, type_node, WrittenBase, plain, numbers, enumerated, structure, choice, of_type, named_type, WrittenComponents, no_components, component, components_from, WrittenComponentForm, named, components_of_type, WrittenComponent, component_before, components_of, WrittenAlternatives, no_alternatives, alternative, WrittenAlternative, alternatives_of}
-use Rattle.guard_syntax.specs.TokensOf.{each_then, parted_then, comma_before, perhaps_then, value_then, set_then, constraint_then, tag_then, number_then, parenthesised_then, named_then, item_then, numbers_then, plain_then, collection_word, of_constraint_then, presence_then, type_then, base_then, components_then, alternatives_then}
-use Rattle.guard_syntax.specs.Sites.{first, past, sited_each, sited_parted, sited_perhaps, sited_number, sited_value, sited_set, sited_constraint, sited_tag, sited_parenthesised, sited_named, sited_item, sited_numbers, sited_of_constraint, sited_presence, sited_type, sited_base, sited_components, sited_alternatives}
-use Rattle.guard_syntax.specs.Grammar.{Any, IsNumber, AreEach, AreSome, IsPerhaps, IsValue, IsSet, IsConstraint, IsNamed, IsItem, IsOfConstraint, IsPresence, MayConstrain, HasAlternatives, IsType, IsBase, AreComponents, AreAlternatives}
-use Rattle.guard_syntax.specs.ReadTokens.{Placed, Reader, begins_with, behind, site_at, read_token, read_word, read_each, read_parted, read_number}
-use Rattle.guard_syntax.specs.ReadValues.{read_value}
-use Rattle.guard_syntax.specs.ReadSets.{read_constraint, read_set}
+use Rattle.guard_syntax.specs.Lexemes.{Lexeme, word, mark}
+use Rattle.guard_syntax.specs.Trees.{WrittenNumber, WrittenValue, WrittenSet, WrittenConstraint, constraint, WrittenTag, WrittenNamed, WrittenItem, WrittenOfConstraint, mandatory, optional, default, WrittenType, type_node, WrittenBase, plain, numbers, enumerated, structure, choice, of_type, named_type, WrittenComponents, no_components, component, components_from, WrittenComponentForm, named, components_of_type, WrittenComponent, components_of, WrittenAlternatives, no_alternatives, alternative, WrittenAlternative, alternatives_of}
+use Rattle.guard_syntax.specs.TokensOf.{each_then, parted_then, comma_before, perhaps_then, value_then, set_then, constraint_then, tag_then, parenthesised_then, named_then, item_then, numbers_then, plain_then, of_constraint_then, type_then, base_then, components_then, alternatives_then}
+use Rattle.guard_syntax.specs.Sites.{first, past, sited_each, sited_parted, sited_value, sited_set, sited_constraint, sited_tag, sited_parenthesised, sited_named, sited_item, sited_numbers, sited_of_constraint, sited_type, sited_base}
+use Rattle.guard_syntax.specs.Grammar.{Any, IsNumber, AreEach, AreSome, IsPerhaps, IsValue, IsSet, IsConstraint, IsNamed, IsItem, IsOfConstraint, MayConstrain, HasAlternatives, IsType, IsBase, AreComponents, AreAlternatives}
+use Rattle.guard_syntax.specs.ReadTokens.{Placed, Reader, begins_with, site_at, read_token, read_word, read_each}
+use Rattle.guard_syntax.specs.ReadSets.{read_constraint}
 use Rattle.guard_syntax.specs.ReadTypes.{mode_at, read_tag, begins_tag, begins_constraint, read_in_parentheses, read_named, read_item_number, read_item, read_numbers, read_items, read_two_words, read_presence, read_component_form, read_component, read_components, read_alternative, read_choice, read_structure, read_of_constraint, read_of, read_collection, read_word_or_name, read_simple, read_base, is_of, read_constraints, read_inner_type, read_type}
 use Rattle.guard_syntax.proofs.Steps.{Sound}
 use Rattle.guard_syntax.proofs.WrittenValues.{value_in}
 use Rattle.guard_syntax.proofs.WrittenSets.{constraint_in, set_in}
 use Rattle.guard_syntax.proofs.WrittenTypes.{tag_in, named_in, item_in, component_form_then, component_then, sited_component_form, sited_component, IsComponentForm, IsComponent, components_print, components_sited, alternative_then, sited_alternative, IsAlternative, alternatives_print, alternatives_sited, component_in, alternative_in, type_in}
-use Rattle.guard_syntax.proofs.BackLists.{place, length-place, ReadsBack, Whatever, NotBefore, number_back, site_first, each_back, parted_back}
+use Rattle.guard_syntax.proofs.BackLists.{place, ReadsBack, Whatever, NotBefore, number_back, each_back, parted_back}
 use Rattle.guard_syntax.proofs.BackValues.{AfterValue, value_back}
 use Rattle.guard_syntax.proofs.BackSets.{AfterSet, constraints_back, set_back}
 

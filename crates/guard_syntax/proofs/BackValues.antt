@@ -1,22 +1,23 @@
 -- What values write is read again.
-use Rattle.std.proofs.Common.{◌≡◌, ℕ, zero, suc, ◌+◌, ◌≤◌, ◌<◌, Bool, true, false, List, [], ◌∷◌, length, Option, Some, None, Result, Ok, refl, ap, sym, ◌∙◌, subst, arith}
+use Rattle.std.proofs.Common.{◌≡◌, ℕ, zero, suc, ◌==◌, Bool, true, false, List, [], ◌∷◌, length, Option, Some, None, Ok, refl, ap, subst, arith}
+use Rattle.std.proofs.lemmas.Bool.Decides.{nat_tests}
 use Rattle.guard_model.specs.declared.site.Site.{Site}
 use Rattle.guard_lexer.specs.declared.token.TokenKind.TheVariants.{Mark, LowerName, Number}
 use Rattle.guard_lexer.specs.declared.token.Mark.{Mark as Sign}
-use Rattle.guard_lexer.specs.declared.token.Mark.TheVariants.{Colon, Comma, LeftBrace, LeftParenthesis, Minus, RightBrace}
+use Rattle.guard_lexer.specs.declared.token.Mark.TheVariants.{Colon, LeftBrace, LeftParenthesis, Minus, RightBrace}
 use Rattle.guard_syntax.specs.Kinds.{same_kind}
 use Rattle.guard_syntax.specs.declared.tree.StringKind.TheVariants as string
-use Rattle.guard_syntax.specs.Lexemes.{Lexeme, mark, lower_name}
+use Rattle.guard_syntax.specs.Lexemes.{Lexeme, mark}
 use Rattle.guard_syntax.specs.Trees.{WrittenNumber, WrittenArc, WrittenValue, value_node, WrittenValueForm, boolean, null, integer, text, reference, chosen, list, arcs, WrittenEntries, no_entries, entry, WrittenEntry, entries_of}
 use Rattle.guard_syntax.specs.TokensOf.{number_then, arc_form_then, arc_then, each_then, parted_then, comma_before, entry_name_then, entries_comma, value_then, value_form_then, entries_then}
-use Rattle.guard_syntax.specs.Sites.{first, past, past_perhaps, sited_arc, sited_each, sited_parted, sited_number, sited_value, sited_value_form, sited_entries}
-use Rattle.guard_syntax.specs.Grammar.{MayFollowSign, Any, AreEach, AreSome, IsNumber, AreArcs, IsValue, IsValueForm, AreEntries}
-use Rattle.guard_syntax.specs.ReadTokens.{Placed, Reader, begins_with, read_token, read_word, read_parted, read_each, read_arc}
+use Rattle.guard_syntax.specs.Sites.{past, sited_arc, sited_each, sited_parted, sited_number, sited_value, sited_value_form}
+use Rattle.guard_syntax.specs.Grammar.{MayFollowSign, Any, AreEach, AreArcs, IsValue, IsValueForm, AreEntries}
+use Rattle.guard_syntax.specs.ReadTokens.{Reader, begins_with, read_token, read_word}
 use Rattle.guard_syntax.specs.ReadValues.{is_there, begins_value, begins_arcs, are_arcs, does_not_close, read_entry_name, read_entry, read_entries, read_arcs, read_braces, read_name, read_integer_form, read_string, read_value_form, read_value}
 use Rattle.guard_syntax.proofs.Steps.{Sound}
 use Rattle.guard_syntax.proofs.WrittenLists.{arc_in}
 use Rattle.guard_syntax.proofs.WrittenValues.{entry_then, sited_entry, IsEntry, entries_print, entries_sited, entry_in, form_in, value_in}
-use Rattle.guard_syntax.proofs.BackLists.{place, length-place, ReadsBack, Whatever, NotBefore, number_back, arc_back, site_first, each_back, parted_back}
+use Rattle.guard_syntax.proofs.BackLists.{place, ReadsBack, NotBefore, number_back, arc_back, site_first, each_back, parted_back}
 
 -- the token behind does not lengthen a value
 abbrev pub AfterValue : List Lexeme → Type 0
@@ -148,6 +149,11 @@ entries_no_arcs no_entries ls ss = refl
 entries_no_arcs (entry site None v others) ls ss = no_arcs_in v (entries_comma others (entries_then others (mark RightBrace ∷ ls))) ss (no_arcs_behind others ls)
 entries_no_arcs (entry site (Some name) v others) ls ss = value_not LeftParenthesis (refl, refl) v (entries_comma others (entries_then others (mark RightBrace ∷ ls))) (past ss)
 
+-- where a value stands one may stand
+may_stand : (levels : ℕ) (v : WrittenValue) → IsValue levels v → (levels == 0) ≡ false
+may_stand zero (value_node site f) h = absurd h
+may_stand (suc levels) v h = grind (arith, nat_tests)
+
 module _ (levels : ℕ) {values : Reader WrittenValue} (inside_in : Sound value_then sited_value (IsValue levels) values) (inside_back : ReadsBack value_then sited_value (IsValue levels) AfterValue values) where
   sign_name_missing : (n : WrittenNumber) (minus : Bool) (ls : List Lexeme) (ss : List Site) → n.minus ≡ minus → read_entry_name (place (number_then n ls) ss) ≡ Ok (None, place (number_then n ls) ss)
   unfolding read_entry_name
@@ -182,30 +188,30 @@ module _ (levels : ℕ) {values : Reader WrittenValue} (inside_in : Sound value_
   entry_not_closing (Some name) v ls ss = refl
 
   entries_back : (es : List WrittenEntry) (ls : List Lexeme) (ss : List Site) → AreEach (IsEntry levels) es
-      → read_entries values (place (parted_then entry_then es (mark RightBrace ∷ ls)) ss) ≡ Ok ((sited_parted sited_entry es ss).0, place (mark RightBrace ∷ ls) (sited_parted sited_entry es ss).1)
+      → read_entries levels values (place (parted_then entry_then es (mark RightBrace ∷ ls)) ss) ≡ Ok ((sited_parted sited_entry es ss).0, place (mark RightBrace ∷ ls) (sited_parted sited_entry es ss).1)
   unfolding read_entries
   entries_back [] ls ss h = refl
   entries_back (e ∷ es) ls ss h =
       let more = parted_then entry_then (e ∷ es) (mark RightBrace ∷ ls) in
-      rw (entry_not_closing e.name e.value (comma_before es (parted_then entry_then es (mark RightBrace ∷ ls))) ss, parted_back (entry_in levels inside_in) entry_back (λ more ts. (refl, refl)) (e ∷ es) (length (place more ss)) (mark RightBrace ∷ ls) ss h (λ ts. (refl, refl)) (λ ts. refl) (omega arith)) refl
+      rw (entry_not_closing e.name e.value (comma_before es (parted_then entry_then es (mark RightBrace ∷ ls))) ss, may_stand levels e.value h.0, parted_back (entry_in levels inside_in) entry_back (λ more ts. (refl, refl)) (e ∷ es) (length (place more ss)) (mark RightBrace ∷ ls) ss h (λ ts. (refl, refl)) (λ ts. refl) (omega arith)) refl
 
   list_back_of : (es : List WrittenEntry) (ls : List Lexeme) (ss : List Site) → AreEach (IsEntry levels) es
-      → read_value_form values (place (value_form_then (list (entries_of es)) ls) ss) ≡ Ok ((sited_value_form (list (entries_of es)) ss).0, place ls (sited_value_form (list (entries_of es)) ss).1)
+      → read_value_form levels values (place (value_form_then (list (entries_of es)) ls) ss) ≡ Ok ((sited_value_form (list (entries_of es)) ss).0, place ls (sited_value_form (list (entries_of es)) ss).1)
   unfolding read_value_form read_braces read_token
   list_back_of es ls ss h = rw (entries_no_arcs (entries_of es) ls (past ss), entries_print es (mark RightBrace ∷ ls), entries_back es ls (past ss) h, entries_sited es (past ss)) refl
 
   list_back : (es : WrittenEntries) (ls : List Lexeme) (ss : List Site) → AreEntries levels es
-      → read_value_form values (place (value_form_then (list es) ls) ss) ≡ Ok ((sited_value_form (list es) ss).0, place ls (sited_value_form (list es) ss).1)
+      → read_value_form levels values (place (value_form_then (list es) ls) ss) ≡ Ok ((sited_value_form (list es) ss).0, place ls (sited_value_form (list es) ss).1)
   list_back es ls ss h =
-      subst (λ (x : WrittenEntries). read_value_form values (place (value_form_then (list x) ls) ss) ≡ Ok ((sited_value_form (list x) ss).0, place ls (sited_value_form (list x) ss).1)) (entries_again es) (list_back_of (entries_list es) ls ss (entries_each levels es h))
+      subst (λ (x : WrittenEntries). read_value_form levels values (place (value_form_then (list x) ls) ss) ≡ Ok ((sited_value_form (list x) ss).0, place ls (sited_value_form (list x) ss).1)) (entries_again es) (list_back_of (entries_list es) ls ss (entries_each levels es h))
 
   integer_back_at : (site : Site) (minus : Bool) (digits : List ℕ) (ls : List Lexeme) (ss : List Site) → MayFollowSign minus digits → let n : WrittenNumber = record { site = site; minus = minus; digits = digits } in
-      read_value_form values (place (number_then n ls) ss) ≡ Ok (integer (sited_number n ss).0, place ls (sited_number n ss).1)
+      read_value_form levels values (place (number_then n ls) ss) ≡ Ok (integer (sited_number n ss).0, place ls (sited_number n ss).1)
   unfolding read_value_form read_integer_form
   integer_back_at site true digits ls ss h = rw (number_back (record { site = site; minus = true; digits = digits }) ls ss h tt) refl
   integer_back_at site false digits ls ss h = rw (number_back (record { site = site; minus = false; digits = digits }) ls ss h tt) refl
 
-  form_back : ReadsBack value_form_then sited_value_form (IsValueForm levels) AfterValue (read_value_form values)
+  form_back : ReadsBack value_form_then sited_value_form (IsValueForm levels) AfterValue (read_value_form levels values)
   unfolding read_value_form read_integer_form read_string read_name read_braces read_word read_token
   form_back (boolean true) ls ss h after = refl
   form_back (boolean false) ls ss h after = refl

@@ -6,7 +6,7 @@ pub mod BackLists
 pub mod BackValues
 pub mod WrittenSets
 pub mod BackSets
-pub mod TypeLoops
+pub mod Levels
 pub mod WrittenTypes
 pub mod BackTypes
 pub mod WrittenModule

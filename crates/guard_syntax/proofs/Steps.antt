@@ -1,5 +1,5 @@
 -- What a reading function that did not fail has read.
-use Rattle.std.proofs.Common.{◌≡◌, ℕ, suc, ◌+◌, ◌≤◌, ◌<◌, Bool, true, false, cond, List, [], ◌∷◌, map, length, Option, Some, None, Result, Ok, Err, refl, ap, sym, ◌∙◌, subst, arith}
+use Rattle.std.proofs.Common.{◌≡◌, suc, ◌<◌, Bool, true, false, cond, List, [], ◌∷◌, map, length, Result, Ok, Err, refl, ap, subst}
 use Rattle.guard_model.specs.Answer.{◌>>=◌}
 use Rattle.guard_model.specs.declared.site.Site.{Site}
 use Rattle.guard_lexer.specs.declared.token.TokenKind.{TokenKind}
@@ -12,7 +12,7 @@ use denote.Enum.Bare.{same_true}
 use Rattle.guard_syntax.specs.declared.halt.Stop.{Stop}
 use Rattle.guard_syntax.specs.Kinds.{same_kind}
 use Rattle.guard_syntax.specs.Lexemes.{Lexeme, word, mark, upper_name, lower_name, number, character_string, bit_string, hexadecimal_string, unsupported, kind_of, spelling_of, lexeme_of}
-use Rattle.guard_syntax.specs.Sites.{first, past}
+use Rattle.guard_syntax.specs.Sites.{past}
 use Rattle.guard_syntax.specs.ReadTokens.{Placed, Reader, begins_with, behind, spelling_at, read_token, read_word}
 
 abbrev pub lexemes : List Placed → List Lexeme

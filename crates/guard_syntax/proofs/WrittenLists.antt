@@ -1,18 +1,15 @@
 -- What is read of numbers and of lists is what they write.
-use Rattle.std.proofs.Common.{◌≡◌, ℕ, zero, suc, ◌+◌, ◌≤◌, ◌<◌, Bool, true, false, ◌&&◌, List, [], ◌∷◌, length, Option, Some, None, Result, Ok, Err, refl, ap, sym, ◌∙◌, subst, arith}
-use Rattle.guard_model.specs.Answer.{◌>>=◌}
+use Rattle.std.proofs.Common.{◌≡◌, ℕ, zero, suc, ◌≤◌, Bool, true, false, ◌&&◌, List, [], ◌∷◌, length, Option, Some, None, refl, sym, ◌∙◌, arith}
 use Rattle.guard_model.specs.declared.site.Site.{Site}
 use Rattle.guard_lexer.specs.declared.token.TokenKind.TheVariants.{Number, LowerName, Mark}
 use Rattle.guard_lexer.specs.declared.token.TokenKind.TheVariants as kind
 use Rattle.guard_lexer.specs.declared.token.Reserved.{Reserved}
 use Rattle.guard_lexer.specs.declared.token.Mark.TheVariants.{Comma, LeftParenthesis, Minus, RightParenthesis}
-use Rattle.guard_syntax.specs.declared.halt.Stop.{Stop}
-use Rattle.guard_syntax.specs.Lexemes.{Lexeme, word, mark, number, lexeme_of}
-use Rattle.guard_syntax.specs.Trees.{WrittenNumber, WrittenArc}
+use Rattle.guard_syntax.specs.Lexemes.{Lexeme, word, mark, number}
 use Rattle.guard_syntax.specs.TokensOf.{perhaps_then, if_there_then, number_then, arc_then, each_then, parted_then, comma_before}
 use Rattle.guard_syntax.specs.Sites.{past, past_perhaps, past_if, past_comma, sited_number, sited_arc, sited_each, sited_parted, sited_perhaps}
-use Rattle.guard_syntax.specs.Grammar.{IsPerhaps, zero_digits, MayFollowSign, IsNumber, Any, AreEach, AreSome}
-use Rattle.guard_syntax.specs.ReadTokens.{Placed, Reader, begins_with, behind, behind_if, spelling_at, begins_with_zero, is_zero, read_token, read_word, read_each, read_parted, read_digits, read_number, read_arc, read_named_arc, read_bare_arc}
+use Rattle.guard_syntax.specs.Grammar.{IsPerhaps, MayFollowSign, IsNumber, Any, AreEach, AreSome}
+use Rattle.guard_syntax.specs.ReadTokens.{Placed, Reader, begins_with, behind, behind_if, spelling_at, begins_with_zero, is_zero, read_word, read_each, read_parted, read_digits, read_number, read_arc, read_named_arc, read_bare_arc}
 use Rattle.guard_syntax.specs.ReadValues.{is_there}
 use Rattle.guard_syntax.proofs.Steps.{lexemes, sites, Holds, then_holds, ok_holds, err_holds, if_holds, Took, took, took_mark, took_spelled, In, Sound}
 

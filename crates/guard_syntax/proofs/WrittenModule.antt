@@ -1,5 +1,5 @@
 -- What is read of modules is what they write.
-use Rattle.std.proofs.Common.{◌≡◌, ℕ, zero, suc, ◌+◌, ◌≤◌, ◌<◌, Bool, true, false, cond, not, List, [], ◌∷◌, length, Option, Some, None, Result, Ok, Err, refl, ap, sym, ◌∙◌, subst, arith}
+use Rattle.std.proofs.Common.{◌≡◌, ◌≤◌, ◌<◌, cond, not, List, [], ◌∷◌, length, Option, Some, None, Result, Ok, refl, ap, sym, ◌∙◌, arith}
 use Rattle.guard_model.specs.Answer.{◌>>=◌}
 use Rattle.guard_model.specs.declared.site.Site.{Site}
 use Rattle.guard_lexer.specs.declared.token.TokenKind.TheVariants.{Reserved, UpperName, LowerName, Mark}
@@ -9,16 +9,15 @@ use Rattle.guard_syntax.specs.declared.halt.Stop.{Stop}
 use Rattle.guard_syntax.specs.declared.tree.TagDefault.{TagDefault}
 use Rattle.guard_syntax.specs.declared.tree.TagDefault.TheVariants as tag_default
 use Rattle.guard_syntax.specs.Lexemes.{Lexeme, word, mark, upper_name}
-use Rattle.guard_syntax.specs.Trees.{WrittenArc, WrittenIdentifierPart, bare_name, arc_part, WrittenSymbol, WrittenExports, all_exported, exported, WrittenImport, WrittenAssignment, WrittenModule}
-use Rattle.guard_syntax.specs.TokensOf.{each_then, parted_then, perhaps_then, identifier_part_then, identifier_then, tag_default_word, tag_default_then, symbol_then, exports_then, import_then, imports_then, assignment_then, tokens_of}
-use Rattle.guard_syntax.specs.Sites.{first, past, sited_each, sited_parted, sited_perhaps, sited_identifier_part, sited_identifier, past_tag_default, sited_symbol, sited_exports, sited_import, sited_imports, sited_assignment, sited}
-use Rattle.guard_syntax.specs.Grammar.{Any, AreEach, AreSome, IsPerhaps, IsImport, most_levels, IsAssignment, IsModule}
-use Rattle.guard_syntax.specs.ReadTokens.{Placed, Reader, begins_with, behind, read_token}
-use Rattle.guard_syntax.specs.ReadValues.{is_there, does_not_close, read_value}
-use Rattle.guard_syntax.specs.ReadTypes.{read_type}
+use Rattle.guard_syntax.specs.Trees.{WrittenArc, WrittenIdentifierPart, arc_part, WrittenExports, WrittenModule}
+use Rattle.guard_syntax.specs.TokensOf.{each_then, perhaps_then, identifier_part_then, identifier_then, tag_default_word, tag_default_then, symbol_then, exports_then, import_then, imports_then, assignment_then, tokens_of}
+use Rattle.guard_syntax.specs.Sites.{past, sited_each, sited_identifier_part, sited_identifier, past_tag_default, sited_symbol, sited_exports, sited_import, sited_imports, sited_assignment, sited}
+use Rattle.guard_syntax.specs.Grammar.{Any, AreEach, IsImport, most_levels, IsAssignment, IsModule}
+use Rattle.guard_syntax.specs.ReadTokens.{Placed, begins_with, behind, read_token}
+use Rattle.guard_syntax.specs.ReadValues.{is_there, does_not_close}
 use Rattle.guard_syntax.specs.ReadModule.{begins_bare_name, read_identifier_part, read_identifier_parts, read_identifier, tag_default_at, read_tag_default, read_symbol, read_exported, read_exports, read_import, goes_on_importing, read_imports, read_type_assignment, read_value_assignment, read_assignment, goes_on_assigning, WrittenHead, read_head, read_end, read_module}
-use Rattle.guard_syntax.proofs.Steps.{lexemes, sites, Holds, then_holds, ok_holds, err_holds, if_holds, if_shows, so_holds, Took, took, took_mark, took_word, took_spelled, In, Sound}
-use Rattle.guard_syntax.proofs.WrittenLists.{WordIn, word_in, no_word_in, PerhapsIn, there_in, missing_in, arc_in, HasOne, ListIn, each_in, each_some, parted_in}
+use Rattle.guard_syntax.proofs.Steps.{lexemes, sites, Holds, then_holds, ok_holds, err_holds, if_holds, if_shows, took, took_mark, took_word, took_spelled, Sound}
+use Rattle.guard_syntax.proofs.WrittenLists.{WordIn, word_in, no_word_in, PerhapsIn, missing_in, arc_in, HasOne, each_in, each_some, parted_in}
 use Rattle.guard_syntax.proofs.WrittenValues.{value_in}
 use Rattle.guard_syntax.proofs.WrittenTypes.{type_in}
 

@@ -1,26 +1,23 @@
 -- What is read of sets of values and of constraints is what they write.
-use Rattle.std.proofs.Common.{◌≡◌, ℕ, zero, suc, ◌+◌, ◌≤◌, ◌<◌, Bool, true, false, ◌||◌, List, [], ◌∷◌, length, Option, Some, None, Result, Ok, Err, refl, ap, sym, ◌∙◌, subst, arith}
-use Rattle.guard_model.specs.Answer.{◌>>=◌}
+use Rattle.std.proofs.Common.{◌≡◌, ℕ, zero, suc, ◌≤◌, ◌<◌, Bool, ◌||◌, List, [], ◌∷◌, length, Option, Some, None, refl, ap, sym, ◌∙◌, arith}
 use Rattle.guard_model.specs.declared.site.Site.{Site}
 use Rattle.guard_lexer.specs.declared.token.TokenKind.TheVariants.{Reserved, UpperName, CharacterString, LowerName, Mark}
 use Rattle.guard_lexer.specs.declared.token.Reserved.{Reserved as ReservedWord}
 use Rattle.guard_lexer.specs.declared.token.Reserved.TheVariants.{Absent, All, Component, Components, Except, From, Includes, Intersection, Max, Min, Optional, Present, Size, Union, With}
 use Rattle.guard_lexer.specs.declared.token.Mark.TheVariants.{Bar, Caret, Comma, Ellipsis, LeftBrace, LeftParenthesis, LessThan, RangeSeparator, RightBrace, RightParenthesis}
-use Rattle.guard_syntax.specs.declared.halt.Stop.{Stop}
-use Rattle.guard_syntax.specs.declared.tree.JoinMark.{JoinMark}
 use Rattle.guard_syntax.specs.declared.tree.PresenceWord.{PresenceWord}
 use Rattle.guard_syntax.specs.declared.tree.PresenceWord.TheVariants as presence
 use Rattle.guard_syntax.specs.Lexemes.{Lexeme, word, mark, lower_name}
-use Rattle.guard_syntax.specs.Trees.{WrittenNumber, WrittenValue, WrittenEndForm, end_integer, end_reference, end_characters, WrittenEnd, WrittenRange, WrittenSet, set_node, WrittenSetForm, all_except, union, WrittenUnited, united, WrittenJoinedIntersection, united_of, WrittenIntersection, intersection, WrittenMet, met, WrittenJoinedDifference, met_of, WrittenDifference, difference_of, WrittenElement, element_node, WrittenElementForm, parentheses, value, contained, range, size, from, with_component, with_components, WrittenConstraint, constraint, WrittenParts, part, part_in, part_before, WrittenPart, parts_of}
+use Rattle.guard_syntax.specs.Trees.{WrittenNumber, WrittenValue, end_integer, WrittenRange, WrittenSet, WrittenUnited, united, WrittenJoinedIntersection, united_of, WrittenMet, met, WrittenJoinedDifference, met_of, difference_of, WrittenElement, WrittenElementForm, range, WrittenConstraint, WrittenParts, part_before, WrittenPart, parts_of}
 use Rattle.guard_syntax.specs.TokensOf.{each_then, parted_then, perhaps_then, value_then, end_form_then, end_or_then, range_then, union_mark, intersection_mark, presence_word_then, partial_then, parts_comma, set_then, set_form_then, united_then, intersection_then, met_then, difference_then, element_then, element_form_then, constraint_then, parts_then}
-use Rattle.guard_syntax.specs.Sites.{first, past, past_perhaps, sited_each, sited_parted, sited_perhaps, sited_number, sited_value, sited_end_form, sited_end_or, sited_range, past_partial, past_parts_comma, sited_set, sited_set_form, sited_united, sited_intersection, sited_met, sited_difference, sited_element, sited_element_form, sited_constraint, sited_parts}
+use Rattle.guard_syntax.specs.Sites.{first, past, past_perhaps, sited_each, sited_parted, sited_perhaps, sited_value, sited_end_form, sited_end_or, sited_range, past_partial, past_parts_comma, sited_set, sited_set_form, sited_united, sited_intersection, sited_met, sited_difference, sited_element, sited_element_form, sited_constraint, sited_parts}
 use Rattle.guard_syntax.specs.Grammar.{AreEach, AreSome, IsPerhaps, IsValue, IsEndForm, IsEnd, IsRange, HasParts, IsSet, IsSetForm, AreUnited, IsIntersection, AreMet, IsDifference, IsElement, IsElementForm, IsConstraint, AreParts}
-use Rattle.guard_syntax.specs.ReadTokens.{Placed, Reader, begins_with, behind, behind_if, read_number}
-use Rattle.guard_syntax.specs.ReadValues.{is_there, begins_number, read_value}
+use Rattle.guard_syntax.specs.ReadTokens.{Placed, Reader, begins_with, behind, behind_if}
+use Rattle.guard_syntax.specs.ReadValues.{begins_number}
 use Rattle.guard_syntax.specs.ReadSets.{begins_range, begins_set, read_end_form, read_end_or, read_range, read_constraint, read_parentheses, read_contained, presence_at, read_perhaps_constraint, read_part, read_partial, read_with_components, read_with, read_range_or_value, read_element_form, read_element, read_except, read_difference, begins_intersection_mark, begins_union_mark, read_intersection_mark, read_union_mark, read_joined_difference, read_intersection, read_joined_intersection, read_union, read_all_except, read_set_form, read_set}
-use Rattle.guard_syntax.proofs.Steps.{lexemes, sites, Holds, then_holds, ok_holds, err_holds, if_holds, if_shows, so_holds, Took, took, took_mark, took_word, took_spelled, In, Sound}
+use Rattle.guard_syntax.proofs.Steps.{lexemes, sites, Holds, then_holds, ok_holds, err_holds, if_holds, if_shows, so_holds, Took, took, took_mark, took_word, took_spelled, Sound}
 use Rattle.guard_syntax.proofs.WrittenLists.{passed, WordIn, word_in, no_word_in, PerhapsIn, there_in, missing_in, number_in, each_in, parted_in}
-use Rattle.guard_syntax.proofs.WrittenValues.{some_each, value_in}
+use Rattle.guard_syntax.proofs.WrittenValues.{value_in}
 
 -- ---- ranges
 

@@ -1,12 +1,10 @@
 -- What is read of types is what they write.
-use Rattle.std.proofs.Common.{◌≡◌, ℕ, zero, suc, ◌+◌, ◌≤◌, ◌<◌, Bool, true, false, ◌||◌, List, [], ◌∷◌, length, Option, Some, None, Result, Ok, Err, refl, ap, sym, ◌∙◌, subst, arith}
-use Rattle.guard_model.specs.Answer.{◌>>=◌}
+use Rattle.std.proofs.Common.{◌≡◌, ℕ, zero, suc, ◌≤◌, ◌<◌, true, false, ◌||◌, List, [], ◌∷◌, length, Option, Some, None, refl, ap, sym, ◌∙◌, arith}
 use Rattle.guard_model.specs.declared.site.Site.{Site}
 use Rattle.guard_lexer.specs.declared.token.TokenKind.TheVariants.{Reserved, UpperName, LowerName, Number, Mark}
 use Rattle.guard_lexer.specs.declared.token.Reserved.{Reserved as ReservedWord}
 use Rattle.guard_lexer.specs.declared.token.Reserved.TheVariants.{Application, Bit, Boolean, Choice, Components, Default, Enumerated, Explicit, Ia5String, Identifier, Implicit, Integer, Null, NumericString, Object, Octet, Of, Optional, PrintableString, Private, Sequence, Set, Size, String, Universal, Utf8String, VisibleString}
 use Rattle.guard_lexer.specs.declared.token.Mark.TheVariants.{Comma, LeftBrace, LeftBracket, LeftParenthesis, RightBrace, RightBracket, RightParenthesis}
-use Rattle.guard_syntax.specs.declared.halt.Stop.{Stop}
 use Rattle.guard_syntax.specs.declared.tree.TagClass.TheVariants as class
 use Rattle.guard_syntax.specs.declared.tree.TagMode.TheVariants as mode
 use Rattle.guard_syntax.specs.declared.tree.PlainType.{PlainType}
@@ -14,16 +12,15 @@ use Rattle.guard_syntax.specs.declared.tree.PlainType.TheVariants as plain_type
 use Rattle.guard_syntax.specs.declared.tree.Collection.{Collection}
 use Rattle.guard_syntax.specs.declared.tree.Collection.TheVariants as collection
 use Rattle.guard_syntax.specs.Lexemes.{Lexeme, word, mark, lower_name}
-use Rattle.guard_syntax.specs.Trees.{WrittenNumber, WrittenValue, WrittenSet, WrittenConstraint, WrittenTag, WrittenNamed, WrittenItem, WrittenOfConstraint, WrittenPresence, mandatory, optional, default, WrittenType, type_node, WrittenBase, plain, numbers, enumerated, structure, choice, of_type, named_type, WrittenComponents, component, components_from, WrittenComponentForm, named, components_of_type, WrittenComponent, component_before, components_of, WrittenAlternatives, alternative, WrittenAlternative, alternatives_of}
-use Rattle.guard_syntax.specs.TokensOf.{each_then, parted_then, perhaps_then, value_then, set_then, constraint_then, class_then, mode_then, tag_then, parenthesised_then, named_then, item_then, numbers_then, plain_then, collection_word, of_constraint_then, presence_then, components_comma, type_then, base_then, components_then, alternatives_then}
-use Rattle.guard_syntax.specs.Sites.{first, past, past_if, past_perhaps, sited_each, sited_parted, sited_perhaps, sited_number, sited_value, sited_set, sited_constraint, sited_tag, sited_parenthesised, sited_named, sited_item, sited_numbers, past_plain, sited_of_constraint, sited_presence, past_components_comma, sited_type, sited_base, sited_components, sited_alternatives}
-use Rattle.guard_syntax.specs.Grammar.{Any, IsNumber, AreEach, AreSome, IsPerhaps, IsValue, IsSet, IsConstraint, IsNamed, IsItem, IsOfConstraint, IsPresence, MayConstrain, HasAlternatives, IsType, IsBase, AreComponents, AreAlternatives}
+use Rattle.guard_syntax.specs.Trees.{WrittenNumber, WrittenValue, WrittenSet, WrittenConstraint, WrittenNamed, WrittenItem, WrittenPresence, WrittenType, WrittenBase, plain, numbers, enumerated, structure, choice, of_type, named_type, WrittenComponents, WrittenComponentForm, named, components_of_type, WrittenComponent, component_before, components_of, WrittenAlternatives, alternative, WrittenAlternative, alternatives_of}
+use Rattle.guard_syntax.specs.TokensOf.{each_then, parted_then, value_then, set_then, constraint_then, class_then, mode_then, tag_then, parenthesised_then, named_then, item_then, numbers_then, plain_then, collection_word, of_constraint_then, presence_then, components_comma, type_then, base_then, components_then, alternatives_then}
+use Rattle.guard_syntax.specs.Sites.{first, past, sited_each, sited_parted, sited_number, sited_value, sited_set, sited_constraint, sited_tag, sited_parenthesised, sited_named, sited_item, sited_numbers, past_plain, sited_of_constraint, sited_presence, past_components_comma, sited_type, sited_base, sited_components, sited_alternatives}
+use Rattle.guard_syntax.specs.Grammar.{Any, IsNumber, AreEach, AreSome, IsValue, IsSet, IsConstraint, IsNamed, IsItem, IsOfConstraint, IsPresence, MayConstrain, HasAlternatives, IsType, IsBase, AreComponents, AreAlternatives}
 use Rattle.guard_syntax.specs.ReadTokens.{Placed, Reader, begins_with, behind, behind_if}
-use Rattle.guard_syntax.specs.ReadValues.{is_there, read_value}
-use Rattle.guard_syntax.specs.ReadSets.{read_set}
+use Rattle.guard_syntax.specs.ReadValues.{is_there}
 use Rattle.guard_syntax.specs.ReadTypes.{class_at, mode_at, read_tag, begins_tag, begins_constraint, read_in_parentheses, read_named, read_item_number, read_item, read_numbers, read_items, single_word_at, begins_two_words, read_two_words, read_presence, read_component_form, read_component, read_components, read_alternative, read_choice, read_structure, read_of_constraint, read_of, read_collection, plain_or_name, read_word_or_name, read_simple, read_base, is_of, read_constraints, begins_type, read_inner_type, read_type}
 use Rattle.guard_syntax.proofs.Steps.{lexemes, sites, Holds, then_holds, ok_holds, err_holds, if_holds, if_shows, so_holds, Took, took, took_mark, took_word, took_spelled, In, Sound}
-use Rattle.guard_syntax.proofs.WrittenLists.{passed, WordIn, word_in, no_word_in, PerhapsIn, there_in, missing_in, number_in, ListIn, each_in, parted_in}
+use Rattle.guard_syntax.proofs.WrittenLists.{passed, WordIn, word_in, no_word_in, PerhapsIn, there_in, missing_in, number_in, each_in, parted_in}
 use Rattle.guard_syntax.proofs.WrittenValues.{some_each, value_in}
 use Rattle.guard_syntax.proofs.WrittenSets.{constraint_in, set_in}
 

@@ -1,20 +1,17 @@
 -- What is read of values is what they write.
-use Rattle.std.proofs.Common.{◌≡◌, ℕ, zero, suc, ◌+◌, ◌≤◌, ◌<◌, Bool, true, false, List, [], ◌∷◌, length, Option, Some, None, Result, Ok, Err, refl, ap, sym, ◌∙◌, subst, arith}
-use Rattle.guard_model.specs.Answer.{◌>>=◌}
+use Rattle.std.proofs.Common.{◌≡◌, ℕ, zero, suc, ◌≤◌, ◌==◌, true, List, [], ◌∷◌, length, Option, None, refl, ap, sym, ◌∙◌, subst, arith}
 use Rattle.guard_model.specs.declared.site.Site.{Site}
 use Rattle.guard_lexer.specs.declared.token.TokenKind.TheVariants.{Reserved, CharacterString, BitString, HexadecimalString, LowerName, Mark}
 use Rattle.guard_lexer.specs.declared.token.Reserved.TheVariants.{False, Null, True}
 use Rattle.guard_lexer.specs.declared.token.Mark.TheVariants.{Colon, Comma, LeftBrace, RightBrace}
-use Rattle.guard_syntax.specs.declared.halt.Stop.{Stop}
-use Rattle.guard_syntax.specs.declared.tree.StringKind.TheVariants as string
 use Rattle.guard_syntax.specs.Lexemes.{Lexeme, mark}
-use Rattle.guard_syntax.specs.Trees.{WrittenNumber, WrittenArc, WrittenValue, value_node, WrittenValueForm, boolean, null, integer, text, reference, chosen, list, arcs, WrittenEntries, no_entries, entry, WrittenEntry, entries_of}
+use Rattle.guard_syntax.specs.Trees.{WrittenNumber, WrittenArc, WrittenValue, integer, WrittenEntries, entry, WrittenEntry, entries_of}
 use Rattle.guard_syntax.specs.TokensOf.{arc_then, each_then, parted_then, entry_name_then, value_then, value_form_then, entries_then}
 use Rattle.guard_syntax.specs.Sites.{first, past, past_perhaps, sited_arc, sited_each, sited_parted, sited_value, sited_value_form, sited_entries}
 use Rattle.guard_syntax.specs.Grammar.{AreEach, AreSome, AreArcs, IsValue, IsValueForm, AreEntries}
-use Rattle.guard_syntax.specs.ReadTokens.{Placed, Reader, begins_with, behind, read_arc}
+use Rattle.guard_syntax.specs.ReadTokens.{Placed, Reader, begins_with, behind}
 use Rattle.guard_syntax.specs.ReadValues.{is_there, begins_number, begins_value, begins_arcs, are_arcs, does_not_close, read_entry_name, read_entry, read_entries, read_arcs, read_braces, read_name, read_integer_form, read_string, read_value_form, read_value}
-use Rattle.guard_syntax.proofs.Steps.{lexemes, sites, Holds, then_holds, ok_holds, err_holds, if_holds, so_holds, Took, took, took_mark, took_spelled, In, Sound}
+use Rattle.guard_syntax.proofs.Steps.{lexemes, sites, Holds, then_holds, ok_holds, err_holds, if_holds, so_holds, took, took_mark, took_spelled, Sound}
 use Rattle.guard_syntax.proofs.WrittenLists.{number_in, arc_in, each_in, parted_in}
 
 -- one entry
@@ -116,18 +113,19 @@ module _ (levels : ℕ) {values : Reader WrittenValue} (inside_in : Sound value_
         lawful = v.lawful;
       })))
 
-  entries_in : (ps : List Placed) → Holds (read_entries values ps) (λ x. EntriesIn levels ps x.0 x.1)
+  entries_in : (ps : List Placed) → Holds (read_entries levels values ps) (λ x. EntriesIn levels ps x.0 x.1)
   unfolding read_entries
   entries_in ps =
       if_holds (begins_with (Mark RightBrace) ps) _ _ (λ h. ok_holds _ (record { lexemes_are = refl; sites_are = refl; shorter = omega arith; lawful = tt })) (λ h.
+      if_holds (levels == 0) _ _ (λ h. if_holds (begins_value ps) _ _ (λ h. err_holds _) (λ h. err_holds _)) (λ h.
       so_holds (parted_in entry_in (length ps) ps) (λ a es. record {
         lexemes_are = es.lexemes_are ∙ sym (entries_print a.0 (lexemes a.1));
         sites_are = entries_sited a.0 (sites ps) ∙ ap (λ (x : List WrittenEntry × List Site). (entries_of x.0, x.1)) es.sites_are;
         shorter = omega (arith, es.shorter);
         lawful = entries_lawful levels a.0 (some_each (IsEntry levels) a.0 es.lawful);
-      }))
+      })))
 
-  braces_in : Sound value_form_then sited_value_form (IsValueForm levels) (read_braces values)
+  braces_in : Sound value_form_then sited_value_form (IsValueForm levels) (read_braces levels values)
   unfolding read_braces
   braces_in ps =
       then_holds _ (took_mark LeftBrace ps) (λ opening o.
@@ -160,7 +158,7 @@ module _ (levels : ℕ) {values : Reader WrittenValue} (inside_in : Sound value_
         lawful = v.lawful;
       }))) (λ h. ok_holds _ (record { lexemes_are = name.lexemes_are; sites_are = rw name.sites_are refl; shorter = omega (arith, name.shorter); lawful = tt })))
 
-  pub form_in : Sound value_form_then sited_value_form (IsValueForm levels) (read_value_form values)
+  pub form_in : Sound value_form_then sited_value_form (IsValueForm levels) (read_value_form levels values)
   unfolding read_value_form
   form_in ps =
       if_holds (begins_with (Reserved True) ps) _ _ (λ h. let t = took (Reserved True) ps h in ok_holds _ (record { lexemes_are = t.lexemes_are; sites_are = rw t.sites_are refl; shorter = omega (arith, t.shorter); lawful = tt })) (λ h.

@@ -6,6 +6,7 @@ pub mod Sites
 pub mod Grammar
 pub mod Views
 pub mod ReadTokens
+pub mod Cursors
 pub mod ReadValues
 pub mod ReadSets
 pub mod ReadInnerSet

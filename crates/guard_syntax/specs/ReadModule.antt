@@ -1,5 +1,5 @@
 -- Reading modules.
-use Rattle.std.specs.Prelude.{ℕ, zero, suc, Bool, true, false, not, if◌then◌else◌, List, [], ◌∷◌, length, Option, Some, None, Result, Ok, Err}
+use Rattle.std.specs.Prelude.{ℕ, Bool, false, not, if◌then◌else◌, List, [], ◌∷◌, length, Option, Some, None, Result, Ok}
 use Rattle.guard_model.specs.Answer.{◌>>=◌}
 use Rattle.guard_lexer.specs.declared.token.TokenKind.TheVariants.{Reserved, UpperName, LowerName, Mark}
 use Rattle.guard_lexer.specs.declared.token.Reserved.TheVariants.{All, Automatic, Begin, Definitions, End, Explicit, Exports, From, Implicit, Imports, Tags}
@@ -10,7 +10,7 @@ use Rattle.guard_syntax.specs.declared.tree.TagDefault.TheVariants as tag_defaul
 use Rattle.guard_syntax.specs.declared.tree.SymbolKind.TheVariants as symbol
 use Rattle.guard_syntax.specs.Trees.{WrittenIdentifierPart, bare_name, arc_part, WrittenSymbol, WrittenExports, all_exported, exported, WrittenImport, WrittenAssignment, WrittenModule}
 use Rattle.guard_syntax.specs.Grammar.{most_levels}
-use Rattle.guard_syntax.specs.ReadTokens.{Placed, Reader, begins_with, behind, behind_if, site_at, unexpected, read_token, read_word, read_each, read_parted, read_arc}
+use Rattle.guard_syntax.specs.ReadTokens.{Placed, Reader, begins_with, behind, site_at, unexpected, read_token, read_word, read_each, read_parted, read_arc}
 use Rattle.guard_syntax.specs.ReadValues.{is_there, does_not_close, read_value}
 use Rattle.guard_syntax.specs.ReadTypes.{read_type}
 

@@ -1,17 +1,16 @@
 -- Reading sets of values and constraints.
-use Rattle.std.specs.Prelude.{ℕ, zero, suc, Bool, true, false, ◌||◌, ◌&&◌, not, if◌then◌else◌, List, [], ◌∷◌, length, Option, Some, None, Result, Ok, Err}
+use Rattle.std.specs.Prelude.{ℕ, zero, suc, Bool, true, false, ◌||◌, ◌&&◌, not, if◌then◌else◌, List, length, Option, Some, None, Ok}
 use Rattle.guard_model.specs.Answer.{◌>>=◌}
 use Rattle.guard_lexer.specs.declared.token.TokenKind.TheVariants.{Reserved, UpperName, LowerName, Number, CharacterString, Mark}
 use Rattle.guard_lexer.specs.declared.token.Reserved.{Reserved as ReservedWord}
 use Rattle.guard_lexer.specs.declared.token.Reserved.TheVariants.{Absent, All, Component, Components, Except, From, Includes, Intersection, Max, Min, Optional, Present, Size, Union, With}
 use Rattle.guard_lexer.specs.declared.token.Mark.TheVariants.{Bar, Caret, Comma, Ellipsis, LeftBrace, LeftParenthesis, LessThan, Minus, RangeSeparator, RightBrace, RightParenthesis}
-use Rattle.guard_syntax.specs.declared.halt.Stop.{Stop}
 use Rattle.guard_syntax.specs.declared.tree.JoinMark.{JoinMark}
 use Rattle.guard_syntax.specs.declared.tree.JoinMark.TheVariants as join
 use Rattle.guard_syntax.specs.declared.tree.PresenceWord.{PresenceWord}
 use Rattle.guard_syntax.specs.declared.tree.PresenceWord.TheVariants as presence
 use Rattle.guard_syntax.specs.Trees.{WrittenValue, WrittenEndForm, end_integer, end_reference, end_characters, WrittenEnd, WrittenRange, WrittenSet, set_node, WrittenSetForm, all_except, union, WrittenJoinedIntersection, united_of, WrittenIntersection, intersection, WrittenJoinedDifference, met_of, WrittenDifference, difference_of, WrittenElement, element_node, WrittenElementForm, parentheses, value, contained, range, size, from, with_component, with_components, WrittenConstraint, constraint, WrittenPart, parts_of}
-use Rattle.guard_syntax.specs.ReadTokens.{Placed, Reader, begins_with, behind, behind_if, site_at, unexpected, too_deep, read_token, read_word, read_each, read_parted, read_number}
+use Rattle.guard_syntax.specs.ReadTokens.{Placed, Reader, begins_with, behind, behind_if, site_at, too_deep, read_token, read_word, read_each, read_parted, begins_with_zero, read_number}
 use Rattle.guard_syntax.specs.ReadValues.{is_there, begins_number, begins_value, read_value}
 
 -- ---- ranges
@@ -19,10 +18,14 @@ use Rattle.guard_syntax.specs.ReadValues.{is_there, begins_number, begins_value,
 abbrev pub begins_dots : List Placed → Bool
 begins_dots ps = begins_with (Mark RangeSeparator) ps || begins_with (Mark LessThan) ps
 
+-- a number that may follow a minus sign
+abbrev pub begins_with_nonzero : List Placed → Bool
+begins_with_nonzero ps = begins_with Number ps && not (begins_with_zero ps)
+
 -- a range, and no value: MIN, or an end with `..` or `<` behind it
 abbrev pub begins_range : List Placed → Bool
 begins_range ps =
-    begins_with (Reserved Min) ps || begins_with (Mark Minus) ps && begins_dots (behind (behind ps))
+    begins_with (Reserved Min) ps || begins_with (Mark Minus) ps && begins_dots (behind (behind ps)) && begins_with_nonzero (behind ps)
     || (begins_with Number ps || begins_with LowerName ps || begins_with CharacterString ps) && begins_dots (behind ps)
 
 unfoldable pub read_end_form : Reader WrittenEndForm

@@ -1,10 +1,9 @@
 -- Reading types.
-use Rattle.std.specs.Prelude.{ℕ, zero, suc, Bool, true, false, ◌||◌, ◌&&◌, not, if◌then◌else◌, List, [], ◌∷◌, length, Option, Some, None, Result, Ok, Err}
+use Rattle.std.specs.Prelude.{ℕ, zero, suc, Bool, true, false, ◌||◌, if◌then◌else◌, List, [], length, Option, Some, None, Ok}
 use Rattle.guard_model.specs.Answer.{◌>>=◌}
 use Rattle.guard_lexer.specs.declared.token.TokenKind.TheVariants.{Reserved, UpperName, LowerName, Number, Mark}
 use Rattle.guard_lexer.specs.declared.token.Reserved.TheVariants.{Application, Bit, Boolean, Choice, Components, Default, Enumerated, Explicit, Ia5String, Identifier, Implicit, Integer, Null, NumericString, Object, Octet, Of, Optional, PrintableString, Private, Sequence, Set, Size, String, Universal, Utf8String, VisibleString}
 use Rattle.guard_lexer.specs.declared.token.Mark.TheVariants.{LeftBrace, LeftBracket, LeftParenthesis, RightBrace, RightBracket, RightParenthesis}
-use Rattle.guard_syntax.specs.declared.halt.Stop.{Stop}
 use Rattle.guard_syntax.specs.declared.tree.TagClass.{TagClass}
 use Rattle.guard_syntax.specs.declared.tree.TagClass.TheVariants as class
 use Rattle.guard_syntax.specs.declared.tree.TagMode.{TagMode}
@@ -14,7 +13,7 @@ use Rattle.guard_syntax.specs.declared.tree.PlainType.TheVariants as plain_type
 use Rattle.guard_syntax.specs.declared.tree.Collection.{Collection}
 use Rattle.guard_syntax.specs.declared.tree.Collection.TheVariants as collection
 use Rattle.guard_syntax.specs.Trees.{WrittenNumber, WrittenValue, WrittenSet, WrittenConstraint, WrittenTag, WrittenNamed, WrittenItem, WrittenOfConstraint, WrittenPresence, mandatory, optional, default, WrittenType, type_node, WrittenBase, plain, numbers, enumerated, structure, choice, of_type, named_type, WrittenComponentForm, named, components_of_type, WrittenComponent, components_of, WrittenAlternative, alternatives_of}
-use Rattle.guard_syntax.specs.ReadTokens.{Placed, Reader, begins_with, behind, behind_if, site_at, unexpected, too_deep, read_token, read_word, read_each, read_parted, read_number}
+use Rattle.guard_syntax.specs.ReadTokens.{Placed, Reader, begins_with, behind, behind_if, site_at, too_deep, read_token, read_word, read_each, read_parted, read_number}
 use Rattle.guard_syntax.specs.ReadValues.{is_there, read_value}
 use Rattle.guard_syntax.specs.ReadSets.{read_constraint, read_set}
 

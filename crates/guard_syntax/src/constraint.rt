@@ -2,43 +2,40 @@
 ghost use Rattle.std.specs.Prelude.{◌≡◌, map, length};
 ghost use Rattle.guard_model.specs.Answer.{Gives};
 ghost use Rattle.guard_syntax.specs.ReadTokens as tokens_reading;
-ghost use Rattle.guard_syntax.specs.ReadTokens.{placed_of, stop_of};
+ghost use Rattle.guard_syntax.specs.Cursors.{ahead, Reads, each_view, boxed_view};
 ghost use Rattle.guard_syntax.specs.ReadValues.{read_value};
 ghost use Rattle.guard_syntax.specs.ReadSets as reading;
 ghost use Rattle.guard_syntax.specs.ReadInnerSet.{read_inner_set};
 ghost use Rattle.guard_syntax.specs.SetViews.{element_form_view, element_view, perhaps_element_view, difference_view, joined_difference_view, intersection_view, joined_intersection_view, set_form_view, set_view, constraint_view, perhaps_constraint_view, part_view};
 
-use crate::halt::Halt;
+use crate::cursor::{Cursor, Read};
 use crate::ranges::{begins_range, range};
-use crate::tokens::{
-    begins_with, behind, behind_if, site_at, token_of_kind, too_deep, unexpected, word_of_kind,
-};
 use crate::tree::{
     ComponentConsTree, ConsTree, DifferenceTree, ElementForm, ElementTree, IntersectionTree,
     JoinMark, JoinedDifference, JoinedIntersection, PresenceWord, SetForm, SetTree,
 };
 use crate::values::{begins_value, value};
-use guard_lexer::{Mark, Reserved, Token, TokenKind};
+use guard_lexer::{Mark, Reserved, TokenKind};
 use std::alloc::Global;
 use std::boxed::Box;
 
-fn begins_element(text: &[u8], tokens: &[Token]) -> bool
-    ensures { result ≡ reading.begins_element (placed_of text.now tokens.now) }
+fn begins_element(at: Cursor) -> bool
+    ensures { result ≡ reading.begins_element (ahead at.entry) }
 {
-    begins_with(TokenKind::Mark(Mark::LeftParenthesis), text, tokens)
-        || begins_with(TokenKind::UpperName, text, tokens)
-        || begins_with(TokenKind::Reserved(Reserved::Includes), text, tokens)
-        || begins_with(TokenKind::Reserved(Reserved::Min), text, tokens)
-        || begins_with(TokenKind::Reserved(Reserved::Size), text, tokens)
-        || begins_with(TokenKind::Reserved(Reserved::From), text, tokens)
-        || begins_with(TokenKind::Reserved(Reserved::With), text, tokens)
-        || begins_value(text, tokens)
+    at.begins_with(TokenKind::Mark(Mark::LeftParenthesis))
+        || at.begins_with(TokenKind::UpperName)
+        || at.begins_with(TokenKind::Reserved(Reserved::Includes))
+        || at.begins_with(TokenKind::Reserved(Reserved::Min))
+        || at.begins_with(TokenKind::Reserved(Reserved::Size))
+        || at.begins_with(TokenKind::Reserved(Reserved::From))
+        || at.begins_with(TokenKind::Reserved(Reserved::With))
+        || begins_value(at)
 }
 
-fn begins_set(text: &[u8], tokens: &[Token]) -> bool
-    ensures { result ≡ reading.begins_set (placed_of text.now tokens.now) }
+fn begins_set(at: Cursor) -> bool
+    ensures { result ≡ reading.begins_set (ahead at.entry) }
 {
-    begins_with(TokenKind::Reserved(Reserved::All), text, tokens) || begins_element(text, tokens)
+    at.begins_with(TokenKind::Reserved(Reserved::All)) || begins_element(at)
 }
 
 /// A set in parentheses. `levels` says how many types, values and sets may stand one in the other here.
@@ -47,32 +44,26 @@ fn begins_set(text: &[u8], tokens: &[Token]) -> bool
 pub fn constraint<'a, 't>(
     alloc: Global,
     levels: u8,
-    text: &'a [u8],
-    tokens: &'t [Token],
-) -> Result<(ConsTree<'a>, &'t [Token]), Halt>
-    ensures { Gives (λ x. (constraint_view x.0, placed_of text.now x.1.now)) stop_of result (reading.read_constraint (reading.read_set levels) (placed_of text.now tokens.now)) }
+    at: Cursor<'a, 't>,
+) -> Read<'a, 't, ConsTree<'a>>
+    ensures { Reads constraint_view result (reading.read_constraint (reading.read_set levels) (ahead at.entry)) }
 {
-    let rest = token_of_kind(TokenKind::Mark(Mark::LeftParenthesis), text, tokens)?;
-    let (set, rest) = set(alloc, levels, text, rest)?;
-    let rest = token_of_kind(TokenKind::Mark(Mark::RightParenthesis), text, rest)?;
-    let site = site_at(text, tokens);
+    let rest = at.after(TokenKind::Mark(Mark::LeftParenthesis))?;
+    let (set, rest) = set(alloc, levels, rest)?;
+    let rest = rest.after(TokenKind::Mark(Mark::RightParenthesis))?;
+    let site = at.site();
     Ok((ConsTree { site, set }, rest))
 }
 
 #[cycle(sets)]
-#[tactic(auto, unfolding(crate::specs::ReadSets::read_set))]
-fn set<'a, 't>(
-    alloc: Global,
-    levels: u8,
-    text: &'a [u8],
-    tokens: &'t [Token],
-) -> Result<(Box<SetTree<'a>>, &'t [Token]), Halt>
-    ensures { Gives (λ x. (set_view x.0.value, placed_of text.now x.1.now)) stop_of result (reading.read_set levels (placed_of text.now tokens.now)) }
+#[tactic(auto, using(crate::proofs::Levels::read_set_above), unfolding(crate::specs::ReadSets::read_set))]
+fn set<'a, 't>(alloc: Global, levels: u8, at: Cursor<'a, 't>) -> Read<'a, 't, Box<SetTree<'a>>>
+    ensures { Reads (boxed_view set_view) result (reading.read_set levels (ahead at.entry)) }
 {
     if levels == 0 {
-        return Err(too_deep(begins_set(text, tokens), tokens));
+        return Err(at.too_deep(begins_set(at)));
     }
-    inner_set(alloc, levels - 1, text, tokens)
+    inner_set(alloc, levels - 1, at)
 }
 
 #[cycle(sets)]
@@ -80,86 +71,80 @@ fn set<'a, 't>(
 fn inner_set<'a, 't>(
     alloc: Global,
     levels: u8,
-    text: &'a [u8],
-    tokens: &'t [Token],
-) -> Result<(Box<SetTree<'a>>, &'t [Token]), Halt>
-    ensures { Gives (λ x. (set_view x.0.value, placed_of text.now x.1.now)) stop_of result (read_inner_set (read_value levels) (reading.read_set levels) (placed_of text.now tokens.now)) }
+    at: Cursor<'a, 't>,
+) -> Read<'a, 't, Box<SetTree<'a>>>
+    ensures { Reads (boxed_view set_view) result (read_inner_set (read_value levels) (reading.read_set levels) (ahead at.entry)) }
 {
-    let (form, rest) = set_form(alloc, levels, text, tokens)?;
-    let site = site_at(text, tokens);
+    let (form, rest) = set_form(alloc, levels, at)?;
+    let site = at.site();
     Ok((Box::new(alloc, SetTree { site, form })?, rest))
 }
 
 #[cycle(sets)]
 #[tactic(auto, unfolding(crate::specs::ReadSets::read_set_form, crate::specs::ReadSets::read_all_except, crate::specs::ReadSets::read_union))]
-fn set_form<'a, 't>(
-    alloc: Global,
-    levels: u8,
-    text: &'a [u8],
-    tokens: &'t [Token],
-) -> Result<(SetForm<'a>, &'t [Token]), Halt>
-    ensures { Gives (λ x. (set_form_view x.0, placed_of text.now x.1.now)) stop_of result (reading.read_set_form (read_value levels) (reading.read_set levels) (placed_of text.now tokens.now)) }
+fn set_form<'a, 't>(alloc: Global, levels: u8, at: Cursor<'a, 't>) -> Read<'a, 't, SetForm<'a>>
+    ensures { Reads set_form_view result (reading.read_set_form (read_value levels) (reading.read_set levels) (ahead at.entry)) }
 {
-    if begins_with(TokenKind::Reserved(Reserved::All), text, tokens) {
-        let rest = token_of_kind(TokenKind::Reserved(Reserved::All), text, tokens)?;
-        let rest = token_of_kind(TokenKind::Reserved(Reserved::Except), text, rest)?;
-        let (element, rest) = element(alloc, levels, text, rest)?;
+    if at.begins_with(TokenKind::Reserved(Reserved::All)) {
+        let rest = at.after(TokenKind::Reserved(Reserved::All))?;
+        let rest = rest.after(TokenKind::Reserved(Reserved::Except))?;
+        let (element, rest) = element(alloc, levels, rest)?;
         return Ok((SetForm::AllExcept(element), rest));
     }
-    let (first, rest) = intersection(alloc, levels, text, tokens)?;
-    let (others, rest) = joined_intersections(alloc, levels, text, rest)?;
+    let (first, rest) = intersection(alloc, levels, at)?;
+    let (others, rest) = joined_intersections(alloc, levels, rest)?;
     Ok((SetForm::Union(first, others), rest))
 }
 
 /// The further intersections of a union. Each takes a token, so there are no more than tokens.
 #[cycle(sets)]
+#[tactic(auto, using(crate::proofs::Loops::each_loop))]
 fn joined_intersections<'a, 't>(
     alloc: Global,
     levels: u8,
-    text: &'a [u8],
-    tokens: &'t [Token],
-) -> Result<(Vec<JoinedIntersection<'a>>, &'t [Token]), Halt>
-    ensures { Gives (λ x. (map joined_intersection_view x.0.items, placed_of text.now x.1.now)) stop_of result (tokens_reading.read_each reading.begins_union_mark (reading.read_joined_intersection (read_value levels) (reading.read_set levels)) (length tokens.now) (placed_of text.now tokens.now)) }
+    at: Cursor<'a, 't>,
+) -> Read<'a, 't, Vec<JoinedIntersection<'a>>>
+    ensures { Reads (each_view joined_intersection_view) result (tokens_reading.read_each reading.begins_union_mark (reading.read_joined_intersection (read_value levels) (reading.read_set levels)) (length (ahead at.entry)) (ahead at.entry)) }
 {
     let mut all = Vec::new(alloc);
-    let mut rest = tokens;
-    for _ in 0..tokens.len() {
-        if !begins_union_mark(text, rest) {
+    let mut rest = at;
+    for _ in 0..at.len() {
+        if !begins_union_mark(rest) {
             return Ok((all, rest));
         }
-        let (one, next) = joined_intersection(alloc, levels, text, rest)?;
+        let (one, next) = joined_intersection(alloc, levels, rest)?;
         all.push(one)?;
         rest = next;
     }
-    Err(unexpected(rest))
+    Err(rest.unexpected())
 }
 
-fn begins_union_mark(text: &[u8], tokens: &[Token]) -> bool
-    ensures { result ≡ reading.begins_union_mark (placed_of text.now tokens.now) }
+fn begins_union_mark(at: Cursor) -> bool
+    ensures { result ≡ reading.begins_union_mark (ahead at.entry) }
 {
-    begins_with(TokenKind::Mark(Mark::Bar), text, tokens)
-        || begins_with(TokenKind::Reserved(Reserved::Union), text, tokens)
+    at.begins_with(TokenKind::Mark(Mark::Bar))
+        || at.begins_with(TokenKind::Reserved(Reserved::Union))
 }
 
 #[tactic(auto, unfolding(crate::specs::ReadSets::read_union_mark))]
-fn union_mark<'t>(text: &[u8], tokens: &'t [Token]) -> Result<(JoinMark, &'t [Token]), Halt>
-    ensures { Gives (λ x. (x.0, placed_of text.now x.1.now)) stop_of result (reading.read_union_mark (placed_of text.now tokens.now)) }
+fn union_mark<'a, 't>(at: Cursor<'a, 't>) -> Read<'a, 't, JoinMark>
+    ensures { Reads (λ x. x) result (reading.read_union_mark (ahead at.entry)) }
 {
-    if begins_with(TokenKind::Reserved(Reserved::Union), text, tokens) {
-        return Ok((JoinMark::Word, behind(text, tokens)));
+    if at.begins_with(TokenKind::Reserved(Reserved::Union)) {
+        return Ok((JoinMark::Word, at.behind()));
     }
-    let rest = token_of_kind(TokenKind::Mark(Mark::Bar), text, tokens)?;
+    let rest = at.after(TokenKind::Mark(Mark::Bar))?;
     Ok((JoinMark::Sign, rest))
 }
 
 #[tactic(auto, unfolding(crate::specs::ReadSets::read_intersection_mark))]
-fn intersection_mark<'t>(text: &[u8], tokens: &'t [Token]) -> Result<(JoinMark, &'t [Token]), Halt>
-    ensures { Gives (λ x. (x.0, placed_of text.now x.1.now)) stop_of result (reading.read_intersection_mark (placed_of text.now tokens.now)) }
+fn intersection_mark<'a, 't>(at: Cursor<'a, 't>) -> Read<'a, 't, JoinMark>
+    ensures { Reads (λ x. x) result (reading.read_intersection_mark (ahead at.entry)) }
 {
-    if begins_with(TokenKind::Reserved(Reserved::Intersection), text, tokens) {
-        return Ok((JoinMark::Word, behind(text, tokens)));
+    if at.begins_with(TokenKind::Reserved(Reserved::Intersection)) {
+        return Ok((JoinMark::Word, at.behind()));
     }
-    let rest = token_of_kind(TokenKind::Mark(Mark::Caret), text, tokens)?;
+    let rest = at.after(TokenKind::Mark(Mark::Caret))?;
     Ok((JoinMark::Sign, rest))
 }
 
@@ -168,13 +153,12 @@ fn intersection_mark<'t>(text: &[u8], tokens: &'t [Token]) -> Result<(JoinMark, 
 fn joined_intersection<'a, 't>(
     alloc: Global,
     levels: u8,
-    text: &'a [u8],
-    tokens: &'t [Token],
-) -> Result<(JoinedIntersection<'a>, &'t [Token]), Halt>
-    ensures { Gives (λ x. (joined_intersection_view x.0, placed_of text.now x.1.now)) stop_of result (reading.read_joined_intersection (read_value levels) (reading.read_set levels) (placed_of text.now tokens.now)) }
+    at: Cursor<'a, 't>,
+) -> Read<'a, 't, JoinedIntersection<'a>>
+    ensures { Reads joined_intersection_view result (reading.read_joined_intersection (read_value levels) (reading.read_set levels) (ahead at.entry)) }
 {
-    let (mark, rest) = union_mark(text, tokens)?;
-    let (part, rest) = intersection(alloc, levels, text, rest)?;
+    let (mark, rest) = union_mark(at)?;
+    let (part, rest) = intersection(alloc, levels, rest)?;
     Ok((JoinedIntersection { mark, part }, rest))
 }
 
@@ -183,14 +167,13 @@ fn joined_intersection<'a, 't>(
 fn intersection<'a, 't>(
     alloc: Global,
     levels: u8,
-    text: &'a [u8],
-    tokens: &'t [Token],
-) -> Result<(Box<IntersectionTree<'a>>, &'t [Token]), Halt>
-    ensures { Gives (λ x. (intersection_view x.0.value, placed_of text.now x.1.now)) stop_of result (reading.read_intersection (read_value levels) (reading.read_set levels) (placed_of text.now tokens.now)) }
+    at: Cursor<'a, 't>,
+) -> Read<'a, 't, Box<IntersectionTree<'a>>>
+    ensures { Reads (boxed_view intersection_view) result (reading.read_intersection (read_value levels) (reading.read_set levels) (ahead at.entry)) }
 {
-    let (first, rest) = difference(alloc, levels, text, tokens)?;
-    let (others, rest) = joined_differences(alloc, levels, text, rest)?;
-    let site = site_at(text, tokens);
+    let (first, rest) = difference(alloc, levels, at)?;
+    let (others, rest) = joined_differences(alloc, levels, rest)?;
+    let site = at.site();
     let tree = IntersectionTree {
         site,
         first,
@@ -201,32 +184,32 @@ fn intersection<'a, 't>(
 
 /// The further differences of an intersection. Each takes a token, so there are no more than tokens.
 #[cycle(sets)]
+#[tactic(auto, using(crate::proofs::Loops::each_loop))]
 fn joined_differences<'a, 't>(
     alloc: Global,
     levels: u8,
-    text: &'a [u8],
-    tokens: &'t [Token],
-) -> Result<(Vec<JoinedDifference<'a>>, &'t [Token]), Halt>
-    ensures { Gives (λ x. (map joined_difference_view x.0.items, placed_of text.now x.1.now)) stop_of result (tokens_reading.read_each reading.begins_intersection_mark (reading.read_joined_difference (read_value levels) (reading.read_set levels)) (length tokens.now) (placed_of text.now tokens.now)) }
+    at: Cursor<'a, 't>,
+) -> Read<'a, 't, Vec<JoinedDifference<'a>>>
+    ensures { Reads (each_view joined_difference_view) result (tokens_reading.read_each reading.begins_intersection_mark (reading.read_joined_difference (read_value levels) (reading.read_set levels)) (length (ahead at.entry)) (ahead at.entry)) }
 {
     let mut all = Vec::new(alloc);
-    let mut rest = tokens;
-    for _ in 0..tokens.len() {
-        if !begins_intersection_mark(text, rest) {
+    let mut rest = at;
+    for _ in 0..at.len() {
+        if !begins_intersection_mark(rest) {
             return Ok((all, rest));
         }
-        let (one, next) = joined_difference(alloc, levels, text, rest)?;
+        let (one, next) = joined_difference(alloc, levels, rest)?;
         all.push(one)?;
         rest = next;
     }
-    Err(unexpected(rest))
+    Err(rest.unexpected())
 }
 
-fn begins_intersection_mark(text: &[u8], tokens: &[Token]) -> bool
-    ensures { result ≡ reading.begins_intersection_mark (placed_of text.now tokens.now) }
+fn begins_intersection_mark(at: Cursor) -> bool
+    ensures { result ≡ reading.begins_intersection_mark (ahead at.entry) }
 {
-    begins_with(TokenKind::Mark(Mark::Caret), text, tokens)
-        || begins_with(TokenKind::Reserved(Reserved::Intersection), text, tokens)
+    at.begins_with(TokenKind::Mark(Mark::Caret))
+        || at.begins_with(TokenKind::Reserved(Reserved::Intersection))
 }
 
 #[cycle(sets)]
@@ -234,13 +217,12 @@ fn begins_intersection_mark(text: &[u8], tokens: &[Token]) -> bool
 fn joined_difference<'a, 't>(
     alloc: Global,
     levels: u8,
-    text: &'a [u8],
-    tokens: &'t [Token],
-) -> Result<(JoinedDifference<'a>, &'t [Token]), Halt>
-    ensures { Gives (λ x. (joined_difference_view x.0, placed_of text.now x.1.now)) stop_of result (reading.read_joined_difference (read_value levels) (reading.read_set levels) (placed_of text.now tokens.now)) }
+    at: Cursor<'a, 't>,
+) -> Read<'a, 't, JoinedDifference<'a>>
+    ensures { Reads joined_difference_view result (reading.read_joined_difference (read_value levels) (reading.read_set levels) (ahead at.entry)) }
 {
-    let (mark, rest) = intersection_mark(text, tokens)?;
-    let (part, rest) = difference(alloc, levels, text, rest)?;
+    let (mark, rest) = intersection_mark(at)?;
+    let (part, rest) = difference(alloc, levels, rest)?;
     Ok((JoinedDifference { mark, part }, rest))
 }
 
@@ -249,14 +231,13 @@ fn joined_difference<'a, 't>(
 fn difference<'a, 't>(
     alloc: Global,
     levels: u8,
-    text: &'a [u8],
-    tokens: &'t [Token],
-) -> Result<(Box<DifferenceTree<'a>>, &'t [Token]), Halt>
-    ensures { Gives (λ x. (difference_view x.0.value, placed_of text.now x.1.now)) stop_of result (reading.read_difference (read_value levels) (reading.read_set levels) (placed_of text.now tokens.now)) }
+    at: Cursor<'a, 't>,
+) -> Read<'a, 't, Box<DifferenceTree<'a>>>
+    ensures { Reads (boxed_view difference_view) result (reading.read_difference (read_value levels) (reading.read_set levels) (ahead at.entry)) }
 {
-    let (element, rest) = element(alloc, levels, text, tokens)?;
-    let (except, rest) = except(alloc, levels, text, rest)?;
-    let site = site_at(text, tokens);
+    let (element, rest) = element(alloc, levels, at)?;
+    let (except, rest) = except(alloc, levels, rest)?;
+    let site = at.site();
     let tree = DifferenceTree {
         site,
         element,
@@ -270,30 +251,24 @@ fn difference<'a, 't>(
 fn except<'a, 't>(
     alloc: Global,
     levels: u8,
-    text: &'a [u8],
-    tokens: &'t [Token],
-) -> Result<(Option<ElementTree<'a>>, &'t [Token]), Halt>
-    ensures { Gives (λ x. (perhaps_element_view x.0, placed_of text.now x.1.now)) stop_of result (reading.read_except (read_value levels) (reading.read_set levels) (placed_of text.now tokens.now)) }
+    at: Cursor<'a, 't>,
+) -> Read<'a, 't, Option<ElementTree<'a>>>
+    ensures { Reads perhaps_element_view result (reading.read_except (read_value levels) (reading.read_set levels) (ahead at.entry)) }
 {
-    if !begins_with(TokenKind::Reserved(Reserved::Except), text, tokens) {
-        return Ok((None, tokens));
+    if !at.begins_with(TokenKind::Reserved(Reserved::Except)) {
+        return Ok((None, at));
     }
-    let (element, rest) = element(alloc, levels, text, behind(text, tokens))?;
+    let (element, rest) = element(alloc, levels, at.behind())?;
     Ok((Some(element), rest))
 }
 
 #[cycle(sets)]
 #[tactic(auto, unfolding(crate::specs::ReadSets::read_element))]
-fn element<'a, 't>(
-    alloc: Global,
-    levels: u8,
-    text: &'a [u8],
-    tokens: &'t [Token],
-) -> Result<(ElementTree<'a>, &'t [Token]), Halt>
-    ensures { Gives (λ x. (element_view x.0, placed_of text.now x.1.now)) stop_of result (reading.read_element (read_value levels) (reading.read_set levels) (placed_of text.now tokens.now)) }
+fn element<'a, 't>(alloc: Global, levels: u8, at: Cursor<'a, 't>) -> Read<'a, 't, ElementTree<'a>>
+    ensures { Reads element_view result (reading.read_element (read_value levels) (reading.read_set levels) (ahead at.entry)) }
 {
-    let (form, rest) = element_form(alloc, levels, text, tokens)?;
-    let site = site_at(text, tokens);
+    let (form, rest) = element_form(alloc, levels, at)?;
+    let site = at.site();
     Ok((ElementTree { site, form }, rest))
 }
 
@@ -303,27 +278,26 @@ fn element<'a, 't>(
 fn element_form<'a, 't>(
     alloc: Global,
     levels: u8,
-    text: &'a [u8],
-    tokens: &'t [Token],
-) -> Result<(ElementForm<'a>, &'t [Token]), Halt>
-    ensures { Gives (λ x. (element_form_view x.0, placed_of text.now x.1.now)) stop_of result (reading.read_element_form (read_value levels) (reading.read_set levels) (placed_of text.now tokens.now)) }
+    at: Cursor<'a, 't>,
+) -> Read<'a, 't, ElementForm<'a>>
+    ensures { Reads element_form_view result (reading.read_element_form (read_value levels) (reading.read_set levels) (ahead at.entry)) }
 {
-    if begins_with(TokenKind::Mark(Mark::LeftParenthesis), text, tokens) {
-        parentheses(alloc, levels, text, tokens)
-    } else if begins_with(TokenKind::Reserved(Reserved::Includes), text, tokens)
-        || begins_with(TokenKind::UpperName, text, tokens)
+    if at.begins_with(TokenKind::Mark(Mark::LeftParenthesis)) {
+        parentheses(alloc, levels, at)
+    } else if at.begins_with(TokenKind::Reserved(Reserved::Includes))
+        || at.begins_with(TokenKind::UpperName)
     {
-        contained(text, tokens)
-    } else if begins_with(TokenKind::Reserved(Reserved::Size), text, tokens) {
-        let (inside, rest) = constraint(alloc, levels, text, behind(text, tokens))?;
+        contained(at)
+    } else if at.begins_with(TokenKind::Reserved(Reserved::Size)) {
+        let (inside, rest) = constraint(alloc, levels, at.behind())?;
         Ok((ElementForm::Size(Box::new(alloc, inside)?), rest))
-    } else if begins_with(TokenKind::Reserved(Reserved::From), text, tokens) {
-        let (inside, rest) = constraint(alloc, levels, text, behind(text, tokens))?;
+    } else if at.begins_with(TokenKind::Reserved(Reserved::From)) {
+        let (inside, rest) = constraint(alloc, levels, at.behind())?;
         Ok((ElementForm::From(Box::new(alloc, inside)?), rest))
-    } else if begins_with(TokenKind::Reserved(Reserved::With), text, tokens) {
-        with(alloc, levels, text, tokens)
+    } else if at.begins_with(TokenKind::Reserved(Reserved::With)) {
+        with(alloc, levels, at)
     } else {
-        range_or_value(alloc, levels, text, tokens)
+        range_or_value(alloc, levels, at)
     }
 }
 
@@ -331,30 +305,26 @@ fn element_form<'a, 't>(
 fn range_or_value<'a, 't>(
     alloc: Global,
     levels: u8,
-    text: &'a [u8],
-    tokens: &'t [Token],
-) -> Result<(ElementForm<'a>, &'t [Token]), Halt>
-    ensures { Gives (λ x. (element_form_view x.0, placed_of text.now x.1.now)) stop_of result (reading.read_range_or_value (read_value levels) (placed_of text.now tokens.now)) }
+    at: Cursor<'a, 't>,
+) -> Read<'a, 't, ElementForm<'a>>
+    ensures { Reads element_form_view result (reading.read_range_or_value (read_value levels) (ahead at.entry)) }
 {
-    if begins_range(text, tokens) {
-        let (range, rest) = range(text, tokens)?;
+    if begins_range(at) {
+        let (range, rest) = range(at)?;
         Ok((ElementForm::Range(range), rest))
     } else {
-        let (value, rest) = value(alloc, levels, text, tokens)?;
+        let (value, rest) = value(alloc, levels, at)?;
         Ok((ElementForm::Value(value), rest))
     }
 }
 
 #[tactic(auto, unfolding(crate::specs::ReadSets::read_contained))]
-fn contained<'a, 't>(
-    text: &'a [u8],
-    tokens: &'t [Token],
-) -> Result<(ElementForm<'a>, &'t [Token]), Halt>
-    ensures { Gives (λ x. (element_form_view x.0, placed_of text.now x.1.now)) stop_of result (reading.read_contained (placed_of text.now tokens.now)) }
+fn contained<'a, 't>(at: Cursor<'a, 't>) -> Read<'a, 't, ElementForm<'a>>
+    ensures { Reads element_form_view result (reading.read_contained (ahead at.entry)) }
 {
-    let includes = begins_with(TokenKind::Reserved(Reserved::Includes), text, tokens);
-    let rest = behind_if(includes, text, tokens);
-    let (name, rest) = word_of_kind(TokenKind::UpperName, text, rest)?;
+    let includes = at.begins_with(TokenKind::Reserved(Reserved::Includes));
+    let rest = at.behind_if(includes);
+    let (name, rest) = rest.spelling(TokenKind::UpperName)?;
     Ok((ElementForm::Contained(includes, name), rest))
 }
 
@@ -363,35 +333,29 @@ fn contained<'a, 't>(
 fn parentheses<'a, 't>(
     alloc: Global,
     levels: u8,
-    text: &'a [u8],
-    tokens: &'t [Token],
-) -> Result<(ElementForm<'a>, &'t [Token]), Halt>
-    ensures { Gives (λ x. (element_form_view x.0, placed_of text.now x.1.now)) stop_of result (reading.read_parentheses (reading.read_set levels) (placed_of text.now tokens.now)) }
+    at: Cursor<'a, 't>,
+) -> Read<'a, 't, ElementForm<'a>>
+    ensures { Reads element_form_view result (reading.read_parentheses (reading.read_set levels) (ahead at.entry)) }
 {
-    let rest = token_of_kind(TokenKind::Mark(Mark::LeftParenthesis), text, tokens)?;
-    let (inside, rest) = set(alloc, levels, text, rest)?;
-    let rest = token_of_kind(TokenKind::Mark(Mark::RightParenthesis), text, rest)?;
+    let rest = at.after(TokenKind::Mark(Mark::LeftParenthesis))?;
+    let (inside, rest) = set(alloc, levels, rest)?;
+    let rest = rest.after(TokenKind::Mark(Mark::RightParenthesis))?;
     Ok((ElementForm::Parentheses(inside), rest))
 }
 
 /// WITH COMPONENT or WITH COMPONENTS.
 #[cycle(sets)]
 #[tactic(auto, unfolding(crate::specs::ReadSets::read_with))]
-fn with<'a, 't>(
-    alloc: Global,
-    levels: u8,
-    text: &'a [u8],
-    tokens: &'t [Token],
-) -> Result<(ElementForm<'a>, &'t [Token]), Halt>
-    ensures { Gives (λ x. (element_form_view x.0, placed_of text.now x.1.now)) stop_of result (reading.read_with (reading.read_set levels) (placed_of text.now tokens.now)) }
+fn with<'a, 't>(alloc: Global, levels: u8, at: Cursor<'a, 't>) -> Read<'a, 't, ElementForm<'a>>
+    ensures { Reads element_form_view result (reading.read_with (reading.read_set levels) (ahead at.entry)) }
 {
-    let rest = token_of_kind(TokenKind::Reserved(Reserved::With), text, tokens)?;
-    if begins_with(TokenKind::Reserved(Reserved::Component), text, rest) {
-        let (inside, rest) = constraint(alloc, levels, text, behind(text, rest))?;
+    let rest = at.after(TokenKind::Reserved(Reserved::With))?;
+    if rest.begins_with(TokenKind::Reserved(Reserved::Component)) {
+        let (inside, rest) = constraint(alloc, levels, rest.behind())?;
         return Ok((ElementForm::WithComponent(Box::new(alloc, inside)?), rest));
     }
-    let rest = token_of_kind(TokenKind::Reserved(Reserved::Components), text, rest)?;
-    with_components(alloc, levels, text, rest)
+    let rest = rest.after(TokenKind::Reserved(Reserved::Components))?;
+    with_components(alloc, levels, rest)
 }
 
 #[cycle(sets)]
@@ -399,51 +363,50 @@ fn with<'a, 't>(
 fn with_components<'a, 't>(
     alloc: Global,
     levels: u8,
-    text: &'a [u8],
-    tokens: &'t [Token],
-) -> Result<(ElementForm<'a>, &'t [Token]), Halt>
-    ensures { Gives (λ x. (element_form_view x.0, placed_of text.now x.1.now)) stop_of result (reading.read_with_components (reading.read_set levels) (placed_of text.now tokens.now)) }
+    at: Cursor<'a, 't>,
+) -> Read<'a, 't, ElementForm<'a>>
+    ensures { Reads element_form_view result (reading.read_with_components (reading.read_set levels) (ahead at.entry)) }
 {
-    let rest = token_of_kind(TokenKind::Mark(Mark::LeftBrace), text, tokens)?;
-    let (partial, rest) = partial(text, rest)?;
-    let (parts, rest) = parts(alloc, levels, text, rest)?;
-    let rest = token_of_kind(TokenKind::Mark(Mark::RightBrace), text, rest)?;
+    let rest = at.after(TokenKind::Mark(Mark::LeftBrace))?;
+    let (partial, rest) = partial(rest)?;
+    let (parts, rest) = parts(alloc, levels, rest)?;
+    let rest = rest.after(TokenKind::Mark(Mark::RightBrace))?;
     Ok((ElementForm::WithComponents(partial, parts), rest))
 }
 
 /// `...` and a comma, where there are both.
 #[tactic(auto, unfolding(crate::specs::ReadSets::read_partial))]
-fn partial<'t>(text: &[u8], tokens: &'t [Token]) -> Result<(bool, &'t [Token]), Halt>
-    ensures { Gives (λ x. (x.0, placed_of text.now x.1.now)) stop_of result (reading.read_partial (placed_of text.now tokens.now)) }
+fn partial<'a, 't>(at: Cursor<'a, 't>) -> Read<'a, 't, bool>
+    ensures { Reads (λ x. x) result (reading.read_partial (ahead at.entry)) }
 {
-    if !begins_with(TokenKind::Mark(Mark::Ellipsis), text, tokens) {
-        return Ok((false, tokens));
+    if !at.begins_with(TokenKind::Mark(Mark::Ellipsis)) {
+        return Ok((false, at));
     }
-    let rest = token_of_kind(TokenKind::Mark(Mark::Comma), text, behind(text, tokens))?;
+    let rest = at.behind().after(TokenKind::Mark(Mark::Comma))?;
     Ok((true, rest))
 }
 
 /// One or more parts, parted by commas. Each takes a token, so there are no more than tokens.
 #[cycle(sets)]
+#[tactic(auto, using(crate::proofs::Loops::parted_loop))]
 fn parts<'a, 't>(
     alloc: Global,
     levels: u8,
-    text: &'a [u8],
-    tokens: &'t [Token],
-) -> Result<(Vec<ComponentConsTree<'a>>, &'t [Token]), Halt>
-    ensures { Gives (λ x. (map part_view x.0.items, placed_of text.now x.1.now)) stop_of result (tokens_reading.read_parted (reading.read_part (reading.read_set levels)) (length tokens.now) (placed_of text.now tokens.now)) }
+    at: Cursor<'a, 't>,
+) -> Read<'a, 't, Vec<ComponentConsTree<'a>>>
+    ensures { Reads (each_view part_view) result (tokens_reading.read_parted (reading.read_part (reading.read_set levels)) (length (ahead at.entry)) (ahead at.entry)) }
 {
     let mut all = Vec::new(alloc);
-    let mut rest = tokens;
-    for _ in 0..tokens.len() {
-        let (one, next) = part(alloc, levels, text, rest)?;
+    let mut rest = at;
+    for _ in 0..at.len() {
+        let (one, next) = part(alloc, levels, rest)?;
         all.push(one)?;
-        if !begins_with(TokenKind::Mark(Mark::Comma), text, next) {
+        if !next.begins_with(TokenKind::Mark(Mark::Comma)) {
             return Ok((all, next));
         }
-        rest = behind(text, next);
+        rest = next.behind();
     }
-    Err(unexpected(rest))
+    Err(rest.unexpected())
 }
 
 #[cycle(sets)]
@@ -451,15 +414,14 @@ fn parts<'a, 't>(
 fn part<'a, 't>(
     alloc: Global,
     levels: u8,
-    text: &'a [u8],
-    tokens: &'t [Token],
-) -> Result<(ComponentConsTree<'a>, &'t [Token]), Halt>
-    ensures { Gives (λ x. (part_view x.0, placed_of text.now x.1.now)) stop_of result (reading.read_part (reading.read_set levels) (placed_of text.now tokens.now)) }
+    at: Cursor<'a, 't>,
+) -> Read<'a, 't, ComponentConsTree<'a>>
+    ensures { Reads part_view result (reading.read_part (reading.read_set levels) (ahead at.entry)) }
 {
-    let (name, rest) = word_of_kind(TokenKind::LowerName, text, tokens)?;
-    let (cons, rest) = perhaps_constraint(alloc, levels, text, rest)?;
-    let presence = presence_at(text, rest);
-    let site = site_at(text, tokens);
+    let (name, rest) = at.spelling(TokenKind::LowerName)?;
+    let (cons, rest) = perhaps_constraint(alloc, levels, rest)?;
+    let presence = presence_at(rest);
+    let site = at.site();
     Ok((
         ComponentConsTree {
             site,
@@ -467,7 +429,7 @@ fn part<'a, 't>(
             cons,
             presence,
         },
-        behind_if(presence.is_some(), text, rest),
+        rest.behind_if(presence.is_some()),
     ))
 }
 
@@ -476,27 +438,26 @@ fn part<'a, 't>(
 fn perhaps_constraint<'a, 't>(
     alloc: Global,
     levels: u8,
-    text: &'a [u8],
-    tokens: &'t [Token],
-) -> Result<(Option<ConsTree<'a>>, &'t [Token]), Halt>
-    ensures { Gives (λ x. (perhaps_constraint_view x.0, placed_of text.now x.1.now)) stop_of result (reading.read_perhaps_constraint (reading.read_set levels) (placed_of text.now tokens.now)) }
+    at: Cursor<'a, 't>,
+) -> Read<'a, 't, Option<ConsTree<'a>>>
+    ensures { Reads perhaps_constraint_view result (reading.read_perhaps_constraint (reading.read_set levels) (ahead at.entry)) }
 {
-    if !begins_with(TokenKind::Mark(Mark::LeftParenthesis), text, tokens) {
-        return Ok((None, tokens));
+    if !at.begins_with(TokenKind::Mark(Mark::LeftParenthesis)) {
+        return Ok((None, at));
     }
-    let (one, rest) = constraint(alloc, levels, text, tokens)?;
+    let (one, rest) = constraint(alloc, levels, at)?;
     Ok((Some(one), rest))
 }
 
 /// The presence word that stands here.
-fn presence_at(text: &[u8], tokens: &[Token]) -> Option<PresenceWord>
-    ensures { result ≡ reading.presence_at (placed_of text.now tokens.now) }
+fn presence_at(at: Cursor) -> Option<PresenceWord>
+    ensures { result ≡ reading.presence_at (ahead at.entry) }
 {
-    if begins_with(TokenKind::Reserved(Reserved::Present), text, tokens) {
+    if at.begins_with(TokenKind::Reserved(Reserved::Present)) {
         Some(PresenceWord::Present)
-    } else if begins_with(TokenKind::Reserved(Reserved::Absent), text, tokens) {
+    } else if at.begins_with(TokenKind::Reserved(Reserved::Absent)) {
         Some(PresenceWord::Absent)
-    } else if begins_with(TokenKind::Reserved(Reserved::Optional), text, tokens) {
+    } else if at.begins_with(TokenKind::Reserved(Reserved::Optional)) {
         Some(PresenceWord::Optional)
     } else {
         None

@@ -2,136 +2,115 @@
 ghost use Rattle.std.specs.Prelude.{◌≡◌, map, length};
 ghost use Rattle.guard_model.specs.Answer.{Gives};
 ghost use Rattle.guard_syntax.specs.ReadTokens as tokens_reading;
-ghost use Rattle.guard_syntax.specs.ReadTokens.{placed_of, stop_of};
+ghost use Rattle.guard_syntax.specs.Cursors.{ahead, Reads, each_view, boxed_view};
 ghost use Rattle.guard_syntax.specs.ReadTypes as reading;
 ghost use Rattle.guard_syntax.specs.Views.{number_view};
 ghost use Rattle.guard_syntax.specs.TypeViews.{named_view, item_number_view, item_view};
 
-use crate::halt::Halt;
+use crate::cursor::{Cursor, Read};
 use crate::numbers::number;
-use crate::tokens::{begins_with, behind, site_at, token_of_kind, unexpected, word_of_kind};
 use crate::tree::{ItemTree, NamedTree, NumberTree};
-use guard_lexer::{Mark, Token, TokenKind};
+use guard_lexer::{Mark, TokenKind};
 use std::alloc::Global;
 
 /// The named numbers behind INTEGER. Where no brace stands there are none.
 #[tactic(auto, unfolding(crate::specs::ReadTypes::read_numbers))]
-pub fn numbers<'a, 't>(
-    alloc: Global,
-    text: &'a [u8],
-    tokens: &'t [Token],
-) -> Result<(Vec<NamedTree<'a>>, &'t [Token]), Halt>
-    ensures { Gives (λ x. (map named_view x.0.items, placed_of text.now x.1.now)) stop_of result (reading.read_numbers (placed_of text.now tokens.now)) }
+pub fn numbers<'a, 't>(alloc: Global, at: Cursor<'a, 't>) -> Read<'a, 't, Vec<NamedTree<'a>>>
+    ensures { Reads (each_view named_view) result (reading.read_numbers (ahead at.entry)) }
 {
-    if !begins_with(TokenKind::Mark(Mark::LeftBrace), text, tokens) {
-        return Ok((Vec::new(alloc), tokens));
+    if !at.begins_with(TokenKind::Mark(Mark::LeftBrace)) {
+        return Ok((Vec::new(alloc), at));
     }
-    let (all, rest) = some_named(alloc, text, behind(text, tokens))?;
-    let rest = token_of_kind(TokenKind::Mark(Mark::RightBrace), text, rest)?;
+    let (all, rest) = some_named(alloc, at.behind())?;
+    let rest = rest.after(TokenKind::Mark(Mark::RightBrace))?;
     Ok((all, rest))
 }
 
 /// One or more named numbers, parted by commas. Each takes a token, so there are no more than tokens.
-fn some_named<'a, 't>(
-    alloc: Global,
-    text: &'a [u8],
-    tokens: &'t [Token],
-) -> Result<(Vec<NamedTree<'a>>, &'t [Token]), Halt>
-    ensures { Gives (λ x. (map named_view x.0.items, placed_of text.now x.1.now)) stop_of result (tokens_reading.read_parted reading.read_named (length tokens.now) (placed_of text.now tokens.now)) }
+#[tactic(auto, using(crate::proofs::Loops::parted_loop))]
+fn some_named<'a, 't>(alloc: Global, at: Cursor<'a, 't>) -> Read<'a, 't, Vec<NamedTree<'a>>>
+    ensures { Reads (each_view named_view) result (tokens_reading.read_parted reading.read_named (length (ahead at.entry)) (ahead at.entry)) }
 {
     let mut all = Vec::new(alloc);
-    let mut rest = tokens;
-    for _ in 0..tokens.len() {
-        let (one, next) = named(text, rest)?;
+    let mut rest = at;
+    for _ in 0..at.len() {
+        let (one, next) = named(rest)?;
         all.push(one)?;
-        if !begins_with(TokenKind::Mark(Mark::Comma), text, next) {
+        if !next.begins_with(TokenKind::Mark(Mark::Comma)) {
             return Ok((all, next));
         }
-        rest = behind(text, next);
+        rest = next.behind();
     }
-    Err(unexpected(rest))
+    Err(rest.unexpected())
 }
 
 #[tactic(auto, unfolding(crate::specs::ReadTypes::read_named))]
-fn named<'a, 't>(text: &'a [u8], tokens: &'t [Token]) -> Result<(NamedTree<'a>, &'t [Token]), Halt>
-    ensures { Gives (λ x. (named_view x.0, placed_of text.now x.1.now)) stop_of result (reading.read_named (placed_of text.now tokens.now)) }
+fn named<'a, 't>(at: Cursor<'a, 't>) -> Read<'a, 't, NamedTree<'a>>
+    ensures { Reads named_view result (reading.read_named (ahead at.entry)) }
 {
-    let (name, rest) = word_of_kind(TokenKind::LowerName, text, tokens)?;
-    let (number, rest) = in_parentheses(text, rest)?;
-    let site = site_at(text, tokens);
+    let (name, rest) = at.spelling(TokenKind::LowerName)?;
+    let (number, rest) = in_parentheses(rest)?;
+    let site = at.site();
     Ok((NamedTree { site, name, number }, rest))
 }
 
 /// A number in parentheses.
 #[tactic(auto, unfolding(crate::specs::ReadTypes::read_in_parentheses))]
-fn in_parentheses<'a, 't>(
-    text: &'a [u8],
-    tokens: &'t [Token],
-) -> Result<(NumberTree<'a>, &'t [Token]), Halt>
-    ensures { Gives (λ x. (number_view x.0, placed_of text.now x.1.now)) stop_of result (reading.read_in_parentheses (placed_of text.now tokens.now)) }
+fn in_parentheses<'a, 't>(at: Cursor<'a, 't>) -> Read<'a, 't, NumberTree<'a>>
+    ensures { Reads number_view result (reading.read_in_parentheses (ahead at.entry)) }
 {
-    let rest = token_of_kind(TokenKind::Mark(Mark::LeftParenthesis), text, tokens)?;
-    let (number, rest) = number(text, rest)?;
-    let rest = token_of_kind(TokenKind::Mark(Mark::RightParenthesis), text, rest)?;
+    let rest = at.after(TokenKind::Mark(Mark::LeftParenthesis))?;
+    let (number, rest) = number(rest)?;
+    let rest = rest.after(TokenKind::Mark(Mark::RightParenthesis))?;
     Ok((number, rest))
 }
 
 /// The items behind ENUMERATED.
 #[tactic(auto, unfolding(crate::specs::ReadTypes::read_items))]
-pub fn items<'a, 't>(
-    alloc: Global,
-    text: &'a [u8],
-    tokens: &'t [Token],
-) -> Result<(Vec<ItemTree<'a>>, &'t [Token]), Halt>
-    ensures { Gives (λ x. (map item_view x.0.items, placed_of text.now x.1.now)) stop_of result (reading.read_items (placed_of text.now tokens.now)) }
+pub fn items<'a, 't>(alloc: Global, at: Cursor<'a, 't>) -> Read<'a, 't, Vec<ItemTree<'a>>>
+    ensures { Reads (each_view item_view) result (reading.read_items (ahead at.entry)) }
 {
-    let rest = token_of_kind(TokenKind::Mark(Mark::LeftBrace), text, tokens)?;
-    let (all, rest) = some_items(alloc, text, rest)?;
-    let rest = token_of_kind(TokenKind::Mark(Mark::RightBrace), text, rest)?;
+    let rest = at.after(TokenKind::Mark(Mark::LeftBrace))?;
+    let (all, rest) = some_items(alloc, rest)?;
+    let rest = rest.after(TokenKind::Mark(Mark::RightBrace))?;
     Ok((all, rest))
 }
 
 /// One or more items, parted by commas. Each takes a token, so there are no more than tokens.
-fn some_items<'a, 't>(
-    alloc: Global,
-    text: &'a [u8],
-    tokens: &'t [Token],
-) -> Result<(Vec<ItemTree<'a>>, &'t [Token]), Halt>
-    ensures { Gives (λ x. (map item_view x.0.items, placed_of text.now x.1.now)) stop_of result (tokens_reading.read_parted reading.read_item (length tokens.now) (placed_of text.now tokens.now)) }
+#[tactic(auto, using(crate::proofs::Loops::parted_loop))]
+fn some_items<'a, 't>(alloc: Global, at: Cursor<'a, 't>) -> Read<'a, 't, Vec<ItemTree<'a>>>
+    ensures { Reads (each_view item_view) result (tokens_reading.read_parted reading.read_item (length (ahead at.entry)) (ahead at.entry)) }
 {
     let mut all = Vec::new(alloc);
-    let mut rest = tokens;
-    for _ in 0..tokens.len() {
-        let (one, next) = item(text, rest)?;
+    let mut rest = at;
+    for _ in 0..at.len() {
+        let (one, next) = item(rest)?;
         all.push(one)?;
-        if !begins_with(TokenKind::Mark(Mark::Comma), text, next) {
+        if !next.begins_with(TokenKind::Mark(Mark::Comma)) {
             return Ok((all, next));
         }
-        rest = behind(text, next);
+        rest = next.behind();
     }
-    Err(unexpected(rest))
+    Err(rest.unexpected())
 }
 
 #[tactic(auto, unfolding(crate::specs::ReadTypes::read_item))]
-fn item<'a, 't>(text: &'a [u8], tokens: &'t [Token]) -> Result<(ItemTree<'a>, &'t [Token]), Halt>
-    ensures { Gives (λ x. (item_view x.0, placed_of text.now x.1.now)) stop_of result (reading.read_item (placed_of text.now tokens.now)) }
+fn item<'a, 't>(at: Cursor<'a, 't>) -> Read<'a, 't, ItemTree<'a>>
+    ensures { Reads item_view result (reading.read_item (ahead at.entry)) }
 {
-    let (name, rest) = word_of_kind(TokenKind::LowerName, text, tokens)?;
-    let (number, rest) = item_number(text, rest)?;
-    let site = site_at(text, tokens);
+    let (name, rest) = at.spelling(TokenKind::LowerName)?;
+    let (number, rest) = item_number(rest)?;
+    let site = at.site();
     Ok((ItemTree { site, name, number }, rest))
 }
 
 #[tactic(auto, unfolding(crate::specs::ReadTypes::read_item_number))]
-fn item_number<'a, 't>(
-    text: &'a [u8],
-    tokens: &'t [Token],
-) -> Result<(Option<NumberTree<'a>>, &'t [Token]), Halt>
-    ensures { Gives (λ x. (item_number_view x.0, placed_of text.now x.1.now)) stop_of result (reading.read_item_number (placed_of text.now tokens.now)) }
+fn item_number<'a, 't>(at: Cursor<'a, 't>) -> Read<'a, 't, Option<NumberTree<'a>>>
+    ensures { Reads item_number_view result (reading.read_item_number (ahead at.entry)) }
 {
-    if !begins_with(TokenKind::Mark(Mark::LeftParenthesis), text, tokens) {
-        return Ok((None, tokens));
+    if !at.begins_with(TokenKind::Mark(Mark::LeftParenthesis)) {
+        return Ok((None, at));
     }
-    let (number, rest) = in_parentheses(text, tokens)?;
+    let (number, rest) = in_parentheses(at)?;
     Ok((Some(number), rest))
 }

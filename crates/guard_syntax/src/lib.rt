@@ -2,6 +2,7 @@
 #![tactic(auto)]
 
 mod constraint;
+mod cursor;
 mod ending;
 mod fault;
 mod halt;
@@ -15,7 +16,6 @@ mod numbers;
 mod ranges;
 mod reading;
 mod tags;
-mod tokens;
 mod tree;
 mod types;
 mod values;
@@ -30,10 +30,3 @@ pub use tree::{
     PresenceTree, PresenceWord, RangeTree, SetForm, SetTree, StringKind, SymbolKind, SymbolTree,
     TagClass, TagDefault, TagMode, TagTree, TypeTree, ValueForm, ValueTree,
 };
-
-#[cfg(test)]
-mod printer;
-#[cfg(test)]
-mod session;
-#[cfg(test)]
-mod tests;

@@ -3,10 +3,10 @@ ghost use Rattle.std.specs.Prelude.{◌≡◌, ◌-◌, drop, length};
 ghost use Rattle.guard_syntax.specs.Faults as faults;
 ghost use Rattle.guard_syntax.specs.Faults.{NamesToken, NamesBrace, HasNamedBits, BeginWithNamedBits};
 
+use crate::cursor::octets;
 use crate::ending::end_of;
 use crate::fault::{Spelling, SyntaxFault};
 use crate::halt::{Halt, Stop};
-use crate::tokens::octets;
 use guard_lexer::{Mark, Reserved, Token, TokenKind};
 use guard_model::Site;
 

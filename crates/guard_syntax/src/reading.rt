@@ -8,6 +8,7 @@ ghost use Rattle.guard_syntax.specs.Sites.{sited};
 ghost use Rattle.guard_syntax.specs.Trees.{WrittenModule};
 ghost use Rattle.guard_syntax.specs.ModuleViews.{module_view};
 
+use crate::cursor::Cursor;
 use crate::fault::SyntaxFault;
 use crate::module::module;
 use crate::naming::fault;
@@ -33,7 +34,7 @@ pub fn parse<'a>(
     // P1 is at a token or where the text ends, P2 names a token of a form that is left out, P3 is at a token.
     ensures named { IfErr result (NamesToken place text.now tokens.now) }
 {
-    match module(alloc, text, tokens) {
+    match module(alloc, Cursor { text, tokens }) {
         Ok(module) => Ok(module),
         Err(halt) => Err(fault(place, text, tokens, halt)),
     }

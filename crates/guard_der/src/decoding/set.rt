@@ -7,8 +7,8 @@ ghost use Rattle.guard_der.specs.Reading.{all_absent, completed, follows as come
 ghost use Rattle.guard_der.specs.Views.{breach_of};
 
 use crate::breach::{Code, DecodeFault};
-use crate::decoding::not_sent;
 use crate::faults::fault_at;
+use crate::presence::not_sent;
 use crate::tags::one_with;
 use guard_model::{Comp, Step, Tag, Value};
 use std::alloc::Global;

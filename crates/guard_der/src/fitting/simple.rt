@@ -1,8 +1,7 @@
 //! Which values the simple kinds have.
 ghost use Rattle.std.specs.Prelude.{◌≡◌, chars, map};
 ghost use Rattle.guard_model.specs.TypeView.{named_view};
-ghost use Rattle.guard_der.specs.Pieces.{two_fit};
-ghost use Rattle.guard_der.specs.Fits.{all_below, all_characters, fits_128_bits, fits_arcs, fits_bits, fits_characters, is_item};
+ghost use Rattle.guard_der.specs.Fits.{all_below, all_characters, fits_128_bits, fits_arcs, fits_bits, fits_characters, is_item, fits_first_arcs};
 
 use crate::bits::{has_proper_end, has_zero_end};
 use guard_model::{Bits, CharKind, Named};
@@ -42,7 +41,7 @@ pub fn arcs_fit(arcs: &[u128]) -> bool
 }
 
 fn first_two_fit(first: u128, second: u128) -> bool
-    ensures { result ≡ two_fit first second }
+    ensures { result ≡ fits_first_arcs first second }
 {
     match first {
         0 => second <= 39,

@@ -15,21 +15,24 @@ use Rattle.guard_der.specs.Der.{is_left_out as left_out}
 use Rattle.guard_der.specs.Breach.{below}
 use Rattle.guard_der.specs.Reading.{element_at, part_at, fields_at, contents_at, missing_at, fault, same_form}
 use Rattle.guard_der.specs.Views.{head_view, breach_of}
-use Rattle.guard_der.proofs.Digits.{are_digits}
-use Rattle.guard_der.proofs.Headers.{head_room, head_small}
-use Rattle.guard_der.proofs.Steps.{due_ok}
-use Rattle.guard_der.proofs.ComponentSteps.{located_is}
-use Rattle.guard_der.proofs.Components.{left_proper, goes_on, refused, end_refused, is_done}
-use Rattle.guard_der.proofs.Paths.{room_below, room_below_item}
-use Rattle.guard_der.proofs.Items.{item_reads}
-use Rattle.guard_der.proofs.ItemLoop.{due_some, item_tags, item_not_due, item_not_read, item_descends, item_is_read, item_refused, items_go_on, items_refused, items_done, sequence_of_contents, set_of_contents, contents_refused, contents_read}
-use Rattle.guard_der.proofs.Decodings as decodings
-use Rattle.guard_der.proofs.Decodings.{several, was_false, was_true, whole, due_room, inner_proper, proper_inside, element_none, element_one, element_one_wrong, element_more, element_more_wrong, part_is, chosen_none, chosen_some, chosen_refused, end_ok, no_header, stray_ok, stray_refused, sent_done, default_sent, inside_refused, value_chosen, components_in, sequence_parts, choice_parts, choice_proper, choice_contents, choice_element, tags_element, tags_proper, tags_nesting, refuses_as, inside_room}
-use Rattle.guard_der.proofs.SetSteps.{member_reads, member_default}
-use Rattle.guard_der.proofs.Slots.{slot_filled}
-use Rattle.guard_der.proofs.Members as members
-use Rattle.guard_der.proofs.Members.{set_parts, set_read, set_given, set_refused, presence_is, head_size}
+use Rattle.guard_der.proofs.Numbers.Digits.{are_digits}
+use Rattle.guard_der.proofs.Headers.Offsets.{head_room, head_small}
+use Rattle.guard_der.proofs.Elements.Steps.{due_ok}
+use Rattle.guard_der.proofs.Components.OneComponent.{located_is}
+use Rattle.guard_der.proofs.Functions.ComponentLoop.{left_proper, goes_on, refused, end_refused, is_done}
+use Rattle.guard_der.proofs.Types.Paths.{room_below, room_below_item}
+use Rattle.guard_der.proofs.Lists.Elements.{item_reads}
+use Rattle.guard_der.proofs.Functions.ElementLoop.{due_some, item_tags, item_not_due, item_not_read, item_descends, item_is_read, item_refused, items_go_on, items_refused, items_done, sequence_of_contents, set_of_contents, contents_refused, contents_read}
+use Rattle.guard_der.proofs.Functions.Decoding as decodings
+use Rattle.guard_der.proofs.Functions.Decoding.{several, whole, due_room, inner_proper, proper_inside, element_none, element_one, element_one_wrong, element_more, element_more_wrong, part_is, chosen_none, chosen_some, chosen_refused, end_ok, no_header, stray_ok, stray_refused, sent_done, default_sent, inside_refused, sequence_parts, choice_parts, choice_proper, choice_contents, choice_element, tags_element, tags_proper, tags_nesting, refuses_as, inside_room}
+use Rattle.guard_der.proofs.Sets.OneElement.{member_reads, member_default}
+use Rattle.guard_der.proofs.Functions.SetFields.{slot_filled}
+use Rattle.guard_der.proofs.Functions.SetLoop as members
+use Rattle.guard_der.proofs.Functions.SetLoop.{set_parts, set_read, set_given, set_refused, presence_is, head_size}
 use Rattle.guard_der.proofs.decoding.+reading.Goals as goal
+use Rattle.std.proofs.lemmas.Bool.{not-true, not-false}
+use Rattle.guard_model.proofs.ValueViews.{value_view_chosen}
+use Rattle.guard_model.proofs.Components.{in_view}
 
 -- ---- one element alone
 
@@ -84,23 +87,23 @@ element-returns-then-is_empty t c =
 pub element-returns-then-not-is_form : goal.element-returns-then-not-is_form
 element-returns-then-not-is_form t c =
     rw c.wrong_form.ensures (element_one_wrong c.args.tags.now (kind_view c.args.kind.now) c.args.at (head_view c.args.head) c.args.octets.now c.if-tags-eq1.true
-    (ap (same_form c.args.head.constructed) (sym c.is_kind_constructed.ensures) ∙ sym c.is_form.ensures ∙ c.if-not-is_form.true))
+    (ap (same_form c.args.head.constructed) (sym c.is_constructed.ensures) ∙ sym c.is_form.ensures ∙ c.if-not-is_form.true))
 
 pub element-returns-then-tags-eq1 : goal.element-returns-then-tags-eq1
 element-returns-then-tags-eq1 t c =
     subst (λ r. Gives value_view breach_of c.contents.result r) (sym (element_one c.args.tags.now (kind_view c.args.kind.now) c.args.at (head_view c.args.head) c.args.octets.now c.if-tags-eq1.true
-    (ap (same_form c.args.head.constructed) (sym c.is_kind_constructed.ensures) ∙ sym c.is_form.ensures ∙ c.if-not-is_form.false)))
+    (ap (same_form c.args.head.constructed) (sym c.is_constructed.ensures) ∙ sym c.is_form.ensures ∙ c.if-not-is_form.false)))
     (rw (c.split_at-2.ensures.front, c.split_at.ensures.back) at c.contents.ensures)
 
 pub element-returns-then-not-head : goal.element-returns-then-not-head
 element-returns-then-not-head t c =
     rw c.fault_at.ensures (element_more_wrong c.args.tags.now (kind_view c.args.kind.now) c.args.at (head_view c.args.head) c.args.octets.now
-    (several c.args.tags.now (sym c.is_empty.ensures ∙ c.if-is_empty.false) c.if-tags-eq1.false) (was_false c.args.head.constructed c.if-not-head.true))
+    (several c.args.tags.now (sym c.is_empty.ensures ∙ c.if-is_empty.false) c.if-tags-eq1.false) (not-true c.args.head.constructed c.if-not-head.true))
 
 pub element-returns : goal.element-returns
 element-returns t c =
     subst (λ r. Gives value_view breach_of c.alone.result r) (sym (element_more c.args.tags.now (kind_view c.args.kind.now) c.args.at (head_view c.args.head) c.args.octets.now
-    (several c.args.tags.now (sym c.is_empty.ensures ∙ c.if-is_empty.false) c.if-tags-eq1.false) (was_true c.args.head.constructed c.if-not-head.false)))
+    (several c.args.tags.now (sym c.is_empty.ensures ∙ c.if-is_empty.false) c.if-tags-eq1.false) (not-false c.args.head.constructed c.if-not-head.false)))
     (rw (c.split_at-2.ensures.front, c.split_at.ensures.back) at c.alone.ensures)
 
 -- ---- CHOICE
@@ -108,7 +111,7 @@ element-returns t c =
 pub untagged-chosen-requires : goal.untagged-chosen-requires
 untagged-chosen-requires t c =
     let p = choice_parts c.args.kind.now c.in-Choice.alternatives c.in-Choice.is c.requires.proper in
-    let d = ap (λ x. deepest (components_in x)) c.deref.ensures.value in
+    let d = ap (λ x. deepest (in_view x)) c.deref.ensures.value in
     (omega (arith, p.2, d), (rw c.deref.ensures.value p.0, (rw c.deref.ensures.value p.1, (omega (arith, p.2, d, c.requires.depth), (c.requires.header, c.requires.room)))))
 
 pub untagged-returns-in-Choice : goal.untagged-returns-in-Choice
@@ -123,7 +126,7 @@ contents-returns-in-Choice t c =
     subst (λ r. Gives value_view breach_of c.alone.result r) (choice_contents c.args.kind.now c.in-Choice.field-0 c.args.at c.args.start c.args.octets.now c.in-Choice.is) c.alone.ensures
 
 pub chosen-returns-in_default : goal.chosen-returns-in_default
-chosen-returns-in_default t c = rw c.fault_at.ensures (chosen_none (components_in c.args.alternatives.now) c.args.at (head_view c.args.head) c.args.octets.now (sym c.in_default.ensures.place))
+chosen-returns-in_default t c = rw c.fault_at.ensures (chosen_none (in_view c.args.alternatives.now) c.args.at (head_view c.args.head) c.args.octets.now (sym c.in_default.ensures.place))
 
 pub chosen-element-requires : goal.chosen-element-requires
 chosen-element-requires t c =
@@ -144,14 +147,14 @@ chosen-returns-in_ok-new-in-Ok t c =
     let ty = (out-Comp (get_or c.args.alternatives.now c.in-Some.place c.index-alternatives-place.result)).ty in
     let p = part_is c.args.alternatives.now c.in-Some.place (get_or c.args.alternatives.now c.in-Some.place c.index-alternatives-place.result) c.in-Some.ensures.within (ap (λ x. get_or c.args.alternatives.now c.in-Some.place x) c.index-alternatives-place.is) c.requires.proper in
     let read = p.2 c.args.at (head_view c.args.head) c.args.octets.now ∙ tags_element ty c.deref.result.now c.args.at (head_view c.args.head) c.args.octets.now c.deref.ensures.value ∙ c.in-Ok.ensures in
-    rw (value_chosen c.in-Some.place c.in_ok-new-in-Ok.field-0, c.in_ok-new-in-Ok.ensures.ok) (chosen_some (components_in c.args.alternatives.now) c.in-Some.place c.args.at (head_view c.args.head) c.args.octets.now (value_view c.in-Ok.value) (sym c.in-Some.ensures.place) read)
+    rw (value_view_chosen c.in-Some.place c.in_ok-new-in-Ok.field-0, c.in_ok-new-in-Ok.ensures.ok) (chosen_some (in_view c.args.alternatives.now) c.in-Some.place c.args.at (head_view c.args.head) c.args.octets.now (value_view c.in-Ok.value) (sym c.in-Some.ensures.place) read)
 
 pub chosen-returns-in-Err : goal.chosen-returns-in-Err
 chosen-returns-in-Err t c =
     let ty = (out-Comp (get_or c.args.alternatives.now c.in-Some.place c.index-alternatives-place.result)).ty in
     let p = part_is c.args.alternatives.now c.in-Some.place (get_or c.args.alternatives.now c.in-Some.place c.index-alternatives-place.result) c.in-Some.ensures.within (ap (λ x. get_or c.args.alternatives.now c.in-Some.place x) c.index-alternatives-place.is) c.requires.proper in
     let same = p.2 c.args.at (head_view c.args.head) c.args.octets.now ∙ tags_element ty c.deref.result.now c.args.at (head_view c.args.head) c.args.octets.now c.deref.ensures.value in
-    rw c.below.ensures (chosen_refused (breach_of c.in-Err.fault) (components_in c.args.alternatives.now) c.in-Some.place c.args.at (head_view c.args.head) c.args.octets.now (sym c.in-Some.ensures.place) (refuses_as (breach_of c.in-Err.fault) _ _ same c.in-Err.ensures))
+    rw c.below.ensures (chosen_refused (breach_of c.in-Err.fault) (in_view c.args.alternatives.now) c.in-Some.place c.args.at (head_view c.args.head) c.args.octets.now (sym c.in-Some.ensures.place) (refuses_as (breach_of c.in-Err.fault) _ _ same c.in-Err.ensures))
 
 -- ---- component
 
@@ -223,7 +226,7 @@ component-returns-in-Err-clause-given t c =
 pub contents-components-requires : goal.contents-components-requires
 contents-components-requires t c =
     let p = sequence_parts c.args.kind.now c.in-Sequence.comps c.in-Sequence.is c.requires.proper in
-    let d = ap (λ x. deepest (components_in x)) c.deref.ensures.value in
+    let d = ap (λ x. deepest (in_view x)) c.deref.ensures.value in
     (omega (arith, p.2, d), (rw c.deref.ensures.value p.0, (rw c.deref.ensures.value p.1, (omega (arith, p.2, d, c.requires.depth), c.requires.room))))
 
 pub components-component-requires : goal.components-component-requires
@@ -236,14 +239,14 @@ pub components-returns-in_err-field : goal.components-returns-in_err-field
 components-returns-in_err-field t c =
     let p = err_from_is_err_and c.from_residual-in_err-field.result c.from_residual-in_err-field.ensures.1 in
     rw (p.1, p.2) (refused (breach_of c.in_err-field.field-0.0) c.args.comps.now c.loop-index.index c.index-comps-index.result (map field_view c.loop-index.fields.items) c.loop-index.at c.loop-index.rest.now
-    (fields_at 0 (components_in c.args.comps.now) c.args.start c.args.octets.now) c.loop-index-test.true c.index-comps-index.is c.in_err-field.ensures.given c.loop-index.invariant.so_far)
+    (fields_at 0 (in_view c.args.comps.now) c.args.start c.args.octets.now) c.loop-index-test.true c.index-comps-index.is c.in_err-field.ensures.given c.loop-index.invariant.so_far)
 
 pub components-loop-index-preserved : goal.components-loop-index-preserved
 components-loop-index-preserved t c =
     let l = left_proper c.args.comps.now c.loop-index.index c.index-comps-index.result c.loop-index-test.true c.index-comps-index.is c.loop-index.invariant.proper c.loop-index.invariant.depth in
     let pushed : map field_view c.push.new.self.items ≡ map field_view c.loop-index.fields.items ++ field_view c.in_ok-field.field ∷ [] = rw c.in_ok-push.ensures.items (map_push field_view c.loop-index.fields.items c.in_ok-field.field) in
     let on = goes_on c.args.comps.now c.loop-index.index c.index-comps-index.result (map field_view c.loop-index.fields.items) c.loop-index.at c.in_ok-field.size c.loop-index.rest.now (field_view c.in_ok-field.field)
-    (fields_at 0 (components_in c.args.comps.now) c.args.start c.args.octets.now) c.loop-index-test.true c.index-comps-index.is c.in_ok-field.ensures.given c.loop-index.invariant.so_far in
+    (fields_at 0 (in_view c.args.comps.now) c.args.start c.args.octets.now) c.loop-index-test.true c.index-comps-index.is c.in_ok-field.ensures.given c.loop-index.invariant.so_far in
     record {
       so_far = rw (pushed, c.split_at.ensures.back) on;
       proper = l.2;
@@ -255,12 +258,12 @@ pub components-returns-in_err-end : goal.components-returns-in_err-end
 components-returns-in_err-end t c =
     let p = err_from_is_err_and c.from_residual-in_err-end.result c.from_residual-in_err-end.ensures.1 in
     rw (p.1, p.2) (end_refused (breach_of c.in_err-end.field-0.0) c.args.comps.now c.loop-index.index (map field_view c.loop-index.fields.items) c.loop-index.at c.loop-index.rest.now
-    (fields_at 0 (components_in c.args.comps.now) c.args.start c.args.octets.now) c.loop-index-test.false c.in_err-end.ensures c.loop-index.invariant.so_far)
+    (fields_at 0 (in_view c.args.comps.now) c.args.start c.args.octets.now) c.loop-index-test.false c.in_err-end.ensures c.loop-index.invariant.so_far)
 
 pub components-returns : goal.components-returns
 components-returns t c =
     is_done c.args.comps.now c.loop-index.index (map field_view c.loop-index.fields.items) c.loop-index.at c.loop-index.rest.now
-    (fields_at 0 (components_in c.args.comps.now) c.args.start c.args.octets.now) c.loop-index-test.false c.in_ok-end.ensures c.loop-index.invariant.so_far
+    (fields_at 0 (in_view c.args.comps.now) c.args.start c.args.octets.now) c.loop-index-test.false c.in_ok-end.ensures c.loop-index.invariant.so_far
 
 -- ---- elements of an OF type
 
@@ -377,7 +380,7 @@ next_item-returns-clause-given t c =
 pub contents-members-requires : goal.contents-members-requires
 contents-members-requires t c =
     let p = set_parts c.args.kind.now c.in-Set.comps c.in-Set.is c.requires.proper in
-    let d = ap (λ x. deepest (components_in x)) c.deref-in-Set.ensures.value in
+    let d = ap (λ x. deepest (in_view x)) c.deref-in-Set.ensures.value in
     (omega (arith, p.2, d), (rw c.deref-in-Set.ensures.value p.0, (rw c.deref-in-Set.ensures.value p.1, (omega (arith, p.2, d, c.requires.depth), c.requires.room))))
 
 pub contents-returns-in_err-members-in-Set : goal.contents-returns-in_err-members-in-Set
@@ -392,13 +395,13 @@ contents-returns-in_ok-members-in-Set t c =
 pub member-returns-in_err-head-clause-given : goal.member-returns-in_err-head-clause-given
 member-returns-in_err-head-clause-given t c =
     let p = err_from_is_err_and c.from_residual.result c.from_residual.ensures.1 in
-    let cs = components_in c.args.comps.now in
+    let cs = in_view c.args.comps.now in
     rw (p.1, p.2) (members.no_header (breach_of c.in_err-head.field-0.0) cs (part_at cs) (fields_view c.args.slots.now) c.args.before c.args.at c.args.octets.now c.in_err-head.ensures)
 
 pub member-returns-in_err-place-clause-given : goal.member-returns-in_err-place-clause-given
 member-returns-in_err-place-clause-given t c =
     let p = err_from_is_err_and c.from_residual-in_err-place.result c.from_residual-in_err-place.ensures.1 in
-    let cs = components_in c.args.comps.now in
+    let cs = in_view c.args.comps.now in
     rw (p.1, p.2) (members.no_place (breach_of c.in_err-place.field-0.0) cs (part_at cs) (fields_view c.args.slots.now) c.args.before c.args.at c.args.octets.now (head_view c.in_ok-head.head) c.in_ok-head.ensures c.in_err-place.ensures.given)
 
 pub member-element-requires : goal.member-element-requires
@@ -411,7 +414,7 @@ member-element-requires t c =
 pub member-returns-then-is_left_out-clause-given : goal.member-returns-then-is_left_out-clause-given
 member-returns-then-is_left_out-clause-given t c =
     let comp = c.index-comps-place.result in
-    let cs = components_in c.args.comps.now in
+    let cs = in_view c.args.comps.now in
     let h = head_view c.in_ok-head.head in
     let p = part_is c.args.comps.now c.in_ok-place.place comp c.in_ok-place.ensures.within c.index-comps-place.is c.requires.proper in
     let read = p.2 c.args.at h c.args.octets.now ∙ tags_element (out-Comp comp).ty c.deref.result.now c.args.at h c.args.octets.now c.deref.ensures.value ∙ c.in-Ok.ensures in
@@ -436,7 +439,7 @@ member-returns-else-is_left_out-clause-within t c = head_room c.args.octets.now 
 pub member-returns-else-is_left_out-clause-given : goal.member-returns-else-is_left_out-clause-given
 member-returns-else-is_left_out-clause-given t c =
     let comp = c.index-comps-place.result in
-    let cs = components_in c.args.comps.now in
+    let cs = in_view c.args.comps.now in
     let h = head_view c.in_ok-head.head in
     let p = part_is c.args.comps.now c.in_ok-place.place comp c.in_ok-place.ensures.within c.index-comps-place.is c.requires.proper in
     let read = p.2 c.args.at h c.args.octets.now ∙ tags_element (out-Comp comp).ty c.deref.result.now c.args.at h c.args.octets.now c.deref.ensures.value ∙ c.in-Ok.ensures in
@@ -448,7 +451,7 @@ member-returns-else-is_left_out-clause-given t c =
 pub member-returns-in-Err-clause-given : goal.member-returns-in-Err-clause-given
 member-returns-in-Err-clause-given t c =
     let comp = c.index-comps-place.result in
-    let cs = components_in c.args.comps.now in
+    let cs = in_view c.args.comps.now in
     let h = head_view c.in_ok-head.head in
     let p = part_is c.args.comps.now c.in_ok-place.place comp c.in_ok-place.ensures.within c.index-comps-place.is c.requires.proper in
     let same = p.2 c.args.at h c.args.octets.now ∙ tags_element (out-Comp comp).ty c.deref.result.now c.args.at h c.args.octets.now c.deref.ensures.value in
@@ -458,7 +461,7 @@ member-returns-in-Err-clause-given t c =
 pub members-returns-in_err-place : goal.members-returns-in_err-place
 members-returns-in_err-place t c =
     let p = err_from_is_err_and c.from_residual-in_err-place.result c.from_residual-in_err-place.ensures.1 in
-    rw (p.1, p.2) (members.stops (breach_of c.in_err-place.field-0.0) (components_in c.args.comps.now) (fields_view c.loop-rest.slots.items) c.loop-rest.before c.loop-rest.at c.loop-rest.rest.now
+    rw (p.1, p.2) (members.stops (breach_of c.in_err-place.field-0.0) (in_view c.args.comps.now) (fields_view c.loop-rest.slots.items) c.loop-rest.before c.loop-rest.at c.loop-rest.rest.now
     (set_read c.args.comps.now c.args.start c.args.octets.now) (sym c.is_empty.ensures ∙ c.loop-rest-test.true) (rw c.deref.ensures.value at c.in_err-place.ensures.given) c.loop-rest.invariant.so_far)
 
 pub members-overflow_add-size : goal.members-overflow_add-size
@@ -476,7 +479,7 @@ members-loop-rest-preserved t c =
     let head = c.in_ok-place.head in
     let within : place < length c.loop-rest.slots.items = omega (arith, c.in_ok-place.ensures.place, c.loop-rest.invariant.count) in
     let filled = ap fields_view c.put.ensures ∙ slot_filled c.loop-rest.slots.items place c.in_ok-place.value within in
-    let on = members.goes_on (components_in c.args.comps.now) (fields_view c.loop-rest.slots.items) c.loop-rest.before c.loop-rest.at c.loop-rest.rest.now place (value_view c.in_ok-place.value) (head_view head)
+    let on = members.goes_on (in_view c.args.comps.now) (fields_view c.loop-rest.slots.items) c.loop-rest.before c.loop-rest.at c.loop-rest.rest.now place (value_view c.in_ok-place.value) (head_view head)
     (set_read c.args.comps.now c.args.start c.args.octets.now) (sym c.is_empty.ensures ∙ c.loop-rest-test.true) c.in_ok-place.ensures.some (rw c.deref.ensures.value at c.in_ok-place.ensures.given) c.loop-rest.invariant.so_far in
     record {
       so_far = rw (filled, c.split_at.ensures.back) on;
@@ -487,5 +490,5 @@ members-loop-rest-preserved t c =
 pub members-returns : goal.members-returns
 members-returns t c =
     subst (λ r. Gives (λ v. fields_view v.items) breach_of c.completed.result r)
-    (members.ends (components_in c.args.comps.now) (fields_view c.loop-rest.slots.items) c.loop-rest.before c.loop-rest.at c.loop-rest.rest.now (set_read c.args.comps.now c.args.start c.args.octets.now) (sym c.is_empty.ensures ∙ c.loop-rest-test.false) c.loop-rest.invariant.so_far)
+    (members.ends (in_view c.args.comps.now) (fields_view c.loop-rest.slots.items) c.loop-rest.before c.loop-rest.at c.loop-rest.rest.now (set_read c.args.comps.now c.args.start c.args.octets.now) (sym c.is_empty.ensures ∙ c.loop-rest-test.false) c.loop-rest.invariant.so_far)
     c.completed.ensures

@@ -5,14 +5,13 @@ use Rattle.guard_model.specs.AbstractType.{type_of, no_constraints}
 use Rattle.guard_model.specs.TypeView.{type_view, kind_view, component_view, components_of}
 use Rattle.guard_tagcheck.specs.FirstTags.{begins_with}
 use Rattle.guard_tagcheck.specs.Limits.{nesting, nesting_inside, deepest}
-use Rattle.guard_tagcheck.proofs.Components.{left}
 use Rattle.guard_der.specs.Sound.{are_proper}
 use Rattle.guard_der.specs.Reading.{element_at, fields_at, items_at, all_absent, part_at, set_at}
-use Rattle.guard_der.proofs.Components.{with_front}
-use Rattle.guard_der.proofs.ItemLoop.{with_items, items_left}
-use Rattle.guard_der.proofs.Slots.{in_view}
-use Rattle.guard_der.proofs.Members.{Going}
+use Rattle.guard_der.proofs.Functions.ComponentLoop.{with_front}
+use Rattle.guard_der.proofs.Functions.ElementLoop.{with_items, items_left}
+use Rattle.guard_der.proofs.Functions.SetLoop.{Going}
 use Rattle.guard_der.proofs.decoding.+reading.Given as goal
+use Rattle.guard_model.proofs.Components.{left, in_view}
 
 abbrev pub invariant-components-loop-index : goal.invariant-components-loop-index
 invariant-components-loop-index l = record {

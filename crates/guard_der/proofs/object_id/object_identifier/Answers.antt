@@ -4,7 +4,7 @@ use Rattle.guard_model.proofs.Results.{same_Ok}
 use Rattle.guard_model.specs.AbstractValue as abstract
 use Rattle.guard_der.specs.Breach.{AbstractBreach}
 use Rattle.guard_der.specs.Reading.{unless_fault}
-use Rattle.guard_der.proofs.ObjectIds.{goes_on, ends, too_long, all_read, value_view_object_identifier}
+use Rattle.guard_der.proofs.Simple.ObjectIdentifiers.{goes_on, ends, too_long, all_read, value_view_object_identifier}
 use Rattle.guard_der.proofs.object_id.object_identifier.Goals as goal
 use Rattle.guard_der.proofs.object_id.object_identifier.Goals.{then-starts+in_ok-push_arcs, else-starts}
 

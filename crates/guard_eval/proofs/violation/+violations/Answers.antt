@@ -17,8 +17,8 @@ use Rattle.guard_eval.proofs.Paths.{path_has_room}
 use Rattle.guard_model.proofs.TypeViews.{type_view_is, kind_view_sequence, kind_view_set, kind_view_choice, kind_view_sequence_of, kind_view_set_of}
 use Rattle.guard_model.proofs.ValueViews.{value_view_fields, value_view_items, value_view_chosen}
 use Rattle.guard_eval.proofs.AtEnd.{violation_at_end}
-use Rattle.guard_eval.proofs.Proper.{type_is, sequence_is, set_is, choice_is, sequence_of_is, set_of_is, next_is, count_is_length}
-use Rattle.guard_model.proofs.Components.{found_there, found_nowhere}
+use Rattle.guard_eval.proofs.Proper.{type_is, sequence_is, set_is, choice_is, sequence_of_is, set_of_is, next_is}
+use Rattle.guard_model.proofs.Components.{found_there, found_nowhere, component_count_view}
 use Rattle.guard_eval.proofs.violation.+violations.Goals as goal
 
 pub violation_of-violation_inside-requires : goal.violation_of-violation_inside-requires
@@ -39,7 +39,7 @@ violation_inside-violation_from-requires t c =
     let k = sequence_is (components_of (map component_view cs.items)) (rw e at c.requires.proper) in
     let d = rw e at c.requires.depth in
     let f = rw (e, v) at c.requires.fits in
-    let n : length cs.items ≤ 64 = omega (arith, k.0, count_is_length cs.items) in
+    let n : length cs.items ≤ 64 = omega (arith, k.0, component_count_view cs.items) in
     let here = c.deref.ensures.value in
     (search (rules, the_lemmas), (rw here n, (rw here k.1, (rw here d, rw (here, c.deref-in-Sequence-Fields.ensures.value) f))))
 
@@ -51,7 +51,7 @@ violation_inside-violation_from-requires-in-Set-Fields t c =
     let k = set_is (components_of (map component_view cs.items)) (rw e at c.requires.proper) in
     let d = rw e at c.requires.depth in
     let f = rw (e, v) at c.requires.fits in
-    let n : length cs.items ≤ 64 = omega (arith, k.0, count_is_length cs.items) in
+    let n : length cs.items ≤ 64 = omega (arith, k.0, component_count_view cs.items) in
     let here = c.deref-in-Set-Fields.ensures.value in
     (search (rules, the_lemmas), (rw here n, (rw here k.1, (rw here d, rw (here, c.deref-in-Set-Fields-2.ensures.value) f))))
 

@@ -1,6 +1,6 @@
 use Rattle.std.proofs.Common.{◌^◌, arith}
-use Rattle.guard_lexer.specs.Shapes.{number_value}
 use Rattle.guard_schema.proofs.Numbers.{was_small, ended}
+use Rattle.guard_lexer.specs.Items.{number_value}
 use Rattle.guard_schema.proofs.values.magnitude.Goals as goal
 
 pub returns-in_err-checked_mul : goal.returns-in_err-checked_mul

@@ -1,7 +1,7 @@
 use Rattle.std.proofs.Common.{◌≡◌, ◌^◌, ◌<◌, drop}
 use Rattle.std.specs.Prelude.{fold}
-use Rattle.guard_lexer.specs.Shapes.{number_value}
 use Rattle.guard_schema.proofs.Numbers.{with_digit}
+use Rattle.guard_lexer.specs.Items.{number_value}
 use Rattle.guard_schema.proofs.values.magnitude.Given as goal
 
 abbrev pub invariant-loop-digit : goal.invariant-loop-digit

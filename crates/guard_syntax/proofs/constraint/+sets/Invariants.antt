@@ -1,9 +1,9 @@
-use Rattle.std.proofs.Common.{◌≡◌, map, length, ◌+◌, ◌-◌, ◌*◌}
-use Rattle.guard_syntax.specs.ReadTokens.{placed_of, read_each, read_parted}
+use Rattle.std.proofs.Common.{◌+◌, ◌*◌}
+use Rattle.guard_syntax.specs.Cursors.{ahead}
 use Rattle.guard_syntax.specs.ReadValues.{read_value}
 use Rattle.guard_syntax.specs.ReadSets.{begins_union_mark, begins_intersection_mark, read_joined_intersection, read_joined_difference, read_part, read_set}
 use Rattle.guard_syntax.specs.SetViews.{joined_intersection_view, joined_difference_view, part_view}
-use Rattle.guard_syntax.proofs.Loops.{with_front}
+use Rattle.guard_syntax.proofs.Loops.{PartedSoFar, EachSoFar}
 use Rattle.guard_syntax.proofs.constraint.+sets.Given as goal
 
 abbrev pub decreases-set : goal.decreases-set
@@ -64,16 +64,10 @@ abbrev pub decreases-inner_set : goal.decreases-inner_set
 decreases-inner_set l = l.levels * 20 + 19
 
 abbrev pub invariant-joined_intersections-loop : goal.invariant-joined_intersections-loop
-invariant-joined_intersections-loop l =
-    with_front (map joined_intersection_view l.all.items) (read_each begins_union_mark (read_joined_intersection (read_value l.levels) (read_set l.levels)) (length l.tokens - l.counter) (placed_of l.text l.rest))
-    ≡ read_each begins_union_mark (read_joined_intersection (read_value l.levels) (read_set l.levels)) (length l.tokens) (placed_of l.text l.tokens)
+invariant-joined_intersections-loop l = EachSoFar joined_intersection_view begins_union_mark (read_joined_intersection (read_value l.levels) (read_set l.levels)) (ahead l.at) l.all.items l.counter (ahead l.rest)
 
 abbrev pub invariant-joined_differences-loop : goal.invariant-joined_differences-loop
-invariant-joined_differences-loop l =
-    with_front (map joined_difference_view l.all.items) (read_each begins_intersection_mark (read_joined_difference (read_value l.levels) (read_set l.levels)) (length l.tokens - l.counter) (placed_of l.text l.rest))
-    ≡ read_each begins_intersection_mark (read_joined_difference (read_value l.levels) (read_set l.levels)) (length l.tokens) (placed_of l.text l.tokens)
+invariant-joined_differences-loop l = EachSoFar joined_difference_view begins_intersection_mark (read_joined_difference (read_value l.levels) (read_set l.levels)) (ahead l.at) l.all.items l.counter (ahead l.rest)
 
 abbrev pub invariant-parts-loop : goal.invariant-parts-loop
-invariant-parts-loop l =
-    with_front (map part_view l.all.items) (read_parted (read_part (read_set l.levels)) (length l.tokens - l.counter) (placed_of l.text l.rest))
-    ≡ read_parted (read_part (read_set l.levels)) (length l.tokens) (placed_of l.text l.tokens)
+invariant-parts-loop l = PartedSoFar part_view (read_part (read_set l.levels)) (ahead l.at) l.all.items l.counter (ahead l.rest)

@@ -1,12 +1,9 @@
-use Rattle.std.proofs.Common.{◌≡◌, map, length, ◌-◌}
-use Rattle.guard_syntax.specs.ReadTokens.{placed_of, read_each}
+use Rattle.guard_syntax.specs.Cursors.{ahead}
 use Rattle.guard_syntax.specs.ReadValues.{does_not_close}
 use Rattle.guard_syntax.specs.ReadModule.{read_identifier_part}
 use Rattle.guard_syntax.specs.ModuleViews.{identifier_part_view}
-use Rattle.guard_syntax.proofs.Loops.{with_front}
+use Rattle.guard_syntax.proofs.Loops.{EachSoFar}
 use Rattle.guard_syntax.proofs.identifier.parts.Given as goal
 
 abbrev pub invariant-loop : goal.invariant-loop
-invariant-loop l =
-    with_front (map identifier_part_view l.all.items) (read_each does_not_close read_identifier_part (length l.tokens - l.counter) (placed_of l.text l.rest))
-    ≡ read_each does_not_close read_identifier_part (length l.tokens) (placed_of l.text l.tokens)
+invariant-loop l = EachSoFar identifier_part_view does_not_close read_identifier_part (ahead l.at) l.all.items l.counter (ahead l.rest)

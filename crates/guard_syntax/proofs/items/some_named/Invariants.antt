@@ -1,11 +1,8 @@
-use Rattle.std.proofs.Common.{◌≡◌, map, length, ◌-◌}
-use Rattle.guard_syntax.specs.ReadTokens.{placed_of, read_parted}
+use Rattle.guard_syntax.specs.Cursors.{ahead}
 use Rattle.guard_syntax.specs.ReadTypes.{read_named}
 use Rattle.guard_syntax.specs.TypeViews.{named_view}
-use Rattle.guard_syntax.proofs.Loops.{with_front}
+use Rattle.guard_syntax.proofs.Loops.{PartedSoFar}
 use Rattle.guard_syntax.proofs.items.some_named.Given as goal
 
 abbrev pub invariant-loop : goal.invariant-loop
-invariant-loop l =
-    with_front (map named_view l.all.items) (read_parted read_named (length l.tokens - l.counter) (placed_of l.text l.rest))
-    ≡ read_parted read_named (length l.tokens) (placed_of l.text l.tokens)
+invariant-loop l = PartedSoFar named_view read_named (ahead l.at) l.all.items l.counter (ahead l.rest)

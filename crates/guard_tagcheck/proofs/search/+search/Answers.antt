@@ -3,8 +3,9 @@ use Rattle.guard_model.specs.declared.ty.Kind.{the_lemmas}
 use Rattle.guard_model.specs.declared.ty.Kind.TheViews.{out-Comp}
 use Rattle.guard_tagcheck.specs.Search.{clash_inside}
 use Rattle.guard_tagcheck.specs.Views.{clash_view}
-use Rattle.guard_tagcheck.proofs.Components.{left, left_limits, sequence_within, set_within, choice_within}
-use Rattle.guard_tagcheck.proofs.Searches.{found, found_none, path_fits, inside_found, inside_goes_on}
+use Rattle.guard_model.proofs.Components.{left}
+use Rattle.guard_tagcheck.proofs.PartLimits.{left_limits, sequence_within, set_within, choice_within}
+use Rattle.guard_tagcheck.proofs.SearchLoops.{found, found_none, path_fits, inside_found, inside_goes_on}
 use Rattle.guard_tagcheck.proofs.search.+search.Goals as goal
 
 pub clash_inside-below-requires : goal.clash_inside-below-requires

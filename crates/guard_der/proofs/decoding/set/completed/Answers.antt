@@ -7,11 +7,11 @@ use Rattle.guard_model.specs.declared.site.Step.TheVariants.{Component}
 use Rattle.guard_der.specs.Breach.{below}
 use Rattle.guard_der.specs.Reading.{missing_at, completed}
 use Rattle.guard_der.specs.Views.{breach_of}
-use Rattle.guard_tagcheck.proofs.Components.{left}
 use Rattle.guard_model.specs.ValueView.{fields_view}
-use Rattle.guard_der.proofs.Slots.{put_settles, kept_settles, settles_badly, all_settled, is_empty}
+use Rattle.guard_der.proofs.Functions.SetFields.{put_settles, kept_settles, settles_badly, all_settled, is_empty}
 use Rattle.guard_der.proofs.decoding.set.completed.Goals as goal
 use Rattle.guard_der.proofs.decoding.set.completed.Goals.{then-is_none+in_ok-not_sent, else-is_none}
+use Rattle.guard_model.proofs.Components.{left}
 
 pub loop-index-preserved : goal.loop-index-preserved
 loop-index-preserved c = elim c.if-is_none.branch [

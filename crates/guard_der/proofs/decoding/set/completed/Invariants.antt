@@ -1,9 +1,9 @@
 use Rattle.std.proofs.Common.{◌≡◌, length, map, take, drop}
 use Rattle.guard_model.specs.ValueView.{field_view, fields_view}
-use Rattle.guard_tagcheck.proofs.Components.{left}
 use Rattle.guard_der.specs.Reading.{completed}
-use Rattle.guard_der.proofs.Components.{with_front}
+use Rattle.guard_der.proofs.Functions.ComponentLoop.{with_front}
 use Rattle.guard_der.proofs.decoding.set.completed.Given as goal
+use Rattle.guard_model.proofs.Components.{left}
 
 abbrev pub invariant-loop-index : goal.invariant-loop-index
 invariant-loop-index l = record {

@@ -2,7 +2,7 @@ use Rattle.std.proofs.Common.{◌≡◌, ◌∙◌, ℕ, sym, ap, length, None, 
 use Rattle.std.specs.Prelude.{replicate}
 use Rattle.guard_model.specs.ValueView.{fields_view}
 use Rattle.guard_model.specs.AbstractValue.{Fields}
-use Rattle.guard_der.proofs.Slots.{slots_absent}
+use Rattle.guard_der.proofs.Functions.SetFields.{slots_absent}
 use Rattle.guard_der.proofs.decoding.set.empty_slots.Goals as goal
 
 pub returns-clause-given : goal.returns-clause-given

@@ -3,9 +3,10 @@ use Rattle.std.specs.Prelude.{option_map}
 use Rattle.guard_model.specs.declared.site.Step.TheVariants.{Component}
 use Rattle.guard_model.specs.ValueView.{fields_view}
 use Rattle.guard_der.specs.Breach.{below}
-use Rattle.guard_der.proofs.SetSteps.{place_free, place_unknown, place_descends, place_full}
-use Rattle.guard_der.proofs.Slots.{in_view, filled_slot}
+use Rattle.guard_der.proofs.Sets.OneElement.{place_free, place_unknown, place_descends, place_full}
+use Rattle.guard_der.proofs.Functions.SetFields.{filled_slot}
 use Rattle.guard_der.proofs.decoding.set.place_of.Goals as goal
+use Rattle.guard_model.proofs.Components.{in_view}
 
 pub returns-in_default-clause-given : goal.returns-in_default-clause-given
 returns-in_default-clause-given c =

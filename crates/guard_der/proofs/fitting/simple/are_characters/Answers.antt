@@ -5,7 +5,7 @@ use Rattle.std.proofs.lemmas.Iterator.Consumers.{YieldsList-turn, YieldsList-end
 use Rattle.std.proofs.lemmas.List.{length_push}
 use Rattle.guard_model.specs.Alphabets.{is_character}
 use Rattle.guard_model.proofs.Tests.{and_on, and_stop}
-use Rattle.guard_der.proofs.ValueTests.{character_next, characters_end}
+use Rattle.guard_der.proofs.Functions.SimpleValues.{character_next, characters_end}
 use Rattle.guard_der.proofs.fitting.simple.are_characters.Goals as goal
 
 pub returns-then-not-has : goal.returns-then-not-has

@@ -1,13 +1,12 @@
 -- A consistent policy stays consistent with one message or rule more.
-use Rattle.std.proofs.Common.{◌≡◌, List, [], ◌∷◌, ◌++◌, All, Bool, true, false, cond, map, Option, Some, None, sym, subst}
+use Rattle.std.proofs.Common.{◌≡◌, List, [], ◌∷◌, ◌++◌, Bool, true, false, cond, map, sym, subst}
 use Rattle.std.proofs.lemmas.List.{map-append}
 use Rattle.std.specs.Prelude.{IsTrue}
 use Rattle.std.proofs.lemmas.List.Elements.{All-append, All-from_recursion}
 use Rattle.guard_model.specs.AbstractType as type
 use Rattle.guard_model.specs.AbstractType.{AbstractType, type_of}
-use Rattle.guard_der.specs.Fits.{fits}
 use Rattle.guard_der.specs.Sound.{is_sound}
-use Rattle.guard_policy.specs.Policies.{AbstractMessage, AbstractRule, FitsAlso, IsConsistent, declared_among}
+use Rattle.guard_policy.specs.Policies.{AbstractMessage, AbstractRule, FitsAlso, IsConsistent}
 use Rattle.conformance.specs.Rules.{FitsDeclared}
 use Rattle.conformance.specs.IntegerTypes.{is_integer_type}
 

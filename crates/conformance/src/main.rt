@@ -9,6 +9,7 @@
 #![tactic(auto)]
 
 mod around;
+mod echo;
 mod lexer;
 mod member;
 mod parser;
@@ -20,6 +21,7 @@ mod verdict_notation;
 
 use anyhow::ensure;
 use conformance_rows::check_rows;
+use echo::Echo;
 use lexer::Lexer;
 use member::Members;
 use parser::Parser;
@@ -28,13 +30,14 @@ use verdict::Verdicts;
 
 fn main(rt: HostRuntime) -> anyhow::Result<()> {
     let alloc = rt.alloc();
+    let rows = check_rows(&rt, "rows.rows", &mut Echo {})?;
     let lexer = check_rows(&rt, "lexer.rows", &mut Lexer::new())?;
     let parser = check_rows(&rt, "parser.rows", &mut Parser::new(alloc))?;
     let schema = check_rows(&rt, "schema.rows", &mut Schemas::new(alloc))?;
     let member = check_rows(&rt, "member.rows", &mut Members::new())?;
     let verdict = check_rows(&rt, "verdict.rows", &mut Verdicts::new(alloc))?;
     let report = check_rows(&rt, "report.rows", &mut Verdicts::new(alloc))?;
-    let texts = lexer && parser && schema;
+    let texts = rows && lexer && parser && schema;
     ensure!(
         texts && member && verdict && report,
         "a row has another answer"

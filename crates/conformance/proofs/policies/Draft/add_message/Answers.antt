@@ -1,4 +1,4 @@
-use Rattle.std.proofs.Common.{◌≡◌, map, subst, sym, [], ◌∷◌, is_ok}
+use Rattle.std.proofs.Common.{map, subst, sym, [], is_ok}
 use Rattle.guard_policy.specs.Policies.{message_view, rule_view, IsConsistent}
 use Rattle.conformance.proofs.Consistent.{with_message, pushed}
 use Rattle.conformance.proofs.policies.Draft.add_message.Goals as goal

@@ -1,4 +1,4 @@
-use Rattle.std.proofs.Common.{◌≡◌, map, is_ok}
+use Rattle.std.proofs.Common.{map, is_ok}
 use Rattle.guard_policy.specs.Policies.{message_view, rule_view, IsConsistent}
 use Rattle.conformance.proofs.Consistent.{with_rule, pushed}
 use Rattle.conformance.proofs.policies.Draft.add_rule.Goals as goal

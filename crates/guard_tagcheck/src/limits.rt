@@ -30,13 +30,7 @@ fn is_within(ty: &Ty, depth: usize) -> bool
 fn is_tagged(tags: &[Tag], kind: &Kind) -> bool
     ensures { result ≡ is_tagged tags.now (kind_view kind.now) }
 {
-    if !tags.is_empty() {
-        return true;
-    }
-    match kind {
-        Kind::Choice(_) => true,
-        _ => false,
-    }
+    !tags.is_empty() || matches!(kind, Kind::Choice(_))
 }
 
 #[cycle(limits)]

@@ -12,7 +12,7 @@ ghost use Rattle.guard_der.specs.Der.{der};
 ghost use Rattle.guard_der.specs.Fits.{fits, descends as descending};
 ghost use Rattle.guard_der.specs.Sound.{is_sound, is_proper, is_proper_kind, are_proper, is_proper_presence};
 ghost use Rattle.guard_der.specs.Breach.{AbstractBreach, IsBreach};
-ghost use Rattle.guard_der.specs.Reading.{due_at, alone_at, component_at, end_at, element_at, untagged_at, contents_at, chosen_at, part_at, fields_at, item_alone, item_at, items_at, message_of, all_absent, set_element_at, set_at};
+ghost use Rattle.guard_der.specs.Reading.{due_at, alone_at, component_at, end_at, element_at, untagged_at, contents_at, chosen_at, part_at, fields_at, item_alone, item_at, items_at, message_of, sent_at, all_absent, set_element_at, set_at};
 ghost use Rattle.guard_der.specs.Views.{head_view, breach_of};
 
 mod set;
@@ -253,12 +253,33 @@ fn component(
         let stray = fault_at(Code::UnexpectedTag, at);
         return Ok((not_sent(alloc, presence, stray)?, 0));
     }
+    let value = sent(alloc, ty, presence, index, at, head, octets)?;
+    Ok((Some(value), head.size + head.contents))
+}
+
+/// The component at this place of the list where its element stands: its header is read, its tag accepted.
+#[cycle(reading)]
+fn sent(
+    alloc: Global,
+    ty: &Ty,
+    presence: &Presence,
+    index: u8,
+    at: usize,
+    head: Head,
+    octets: &[u8],
+) -> Result<Value, DecodeFault>
+    requires proper { IsTrue (is_proper (type_view ty.now)) }
+    requires depth { nesting (type_view ty.now) ≤ 31 }
+    requires header { head_of octets.now ≡ Ok (head_view head) }
+    requires room { at + length octets.now < 2 ^ 64 }
+    ensures { Gives value_view breach_of result (sent_at index (presence_view presence.now) (element_at (type_view ty.now)) at (head_view head) octets.now) }
+{
     match element(alloc, &ty.tags, &ty.kind, at, head, octets) {
         Ok(value) => {
             if is_left_out(presence, &value) {
                 return Err(fault_at(Code::DefaultPresent, at).below(Step::Component(index)));
             }
-            Ok((Some(value), head.size + head.contents))
+            Ok(value)
         }
         Err(fault) => Err(fault.below(Step::Component(index))),
     }
@@ -405,13 +426,6 @@ fn set_component(
     let head = header_at_front(at, octets)?;
     let place = place_of(comps, fields, before, at, head.tag)?;
     let comp = &comps[place];
-    match element(alloc, &comp.ty.tags, &comp.ty.kind, at, head, octets) {
-        Ok(value) => {
-            if is_left_out(&comp.presence, &value) {
-                return Err(fault_at(Code::DefaultPresent, at).below(Step::Component(place as u8)));
-            }
-            Ok((place, value, head))
-        }
-        Err(fault) => Err(fault.below(Step::Component(place as u8))),
-    }
+    let value = sent(alloc, &comp.ty, &comp.presence, place as u8, at, head, octets)?;
+    Ok((place, value, head))
 }

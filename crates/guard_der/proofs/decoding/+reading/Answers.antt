@@ -18,17 +18,16 @@ use Rattle.guard_der.specs.Views.{head_view, breach_of}
 use Rattle.guard_der.proofs.Numbers.Digits.{are_digits}
 use Rattle.guard_der.proofs.Headers.Offsets.{head_room, head_small}
 use Rattle.guard_der.proofs.Elements.Steps.{due_ok}
-use Rattle.guard_der.proofs.Components.OneComponent.{located_is}
+use Rattle.guard_der.proofs.Components.OneComponent.{located_is, sent_again, sent_default}
 use Rattle.guard_der.proofs.Functions.ComponentLoop.{left_proper, goes_on, refused, end_refused, is_done}
 use Rattle.guard_der.proofs.Types.Paths.{room_below, room_below_item}
 use Rattle.guard_der.proofs.Lists.Elements.{item_reads}
 use Rattle.guard_der.proofs.Functions.ElementLoop.{due_some, item_tags, item_not_due, item_not_read, item_descends, item_is_read, item_refused, items_go_on, items_refused, items_done, sequence_of_contents, set_of_contents, contents_refused, contents_read}
 use Rattle.guard_der.proofs.Functions.Decoding as decodings
-use Rattle.guard_der.proofs.Functions.Decoding.{several, whole, due_room, inner_proper, proper_inside, element_none, element_one, element_one_wrong, element_more, element_more_wrong, part_is, chosen_none, chosen_some, chosen_refused, end_ok, no_header, stray_ok, stray_refused, sent_done, default_sent, inside_refused, sequence_parts, choice_parts, choice_proper, choice_contents, choice_element, tags_element, tags_proper, tags_nesting, refuses_as, inside_room}
-use Rattle.guard_der.proofs.Sets.OneElement.{set_element_reads, set_element_default}
+use Rattle.guard_der.proofs.Functions.Decoding.{several, whole, due_room, inner_proper, proper_inside, element_none, element_one, element_one_wrong, element_more, element_more_wrong, part_is, chosen_none, chosen_some, chosen_refused, end_ok, no_header, stray_ok, stray_refused, component_ok, component_refused, sent_refused, sequence_parts, choice_parts, choice_proper, choice_contents, choice_element, tags_element, tags_proper, tags_nesting, refuses_as, inside_room}
 use Rattle.guard_der.proofs.Functions.SetFields.{field_filled}
 use Rattle.guard_der.proofs.Functions.SetLoop as set_components
-use Rattle.guard_der.proofs.Functions.SetLoop.{set_parts, set_read, set_given, set_refused, presence_is, head_size}
+use Rattle.guard_der.proofs.Functions.SetLoop.{set_parts, set_read, set_given, set_refused, sent_part, element_is_read, element_refused, head_size}
 use Rattle.guard_der.proofs.decoding.+reading.Goals as goal
 use Rattle.std.proofs.lemmas.Bool.{not-true, not-false}
 use Rattle.guard_model.proofs.ValueViews.{value_view_chosen}
@@ -162,8 +161,8 @@ pub component-returns-in_err-not_sent-clause-given : goal.component-returns-in_e
 component-returns-in_err-not_sent-clause-given t c =
     let p = err_from_is_err_and c.from_residual.result c.from_residual.ensures.1 in
     let named = c.below-missing.ensures ∙ ap (option_map (below (Component c.args.index))) c.fault_at.ensures in
-    rw (p.1, p.2) (decodings.end_refused (breach_of c.in_err-not_sent.field-0.0) c.args.index (presence_view c.args.presence.now) (begins_with (type_view c.args.ty.now)) (element_at (type_view c.args.ty.now)) c.args.at c.args.octets.now
-    (sym c.is_empty.ensures ∙ c.if-is_empty.true) (c.in_err-not_sent.ensures (missing_at c.args.index c.args.at) named))
+    rw (p.1, p.2) (decodings.end_refused c.args.index (presence_view c.args.presence.now) (begins_with (type_view c.args.ty.now)) (element_at (type_view c.args.ty.now)) c.args.at c.args.octets.now
+    (breach_of c.in_err-not_sent.field-0.0) (sym c.is_empty.ensures ∙ c.if-is_empty.true) (c.in_err-not_sent.ensures (missing_at c.args.index c.args.at) named))
 
 pub component-returns-then-is_empty-clause-given : goal.component-returns-then-is_empty-clause-given
 component-returns-then-is_empty-clause-given t c =
@@ -174,52 +173,66 @@ component-returns-then-is_empty-clause-given t c =
 pub component-returns-in_err-head-clause-given : goal.component-returns-in_err-head-clause-given
 component-returns-in_err-head-clause-given t c =
     let p = err_from_is_err_and c.from_residual-in_err-head.result c.from_residual-in_err-head.ensures.1 in
-    rw (p.1, p.2) (no_header (breach_of c.in_err-head.field-0.0) c.args.index (presence_view c.args.presence.now) (begins_with (type_view c.args.ty.now)) (element_at (type_view c.args.ty.now)) c.args.at c.args.octets.now (sym c.is_empty.ensures ∙ c.if-is_empty.false) c.in_err-head.ensures)
+    rw (p.1, p.2) (no_header c.args.index (presence_view c.args.presence.now) (begins_with (type_view c.args.ty.now)) (element_at (type_view c.args.ty.now)) c.args.at c.args.octets.now
+    (breach_of c.in_err-head.field-0.0) (sym c.is_empty.ensures ∙ c.if-is_empty.false) c.in_err-head.ensures)
 
 pub component-returns-in_err-not_sent-2-clause-given : goal.component-returns-in_err-not_sent-2-clause-given
 component-returns-in_err-not_sent-2-clause-given t c =
     let p = err_from_is_err_and c.from_residual-in_err-not_sent-2.result c.from_residual-in_err-not_sent-2.ensures.1 in
-    rw (p.1, p.2) (stray_refused (breach_of c.in_err-not_sent-2.field-0.0) c.args.index (presence_view c.args.presence.now) (begins_with (type_view c.args.ty.now)) (element_at (type_view c.args.ty.now)) c.args.at c.args.octets.now (head_view c.in_ok-head.head)
-    (sym c.is_empty.ensures ∙ c.if-is_empty.false) c.in_ok-head.ensures (sym c.begins.ensures ∙ c.if-not-begins.true) (c.in_err-not_sent-2.ensures (fault code.UnexpectedTag c.args.at) c.fault_at-stray.ensures))
+    rw (p.1, p.2) (stray_refused c.args.index (presence_view c.args.presence.now) (begins_with (type_view c.args.ty.now)) (element_at (type_view c.args.ty.now)) c.args.at c.args.octets.now (head_view c.in_ok-head.head)
+    (sym c.is_empty.ensures ∙ c.if-is_empty.false) c.in_ok-head.ensures (breach_of c.in_err-not_sent-2.field-0.0) (sym c.begins.ensures ∙ c.if-not-begins.true) (c.in_err-not_sent-2.ensures (fault code.UnexpectedTag c.args.at) c.fault_at-stray.ensures))
 
 pub component-returns-then-not-begins-clause-given : goal.component-returns-then-not-begins-clause-given
 component-returns-then-not-begins-clause-given t c =
-    stray_ok c.args.index (presence_view c.args.presence.now) (begins_with (type_view c.args.ty.now)) (element_at (type_view c.args.ty.now)) c.args.at c.args.octets.now (head_view c.in_ok-head.head) (field_view c.in_ok-not_sent-2.field-0)
-    (sym c.is_empty.ensures ∙ c.if-is_empty.false) c.in_ok-head.ensures (sym c.begins.ensures ∙ c.if-not-begins.true) (c.in_ok-not_sent-2.ensures (fault code.UnexpectedTag c.args.at) c.fault_at-stray.ensures)
+    stray_ok c.args.index (presence_view c.args.presence.now) (begins_with (type_view c.args.ty.now)) (element_at (type_view c.args.ty.now)) c.args.at c.args.octets.now (head_view c.in_ok-head.head)
+    (sym c.is_empty.ensures ∙ c.if-is_empty.false) c.in_ok-head.ensures (field_view c.in_ok-not_sent-2.field-0) (sym c.begins.ensures ∙ c.if-not-begins.true) (c.in_ok-not_sent-2.ensures (fault code.UnexpectedTag c.args.at) c.fault_at-stray.ensures)
 
-pub component-element-requires : goal.component-element-requires
-component-element-requires t c =
-    let n = tags_nesting c.args.ty.now c.deref.result.now c.deref.ensures.value in
-    (omega (arith, n), (tags_proper c.args.ty.now c.deref.result.now c.deref.ensures.value c.requires.proper, (omega (arith, n, c.requires.depth), (located_is c.args.at (head_of c.args.octets.now) (head_view c.in_ok-head.head) c.in_ok-head.ensures, c.requires.room))))
+pub component-sent-requires : goal.component-sent-requires
+component-sent-requires t c = (omega arith, (c.requires.proper, (c.requires.depth, (located_is c.args.at (head_of c.args.octets.now) (head_view c.in_ok-head.head) c.in_ok-head.ensures, c.requires.room))))
 
-pub component-returns-then-is_left_out-clause-given : goal.component-returns-then-is_left_out-clause-given
-component-returns-then-is_left_out-clause-given t c =
-    let read = tags_element c.args.ty.now c.deref.result.now c.args.at (head_view c.in_ok-head.head) c.args.octets.now c.deref.ensures.value ∙ c.in-Ok.ensures in
-    rw (c.below.ensures, c.fault_at-then-is_left_out.ensures) (default_sent c.args.index (presence_view c.args.presence.now) (begins_with (type_view c.args.ty.now)) (element_at (type_view c.args.ty.now)) c.args.at c.args.octets.now (head_view c.in_ok-head.head) (value_view c.in-Ok.value)
-    (sym c.is_empty.ensures ∙ c.if-is_empty.false) c.in_ok-head.ensures (sym c.begins.ensures ∙ c.if-not-begins.false) read (sym c.is_left_out.ensures ∙ c.if-is_left_out.true))
+pub component-returns-in_err-value-clause-given : goal.component-returns-in_err-value-clause-given
+component-returns-in_err-value-clause-given t c =
+    let p = err_from_is_err_and c.from_residual-in_err-value.result c.from_residual-in_err-value.ensures.1 in
+    rw (p.1, p.2) (component_refused c.args.index (presence_view c.args.presence.now) (begins_with (type_view c.args.ty.now)) (element_at (type_view c.args.ty.now)) c.args.at c.args.octets.now (head_view c.in_ok-head.head)
+    (sym c.is_empty.ensures ∙ c.if-is_empty.false) c.in_ok-head.ensures (breach_of c.in_err-value.field-0.0) (sym c.begins.ensures ∙ c.if-not-begins.false) c.in_err-value.ensures)
 
 pub component-overflow_add-result : goal.component-overflow_add-result
 component-overflow_add-result t c = omega (arith, c.requires.room, head_room c.args.octets.now (head_view c.in_ok-head.head) (are_digits 256 c.args.octets.now (λ i _. omega (arith, c.type_inv.octets i))) (located_is c.args.at (head_of c.args.octets.now) (head_view c.in_ok-head.head) c.in_ok-head.ensures))
 
-pub component-below-requires-in-Err : goal.component-below-requires-in-Err
-component-below-requires-in-Err t c =
-    room_below (breach_of c.in-Err.fault) (whole c.deref.result.now (kind_view (out-Ty c.args.ty.now).kind)) c.args.at (head_view c.in_ok-head.head) c.args.octets.now (tags_proper c.args.ty.now c.deref.result.now c.deref.ensures.value c.requires.proper)
+pub component-returns-clause-within : goal.component-returns-clause-within
+component-returns-clause-within t c = head_room c.args.octets.now (head_view c.in_ok-head.head) (are_digits 256 c.args.octets.now (λ i _. omega (arith, c.type_inv.octets i))) (located_is c.args.at (head_of c.args.octets.now) (head_view c.in_ok-head.head) c.in_ok-head.ensures)
+
+pub component-returns-clause-given : goal.component-returns-clause-given
+component-returns-clause-given t c =
+    component_ok c.args.index (presence_view c.args.presence.now) (begins_with (type_view c.args.ty.now)) (element_at (type_view c.args.ty.now)) c.args.at c.args.octets.now (head_view c.in_ok-head.head)
+    (sym c.is_empty.ensures ∙ c.if-is_empty.false) c.in_ok-head.ensures (value_view c.in_ok-value.value) (sym c.begins.ensures ∙ c.if-not-begins.false) c.in_ok-value.ensures
+
+-- ---- a component that is sent
+
+pub sent-element-requires : goal.sent-element-requires
+sent-element-requires t c =
+    let n = tags_nesting c.args.ty.now c.deref.result.now c.deref.ensures.value in
+    (omega (arith, n), (tags_proper c.args.ty.now c.deref.result.now c.deref.ensures.value c.requires.proper, (omega (arith, n, c.requires.depth), (c.requires.header, c.requires.room))))
+
+pub sent-returns-then-is_left_out : goal.sent-returns-then-is_left_out
+sent-returns-then-is_left_out t c =
+    let read = tags_element c.args.ty.now c.deref.result.now c.args.at (head_view c.args.head) c.args.octets.now c.deref.ensures.value ∙ c.in-Ok.ensures in
+    rw (c.below.ensures, c.fault_at.ensures) (sent_default c.args.index (presence_view c.args.presence.now) (element_at (type_view c.args.ty.now)) c.args.at (head_view c.args.head) c.args.octets.now (value_view c.in-Ok.value) read (sym c.is_left_out.ensures ∙ c.if-is_left_out.true))
+
+pub sent-returns-else-is_left_out : goal.sent-returns-else-is_left_out
+sent-returns-else-is_left_out t c =
+    let read = tags_element c.args.ty.now c.deref.result.now c.args.at (head_view c.args.head) c.args.octets.now c.deref.ensures.value ∙ c.in-Ok.ensures in
+    sent_again c.args.index (presence_view c.args.presence.now) (element_at (type_view c.args.ty.now)) c.args.at (head_view c.args.head) c.args.octets.now (value_view c.in-Ok.value) read (sym c.is_left_out.ensures ∙ c.if-is_left_out.false)
+
+pub sent-below-requires-in-Err : goal.sent-below-requires-in-Err
+sent-below-requires-in-Err t c =
+    room_below (breach_of c.in-Err.fault) (whole c.deref.result.now (kind_view (out-Ty c.args.ty.now).kind)) c.args.at (head_view c.args.head) c.args.octets.now (tags_proper c.args.ty.now c.deref.result.now c.deref.ensures.value c.requires.proper)
     (omega (arith, tags_nesting c.args.ty.now c.deref.result.now c.deref.ensures.value, c.requires.depth)) c.in-Err.ensures
 
-pub component-returns-else-is_left_out-clause-within : goal.component-returns-else-is_left_out-clause-within
-component-returns-else-is_left_out-clause-within t c = head_room c.args.octets.now (head_view c.in_ok-head.head) (are_digits 256 c.args.octets.now (λ i _. omega (arith, c.type_inv.octets i))) (located_is c.args.at (head_of c.args.octets.now) (head_view c.in_ok-head.head) c.in_ok-head.ensures)
-
-pub component-returns-else-is_left_out-clause-given : goal.component-returns-else-is_left_out-clause-given
-component-returns-else-is_left_out-clause-given t c =
-    let read = tags_element c.args.ty.now c.deref.result.now c.args.at (head_view c.in_ok-head.head) c.args.octets.now c.deref.ensures.value ∙ c.in-Ok.ensures in
-    sent_done c.args.index (presence_view c.args.presence.now) (begins_with (type_view c.args.ty.now)) (element_at (type_view c.args.ty.now)) c.args.at c.args.octets.now (head_view c.in_ok-head.head) (value_view c.in-Ok.value)
-    (sym c.is_empty.ensures ∙ c.if-is_empty.false) c.in_ok-head.ensures (sym c.begins.ensures ∙ c.if-not-begins.false) read (sym c.is_left_out.ensures ∙ c.if-is_left_out.false)
-
-pub component-returns-in-Err-clause-given : goal.component-returns-in-Err-clause-given
-component-returns-in-Err-clause-given t c =
-    let same = tags_element c.args.ty.now c.deref.result.now c.args.at (head_view c.in_ok-head.head) c.args.octets.now c.deref.ensures.value in
-    rw c.below-in-Err.ensures (inside_refused (breach_of c.in-Err.fault) c.args.index (presence_view c.args.presence.now) (begins_with (type_view c.args.ty.now)) (element_at (type_view c.args.ty.now)) c.args.at c.args.octets.now (head_view c.in_ok-head.head)
-    (sym c.is_empty.ensures ∙ c.if-is_empty.false) c.in_ok-head.ensures (sym c.begins.ensures ∙ c.if-not-begins.false) (refuses_as (breach_of c.in-Err.fault) _ _ same c.in-Err.ensures))
+pub sent-returns-in-Err : goal.sent-returns-in-Err
+sent-returns-in-Err t c =
+    let same = tags_element c.args.ty.now c.deref.result.now c.args.at (head_view c.args.head) c.args.octets.now c.deref.ensures.value in
+    rw c.below-in-Err.ensures (sent_refused c.args.index (presence_view c.args.presence.now) (element_at (type_view c.args.ty.now)) c.args.at (head_view c.args.head) c.args.octets.now (breach_of c.in-Err.fault) (refuses_as (breach_of c.in-Err.fault) _ _ same c.in-Err.ensures))
 
 -- ---- components
 
@@ -404,59 +417,32 @@ set_component-returns-in_err-place-clause-given t c =
     let cs = in_view c.args.comps.now in
     rw (p.1, p.2) (set_components.no_place (breach_of c.in_err-place.field-0.0) cs (part_at cs) (fields_view c.args.fields.now) c.args.before c.args.at c.args.octets.now (head_view c.in_ok-head.head) c.in_ok-head.ensures c.in_err-place.ensures.given)
 
-pub set_component-element-requires : goal.set_component-element-requires
-set_component-element-requires t c =
-    let ty = (out-Comp c.index-comps-place.result).ty in
+pub set_component-sent-requires : goal.set_component-sent-requires
+set_component-sent-requires t c =
     let p = part_is c.args.comps.now c.in_ok-place.place c.index-comps-place.result c.in_ok-place.ensures.within c.index-comps-place.is c.requires.proper in
-    let n = tags_nesting ty c.deref.result.now c.deref.ensures.value in
-    (omega (arith, n, p.1), (tags_proper ty c.deref.result.now c.deref.ensures.value p.0, (omega (arith, n, p.1, c.requires.depth), (located_is c.args.at (head_of c.args.octets.now) (head_view c.in_ok-head.head) c.in_ok-head.ensures, c.requires.room))))
+    (omega (arith, p.1), (p.0, (omega (arith, p.1, c.requires.depth), (located_is c.args.at (head_of c.args.octets.now) (head_view c.in_ok-head.head) c.in_ok-head.ensures, c.requires.room))))
 
-pub set_component-returns-then-is_left_out-clause-given : goal.set_component-returns-then-is_left_out-clause-given
-set_component-returns-then-is_left_out-clause-given t c =
-    let comp = c.index-comps-place.result in
+pub set_component-returns-in_err-value-clause-given : goal.set_component-returns-in_err-value-clause-given
+set_component-returns-in_err-value-clause-given t c =
+    let q = err_from_is_err_and c.from_residual-in_err-value.result c.from_residual-in_err-value.ensures.1 in
     let cs = in_view c.args.comps.now in
     let h = head_view c.in_ok-head.head in
-    let p = part_is c.args.comps.now c.in_ok-place.place comp c.in_ok-place.ensures.within c.index-comps-place.is c.requires.proper in
-    let read = p.2 c.args.at h c.args.octets.now ∙ tags_element (out-Comp comp).ty c.deref.result.now c.args.at h c.args.octets.now c.deref.ensures.value ∙ c.in-Ok.ensures in
-    let presence = presence_is c.args.comps.now c.in_ok-place.place comp c.in_ok-place.ensures.within c.index-comps-place.is in
-    let left = ap (λ p. left_out p (value_view c.in-Ok.value)) presence ∙ sym c.is_left_out.ensures ∙ c.if-is_left_out.true in
-    rw (c.below.ensures, c.fault_at.ensures) (set_element_default cs (part_at cs) (fields_view c.args.fields.now) c.args.before c.args.at c.args.octets.now h c.in_ok-place.place (value_view c.in-Ok.value)
-    (located_is c.args.at (head_of c.args.octets.now) h c.in_ok-head.ensures) c.in_ok-place.ensures.given read left)
+    let same = sent_part c.args.comps.now c.in_ok-place.place c.index-comps-place.result c.args.at h c.args.octets.now c.in_ok-place.ensures.within c.index-comps-place.is c.requires.proper in
+    rw (q.1, q.2) (element_refused cs (part_at cs) (fields_view c.args.fields.now) c.args.before c.args.at c.args.octets.now h c.in_ok-place.place c.in_ok-head.ensures c.in_ok-place.ensures.given
+    (breach_of c.in_err-value.field-0.0) (refuses_as (breach_of c.in_err-value.field-0.0) _ _ same c.in_err-value.ensures))
 
-pub set_component-below-requires-in-Err : goal.set_component-below-requires-in-Err
-set_component-below-requires-in-Err t c =
-    let ty = (out-Comp c.index-comps-place.result).ty in
-    let p = part_is c.args.comps.now c.in_ok-place.place c.index-comps-place.result c.in_ok-place.ensures.within c.index-comps-place.is c.requires.proper in
-    room_below (breach_of c.in-Err.fault) (whole c.deref.result.now (kind_view (out-Ty ty).kind)) c.args.at (head_view c.in_ok-head.head) c.args.octets.now (tags_proper ty c.deref.result.now c.deref.ensures.value p.0)
-    (omega (arith, tags_nesting ty c.deref.result.now c.deref.ensures.value, p.1, c.requires.depth)) c.in-Err.ensures
+pub set_component-returns-clause-some : goal.set_component-returns-clause-some
+set_component-returns-clause-some t c = head_size c.args.octets.now (head_view c.in_ok-head.head) (are_digits 256 c.args.octets.now (λ i _. omega (arith, c.type_inv.octets i))) (located_is c.args.at (head_of c.args.octets.now) (head_view c.in_ok-head.head) c.in_ok-head.ensures)
 
-pub set_component-returns-else-is_left_out-clause-some : goal.set_component-returns-else-is_left_out-clause-some
-set_component-returns-else-is_left_out-clause-some t c = head_size c.args.octets.now (head_view c.in_ok-head.head) (are_digits 256 c.args.octets.now (λ i _. omega (arith, c.type_inv.octets i))) (located_is c.args.at (head_of c.args.octets.now) (head_view c.in_ok-head.head) c.in_ok-head.ensures)
+pub set_component-returns-clause-within : goal.set_component-returns-clause-within
+set_component-returns-clause-within t c = head_room c.args.octets.now (head_view c.in_ok-head.head) (are_digits 256 c.args.octets.now (λ i _. omega (arith, c.type_inv.octets i))) (located_is c.args.at (head_of c.args.octets.now) (head_view c.in_ok-head.head) c.in_ok-head.ensures)
 
-pub set_component-returns-else-is_left_out-clause-within : goal.set_component-returns-else-is_left_out-clause-within
-set_component-returns-else-is_left_out-clause-within t c = head_room c.args.octets.now (head_view c.in_ok-head.head) (are_digits 256 c.args.octets.now (λ i _. omega (arith, c.type_inv.octets i))) (located_is c.args.at (head_of c.args.octets.now) (head_view c.in_ok-head.head) c.in_ok-head.ensures)
-
-pub set_component-returns-else-is_left_out-clause-given : goal.set_component-returns-else-is_left_out-clause-given
-set_component-returns-else-is_left_out-clause-given t c =
-    let comp = c.index-comps-place.result in
+pub set_component-returns-clause-given : goal.set_component-returns-clause-given
+set_component-returns-clause-given t c =
     let cs = in_view c.args.comps.now in
     let h = head_view c.in_ok-head.head in
-    let p = part_is c.args.comps.now c.in_ok-place.place comp c.in_ok-place.ensures.within c.index-comps-place.is c.requires.proper in
-    let read = p.2 c.args.at h c.args.octets.now ∙ tags_element (out-Comp comp).ty c.deref.result.now c.args.at h c.args.octets.now c.deref.ensures.value ∙ c.in-Ok.ensures in
-    let presence = presence_is c.args.comps.now c.in_ok-place.place comp c.in_ok-place.ensures.within c.index-comps-place.is in
-    let kept = ap (λ p. left_out p (value_view c.in-Ok.value)) presence ∙ sym c.is_left_out.ensures ∙ c.if-is_left_out.false in
-    set_element_reads cs (part_at cs) (fields_view c.args.fields.now) c.args.before c.args.at c.args.octets.now h c.in_ok-place.place (value_view c.in-Ok.value)
-    (located_is c.args.at (head_of c.args.octets.now) h c.in_ok-head.ensures) c.in_ok-place.ensures.given read kept
-
-pub set_component-returns-in-Err-clause-given : goal.set_component-returns-in-Err-clause-given
-set_component-returns-in-Err-clause-given t c =
-    let comp = c.index-comps-place.result in
-    let cs = in_view c.args.comps.now in
-    let h = head_view c.in_ok-head.head in
-    let p = part_is c.args.comps.now c.in_ok-place.place comp c.in_ok-place.ensures.within c.index-comps-place.is c.requires.proper in
-    let same = p.2 c.args.at h c.args.octets.now ∙ tags_element (out-Comp comp).ty c.deref.result.now c.args.at h c.args.octets.now c.deref.ensures.value in
-    rw c.below-in-Err.ensures (set_components.no_value (breach_of c.in-Err.fault) cs (part_at cs) (fields_view c.args.fields.now) c.args.before c.args.at c.args.octets.now h c.in_ok-place.place
-    c.in_ok-head.ensures c.in_ok-place.ensures.given (refuses_as (breach_of c.in-Err.fault) _ _ same c.in-Err.ensures))
+    let same = sent_part c.args.comps.now c.in_ok-place.place c.index-comps-place.result c.args.at h c.args.octets.now c.in_ok-place.ensures.within c.index-comps-place.is c.requires.proper in
+    element_is_read cs (part_at cs) (fields_view c.args.fields.now) c.args.before c.args.at c.args.octets.now h c.in_ok-place.place c.in_ok-head.ensures c.in_ok-place.ensures.given (value_view c.in_ok-value.value) (same ∙ c.in_ok-value.ensures)
 
 pub set_components-returns-in_err-place : goal.set_components-returns-in_err-place
 set_components-returns-in_err-place t c =

@@ -48,10 +48,13 @@ abbrev pub decreases-contents : goal.decreases-contents
 decreases-contents l = 8 * nesting_inside (kind_view l.kind.now) + 7
 
 abbrev pub decreases-components : goal.decreases-components
-decreases-components l = 8 * deepest (components_of (map component_view l.comps.now)) + 5
+decreases-components l = 8 * deepest (components_of (map component_view l.comps.now)) + 6
 
 abbrev pub decreases-component : goal.decreases-component
-decreases-component l = 8 * nesting (type_view l.ty.now) + 4
+decreases-component l = 8 * nesting (type_view l.ty.now) + 5
+
+abbrev pub decreases-sent : goal.decreases-sent
+decreases-sent l = 8 * nesting (type_view l.ty.now) + 4
 
 abbrev pub decreases-items : goal.decreases-items
 decreases-items l = 8 * nesting (type_view l.ty.now) + 6
@@ -73,7 +76,7 @@ abbrev pub decreases-set_components-loop-rest : goal.decreases-set_components-lo
 decreases-set_components-loop-rest l = length l.rest
 
 abbrev pub decreases-set_components : goal.decreases-set_components
-decreases-set_components l = 8 * deepest (components_of (map component_view l.comps.now)) + 5
+decreases-set_components l = 8 * deepest (components_of (map component_view l.comps.now)) + 6
 
 abbrev pub decreases-set_component : goal.decreases-set_component
-decreases-set_component l = 8 * deepest (components_of (map component_view l.comps.now)) + 4
+decreases-set_component l = 8 * deepest (components_of (map component_view l.comps.now)) + 5

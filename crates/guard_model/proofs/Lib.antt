@@ -11,4 +11,4 @@ pub mod Components
 -- ---- equality of values and of types
 pub mod Sameness
 pub mod SameTypes
-mod Lengths
+mod DifferentLengths

@@ -167,8 +167,8 @@ placed_at cs fs before at tag = elim (one_with 0 cs tag) [
 ]
 
 -- the element of a component: its place, its value, its header
-unfoldable pub member_at : Components → (ℕ → Reader) → Fields → Option Tag → ℕ → List ℕ → Result (ℕ × AbstractValue × Head) AbstractBreach
-member_at cs read fs before at octets =
+unfoldable pub set_element_at : Components → (ℕ → Reader) → Fields → Option Tag → ℕ → List ℕ → Result (ℕ × AbstractValue × Head) AbstractBreach
+set_element_at cs read fs before at octets =
     located at (head_of octets) >>= λ h. placed_at cs fs before at h.tag >>= λ j.
     sent_at j (presence_at j cs) (read j) at h octets >>= λ v. Ok (j, v, h)
 
@@ -188,7 +188,7 @@ unfoldable pub set_at : ℕ → Components → (ℕ → Reader) → Fields → O
 set_at tries cs read fs before at [] = completed 0 cs fs at
 set_at zero cs read fs before at (o ∷ os) = Err (fault code.UnexpectedTag at)
 set_at (suc tries) cs read fs before at (o ∷ os) =
-    member_at cs read fs before at (o ∷ os) >>= λ x.
+    set_element_at cs read fs before at (o ∷ os) >>= λ x.
     set_at tries cs read (fill x.0 x.1 fs) (Some x.2.tag) (at + (x.2.size + x.2.contents)) (drop (x.2.size + x.2.contents) (o ∷ os))
 
 -- ---- elements of an OF type

@@ -12,14 +12,14 @@ ghost use Rattle.guard_der.specs.Der.{der};
 ghost use Rattle.guard_der.specs.Fits.{fits, descends as descending};
 ghost use Rattle.guard_der.specs.Sound.{is_sound, is_proper, is_proper_kind, are_proper, is_proper_presence};
 ghost use Rattle.guard_der.specs.Breach.{AbstractBreach, IsBreach};
-ghost use Rattle.guard_der.specs.Reading.{due_at, alone_at, component_at, end_at, element_at, untagged_at, contents_at, chosen_at, part_at, fields_at, item_alone, item_at, items_at, message_of, all_absent, member_at, set_at};
+ghost use Rattle.guard_der.specs.Reading.{due_at, alone_at, component_at, end_at, element_at, untagged_at, contents_at, chosen_at, part_at, fields_at, item_alone, item_at, items_at, message_of, sent_at, all_absent, set_element_at, set_at};
 ghost use Rattle.guard_der.specs.Views.{head_view, breach_of};
 
 mod set;
 
 use crate::breach::{Code, DecodeFault};
 use crate::contents::value_of_simple;
-use crate::decoding::set::{completed, empty_slots, place_of, put};
+use crate::decoding::set::{completed, absent_fields, place_of, put};
 use crate::faults::{end, fault_at, header_at_front, wrong_form};
 use crate::fitting::ascending::descends;
 use crate::forms::{is_constructed, is_form};
@@ -190,7 +190,7 @@ fn contents(
 {
     match kind {
         Kind::Sequence(comps) => Ok(Value::Fields(components(alloc, comps, start, octets)?)),
-        Kind::Set(comps) => Ok(Value::Fields(members(alloc, comps, start, octets)?)),
+        Kind::Set(comps) => Ok(Value::Fields(set_components(alloc, comps, start, octets)?)),
         Kind::Choice(_) => alone(alloc, &[], kind, start, octets),
         Kind::SequenceOf(element) => {
             Ok(Value::Items(items(alloc, element, false, start, octets)?))
@@ -253,12 +253,33 @@ fn component(
         let stray = fault_at(Code::UnexpectedTag, at);
         return Ok((not_sent(alloc, presence, stray)?, 0));
     }
+    let value = sent(alloc, ty, presence, index, at, head, octets)?;
+    Ok((Some(value), head.size + head.contents))
+}
+
+/// The component at this place of the list where its element stands: its header is read, its tag accepted.
+#[cycle(reading)]
+fn sent(
+    alloc: Global,
+    ty: &Ty,
+    presence: &Presence,
+    index: u8,
+    at: usize,
+    head: Head,
+    octets: &[u8],
+) -> Result<Value, DecodeFault>
+    requires proper { IsTrue (is_proper (type_view ty.now)) }
+    requires depth { nesting (type_view ty.now) ≤ 31 }
+    requires header { head_of octets.now ≡ Ok (head_view head) }
+    requires room { at + length octets.now < 2 ^ 64 }
+    ensures { Gives value_view breach_of result (sent_at index (presence_view presence.now) (element_at (type_view ty.now)) at (head_view head) octets.now) }
+{
     match element(alloc, &ty.tags, &ty.kind, at, head, octets) {
         Ok(value) => {
             if is_left_out(presence, &value) {
                 return Err(fault_at(Code::DefaultPresent, at).below(Step::Component(index)));
             }
-            Ok((Some(value), head.size + head.contents))
+            Ok(value)
         }
         Err(fault) => Err(fault.below(Step::Component(index))),
     }
@@ -354,7 +375,7 @@ fn is_out_of_order(ordered: bool, before: &[u8], octets: &[u8]) -> bool
 
 /// The components of a SET, all of the octets.
 #[cycle(reading)]
-fn members(
+fn set_components(
     alloc: Global,
     comps: &[Comp],
     start: usize,
@@ -366,28 +387,28 @@ fn members(
     requires room { start + length octets.now < 2 ^ 64 }
     ensures { Gives (λ v. fields_view v.items) breach_of result (set_at (length octets.now) (components_of (map component_view comps.now)) (part_at (components_of (map component_view comps.now))) (all_absent (components_of (map component_view comps.now))) None start octets.now) }
 {
-    let mut slots = empty_slots(alloc, comps)?;
+    let mut fields = absent_fields(alloc, comps)?;
     let mut before = None;
     let mut at = start;
     let mut rest = octets;
     while !rest.is_empty() {
-        let (place, value, head) = member(alloc, comps, &slots, before, at, rest)?;
+        let (place, value, head) = set_component(alloc, comps, &fields, before, at, rest)?;
         let size = head.size + head.contents;
-        put(&mut slots, place, Some(value));
+        put(&mut fields, place, Some(value));
         before = Some(head.tag);
         let (_, behind) = rest.split_at(size);
         at += size;
         rest = behind;
     }
-    completed(alloc, comps, slots, at)
+    completed(alloc, comps, fields, at)
 }
 
 /// The element of a component of a SET: its place in the list, its value, its header.
 #[cycle(reading)]
-fn member(
+fn set_component(
     alloc: Global,
     comps: &[Comp],
-    slots: &[Option<Value>],
+    fields: &[Option<Value>],
     before: Option<Tag>,
     at: usize,
     octets: &[u8],
@@ -395,23 +416,16 @@ fn member(
     requires proper { IsTrue (are_proper (components_of (map component_view comps.now))) }
     requires few { length comps.now ≤ 64 }
     requires depth { deepest (components_of (map component_view comps.now)) ≤ 31 }
-    requires slots { length slots.now ≡ length comps.now }
+    requires fields { length fields.now ≡ length comps.now }
     requires room { at + length octets.now < 2 ^ 64 }
     ensures place { IfOk result (λ x. x.0 < length comps.now) }
     ensures some { IfOk result (λ x. 1 ≤ x.2.size) }
     ensures within { IfOk result (λ x. x.2.size + x.2.contents ≤ length octets.now) }
-    ensures given { Gives (λ x. (x.0, value_view x.1, head_view x.2)) breach_of result (member_at (components_of (map component_view comps.now)) (part_at (components_of (map component_view comps.now))) (fields_view slots.now) before at octets.now) }
+    ensures given { Gives (λ x. (x.0, value_view x.1, head_view x.2)) breach_of result (set_element_at (components_of (map component_view comps.now)) (part_at (components_of (map component_view comps.now))) (fields_view fields.now) before at octets.now) }
 {
     let head = header_at_front(at, octets)?;
-    let place = place_of(comps, slots, before, at, head.tag)?;
+    let place = place_of(comps, fields, before, at, head.tag)?;
     let comp = &comps[place];
-    match element(alloc, &comp.ty.tags, &comp.ty.kind, at, head, octets) {
-        Ok(value) => {
-            if is_left_out(&comp.presence, &value) {
-                return Err(fault_at(Code::DefaultPresent, at).below(Step::Component(place as u8)));
-            }
-            Ok((place, value, head))
-        }
-        Err(fault) => Err(fault.below(Step::Component(place as u8))),
-    }
+    let value = sent(alloc, &comp.ty, &comp.presence, place as u8, at, head, octets)?;
+    Ok((place, value, head))
 }

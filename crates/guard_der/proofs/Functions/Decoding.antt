@@ -31,15 +31,16 @@ use Rattle.guard_der.specs.Head.{Head, head_of}
 use Rattle.guard_der.specs.Der.{is_constructed, is_left_out}
 use Rattle.guard_der.specs.Sound.{is_proper, is_proper_kind, are_proper, is_proper_presence, all_apply}
 use Rattle.guard_der.specs.Breach.{AbstractBreach, one_with, below}
-use Rattle.guard_der.specs.Reading.{Reader, due_at, element_at, untagged_at, contents_at, part_at, chosen_at, alone_at, tags_at, framed, message_of, component_at, sent_at, not_sent, missing_at, fault, located, same_form}
+use Rattle.guard_der.specs.Reading.{Reader, due_at, element_at, untagged_at, contents_at, part_at, chosen_at, alone_at, tags_at, framed, message_of, component_at, sent_at, not_sent, missing_at, inside, fault, located, same_form}
 use Rattle.guard_der.proofs.Elements.Steps.{due_ok}
 use Rattle.guard_der.proofs.Numbers.Digits.{AreDigits}
 use Rattle.guard_der.proofs.Headers.Offsets.{head_room}
-use Rattle.guard_der.proofs.Components.OneComponent.{sent_again, sent_fails, sent_default}
+use Rattle.guard_der.proofs.Components.OneComponent.{sent_fails}
 use Rattle.guard_der.proofs.Types.Choice.{chosen_is, chosen_reads, chosen_fails}
 use Rattle.guard_model.specs.Counts.{component_count}
 use Rattle.guard_model.proofs.TypeViews.{type_view_is, component_view_is, kind_view_sequence, kind_view_choice}
 use Rattle.guard_model.proofs.Components.{component_count_is, in_view}
+use Rattle.guard_model.proofs.Results.{refuses_bind}
 
 abbrev pub whole : List Tag → AbstractKind → AbstractType
 whole tags kind = type_of tags kind no_constraints
@@ -194,83 +195,78 @@ pub chosen_refused : (f : Option AbstractBreach) (cs : Components) (j at : ℕ) 
 chosen_refused None cs j at h os found e = tt
 chosen_refused (Some b) cs j at h os found e = chosen_is cs (part_at cs) at h os (Some j) found ∙ chosen_fails (part_at cs) j at h os b e
 
+pub refuses_as : {A : Type 0} (f : Option AbstractBreach) (r s : Result A AbstractBreach) → r ≡ s → Refuses f s → Refuses f r
+refuses_as {A} f r s e refused = subst (λ (x : Result A AbstractBreach). Refuses f x) (sym e) refused
+
+-- ---- an element that is sent
+
+module _ (i : ℕ) (presence : AbstractPresence) (read : Reader) (at : ℕ) (h : Head) (os : List ℕ) where
+  pub sent_refused : (b : Option AbstractBreach) → Refuses b (read at h os) → Refuses (below_if (Component i) b) (sent_at i presence read at h os)
+  sent_refused None e = tt
+  sent_refused (Some b) e = sent_fails i presence read at h os b e
+
+  -- whichever way it is read
+  pub sent_alike : (other : Reader) → read at h os ≡ other at h os → sent_at i presence read at h os ≡ sent_at i presence other at h os
+  unfolding sent_at
+  sent_alike other e = ap (λ (r : Result AbstractValue AbstractBreach). inside (Component i) (r >>= λ v. cond (is_left_out presence v) (Err (fault code.DefaultPresent at)) (Ok v))) e
+
 -- ---- one component
 
-abbrev pub headed : ℕ → AbstractPresence → (Tag → Bool) → Reader → ℕ → List ℕ → Head → Result (Option AbstractValue × ℕ) AbstractBreach
+abbrev pub OneRead : Type 0
+OneRead = Result (Option AbstractValue × ℕ) AbstractBreach
+
+-- behind its header
+abbrev pub headed : ℕ → AbstractPresence → (Tag → Bool) → Reader → ℕ → List ℕ → Head → OneRead
 headed i presence wanted read at os h =
     cond (wanted h.tag)
     (sent_at i presence read at h os >>= λ v. Ok (Some v, h.size + h.contents))
     (not_sent presence (fault code.UnexpectedTag at) >>= λ f. Ok (f, 0))
 
-pub at_end : (i : ℕ) (presence : AbstractPresence) (wanted : Tag → Bool) (read : Reader) (at : ℕ) (os : List ℕ) → eqb (length os) 0 ≡ true → component_at i presence wanted read at os ≡ (not_sent presence (missing_at i at) >>= λ f. Ok (f, 0))
+at_end : (i : ℕ) (presence : AbstractPresence) (wanted : Tag → Bool) (read : Reader) (at : ℕ) (os : List ℕ) → eqb (length os) 0 ≡ true → component_at i presence wanted read at os ≡ (not_sent presence (missing_at i at) >>= λ f. Ok (f, 0))
 unfolding component_at
 at_end i presence wanted read at [] e = refl
 at_end i presence wanted read at (o ∷ os) e = absurd (omega (arith, eqb-true (length (o ∷ os)) 0 e))
 
-pub at_header : (i : ℕ) (presence : AbstractPresence) (wanted : Tag → Bool) (read : Reader) (at : ℕ) (os : List ℕ) → eqb (length os) 0 ≡ false
+at_header : (i : ℕ) (presence : AbstractPresence) (wanted : Tag → Bool) (read : Reader) (at : ℕ) (os : List ℕ) → eqb (length os) 0 ≡ false
     → component_at i presence wanted read at os ≡ (located at (head_of os) >>= λ h. headed i presence wanted read at os h)
 unfolding component_at
 at_header i presence wanted read at [] e = absurd cc
 at_header i presence wanted read at (o ∷ os) e = refl
 
-abbrev pub OneRead : Type 0
-OneRead = Result (Option AbstractValue × ℕ) AbstractBreach
-
 unsent_ok : (r : Result (Option AbstractValue) AbstractBreach) (f : Option AbstractValue) → r ≡ Ok f → ◌≡◌ {A = OneRead} (r >>= λ f. Ok (f, 0)) (Ok (f, 0))
 unsent_ok r f e = rw e refl
 
-unsent_refused : (b : Option AbstractBreach) (r : Result (Option AbstractValue) AbstractBreach) → Refuses b r → Refuses {Y = Option AbstractValue × ℕ} b (r >>= λ f. Ok (f, 0))
-unsent_refused None r e = tt
-unsent_refused (Some b) r e = rw e refl
+module _ (i : ℕ) (presence : AbstractPresence) (wanted : Tag → Bool) (read : Reader) (at : ℕ) (os : List ℕ) where
+  pub end_ok : (f : Option AbstractValue) → eqb (length os) 0 ≡ true → not_sent presence (missing_at i at) ≡ Ok f → component_at i presence wanted read at os ≡ Ok (f, 0)
+  end_ok f none e = at_end i presence wanted read at os none ∙ unsent_ok (not_sent presence (missing_at i at)) f e
 
-pub end_ok : (i : ℕ) (presence : AbstractPresence) (wanted : Tag → Bool) (read : Reader) (at : ℕ) (os : List ℕ) (f : Option AbstractValue) → eqb (length os) 0 ≡ true → not_sent presence (missing_at i at) ≡ Ok f → component_at i presence wanted read at os ≡ Ok (f, 0)
-end_ok i presence wanted read at os f none e = at_end i presence wanted read at os none ∙ unsent_ok (not_sent presence (missing_at i at)) f e
+  pub end_refused : (b : Option AbstractBreach) → eqb (length os) 0 ≡ true → Refuses b (not_sent presence (missing_at i at)) → Refuses b (component_at i presence wanted read at os)
+  end_refused b none e = refuses_as b _ _ (at_end i presence wanted read at os none) (refuses_bind b (not_sent presence (missing_at i at)) (λ f. Ok (f, 0)) e)
 
-pub end_refused : (b : Option AbstractBreach) (i : ℕ) (presence : AbstractPresence) (wanted : Tag → Bool) (read : Reader) (at : ℕ) (os : List ℕ) → eqb (length os) 0 ≡ true → Refuses b (not_sent presence (missing_at i at)) → Refuses b (component_at i presence wanted read at os)
-end_refused b i presence wanted read at os none e = subst (λ (r : OneRead). Refuses b r) (sym (at_end i presence wanted read at os none)) (unsent_refused b (not_sent presence (missing_at i at)) e)
+  pub no_header : (b : Option AbstractBreach) → eqb (length os) 0 ≡ false → Refuses b (located at (head_of os)) → Refuses b (component_at i presence wanted read at os)
+  no_header b some e = refuses_as b _ _ (at_header i presence wanted read at os some) (refuses_bind b (located at (head_of os)) (λ h. headed i presence wanted read at os h) e)
 
-header_refused : (b : Option AbstractBreach) (r : Result Head AbstractBreach) (k : Head → OneRead) → Refuses b r → Refuses b (r >>= k)
-header_refused None r k e = tt
-header_refused (Some b) r k e = rw e refl
+module _ (i : ℕ) (presence : AbstractPresence) (wanted : Tag → Bool) (read : Reader) (at : ℕ) (os : List ℕ) (h : Head) (some : eqb (length os) 0 ≡ false) (stands : located at (head_of os) ≡ Ok h) where
+  with_header : component_at i presence wanted read at os ≡ headed i presence wanted read at os h
+  with_header = at_header i presence wanted read at os some ∙ ap (λ (r : Result Head AbstractBreach). r >>= λ h. headed i presence wanted read at os h) stands
 
-pub no_header : (b : Option AbstractBreach) (i : ℕ) (presence : AbstractPresence) (wanted : Tag → Bool) (read : Reader) (at : ℕ) (os : List ℕ) → eqb (length os) 0 ≡ false → Refuses b (located at (head_of os)) → Refuses b (component_at i presence wanted read at os)
-no_header b i presence wanted read at os some e = subst (λ (r : OneRead). Refuses b r) (sym (at_header i presence wanted read at os some)) (header_refused b (located at (head_of os)) (λ h. headed i presence wanted read at os h) e)
+  stray_is : wanted h.tag ≡ false → component_at i presence wanted read at os ≡ (not_sent presence (fault code.UnexpectedTag at) >>= λ f. Ok (f, 0))
+  stray_is other = with_header ∙ cond-false (wanted h.tag) _ _ other
 
-with_header : (i : ℕ) (presence : AbstractPresence) (wanted : Tag → Bool) (read : Reader) (at : ℕ) (os : List ℕ) (h : Head) → eqb (length os) 0 ≡ false → located at (head_of os) ≡ Ok h
-    → component_at i presence wanted read at os ≡ headed i presence wanted read at os h
-with_header i presence wanted read at os h some e = at_header i presence wanted read at os some ∙ ap (λ (r : Result Head AbstractBreach). r >>= λ h. headed i presence wanted read at os h) e
+  pub stray_ok : (f : Option AbstractValue) → wanted h.tag ≡ false → not_sent presence (fault code.UnexpectedTag at) ≡ Ok f → component_at i presence wanted read at os ≡ Ok (f, 0)
+  stray_ok f other skip = stray_is other ∙ unsent_ok (not_sent presence (fault code.UnexpectedTag at)) f skip
 
-stray_is : (i : ℕ) (presence : AbstractPresence) (wanted : Tag → Bool) (read : Reader) (at : ℕ) (os : List ℕ) (h : Head) → eqb (length os) 0 ≡ false → located at (head_of os) ≡ Ok h → wanted h.tag ≡ false
-    → component_at i presence wanted read at os ≡ (not_sent presence (fault code.UnexpectedTag at) >>= λ f. Ok (f, 0))
-stray_is i presence wanted read at os h some e other = with_header i presence wanted read at os h some e ∙ cond-false (wanted h.tag) _ _ other
+  pub stray_refused : (b : Option AbstractBreach) → wanted h.tag ≡ false → Refuses b (not_sent presence (fault code.UnexpectedTag at)) → Refuses b (component_at i presence wanted read at os)
+  stray_refused b other skip = refuses_as b _ _ (stray_is other) (refuses_bind b (not_sent presence (fault code.UnexpectedTag at)) (λ f. Ok (f, 0)) skip)
 
-pub stray_ok : (i : ℕ) (presence : AbstractPresence) (wanted : Tag → Bool) (read : Reader) (at : ℕ) (os : List ℕ) (h : Head) (f : Option AbstractValue) → eqb (length os) 0 ≡ false → located at (head_of os) ≡ Ok h → wanted h.tag ≡ false
-    → not_sent presence (fault code.UnexpectedTag at) ≡ Ok f → component_at i presence wanted read at os ≡ Ok (f, 0)
-stray_ok i presence wanted read at os h f some e other skip = stray_is i presence wanted read at os h some e other ∙ unsent_ok (not_sent presence (fault code.UnexpectedTag at)) f skip
+  due_is : wanted h.tag ≡ true → component_at i presence wanted read at os ≡ (sent_at i presence read at h os >>= λ v. Ok (Some v, h.size + h.contents))
+  due_is due = with_header ∙ cond-true (wanted h.tag) _ _ due
 
-pub stray_refused : (b : Option AbstractBreach) (i : ℕ) (presence : AbstractPresence) (wanted : Tag → Bool) (read : Reader) (at : ℕ) (os : List ℕ) (h : Head) → eqb (length os) 0 ≡ false → located at (head_of os) ≡ Ok h → wanted h.tag ≡ false
-    → Refuses b (not_sent presence (fault code.UnexpectedTag at)) → Refuses b (component_at i presence wanted read at os)
-stray_refused b i presence wanted read at os h some e other skip = subst (λ (r : OneRead). Refuses b r) (sym (stray_is i presence wanted read at os h some e other)) (unsent_refused b (not_sent presence (fault code.UnexpectedTag at)) skip)
+  pub component_ok : (v : AbstractValue) → wanted h.tag ≡ true → sent_at i presence read at h os ≡ Ok v → component_at i presence wanted read at os ≡ Ok (Some v, h.size + h.contents)
+  component_ok v due e = due_is due ∙ ap (λ (r : Result AbstractValue AbstractBreach). r >>= λ v. Ok (Some v, h.size + h.contents)) e
 
-due_is : (i : ℕ) (presence : AbstractPresence) (wanted : Tag → Bool) (read : Reader) (at : ℕ) (os : List ℕ) (h : Head) → eqb (length os) 0 ≡ false → located at (head_of os) ≡ Ok h → wanted h.tag ≡ true
-    → component_at i presence wanted read at os ≡ (sent_at i presence read at h os >>= λ v. Ok (Some v, h.size + h.contents))
-due_is i presence wanted read at os h some e due = with_header i presence wanted read at os h some e ∙ cond-true (wanted h.tag) _ _ due
-
-pub sent_done : (i : ℕ) (presence : AbstractPresence) (wanted : Tag → Bool) (read : Reader) (at : ℕ) (os : List ℕ) (h : Head) (v : AbstractValue) → eqb (length os) 0 ≡ false → located at (head_of os) ≡ Ok h → wanted h.tag ≡ true
-    → read at h os ≡ Ok v → is_left_out presence v ≡ false → component_at i presence wanted read at os ≡ Ok (Some v, h.size + h.contents)
-sent_done i presence wanted read at os h v some e due got kept =
-    due_is i presence wanted read at os h some e due ∙ ap (λ (r : Result AbstractValue AbstractBreach). r >>= λ v. Ok (Some v, h.size + h.contents)) (sent_again i presence read at h os v got kept)
-
-pub default_sent : (i : ℕ) (presence : AbstractPresence) (wanted : Tag → Bool) (read : Reader) (at : ℕ) (os : List ℕ) (h : Head) (v : AbstractValue) → eqb (length os) 0 ≡ false → located at (head_of os) ≡ Ok h → wanted h.tag ≡ true
-    → read at h os ≡ Ok v → is_left_out presence v ≡ true → component_at i presence wanted read at os ≡ Err (below (Component i) (fault code.DefaultPresent at))
-default_sent i presence wanted read at os h v some e due got left =
-    due_is i presence wanted read at os h some e due ∙ ap (λ (r : Result AbstractValue AbstractBreach). r >>= λ v. Ok (Some v, h.size + h.contents)) (sent_default i presence read at h os v got left)
-
-pub inside_refused : (b : Option AbstractBreach) (i : ℕ) (presence : AbstractPresence) (wanted : Tag → Bool) (read : Reader) (at : ℕ) (os : List ℕ) (h : Head) → eqb (length os) 0 ≡ false → located at (head_of os) ≡ Ok h → wanted h.tag ≡ true
-    → Refuses b (read at h os) → Refuses (below_if (Component i) b) (component_at i presence wanted read at os)
-inside_refused None i presence wanted read at os h some e due got = tt
-inside_refused (Some b) i presence wanted read at os h some e due got =
-    due_is i presence wanted read at os h some e due ∙ ap (λ (r : Result AbstractValue AbstractBreach). r >>= λ v. Ok (Some v, h.size + h.contents)) (sent_fails i presence read at h os b got)
+  pub component_refused : (b : Option AbstractBreach) → wanted h.tag ≡ true → Refuses b (sent_at i presence read at h os) → Refuses b (component_at i presence wanted read at os)
+  component_refused b due e = refuses_as b _ _ (due_is due) (refuses_bind b (sent_at i presence read at h os) (λ v. Ok (Some v, h.size + h.contents)) e)
 
 -- ---- kinds of the code
 
@@ -328,9 +324,6 @@ tags_proper ty tags is proper = subst (λ (ts : List Tag). is_proper (whole ts (
 
 pub tags_nesting : (ty : Ty) (tags : List Tag) → tags ≡ (out-Ty ty).tags.items → nesting (type_view ty) ≡ nesting (whole tags (kind_view (out-Ty ty).kind))
 tags_nesting ty tags is = view_nesting ty ∙ ap (λ (ts : List Tag). nesting (whole ts (kind_view (out-Ty ty).kind))) (sym is)
-
-pub refuses_as : {A : Type 0} (f : Option AbstractBreach) (r s : Result A AbstractBreach) → r ≡ s → Refuses f s → Refuses f r
-refuses_as {A} f r s e refused = subst (λ (x : Result A AbstractBreach). Refuses f x) (sym e) refused
 
 -- octets inside an element are within the octets round it
 pub inside_room : (os : List ℕ) (h : Head) (at limit : ℕ) → h.size + h.contents ≤ length os → at + length os < limit → at + h.size + length (inside_of h os) < limit

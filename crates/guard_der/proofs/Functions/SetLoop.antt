@@ -1,16 +1,15 @@
 -- Reading the elements of a SET one after the other, as a loop does.
-use Rattle.std.proofs.Common.{◌≡◌, ℕ, zero, suc, ◌+◌, ◌*◌, ◌<◌, ◌≤◌, Bool, true, false, ltb, eqb, List, [], ◌∷◌, length, drop, get_or, map, Option, Some, None, Result, Ok, sym, ap, ◌∙◌, arith}
+use Rattle.std.proofs.Common.{◌≡◌, ℕ, zero, suc, ◌+◌, ◌*◌, ◌<◌, ◌≤◌, Bool, true, false, ltb, eqb, List, [], ◌∷◌, length, drop, get_or, map, Option, Some, None, Result, Ok, sym, ap, ◌∙◌, arith, refl}
 use Rattle.std.specs.Prelude.{nat_le}
 use Rattle.std.specs.Global.{Vec}
 use Rattle.std.proofs.lemmas.Bool.{and_parts, leb-true, eqb-true, cond_both}
 use Rattle.std.proofs.lemmas.List.{length-map, length-drop}
 use Rattle.guard_model.specs.Answer.{◌>>=◌, Refuses}
-use Rattle.guard_model.specs.declared.site.Step.TheVariants.{Component}
 use Rattle.guard_model.specs.declared.tag.Tag.{Tag}
 use Rattle.guard_model.specs.AbstractType as type
 use Rattle.guard_model.specs.AbstractType.{AbstractKind, AbstractPresence, Components, no_components, component}
 use Rattle.guard_model.specs.AbstractValue.{AbstractValue, Fields}
-use Rattle.guard_model.specs.TypeView.{OneComponent, component_view, kind_view, presence_view}
+use Rattle.guard_model.specs.TypeView.{OneComponent, type_view, component_view, kind_view, presence_view}
 use Rattle.guard_model.specs.ValueView.{value_view, fields_view}
 use Rattle.guard_model.specs.declared.value.Value.{Value}
 use Rattle.guard_model.specs.declared.value.Value.TheVariants as values
@@ -25,12 +24,12 @@ use Rattle.guard_der.specs.Octets.{base_128}
 use Rattle.guard_der.specs.Element.{form_bit, identifier_octets}
 use Rattle.guard_der.specs.Sound.{is_proper_kind, are_proper}
 use Rattle.guard_der.specs.Breach.{AbstractBreach}
-use Rattle.guard_der.specs.Reading.{Reader, located, fill, presence_at, placed_at, member_at, completed, set_at, part_at, sent_at, all_absent, contents_at, fields_read}
+use Rattle.guard_der.specs.Reading.{Reader, located, fill, presence_at, placed_at, set_element_at, completed, set_at, part_at, sent_at, element_at, all_absent, contents_at, fields_read}
 use Rattle.guard_der.proofs.Numbers.Digits.{AreDigits}
 use Rattle.guard_der.proofs.Headers.Heads.{head_takes}
 use Rattle.guard_der.proofs.Components.OneComponent.{located_is}
-use Rattle.guard_der.proofs.Functions.Decoding.{below_if}
-use Rattle.guard_der.proofs.Sets.OneElement.{Member, member_strays, member_fails}
+use Rattle.guard_der.proofs.Functions.Decoding.{refuses_as, sent_alike, part_is}
+use Rattle.guard_der.proofs.Sets.OneElement.{PlacedElement, set_element_strays}
 use Rattle.guard_model.specs.Counts.{component_count}
 use Rattle.guard_model.proofs.Components.{component_count_is, in_view}
 use Rattle.guard_model.proofs.TypeViews.{component_view_is, kind_view_set}
@@ -42,23 +41,36 @@ refused_later : {A B : Type 0} (b : Option AbstractBreach) (r : Result A Abstrac
 refused_later None r x k e refused = tt
 refused_later (Some b) r x k e refused = rw e refused
 
-pub no_header : (b : Option AbstractBreach) (cs : Components) (read : ℕ → Reader) (gs : Fields) (before : Option Tag) (at : ℕ) (os : List ℕ) → Refuses b (located at (head_of os)) → Refuses b (member_at cs read gs before at os)
-unfolding member_at
+pub no_header : (b : Option AbstractBreach) (cs : Components) (read : ℕ → Reader) (gs : Fields) (before : Option Tag) (at : ℕ) (os : List ℕ) → Refuses b (located at (head_of os)) → Refuses b (set_element_at cs read gs before at os)
+unfolding set_element_at
 no_header b cs read gs before at os e = refuses_bind b (located at (head_of os)) (λ h. placed_at cs gs before at h.tag >>= λ j. sent_at j (presence_at j cs) (read j) at h os >>= λ v. Ok (j, v, h)) e
 
-pub no_place : (b : Option AbstractBreach) (cs : Components) (read : ℕ → Reader) (gs : Fields) (before : Option Tag) (at : ℕ) (os : List ℕ) (h : Head) → located at (head_of os) ≡ Ok h → Refuses b (placed_at cs gs before at h.tag) → Refuses b (member_at cs read gs before at os)
+pub no_place : (b : Option AbstractBreach) (cs : Components) (read : ℕ → Reader) (gs : Fields) (before : Option Tag) (at : ℕ) (os : List ℕ) (h : Head) → located at (head_of os) ≡ Ok h → Refuses b (placed_at cs gs before at h.tag) → Refuses b (set_element_at cs read gs before at os)
 no_place None cs read gs before at os h stands e = tt
-no_place (Some b) cs read gs before at os h stands e = member_strays cs read gs before at os h b (located_is at (head_of os) h stands) e
+no_place (Some b) cs read gs before at os h stands e = set_element_strays cs read gs before at os h b (located_is at (head_of os) h stands) e
 
-pub no_value : (b : Option AbstractBreach) (cs : Components) (read : ℕ → Reader) (gs : Fields) (before : Option Tag) (at : ℕ) (os : List ℕ) (h : Head) (j : ℕ) → located at (head_of os) ≡ Ok h → placed_at cs gs before at h.tag ≡ Ok j
-    → Refuses b (read j at h os) → Refuses (below_if (Component j) b) (member_at cs read gs before at os)
-no_value None cs read gs before at os h j stands place e = tt
-no_value (Some b) cs read gs before at os h j stands place e = member_fails cs read gs before at os h j b (located_is at (head_of os) h stands) place e
+module _ (cs : Components) (read : ℕ → Reader) (gs : Fields) (before : Option Tag) (at : ℕ) (os : List ℕ) (h : Head) (j : ℕ) (stands : located at (head_of os) ≡ Ok h) (place : placed_at cs gs before at h.tag ≡ Ok j) where
+  placed_is : set_element_at cs read gs before at os ≡ (sent_at j (presence_at j cs) (read j) at h os >>= λ v. Ok (j, v, h))
+  unfolding set_element_at
+  placed_is = rw (stands, place) refl
+
+  pub element_is_read : (v : AbstractValue) → sent_at j (presence_at j cs) (read j) at h os ≡ Ok v → set_element_at cs read gs before at os ≡ Ok (j, v, h)
+  element_is_read v e = placed_is ∙ ap (λ (r : Result AbstractValue AbstractBreach). r >>= λ v. Ok (j, v, h)) e
+
+  pub element_refused : (b : Option AbstractBreach) → Refuses b (sent_at j (presence_at j cs) (read j) at h os) → Refuses b (set_element_at cs read gs before at os)
+  element_refused b e = refuses_as b _ _ placed_is (refuses_bind b (sent_at j (presence_at j cs) (read j) at h os) (λ v. Ok (j, v, h)) e)
 
 pub presence_is : (comps : List Comp) (i : ℕ) (comp : Comp) → i < length comps → comp ≡ get_or comps i comp → presence_at i (in_view comps) ≡ presence_view (out-Comp comp).presence
 presence_is [] i comp lt is = absurd (omega (arith, lt))
 presence_is (c ∷ cs) zero comp lt is = ap (λ (o : OneComponent). o.presence) (ap component_view (sym is) ∙ component_view_is comp)
 presence_is (c ∷ cs) (suc i) comp lt is = presence_is cs i comp (omega (arith, lt)) is
+
+-- the component at a place, as it is sent
+pub sent_part : (comps : List Comp) (i : ℕ) (comp : Comp) (at : ℕ) (h : Head) (os : List ℕ) → i < length comps → comp ≡ get_or comps i comp → are_proper (in_view comps) ≡ true
+    → sent_at i (presence_at i (in_view comps)) (part_at (in_view comps) i) at h os ≡ sent_at i (presence_view (out-Comp comp).presence) (element_at (type_view (out-Comp comp).ty)) at h os
+sent_part comps i comp at h os lt is proper =
+    ap (λ (p : AbstractPresence). sent_at i p (part_at (in_view comps) i) at h os) (presence_is comps i comp lt is)
+    ∙ sent_alike i (presence_view (out-Comp comp).presence) (part_at (in_view comps) i) at h os (element_at (type_view (out-Comp comp).ty)) ((part_is comps i comp lt is proper).2 at h os)
 
 some_identifier : (tag : Tag) (constructed : Bool) → 1 ≤ length (identifier_octets tag constructed)
 unfolding identifier_octets
@@ -79,7 +91,7 @@ head_size os h digits e = omega (arith, (head_takes os h digits e).size, some_id
 abbrev pub Going : Components → Fields → Option Tag → ℕ → List ℕ → Result Fields AbstractBreach → Type 0
 Going cs gs before at os total = (n : ℕ) × (length os ≤ n) × (set_at n cs (part_at cs) gs before at os ≡ total)
 
-pub goes_on : (cs : Components) (gs : Fields) (before : Option Tag) (at : ℕ) (os : List ℕ) (j : ℕ) (v : AbstractValue) (h : Head) (total : Result Fields AbstractBreach) → eqb (length os) 0 ≡ false → 1 ≤ h.size → member_at cs (part_at cs) gs before at os ≡ Ok (j, v, h)
+pub goes_on : (cs : Components) (gs : Fields) (before : Option Tag) (at : ℕ) (os : List ℕ) (j : ℕ) (v : AbstractValue) (h : Head) (total : Result Fields AbstractBreach) → eqb (length os) 0 ≡ false → 1 ≤ h.size → set_element_at cs (part_at cs) gs before at os ≡ Ok (j, v, h)
     → Going cs gs before at os total → Going cs (fill j v gs) (Some h.tag) (at + (h.size + h.contents)) (drop (h.size + h.contents) os) total
 unfolding set_at
 goes_on cs gs before at [] j v h total more some e going = absurd cc
@@ -87,17 +99,17 @@ goes_on cs gs before at (o ∷ os) j v h total more some e (zero, enough, so_far
 goes_on cs gs before at (o ∷ os) j v h total more some e (suc n, enough, so_far) = (
   n,
   omega (arith, enough, some, length-drop (h.size + h.contents) (o ∷ os)),
-  sym (ap (λ (r : Result Member AbstractBreach). r >>= λ x. set_at n cs (part_at cs) (fill x.0 x.1 gs) (Some x.2.tag) (at + (x.2.size + x.2.contents)) (drop (x.2.size + x.2.contents) (o ∷ os))) e) ∙ so_far,
+  sym (ap (λ (r : Result PlacedElement AbstractBreach). r >>= λ x. set_at n cs (part_at cs) (fill x.0 x.1 gs) (Some x.2.tag) (at + (x.2.size + x.2.contents)) (drop (x.2.size + x.2.contents) (o ∷ os))) e) ∙ so_far,
 )
 
-pub stops : (b : Option AbstractBreach) (cs : Components) (gs : Fields) (before : Option Tag) (at : ℕ) (os : List ℕ) (total : Result Fields AbstractBreach) → eqb (length os) 0 ≡ false → Refuses b (member_at cs (part_at cs) gs before at os)
+pub stops : (b : Option AbstractBreach) (cs : Components) (gs : Fields) (before : Option Tag) (at : ℕ) (os : List ℕ) (total : Result Fields AbstractBreach) → eqb (length os) 0 ≡ false → Refuses b (set_element_at cs (part_at cs) gs before at os)
     → Going cs gs before at os total → Refuses b total
 unfolding set_at
 stops None cs gs before at os total some e going = tt
 stops (Some b) cs gs before at [] total some e going = absurd cc
 stops (Some b) cs gs before at (o ∷ os) total some e (zero, enough, so_far) = absurd (omega (arith, enough))
 stops (Some b) cs gs before at (o ∷ os) total some e (suc n, enough, so_far) =
-    sym so_far ∙ ap (λ (r : Result Member AbstractBreach). r >>= λ x. set_at n cs (part_at cs) (fill x.0 x.1 gs) (Some x.2.tag) (at + (x.2.size + x.2.contents)) (drop (x.2.size + x.2.contents) (o ∷ os))) e
+    sym so_far ∙ ap (λ (r : Result PlacedElement AbstractBreach). r >>= λ x. set_at n cs (part_at cs) (fill x.0 x.1 gs) (Some x.2.tag) (at + (x.2.size + x.2.contents)) (drop (x.2.size + x.2.contents) (o ∷ os))) e
 
 pub ends : (cs : Components) (gs : Fields) (before : Option Tag) (at : ℕ) (os : List ℕ) (total : Result Fields AbstractBreach) → eqb (length os) 0 ≡ true → Going cs gs before at os total → completed 0 cs gs at ≡ total
 unfolding set_at

@@ -16,7 +16,7 @@ use Rattle.guard_der.specs.Der.{Part, alternative_octets, parts_of, parts_joined
 use Rattle.guard_der.specs.Fits.{fits_kind, fits_alternative}
 use Rattle.guard_der.specs.Sound.{are_proper}
 use Rattle.guard_der.specs.Breach.{AbstractBreach, FaultInPart, FaultInSent, FaultInContents, SendsDefault, SetFault, one_with, is_found, is_after, is_sent, missing, fits_partly, here, after, below}
-use Rattle.guard_der.specs.Reading.{all_absent, is_filled, presence_at, follows, member_at, completed, set_at, part_at, contents_at, fields_read, missing_at, fault}
+use Rattle.guard_der.specs.Reading.{all_absent, is_filled, presence_at, follows, set_element_at, completed, set_at, part_at, contents_at, fields_read, missing_at, fault}
 use Rattle.guard_der.proofs.Elements.Steps.{option_parts, moved, fault_after, after_after, head_is}
 use Rattle.guard_der.proofs.Numbers.Digits.{AreDigits}
 use Rattle.guard_der.proofs.Components.OneComponent.{none_stands}
@@ -25,8 +25,8 @@ use Rattle.guard_der.proofs.Components.DistinctTags.{all_differ}
 use Rattle.guard_der.proofs.Components.ByTag.{AllLawful, part_lawful, with_tag}
 use Rattle.guard_der.proofs.Sequences.Faults.{fields_err}
 use Rattle.guard_der.proofs.Sets.SentFields.{all_sent, sent_only, sent_fits, sent_parts, sent_all, sent_missing, sent_filled, sent_already, partly, completed_again, completed_takes, completed_fault, completed_found}
-use Rattle.guard_der.proofs.Sets.ReadElements.{Entry, slots, last_tag, octets_read, IsTrace, Reached, reached, traced}
-use Rattle.guard_der.proofs.Sets.OneElement.{MemberErr, member_err, member_bad, member_strays, member_fails, member_default, place_free, place_unknown, place_descends, place_full}
+use Rattle.guard_der.proofs.Sets.ReadElements.{ReadElement, read_fields, last_tag, octets_read, AreReadInOrder, Reached, reached, sent_as}
+use Rattle.guard_der.proofs.Sets.OneElement.{ElementErr, set_element_err, set_element_bad, set_element_strays, set_element_fails, set_element_default, place_free, place_unknown, place_descends, place_full}
 use Rattle.guard_der.proofs.Sets.Reading.{through, well, badly, rest_at, FaultHere}
 use Rattle.guard_der.proofs.Sets.Paths.{set_shallow}
 use Rattle.guard_model.proofs.Results.{same_Ok}
@@ -45,21 +45,21 @@ octets_set cs fs octets e = let a = option_parts (parts_of cs fs) (λ ps. Some (
 
 -- the elements as which fields are sent, and their octets
 record Elements (cs : Components) (fs : Fields) (ps : List Part) (octets : List ℕ) : Type 0 where
-  entries : List Entry
-  trace : IsTrace cs entries
-  are : slots cs entries ≡ sent_only cs fs
-  octets_are : octets_read entries ≡ octets
-  after : (t : Tag) → is_after t ps ≡ follows (last_tag cs entries) t
+  elements : List ReadElement
+  in_order : AreReadInOrder cs elements
+  are : read_fields cs elements ≡ sent_only cs fs
+  octets_are : octets_read elements ≡ octets
+  after : (t : Tag) → is_after t ps ≡ follows (last_tag cs elements) t
 
 elements : (cs : Components) (fs : Fields) (ps : List Part) (octets : List ℕ) → AllLawful cs → all_differ cs ≡ true → fits_partly cs fs ≡ true → parts_of cs fs ≡ Some ps → parts_joined (ascending ps) ≡ octets → Elements cs fs ps octets
 elements cs fs ps octets laws distinct fit e is =
     let sent : parts_of cs (sent_only cs fs) ≡ Some ps = sent_parts cs fs ∙ e in
-    let t = traced cs (sent_only cs fs) ps laws distinct (sent_fits cs fs fit) (sent_all cs fs) sent in
-    let r = reached cs t.entries t.trace in
+    let t = sent_as cs (sent_only cs fs) ps laws distinct (sent_fits cs fs fit) (sent_all cs fs) sent in
+    let r = reached cs t.elements t.in_order in
     let same : r.parts ≡ ps = same_Some r.parts ps (sym r.parts_are ∙ ap (parts_of cs) t.are ∙ sent) in
     record {
-      entries = t.entries;
-      trace = t.trace;
+      elements = t.elements;
+      in_order = t.in_order;
       are = t.are;
       octets_are = sym r.octets ∙ ap (λ (ps : List Part). parts_joined (ascending ps)) same ∙ is;
       after = λ tag. ap (is_after tag) (sym same) ∙ r.after tag;
@@ -86,52 +86,52 @@ record SeenFault (cs : Components) (gs : Fields) (ps : List Part) (at : ℕ) (os
   found : SetFault cs (λ j os c. Sent cs j os c) gs ps os inner
   seen : b ≡ after at inner
 
-member_fault : (cs : Components) (es : List Entry) (r : Reached cs es) (at : ℕ) (os : List ℕ) (b : AbstractBreach) → AllLawful cs → AreDigits 256 os → os ≢ [] → MemberErr cs (part_at cs) (slots cs es) (last_tag cs es) at os b → SeenFault cs (slots cs es) r.parts at os b
-member_fault cs es r at os b laws digits some (inl (c, e, is)) = record { inner = here c; found = inr (inl (c, some, inl e, refl)); seen = is ∙ fault_after c at }
-member_fault cs es r at os b laws digits some (inr (inl (h, e, inl (none, is)))) =
+set_element_fault : (cs : Components) (es : List ReadElement) (r : Reached cs es) (at : ℕ) (os : List ℕ) (b : AbstractBreach) → AllLawful cs → AreDigits 256 os → os ≢ [] → ElementErr cs (part_at cs) (read_fields cs es) (last_tag cs es) at os b → SeenFault cs (read_fields cs es) r.parts at os b
+set_element_fault cs es r at os b laws digits some (inl (c, e, is)) = record { inner = here c; found = inr (inl (c, some, inl e, refl)); seen = is ∙ fault_after c at }
+set_element_fault cs es r at os b laws digits some (inr (inl (h, e, inl (none, is)))) =
     record { inner = here code.UnexpectedTag; found = inr (inl (code.UnexpectedTag, some, inr (h, e, ap is_found none, refl), refl)); seen = is ∙ fault_after code.UnexpectedTag at }
-member_fault cs es r at os b laws digits some (inr (inl (h, e, inr (inl (j, found, descends, is))))) =
+set_element_fault cs es r at os b laws digits some (inr (inl (h, e, inr (inl (j, found, descends, is))))) =
     record { inner = below (Component j) (here code.SetOrder); found = inr (inr (h, j, e, found, inl (r.after h.tag ∙ descends, refl))); seen = is ∙ ap (below (Component j)) (fault_after code.SetOrder at) }
-member_fault cs es r at os b laws digits some (inr (inl (h, e, inr (inr (j, found, later, full, is))))) = record {
+set_element_fault cs es r at os b laws digits some (inr (inl (h, e, inr (inr (j, found, later, full, is))))) = record {
   inner = here code.UnexpectedTag;
-  found = inr (inr (h, j, e, found, inr (inl (r.after h.tag ∙ later, filled_is_sent cs (slots cs es) j true r.fits r.sent full, refl))));
+  found = inr (inr (h, j, e, found, inr (inl (r.after h.tag ∙ later, filled_is_sent cs (read_fields cs es) j true r.fits r.sent full, refl))));
   seen = is ∙ fault_after code.UnexpectedTag at;
 }
-member_fault cs es r at os b laws digits some (inr (inr (inl (h, j, c, e, (found, later, free), read, is)))) =
+set_element_fault cs es r at os b laws digits some (inr (inr (inl (h, j, c, e, (found, later, free), read, is)))) =
     let w = with_tag cs h.tag j found in
     let f = (part_lawful cs j laws w.0).fault at h os c digits e w.1 read in
     record {
       inner = below (Component j) f.inner;
-      found = inr (inr (h, j, e, found, inr (inr (f.inner, r.after h.tag ∙ later, filled_is_sent cs (slots cs es) j false r.fits r.sent free, inl f.found, refl))));
+      found = inr (inr (h, j, e, found, inr (inr (f.inner, r.after h.tag ∙ later, filled_is_sent cs (read_fields cs es) j false r.fits r.sent free, inl f.found, refl))));
       seen = is ∙ ap (below (Component j)) f.seen;
     }
-member_fault cs es r at os b laws digits some (inr (inr (inr (h, j, v, e, (found, later, free), read, left, is)))) =
+set_element_fault cs es r at os b laws digits some (inr (inr (inr (h, j, v, e, (found, later, free), read, left, is)))) =
     let w = with_tag cs h.tag j found in
     let t = (part_lawful cs j laws w.0).takes at h os v digits e w.1 read in
     let sent = sends_default cs j v (take (h.size + h.contents) os) (drop (h.size + h.contents) os) os t.fits t.encoded left (sym (take-append-drop (h.size + h.contents) os)) in
     record {
       inner = below (Component j) (here code.DefaultPresent);
-      found = inr (inr (h, j, e, found, inr (inr (here code.DefaultPresent, r.after h.tag ∙ later, filled_is_sent cs (slots cs es) j false r.fits r.sent free, inr (sent, refl), refl))));
+      found = inr (inr (h, j, e, found, inr (inr (here code.DefaultPresent, r.after h.tag ∙ later, filled_is_sent cs (read_fields cs es) j false r.fits r.sent free, inr (sent, refl), refl))));
       seen = is ∙ ap (below (Component j)) (fault_after code.DefaultPresent at);
     }
 
-fault_here : (cs : Components) (es : List Entry) (r : Reached cs es) (at : ℕ) (os : List ℕ) (b : AbstractBreach) → AllLawful cs → AreDigits 256 os → FaultHere cs es at os b → SeenFault cs (slots cs es) r.parts at os b
+fault_here : (cs : Components) (es : List ReadElement) (r : Reached cs es) (at : ℕ) (os : List ℕ) (b : AbstractBreach) → AllLawful cs → AreDigits 256 os → FaultHere cs es at os b → SeenFault cs (read_fields cs es) r.parts at os b
 fault_here cs es r at os b laws digits (inl (empty, e)) =
-    let m = completed_fault 0 cs (slots cs es) at b e in
+    let m = completed_fault 0 cs (read_fields cs es) at b e in
     record { inner = below (Component m.0) (here code.MissingComponent); found = inl (m.0, empty, m.1, refl); seen = m.2 ∙ moved (missing_at m.0 at) at (at + 0) (omega arith) }
-fault_here cs es r at os b laws digits (inr (some, e)) = member_fault cs es r at os b laws digits some (member_err cs (part_at cs) (slots cs es) (last_tag cs es) at os b e)
+fault_here cs es r at os b laws digits (inr (some, e)) = set_element_fault cs es r at os b laws digits some (set_element_err cs (part_at cs) (read_fields cs es) (last_tag cs es) at os b e)
 
 -- ---- and is read there
 
-step_fails : (n : ℕ) (cs : Components) (es : List Entry) (at : ℕ) (os : List ℕ) (b : AbstractBreach) → os ≢ [] → length os ≤ n → member_at cs (part_at cs) (slots cs es) (last_tag cs es) at os ≡ Err b → rest_at n cs es at os ≡ Err b
+step_fails : (n : ℕ) (cs : Components) (es : List ReadElement) (at : ℕ) (os : List ℕ) (b : AbstractBreach) → os ≢ [] → length os ≤ n → set_element_at cs (part_at cs) (read_fields cs es) (last_tag cs es) at os ≡ Err b → rest_at n cs es at os ≡ Err b
 unfolding set_at
 step_fails n cs es at [] b some enough e = absurd (some refl)
 step_fails zero cs es at (o ∷ os) b some enough e = absurd (omega (arith, enough))
 step_fails (suc n) cs es at (o ∷ os) b some enough e = rw e refl
 
-ends_badly : (n : ℕ) (cs : Components) (es : List Entry) (at j : ℕ) (os : List ℕ) → os ≡ [] → missing 0 cs (slots cs es) ≡ Some j → rest_at n cs es at os ≡ Err (missing_at j at)
+ends_badly : (n : ℕ) (cs : Components) (es : List ReadElement) (at j : ℕ) (os : List ℕ) → os ≡ [] → missing 0 cs (read_fields cs es) ≡ Some j → rest_at n cs es at os ≡ Err (missing_at j at)
 unfolding set_at
-ends_badly n cs es at j [] empty e = completed_found 0 cs (slots cs es) at j e
+ends_badly n cs es at j [] empty e = completed_found 0 cs (read_fields cs es) at j e
 ends_badly n cs es at j (o ∷ os) empty e = absurd cc
 
 stands_some : (os : List ℕ) (h : Head) → head_of os ≡ Ok h → os ≢ []
@@ -141,7 +141,7 @@ no_place : (found : Option ℕ) → is_found found ≡ false → found ≡ None
 no_place None e = refl
 no_place (Some i) e = absurd cc
 
-sent_found : (n : ℕ) (cs : Components) (es : List Entry) (at j : ℕ) (os : List ℕ) (h : Head) (d : AbstractBreach) → AllLawful cs → length os ≤ n → head_of os ≡ Ok h → one_with 0 cs h.tag ≡ Some j → follows (last_tag cs es) h.tag ≡ true → is_filled j (slots cs es) ≡ false
+sent_found : (n : ℕ) (cs : Components) (es : List ReadElement) (at j : ℕ) (os : List ℕ) (h : Head) (d : AbstractBreach) → AllLawful cs → length os ≤ n → head_of os ≡ Ok h → one_with 0 cs h.tag ≡ Some j → follows (last_tag cs es) h.tag ≡ true → is_filled j (read_fields cs es) ≡ false
     → Sent cs j os d → rest_at n cs es at os ≡ Err (after at (below (Component j) d))
 sent_found n cs es at j os h d laws enough e found later free (inl faulty) =
     let w = with_tag cs h.tag j found in
@@ -149,7 +149,7 @@ sent_found n cs es at j os h d laws enough e found later free (inl faulty) =
     let same : f.header ≡ h = head_is os f.header h f.stands e in
     let read : part_at cs j at h os ≡ Err (after at d) = ap (λ (h : Head). part_at cs j at h os) (sym same) ∙ f.read in
     step_fails n cs es at os (below (Component j) (after at d)) (stands_some os h e) enough
-    (member_fails cs (part_at cs) (slots cs es) (last_tag cs es) at os h j (after at d) e (place_free cs (slots cs es) (last_tag cs es) at h.tag j found later free) read)
+    (set_element_fails cs (part_at cs) (read_fields cs es) (last_tag cs es) at os h j (after at d) e (place_free cs (read_fields cs es) (last_tag cs es) at h.tag j found later free) read)
 sent_found n cs es at j os h d laws enough e found later free (inr (sent, is)) =
     let w = with_tag cs h.tag j found in
     let s = default_sent cs j os sent in
@@ -157,31 +157,31 @@ sent_found n cs es at j os h d laws enough e found later free (inr (sent, is)) =
     let same : a.header ≡ h = head_is os a.header h (ap head_of s.6 ∙ a.stands) e in
     let read : part_at cs j at h os ≡ Ok s.0 = ap (λ (h : Head). part_at cs j at h os) (sym same) ∙ ap (part_at cs j at a.header) s.6 ∙ a.read in
     step_fails n cs es at os (below (Component j) (fault code.DefaultPresent at)) (stands_some os h e) enough
-    (member_default cs (part_at cs) (slots cs es) (last_tag cs es) at os h j s.0 e (place_free cs (slots cs es) (last_tag cs es) at h.tag j found later free) read s.5)
+    (set_element_default cs (part_at cs) (read_fields cs es) (last_tag cs es) at os h j s.0 e (place_free cs (read_fields cs es) (last_tag cs es) at h.tag j found later free) read s.5)
     ∙ ap (λ (b : AbstractBreach). Err (below (Component j) b)) (fault_after code.DefaultPresent at ∙ ap (after at) (sym is))
 
--- fields of which the slots hold what is sent
-record Holds (cs : Components) (es : List Entry) (fs : Fields) (ps : List Part) : Type 0 where
-  missing_is : missing 0 cs fs ≡ missing 0 cs (slots cs es)
-  filled : (j : ℕ) → is_sent j cs fs ≡ is_filled j (slots cs es)
+-- fields of which the read_fields hold what is sent
+record Holds (cs : Components) (es : List ReadElement) (fs : Fields) (ps : List Part) : Type 0 where
+  missing_is : missing 0 cs fs ≡ missing 0 cs (read_fields cs es)
+  filled : (j : ℕ) → is_sent j cs fs ≡ is_filled j (read_fields cs es)
   after : (t : Tag) → is_after t ps ≡ follows (last_tag cs es) t
 
-place_found : (n : ℕ) (cs : Components) (es : List Entry) (fs : Fields) (ps : List Part) (at : ℕ) (os : List ℕ) (c : AbstractBreach) → AllLawful cs → length os ≤ n → Holds cs es fs ps → SetFault cs (λ j os c. Sent cs j os c) fs ps os c → rest_at n cs es at os ≡ Err (after at c)
+place_found : (n : ℕ) (cs : Components) (es : List ReadElement) (fs : Fields) (ps : List Part) (at : ℕ) (os : List ℕ) (c : AbstractBreach) → AllLawful cs → length os ≤ n → Holds cs es fs ps → SetFault cs (λ j os c. Sent cs j os c) fs ps os c → rest_at n cs es at os ≡ Err (after at c)
 place_found n cs es fs ps at os c laws enough held (inl (j, empty, e, is)) =
     ends_badly n cs es at j os empty (sym held.missing_is ∙ e) ∙ ap (λ (b : AbstractBreach). Err b) (moved (missing_at j at) at (at + 0) (omega arith) ∙ ap (after at) (sym is))
 place_found n cs es fs ps at os c laws enough held (inr (inl (d, some, inl e, is))) =
-    step_fails n cs es at os (fault d at) some enough (member_bad cs (part_at cs) (slots cs es) (last_tag cs es) at os d e) ∙ ap (λ (b : AbstractBreach). Err b) (fault_after d at ∙ ap (after at) (sym is))
+    step_fails n cs es at os (fault d at) some enough (set_element_bad cs (part_at cs) (read_fields cs es) (last_tag cs es) at os d e) ∙ ap (λ (b : AbstractBreach). Err b) (fault_after d at ∙ ap (after at) (sym is))
 place_found n cs es fs ps at os c laws enough held (inr (inl (d, some, inr (h, e, none, w), is))) =
     step_fails n cs es at os (fault code.UnexpectedTag at) some enough
-    (member_strays cs (part_at cs) (slots cs es) (last_tag cs es) at os h (fault code.UnexpectedTag at) e (place_unknown cs (slots cs es) (last_tag cs es) at h.tag (no_place (one_with 0 cs h.tag) none)))
+    (set_element_strays cs (part_at cs) (read_fields cs es) (last_tag cs es) at os h (fault code.UnexpectedTag at) e (place_unknown cs (read_fields cs es) (last_tag cs es) at h.tag (no_place (one_with 0 cs h.tag) none)))
     ∙ ap (λ (b : AbstractBreach). Err b) (ap (λ (d : Code). fault d at) (sym w) ∙ fault_after d at ∙ ap (after at) (sym is))
 place_found n cs es fs ps at os c laws enough held (inr (inr (h, j, e, found, inl (descends, is)))) =
     step_fails n cs es at os (below (Component j) (fault code.SetOrder at)) (stands_some os h e) enough
-    (member_strays cs (part_at cs) (slots cs es) (last_tag cs es) at os h (below (Component j) (fault code.SetOrder at)) e (place_descends cs (slots cs es) (last_tag cs es) at h.tag j found (sym (held.after h.tag) ∙ descends)))
+    (set_element_strays cs (part_at cs) (read_fields cs es) (last_tag cs es) at os h (below (Component j) (fault code.SetOrder at)) e (place_descends cs (read_fields cs es) (last_tag cs es) at h.tag j found (sym (held.after h.tag) ∙ descends)))
     ∙ ap (λ (b : AbstractBreach). Err b) (ap (below (Component j)) (fault_after code.SetOrder at) ∙ ap (after at) (sym is))
 place_found n cs es fs ps at os c laws enough held (inr (inr (h, j, e, found, inr (inl (later, full, is))))) =
     step_fails n cs es at os (fault code.UnexpectedTag at) (stands_some os h e) enough
-    (member_strays cs (part_at cs) (slots cs es) (last_tag cs es) at os h (fault code.UnexpectedTag at) e (place_full cs (slots cs es) (last_tag cs es) at h.tag j found (sym (held.after h.tag) ∙ later) (sym (held.filled j) ∙ full)))
+    (set_element_strays cs (part_at cs) (read_fields cs es) (last_tag cs es) at os h (fault code.UnexpectedTag at) e (place_full cs (read_fields cs es) (last_tag cs es) at h.tag j found (sym (held.after h.tag) ∙ later) (sym (held.filled j) ∙ full)))
     ∙ ap (λ (b : AbstractBreach). Err b) (fault_after code.UnexpectedTag at ∙ ap (after at) (sym is))
 place_found n cs es fs ps at os c laws enough held (inr (inr (h, j, e, found, inr (inr (d, later, free, sent, is))))) =
     sent_found n cs es at j os h d laws enough e found (sym (held.after h.tag) ∙ later) (sym (held.filled j) ∙ free) sent ∙ ap (λ (b : AbstractBreach). Err b) (ap (after at) (sym is))
@@ -198,8 +198,8 @@ unfolding contents_at
 set_takes cs laws proper at start os v digits short e =
     let f = fields_ok (rest_at (length os) cs [] start os) v e in
     let w = well (length os) cs [] start os f.0 digits laws tt f.1 in
-    let r = reached cs w.entries w.trace in
-    let c = completed_takes 0 cs (slots cs w.entries) (start + length os) f.0 proper r.fits w.ended in
+    let r = reached cs w.elements w.in_order in
+    let c = completed_takes 0 cs (read_fields cs w.elements) (start + length os) f.0 proper r.fits w.ended in
     rw (← f.2) (c.0, set_octets cs f.0 r.parts os (c.1 ∙ r.parts_are) (r.octets ∙ w.octets))
 
 set_again : (cs : Components) → AllLawful cs → all_differ cs ≡ true → (at start : ℕ) (os : List ℕ) (v : AbstractValue) → IsTrue (fits_kind (type.set cs) v) → contents_octets (type.set cs) v ≡ Some os → contents_at (type.set cs) at start os ≡ Ok v
@@ -207,10 +207,10 @@ unfolding contents_at set_at
 set_again cs laws distinct at start os (value.fields fs) fit e =
     let o = octets_set cs fs os e in
     let t = elements cs fs o.0 os laws distinct (partly cs fs fit) o.1 o.2 in
-    let all : octets_read t.entries ++ [] ≡ os = append-nil (octets_read t.entries) ∙ t.octets_are in
-    let b = through cs (length os) start t.entries [] laws distinct t.trace (omega (arith, ap length all)) in
-    let ended : rest_at b.tries cs t.entries (start + length (octets_read t.entries)) [] ≡ Ok fs =
-    ap (λ (gs : Fields). completed 0 cs gs (start + length (octets_read t.entries))) t.are ∙ completed_again 0 cs fs (start + length (octets_read t.entries)) fit in
+    let all : octets_read t.elements ++ [] ≡ os = append-nil (octets_read t.elements) ∙ t.octets_are in
+    let b = through cs (length os) start t.elements [] laws distinct t.in_order (omega (arith, ap length all)) in
+    let ended : rest_at b.tries cs t.elements (start + length (octets_read t.elements)) [] ≡ Ok fs =
+    ap (λ (gs : Fields). completed 0 cs gs (start + length (octets_read t.elements))) t.are ∙ completed_again 0 cs fs (start + length (octets_read t.elements)) fit in
     ap (λ (x : List ℕ). fields_read (rest_at (length os) cs [] start x)) (sym all) ∙ ap fields_read (b.same ∙ ended)
 set_again cs laws distinct at start os v fit e = absurd cc
 
@@ -218,12 +218,12 @@ set_fault : (cs : Components) → AllLawful cs → (at size : ℕ) (os : List �
 unfolding contents_at
 set_fault cs laws at size os b digits short e =
     let w = badly (length os) cs [] (at + size) os b (omega arith) digits laws tt (fields_err (rest_at (length os) cs [] (at + size) os) b e) in
-    let r = reached cs w.entries w.trace in
-    let s = fault_here cs w.entries r (at + size + length w.front) w.rest b laws w.digits w.fault in
+    let r = reached cs w.elements w.in_order in
+    let s = fault_here cs w.elements r (at + size + length w.front) w.rest b laws w.digits w.fault in
     let offset : at + size + length w.front ≡ at + (size + length w.front) = omega arith in
     record {
       inner = after (size + length w.front) s.inner;
-      found = (slots cs w.entries, r.parts, w.front, w.rest, s.inner, w.are, (r.fits, r.parts_are, set_octets cs (slots cs w.entries) r.parts w.front r.parts_are (r.octets ∙ w.octets)), s.found, refl);
+      found = (read_fields cs w.elements, r.parts, w.front, w.rest, s.inner, w.are, (r.fits, r.parts_are, set_octets cs (read_fields cs w.elements) r.parts w.front r.parts_are (r.octets ∙ w.octets)), s.found, refl);
       seen = s.seen ∙ ap (λ (n : ℕ). after n s.inner) offset ∙ after_after at (size + length w.front) s.inner;
     }
 
@@ -234,15 +234,15 @@ set_found cs laws distinct at size os c (fs, ps, front, rest, d, parts, (fit, se
     let same : o.0 ≡ ps = same_Some o.0 ps (sym o.1 ∙ sent) in
     let joined : parts_joined (ascending ps) ≡ front = ap (λ (ps : List Part). parts_joined (ascending ps)) (sym same) ∙ o.2 in
     let t = elements cs fs ps front laws distinct fit sent joined in
-    let all : octets_read t.entries ++ rest ≡ os = ap (λ (x : List ℕ). x ++ rest) t.octets_are ∙ sym parts in
-    let b = through cs (length os) (at + size) t.entries rest laws distinct t.trace (omega (arith, ap length all)) in
-    let held : Holds cs t.entries fs ps = record {
+    let all : octets_read t.elements ++ rest ≡ os = ap (λ (x : List ℕ). x ++ rest) t.octets_are ∙ sym parts in
+    let b = through cs (length os) (at + size) t.elements rest laws distinct t.in_order (omega (arith, ap length all)) in
+    let held : Holds cs t.elements fs ps = record {
       missing_is = sym (sent_missing 0 cs fs) ∙ ap (missing 0 cs) (sym t.are);
       filled = λ j. sent_filled j cs fs fit ∙ ap (is_filled j) (sym t.are);
       after = t.after;
     } in
-    let there = place_found b.tries cs t.entries fs ps (at + size + length (octets_read t.entries)) rest d laws b.enough held found in
-    let offset : at + size + length (octets_read t.entries) ≡ at + (size + length front) = omega (arith, ap length t.octets_are) in
+    let there = place_found b.tries cs t.elements fs ps (at + size + length (octets_read t.elements)) rest d laws b.enough held found in
+    let offset : at + size + length (octets_read t.elements) ≡ at + (size + length front) = omega (arith, ap length t.octets_are) in
     ap (λ (x : List ℕ). fields_read (rest_at (length os) cs [] (at + size) x)) (sym all) ∙ ap fields_read (b.same ∙ there)
     ∙ ap (λ (b : AbstractBreach). Err b) (ap (λ (n : ℕ). after n d) offset ∙ after_after at (size + length front) d ∙ ap (after at) (sym is))
 

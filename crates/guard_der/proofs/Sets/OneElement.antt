@@ -11,13 +11,13 @@ use Rattle.guard_der.specs.declared.breach.Code.TheVariants as code
 use Rattle.guard_der.specs.Head.{Head, head_of}
 use Rattle.guard_der.specs.Der.{is_left_out}
 use Rattle.guard_der.specs.Breach.{AbstractBreach, below, one_with}
-use Rattle.guard_der.specs.Reading.{Reader, fault, located, sent_at, follows, is_filled, presence_at, placed_at, member_at}
+use Rattle.guard_der.specs.Reading.{Reader, fault, located, sent_at, follows, is_filled, presence_at, placed_at, set_element_at}
 use Rattle.guard_der.proofs.Components.OneComponent.{located_is, sent_ok, sent_err, sent_again, sent_fails, sent_default}
 use Rattle.guard_model.proofs.Results.{bind_ok, same_Ok, same_Err, bind_err}
 use Rattle.guard_model.proofs.Tests.{chosen}
 
-abbrev pub Member : Type 0
-Member = ℕ × AbstractValue × Head
+abbrev pub PlacedElement : Type 0
+PlacedElement = ℕ × AbstractValue × Head
 
 -- ---- the place of an element
 
@@ -77,7 +77,7 @@ place_full cs gs before at tag j e after full = placed_is cs gs before at tag (S
 -- ---- an element
 
 -- an element of a component that is free, in its order
-pub record MemberOk (cs : Components) (read : ℕ → Reader) (gs : Fields) (before : Option Tag) (at : ℕ) (os : List ℕ) (x : Member) : Type 0 where
+pub record ElementOk (cs : Components) (read : ℕ → Reader) (gs : Fields) (before : Option Tag) (at : ℕ) (os : List ℕ) (x : PlacedElement) : Type 0 where
   pub stands : head_of os ≡ Ok x.2
   pub found : one_with 0 cs x.2.tag ≡ Some x.0
   pub after : follows before x.2.tag ≡ true
@@ -85,40 +85,40 @@ pub record MemberOk (cs : Components) (read : ℕ → Reader) (gs : Fields) (bef
   pub gives : read x.0 at x.2 os ≡ Ok x.1
   pub kept : is_left_out (presence_at x.0 cs) x.1 ≡ false
 
-abbrev pub MemberErr : Components → (ℕ → Reader) → Fields → Option Tag → ℕ → List ℕ → AbstractBreach → Type 0
-MemberErr cs read gs before at os b =
+abbrev pub ElementErr : Components → (ℕ → Reader) → Fields → Option Tag → ℕ → List ℕ → AbstractBreach → Type 0
+ElementErr cs read gs before at os b =
     ((c : Code) × (head_of os ≡ Err c) × (b ≡ fault c at))
     ⊎ ((h : Head) × (head_of os ≡ Ok h) × PlacedErr (one_with 0 cs h.tag) gs before at h.tag b)
     ⊎ ((h : Head) × (j : ℕ) × (c : AbstractBreach) × (head_of os ≡ Ok h) × PlacedOk (one_with 0 cs h.tag) gs before h.tag j × (read j at h os ≡ Err c) × (b ≡ below (Component j) c))
     ⊎ ((h : Head) × (j : ℕ) × (v : AbstractValue) × (head_of os ≡ Ok h) × PlacedOk (one_with 0 cs h.tag) gs before h.tag j × (read j at h os ≡ Ok v) × (is_left_out (presence_at j cs) v ≡ true)
     × (b ≡ below (Component j) (fault code.DefaultPresent at)))
 
-abbrev from_place : Components → (ℕ → Reader) → ℕ → List ℕ → Head → ℕ → Result Member AbstractBreach
+abbrev from_place : Components → (ℕ → Reader) → ℕ → List ℕ → Head → ℕ → Result PlacedElement AbstractBreach
 from_place cs read at os h j = sent_at j (presence_at j cs) (read j) at h os >>= λ v. Ok (j, v, h)
 
-abbrev from_header : Components → (ℕ → Reader) → Fields → Option Tag → ℕ → List ℕ → Head → Result Member AbstractBreach
+abbrev from_header : Components → (ℕ → Reader) → Fields → Option Tag → ℕ → List ℕ → Head → Result PlacedElement AbstractBreach
 from_header cs read gs before at os h = placed_at cs gs before at h.tag >>= λ j. from_place cs read at os h j
 
 located_fault : (at : ℕ) (r : Result Head Code) (b : AbstractBreach) → located at r ≡ Err b → (c : Code) × (r ≡ Err c) × (b ≡ fault c at)
 located_fault at (Ok x) b e = absurd cc
 located_fault at (Err c) b e = (c, refl, sym (same_Err {A = Head} (fault c at) b e))
 
-pub member_ok : (cs : Components) (read : ℕ → Reader) (gs : Fields) (before : Option Tag) (at : ℕ) (os : List ℕ) (x : Member) → member_at cs read gs before at os ≡ Ok x → MemberOk cs read gs before at os x
-unfolding member_at
-member_ok cs read gs before at os x e =
+pub set_element_ok : (cs : Components) (read : ℕ → Reader) (gs : Fields) (before : Option Tag) (at : ℕ) (os : List ℕ) (x : PlacedElement) → set_element_at cs read gs before at os ≡ Ok x → ElementOk cs read gs before at os x
+unfolding set_element_at
+set_element_ok cs read gs before at os x e =
     let a = bind_ok (located at (head_of os)) (λ h. from_header cs read gs before at os h) x e in
     let b = bind_ok (placed_at cs gs before at a.0.tag) (λ j. from_place cs read at os a.0 j) x a.2 in
     let c = bind_ok (sent_at b.0 (presence_at b.0 cs) (read b.0) at a.0 os) (λ v. Ok (b.0, v, a.0)) x b.2 in
     let p = placed_ok (one_with 0 cs a.0.tag) gs before at a.0.tag b.0 (sym (placed_is cs gs before at a.0.tag (one_with 0 cs a.0.tag) refl) ∙ b.1) in
     let s = sent_ok b.0 (presence_at b.0 cs) (read b.0) at a.0 os c.0 c.1 in
-    let made : Member = (b.0, c.0, a.0) in
+    let made : PlacedElement = (b.0, c.0, a.0) in
     let same : made ≡ x = same_Ok {F = AbstractBreach} made x c.2 in
-    let given : MemberOk cs read gs before at os made = record { stands = located_is at (head_of os) a.0 a.1; found = p.0; after = p.1; free = p.2; gives = s.0; kept = s.1 } in
+    let given : ElementOk cs read gs before at os made = record { stands = located_is at (head_of os) a.0 a.1; found = p.0; after = p.1; free = p.2; gives = s.0; kept = s.1 } in
     rw (← same) given
 
-pub member_err : (cs : Components) (read : ℕ → Reader) (gs : Fields) (before : Option Tag) (at : ℕ) (os : List ℕ) (b : AbstractBreach) → member_at cs read gs before at os ≡ Err b → MemberErr cs read gs before at os b
-unfolding member_at
-member_err cs read gs before at os b e =
+pub set_element_err : (cs : Components) (read : ℕ → Reader) (gs : Fields) (before : Option Tag) (at : ℕ) (os : List ℕ) (b : AbstractBreach) → set_element_at cs read gs before at os ≡ Err b → ElementErr cs read gs before at os b
+unfolding set_element_at
+set_element_err cs read gs before at os b e =
     elim (bind_err (located at (head_of os)) (λ h. from_header cs read gs before at os h) b e) [
       | inl header ↦ let l = located_fault at (head_of os) b header in inl (l.0, l.1, l.2)
       | inr (h, located_ok, more) ↦
@@ -140,26 +140,26 @@ member_err cs read gs before at os b e =
 
 -- ---- the way back
 
-pub member_reads : (cs : Components) (read : ℕ → Reader) (gs : Fields) (before : Option Tag) (at : ℕ) (os : List ℕ) (h : Head) (j : ℕ) (v : AbstractValue)
-    → head_of os ≡ Ok h → placed_at cs gs before at h.tag ≡ Ok j → read j at h os ≡ Ok v → is_left_out (presence_at j cs) v ≡ false → member_at cs read gs before at os ≡ Ok (j, v, h)
-unfolding member_at
-member_reads cs read gs before at os h j v stands place e kept = rw (stands, place, sent_again j (presence_at j cs) (read j) at h os v e kept) refl
+pub set_element_reads : (cs : Components) (read : ℕ → Reader) (gs : Fields) (before : Option Tag) (at : ℕ) (os : List ℕ) (h : Head) (j : ℕ) (v : AbstractValue)
+    → head_of os ≡ Ok h → placed_at cs gs before at h.tag ≡ Ok j → read j at h os ≡ Ok v → is_left_out (presence_at j cs) v ≡ false → set_element_at cs read gs before at os ≡ Ok (j, v, h)
+unfolding set_element_at
+set_element_reads cs read gs before at os h j v stands place e kept = rw (stands, place, sent_again j (presence_at j cs) (read j) at h os v e kept) refl
 
-pub member_bad : (cs : Components) (read : ℕ → Reader) (gs : Fields) (before : Option Tag) (at : ℕ) (os : List ℕ) (c : Code) → head_of os ≡ Err c → member_at cs read gs before at os ≡ Err (fault c at)
-unfolding member_at
-member_bad cs read gs before at os c e = rw e refl
+pub set_element_bad : (cs : Components) (read : ℕ → Reader) (gs : Fields) (before : Option Tag) (at : ℕ) (os : List ℕ) (c : Code) → head_of os ≡ Err c → set_element_at cs read gs before at os ≡ Err (fault c at)
+unfolding set_element_at
+set_element_bad cs read gs before at os c e = rw e refl
 
-pub member_strays : (cs : Components) (read : ℕ → Reader) (gs : Fields) (before : Option Tag) (at : ℕ) (os : List ℕ) (h : Head) (b : AbstractBreach)
-    → head_of os ≡ Ok h → placed_at cs gs before at h.tag ≡ Err b → member_at cs read gs before at os ≡ Err b
-unfolding member_at
-member_strays cs read gs before at os h b stands e = rw (stands, e) refl
+pub set_element_strays : (cs : Components) (read : ℕ → Reader) (gs : Fields) (before : Option Tag) (at : ℕ) (os : List ℕ) (h : Head) (b : AbstractBreach)
+    → head_of os ≡ Ok h → placed_at cs gs before at h.tag ≡ Err b → set_element_at cs read gs before at os ≡ Err b
+unfolding set_element_at
+set_element_strays cs read gs before at os h b stands e = rw (stands, e) refl
 
-pub member_fails : (cs : Components) (read : ℕ → Reader) (gs : Fields) (before : Option Tag) (at : ℕ) (os : List ℕ) (h : Head) (j : ℕ) (c : AbstractBreach)
-    → head_of os ≡ Ok h → placed_at cs gs before at h.tag ≡ Ok j → read j at h os ≡ Err c → member_at cs read gs before at os ≡ Err (below (Component j) c)
-unfolding member_at
-member_fails cs read gs before at os h j c stands place e = rw (stands, place, sent_fails j (presence_at j cs) (read j) at h os c e) refl
+pub set_element_fails : (cs : Components) (read : ℕ → Reader) (gs : Fields) (before : Option Tag) (at : ℕ) (os : List ℕ) (h : Head) (j : ℕ) (c : AbstractBreach)
+    → head_of os ≡ Ok h → placed_at cs gs before at h.tag ≡ Ok j → read j at h os ≡ Err c → set_element_at cs read gs before at os ≡ Err (below (Component j) c)
+unfolding set_element_at
+set_element_fails cs read gs before at os h j c stands place e = rw (stands, place, sent_fails j (presence_at j cs) (read j) at h os c e) refl
 
-pub member_default : (cs : Components) (read : ℕ → Reader) (gs : Fields) (before : Option Tag) (at : ℕ) (os : List ℕ) (h : Head) (j : ℕ) (v : AbstractValue)
-    → head_of os ≡ Ok h → placed_at cs gs before at h.tag ≡ Ok j → read j at h os ≡ Ok v → is_left_out (presence_at j cs) v ≡ true → member_at cs read gs before at os ≡ Err (below (Component j) (fault code.DefaultPresent at))
-unfolding member_at
-member_default cs read gs before at os h j v stands place e left = rw (stands, place, sent_default j (presence_at j cs) (read j) at h os v e left) refl
+pub set_element_default : (cs : Components) (read : ℕ → Reader) (gs : Fields) (before : Option Tag) (at : ℕ) (os : List ℕ) (h : Head) (j : ℕ) (v : AbstractValue)
+    → head_of os ≡ Ok h → placed_at cs gs before at h.tag ≡ Ok j → read j at h os ≡ Ok v → is_left_out (presence_at j cs) v ≡ true → set_element_at cs read gs before at os ≡ Err (below (Component j) (fault code.DefaultPresent at))
+unfolding set_element_at
+set_element_default cs read gs before at os h j v stands place e left = rw (stands, place, sent_default j (presence_at j cs) (read j) at h os v e left) refl

@@ -7,6 +7,6 @@ use Rattle.guard_model.proofs.Components.{left}
 
 abbrev pub invariant-loop-index : goal.invariant-loop-index
 invariant-loop-index l = record {
-  so_far : with_front (map field_view (take l.index l.slots.items)) (completed l.index (left l.comps l.index) (fields_view (drop l.index l.slots.items)) l.at) ≡ completed 0 (left l.comps 0) (fields_view l.fn.slots.items) l.at;
-  count : length l.slots.items ≡ length l.comps;
+  so_far : with_front (map field_view (take l.index l.fields.items)) (completed l.index (left l.comps l.index) (fields_view (drop l.index l.fields.items)) l.at) ≡ completed 0 (left l.comps 0) (fields_view l.fn.fields.items) l.at;
+  count : length l.fields.items ≡ length l.comps;
 }

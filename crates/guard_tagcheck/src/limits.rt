@@ -30,13 +30,7 @@ fn is_within(ty: &Ty, depth: usize) -> bool
 fn is_tagged(tags: &[Tag], kind: &Kind) -> bool
     ensures { result ≡ is_tagged tags.now (kind_view kind.now) }
 {
-    if !tags.is_empty() {
-        return true;
-    }
-    match kind {
-        Kind::Choice(_) => true,
-        _ => false,
-    }
+    !tags.is_empty() || matches!(kind, Kind::Choice(_))
 }
 
 #[cycle(limits)]
@@ -44,19 +38,10 @@ fn is_kind_within(kind: &Kind, depth: usize) -> bool
     ensures { result ≡ kind_within (kind_view kind.now) depth }
 {
     match kind {
-        Kind::Sequence(comps) => are_within(comps, depth),
-        Kind::Set(comps) => are_within(comps, depth),
+        Kind::Sequence(comps) | Kind::Set(comps) => are_within(comps, depth),
         Kind::Choice(comps) => depth > 0 && are_within(comps, depth - 1),
-        Kind::SequenceOf(element) => is_within(element, depth),
-        Kind::SetOf(element) => is_within(element, depth),
-        Kind::Bool => true,
-        Kind::Int(_) => true,
-        Kind::Bits => true,
-        Kind::Octets => true,
-        Kind::Null => true,
-        Kind::Oid => true,
-        Kind::Enumerated(_) => true,
-        Kind::Chars(_) => true,
+        Kind::SequenceOf(element) | Kind::SetOf(element) => is_within(element, depth),
+        _ => true,
     }
 }
 

@@ -46,18 +46,9 @@ fn first_clash(ty: &Ty) -> Option<Clash>
 {
     match &ty.kind {
         Kind::Sequence(comps) => clash_among(comps, true),
-        Kind::Set(comps) => clash_among(comps, false),
-        Kind::Choice(comps) => clash_among(comps, false),
-        Kind::SequenceOf(element) => clash_of_elements(element),
-        Kind::SetOf(element) => clash_of_elements(element),
-        Kind::Bool => None,
-        Kind::Int(_) => None,
-        Kind::Bits => None,
-        Kind::Octets => None,
-        Kind::Null => None,
-        Kind::Oid => None,
-        Kind::Enumerated(_) => None,
-        Kind::Chars(_) => None,
+        Kind::Set(comps) | Kind::Choice(comps) => clash_among(comps, false),
+        Kind::SequenceOf(element) | Kind::SetOf(element) => clash_of_elements(element),
+        _ => None,
     }
 }
 
@@ -142,13 +133,5 @@ fn partner(comps: &[Comp], index: usize, ty: &Ty, in_sequence: bool) -> Option<u
 fn is_passed(presence: &Presence, in_sequence: bool) -> bool
     ensures { result ≡ is_passed in_sequence (presence_view presence.now) }
 {
-    if !in_sequence {
-        return true;
-    }
-    match presence {
-        Presence::Mandatory => false,
-        Presence::Optional => true,
-        Presence::Pending => true,
-        Presence::Default(_) => true,
-    }
+    !in_sequence || !matches!(presence, Presence::Mandatory)
 }

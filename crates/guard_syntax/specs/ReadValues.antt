@@ -7,7 +7,7 @@ use Rattle.guard_lexer.specs.declared.token.Mark.TheVariants.{Colon, LeftBrace, 
 use Rattle.guard_syntax.specs.declared.tree.StringKind.{StringKind}
 use Rattle.guard_syntax.specs.declared.tree.StringKind.TheVariants as string
 use Rattle.guard_syntax.specs.Trees.{WrittenArc, WrittenValue, value_node, WrittenValueForm, boolean, null, integer, text, reference, chosen, list, arcs, WrittenEntry, entries_of}
-use Rattle.guard_syntax.specs.ReadTokens.{Placed, Reader, begins_with, behind, site_at, unexpected, too_deep, read_token, read_word, read_each, read_parted, read_number, read_arc}
+use Rattle.guard_syntax.specs.ReadTokens.{Placed, Reader, begins_with, behind, site_at, unexpected, too_deep, read_token, read_spelling, read_each, read_parted, read_number, read_arc}
 
 -- which string is written
 abbrev pub string_at : List Placed → Option StringKind
@@ -38,7 +38,7 @@ begins_arcs ps =
 -- the name before a value, where there is one
 unfoldable pub read_entry_name : Reader (Option (List ℕ))
 read_entry_name ps =
-    if begins_with LowerName ps then (if begins_value (behind ps) then (read_word LowerName ps >>= λ name. Ok (Some name.0, name.1)) else Ok (None, ps))
+    if begins_with LowerName ps then (if begins_value (behind ps) then (read_spelling LowerName ps >>= λ name. Ok (Some name.0, name.1)) else Ok (None, ps))
     else Ok (None, ps)
 
 unfoldable pub read_entry : Reader WrittenValue → Reader WrittenEntry
@@ -76,7 +76,7 @@ read_braces levels values ps =
 -- a name, or a chosen alternative
 unfoldable pub read_name : Reader WrittenValue → Reader WrittenValueForm
 read_name values ps =
-    read_word LowerName ps >>= λ name.
+    read_spelling LowerName ps >>= λ name.
     if begins_with (Mark Colon) name.1 then (values (behind name.1) >>= λ v. Ok (chosen name.0 v.0, v.1))
     else Ok (reference name.0, name.1)
 
@@ -85,9 +85,9 @@ read_integer_form ps = read_number ps >>= λ n. Ok (integer n.0, n.1)
 
 unfoldable pub read_string : Reader WrittenValueForm
 read_string ps =
-    if begins_with CharacterString ps then (read_word CharacterString ps >>= λ s. Ok (text string.Characters s.0, s.1))
-    else (if begins_with BitString ps then (read_word BitString ps >>= λ s. Ok (text string.Bits s.0, s.1))
-    else (read_word HexadecimalString ps >>= λ s. Ok (text string.Hexadecimal s.0, s.1)))
+    if begins_with CharacterString ps then (read_spelling CharacterString ps >>= λ s. Ok (text string.Characters s.0, s.1))
+    else (if begins_with BitString ps then (read_spelling BitString ps >>= λ s. Ok (text string.Bits s.0, s.1))
+    else (read_spelling HexadecimalString ps >>= λ s. Ok (text string.Hexadecimal s.0, s.1)))
 
 unfoldable pub read_value_form : ℕ → Reader WrittenValue → Reader WrittenValueForm
 read_value_form levels values ps =

@@ -3,10 +3,10 @@ ghost use Rattle.std.specs.Prelude.{◌≡◌, length, Some, true, false};
 ghost use Rattle.guard_model.specs.Answer.{Gives};
 ghost use Rattle.guard_syntax.specs.Lexemes.{octets_of, HasSpelling};
 ghost use Rattle.guard_syntax.specs.ReadTokens as reading;
-ghost use Rattle.guard_syntax.specs.ReadTokens.{stop_of};
+ghost use Rattle.guard_syntax.specs.ReadTokens.{failure_of};
 ghost use Rattle.guard_syntax.specs.Cursors.{ahead, Reads};
 
-use crate::halt::{Halt, Stop};
+use crate::read_error::{Failure, ReadError};
 use guard_lexer::{Token, TokenKind};
 use guard_model::Site;
 
@@ -18,7 +18,7 @@ pub struct Cursor<'a, 't> {
 }
 
 /// What was read, and what is still to be read behind it.
-pub type Read<'a, 't, T> = Result<(T, Cursor<'a, 't>), Halt>;
+pub type Read<'a, 't, T> = Result<(T, Cursor<'a, 't>), ReadError>;
 
 impl<'a, 't> Cursor<'a, 't> {
     /// How many tokens there are.
@@ -71,20 +71,20 @@ impl<'a, 't> Cursor<'a, 't> {
         }
     }
 
-    /// Reading stops here.
-    pub fn unexpected(self) -> Halt
-        ensures { stop_of result ≡ Some (Stop.Unexpected (length (ahead self.entry))) }
+    /// Reading fails here.
+    pub fn unexpected(self) -> ReadError
+        ensures { failure_of result ≡ Some (Failure.Unexpected (length (ahead self.entry))) }
     {
-        Halt::At(Stop::Unexpected(self.len()))
+        ReadError::At(Failure::Unexpected(self.len()))
     }
 
-    /// A node that would lie too deep stops reading, where a token begins it.
-    pub fn too_deep(self, begins: bool) -> Halt
-        ensures deep { begins ≡ true → stop_of result ≡ Some (Stop.TooDeep (length (ahead self.entry))) }
-        ensures other { begins ≡ false → stop_of result ≡ Some (Stop.Unexpected (length (ahead self.entry))) }
+    /// Reading fails here since a node would lie too deep, where a token begins one.
+    pub fn too_deep(self, begins: bool) -> ReadError
+        ensures deep { begins ≡ true → failure_of result ≡ Some (Failure.TooDeep (length (ahead self.entry))) }
+        ensures other { begins ≡ false → failure_of result ≡ Some (Failure.Unexpected (length (ahead self.entry))) }
     {
         if begins {
-            Halt::At(Stop::TooDeep(self.len()))
+            ReadError::At(Failure::TooDeep(self.len()))
         } else {
             self.unexpected()
         }
@@ -92,8 +92,8 @@ impl<'a, 't> Cursor<'a, 't> {
 
     /// Behind one token of this kind.
     #[tactic(auto, unfolding(crate::specs::ReadTokens::read_token))]
-    pub fn after(self, kind: TokenKind) -> Result<Cursor<'a, 't>, Halt>
-        ensures { Gives ahead stop_of result (reading.read_token kind (ahead self.entry)) }
+    pub fn after(self, kind: TokenKind) -> Result<Cursor<'a, 't>, ReadError>
+        ensures { Gives ahead failure_of result (reading.read_token kind (ahead self.entry)) }
     {
         if self.begins_with(kind) {
             Ok(self.behind())
@@ -103,10 +103,10 @@ impl<'a, 't> Cursor<'a, 't> {
     }
 
     /// The spelling of one name, number or string.
-    #[tactic(auto, unfolding(crate::specs::ReadTokens::read_word))]
+    #[tactic(auto, unfolding(crate::specs::ReadTokens::read_spelling))]
     pub fn spelling(self, kind: TokenKind) -> Read<'a, 't, &'a [u8]>
         requires { HasSpelling kind }
-        ensures { Reads (λ s. s.now) result (reading.read_word kind (ahead self.entry)) }
+        ensures { Reads (λ s. s.now) result (reading.read_spelling kind (ahead self.entry)) }
     {
         match self.tokens {
             [first, ..] if first.kind == kind => Ok((octets(self.text, first), self.behind())),

@@ -7,7 +7,7 @@ ghost use Rattle.guard_syntax.specs.ReadModule as reading;
 ghost use Rattle.guard_syntax.specs.ModuleViews.{symbol_view, exports_view, perhaps_exports_view, import_view, imports_view};
 
 use crate::cursor::{Cursor, Read};
-use crate::identifier::identifier;
+use crate::module_identifiers::identifier;
 use crate::tree::{ExportsTree, ImportTree, NameTree, SymbolKind, SymbolTree};
 use guard_lexer::{Mark, Reserved, TokenKind};
 use std::alloc::Global;

@@ -2,15 +2,15 @@
 ghost use Rattle.std.specs.Prelude.{◌≡◌, map, length};
 ghost use Rattle.guard_model.specs.Answer.{Gives};
 ghost use Rattle.guard_syntax.specs.ReadTokens as tokens_reading;
-ghost use Rattle.guard_syntax.specs.ReadTokens.{stop_of};
+ghost use Rattle.guard_syntax.specs.ReadTokens.{failure_of};
 ghost use Rattle.guard_syntax.specs.Cursors.{ahead, Reads, each_view, boxed_view};
 ghost use Rattle.guard_syntax.specs.ReadModule as reading;
 ghost use Rattle.guard_syntax.specs.ModuleViews.{head_view, assignment_view, module_view};
 
 use crate::cursor::{Cursor, Read};
-use crate::halt::Halt;
-use crate::identifier::identifier;
 use crate::imports::{exports, imports};
+use crate::module_identifiers::identifier;
+use crate::read_error::ReadError;
 use crate::tree::{Assignment, Module, PartTree, TagDefault};
 use crate::types::type_tree;
 use crate::values::value;
@@ -30,8 +30,8 @@ struct Heading<'a> {
 
 /// A module, and no token behind it.
 #[tactic(auto, unfolding(crate::specs::ReadModule::read_module))]
-pub fn module<'a>(alloc: Global, at: Cursor<'a, '_>) -> Result<Module<'a>, Halt>
-    ensures { Gives module_view stop_of result (reading.read_module (ahead at.entry)) }
+pub fn module<'a>(alloc: Global, at: Cursor<'a, '_>) -> Result<Module<'a>, ReadError>
+    ensures { Gives module_view failure_of result (reading.read_module (ahead at.entry)) }
 {
     let (head, rest) = head(alloc, at)?;
     let (exports, rest) = exports(alloc, rest)?;
@@ -166,8 +166,8 @@ fn value_assignment<'a, 't>(alloc: Global, at: Cursor<'a, 't>) -> Read<'a, 't, A
 
 /// No token is left.
 #[tactic(auto, unfolding(crate::specs::ReadModule::read_end))]
-fn ended(at: Cursor) -> Result<(), Halt>
-    ensures { Gives (λ x. x) stop_of result (reading.read_end (ahead at.entry)) }
+fn ended(at: Cursor) -> Result<(), ReadError>
+    ensures { Gives (λ x. x) failure_of result (reading.read_end (ahead at.entry)) }
 {
     if at.tokens.is_empty() {
         Ok(())

@@ -2,7 +2,7 @@
 ghost use Rattle.std.specs.Prelude.{◌≡◌, map, length};
 ghost use Rattle.guard_model.specs.Answer.{Gives, Refuses};
 ghost use Rattle.guard_syntax.specs.ReadTokens as tokens_reading;
-ghost use Rattle.guard_syntax.specs.ReadTokens.{stop_of};
+ghost use Rattle.guard_syntax.specs.ReadTokens.{failure_of};
 ghost use Rattle.guard_syntax.specs.Cursors.{ahead, Reads, each_view, boxed_view};
 ghost use Rattle.guard_syntax.specs.ReadValues.{read_value};
 ghost use Rattle.guard_syntax.specs.ReadSets.{read_set, read_constraint};
@@ -10,10 +10,10 @@ ghost use Rattle.guard_syntax.specs.ReadTypes as reading;
 ghost use Rattle.guard_syntax.specs.SetViews.{constraint_view};
 ghost use Rattle.guard_syntax.specs.TypeViews.{of_constraint_view, presence_view, base_view, component_form_view, component_view, alternative_view, type_view};
 
-use crate::constraint::constraint;
 use crate::cursor::{Cursor, Read};
-use crate::halt::Halt;
-use crate::items::{items, numbers};
+use crate::named_numbers::{items, numbers};
+use crate::read_error::ReadError;
+use crate::sets::constraint;
 use crate::tags::{begins_tag, tags};
 use crate::tree::{
     AlternativeTree, BaseTree, Collection, CompForm, CompTree, ConsTree, OfConsTree, PlainType,
@@ -106,8 +106,8 @@ pub fn type_tree<'a, 't>(
 
 /// No type may stand here: it would lie too deep.
 #[tactic(auto, unfolding(crate::specs::ReadTypes::read_type))]
-fn type_too_deep(at: Cursor) -> Halt
-    ensures { Refuses (stop_of result) (reading.read_type 0 (ahead at.entry)) }
+fn type_too_deep(at: Cursor) -> ReadError
+    ensures { Refuses (failure_of result) (reading.read_type 0 (ahead at.entry)) }
 {
     at.too_deep(begins_type(at))
 }

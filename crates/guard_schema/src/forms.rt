@@ -1,7 +1,7 @@
 //! From the tree of a module to its basic tree, and the first form that is left out.
 ghost use Rattle.std.specs.Prelude.{map};
 ghost use Rattle.guard_model.specs.Answer.{Gives};
-ghost use Rattle.guard_syntax.specs.Trees.{components_of, alternatives_of, structure, choice};
+ghost use Rattle.guard_syntax.specs.Trees.{components_of, alternatives_of, structure, choice, of_type};
 ghost use Rattle.guard_syntax.specs.TypeViews as written;
 ghost use Rattle.guard_syntax.specs.SetViews.{constraint_view};
 ghost use Rattle.guard_syntax.specs.ModuleViews as modules;
@@ -103,11 +103,13 @@ fn basic_base<'a>(
         BaseTree::Integer(numbers) => integer(alloc, site, numbers),
         BaseTree::Structure(collection, comps) => structure(alloc, site, *collection, comps),
         BaseTree::Choice(alternatives) => choice(alloc, site, alternatives),
-        BaseTree::Of(collection, before, element) => {
-            check_before_of(before)?;
-            let element = basic_type(alloc, element)?;
-            Ok(BasicBase::Of(*collection, Box::new(alloc, element)?))
-        }
+        BaseTree::Of(collection, before, element) => of_type(
+            alloc,
+            site,
+            *collection,
+            before,
+            element,
+        ),
         BaseTree::Enumerated(_) => Err(FormFault::LeftOut(site)),
         BaseTree::Reference(_) => Err(FormFault::LeftOut(site)),
     }
@@ -137,6 +139,23 @@ fn choice<'a>(
 {
     let comps = basic_alternatives(alloc, alternatives)?;
     Ok(BasicBase::Choice(comps))
+}
+
+/// A SEQUENCE OF or SET OF.
+#[cycle(forms)]
+#[tactic(auto, unfolding(crate::specs::Forms::basic_base))]
+fn of_type<'a>(
+    alloc: Global,
+    site: Site,
+    collection: Collection,
+    before: &Option<OfConsTree<'a>>,
+    element: &TypeTree<'a>,
+) -> Result<BasicBase<'a>, FormFault>
+    ensures { Gives base_view form_named result (forms.basic_base site (of_type collection (written.of_constraint_view before.now) (written.type_view element.now))) }
+{
+    check_before_of(before)?;
+    let element = basic_type(alloc, element)?;
+    Ok(BasicBase::Of(collection, Box::new(alloc, element)?))
 }
 
 #[cycle(forms)]
@@ -252,21 +271,9 @@ fn with_constraints<'a>(
 {
     match base {
         BasicBase::Integer(_) => Ok(BasicBase::Integer(perhaps_one(alloc, trees)?)),
-        BasicBase::Plain(plain) => {
+        base => {
             check_no_constraints(trees)?;
-            Ok(BasicBase::Plain(plain))
-        }
-        BasicBase::Structure(collection, comps) => {
-            check_no_constraints(trees)?;
-            Ok(BasicBase::Structure(collection, comps))
-        }
-        BasicBase::Choice(comps) => {
-            check_no_constraints(trees)?;
-            Ok(BasicBase::Choice(comps))
-        }
-        BasicBase::Of(collection, element) => {
-            check_no_constraints(trees)?;
-            Ok(BasicBase::Of(collection, element))
+            Ok(base)
         }
     }
 }

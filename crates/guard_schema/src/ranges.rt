@@ -87,13 +87,7 @@ fn ends_of_element<'a>(element: &ElementTree<'a>) -> Option<Ends<'a>>
 {
     match &element.form {
         ElementForm::Range(range) => integer_ends(range),
-        ElementForm::Parentheses(_) => None,
-        ElementForm::Value(_) => None,
-        ElementForm::Contained(_, _) => None,
-        ElementForm::Size(_) => None,
-        ElementForm::From(_) => None,
-        ElementForm::WithComponent(_) => None,
-        ElementForm::WithComponents(_, _) => None,
+        _ => None,
     }
 }
 
@@ -124,7 +118,6 @@ fn integer_of<'a>(form: &EndForm<'a>) -> Option<NumberTree<'a>>
 {
     match form {
         EndForm::Integer(number) => Some(*number),
-        EndForm::Reference(_) => None,
-        EndForm::Characters(_) => None,
+        _ => None,
     }
 }

@@ -61,11 +61,10 @@ fn check_parts(alloc: Global, base: &BasicBase, before: usize) -> Result<Checked
     ensures { Gives (λ c. c) named result (check_base before (base_view base.now)) }
 {
     match base {
-        BasicBase::Plain(_) => Ok(no_parts(before)),
-        BasicBase::Integer(_) => Ok(no_parts(before)),
         BasicBase::Structure(_, comps) => check_comps(alloc, comps, before),
         BasicBase::Choice(comps) => check_comps(alloc, comps, before),
         BasicBase::Of(_, element) => check(alloc, element, before),
+        _ => Ok(no_parts(before)),
     }
 }
 
@@ -116,9 +115,7 @@ fn check_list(alloc: Global, site: Site, base: &BasicBase) -> Result<(), SchemaF
     match base {
         BasicBase::Structure(_, comps) => check_comp_list(alloc, site, comps),
         BasicBase::Choice(comps) => check_comp_list(alloc, site, comps),
-        BasicBase::Plain(_) => Ok(()),
-        BasicBase::Integer(_) => Ok(()),
-        BasicBase::Of(_, _) => Ok(()),
+        _ => Ok(()),
     }
 }
 

@@ -6,7 +6,7 @@ use crate::ranges::{Range, begins_by, common, gaps, reaches};
 use guard_model::OutOfMemory;
 use std::alloc::Global;
 
-/// A set of integers from -2^127 to 2^127-1. It holds no other integer.
+/// A set of integers, each of them of signed 128 bits: at least -2^127, at most 2^127-1.
 ///
 /// It is kept as ranges in ascending order of which no two touch or overlap, so that a set has one form.
 #[derive(Drop)]

@@ -169,8 +169,8 @@ choose name t presence rest v gs first ps law laws distinct fit kept encoded fit
     let parts : ps ≡ b.xs ++ part_from rest g.element.place g.element.value g.element.octets ∷ b.ys = same_Some ps _ (sym e ∙ ap (parts_of rest) g.is ∙ b.filled) in
     let lower : is_after (element_tag rest g.element) (b.xs ++ b.ys) ≡ true = ap (is_after (element_tag rest g.element)) (sym b.are) ∙ g.after in
     first_greatest name t presence rest v gs first ps fit kept encoded fit_rest sent e (
-      ap (is_after (outermost t v)) parts ∙ after_between (outermost t v) b.xs b.ys (part_from rest g.element.place g.element.value g.element.octets)
-          ∙ and_from (tag_before (element_tag rest g.element) (outermost t v)) (is_after (outermost t v) (b.xs ++ b.ys)) less (after_on (element_tag rest g.element) (outermost t v) (b.xs ++ b.ys) lower less)
+    ap (is_after (outermost t v)) parts ∙ after_between (outermost t v) b.xs b.ys (part_from rest g.element.place g.element.value g.element.octets)
+    ∙ and_from (tag_before (element_tag rest g.element) (outermost t v)) (is_after (outermost t v) (b.xs ++ b.ys)) less (after_on (element_tag rest g.element) (outermost t v) (b.xs ++ b.ys) lower less)
     )
 
 passed : (name : List ℕ) (t : AbstractType) (presence : AbstractPresence) (rest : Components) (gs : Fields) → Greatest rest gs → Greatest (component name t presence rest) (value.absent gs)

@@ -1,0 +1,5 @@
+-- Definitions, in reading order.
+pub mod Mentions
+pub mod Declarations
+pub mod Meanings
+pub mod Order

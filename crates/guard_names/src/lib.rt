@@ -1,0 +1,2 @@
+//! What the names in modules mean.
+#![tactic(auto)]

@@ -3,3 +3,4 @@ pub mod Mentions
 pub mod Declarations
 pub mod Meanings
 pub mod Order
+pub mod Views

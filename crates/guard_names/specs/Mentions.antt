@@ -5,7 +5,7 @@ use Rattle.std.specs.List.{flat_map}
 use Rattle.guard_model.specs.declared.site.Site.{Site}
 use Rattle.guard_syntax.specs.declared.tree.SymbolKind.{SymbolKind}
 use Rattle.guard_syntax.specs.declared.tree.SymbolKind.TheVariants as symbol
-use Rattle.guard_syntax.specs.Trees.{WrittenValue, value_node, WrittenValueForm, boolean, null, integer, text, reference, chosen, list, arcs, WrittenEntries, no_entries, entry, WrittenEndForm, end_integer, end_reference, end_characters, WrittenEnd, WrittenRange, WrittenSet, set_node, WrittenSetForm, all_except, union, WrittenUnited, none_united, united, WrittenIntersection, intersection, WrittenMet, none_met, met, WrittenDifference, element_alone, element_except, WrittenElement, element_node, WrittenElementForm, parentheses, value, contained, range, size, from, with_component, with_components, WrittenConstraint, constraint, WrittenParts, no_parts, part, part_in, WrittenOfConstraint, WrittenPresence, mandatory, optional, default, WrittenType, type_node, WrittenBase, plain, numbers, enumerated, structure, choice, of_type, named_type, WrittenComponents, no_components, component, components_from, WrittenAlternatives, no_alternatives, alternative, WrittenAssignment}
+use Rattle.guard_syntax.specs.Trees.{WrittenValue, value_node, WrittenValueForm, boolean, null, integer, text, reference, chosen, list, arcs, WrittenEntries, no_entries, entry, WrittenEndForm, end_integer, end_reference, end_characters, WrittenEnd, WrittenRange, WrittenSet, set_node, WrittenSetForm, all_except, union, WrittenUnited, none_united, united, WrittenIntersection, intersection, WrittenMet, none_met, met, WrittenDifference, element_alone, element_except, WrittenElement, element_node, WrittenElementForm, parentheses, value, contained, range, size, from, with_component, with_components, WrittenConstraint, constraint, WrittenParts, no_parts, part, part_in, WrittenOfConstraint, WrittenPresence, mandatory, optional, default, WrittenType, type_node, WrittenBase, plain, numbers, enumerated, structure, choice, of_type, named_type, WrittenComponents, no_components, component, components_from, WrittenComponentForm, named, components_of_type, WrittenAlternatives, no_alternatives, alternative, WrittenAssignment}
 
 -- a name that is mentioned, and where
 pub record Mention : Type 0 where
@@ -94,6 +94,11 @@ abbrev mutual
   in_parts (part site name presence ps) = in_parts ps
   in_parts (part_in site name c presence ps) = in_constraint c ++ in_parts ps
 
+-- in what WITH COMPONENTS says of one component
+abbrev pub in_perhaps_constraint : Option WrittenConstraint → List Mention
+in_perhaps_constraint None = []
+in_perhaps_constraint (Some c) = in_constraint c
+
 -- ---- types
 
 abbrev pub in_of_constraint : Option WrittenOfConstraint → List Mention
@@ -126,6 +131,11 @@ abbrev mutual
   pub in_alternatives : WrittenAlternatives → List Mention
   in_alternatives no_alternatives = []
   in_alternatives (alternative site name t all) = in_type t ++ in_alternatives all
+
+-- in one entry of a component list
+abbrev pub in_component : WrittenComponentForm → List Mention
+in_component (named name t presence) = in_type t ++ in_presence presence
+in_component (components_of_type t) = in_type t
 
 -- ---- assignments: the type, and behind it the value
 

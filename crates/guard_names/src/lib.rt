@@ -1,2 +1,8 @@
-//! What the names in modules mean.
+//! What the names in modules mean: of a list of modules, what each name in them is the name of, and in which order their
+//! definitions stand behind all that they use.
 #![tactic(auto)]
+
+mod fault;
+mod mentions;
+
+pub use fault::NameFault;

@@ -4,3 +4,4 @@ pub mod Declarations
 pub mod Meanings
 pub mod Order
 pub mod Views
+pub mod ExportViews

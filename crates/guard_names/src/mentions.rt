@@ -74,10 +74,7 @@ fn add_base<'a>(
 
 #[cycle(types)]
 #[tactic(auto, using(crate::proofs::Fronts::in_components_before))]
-fn add_components<'a>(
-    comps: &[CompTree<'a>],
-    into: &mut Vec<Mention<'a>>,
-) -> Result<(), AllocError>
+fn add_components<'a>(comps: &[CompTree<'a>], into: &mut Vec<Mention<'a>>) -> Result<(), AllocError>
     ensures { OnOk result (map mention_view into.new.items ≡ map mention_view into.old.items ++ mentions.in_components (components_of (map component_view comps.now))) }
 {
     for comp in comps {
@@ -87,10 +84,7 @@ fn add_components<'a>(
 }
 
 #[cycle(types)]
-fn add_component<'a>(
-    comp: &CompTree<'a>,
-    into: &mut Vec<Mention<'a>>,
-) -> Result<(), AllocError>
+fn add_component<'a>(comp: &CompTree<'a>, into: &mut Vec<Mention<'a>>) -> Result<(), AllocError>
     ensures { OnOk result (map mention_view into.new.items ≡ map mention_view into.old.items ++ mentions.in_components (components_of (component_view comp.now ∷ []))) }
 {
     match &comp.form {
@@ -140,10 +134,7 @@ fn add_before_of<'a>(
     }
 }
 
-fn add_constraints<'a>(
-    cons: &[ConsTree<'a>],
-    into: &mut Vec<Mention<'a>>,
-) -> Result<(), AllocError>
+fn add_constraints<'a>(cons: &[ConsTree<'a>], into: &mut Vec<Mention<'a>>) -> Result<(), AllocError>
     ensures { OnOk result (map mention_view into.new.items ≡ map mention_view into.old.items ++ flat_map mentions.in_constraint (map constraint_view cons.now)) }
 {
     for constraint in cons {
@@ -227,18 +218,13 @@ fn add_difference<'a>(
 }
 
 #[cycle(sets)]
-fn add_element<'a>(
-    element: &ElementTree<'a>,
-    into: &mut Vec<Mention<'a>>,
-) -> Result<(), AllocError>
+fn add_element<'a>(element: &ElementTree<'a>, into: &mut Vec<Mention<'a>>) -> Result<(), AllocError>
     ensures { OnOk result (map mention_view into.new.items ≡ map mention_view into.old.items ++ mentions.in_element (element_view element.now)) }
 {
     match &element.form {
         ElementForm::Parentheses(set) => add_set(set, into),
         ElementForm::Value(value) => add_value(value, into),
-        ElementForm::Contained(_, name) => {
-            add_name(element.site, SymbolKind::Type, *name, into)
-        }
+        ElementForm::Contained(_, name) => { add_name(element.site, SymbolKind::Type, *name, into) }
         ElementForm::Range(range) => add_range(range, into),
         ElementForm::Size(constraint) => add_constraint(constraint, into),
         ElementForm::From(constraint) => add_constraint(constraint, into),
@@ -311,10 +297,7 @@ fn add_value<'a>(value: &ValueTree<'a>, into: &mut Vec<Mention<'a>>) -> Result<(
 }
 
 #[cycle(values)]
-fn add_entries<'a>(
-    entries: &[EntryTree<'a>],
-    into: &mut Vec<Mention<'a>>,
-) -> Result<(), AllocError>
+fn add_entries<'a>(entries: &[EntryTree<'a>], into: &mut Vec<Mention<'a>>) -> Result<(), AllocError>
     ensures { OnOk result (map mention_view into.new.items ≡ map mention_view into.old.items ++ mentions.in_entries (entries_of (map entry_view entries.now))) }
 {
     for entry in entries {

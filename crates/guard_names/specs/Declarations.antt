@@ -52,8 +52,12 @@ written_imports (Some imports) = imports
 abbrev pub module_declaration : WrittenModule → Declaration
 module_declaration m = record { scope = None; name = m.name; site = m.site; origin = of_module }
 
+-- those of names that are imported from one module
+abbrev pub symbol_declarations : List ℕ → List ℕ → List WrittenSymbol → List Declaration
+symbol_declarations home from symbols = map (λ s. record { scope = Some home; name = s.name; site = s.site; origin = imported_from from }) symbols
+
 abbrev pub import_declarations : List ℕ → WrittenImport → List Declaration
-import_declarations home i = map (λ s. record { scope = Some home; name = s.name; site = s.site; origin = imported_from i.module_name }) i.symbols
+import_declarations home i = symbol_declarations home i.module_name i.symbols
 
 -- those of assignments, where the first one makes the definition of this number
 abbrev pub assigned_declarations : WrittenModule → ℕ → List WrittenAssignment → List Declaration

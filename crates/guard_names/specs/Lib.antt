@@ -5,3 +5,4 @@ pub mod Meanings
 pub mod Order
 pub mod Views
 pub mod ExportViews
+pub mod DeclarationViews

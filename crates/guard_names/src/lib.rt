@@ -2,6 +2,7 @@
 //! definitions stand behind all that they use.
 #![tactic(auto)]
 
+mod declarations;
 mod exports;
 mod fault;
 mod mentions;

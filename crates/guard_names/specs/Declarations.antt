@@ -1,6 +1,7 @@
 -- The names that modules declare (X.680 13.1): their own, those that they import, and those to which they assign a type or a value.
-use Rattle.std.specs.Prelude.{ℕ, ◌+◌, Bool, true, false, ◌&&◌, List, [], ◌∷◌, ◌++◌, map, length, Option, Some, None, bytes_eq}
+use Rattle.std.specs.Prelude.{ℕ, ◌+◌, Bool, true, false, ◌&&◌, List, [], ◌∷◌, ◌++◌, map, length, Option, Some, None, option_map, bytes_eq, find}
 use Rattle.std.specs.List.{flat_map, list_any}
+use Rattle.std.specs.Option.{option_eq}
 use Rattle.guard_model.specs.declared.site.Site.{Site}
 use Rattle.guard_syntax.specs.Trees.{WrittenSymbol, WrittenExports, all_exported, exported, WrittenImport, WrittenAssignment, WrittenModule}
 
@@ -78,33 +79,24 @@ declarations_from number (m ∷ ms) = module_declarations number m ++ declaratio
 abbrev pub declarations : List WrittenModule → List Declaration
 declarations ms = declarations_from 0 ms
 
--- ---- tests
-
-abbrev pub same_scope : Option (List ℕ) → Option (List ℕ) → Bool
-same_scope None None = true
-same_scope None (Some b) = false
-same_scope (Some a) None = false
-same_scope (Some a) (Some b) = bytes_eq a b
+-- ---- look-ups
 
 -- it declares this name there
 abbrev pub declares : Option (List ℕ) → List ℕ → Declaration → Bool
-declares scope name d = same_scope scope d.scope && bytes_eq name d.name
+declares scope name d = option_eq bytes_eq scope d.scope && bytes_eq name d.name
 
-abbrev pub is_assignment : Origin → Bool
-is_assignment of_module = false
-is_assignment (imported_from home) = false
-is_assignment (assigned_by number exports) = true
+-- where a name comes from that is declared there
+abbrev pub origin_there : List Declaration → Option (List ℕ) → List ℕ → Option Origin
+origin_there ds scope name = option_map (λ d. d.origin) (find (declares scope name) ds)
 
-abbrev pub is_exported : Origin → Bool
-is_exported of_module = false
-is_exported (imported_from home) = false
-is_exported (assigned_by number exports) = exports
+abbrev pub is_assigned : Option Origin → Bool
+is_assigned None = false
+is_assigned (Some of_module) = false
+is_assigned (Some (imported_from home)) = false
+is_assigned (Some (assigned_by number exports)) = true
 
-abbrev pub is_declared : List Declaration → Option (List ℕ) → List ℕ → Bool
-is_declared ds scope name = list_any (declares scope name) ds
-
-abbrev pub is_assigned_there : List Declaration → Option (List ℕ) → List ℕ → Bool
-is_assigned_there ds scope name = list_any (λ d. declares scope name d && is_assignment d.origin) ds
-
-abbrev pub is_exported_there : List Declaration → Option (List ℕ) → List ℕ → Bool
-is_exported_there ds scope name = list_any (λ d. declares scope name d && is_exported d.origin) ds
+abbrev pub is_exported : Option Origin → Bool
+is_exported None = false
+is_exported (Some of_module) = false
+is_exported (Some (imported_from home)) = false
+is_exported (Some (assigned_by number exports)) = exports

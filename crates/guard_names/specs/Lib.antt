@@ -3,6 +3,8 @@ pub mod Mentions
 pub mod Declarations
 pub mod Meanings
 pub mod Order
+pub mod Faults
+pub mod Rows
 pub mod Views
 pub mod ExportViews
 pub mod DeclarationViews

@@ -85,18 +85,35 @@ declarations ms = declarations_from 0 ms
 abbrev pub declares : Option (List ℕ) → List ℕ → Declaration → Bool
 declares scope name d = option_eq bytes_eq scope d.scope && bytes_eq name d.name
 
--- where a name comes from that is declared there
-abbrev pub origin_there : List Declaration → Option (List ℕ) → List ℕ → Option Origin
+-- where a name comes from: the name of a module, in no module, or a name that is declared in the module of a name
+abbrev pub Origins : Type 0
+Origins = Option (List ℕ) → List ℕ → Option Origin
+
+-- by these declarations
+abbrev pub origin_there : List Declaration → Origins
 origin_there ds scope name = option_map (λ d. d.origin) (find (declares scope name) ds)
 
-abbrev pub is_assigned : Option Origin → Bool
-is_assigned None = false
-is_assigned (Some of_module) = false
-is_assigned (Some (imported_from home)) = false
-is_assigned (Some (assigned_by number exports)) = true
+-- the definition in which it is assigned
+abbrev pub assigned_number : Option Origin → Option ℕ
+assigned_number None = None
+assigned_number (Some of_module) = None
+assigned_number (Some (imported_from home)) = None
+assigned_number (Some (assigned_by number exports)) = Some number
 
+-- whether it is assigned and exported
 abbrev pub is_exported : Option Origin → Bool
 is_exported None = false
 is_exported (Some of_module) = false
 is_exported (Some (imported_from home)) = false
 is_exported (Some (assigned_by number exports)) = exports
+
+-- the definition in which a name of this origin is assigned: in its own module, or in the one from which it is imported
+abbrev pub number_behind : Origins → List ℕ → Option Origin → Option ℕ
+number_behind origins name None = None
+number_behind origins name (Some of_module) = None
+number_behind origins name (Some (imported_from home)) = assigned_number (origins (Some home) name)
+number_behind origins name (Some (assigned_by number exports)) = Some number
+
+-- the definition of a name in the module of a name
+abbrev pub definition_of : Origins → List ℕ → List ℕ → Option ℕ
+definition_of origins home name = number_behind origins name (origins (Some home) name)

@@ -5,11 +5,11 @@ use Rattle.std.specs.Option.{option_or}
 use Rattle.guard_model.specs.declared.site.Site.{Site}
 use Rattle.guard_syntax.specs.declared.tree.SymbolKind.{SymbolKind}
 use Rattle.guard_syntax.specs.declared.tree.SymbolKind.TheVariants as symbol
-use Rattle.guard_syntax.specs.Trees.{WrittenSymbol, WrittenImport, WrittenModule}
+use Rattle.guard_syntax.specs.Trees.{WrittenSymbol, WrittenImport, WrittenAssignment, WrittenModule}
 use Rattle.guard_names.specs.declared.fault.NameFault.{NameFault}
 use Rattle.guard_names.specs.declared.fault.NameFault.TheVariants.{Duplicate, Undefined, NoModule, NotExported, ImportNotDefined, Recursive, TooManyModules, OutOfMemory}
 use Rattle.guard_names.specs.Mentions.{Mention, mentions}
-use Rattle.guard_names.specs.Declarations.{Definition, definitions, Origin, of_module, imported_from, assigned_by, Declaration, declarations, origin_there, is_assigned, is_exported, written_imports, listed_exports}
+use Rattle.guard_names.specs.Declarations.{Definition, definitions, Origin, of_module, imported_from, assigned_by, Declaration, declarations, Origins, origin_there, assigned_number, is_exported, definition_of, written_imports, listed_exports}
 use Rattle.guard_names.specs.Meanings.{Uses}
 use Rattle.guard_names.specs.Order.{IsRecursive, IsFirstRecursive}
 
@@ -39,51 +39,61 @@ abbrev pub duplicate : List WrittenModule → Option Site
 duplicate ms = duplicate_after [] (declarations ms)
 
 -- N3: a module behind FROM that isn't there
-abbrev pub is_missing : List Declaration → WrittenImport → Bool
-is_missing ds i = not (is_some (origin_there ds None i.module_name))
+abbrev pub is_missing : Origins → WrittenImport → Bool
+is_missing origins i = not (is_some (origins None i.module_name))
 
-abbrev pub no_module_in : List Declaration → WrittenModule → Option Site
-no_module_in ds m = first_where (is_missing ds) (λ i. i.module_site) (written_imports m.imports)
+abbrev pub no_module_in : Origins → WrittenModule → Option Site
+no_module_in origins m = first_where (is_missing origins) (λ i. i.module_site) (written_imports m.imports)
 
 abbrev pub no_module : List WrittenModule → Option Site
-no_module ms = first_found (no_module_in (declarations ms)) ms
+no_module ms = first_found (no_module_in (origin_there (declarations ms))) ms
 
 -- N5: a name that is imported from a module that doesn't assign it
-abbrev pub is_undefined_import : List Declaration → List ℕ → Origin → Bool
-is_undefined_import ds name of_module = false
-is_undefined_import ds name (imported_from home) = not (is_assigned (origin_there ds (Some home) name))
-is_undefined_import ds name (assigned_by number exports) = false
+abbrev pub is_undefined_import : Origins → List ℕ → Origin → Bool
+is_undefined_import origins name of_module = false
+is_undefined_import origins name (imported_from home) = not (is_some (assigned_number (origins (Some home) name)))
+is_undefined_import origins name (assigned_by number exports) = false
+
+abbrev pub not_defined_among : Origins → List Declaration → Option Site
+not_defined_among origins ds = first_where (λ d. is_undefined_import origins d.name d.origin) (λ d. d.site) ds
 
 abbrev pub not_defined : List WrittenModule → Option Site
-not_defined ms = first_where (λ d. is_undefined_import (declarations ms) d.name d.origin) (λ d. d.site) (declarations ms)
+not_defined ms = not_defined_among (origin_there (declarations ms)) (declarations ms)
 
 -- N4: a name that is imported from a module that doesn't export it
-abbrev pub is_closed_import : List Declaration → List ℕ → Origin → Bool
-is_closed_import ds name of_module = false
-is_closed_import ds name (imported_from home) = not (is_exported (origin_there ds (Some home) name))
-is_closed_import ds name (assigned_by number exports) = false
+abbrev pub is_closed_import : Origins → List ℕ → Origin → Bool
+is_closed_import origins name of_module = false
+is_closed_import origins name (imported_from home) = not (is_exported (origins (Some home) name))
+is_closed_import origins name (assigned_by number exports) = false
+
+abbrev pub not_exported_among : Origins → List Declaration → Option Site
+not_exported_among origins ds = first_where (λ d. is_closed_import origins d.name d.origin) (λ d. d.site) ds
 
 abbrev pub not_exported : List WrittenModule → Option Site
-not_exported ms = first_where (λ d. is_closed_import (declarations ms) d.name d.origin) (λ d. d.site) (declarations ms)
+not_exported ms = not_exported_among (origin_there (declarations ms)) (declarations ms)
 
 -- N2: a name that is exported and not assigned, or the name of a type that is neither assigned nor imported
 abbrev pub is_type : SymbolKind → Bool
 is_type symbol.Type = true
 is_type symbol.Value = false
 
-abbrev pub is_undefined_export : List Declaration → List ℕ → WrittenSymbol → Bool
-is_undefined_export ds home s = not (is_assigned (origin_there ds (Some home) s.name))
+abbrev pub is_undefined_export : Origins → List ℕ → WrittenSymbol → Bool
+is_undefined_export origins home s = not (is_some (assigned_number (origins (Some home) s.name)))
 
-abbrev pub is_undefined_mention : List Declaration → List ℕ → Mention → Bool
-is_undefined_mention ds home x = is_type x.kind && not (is_some (origin_there ds (Some home) x.name))
+abbrev pub is_undefined_mention : Origins → List ℕ → Mention → Bool
+is_undefined_mention origins home x = is_type x.kind && not (is_some (definition_of origins home x.name))
 
-abbrev pub undefined_in : List Declaration → WrittenModule → Option Site
-undefined_in ds m =
-    option_or (first_where (is_undefined_export ds m.name) (λ s. s.site) (listed_exports m.exports))
-    (first_found (λ a. first_where (is_undefined_mention ds m.name) (λ x. x.site) (mentions a)) m.assignments)
+abbrev pub undefined_export_in : Origins → WrittenModule → Option Site
+undefined_export_in origins m = first_where (is_undefined_export origins m.name) (λ s. s.site) (listed_exports m.exports)
+
+abbrev pub undefined_mention_in : Origins → List ℕ → WrittenAssignment → Option Site
+undefined_mention_in origins home a = first_where (is_undefined_mention origins home) (λ x. x.site) (mentions a)
+
+abbrev pub undefined_in : Origins → WrittenModule → Option Site
+undefined_in origins m = option_or (undefined_export_in origins m) (first_found (undefined_mention_in origins m.name) m.assignments)
 
 abbrev pub undefined : List WrittenModule → Option Site
-undefined ms = first_found (undefined_in (declarations ms)) ms
+undefined ms = first_found (undefined_in (origin_there (declarations ms))) ms
 
 -- the first of these that stands, in this order
 abbrev pub fault_of_names : List WrittenModule → Option NameFault

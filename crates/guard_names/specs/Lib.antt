@@ -8,3 +8,5 @@ pub mod Rows
 pub mod Views
 pub mod ExportViews
 pub mod DeclarationViews
+pub mod TableViews
+pub mod Reading

@@ -2,9 +2,12 @@
 //! definitions stand behind all that they use.
 #![tactic(auto)]
 
+mod checks;
 mod declarations;
 mod exports;
 mod fault;
+mod meanings;
 mod mentions;
+mod table;
 
 pub use fault::NameFault;

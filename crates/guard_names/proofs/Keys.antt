@@ -189,3 +189,12 @@ module _ (origins : declared.Origins) (xs : List Declaration) (i : ℕ) (d : Dec
         knows true alike =
             let same = both_true (bytes_eq home.now h.now) (bytes_eq name.now (get_or xs i d).name.now) alike in
             rw ((bytes_decides home.now h.now).0 same.0, (bytes_decides name.now (get_or xs i d).name.now).0 same.1) (sym known)
+
+-- what isn't declared has no definition
+pub known_all : (origins : declared.Origins) (ds : List declared.Declaration) → ((scope : Option (List ℕ)) (name : List ℕ) → origins scope name ≡ origin_there ds scope name)
+    → (home name : List ℕ) → known_number origins ds home name ≡ definition_of origins home name
+known_all origins ds are home name = by (origin_there ds (Some home) name) (are (Some home) name)
+  where
+    by : (o : Option declared.Origin) → origins (Some home) name ≡ o → cond (is_some o) (definition_of origins home name) None ≡ definition_of origins home name
+    by None e = rw e refl
+    by (Some x) e = refl

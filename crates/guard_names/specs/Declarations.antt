@@ -114,6 +114,9 @@ number_behind origins name (Some of_module) = None
 number_behind origins name (Some (imported_from home)) = assigned_number (origins (Some home) name)
 number_behind origins name (Some (assigned_by number exports)) = Some number
 
--- the definition of a name in the module of a name
-abbrev pub definition_of : Origins → List ℕ → List ℕ → Option ℕ
+-- which definition each name is the name of, in the module of a name
+abbrev pub Numbers : Type 0
+Numbers = List ℕ → List ℕ → Option ℕ
+
+abbrev pub definition_of : Origins → Numbers
 definition_of origins home name = number_behind origins name (origins (Some home) name)

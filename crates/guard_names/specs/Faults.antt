@@ -9,7 +9,7 @@ use Rattle.guard_syntax.specs.Trees.{WrittenSymbol, WrittenImport, WrittenAssign
 use Rattle.guard_names.specs.declared.fault.NameFault.{NameFault}
 use Rattle.guard_names.specs.declared.fault.NameFault.TheVariants.{Duplicate, Undefined, NoModule, NotExported, ImportNotDefined, Recursive, TooManyModules, OutOfMemory}
 use Rattle.guard_names.specs.Mentions.{Mention, mentions}
-use Rattle.guard_names.specs.Declarations.{Definition, definitions, Origin, of_module, imported_from, assigned_by, Declaration, declarations, Origins, origin_there, assigned_number, is_exported, definition_of, written_imports, listed_exports}
+use Rattle.guard_names.specs.Declarations.{Definition, definitions, Origin, of_module, imported_from, assigned_by, Declaration, declarations, Origins, Numbers, origin_there, assigned_number, is_exported, definition_of, written_imports, listed_exports}
 use Rattle.guard_names.specs.Meanings.{Uses}
 use Rattle.guard_names.specs.Order.{IsRecursive, IsFirstRecursive}
 
@@ -80,20 +80,20 @@ is_type symbol.Value = false
 abbrev pub is_undefined_export : Origins → List ℕ → WrittenSymbol → Bool
 is_undefined_export origins home s = not (is_some (assigned_number (origins (Some home) s.name)))
 
-abbrev pub is_undefined_mention : Origins → List ℕ → Mention → Bool
-is_undefined_mention origins home x = is_type x.kind && not (is_some (definition_of origins home x.name))
-
 abbrev pub undefined_export_in : Origins → WrittenModule → Option Site
 undefined_export_in origins m = first_where (is_undefined_export origins m.name) (λ s. s.site) (listed_exports m.exports)
 
-abbrev pub undefined_mention_in : Origins → List ℕ → WrittenAssignment → Option Site
-undefined_mention_in origins home a = first_where (is_undefined_mention origins home) (λ x. x.site) (mentions a)
+abbrev pub is_undefined_mention : Numbers → List ℕ → Mention → Bool
+is_undefined_mention numbers home x = is_type x.kind && not (is_some (numbers home x.name))
 
-abbrev pub undefined_in : Origins → WrittenModule → Option Site
-undefined_in origins m = option_or (undefined_export_in origins m) (first_found (undefined_mention_in origins m.name) m.assignments)
+abbrev pub undefined_mention_in : Numbers → List ℕ → WrittenAssignment → Option Site
+undefined_mention_in numbers home a = first_where (is_undefined_mention numbers home) (λ x. x.site) (mentions a)
+
+abbrev pub undefined_in : Origins → Numbers → WrittenModule → Option Site
+undefined_in origins numbers m = option_or (undefined_export_in origins m) (first_found (undefined_mention_in numbers m.name) m.assignments)
 
 abbrev pub undefined : List WrittenModule → Option Site
-undefined ms = first_found (undefined_in (origin_there (declarations ms))) ms
+undefined ms = let origins = origin_there (declarations ms) in first_found (undefined_in origins (definition_of origins)) ms
 
 -- the first of these that stands, in this order
 abbrev pub fault_of_names : List WrittenModule → Option NameFault

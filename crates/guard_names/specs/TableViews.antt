@@ -5,7 +5,7 @@ use Rattle.std.specs.Option.{option_eq}
 use Rattle.guard_names.specs.declared.table.Key.{Key}
 use Rattle.guard_names.specs.declared.table.Table.{Table}
 use Rattle.guard_names.specs.declared.meanings.Meanings.{Meanings}
-use Rattle.guard_names.specs.Declarations.{Origins}
+use Rattle.guard_names.specs.Declarations.{Origins, Numbers}
 use Rattle.guard_names.specs.DeclarationViews.{scope_view, origin_view}
 
 abbrev pub is_key : Option (List ℕ) → List ℕ → Key → Bool
@@ -16,5 +16,5 @@ abbrev pub origin_in : Table → Origins
 origin_in t scope name = option_map origin_view (lookup (is_key scope name) t.origins.entries)
 
 -- the definition of a name in the module of a name
-abbrev pub meaning_in : Meanings → List ℕ → List ℕ → Option ℕ
+abbrev pub meaning_in : Meanings → Numbers
 meaning_in t home name = lookup (is_key (Some home) name) t.numbers.entries

@@ -8,7 +8,7 @@ ghost use Rattle.guard_syntax.specs.ModuleViews.{module_view, import_view, symbo
 
 use crate::exports::Exports;
 use guard_model::Site;
-use guard_syntax::{Assignment, ImportTree, Module, SymbolTree};
+use guard_syntax::{ExportsTree, ImportTree, Module, SymbolTree};
 use std::alloc::{AllocError, Global};
 
 /// The number of a definition: its place among all assignments, in module and text order, from 0.
@@ -80,6 +80,17 @@ pub fn written_imports<'m, 'a>(module: &'m Module<'a>) -> &'m [ImportTree<'a>]
     match &module.imports {
         None => &[],
         Some(imports) => imports,
+    }
+}
+
+/// The names that a module lists as exported.
+pub fn listed_exports<'m, 'a>(module: &'m Module<'a>) -> &'m [SymbolTree<'a>]
+    ensures { map symbol_view result.now ≡ declared.listed_exports (module_view module.now).exports }
+{
+    match &module.exports {
+        None => &[],
+        Some(ExportsTree::All) => &[],
+        Some(ExportsTree::Symbols(symbols)) => symbols,
     }
 }
 

@@ -9,5 +9,6 @@ mod fault;
 mod meanings;
 mod mentions;
 mod table;
+mod uses;
 
 pub use fault::NameFault;

@@ -1,5 +1,5 @@
 //! Which definition each name means in the module of a name.
-ghost use Rattle.std.specs.Prelude.{◌≡◌, ℕ, List, map, IfOk, if◌then◌else◌, is_some, Some, None};
+ghost use Rattle.std.specs.Prelude.{◌≡◌, ℕ, List, map, IfOk, Option};
 ghost use Rattle.guard_names.specs.Declarations.{definition_of, origin_there};
 ghost use Rattle.guard_names.specs.DeclarationViews.{declaration_view};
 ghost use Rattle.guard_names.specs.TableViews.{origin_in};
@@ -24,7 +24,8 @@ impl<'a> Meanings<'a> {
         declarations: &[Declaration<'a>],
         table: &Table<'a>,
     ) -> Result<Meanings<'a>, AllocError>
-        ensures { IfOk result (λ t. (home name : List ℕ) → meaning_in t home name ≡ (if is_some (origin_there (map declaration_view declarations.now) (Some home) name) then definition_of (origin_in table.now) home name else None)) }
+        requires { (scope : Option (List ℕ)) (name : List ℕ) → origin_in table.now scope name ≡ origin_there (map declaration_view declarations.now) scope name }
+        ensures { IfOk result (λ t. (home name : List ℕ) → meaning_in t home name ≡ definition_of (origin_in table.now) home name) }
     {
         let mut numbers = IndexMap::new(alloc);
         for declaration in declarations {

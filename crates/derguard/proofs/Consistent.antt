@@ -1,22 +1,17 @@
 -- The policy that is built in is consistent.
-use Rattle.std.proofs.Common.{◌≡◌, List, [], ◌∷◌, All, ℕ, cond, true, false, Option, Some, None, refl, ap, sym, ◌∙◌, subst}
+use Rattle.std.proofs.Common.{◌≡◌, Some, subst}
 use Rattle.std.specs.Prelude.{IsTrue}
 use Rattle.std.proofs.lemmas.List.Elements.{All-from_recursion}
-use Rattle.std.specs.Str.{bytes_eq}
 use Rattle.guard_model.specs.AbstractType as type
 use Rattle.guard_model.specs.AbstractType.{AbstractType, type_of}
-use Rattle.guard_model.specs.AbstractValue.{AbstractValue}
-use Rattle.guard_der.specs.Fits.{fits}
 use Rattle.guard_der.specs.Sound.{is_sound}
-use Rattle.derguard.specs.Policies.{AbstractMessage, AbstractRule, FitsAlso, IsConsistent, declared_among}
+use Rattle.guard_policy.specs.Policies.{FitsAlso, IsConsistent, declared_among}
 use Rattle.derguard.specs.BuiltIn.{is_integer_type, built_in_messages, built_in_rules}
+use Rattle.std.proofs.lemmas.Option.{same_Some}
 
 integers_fit : (t u : AbstractType) → IsTrue (is_integer_type t) → IsTrue (is_integer_type u) → FitsAlso t u
 integers_fit (type_of tags (type.integer ns) cons) (type_of us (type.integer ms) ds) e f = λ v h. h
 integers_fit _ _ e f = absurd cc
-
-same_some : {A : Type 0} {x y : A} → Some x ≡ Some y → x ≡ y
-same_some e = cc
 
 pub built_in_consistent : (level low ping : AbstractType) → IsTrue (is_sound level) → IsTrue (is_sound low) → IsTrue (is_sound ping)
     → IsTrue (is_integer_type level) → IsTrue (is_integer_type low) → IsConsistent (built_in_messages level ping) (built_in_rules low ping)
@@ -24,27 +19,7 @@ built_in_consistent level low ping sound_level sound_low sound_ping integer_leve
   messages_sound = All-from_recursion (λ m. IsTrue (is_sound m.ty)) (built_in_messages level ping) (sound_level, (sound_ping, tt));
   rules_sound = All-from_recursion (λ r. IsTrue (is_sound r.ty)) (built_in_rules low ping) (sound_low, (sound_ping, tt));
   rules_fit = All-from_recursion (λ r. (t : AbstractType) → declared_among (built_in_messages level ping) r.message ≡ Some t → FitsAlso t r.ty) (built_in_rules low ping) (
-    (λ t (e : Some level ≡ Some t). subst (λ u. FitsAlso u low) (same_some e) (integers_fit level low integer_level integer_low)),
-    ((λ t (e : Some ping ≡ Some t). subst (λ u. FitsAlso u ping) (same_some e) (λ v h. h)), tt),
+    (λ t (e : Some level ≡ Some t). subst (λ u. FitsAlso u low) (same_Some _ _ e) (integers_fit level low integer_level integer_low)),
+    ((λ t (e : Some ping ≡ Some t). subst (λ u. FitsAlso u ping) (same_Some _ _ e) (λ v h. h)), tt),
   );
-}
-
-only_declared : (message : AbstractMessage) (name : List ℕ) (t u : AbstractType) → IsTrue (is_integer_type message.ty) → IsTrue (is_integer_type u)
-    → declared_among (message ∷ []) name ≡ Some t → FitsAlso t u
-only_declared message name t u integer integer_u =
-    elim (bytes_eq message.name name) as (λ b. cond b (Some message.ty) None ≡ Some t → FitsAlso t u) [
-      | true ↦ λ e. subst (λ x. FitsAlso x u) (same_some e) (integers_fit message.ty u integer integer_u)
-      | false ↦ λ e. absurd cc
-    ]
-
--- a policy of one message, an INTEGER, and rules for it that are INTEGERs too
-pub integers_consistent : (message : AbstractMessage) (a b c : AbstractRule)
-    → IsTrue (is_sound message.ty) → IsTrue (is_integer_type message.ty)
-    → IsTrue (is_sound a.ty) → IsTrue (is_integer_type a.ty) → IsTrue (is_sound b.ty) → IsTrue (is_integer_type b.ty) → IsTrue (is_sound c.ty) → IsTrue (is_integer_type c.ty)
-    → IsConsistent (message ∷ []) (a ∷ b ∷ c ∷ [])
-integers_consistent message a b c sound integer sound_a integer_a sound_b integer_b sound_c integer_c = record {
-  messages_sound = All-from_recursion (λ m. IsTrue (is_sound m.ty)) (message ∷ []) (sound, tt);
-  rules_sound = All-from_recursion (λ r. IsTrue (is_sound r.ty)) (a ∷ b ∷ c ∷ []) (sound_a, (sound_b, (sound_c, tt)));
-  rules_fit = All-from_recursion (λ r. (t : AbstractType) → declared_among (message ∷ []) r.message ≡ Some t → FitsAlso t r.ty) (a ∷ b ∷ c ∷ [])
-      ((λ t e. only_declared message a.message t a.ty integer integer_a e), ((λ t e. only_declared message b.message t b.ty integer integer_b e), ((λ t e. only_declared message c.message t c.ty integer integer_c e), tt)));
 }

@@ -1,8 +1,8 @@
 -- One more message is one more line.
 use Rattle.std.proofs.Common.{◌≡◌, ℕ, List, [], ◌∷◌, ◌++◌, refl, sym, ap, ◌∙◌, append_assoc}
 use Rattle.std.proofs.lemmas.List.{append-nil}
-use Rattle.derguard.specs.Policies.{AbstractPolicy}
-use Rattle.derguard.specs.Printing.{AbstractMessageSent, IsLine, AreLines, AppendsLine}
+use Rattle.guard_policy.specs.Policies.{AbstractPolicy}
+use Rattle.derguard.specs.Printing.{AbstractMessageSent, AreLines, AppendsLine}
 
 pub AreLines-append : (p : AbstractPolicy) (ms : List AbstractMessageSent) (m : AbstractMessageSent) (old new : List ℕ)
     → AreLines p ms old → AppendsLine p m old new → AreLines p (ms ++ m ∷ []) new

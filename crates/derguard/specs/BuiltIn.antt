@@ -1,10 +1,10 @@
 -- The policy that is built in: two messages, and for each a rule that allows it from a to b.
-use Rattle.std.specs.Prelude.{◌≡◌, ℕ, List, [], ◌∷◌, Bool, true, false, codes, Option, Some, None, IsTrue, option_to_list}
+use Rattle.std.specs.Prelude.{◌≡◌, ℕ, List, [], ◌∷◌, Bool, true, false, codes, Option, Some, IsTrue, option_to_list}
 use Rattle.guard_model.specs.AbstractType as type
 use Rattle.guard_model.specs.AbstractType.{AbstractType, AbstractKind, type_of}
-use Rattle.derguard.specs.declared.guard_policy.policy.Effect.TheVariants.{Allow}
-use Rattle.derguard.specs.Policies.{AbstractPolicy, AbstractMessage, AbstractRule}
-use Rattle.derguard.specs.Schemas.{AbstractSchema, type_named, module_named}
+use Rattle.guard_policy.specs.declared.policy.Effect.TheVariants.{Allow}
+use Rattle.guard_policy.specs.Policies.{AbstractPolicy, AbstractMessage, AbstractRule}
+use Rattle.guard_schema.specs.Schemas.{AbstractSchema, type_named, module_named}
 
 abbrev pub is_integer_kind : AbstractKind → Bool
 is_integer_kind (type.integer ns) = true

@@ -1,6 +1,15 @@
--- The four messages of the first run.
-use Rattle.std.specs.Prelude.{ℕ, List, [], ◌∷◌, codes}
+-- The module and the four messages of the first run.
+use Rattle.std.specs.Prelude.{ℕ, List, [], ◌∷◌, ◌++◌, codes}
 use Rattle.derguard.specs.Printing.{AbstractMessageSent}
+
+-- the text of the module
+abbrev pub first_text : List ℕ
+first_text =
+    codes "First DEFINITIONS EXPLICIT TAGS ::= BEGIN\n"
+    ++ codes "Level ::= INTEGER (0..100)\n"
+    ++ codes "Low ::= INTEGER (0..9)\n"
+    ++ codes "Ping ::= SEQUENCE { level INTEGER (0..100), urgent BOOLEAN }\n"
+    ++ codes "END\n"
 
 -- from a to b
 abbrev pub sent : List ℕ → List ℕ → AbstractMessageSent

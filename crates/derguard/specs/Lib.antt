@@ -1,26 +1,6 @@
-pub mod SchemaFirst
-pub mod SchemaBasic
-pub mod SchemaForms
-pub mod SchemaNames
-pub mod SchemaTypes
-pub mod SchemaTagging
-pub mod SchemaConstraints
-pub mod SchemaFaults
-pub mod SchemaReading
-pub mod Schemas
-pub mod SchemaAccepts
-pub mod SchemaViews
-pub mod SchemaView
-pub mod Member
-pub mod Violations
-pub mod EvalRows
-pub mod Policies
-pub mod PolicyView
-pub mod Verdicts
-pub mod Decisions
-pub mod ReportText
-pub mod ReportRows
+-- ---- the policy that is built in
 pub mod BuiltIn
-pub mod Printing
+-- ---- what the first run prints, or why it prints nothing
 pub mod FirstRun
+pub mod Printing
 pub mod FirstFaults

@@ -1,9 +1,9 @@
 -- What is printed for messages: a line for each, with the text of its reason.
 use Rattle.std.specs.Prelude.{◌≡◌, ℕ, List, [], ◌∷◌, ◌++◌, codes}
-use Rattle.derguard.specs.Policies.{AbstractPolicy, AbstractRoute}
-use Rattle.derguard.specs.Verdicts.{AbstractVerdict}
-use Rattle.derguard.specs.Decisions.{IsReason}
-use Rattle.derguard.specs.ReportText.{verdict_octets}
+use Rattle.guard_policy.specs.Policies.{AbstractPolicy, AbstractRoute}
+use Rattle.guard_policy.specs.Verdicts.{AbstractVerdict}
+use Rattle.guard_policy.specs.Decisions.{IsReason}
+use Rattle.guard_report.specs.Text.{verdict_octets}
 
 -- a message on its route
 pub record AbstractMessageSent : Type 0 where

@@ -2,15 +2,15 @@
 ghost use Rattle.std.specs.Prelude.{◌≡◌, IsTrue, IfOk, MatchOption, map, string_bytes, option_to_list};
 ghost use Rattle.guard_model.specs.TypeView.{type_view};
 ghost use Rattle.guard_der.specs.Sound.{is_sound};
-ghost use Rattle.derguard.specs.Policies.{message_view, rule_view};
-ghost use Rattle.derguard.specs.PolicyView.{policy_view};
+ghost use Rattle.guard_policy.specs.Policies.{message_view, rule_view};
+ghost use Rattle.guard_policy.specs.PolicyView.{policy_view};
 ghost use Rattle.derguard.specs.BuiltIn.{is_integer_type, rule_from_a_to_b, built_in_policy, IsBuiltIn, HasNoBuiltIn};
-ghost use Rattle.derguard.specs.Schemas.{module_named};
-ghost use Rattle.derguard.specs.SchemaView.{schema_view};
+ghost use Rattle.guard_schema.specs.Schemas.{module_named};
+ghost use Rattle.guard_schema.specs.SchemaView.{schema_view};
 
-use crate::guard_policy::{Effect, Message, Policy, Rule};
-use crate::guard_schema::Schema;
 use guard_model::{Kind, OutOfMemory, Ty};
+use guard_policy::{Effect, Message, Policy, Rule};
+use guard_schema::Schema;
 use std::alloc::Global;
 
 /// The policy over the types Level, Low and Ping of module First. None where the schema lacks one of them, or where

@@ -1,20 +1,20 @@
 //! Four messages, decided by the policy that is built in.
 ghost use Rattle.std.specs.Prelude.{◌≡◌, ◌++◌, codes, IfOk, IfErr, OnOk};
-ghost use Rattle.derguard.specs.PolicyView.{policy_view};
+ghost use Rattle.guard_policy.specs.PolicyView.{policy_view};
 ghost use Rattle.derguard.specs.Printing.{AreLines, AppendsLine};
-ghost use Rattle.derguard.specs.FirstRun.{sent, first_messages};
+ghost use Rattle.derguard.specs.FirstRun.{first_text, sent, first_messages};
 ghost use Rattle.derguard.specs.FirstFaults.{Prints, IsFirstFault};
 
 use crate::built_in::built_in;
-use crate::guard_policy::{Policy, Route};
-use crate::guard_report::verdict_text;
-use crate::guard_schema::{Schema, SchemaFault};
 use guard_model::OutOfMemory;
+use guard_policy::{Policy, Route};
+use guard_report::verdict_text;
+use guard_schema::{Schema, SchemaFault};
 use std::alloc::Global;
 use thiserror::Error;
 
 /// The module that is built in.
-pub const FIRST: &str =
+const FIRST: &str =
     "First DEFINITIONS EXPLICIT TAGS ::= BEGIN\nLevel ::= INTEGER (0..100)\nLow ::= INTEGER (0..9)\nPing ::= SEQUENCE { level INTEGER (0..100), urgent BOOLEAN }\nEND\n";
 
 /// Why the first run has no lines.
@@ -28,6 +28,20 @@ pub enum FirstFault {
     NoType,
     #[error("OutOfMemory")]
     OutOfMemory,
+}
+
+impl From<SchemaFault> for FirstFault {
+    ghost use Rattle.std.specs.Prelude.{◌≡◌};
+    ghost use Rattle.derguard.specs.FirstFaults.{schema_fault};
+
+    ghost from_gives = { λ f e. e ≡ schema_fault f };
+
+    fn from(fault: SchemaFault) -> FirstFault {
+        match fault {
+            SchemaFault::OutOfMemory => FirstFault::OutOfMemory,
+            fault => FirstFault::Schema(fault),
+        }
+    }
 }
 
 impl From<OutOfMemory> for FirstFault {
@@ -45,14 +59,10 @@ impl From<OutOfMemory> for FirstFault {
 /// It refuses with Schema where the built-in module makes no schema, and with NoType where it lacks a type. OutOfMemory
 /// may stand in place of any answer.
 pub fn first_run(alloc: Global) -> Result<Vec<u8>, FirstFault>
-    ensures printed { IfOk result (λ out. Prints FIRST.now out.items) }
-    ensures refused { IfErr result (IsFirstFault FIRST.now) }
+    ensures printed { IfOk result (λ out. Prints first_text out.items) }
+    ensures refused { IfErr result (IsFirstFault first_text) }
 {
-    let schema = match Schema::build(alloc, FIRST.as_bytes()) {
-        Ok(schema) => schema,
-        Err(SchemaFault::OutOfMemory) => return Err(FirstFault::OutOfMemory),
-        Err(fault) => return Err(FirstFault::Schema(fault)),
-    };
+    let schema = Schema::build(alloc, FIRST.as_bytes())?;
     let Some(policy) = built_in(alloc, &schema)? else {
         return Err(FirstFault::NoType);
     };

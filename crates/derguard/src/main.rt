@@ -1,14 +1,15 @@
 //! The guard: decides messages by a policy, and says why it stops one.
+//!
+//! | question | code | definition |
+//! |---|---|---|
+//! | Which policy is built in? | `built_in.rt` | `specs/BuiltIn.antt` |
+//! | Which module, and which messages? | `first_run.rt` | `specs/FirstRun.antt` |
+//! | What is printed for them? | `first_run.rt` | `specs/Printing.antt`, `specs/FirstFaults.antt` |
+//! | Why is nothing printed? | `first_run.rt` (`FirstFault`) | `specs/FirstFaults.antt` |
 #![tactic(auto)]
 
 mod built_in;
 mod first_run;
-mod guard_eval;
-mod guard_policy;
-mod guard_report;
-mod guard_schema;
-#[cfg(test)]
-mod tests;
 
 use first_run::first_run;
 use std::io;

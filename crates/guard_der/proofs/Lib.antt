@@ -1,48 +1,15 @@
-mod Room
-mod Digits
-mod Results
-mod Fields
-mod Heads
+-- Lemmas, in reading order. What the checker asks for of a function stands in folders with the names of src/.
+
+-- ---- octets
+mod Numbers
 mod Headers
-mod Integers
-mod Steps
+-- ---- reading, its encodings and its faults, from the inside out
 mod Elements
-mod Lawful
-mod Subidentifiers
-mod SimpleKinds
-mod Distinctness
-mod Parts
-mod Choice
-mod ComponentSteps
-mod Sequence
-mod SequenceFaults
-mod Items
-mod ItemFaults
-mod SetOrder
-mod SetFields
-mod SetTraces
-mod SetSteps
-mod SetPaths
-mod SetReading
-mod SetContents
-mod Slots
-mod Members
-mod Types
-mod Messages
+mod Simple
 mod Components
-mod ObjectIds
-mod Texts
-mod Paths
-mod Decodings
-mod ItemLoop
-pub mod Numbers
-pub mod Arranging
-pub mod WrittenTexts
-pub mod Arcs
-pub mod TypeLevels
-pub mod EncodingSteps
-pub mod ValueTests
-pub mod Ascending
-pub mod FitsSteps
-pub mod SoundSteps
-pub mod SoundTypes
+mod Sequences
+mod Sets
+mod Lists
+mod Types
+-- ---- the code
+mod Functions

@@ -1,7 +1,7 @@
 -- Why octets are no encoding of a value of a type: the first place that is reached and at fault.
 --
--- A place is an offset in the message or in the contents of an element in it. It is reached where all octets before it,
--- there and in all contents round it, are encodings of values of the parts that are due. At most one reached place is at fault:
+-- A place is an offset in the message or in the contents of an element in it. It is reached where what stands in front of it,
+-- and in front of each element that it lies in, encodes values of the parts that are due there. At most one reached place is at fault:
 -- behind it none is reached.
 use Rattle.std.specs.Prelude.{◌≡◌, ◌≢◌, ℕ, zero, suc, ◌+◌, Bool, true, false, not, ◌&&◌, ◌||◌, List, [], ◌∷◌, ◌++◌, length, take, drop, Option, Some, None, Ok, Err, IsTrue, if◌then◌else◌, ◌⊎◌}
 use Rattle.guard_model.specs.declared.site.Step.{Step}
@@ -11,17 +11,19 @@ use Rattle.guard_model.specs.AbstractType as type
 use Rattle.guard_model.specs.AbstractType.{AbstractType, AbstractKind, Components, type_of, no_components, component}
 use Rattle.guard_model.specs.AbstractValue as value
 use Rattle.guard_model.specs.AbstractValue.{AbstractValue, Fields, Items}
-use Rattle.guard_tagcheck.specs.FirstTags.{same_tag, begins_with, one_begins_with}
+use Rattle.guard_tagcheck.specs.FirstTags.{begins_with, one_begins_with}
 use Rattle.guard_der.specs.declared.breach.Code.{Code}
 use Rattle.guard_der.specs.declared.breach.Code.TheVariants as code
 use Rattle.guard_der.specs.Head.{Head, head_of}
 use Rattle.guard_der.specs.Element.{tagged}
 use Rattle.guard_der.specs.Der.{Part, ◌>>=◌, der, contents_octets, parts_of, item_encodings, joined, is_constructed, is_left_out, tag_before}
-use Rattle.guard_der.specs.Fits.{fits, fits_kind, fits_fields, every_fits, count, descends, ascend_from}
-use Rattle.guard_der.specs.Sound.{is_mandatory}
+use Rattle.guard_der.specs.Fits.{fits, fits_kind, fits_fields, every_fits, descends, ascend_from}
 use Rattle.guard_der.specs.Simple.{simple_fault}
+use Rattle.guard_model.specs.Tags.{same_tag}
+use Rattle.guard_model.specs.Counts.{item_count}
+use Rattle.guard_tagcheck.specs.Search.{is_mandatory}
 
--- offset and path count from where what is spoken of begins
+-- offset and path item_count from where what is spoken of begins
 pub record AbstractBreach : Type 0 where
   pub code : Code
   pub at : ℕ
@@ -250,10 +252,10 @@ abbrev mutual
       FaultInWrapper (one_begins_with cs) (Encodes (fits_kind (type.choice cs)) (contents_octets (type.choice cs))) (FaultInChosen cs (FaultInPart cs)) size octets b
   FaultInContents (type.sequence_of t) size octets b =
       (vs : Items) × (es : List (List ℕ)) × (rest : List ℕ) × (c : AbstractBreach)
-      × (octets ≡ joined es ++ rest) × ItemsReached t false vs es × ItemFault t false (FaultIn t) (count vs) (last_of es) rest c × (b ≡ after (size + length (joined es)) c)
+      × (octets ≡ joined es ++ rest) × ItemsReached t false vs es × ItemFault t false (FaultIn t) (item_count vs) (last_of es) rest c × (b ≡ after (size + length (joined es)) c)
   FaultInContents (type.set_of t) size octets b =
       (vs : Items) × (es : List (List ℕ)) × (rest : List ℕ) × (c : AbstractBreach)
-      × (octets ≡ joined es ++ rest) × ItemsReached t true vs es × ItemFault t true (FaultIn t) (count vs) (last_of es) rest c × (b ≡ after (size + length (joined es)) c)
+      × (octets ≡ joined es ++ rest) × ItemsReached t true vs es × ItemFault t true (FaultIn t) (item_count vs) (last_of es) rest c × (b ≡ after (size + length (joined es)) c)
   FaultInContents kind size octets b = FaultInSimple kind size octets b
 
   -- An element of an untagged CHOICE is that of the chosen alternative.

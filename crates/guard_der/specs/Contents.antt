@@ -17,27 +17,3 @@ arcs_octets _ = []
 abbrev pub character_octets : CharKind → List ℕ → List ℕ
 character_octets Utf8 characters = encode_utf8_all characters
 character_octets _ characters = characters
-
--- ---- alphabets (X.680 clause 41), by codes
-
-abbrev pub is_between : ℕ → ℕ → ℕ → Bool
-is_between low high c = nat_le low c && nat_le c high
-
-abbrev pub is_digit : ℕ → Bool
-is_digit c = is_between 48 57 c
-
--- A-Z, a-z
-abbrev pub is_letter : ℕ → Bool
-is_letter c = is_between 65 90 c || is_between 97 122 c
-
--- space and ' ( ) + , - . / : = ?
-abbrev pub is_printable_mark : ℕ → Bool
-is_printable_mark c = nat_eq c 32 || is_between 39 41 c || is_between 43 47 c || nat_eq c 58 || nat_eq c 61 || nat_eq c 63
-
--- Of the kinds with one octet a character. The alphabet of UTF8String is all of Unicode.
-abbrev pub is_character : CharKind → ℕ → Bool
-is_character Numeric c = nat_eq c 32 || is_digit c
-is_character Printable c = is_digit c || is_letter c || is_printable_mark c
-is_character Ia5 c = nat_lt c 128
-is_character Visible c = is_between 32 126 c
-is_character Utf8 c = true

@@ -8,8 +8,9 @@ use Rattle.guard_model.specs.AbstractType as type
 use Rattle.guard_model.specs.AbstractType.{AbstractType, AbstractKind, AbstractPresence, Components, NamedNumber, type_of, no_components, component}
 use Rattle.guard_model.specs.AbstractValue as value
 use Rattle.guard_model.specs.AbstractValue.{AbstractValue, Fields, Items}
-use Rattle.guard_der.specs.Contents.{is_character}
+use Rattle.guard_model.specs.Alphabets.{is_character}
 use Rattle.guard_der.specs.Der.{der, item_encodings}
+use Rattle.guard_model.specs.Counts.{item_count}
 
 -- this profile's limit on INTEGER and ENUMERATED: signed 128 bits
 abbrev pub fits_128_bits : ℤ → Bool
@@ -39,9 +40,12 @@ has_zero_end os unused = nat_eq (last_octet os % 2 ^ unused) 0
 abbrev pub fits_bits : List ℕ → ℕ → Bool
 fits_bits os unused = all_below 256 os && has_proper_end os unused && has_zero_end os unused
 
--- The first arc is 0 to 2, the second at most 39 under 0 and 1 (X.660); this profile's limit on subidentifiers is 128 bits.
+-- X.660 has three first arcs, 0, 1 and 2, and 40 arcs each under 0 and 1. In this profile no subidentifier has more than 128 bits.
+abbrev pub fits_first_arcs : ℕ → ℕ → Bool
+fits_first_arcs x y = nat_le x 2 && (nat_eq x 2 || nat_le y 39) && nat_lt (40 * x + y) (2 ^ 128)
+
 abbrev pub fits_arcs : List ℕ → Bool
-fits_arcs (x ∷ y ∷ arcs) = nat_le x 2 && (nat_eq x 2 || nat_le y 39) && nat_lt (40 * x + y) (2 ^ 128) && all_below (2 ^ 128) arcs
+fits_arcs (x ∷ y ∷ arcs) = fits_first_arcs x y && all_below (2 ^ 128) arcs
 fits_arcs _ = false
 
 abbrev pub all_characters : CharKind → List ℕ → Bool
@@ -60,13 +64,9 @@ abbrev pub every_fits : (AbstractValue → Bool) → Items → Bool
 every_fits fit value.no_items = true
 every_fits fit (value.item v vs) = fit v && every_fits fit vs
 
-abbrev pub count : Items → ℕ
-count value.no_items = 0
-count (value.item v vs) = suc (count vs)
-
 -- this profile's limit on the elements of an OF type
 abbrev pub are_few : Items → Bool
-are_few vs = nat_le (count vs) 4294967295
+are_few vs = nat_le (item_count vs) 4294967295
 
 -- The first descends to the second, the shorter one padded with zero octets (X.690 11.6).
 abbrev pub descends : List ℕ → List ℕ → Bool
@@ -84,6 +84,16 @@ abbrev pub are_ascending : Option (List (List ℕ)) → Bool
 are_ascending None = false
 are_ascending (Some es) = ascend_from [] es
 
+-- of an OF type: few enough elements, each of them fitting
+abbrev pub fits_items : (AbstractValue → Bool) → Items → Bool
+fits_items fit vs = are_few vs && every_fits fit vs
+
+-- of a SET OF: their encodings ascend besides
+abbrev pub fits_set : (AbstractValue → Bool) → (AbstractValue → Option (List ℕ)) → Items → Bool
+fits_set fit encode vs = fits_items fit vs && are_ascending (item_encodings encode vs)
+
+-- ---- all kinds
+
 abbrev mutual
   pub fits : AbstractType → AbstractValue → Bool
   fits (type_of tags kind cons) v = fits_kind kind v
@@ -100,8 +110,8 @@ abbrev mutual
   fits_kind (type.sequence cs) (value.fields fs) = fits_fields cs fs
   fits_kind (type.set cs) (value.fields fs) = fits_fields cs fs
   fits_kind (type.choice cs) (value.chosen i v) = fits_alternative cs i v
-  fits_kind (type.sequence_of t) (value.items vs) = are_few vs && every_fits (fits t) vs
-  fits_kind (type.set_of t) (value.items vs) = are_few vs && every_fits (fits t) vs && are_ascending (item_encodings (der t) vs)
+  fits_kind (type.sequence_of t) (value.items vs) = fits_items (fits t) vs
+  fits_kind (type.set_of t) (value.items vs) = fits_set (fits t) (der t) vs
   fits_kind _ _ = false
 
   -- a fitting value at each component, or none at an OPTIONAL one
@@ -116,3 +126,8 @@ abbrev mutual
   fits_alternative no_components i v = false
   fits_alternative (component name t presence rest) zero v = fits t v
   fits_alternative (component name t presence rest) (suc i) v = fits_alternative rest i v
+
+-- of one component: a fitting value, or none where none may be
+abbrev pub fits_field : AbstractPresence → AbstractType → Option AbstractValue → Bool
+fits_field presence t None = may_be_absent presence
+fits_field presence t (Some v) = fits t v

@@ -1,19 +1,26 @@
+-- The definitions that contracts cite, in reading order.
+
+-- ---- what the encoding of a value is (X.690)
 pub mod Octets
 pub mod Element
 pub mod Contents
 pub mod Der
+pub mod Encoding
+-- ---- which values and types have one
 pub mod Fits
 pub mod Sound
-pub mod Digits
-pub mod Encoding
-pub mod Sent
-pub mod Pieces
+-- ---- what is wrong with octets that are none
 pub mod Head
 pub mod Header
 pub mod Simple
 pub mod Breach
+pub mod Names
 pub mod Views
+-- ---- what private functions compute, step by step
+pub mod Digits
+pub mod EncodingSteps
 pub mod Reading
+-- ---- worked examples, which the checker computes
 pub mod Rows
 pub mod BreachRows
 pub mod SetRows

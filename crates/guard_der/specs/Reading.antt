@@ -9,7 +9,7 @@ use Rattle.guard_model.specs.AbstractType as type
 use Rattle.guard_model.specs.AbstractType.{AbstractType, AbstractKind, AbstractPresence, Components, type_of, no_components, component}
 use Rattle.guard_model.specs.AbstractValue as value
 use Rattle.guard_model.specs.AbstractValue.{AbstractValue, Fields, Items}
-use Rattle.guard_tagcheck.specs.FirstTags.{same_tag, begins_with, one_begins_with}
+use Rattle.guard_tagcheck.specs.FirstTags.{begins_with, one_begins_with}
 use Rattle.guard_der.specs.declared.breach.Code.{Code}
 use Rattle.guard_der.specs.declared.breach.Code.TheVariants as code
 use Rattle.guard_der.specs.Head.{Head, head_of}
@@ -17,6 +17,7 @@ use Rattle.guard_der.specs.Der.{is_constructed, is_left_out, tag_before}
 use Rattle.guard_der.specs.Fits.{descends}
 use Rattle.guard_der.specs.Simple.{simple_fault, simple_value}
 use Rattle.guard_der.specs.Breach.{AbstractBreach, below, one_with}
+use Rattle.guard_model.specs.Tags.{same_tag}
 
 abbrev pub fault : Code → ℕ → AbstractBreach
 fault c at = record { code = c; at = at; path = [] }
@@ -67,8 +68,13 @@ tags_at (t ∷ []) constructed body untagged at h octets = framed constructed bo
 tags_at (t ∷ u ∷ ts) constructed body untagged at h octets =
     framed true (λ at start inner. alone_at (same_tag u) (tags_at (u ∷ ts) constructed body untagged) start inner) at h octets
 
+-- the value, unless there is a fault
+abbrev pub unless_fault : ℕ → Option Code → AbstractValue → Result AbstractValue AbstractBreach
+unless_fault at None v = Ok v
+unless_fault at (Some c) v = Err (fault c at)
+
 unfoldable pub simple_at : AbstractKind → Body
-simple_at kind at start octets = elim (simple_fault kind octets) [ Some c ↦ Err (fault c at) | None ↦ Ok (simple_value kind octets) ]
+simple_at kind at start octets = unless_fault at (simple_fault kind octets) (simple_value kind octets)
 
 -- ---- components
 
@@ -161,8 +167,8 @@ placed_at cs fs before at tag = elim (one_with 0 cs tag) [
 ]
 
 -- the element of a component: its place, its value, its header
-unfoldable pub member_at : Components → (ℕ → Reader) → Fields → Option Tag → ℕ → List ℕ → Result (ℕ × AbstractValue × Head) AbstractBreach
-member_at cs read fs before at octets =
+unfoldable pub set_element_at : Components → (ℕ → Reader) → Fields → Option Tag → ℕ → List ℕ → Result (ℕ × AbstractValue × Head) AbstractBreach
+set_element_at cs read fs before at octets =
     located at (head_of octets) >>= λ h. placed_at cs fs before at h.tag >>= λ j.
     sent_at j (presence_at j cs) (read j) at h octets >>= λ v. Ok (j, v, h)
 
@@ -182,7 +188,7 @@ unfoldable pub set_at : ℕ → Components → (ℕ → Reader) → Fields → O
 set_at tries cs read fs before at [] = completed 0 cs fs at
 set_at zero cs read fs before at (o ∷ os) = Err (fault code.UnexpectedTag at)
 set_at (suc tries) cs read fs before at (o ∷ os) =
-    member_at cs read fs before at (o ∷ os) >>= λ x.
+    set_element_at cs read fs before at (o ∷ os) >>= λ x.
     set_at tries cs read (fill x.0 x.1 fs) (Some x.2.tag) (at + (x.2.size + x.2.contents)) (drop (x.2.size + x.2.contents) (o ∷ os))
 
 -- ---- elements of an OF type

@@ -4,13 +4,11 @@ use Rattle.guard_model.specs.AbstractType as type
 use Rattle.guard_model.specs.AbstractType.{AbstractType, AbstractKind, AbstractPresence, Components, Constraint, Constraints, Element, type_of, no_components, component}
 use Rattle.guard_tagcheck.specs.Distinct.{AbstractClash}
 use Rattle.guard_tagcheck.specs.Search.{first_clash}
-use Rattle.guard_tagcheck.specs.Limits.{nesting, count, is_tagged, are_low}
+use Rattle.guard_tagcheck.specs.Limits.{nesting, is_tagged, are_low}
 use Rattle.guard_der.specs.Der.{der}
 use Rattle.guard_der.specs.Fits.{fits}
-
-abbrev pub is_mandatory : AbstractPresence → Bool
-is_mandatory type.mandatory = true
-is_mandatory _ = false
+use Rattle.guard_model.specs.Counts.{component_count}
+use Rattle.guard_model.specs.AbstractValue.{AbstractValue}
 
 -- ---- constraints and defaults
 
@@ -28,23 +26,31 @@ abbrev pub is_short : Option (List ℕ) → Bool
 is_short None = false
 is_short (Some os) = nat_le (length os) 1048576
 
+-- a value of the type that may be a default
+abbrev pub fits_as_default : AbstractType → AbstractValue → Bool
+fits_as_default t d = fits t d && is_short (der t d)
+
 -- A default is a value of its component's type. None may be left pending.
 abbrev pub is_proper_presence : AbstractType → AbstractPresence → Bool
 is_proper_presence t type.mandatory = true
 is_proper_presence t type.optional = true
 is_proper_presence t type.pending = false
-is_proper_presence t (type.default d) = fits t d && is_short (der t d)
+is_proper_presence t (type.default d) = fits_as_default t d
 
 -- ---- all of it
 
+-- the tags and constraints of one type
+abbrev pub is_formed : AbstractType → Bool
+is_formed (type_of tags kind cons) = is_tagged tags kind && are_low tags && all_apply kind cons
+
 abbrev mutual
   pub is_proper : AbstractType → Bool
-  is_proper (type_of tags kind cons) = is_tagged tags kind && are_low tags && all_apply kind cons && is_proper_kind kind
+  is_proper (type_of tags kind cons) = is_formed (type_of tags kind cons) && is_proper_kind kind
 
   pub is_proper_kind : AbstractKind → Bool
-  is_proper_kind (type.sequence cs) = nat_le (count cs) 64 && are_proper cs
-  is_proper_kind (type.set cs) = nat_le (count cs) 64 && are_proper cs
-  is_proper_kind (type.choice cs) = nat_le (count cs) 64 && are_proper cs
+  is_proper_kind (type.sequence cs) = nat_le (component_count cs) 64 && are_proper cs
+  is_proper_kind (type.set cs) = nat_le (component_count cs) 64 && are_proper cs
+  is_proper_kind (type.choice cs) = nat_le (component_count cs) 64 && are_proper cs
   is_proper_kind (type.sequence_of t) = is_proper t
   is_proper_kind (type.set_of t) = is_proper t
   is_proper_kind _ = true

@@ -2,84 +2,104 @@
 ghost use Rattle.std.specs.Prelude.{◌≡◌, ◌<◌, length, IfSome, option_map};
 ghost use Rattle.guard_der.specs.declared.breach.DecodeFault.TheVariants.{OutOfMemory};
 
-use guard_model::{Path, Step};
+use guard_model::{Path, PathText, Step};
 use std::alloc::{AllocError, AllocFailed};
+use std::fmt;
 use thiserror::Error;
 
 /// What is wrong.
-#[derive(Clone, Copy, Debug, PartialEq, Eq, Error)]
+#[derive(Clone, Copy, Debug, PartialEq, Eq)]
 pub enum Code {
     /// The octets end before the element does.
-    #[error("E1 Truncated")]
     Truncated,
     /// A tag number that isn't in its one form (X.690 8.1.2).
-    #[error("E2 TagForm")]
     TagForm,
     /// The indefinite form of a length (X.690 10.1).
-    #[error("E3 IndefiniteLength")]
     IndefiniteLength,
     /// A length with more octets than the least (X.690 10.1).
-    #[error("E4 NonMinimalLength")]
     NonMinimalLength,
     /// A length of more than four octets.
-    #[error("E5 LengthTooLarge")]
     LengthTooLarge,
     /// A tag that can't stand there.
-    #[error("E6 UnexpectedTag")]
     UnexpectedTag,
     /// The contents end before a mandatory component.
-    #[error("E7 MissingComponent")]
     MissingComponent,
     /// Primitive in place of constructed, or the other way round (X.690 8.1.2.5).
-    #[error("E8 WrongForm")]
     WrongForm,
     /// A BOOLEAN that is neither 00 nor FF (X.690 11.1).
-    #[error("E9 BooleanContents")]
     BooleanContents,
     /// No contents octet, or the first nine bits are equal (X.690 8.3.2).
-    #[error("E10 IntegerContents")]
     IntegerContents,
     /// More than sixteen contents octets.
-    #[error("E11 IntegerTooLong")]
     IntegerTooLong,
     /// An ENUMERATED whose number is no item's (X.690 8.4).
-    #[error("E12 UnknownEnumeration")]
     UnknownEnumeration,
     /// A NULL with contents (X.690 8.8.2).
-    #[error("E13 NullContents")]
     NullContents,
     /// A BIT STRING without its first octet, with more than seven unused bits, or with unused bits of no octet (X.690 8.6.2).
-    #[error("E14 BitStringContents")]
     BitStringContents,
     /// An unused bit that is not zero (X.690 11.2.1).
-    #[error("E15 UnusedBits")]
     UnusedBits,
     /// No subidentifier, one that begins with 80, or one that doesn't end (X.690 8.19.2).
-    #[error("E16 ObjectIdContents")]
     ObjectIdContents,
     /// A subidentifier of more than 128 bits.
-    #[error("E17 ObjectIdTooLong")]
     ObjectIdTooLong,
     /// Octets that are no characters of the kind, or no UTF-8 (X.690 8.23).
-    #[error("E18 Characters")]
     Characters,
     /// A component of a SET whose tag isn't above that of the one before it (X.690 10.3).
-    #[error("E19 SetOrder")]
     SetOrder,
     /// An element of a SET OF that descends from the one before it (X.690 11.6).
-    #[error("E20 SetOfOrder")]
     SetOfOrder,
     /// A component that is its default (X.690 11.5).
-    #[error("E21 DefaultPresent")]
     DefaultPresent,
     /// Octets after the one element that a message or a wrapper holds.
-    #[error("E22 TrailingOctets")]
     TrailingOctets,
 }
 
-/// The first place that breaks the rules.
+impl Code {
+    ghost use Rattle.guard_der.specs.Names.{breach_name};
+
+    /// As it is reported, without its number.
+    pub fn name(self) -> &'static str
+        ensures { result.now ≡ breach_name self }
+    {
+        match self {
+            Code::Truncated => "Truncated",
+            Code::TagForm => "TagForm",
+            Code::IndefiniteLength => "IndefiniteLength",
+            Code::NonMinimalLength => "NonMinimalLength",
+            Code::LengthTooLarge => "LengthTooLarge",
+            Code::UnexpectedTag => "UnexpectedTag",
+            Code::MissingComponent => "MissingComponent",
+            Code::WrongForm => "WrongForm",
+            Code::BooleanContents => "BooleanContents",
+            Code::IntegerContents => "IntegerContents",
+            Code::IntegerTooLong => "IntegerTooLong",
+            Code::UnknownEnumeration => "UnknownEnumeration",
+            Code::NullContents => "NullContents",
+            Code::BitStringContents => "BitStringContents",
+            Code::UnusedBits => "UnusedBits",
+            Code::ObjectIdContents => "ObjectIdContents",
+            Code::ObjectIdTooLong => "ObjectIdTooLong",
+            Code::Characters => "Characters",
+            Code::SetOrder => "SetOrder",
+            Code::SetOfOrder => "SetOfOrder",
+            Code::DefaultPresent => "DefaultPresent",
+            Code::TrailingOctets => "TrailingOctets",
+        }
+    }
+}
+
+/// With its number: `E1 Truncated`.
+impl fmt::Display for Code {
+    fn fmt<W: fmt::Write>(&self, f: &mut fmt::Formatter<W>) -> fmt::Result {
+        write!(f, "E{} {}", *self as u8 + 1, self.name())
+    }
+}
+
+/// The first place that breaks the rules. Printed, its path counts components and elements from 0: `E9 BooleanContents 5 $.1[0]`.
 #[derive(Debug, Drop, Error)]
-#[error("{code} {at} {path:?}")]
+#[error("{code} {at} {way}", way = PathText(.path))]
 pub struct Breach {
     pub code: Code,
     /// The offset in the message, from 0.

@@ -1,132 +1,119 @@
-//! Contents octets of the simple kinds (X.690 8.2 to 8.8).
-ghost use Rattle.std.specs.Prelude.{◌≡◌, ◌+◌, ◌-◌, ◌<◌, ◌≤◌, ◌^◌, ◌∷◌, ◌%◌, length, map, None, IfOk, if◌then◌else◌};
+//! Contents octets of the simple kinds (X.690 8.2 to 8.8, 8.19, 8.23): the value that they say, or what is wrong with them.
+//! Each reader is given the offset of the element, where its faults are named.
+ghost use Rattle.std.specs.Prelude.{◌≡◌, ◌+◌, ◌-◌, ◌<◌, ◌≤◌, ◌^◌, ◌∷◌, length, map, None, if◌then◌else◌};
+ghost use Rattle.guard_model.specs.AbstractValue as abstract;
+ghost use Rattle.guard_model.specs.Answer.{Gives};
 ghost use Rattle.guard_model.specs.TypeView.{kind_view, named_view};
 ghost use Rattle.guard_model.specs.ValueView.{value_view};
 ghost use Rattle.guard_der.specs.Octets.{big_endian, turned, twos_complement as twos_read};
-ghost use Rattle.guard_der.specs.Fits.{is_item as is_item_of, last_octet as last_of, has_zero_end as zero_end};
-ghost use Rattle.guard_der.specs.Simple.{boolean_fault, integer_fault, nine_equal, bits_fault, null_fault, enumerated_fault, simple_fault, simple_value};
+ghost use Rattle.guard_der.specs.Simple.{boolean_fault, boolean_of, integer_fault, nine_equal, bits_fault, bits_of, null_fault, enumerated_fault, characters_fault, characters_of, simple_fault, simple_value};
+ghost use Rattle.guard_der.specs.Reading.{unless_fault};
+ghost use Rattle.guard_der.specs.Views.{breach_of};
 
-use crate::breach::Code;
-use crate::characters::{fault_of_characters, text_of};
-use crate::object_id::{arcs_of, fault_of_object_id};
-use guard_model::{Bits, Kind, Named, OutOfMemory, Value};
+use crate::bits::{has_proper_end, has_zero_end};
+use crate::breach::{Code, DecodeFault};
+use crate::characters::text_of;
+use crate::faults::fault_at;
+use crate::fitting::simple::is_item;
+use crate::object_id::object_identifier;
+use guard_model::{Bits, CharKind, Kind, Named, Value};
 use std::alloc::Global;
 
-/// What is wrong with the contents of a simple kind.
-pub fn fault_of_simple(kind: &Kind, octets: &[u8]) -> Option<Code>
-    ensures { result ≡ simple_fault (kind_view kind.now) octets.now }
+/// The value that contents octets of a simple kind say.
+pub fn value_of_simple(
+    alloc: Global,
+    kind: &Kind,
+    at: usize,
+    octets: &[u8],
+) -> Result<Value, DecodeFault>
+    ensures { Gives value_view breach_of result (unless_fault at (simple_fault (kind_view kind.now) octets.now) (simple_value (kind_view kind.now) octets.now)) }
 {
     match kind {
-        Kind::Bool => fault_of_boolean(octets),
-        Kind::Int(_) => fault_of_integer(octets),
-        Kind::Bits => fault_of_bits(octets),
-        Kind::Null => fault_of_null(octets),
-        Kind::Oid => fault_of_object_id(octets),
-        Kind::Enumerated(items) => fault_of_enumerated(items, octets),
-        Kind::Chars(characters) => fault_of_characters(*characters, octets),
-        Kind::Octets => None,
-        Kind::Sequence(_) => None,
-        Kind::Set(_) => None,
-        Kind::Choice(_) => None,
-        Kind::SequenceOf(_) => None,
-        Kind::SetOf(_) => None,
-    }
-}
-
-/// What contents of a simple kind say that have no fault.
-pub fn value_of_simple(alloc: Global, kind: &Kind, octets: &[u8]) -> Result<Value, OutOfMemory>
-    requires { simple_fault (kind_view kind.now) octets.now ≡ None }
-    ensures { IfOk result (λ v. value_view v ≡ simple_value (kind_view kind.now) octets.now) }
-{
-    match kind {
-        Kind::Bool => Ok(Value::Bool(octets[0] != 0)),
-        Kind::Int(_) => Ok(Value::Int(twos_complement(octets))),
-        Kind::Bits => Ok(Value::Bits(Bits {
-            octets: Vec::from_slice(alloc, &octets[1..])?,
-            unused: octets[0],
-        })),
+        Kind::Bool => boolean(at, octets),
+        Kind::Int(_) => integer(at, octets),
+        Kind::Bits => bit_string(alloc, at, octets),
         Kind::Octets => Ok(Value::Octets(Vec::from_slice(alloc, octets)?)),
-        Kind::Oid => Ok(Value::Oid(arcs_of(alloc, octets)?)),
-        Kind::Enumerated(_) => Ok(Value::Enumerated(twos_complement(octets))),
-        Kind::Chars(characters) => Ok(Value::Chars(text_of(alloc, *characters, octets)?)),
-        Kind::Null => Ok(Value::Null),
-        Kind::Sequence(_) => Ok(Value::Null),
-        Kind::Set(_) => Ok(Value::Null),
-        Kind::Choice(_) => Ok(Value::Null),
-        Kind::SequenceOf(_) => Ok(Value::Null),
-        Kind::SetOf(_) => Ok(Value::Null),
+        Kind::Null => null(at, octets),
+        Kind::Oid => object_identifier(alloc, at, octets),
+        Kind::Enumerated(items) => enumerated(items, at, octets),
+        Kind::Chars(characters) => text(alloc, *characters, at, octets),
+        _ => Ok(Value::Null),
     }
 }
 
 /// FALSE is 00, TRUE is FF (X.690 8.2, 11.1).
-fn fault_of_boolean(octets: &[u8]) -> Option<Code>
-    ensures { result ≡ boolean_fault octets.now }
+fn boolean(at: usize, octets: &[u8]) -> Result<Value, DecodeFault>
+    ensures { Gives value_view breach_of result (unless_fault at (boolean_fault octets.now) (abstract.boolean (boolean_of octets.now))) }
 {
     match octets {
-        [octet] if *octet == 0 || *octet == 0xFF => None,
-        _ => Some(Code::BooleanContents),
+        [0] => Ok(Value::Bool(false)),
+        [0xFF] => Ok(Value::Bool(true)),
+        _ => Err(fault_at(Code::BooleanContents, at)),
     }
 }
 
-fn fault_of_null(octets: &[u8]) -> Option<Code>
-    ensures { result ≡ null_fault octets.now }
+/// A NULL has no contents (X.690 8.8.2).
+fn null(at: usize, octets: &[u8]) -> Result<Value, DecodeFault>
+    ensures { Gives value_view breach_of result (unless_fault at (null_fault octets.now) abstract.null) }
 {
     match octets {
-        [] => None,
-        _ => Some(Code::NullContents),
+        [] => Ok(Value::Null),
+        _ => Err(fault_at(Code::NullContents, at)),
     }
 }
 
 /// The first octet is the count of unused bits, which are zero (X.690 8.6.2, 11.2.1).
-fn fault_of_bits(octets: &[u8]) -> Option<Code>
-    ensures { result ≡ bits_fault octets.now }
+fn bit_string(alloc: Global, at: usize, octets: &[u8]) -> Result<Value, DecodeFault>
+    ensures { Gives value_view breach_of result (unless_fault at (bits_fault octets.now) (bits_of octets.now)) }
 {
     let [unused, rest @ ..] = octets else {
-        return Some(Code::BitStringContents);
+        return Err(fault_at(Code::BitStringContents, at));
     };
-    if *unused > 7 {
-        return Some(Code::BitStringContents);
+    if !has_proper_end(rest, *unused) {
+        return Err(fault_at(Code::BitStringContents, at));
     }
-    if *unused > 0 && rest.is_empty() {
-        return Some(Code::BitStringContents);
+    if !has_zero_end(rest, *unused) {
+        return Err(fault_at(Code::UnusedBits, at));
     }
-    if has_zero_end(rest, *unused) {
-        None
-    } else {
-        Some(Code::UnusedBits)
+    Ok(Value::Bits(Bits {
+        octets: Vec::from_slice(alloc, rest)?,
+        unused: *unused,
+    }))
+}
+
+/// UTF-8 for UTF8String, else one octet a character (X.690 8.23).
+fn text(alloc: Global, kind: CharKind, at: usize, octets: &[u8]) -> Result<Value, DecodeFault>
+    ensures { Gives value_view breach_of result (unless_fault at (characters_fault kind octets.now) (abstract.characters (characters_of kind octets.now))) }
+{
+    match text_of(kind, octets) {
+        Some(text) => Ok(Value::Chars(String::from_str(alloc, text)?)),
+        None => Err(fault_at(Code::Characters, at)),
     }
 }
 
-fn has_zero_end(octets: &[u8], unused: u8) -> bool
-    requires { unused ≤ 7 }
-    ensures { result ≡ zero_end octets.now unused }
+fn integer(at: usize, octets: &[u8]) -> Result<Value, DecodeFault>
+    ensures { Gives value_view breach_of result (unless_fault at (integer_fault octets.now) (abstract.integer (twos_read octets.now))) }
 {
-    last_octet(octets) % power_of_two(unused) == 0
-}
-
-fn power_of_two(exponent: u8) -> u8
-    requires { exponent ≤ 7 }
-    ensures { result ≡ 2 ^ exponent }
-{
-    match exponent {
-        0 => 1,
-        1 => 2,
-        2 => 4,
-        3 => 8,
-        4 => 16,
-        5 => 32,
-        6 => 64,
-        _ => 128,
+    match fault_of_integer(octets) {
+        Some(code) => Err(fault_at(code, at)),
+        None => Ok(Value::Int(twos_complement(octets))),
     }
 }
 
-fn last_octet(octets: &[u8]) -> u8
-    ensures { result ≡ last_of octets.now }
+/// An INTEGER that is the number of an item (X.690 8.4).
+fn enumerated(items: &[Named], at: usize, octets: &[u8]) -> Result<Value, DecodeFault>
+    ensures { Gives value_view breach_of result (unless_fault at (enumerated_fault (map named_view items.now) octets.now) (abstract.enumerated (twos_read octets.now))) }
 {
-    if octets.is_empty() {
-        0
-    } else {
-        octets[octets.len() - 1]
+    match fault_of_integer(octets) {
+        Some(code) => Err(fault_at(code, at)),
+        None => {
+            let number = twos_complement(octets);
+            if is_item(number, items) {
+                Ok(Value::Enumerated(number))
+            } else {
+                Err(fault_at(Code::UnknownEnumeration, at))
+            }
+        }
     }
 }
 
@@ -153,33 +140,6 @@ fn has_nine_equal_bits(octets: &[u8]) -> bool
         }
         _ => false,
     }
-}
-
-/// An INTEGER that is the number of an item (X.690 8.4).
-fn fault_of_enumerated(items: &[Named], octets: &[u8]) -> Option<Code>
-    ensures { result ≡ enumerated_fault (map named_view items.now) octets.now }
-{
-    match fault_of_integer(octets) {
-        Some(code) => Some(code),
-        None => {
-            if is_item(twos_complement(octets), items) {
-                None
-            } else {
-                Some(Code::UnknownEnumeration)
-            }
-        }
-    }
-}
-
-fn is_item(number: i128, items: &[Named]) -> bool
-    ensures { result ≡ is_item_of number (map named_view items.now) }
-{
-    for item in items {
-        if number == item.number {
-            return true;
-        }
-    }
-    false
 }
 
 #[tactic(auto, unfolding(crate::specs::Octets::twos_complement))]

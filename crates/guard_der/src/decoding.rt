@@ -1,5 +1,5 @@
 //! The value that octets encode, or their breach.
-ghost use Rattle.std.specs.Prelude.{◌≡◌, ◌≢◌, ◌&&◌, ℕ, ◌+◌, ◌-◌, ◌<◌, ◌≤◌, ◌^◌, [], length, map, List, Some, None, Ok, Err, IfOk, IfErr, IfSome, IsTrue};
+ghost use Rattle.std.specs.Prelude.{◌≡◌, ◌&&◌, ℕ, ◌+◌, ◌-◌, ◌<◌, ◌≤◌, ◌^◌, [], length, map, List, Some, None, Ok, Err, IfOk, IfErr, IfSome, IsTrue};
 ghost use Rattle.guard_model.specs.Answer.{Gives};
 ghost use Rattle.guard_model.specs.AbstractType.{type_of, no_constraints};
 ghost use Rattle.guard_model.specs.AbstractValue.{AbstractValue, no_fields};
@@ -8,22 +8,23 @@ ghost use Rattle.guard_model.specs.ValueView.{value_view, field_view, fields_vie
 ghost use Rattle.guard_tagcheck.specs.FirstTags.{begins_with};
 ghost use Rattle.guard_tagcheck.specs.Limits.{nesting, nesting_inside, deepest};
 ghost use Rattle.guard_der.specs.Head.{head_of};
-ghost use Rattle.guard_der.specs.Der.{der, is_left_out as left_out};
+ghost use Rattle.guard_der.specs.Der.{der};
 ghost use Rattle.guard_der.specs.Fits.{fits, descends as descending};
 ghost use Rattle.guard_der.specs.Sound.{is_sound, is_proper, is_proper_kind, are_proper, is_proper_presence};
 ghost use Rattle.guard_der.specs.Breach.{AbstractBreach, IsBreach};
-ghost use Rattle.guard_der.specs.Reading.{due_at, alone_at, component_at, end_at, element_at, untagged_at, contents_at, chosen_at, part_at, simple_at, fields_at, item_alone, item_at, items_at, message_of, not_sent as unsent, all_absent, member_at, set_at};
+ghost use Rattle.guard_der.specs.Reading.{due_at, alone_at, component_at, end_at, element_at, untagged_at, contents_at, chosen_at, part_at, fields_at, item_alone, item_at, items_at, message_of, sent_at, all_absent, set_element_at, set_at};
 ghost use Rattle.guard_der.specs.Views.{head_view, breach_of};
 
 mod set;
 
 use crate::breach::{Code, DecodeFault};
-use crate::contents::{fault_of_simple, value_of_simple};
-use crate::decoding::set::{completed, empty_slots, place_of, put};
+use crate::contents::value_of_simple;
+use crate::decoding::set::{absent_fields, completed, place_of, put};
 use crate::faults::{end, fault_at, header_at_front, wrong_form};
 use crate::fitting::ascending::descends;
-use crate::forms::{is_form, is_kind_constructed};
+use crate::forms::{is_constructed, is_form};
 use crate::head::Head;
+use crate::presence::{is_left_out, not_sent};
 use crate::tags::{begins, begins_in, one_with};
 use guard_model::{Comp, Kind, Presence, Step, Tag, Ty, Value};
 use std::alloc::Global;
@@ -112,7 +113,7 @@ fn element(
     let (_, behind) = octets.split_at(head.size);
     let (inside, _) = behind.split_at(head.contents);
     if tags.len() == 1 {
-        if !is_form(head.constructed, is_kind_constructed(kind)) {
+        if !is_form(head.constructed, is_constructed(kind)) {
             return Err(wrong_form(at));
         }
         return contents(alloc, kind, at, at + head.size, inside);
@@ -141,18 +142,7 @@ fn untagged(
 {
     match kind {
         Kind::Choice(alternatives) => chosen(alloc, alternatives, at, head, octets),
-        Kind::Bool => Err(fault_at(Code::UnexpectedTag, at)),
-        Kind::Int(_) => Err(fault_at(Code::UnexpectedTag, at)),
-        Kind::Bits => Err(fault_at(Code::UnexpectedTag, at)),
-        Kind::Octets => Err(fault_at(Code::UnexpectedTag, at)),
-        Kind::Null => Err(fault_at(Code::UnexpectedTag, at)),
-        Kind::Oid => Err(fault_at(Code::UnexpectedTag, at)),
-        Kind::Enumerated(_) => Err(fault_at(Code::UnexpectedTag, at)),
-        Kind::Chars(_) => Err(fault_at(Code::UnexpectedTag, at)),
-        Kind::Sequence(_) => Err(fault_at(Code::UnexpectedTag, at)),
-        Kind::Set(_) => Err(fault_at(Code::UnexpectedTag, at)),
-        Kind::SequenceOf(_) => Err(fault_at(Code::UnexpectedTag, at)),
-        Kind::SetOf(_) => Err(fault_at(Code::UnexpectedTag, at)),
+        _ => Err(fault_at(Code::UnexpectedTag, at)),
     }
 }
 
@@ -184,7 +174,7 @@ fn chosen(
 
 /// Contents octets from the offset `start`, of an element that begins at the offset `at`.
 #[cycle(reading)]
-#[tactic(auto, unfolding(crate::specs::Reading::contents_at))]
+#[tactic(auto, unfolding(crate::specs::Reading::contents_at, crate::specs::Reading::simple_at))]
 fn contents(
     alloc: Global,
     kind: &Kind,
@@ -200,40 +190,13 @@ fn contents(
 {
     match kind {
         Kind::Sequence(comps) => Ok(Value::Fields(components(alloc, comps, start, octets)?)),
-        Kind::Set(comps) => Ok(Value::Fields(members(alloc, comps, start, octets)?)),
+        Kind::Set(comps) => Ok(Value::Fields(set_components(alloc, comps, start, octets)?)),
         Kind::Choice(_) => alone(alloc, &[], kind, start, octets),
-        Kind::Bool => simple(alloc, kind, at, start, octets),
-        Kind::Int(_) => simple(alloc, kind, at, start, octets),
-        Kind::Bits => simple(alloc, kind, at, start, octets),
-        Kind::Octets => simple(alloc, kind, at, start, octets),
-        Kind::Null => simple(alloc, kind, at, start, octets),
-        Kind::Oid => simple(alloc, kind, at, start, octets),
-        Kind::Enumerated(_) => simple(alloc, kind, at, start, octets),
-        Kind::Chars(_) => simple(alloc, kind, at, start, octets),
         Kind::SequenceOf(element) => {
             Ok(Value::Items(items(alloc, element, false, start, octets)?))
         }
         Kind::SetOf(element) => Ok(Value::Items(items(alloc, element, true, start, octets)?)),
-    }
-}
-
-/// Contents octets of a simple kind.
-#[tactic(auto, unfolding(crate::specs::Reading::simple_at))]
-fn simple(
-    alloc: Global,
-    kind: &Kind,
-    at: usize,
-    start: usize,
-    octets: &[u8],
-) -> Result<Value, DecodeFault>
-    ensures { Gives value_view breach_of result (simple_at (kind_view kind.now) at start octets.now) }
-{
-    match fault_of_simple(kind, octets) {
-        Some(code) => Err(fault_at(code, at)),
-        None => match value_of_simple(alloc, kind, octets) {
-            Ok(value) => Ok(value),
-            Err(_) => Err(DecodeFault::OutOfMemory),
-        },
+        _ => value_of_simple(alloc, kind, at, octets),
     }
 }
 
@@ -290,12 +253,33 @@ fn component(
         let stray = fault_at(Code::UnexpectedTag, at);
         return Ok((not_sent(alloc, presence, stray)?, 0));
     }
+    let value = sent(alloc, ty, presence, index, at, head, octets)?;
+    Ok((Some(value), head.size + head.contents))
+}
+
+/// The component at this place of the list where its element stands: its header is read, its tag accepted.
+#[cycle(reading)]
+fn sent(
+    alloc: Global,
+    ty: &Ty,
+    presence: &Presence,
+    index: u8,
+    at: usize,
+    head: Head,
+    octets: &[u8],
+) -> Result<Value, DecodeFault>
+    requires proper { IsTrue (is_proper (type_view ty.now)) }
+    requires depth { nesting (type_view ty.now) ≤ 31 }
+    requires header { head_of octets.now ≡ Ok (head_view head) }
+    requires room { at + length octets.now < 2 ^ 64 }
+    ensures { Gives value_view breach_of result (sent_at index (presence_view presence.now) (element_at (type_view ty.now)) at (head_view head) octets.now) }
+{
     match element(alloc, &ty.tags, &ty.kind, at, head, octets) {
         Ok(value) => {
             if is_left_out(presence, &value) {
                 return Err(fault_at(Code::DefaultPresent, at).below(Step::Component(index)));
             }
-            Ok((Some(value), head.size + head.contents))
+            Ok(value)
         }
         Err(fault) => Err(fault.below(Step::Component(index))),
     }
@@ -391,7 +375,7 @@ fn is_out_of_order(ordered: bool, before: &[u8], octets: &[u8]) -> bool
 
 /// The components of a SET, all of the octets.
 #[cycle(reading)]
-fn members(
+fn set_components(
     alloc: Global,
     comps: &[Comp],
     start: usize,
@@ -403,28 +387,28 @@ fn members(
     requires room { start + length octets.now < 2 ^ 64 }
     ensures { Gives (λ v. fields_view v.items) breach_of result (set_at (length octets.now) (components_of (map component_view comps.now)) (part_at (components_of (map component_view comps.now))) (all_absent (components_of (map component_view comps.now))) None start octets.now) }
 {
-    let mut slots = empty_slots(alloc, comps)?;
+    let mut fields = absent_fields(alloc, comps)?;
     let mut before = None;
     let mut at = start;
     let mut rest = octets;
     while !rest.is_empty() {
-        let (place, value, head) = member(alloc, comps, &slots, before, at, rest)?;
+        let (place, value, head) = set_component(alloc, comps, &fields, before, at, rest)?;
         let size = head.size + head.contents;
-        put(&mut slots, place, Some(value));
+        put(&mut fields, place, Some(value));
         before = Some(head.tag);
         let (_, behind) = rest.split_at(size);
         at += size;
         rest = behind;
     }
-    completed(alloc, comps, slots, at)
+    completed(alloc, comps, fields, at)
 }
 
 /// The element of a component of a SET: its place in the list, its value, its header.
 #[cycle(reading)]
-fn member(
+fn set_component(
     alloc: Global,
     comps: &[Comp],
-    slots: &[Option<Value>],
+    fields: &[Option<Value>],
     before: Option<Tag>,
     at: usize,
     octets: &[u8],
@@ -432,55 +416,24 @@ fn member(
     requires proper { IsTrue (are_proper (components_of (map component_view comps.now))) }
     requires few { length comps.now ≤ 64 }
     requires depth { deepest (components_of (map component_view comps.now)) ≤ 31 }
-    requires slots { length slots.now ≡ length comps.now }
+    requires fields { length fields.now ≡ length comps.now }
     requires room { at + length octets.now < 2 ^ 64 }
     ensures place { IfOk result (λ x. x.0 < length comps.now) }
     ensures some { IfOk result (λ x. 1 ≤ x.2.size) }
     ensures within { IfOk result (λ x. x.2.size + x.2.contents ≤ length octets.now) }
-    ensures given { Gives (λ x. (x.0, value_view x.1, head_view x.2)) breach_of result (member_at (components_of (map component_view comps.now)) (part_at (components_of (map component_view comps.now))) (fields_view slots.now) before at octets.now) }
+    ensures given { Gives (λ x. (x.0, value_view x.1, head_view x.2)) breach_of result (set_element_at (components_of (map component_view comps.now)) (part_at (components_of (map component_view comps.now))) (fields_view fields.now) before at octets.now) }
 {
     let head = header_at_front(at, octets)?;
-    let place = place_of(comps, slots, before, at, head.tag)?;
+    let place = place_of(comps, fields, before, at, head.tag)?;
     let comp = &comps[place];
-    match element(alloc, &comp.ty.tags, &comp.ty.kind, at, head, octets) {
-        Ok(value) => {
-            if is_left_out(&comp.presence, &value) {
-                return Err(fault_at(Code::DefaultPresent, at).below(Step::Component(place as u8)));
-            }
-            Ok((place, value, head))
-        }
-        Err(fault) => Err(fault.below(Step::Component(place as u8))),
-    }
-}
-
-/// What a component is that isn't sent; or this fault, if it is mandatory.
-fn not_sent(
-    alloc: Global,
-    presence: &Presence,
-    fault: DecodeFault,
-) -> Result<Option<Value>, DecodeFault>
-    requires named { breach_of fault ≢ None }
-    ensures { (b : AbstractBreach) → breach_of fault ≡ Some b → Gives field_view breach_of result (unsent (presence_view presence.now) b) }
-{
-    match presence {
-        Presence::Mandatory => Err(fault),
-        Presence::Optional => Ok(None),
-        Presence::Pending => Ok(None),
-        Presence::Default(value) => match value.copy(alloc) {
-            Ok(copy) => Ok(Some(copy)),
-            Err(_) => Err(DecodeFault::OutOfMemory),
-        },
-    }
-}
-
-/// A component whose value is its default isn't sent.
-fn is_left_out(presence: &Presence, value: &Value) -> bool
-    ensures { result ≡ left_out (presence_view presence.now) (value_view value.now) }
-{
-    match presence {
-        Presence::Default(default) => default.same(value),
-        Presence::Mandatory => false,
-        Presence::Optional => false,
-        Presence::Pending => false,
-    }
+    let value = sent(
+        alloc,
+        &comp.ty,
+        &comp.presence,
+        place as u8,
+        at,
+        head,
+        octets,
+    )?;
+    Ok((place, value, head))
 }

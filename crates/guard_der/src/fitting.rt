@@ -2,12 +2,11 @@
 ghost use Rattle.std.specs.Prelude.{◌≡◌, map, IfOk};
 ghost use Rattle.guard_model.specs.TypeView.{type_view, kind_view, component_view, components_of, presence_view};
 ghost use Rattle.guard_model.specs.ValueView.{value_view, field_view, fields_view, items_view};
-ghost use Rattle.guard_der.specs.Fits.{fits, fits_kind, fits_fields, fits_alternative, every_fits, may_be_absent};
-ghost use Rattle.guard_der.specs.Sent.{field_fits};
-ghost use Rattle.guard_der.specs.Pieces.{few_fit, set_fits};
+ghost use Rattle.guard_der.specs.Der.{der};
+ghost use Rattle.guard_der.specs.Fits.{fits, fits_kind, fits_fields, fits_alternative, every_fits, may_be_absent, fits_field, fits_items, fits_set};
 
 pub(crate) mod ascending;
-mod simple;
+pub(crate) mod simple;
 
 use crate::fitting::ascending::are_ascending;
 use crate::fitting::simple::{
@@ -19,9 +18,9 @@ use std::alloc::Global;
 /// The most elements of a value of an OF type.
 const MOST_ITEMS: usize = 4_294_967_295;
 
-/// Whether the value is one of the type's, constraints aside: of the type's kind and within its limits, with a fitting value at
-/// each mandatory and DEFAULT component; for a SET OF the encodings of its elements exist and never descend (X.690 11.6). Its
-/// one refusal is want of memory.
+/// Whether the value is one of the type's, constraints aside: it is of the kind and within its limits, has a value at each
+/// component that isn't OPTIONAL, and all that is inside it fits. The elements of a SET OF have encodings, none of which descends
+/// to the next (X.690 11.6). Its one refusal is want of memory.
 #[cycle(fitting)]
 pub fn fits(alloc: Global, ty: &Ty, value: &Value) -> Result<bool, OutOfMemory>
     ensures exact { IfOk result (λ b. b ≡ fits (type_view ty.now) (value_view value.now)) }
@@ -79,7 +78,7 @@ fn field_fits(
     ty: &Ty,
     field: &Option<Value>,
 ) -> Result<bool, OutOfMemory>
-    ensures { IfOk result (λ b. b ≡ field_fits (presence_view presence.now) (type_view ty.now) (field_view field.now)) }
+    ensures { IfOk result (λ b. b ≡ fits_field (presence_view presence.now) (type_view ty.now) (field_view field.now)) }
 {
     match field {
         Some(value) => fits(alloc, ty, value),
@@ -116,7 +115,7 @@ fn alternative_fits(
 /// Few enough elements, each of them fitting.
 #[cycle(fitting)]
 fn items_fit(alloc: Global, ty: &Ty, items: &[Value]) -> Result<bool, OutOfMemory>
-    ensures { IfOk result (λ b. b ≡ few_fit (fits (type_view ty.now)) (items_view items.now)) }
+    ensures { IfOk result (λ b. b ≡ fits_items (fits (type_view ty.now)) (items_view items.now)) }
 {
     if items.len() > MOST_ITEMS {
         return Ok(false);
@@ -139,7 +138,7 @@ fn all_fit(alloc: Global, ty: &Ty, items: &[Value]) -> Result<bool, OutOfMemory>
 /// Of a SET OF also the encodings ascend.
 #[cycle(fitting)]
 fn set_fits(alloc: Global, ty: &Ty, items: &[Value]) -> Result<bool, OutOfMemory>
-    ensures { IfOk result (λ b. b ≡ set_fits (type_view ty.now) (items_view items.now)) }
+    ensures { IfOk result (λ b. b ≡ fits_set (fits (type_view ty.now)) (der (type_view ty.now)) (items_view items.now)) }
 {
     if !items_fit(alloc, ty, items)? {
         return Ok(false);

@@ -1,34 +1,76 @@
 //! Contents octets of an OBJECT IDENTIFIER (X.690 8.19).
-ghost use Rattle.std.specs.Prelude.{◌≡◌, ◌<◌, ◌≤◌, ◌^◌, ◌*◌, ◌-◌, ◌∷◌, ℕ, List, true, None, IfOk, length};
-ghost use Rattle.guard_der.specs.Fits.{all_below};
-ghost use Rattle.guard_der.specs.Simple.{are_subidentifiers as subidentifiers_end, subidentifiers as numbers_of, object_id_fault, arcs_of as arcs_from};
+ghost use Rattle.std.specs.Prelude.{◌≡◌, ◌≤◌, ◌*◌, ◌-◌, ◌∷◌, ◌++◌, [], ℕ, List, Ok, ◌&&◌, nat_eq, if◌then◌else◌};
+ghost use Rattle.guard_model.specs.AbstractValue as abstract;
+ghost use Rattle.guard_model.specs.Answer.{Gives};
+ghost use Rattle.guard_model.specs.ValueView.{value_view};
+ghost use Rattle.guard_der.specs.Simple.{are_subidentifiers as subidentifiers_end, subidentifiers, object_id_fault, arcs_of as arcs_from};
+ghost use Rattle.guard_der.specs.Reading.{unless_fault};
+ghost use Rattle.guard_der.specs.Views.{breach_of};
+ghost use Rattle.guard_der.specs.declared.breach.Code.TheVariants.{ObjectIdContents, ObjectIdTooLong};
 
-use crate::breach::Code;
-use guard_model::OutOfMemory;
+use crate::breach::{Code, DecodeFault};
+use crate::faults::fault_at;
+use guard_model::Value;
 use std::alloc::Global;
 
 /// From here on a number has no room for seven bits more.
 const FULL: u128 = 1 << 121;
 
-pub fn fault_of_object_id(octets: &[u8]) -> Option<Code>
-    ensures { result ≡ object_id_fault octets.now }
+/// The arcs, read octet by octet. Bit 8 is set on each octet of a subidentifier but its last, and its first is not 80.
+pub fn object_identifier(alloc: Global, at: usize, octets: &[u8]) -> Result<Value, DecodeFault>
+    ensures { Gives value_view breach_of result (unless_fault at (object_id_fault octets.now) (abstract.object_identifier (arcs_from (subidentifiers 0 octets.now)))) }
 {
-    if octets.is_empty() || !are_subidentifiers(octets) {
-        Some(Code::ObjectIdContents)
-    } else if are_within_128_bits(octets) {
-        None
+    if octets.is_empty() {
+        return Err(fault_at(Code::ObjectIdContents, at));
+    }
+    let mut arcs = Vec::new(alloc);
+    let mut number = 0u128;
+    let mut starts = true;
+    for (index, octet) in octets.iter().enumerate() {
+        if is_padding(starts, *octet) {
+            return Err(fault_at(Code::ObjectIdContents, at));
+        }
+        if number >= FULL {
+            return Err(fault_at(code_behind_full(starts, &octets[index..]), at));
+        }
+        number = number * 128 + u128::from(*octet % 128);
+        starts = *octet < 128;
+        if starts {
+            push_arcs(&mut arcs, number)?;
+            number = 0;
+        }
+    }
+    if starts {
+        Ok(Value::Oid(arcs))
     } else {
-        Some(Code::ObjectIdTooLong)
+        Err(fault_at(Code::ObjectIdContents, at))
     }
 }
 
-/// Bit 8 is set on each octet of a subidentifier but its last, and its first is not 80.
-fn are_subidentifiers(octets: &[u8]) -> bool
-    ensures { result ≡ subidentifiers_end true octets.now }
+/// A subidentifier may not begin with 80, seven bits that are all zero.
+fn is_padding(starts: bool, octet: u8) -> bool
+    ensures { result ≡ (starts && nat_eq octet 128) }
 {
-    let mut starts = true;
+    starts && octet == 0x80
+}
+
+/// The name of the fault of an OBJECT IDENTIFIER with a subidentifier that is too long: the form comes first.
+fn code_behind_full(starts: bool, octets: &[u8]) -> Code
+    ensures { result ≡ (if subidentifiers_end starts octets.now then ObjectIdTooLong else ObjectIdContents) }
+{
+    if are_subidentifiers(starts, octets) {
+        Code::ObjectIdTooLong
+    } else {
+        Code::ObjectIdContents
+    }
+}
+
+fn are_subidentifiers(starts: bool, octets: &[u8]) -> bool
+    ensures { result ≡ subidentifiers_end starts octets.now }
+{
+    let mut starts = starts;
     for octet in octets {
-        if starts && *octet == 0x80 {
+        if is_padding(starts, *octet) {
             return false;
         }
         starts = *octet < 128;
@@ -36,39 +78,16 @@ fn are_subidentifiers(octets: &[u8]) -> bool
     starts
 }
 
-fn are_within_128_bits(octets: &[u8]) -> bool
-    requires { subidentifiers_end true octets.now ≡ true }
-    ensures { result ≡ all_below (2 ^ 128) (numbers_of 0 octets.now) }
+/// Appends the arcs of the next subidentifier: the first one is 40X + Y for the first two (8.19.4).
+fn push_arcs(arcs: &mut Vec<u128>, number: u128) -> Result<(), DecodeFault>
+    ensures { (before : List ℕ) → arcs.old.items ≡ arcs_from before → Gives (λ _. arcs.new.items) breach_of result (Ok (arcs_from (before ++ number ∷ []))) }
 {
-    let mut number = 0u128;
-    for octet in octets {
-        if number >= FULL {
-            return false;
-        }
-        number = if *octet < 128 {
-            0
-        } else {
-            number * 128 + u128::from(*octet - 128)
-        };
+    if !arcs.is_empty() {
+        return Ok(arcs.push(number)?);
     }
-    true
-}
-
-/// The arcs: the first subidentifier is 40X + Y for the first two (8.19.4).
-pub fn arcs_of(alloc: Global, octets: &[u8]) -> Result<Vec<u128>, OutOfMemory>
-    requires { object_id_fault octets.now ≡ None }
-    ensures { IfOk result (λ v. v.items ≡ arcs_from (numbers_of 0 octets.now)) }
-{
-    let numbers = subidentifiers(alloc, octets)?;
-    let mut arcs = Vec::with_capacity(alloc, numbers.len() + 1)?;
-    let [first, others @ ..] = numbers.as_slice() else {
-        return Ok(arcs);
-    };
-    let root = root_of(*first);
+    let root = root_of(number);
     arcs.push(root)?;
-    arcs.push(*first - 40 * root)?;
-    arcs.extend_from_slice(others)?;
-    Ok(arcs)
+    Ok(arcs.push(number - 40 * root)?)
 }
 
 /// X of a first subidentifier 40X + Y.
@@ -83,22 +102,4 @@ fn root_of(first: u128) -> u128
     } else {
         2
     }
-}
-
-fn subidentifiers(alloc: Global, octets: &[u8]) -> Result<Vec<u128>, OutOfMemory>
-    requires ends { subidentifiers_end true octets.now ≡ true }
-    requires below { all_below (2 ^ 128) (numbers_of 0 octets.now) ≡ true }
-    ensures { IfOk result (λ v. v.items ≡ numbers_of 0 octets.now) }
-{
-    let mut numbers = Vec::new(alloc);
-    let mut number = 0u128;
-    for octet in octets {
-        if *octet < 128 {
-            numbers.push(number * 128 + u128::from(*octet))?;
-            number = 0;
-        } else {
-            number = number * 128 + u128::from(*octet - 128);
-        }
-    }
-    Ok(numbers)
 }

@@ -2,23 +2,20 @@
 ghost use Rattle.std.specs.Prelude.{◌≡◌, ◌&&◌, map, nat_le, IfOk, IsTrue};
 ghost use Rattle.guard_model.specs.TypeView.{type_view, kind_view, component_view, components_of, presence_view};
 ghost use Rattle.guard_model.specs.ValueView.{value_view};
-ghost use Rattle.guard_tagcheck.specs.Limits.{count};
 ghost use Rattle.guard_tagcheck.specs.Distinct.{Distinct};
-ghost use Rattle.guard_der.specs.Sound.{is_sound, is_proper, is_proper_kind, are_proper, is_proper_presence, is_short};
+ghost use Rattle.guard_der.specs.Sound.{is_sound, is_proper, is_proper_kind, are_proper, is_proper_presence, is_short, fits_as_default};
 ghost use Rattle.guard_der.specs.Der.{der};
 ghost use Rattle.guard_der.specs.Fits.{fits};
-ghost use Rattle.guard_der.specs.Pieces.{default_fits};
+ghost use Rattle.guard_model.specs.Counts.{component_count};
 
 mod forms;
 
 use crate::encoding::{EncodeFault, encode};
 use crate::fitting::fits;
 use crate::sound_types::forms::is_formed;
-use guard_model::{Comp, Kind, OutOfMemory, Presence, Ty, Value};
+use guard_model::{Comp, Kind, MOST_COMPONENTS, OutOfMemory, Presence, Ty, Value};
 use guard_tagcheck::{check, is_within_limits};
 use std::alloc::Global;
-
-const MOST_COMPONENTS: usize = 64;
 
 /// Whether the type is sound: a tag at each node but a CHOICE, numbers of tags up to 268,435,455, at most 64 components or
 /// alternatives in each list, nesting up to 32; tags that tell components and alternatives apart (X.680 25.6, 27.3, 29.3);
@@ -53,26 +50,19 @@ fn is_proper_kind(alloc: Global, kind: &Kind) -> Result<bool, OutOfMemory>
     ensures { IfOk result (λ b. b ≡ is_proper_kind (kind_view kind.now)) }
 {
     match kind {
-        Kind::Bool => Ok(true),
-        Kind::Int(_) => Ok(true),
-        Kind::Bits => Ok(true),
-        Kind::Octets => Ok(true),
-        Kind::Null => Ok(true),
-        Kind::Oid => Ok(true),
-        Kind::Enumerated(_) => Ok(true),
-        Kind::Chars(_) => Ok(true),
         Kind::Sequence(comps) => list_is_proper(alloc, comps),
         Kind::Set(comps) => list_is_proper(alloc, comps),
         Kind::Choice(alternatives) => list_is_proper(alloc, alternatives),
         Kind::SequenceOf(element) => is_proper(alloc, element),
         Kind::SetOf(element) => is_proper(alloc, element),
+        _ => Ok(true),
     }
 }
 
 /// Of a SEQUENCE, SET or CHOICE.
 #[cycle(proper)]
 fn list_is_proper(alloc: Global, comps: &[Comp]) -> Result<bool, OutOfMemory>
-    ensures { IfOk result (λ b. b ≡ (nat_le (count (components_of (map component_view comps.now))) 64 && are_proper (components_of (map component_view comps.now)))) }
+    ensures { IfOk result (λ b. b ≡ (nat_le (component_count (components_of (map component_view comps.now))) 64 && are_proper (components_of (map component_view comps.now)))) }
 {
     if comps.len() > MOST_COMPONENTS {
         return Ok(false);
@@ -115,7 +105,7 @@ fn is_proper_presence(alloc: Global, ty: &Ty, presence: &Presence) -> Result<boo
 
 /// A default is a value of its component's type, and its encoding isn't too long.
 fn default_fits(alloc: Global, ty: &Ty, value: &Value) -> Result<bool, OutOfMemory>
-    ensures { IfOk result (λ b. b ≡ default_fits (type_view ty.now) (value_view value.now)) }
+    ensures { IfOk result (λ b. b ≡ fits_as_default (type_view ty.now) (value_view value.now)) }
 {
     if !fits(alloc, ty, value)? {
         return Ok(false);

@@ -2,8 +2,9 @@
 ghost use Rattle.std.specs.Prelude.{◌≡◌, ◌≤◌, ◌<◌, length, map, IfSome};
 ghost use Rattle.guard_model.specs.AbstractType.{type_of, no_constraints};
 ghost use Rattle.guard_model.specs.TypeView.{type_view, kind_view, component_view, components_of};
-ghost use Rattle.guard_tagcheck.specs.FirstTags.{begins_with, one_begins_with, same_tag};
+ghost use Rattle.guard_tagcheck.specs.FirstTags.{begins_with, one_begins_with};
 ghost use Rattle.guard_der.specs.Breach.{one_with as place_with};
+ghost use Rattle.guard_model.specs.Tags.{same_tag};
 
 use guard_model::{Comp, Kind, Tag, Ty};
 

@@ -1,12 +1,16 @@
-pub mod Exclusion
-pub mod Pieces
-pub mod Behind
-pub mod Marks
-pub mod Numbers
-pub mod Longest
-pub mod Cuts
-pub mod Spelled
-pub mod OneAnswer
-pub mod Total
+-- the definitions, computed on examples
 mod Rows
-pub mod Steps
+-- what stands at the front of a text
+pub mod OctetTests
+pub mod Lengths
+pub mod CommentsAndStrings
+pub mod LongestMarks
+pub mod NumberValues
+pub mod LongestItems
+-- what follows for the whole text
+pub mod OneCut
+pub mod SpelledTokens
+pub mod OneAnswer
+pub mod TokensOrFault
+-- the code reads item by item
+pub mod ReadItems

@@ -4,13 +4,13 @@ use Rattle.std.specs.Prelude.{IfOk, IfErr}
 use Rattle.std.specs.Global.{Vec}
 use Rattle.guard_model.specs.Answer.{Gives, Refuses}
 use Rattle.guard_lexer.specs.Spans.{AreSpans}
-use Rattle.guard_lexer.proofs.Spelled.{are_spans}
+use Rattle.guard_lexer.proofs.SpelledTokens.{are_spans}
 use Rattle.guard_lexer.specs.Sites.{site_at}
-use Rattle.guard_lexer.specs.Lexing.{Item, IsCut, tokens_from, HasDefect, FaultAt, Lexes, FirstFault, fault_named}
+use Rattle.guard_lexer.specs.Lexing.{Item, IsCut, tokens_from, HasFault, FaultAt, Lexes, FirstFault, fault_named}
 use Rattle.guard_lexer.specs.declared.fault.LexFault.{LexFault}
 use Rattle.guard_lexer.specs.declared.fault.LexFault.TheVariants as faults
 use Rattle.guard_lexer.specs.declared.token.Token.{Token}
-use Rattle.guard_lexer.proofs.Cuts.{one_cut, stuck_at_end, stuck_at_defect, one_defect, none_at_end}
+use Rattle.guard_lexer.proofs.OneCut.{one_cut, stuck_at_end, stuck_at_fault, one_offset_fault, none_at_end}
 
 pub one_list : (place : ℕ) (text : List ℕ) (a b : List Token) → Lexes place text a → Lexes place text b → a ≡ b
 one_list place text a b x y =
@@ -19,13 +19,13 @@ one_list place text a b x y =
 
 none_with_fault : (place : ℕ) (text : List ℕ) (items : List Item) (fault : LexFault) → IsCut text items [] → FaultAt place text fault → ⊥
 none_with_fault place text items fault cut f =
-    let one = one_cut text items f.0 [] f.1 cut stuck_at_end f.3 (stuck_at_defect f.1 f.2 f.4) in
-    none_at_end f.2 (subst (λ (l : List ℕ). HasDefect l f.2) (sym one.1) f.4)
+    let one = one_cut text items f.0 [] f.1 cut stuck_at_end f.3 (stuck_at_fault f.1 f.2 f.4) in
+    none_at_end f.2 (subst (λ (l : List ℕ). HasFault l f.2) (sym one.1) f.4)
 
 one_fault_at : (place : ℕ) (text : List ℕ) (a b : LexFault) → FaultAt place text a → FaultAt place text b → a ≡ b
 one_fault_at place text a b f g =
-    let one = one_cut text f.0 g.0 f.1 g.1 f.3 (stuck_at_defect f.1 f.2 f.4) g.3 (stuck_at_defect g.1 g.2 g.4) in
-    let wrong : f.2 ≡ g.2 = one_defect g.1 f.2 g.2 (subst (λ (l : List ℕ). HasDefect l f.2) one.1 f.4) g.4 in
+    let one = one_cut text f.0 g.0 f.1 g.1 f.3 (stuck_at_fault f.1 f.2 f.4) g.3 (stuck_at_fault g.1 g.2 g.4) in
+    let wrong : f.2 ≡ g.2 = one_offset_fault g.1 f.2 g.2 (subst (λ (l : List ℕ). HasFault l f.2) one.1 f.4) g.4 in
     f.5 ∙ (λ k. (wrong k).fault (site_at place text (length text - length (one.1 k) + (wrong k).offset))) ∙ sym g.5
 
 pub none_lexed : (place : ℕ) (text : List ℕ) (tokens : List Token) (fault : LexFault) → Lexes place text tokens → FirstFault place text fault → ⊥

@@ -2,88 +2,88 @@
 use Rattle.std.specs.Prelude.{◌≡◌, ℕ, ◌+◌, ◌^◌, ◌<◌, ◌≤◌, ◌-◌, Bool, false, ◌⊎◌, ◌&&◌, ◌||◌, List, [], ◌∷◌, ◌++◌, length, Option, Some, None, if◌then◌else◌, nat_le, not, IsUtf8, option_map, option_to_list}
 use Rattle.guard_model.specs.declared.site.Site.{Site}
 use Rattle.guard_lexer.specs.Octets.{is_letter_or_digit, is_digit, is_hyphen, is_quote, is_apostrophe, begins}
-use Rattle.guard_lexer.specs.Shapes.{IsShape, number_value, begins_comment}
+use Rattle.guard_lexer.specs.Items.{IsItem, number_value, begins_comment}
 use Rattle.guard_lexer.specs.Words.{word_kind}
 use Rattle.guard_lexer.specs.Sites.{site_at}
 use Rattle.guard_lexer.specs.declared.fault.LexFault.{LexFault}
 use Rattle.guard_lexer.specs.declared.fault.LexFault.TheVariants as faults
-use Rattle.guard_lexer.specs.declared.shape.Shape.{Shape}
-use Rattle.guard_lexer.specs.declared.shape.Shape.TheVariants as shape
+use Rattle.guard_lexer.specs.declared.item.ItemKind.{ItemKind}
+use Rattle.guard_lexer.specs.declared.item.ItemKind.TheVariants as item
 use Rattle.guard_lexer.specs.declared.token.Token.{Token}
 use Rattle.guard_lexer.specs.declared.token.TokenKind.{TokenKind}
 use Rattle.guard_lexer.specs.declared.token.TokenKind.TheVariants as kind
 
 -- White space, a comment or a token, with its octets.
 pub record Item : Type 0 where
-  pub shape : Shape
+  pub kind : ItemKind
   pub octets : List ℕ
 
 -- The item stands at the front of text, with `left` behind it, and no longer one stands there.
 pub record IsLongest (text : List ℕ) (item : Item) (left : List ℕ) : Type 0 where
   pub split : text ≡ item.octets ++ left
-  pub is_item : IsShape item.shape item.octets left
-  pub longest : (other : Item) (behind : List ℕ) → text ≡ other.octets ++ behind → IsShape other.shape other.octets behind → length other.octets ≤ length item.octets
+  pub is_item : IsItem item.kind item.octets left
+  pub longest : (other : Item) (behind : List ℕ) → text ≡ other.octets ++ behind → IsItem other.kind other.octets behind → length other.octets ≤ length item.octets
 
 -- A fault that stands so many octets behind the place where it is found.
-pub record Defect : Type 0 where
+pub record OffsetFault : Type 0 where
   pub offset : ℕ
   pub fault : Site → LexFault
 
--- one hyphen, and then neither a letter, a digit nor a hyphen
+-- a hyphen that goes on with no word and begins no comment
 abbrev pub is_lone_hyphen : List ℕ → Bool
 is_lone_hyphen [] = false
 is_lone_hyphen (octet ∷ octets) = is_hyphen octet && not (begins is_letter_or_digit octets) && not (begins is_hyphen octets)
 
-abbrev pub bad_character : ℕ → Defect
+abbrev pub bad_character : ℕ → OffsetFault
 bad_character offset = record { offset = offset; fault = λ site. faults.BadCharacter site }
 
-abbrev pub bad_hyphen : Defect
+abbrev pub bad_hyphen : OffsetFault
 bad_hyphen = record { offset = 0; fault = λ site. faults.BadHyphen site }
 
-abbrev pub bad_string : Defect
+abbrev pub bad_string : OffsetFault
 bad_string = record { offset = 0; fault = λ site. faults.BadString site }
 
-abbrev pub open_comment : Defect
+abbrev pub open_comment : OffsetFault
 open_comment = record { offset = 0; fault = λ site. faults.OpenComment site }
 
-abbrev pub number_too_large : Defect
+abbrev pub number_too_large : OffsetFault
 number_too_large = record { offset = 0; fault = λ site. faults.NumberTooLarge site }
 
 -- What is wrong with an item, by its octets and what is left behind it. A digit can stand directly behind the number 0 alone.
-abbrev pub defect : Shape → List ℕ → List ℕ → Option Defect
-defect shape.WhiteSpace octets behind = None
-defect shape.LineComment octets behind = None
-defect shape.BlockComment octets behind = None
-defect shape.Word octets behind = if is_lone_hyphen behind then Some bad_hyphen else None
-defect shape.Number octets behind =
+abbrev pub item_fault : ItemKind → List ℕ → List ℕ → Option OffsetFault
+item_fault item.WhiteSpace octets behind = None
+item_fault item.LineComment octets behind = None
+item_fault item.BlockComment octets behind = None
+item_fault item.Word octets behind = if is_lone_hyphen behind then Some bad_hyphen else None
+item_fault item.Number octets behind =
     if nat_le (2 ^ 128) (number_value octets) then Some number_too_large
     else (if begins is_digit behind then Some (bad_character (length octets)) else None)
-defect shape.CharacterString octets behind = None
-defect shape.BitString octets behind = None
-defect shape.HexadecimalString octets behind = None
-defect (shape.Mark mark) octets behind = None
+item_fault item.CharacterString octets behind = None
+item_fault item.BitString octets behind = None
+item_fault item.HexadecimalString octets behind = None
+item_fault (item.Mark mark) octets behind = None
 
 -- Up to `left` the text is these items in turn, each the longest where it stands, and none at fault.
 abbrev pub IsCut : List ℕ → List Item → List ℕ → Type 0
 IsCut text [] left = text ≡ left
 IsCut text (item ∷ items) left =
-    (behind : List ℕ) × IsLongest text item behind × (defect item.shape item.octets behind ≡ None) × IsCut behind items left
+    (behind : List ℕ) × IsLongest text item behind × (item_fault item.kind item.octets behind ≡ None) × IsCut behind items left
 
-abbrev pub kind_of : Shape → List ℕ → Option TokenKind
-kind_of shape.WhiteSpace octets = None
-kind_of shape.LineComment octets = None
-kind_of shape.BlockComment octets = None
-kind_of shape.Word octets = Some (word_kind octets)
-kind_of shape.Number octets = Some kind.Number
-kind_of shape.CharacterString octets = Some kind.CharacterString
-kind_of shape.BitString octets = Some kind.BitString
-kind_of shape.HexadecimalString octets = Some kind.HexadecimalString
-kind_of (shape.Mark mark) octets = Some (kind.Mark mark)
+abbrev pub kind_of : ItemKind → List ℕ → Option TokenKind
+kind_of item.WhiteSpace octets = None
+kind_of item.LineComment octets = None
+kind_of item.BlockComment octets = None
+kind_of item.Word octets = Some (word_kind octets)
+kind_of item.Number octets = Some kind.Number
+kind_of item.CharacterString octets = Some kind.CharacterString
+kind_of item.BitString octets = Some kind.BitString
+kind_of item.HexadecimalString octets = Some kind.HexadecimalString
+kind_of (item.Mark mark) octets = Some (kind.Mark mark)
 
 -- the token that an item is, where it is one, at this offset of the text
 abbrev pub token_of : ℕ → List ℕ → ℕ → Item → Option Token
 token_of place text start item =
-    option_map (λ kind. record { kind = kind; start = start; end = start + length item.octets; site = site_at place text start }) (kind_of item.shape item.octets)
+    option_map (λ kind. record { kind = kind; start = start; end = start + length item.octets; site = site_at place text start }) (kind_of item.kind item.octets)
 
 -- the tokens among items that stand in the text from this offset on
 abbrev pub tokens_from : ℕ → List ℕ → ℕ → List Item → List Token
@@ -93,25 +93,25 @@ tokens_from place text start (item ∷ items) =
 
 -- no item stands at the front
 abbrev pub BeginsNone : List ℕ → Type 0
-BeginsNone text = (item : Item) (behind : List ℕ) → text ≡ item.octets ++ behind → ¬ (IsShape item.shape item.octets behind)
+BeginsNone text = (item : Item) (behind : List ℕ) → text ≡ item.octets ++ behind → ¬ (IsItem item.kind item.octets behind)
 
 -- What is wrong where no item begins: a string that is none, a comment that isn't closed, else the first character.
-abbrev pub nothing_begun : List ℕ → Defect
-nothing_begun left =
+abbrev pub no_item_fault : List ℕ → OffsetFault
+no_item_fault left =
     if begins is_quote left || begins is_apostrophe left then bad_string
     else (if begins_comment left then open_comment else bad_character 0)
 
 -- What is wrong at the front of what is left: no item stands there, or the one that does is at fault.
-abbrev pub HasDefect : List ℕ → Defect → Type 0
-HasDefect left wrong =
-    ((0 < length left) × BeginsNone left × (wrong ≡ nothing_begun left))
-    ⊎ ((item : Item) × (behind : List ℕ) × IsLongest left item behind × (defect item.shape item.octets behind ≡ Some wrong))
+abbrev pub HasFault : List ℕ → OffsetFault → Type 0
+HasFault left wrong =
+    ((0 < length left) × BeginsNone left × (wrong ≡ no_item_fault left))
+    ⊎ ((item : Item) × (behind : List ℕ) × IsLongest left item behind × (item_fault item.kind item.octets behind ≡ Some wrong))
 
 -- The leftmost fault: what stands before it are items without fault.
 abbrev pub FaultAt : ℕ → List ℕ → LexFault → Type 0
 FaultAt place text fault =
-    (items : List Item) × (left : List ℕ) × (wrong : Defect)
-    × IsCut text items left × HasDefect left wrong
+    (items : List Item) × (left : List ℕ) × (wrong : OffsetFault)
+    × IsCut text items left × HasFault left wrong
     × (fault ≡ wrong.fault (site_at place text (length text - length left + wrong.offset)))
 
 abbrev pub longest_text : ℕ

@@ -1,9 +1,12 @@
+-- single octets, and what octets make
 pub mod Octets
 pub mod Spelling
-pub mod Shapes
+pub mod Items
 pub mod Words
+-- the tokens of a text and its first fault
 pub mod Sites
-pub mod Spans
 pub mod Lexing
-pub mod Reading
+pub mod Spans
 pub mod Laws
+-- how a text is read from left to right; no public contract reaches it
+pub mod Reading

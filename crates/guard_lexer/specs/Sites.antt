@@ -4,7 +4,7 @@ use Rattle.std.specs.List.{suffix_len}
 use Rattle.guard_model.specs.declared.site.Site.{Site}
 use Rattle.guard_lexer.specs.Octets.{is_line_feed}
 
--- The line is 1 plus the line feeds before, the column 1 plus the octets since the last line feed.
+-- Lines end at line feeds, and columns count octets within a line. Both begin at 1.
 abbrev pub site_after : ℕ → List ℕ → Site
 site_after place before = record {
   text = place;

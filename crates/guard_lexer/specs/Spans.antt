@@ -1,7 +1,7 @@
 -- Tokens as spans of a text.
 use Rattle.std.specs.Prelude.{◌≡◌, ℕ, ◌<◌, ◌≤◌, ◌^◌, List, length, slice_range, All, Contains, IsTrue, not}
 use Rattle.guard_lexer.specs.Octets.{is_capital, begins}
-use Rattle.guard_lexer.specs.Shapes.{is_word, is_number, number_value, is_character_string, is_bit_string, is_hexadecimal_string}
+use Rattle.guard_lexer.specs.Items.{is_word, is_number, number_value, is_character_string, is_bit_string, is_hexadecimal_string}
 use Rattle.guard_lexer.specs.Spelling.{reserved_spelling, mark_spelling, unsupported_words}
 use Rattle.guard_lexer.specs.declared.token.Reserved.{Reserved}
 use Rattle.guard_lexer.specs.declared.token.Token.{Token}

@@ -19,7 +19,7 @@ pub enum LexFault {
     /// The comment that `/*` opens here isn't closed.
     #[error("L3 OpenComment {0}")]
     OpenComment(Site),
-    /// The word here is followed by one hyphen, and then by neither a letter, a digit nor a hyphen.
+    /// Behind the word here stands a hyphen that goes on with no word and begins no comment.
     #[error("L4 BadHyphen {0}")]
     BadHyphen(Site),
     /// The number here is above 2^128-1.

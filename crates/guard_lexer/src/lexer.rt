@@ -4,14 +4,13 @@ ghost use Rattle.guard_model.specs.Answer.{Gives};
 ghost use Rattle.guard_lexer.specs.Sites.{site_after};
 ghost use Rattle.guard_lexer.specs.Spans.{AreSpans};
 ghost use Rattle.guard_lexer.specs.Lexing.{Item, kind_of, tokens_from, IsCut, FaultAt, Lexes, FirstFault, longest_text, fault_named};
-ghost use Rattle.guard_lexer.specs.Reading.{IsItemAt, IsFaultAt};
+ghost use Rattle.guard_lexer.specs.Reading.{IsFaultlessItem, IsFaultAt};
 ghost use Rattle.guard_lexer.specs.declared.fault.LexFault.TheVariants.{OutOfMemory};
 
-use crate::defect::{fault_of, nothing_begun};
 use crate::fault::LexFault;
-use crate::front::front;
-use crate::shape::{Piece, Shape};
-use crate::site::past;
+use crate::item::{FoundItem, ItemKind, item_at};
+use crate::item_faults::{item_fault, no_item_fault};
+use crate::site::site_behind;
 use crate::token::{Token, TokenKind};
 use crate::word::word_kind;
 use guard_model::Site;
@@ -69,10 +68,10 @@ fn read_items(alloc: Global, place: u32, text: &[u8]) -> Result<Vec<Token>, LexF
     let mut at = 0;
     while at < text.len() {
         let left = &text[at..];
-        let piece = item_at(left, site)?;
-        let (octets, _) = left.split_at(piece.len);
-        let end = at + piece.len;
-        if let Some(kind) = kind_of(piece.shape, octets) {
+        let item = read_item(left, site)?;
+        let (octets, _) = left.split_at(item.len);
+        let end = at + item.len;
+        if let Some(kind) = kind_of(item.kind, octets) {
             tokens.push(Token {
                 kind,
                 start: at,
@@ -80,40 +79,40 @@ fn read_items(alloc: Global, place: u32, text: &[u8]) -> Result<Vec<Token>, LexF
                 site,
             })?;
         }
-        site = past(site, octets);
+        site = site_behind(site, octets);
         at = end;
     }
     Ok(tokens)
 }
 
 /// The longest item at the front of what is left of a text, which stands at the site, if it isn't at fault.
-fn item_at(left: &[u8], site: Site) -> Result<Piece, LexFault>
+fn read_item(left: &[u8], site: Site) -> Result<FoundItem, LexFault>
     requires some { 0 < length left.now }
     requires line { site.line + length left.now < 2 ^ 32 }
     requires column { site.column + length left.now < 2 ^ 32 }
-    ensures item { IfOk result (λ piece. IsItemAt left.now piece) }
+    ensures item { IfOk result (IsFaultlessItem left.now) }
     ensures fault { IfErr result (λ f. (before : List ℕ) → site ≡ site_after site.text before → IsFaultAt site.text before left.now f) }
 {
-    let Some(piece) = front(left) else {
-        return Err(nothing_begun(left, site));
+    let Some(item) = item_at(left) else {
+        return Err(no_item_fault(left, site));
     };
-    match fault_of(piece, left, site) {
+    match item_fault(item, left, site) {
         Some(fault) => Err(fault),
-        None => Ok(piece),
+        None => Ok(item),
     }
 }
 
 /// The token that an item is, if it is one.
-fn kind_of(shape: Shape, octets: &[u8]) -> Option<TokenKind>
-    ensures { result ≡ kind_of shape octets.now }
+fn kind_of(kind: ItemKind, octets: &[u8]) -> Option<TokenKind>
+    ensures { result ≡ kind_of kind octets.now }
 {
-    match shape {
-        Shape::WhiteSpace | Shape::LineComment | Shape::BlockComment => None,
-        Shape::Word => Some(word_kind(octets)),
-        Shape::Number => Some(TokenKind::Number),
-        Shape::CharacterString => Some(TokenKind::CharacterString),
-        Shape::BitString => Some(TokenKind::BitString),
-        Shape::HexadecimalString => Some(TokenKind::HexadecimalString),
-        Shape::Mark(mark) => Some(TokenKind::Mark(mark)),
+    match kind {
+        ItemKind::WhiteSpace | ItemKind::LineComment | ItemKind::BlockComment => None,
+        ItemKind::Word => Some(word_kind(octets)),
+        ItemKind::Number => Some(TokenKind::Number),
+        ItemKind::CharacterString => Some(TokenKind::CharacterString),
+        ItemKind::BitString => Some(TokenKind::BitString),
+        ItemKind::HexadecimalString => Some(TokenKind::HexadecimalString),
+        ItemKind::Mark(mark) => Some(TokenKind::Mark(mark)),
     }
 }

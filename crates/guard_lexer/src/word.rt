@@ -1,11 +1,25 @@
-//! Which token a word is.
-ghost use Rattle.std.specs.Prelude.{◌≡◌, find, bytes_eq};
+//! Words: how long one is, and which token.
+ghost use Rattle.std.specs.Prelude.{◌≡◌, ◌≤◌, length, find, bytes_eq};
 ghost use Rattle.std.specs.List.{list_any};
 ghost use Rattle.guard_lexer.specs.Spelling.{reserved_spelling};
 ghost use Rattle.guard_lexer.specs.Words.{reserved_word, is_unsupported, word_kind};
+ghost use Rattle.guard_lexer.specs.Reading.{word_len};
 
+use crate::octet::is_of_word;
 use crate::spelling::{RESERVED, UNSUPPORTED};
 use crate::token::{Reserved, TokenKind};
+
+/// How many octets at the front are of a word.
+pub(crate) fn word_len(text: &[u8]) -> usize
+    ensures reads { result ≡ word_len text.now }
+    ensures within { result ≤ length text.now }
+{
+    let mut n = 0;
+    while n < text.len() && is_of_word(text[n], &text[n + 1..]) {
+        n += 1;
+    }
+    n
+}
 
 /// The kind of a word.
 pub(crate) fn word_kind(word: &[u8]) -> TokenKind

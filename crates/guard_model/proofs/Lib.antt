@@ -1,5 +1,14 @@
-pub mod Sameness
-pub mod ValueViews
-pub mod SameTypes
+-- ---- for all crates: answers and tests
+pub mod Results
+pub mod Options
+pub mod Tests
+pub mod Loops
+-- ---- for all crates: tags, types and values
+pub mod Tags
 pub mod TypeViews
-mod Lengths
+pub mod ValueViews
+pub mod Components
+-- ---- equality of values and of types
+pub mod Sameness
+pub mod SameTypes
+mod DifferentLengths

@@ -1,13 +1,13 @@
 -- One level of what a value stands for.
-use Rattle.std.proofs.Common.{◌≡◌, List, [], ◌∷◌, Option, Some, None, String, Global, string_bytes, refl, ap, sym, ◌∙◌, map}
-use Rattle.std.specs.Global.{Vec}
+use Rattle.std.proofs.Common.{◌≡◌, List, [], ◌∷◌, Option, Some, None, ℕ, String, Global, string_bytes, refl, ap, sym, ◌∙◌, map}
+use Rattle.std.specs.Global.{Vec, Box}
 use Rattle.std.specs.Str.{chars}
-use Rattle.guard_model.specs.AbstractValue.{AbstractValue, fields, characters, present, absent, fields_of}
-use Rattle.guard_model.specs.ValueView.{value_view, value_step, fields_view}
+use Rattle.guard_model.specs.AbstractValue.{AbstractValue, fields, items, chosen, characters, present, absent, fields_of}
+use Rattle.guard_model.specs.ValueView.{value_view, value_step, fields_view, items_view}
 use Rattle.guard_model.specs.declared.value.Value.{Value}
 use Rattle.guard_model.specs.declared.value.Value.TheFolds.{fold-roll-Value}
 use Rattle.guard_model.specs.declared.value.Value.TheVariants as variant
-use Rattle.guard_model.specs.declared.value.Value.TheVariants.{rolls-Fields, rolls-Chars}
+use Rattle.guard_model.specs.declared.value.Value.TheVariants.{rolls-Fields, rolls-Items, rolls-Chosen, rolls-Chars}
 use Rattle.guard_model.specs.declared.value.Value.TheOpen.{Value-F}
 
 fields_folded : (inside : Option Value → Option AbstractValue) → inside None ≡ None → ((v : Value) → inside (Some v) ≡ Some (value_view v)) → (vs : List (Option Value)) → fields_of (map inside vs) ≡ fields_view vs
@@ -20,3 +20,9 @@ value_view_fields vs = ap value_view (sym (rolls-Fields vs)) ∙ fold-roll-Value
 
 pub value_view_characters : (text : String Global) → value_view (variant.Chars text) ≡ characters (chars (string_bytes text))
 value_view_characters text = ap value_view (sym (rolls-Chars text)) ∙ fold-roll-Value AbstractValue value_step (Value-F.Chars text)
+
+pub value_view_items : (vs : Vec Value) → value_view (variant.Items vs) ≡ items (items_view vs.items)
+value_view_items vs = ap value_view (sym (rolls-Items vs)) ∙ fold-roll-Value AbstractValue value_step (Value-F.Items vs)
+
+pub value_view_chosen : (at : ℕ) (v : Box Value) → value_view (variant.Chosen at v) ≡ chosen at (value_view v.value)
+value_view_chosen at v = ap value_view (sym (rolls-Chosen at v)) ∙ fold-roll-Value AbstractValue value_step (Value-F.Chosen at v)

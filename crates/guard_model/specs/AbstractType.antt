@@ -7,6 +7,7 @@ use Rattle.guard_model.specs.declared.ty.CharKind.{CharKind}
 use Rattle.guard_model.specs.declared.ty.Limit.{Limit}
 use Rattle.guard_model.specs.declared.ty.Word.{Word}
 
+-- a named number of an INTEGER (X.680 19), or an item of an ENUMERATED (20)
 pub record NamedNumber : Type 0 where
   pub name : List ℕ
   pub number : ℤ
@@ -20,23 +21,37 @@ pub data AbstractPresence : Type 0 where
   default : AbstractValue → AbstractPresence
 
 mutual
-  -- tags from the outside in, each but the last a wrapper; for a CHOICE each is one
+  -- its tags, the outermost first (X.680 31): the last is the kind's own and the others wrap it; a CHOICE has none of its own, so all of its tags wrap it
   pub data AbstractType : Type 0 where
     type_of : List Tag → AbstractKind → Constraints → AbstractType
 
+  -- with the clause of X.680 for each
   pub data AbstractKind : Type 0 where
+    -- 18
     boolean : AbstractKind
+    -- 19, with its named numbers
     integer : List NamedNumber → AbstractKind
+    -- 22
     bit_string : AbstractKind
+    -- 23
     octet_string : AbstractKind
+    -- 24
     null : AbstractKind
+    -- 32
     object_identifier : AbstractKind
+    -- 20, with its items in written order
     enumerated : List NamedNumber → AbstractKind
+    -- 41
     characters : CharKind → AbstractKind
+    -- 25
     sequence : Components → AbstractKind
+    -- 27
     set : Components → AbstractKind
+    -- 29
     choice : Components → AbstractKind
+    -- 26
     sequence_of : AbstractType → AbstractKind
+    -- 28
     set_of : AbstractType → AbstractKind
 
   -- in written order, each with its name
@@ -53,23 +68,29 @@ mutual
     no_constraints : Constraints
     constraint : Constraint → Constraints → Constraints
 
-  -- the values that a constraint allows (X.680 clauses 50 and 51)
+  -- the values that a constraint allows (X.680 50 and 51)
   pub data Element : Type 0 where
+    -- 51.2
     single_value : AbstractValue → Element
+    -- 51.3
     contained_subtype : AbstractType → Element
+    -- 51.4
     range : Limit → Limit → Element
+    -- 51.5
     size : Constraint → Element
-    -- ranges of codes, both ends in
+    -- 51.7: ranges of codes, both ends in
     permitted_alphabet : List (ℕ × ℕ) → Element
+    -- 51.8.4
     with_component : Constraint → Element
-    -- true where it is partial
+    -- 51.8.5; true where it is partial
     with_components : Bool → Parts → Element
+    -- 50
     union : Constraints → Element
     intersection : Constraints → Element
     except : Constraint → Constraint → Element
     all_except : Constraint → Element
 
-  -- what WITH COMPONENTS says: the name's site, the component's place, its constraint where there is one, its presence word
+  -- what WITH COMPONENTS says (51.8.5): the name's site, the component's place, its constraint where there is one, its presence word
   pub data Parts : Type 0 where
     no_parts : Parts
     part : Site → ℕ → Option Word → Parts → Parts

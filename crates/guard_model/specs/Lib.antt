@@ -1,11 +1,21 @@
+-- ---- what a call answers
 pub mod Answer
+pub mod Each
+-- ---- tags, values and types, as the definitions see them
 pub mod Octets
 pub mod Tags
 pub mod AbstractValue
 pub mod AbstractType
+pub mod Components
+pub mod Counts
+-- ---- what is said of them
+pub mod Limits
+pub mod Alphabets
 pub mod Same
+pub mod SameBase
+-- ---- which of them a value or type of the code stands for
 pub mod ValueView
 pub mod TypeView
-pub mod SameBase
+-- ---- what private contracts cite
 pub mod SameType
 pub mod BareView

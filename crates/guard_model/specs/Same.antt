@@ -1,5 +1,5 @@
 -- Equality of abstract values, as a test.
-use Rattle.std.specs.Prelude.{ℕ, ℤ, Bool, true, false, ◌&&◌, List, [], ◌∷◌, nat_eq}
+use Rattle.std.specs.Prelude.{ℕ, Bool, true, false, ◌&&◌, List, [], ◌∷◌, nat_eq}
 use Rattle.std.specs.Ordering.{int_eq}
 use Rattle.guard_model.specs.AbstractValue.{AbstractValue, Fields, Items, boolean, integer, enumerated, null, bit_string, octet_string, object_identifier, characters, fields, items, chosen, no_fields, present, absent, no_items, item}
 

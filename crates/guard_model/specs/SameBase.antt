@@ -1,7 +1,7 @@
 -- Types of the same base: equal kinds without the outermost tags and constraints. Inside, parts are equal in name, tags, presence, default and constraints.
 -- Named numbers of an INTEGER and sites count nowhere; the items of an ENUMERATED count, in written order and with their numbers.
 use Rattle.std.specs.Prelude.{◌≡◌, []}
-use Rattle.guard_model.specs.AbstractType.{AbstractType, AbstractKind, Components, Constraint, Constraints, Element, Parts, type_of, boolean, integer, bit_string, octet_string, null, object_identifier, enumerated, characters, sequence, set, choice, sequence_of, set_of, no_components, component, at, no_constraints, constraint, single_value, contained_subtype, range, size, permitted_alphabet, with_component, with_components, union, intersection, except, all_except, no_parts, part, part_within}
+use Rattle.guard_model.specs.AbstractType.{AbstractType, AbstractKind, Components, Constraint, Constraints, Element, Parts, type_of, integer, sequence, set, choice, sequence_of, set_of, no_components, component, at, no_constraints, constraint, contained_subtype, size, with_component, with_components, union, intersection, except, all_except, no_parts, part, part_within}
 use Rattle.guard_model.specs.declared.site.Site.{Site}
 
 -- stands in place of every site

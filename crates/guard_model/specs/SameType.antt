@@ -1,5 +1,5 @@
 -- Equality of abstract types, as a test.
-use Rattle.std.specs.Prelude.{ℕ, Bool, true, false, ◌&&◌, Option, Some, None, nat_eq}
+use Rattle.std.specs.Prelude.{ℕ, Bool, true, false, ◌&&◌, Option, nat_eq}
 use Rattle.std.specs.Cmp.Lexicographic.{pointwise}
 use Rattle.std.specs.Option.{option_eq}
 use Rattle.std.specs.Ordering.{int_eq}
@@ -7,8 +7,7 @@ use Rattle.std.specs.Str.{bytes_eq}
 use Rattle.guard_model.specs.AbstractType.{AbstractType, AbstractKind, AbstractPresence, Components, Constraint, Constraints, Element, NamedNumber, Parts, mandatory, optional, pending, default, type_of, boolean, integer, bit_string, octet_string, null, object_identifier, enumerated, characters, sequence, set, choice, sequence_of, set_of, no_components, component, at, no_constraints, constraint, single_value, contained_subtype, range, size, permitted_alphabet, with_component, with_components, union, intersection, except, all_except, no_parts, part, part_within}
 use Rattle.guard_model.specs.Same.{same, same_truth}
 use Rattle.guard_model.specs.SameBase.{bare_kind_of}
-use Rattle.guard_model.specs.Tags.{class_rank}
-use Rattle.guard_model.specs.declared.tag.Tag.{Tag}
+use Rattle.guard_model.specs.Tags.{same_tag}
 use Rattle.guard_model.specs.declared.site.Site.{Site}
 use Rattle.guard_model.specs.declared.ty.CharKind.{CharKind}
 use Rattle.guard_model.specs.declared.ty.CharKind.TheVariants.{Numeric, Printable, Ia5, Visible, Utf8}
@@ -16,9 +15,6 @@ use Rattle.guard_model.specs.declared.ty.Limit.{Limit}
 use Rattle.guard_model.specs.declared.ty.Limit.TheVariants.{Free, At, Past}
 use Rattle.guard_model.specs.declared.ty.Word.{Word}
 use Rattle.guard_model.specs.declared.ty.Word.TheVariants.{Present, Absent, Optional}
-
-abbrev pub same_tag : Tag → Tag → Bool
-same_tag a b = nat_eq (class_rank a.class) (class_rank b.class) && nat_eq a.number b.number
 
 abbrev pub same_site : Site → Site → Bool
 same_site a b = nat_eq a.text b.text && (nat_eq a.line b.line && nat_eq a.column b.column)

@@ -1,5 +1,5 @@
--- The order of tags (X.680 8.6).
-use Rattle.std.specs.Prelude.{ℕ}
+-- Tags: when two are the same, and their order (X.680 8.6).
+use Rattle.std.specs.Prelude.{ℕ, Bool, ◌&&◌, nat_eq}
 use Rattle.std.specs.declared.cmp.Ordering.{Ordering}
 use Rattle.std.specs.Ordering.{nat_cmp, ordering_then}
 use Rattle.guard_model.specs.declared.tag.Class.{Class}
@@ -12,6 +12,9 @@ class_rank Universal = 0
 class_rank Application = 1
 class_rank Context = 2
 class_rank Private = 3
+
+abbrev pub same_tag : Tag → Tag → Bool
+same_tag a b = nat_eq (class_rank a.class) (class_rank b.class) && nat_eq a.number b.number
 
 -- by class, then by number
 abbrev pub tag_order : Tag → Tag → Ordering

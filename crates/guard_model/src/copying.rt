@@ -19,19 +19,33 @@ impl Value {
             Value::Int(number) => Ok(Value::Int(*number)),
             Value::Enumerated(number) => Ok(Value::Enumerated(*number)),
             Value::Null => Ok(Value::Null),
-            Value::Bits(bits) => Ok(Value::Bits(Bits {
-                octets: Vec::from_slice(alloc, &bits.octets)?,
-                unused: bits.unused,
-            })),
+            Value::Bits(bits) => Ok(Value::Bits(bits.copy(alloc)?)),
             Value::Octets(octets) => Ok(Value::Octets(Vec::from_slice(alloc, octets)?)),
             Value::Oid(arcs) => Ok(Value::Oid(Vec::from_slice(alloc, arcs)?)),
             Value::Chars(text) => Ok(Value::Chars(String::from_str(alloc, text)?)),
             Value::Fields(fields) => Ok(Value::Fields(copy_of_fields(alloc, fields)?)),
             Value::Items(items) => Ok(Value::Items(copy_of_items(alloc, items)?)),
-            Value::Chosen(at, value) => {
-                Ok(Value::Chosen(*at, Box::new(alloc, value.copy(alloc)?)?))
-            }
+            Value::Chosen(at, value) => Ok(Value::Chosen(*at, value.boxed_copy(alloc)?)),
         }
+    }
+
+    #[cycle(value_copies)]
+    fn boxed_copy(&self, alloc: Global) -> Result<Box<Value>, OutOfMemory>
+        ensures { IfOk result (λ copy. value_view copy.value ≡ value_view self.now) }
+    {
+        Ok(Box::new(alloc, self.copy(alloc)?)?)
+    }
+}
+
+impl Bits {
+    fn copy(&self, alloc: Global) -> Result<Bits, OutOfMemory>
+        ensures octets { IfOk result (λ copy. copy.octets.items ≡ self.now.octets.items) }
+        ensures unused { IfOk result (λ copy. copy.unused ≡ self.now.unused) }
+    {
+        Ok(Bits {
+            octets: Vec::from_slice(alloc, &self.octets)?,
+            unused: self.unused,
+        })
     }
 }
 
@@ -76,6 +90,13 @@ impl Ty {
             cons: copy_of_constraints(alloc, &self.cons)?,
         })
     }
+
+    #[cycle(type_copies)]
+    fn boxed_copy(&self, alloc: Global) -> Result<Box<Ty>, OutOfMemory>
+        ensures { IfOk result (λ copy. type_view copy.value ≡ type_view self.now) }
+    {
+        Ok(Box::new(alloc, self.copy(alloc)?)?)
+    }
 }
 
 impl Kind {
@@ -95,8 +116,8 @@ impl Kind {
             Kind::Sequence(comps) => Ok(Kind::Sequence(copy_of_components(alloc, comps)?)),
             Kind::Set(comps) => Ok(Kind::Set(copy_of_components(alloc, comps)?)),
             Kind::Choice(comps) => Ok(Kind::Choice(copy_of_components(alloc, comps)?)),
-            Kind::SequenceOf(ty) => Ok(Kind::SequenceOf(Box::new(alloc, ty.copy(alloc)?)?)),
-            Kind::SetOf(ty) => Ok(Kind::SetOf(Box::new(alloc, ty.copy(alloc)?)?)),
+            Kind::SequenceOf(ty) => Ok(Kind::SequenceOf(ty.boxed_copy(alloc)?)),
+            Kind::SetOf(ty) => Ok(Kind::SetOf(ty.boxed_copy(alloc)?)),
         }
     }
 }
@@ -180,6 +201,13 @@ impl Cons {
             rule: self.rule.copy(alloc)?,
         })
     }
+
+    #[cycle(type_copies)]
+    fn boxed_copy(&self, alloc: Global) -> Result<Box<Cons>, OutOfMemory>
+        ensures { IfOk result (λ copy. constraint_view copy.value ≡ constraint_view self.now) }
+    {
+        Ok(Box::new(alloc, self.copy(alloc)?)?)
+    }
 }
 
 impl Rule {
@@ -189,19 +217,19 @@ impl Rule {
     {
         match self {
             Rule::One(value) => Ok(Rule::One(value.copy(alloc)?)),
-            Rule::Inside(ty) => Ok(Rule::Inside(Box::new(alloc, ty.copy(alloc)?)?)),
+            Rule::Inside(ty) => Ok(Rule::Inside(ty.boxed_copy(alloc)?)),
             Rule::Range(low, high) => Ok(Rule::Range(*low, *high)),
-            Rule::Size(size) => Ok(Rule::Size(Box::new(alloc, size.copy(alloc)?)?)),
+            Rule::Size(size) => Ok(Rule::Size(size.boxed_copy(alloc)?)),
             Rule::Alphabet(ranges) => Ok(Rule::Alphabet(Vec::from_slice(alloc, ranges)?)),
-            Rule::Each(inner) => Ok(Rule::Each(Box::new(alloc, inner.copy(alloc)?)?)),
+            Rule::Each(inner) => Ok(Rule::Each(inner.boxed_copy(alloc)?)),
             Rule::Parts(partial, parts) => Ok(Rule::Parts(*partial, copy_of_parts(alloc, parts)?)),
             Rule::Any(constraints) => Ok(Rule::Any(copy_of_constraints(alloc, constraints)?)),
             Rule::Both(constraints) => Ok(Rule::Both(copy_of_constraints(alloc, constraints)?)),
             Rule::Minus(first, second) => Ok(Rule::Minus(
-                Box::new(alloc, first.copy(alloc)?)?,
-                Box::new(alloc, second.copy(alloc)?)?,
+                first.boxed_copy(alloc)?,
+                second.boxed_copy(alloc)?,
             )),
-            Rule::Other(inner) => Ok(Rule::Other(Box::new(alloc, inner.copy(alloc)?)?)),
+            Rule::Other(inner) => Ok(Rule::Other(inner.boxed_copy(alloc)?)),
         }
     }
 }

@@ -1,7 +1,22 @@
-//! What all layers of the guard speak of: tags, sites, paths, values and types.
+//! What all layers of the guard speak of: tags, values and types, places in texts and in values, and the limits of this profile. It reads and writes nothing.
+//!
+//! | question | file |
+//! |---|---|
+//! | what is a type, a constraint, a value | `ty.rt`, `value.rt`; as the definitions see them `specs/AbstractType.antt`, `specs/AbstractValue.antt`, and which one a type or value of the code is `specs/TypeView.antt`, `specs/ValueView.antt` |
+//! | when are two values the same | `same.rt`, `specs/Same.antt` |
+//! | when have two types the same base | `same_base.rt`, `specs/SameBase.antt` |
+//! | how is a value or type copied | `copying.rt` |
+//! | which tag comes first | `tag.rt`, `specs/Tags.antt` |
+//! | which characters may a string have | `alphabet.rt`, `specs/Alphabets.antt` |
+//! | what is too many or too deep | `limits.rt`, `specs/Limits.antt` |
+//! | where does something stand, and how is that printed | `site.rt` |
+//! | what comes of want of memory | `memory.rt`; in contracts `specs/Answer.antt` |
+//! | a lemma that several crates need | `proofs/Results.antt`, `Options.antt`, `Tests.antt`, `Loops.antt`, `Tags.antt`, `TypeViews.antt`, `ValueViews.antt`, `Components.antt` |
 #![tactic(auto)]
 
+mod alphabet;
 mod copying;
+mod limits;
 mod memory;
 mod same;
 mod same_base;
@@ -10,11 +25,9 @@ mod tag;
 mod ty;
 mod value;
 
+pub use limits::{DEEPEST_NESTING, GREATEST_TAG_NUMBER, MOST_COMPONENTS};
 pub use memory::OutOfMemory;
-pub use site::{Path, Site, Step};
+pub use site::{Path, PathText, Site, Step};
 pub use tag::{Class, Tag};
 pub use ty::{CharKind, Comp, Cons, Kind, Limit, Named, Part, Presence, Rule, Ty, Word};
 pub use value::{Bits, Value};
-
-#[cfg(test)]
-mod tests;

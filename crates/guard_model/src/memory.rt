@@ -2,7 +2,7 @@
 use std::alloc::{AllocError, AllocFailed};
 use thiserror::Error;
 
-/// A growth was refused. It may stand in place of any other answer of a call that allocates.
+/// The allocator had no memory left. Each call that allocates may answer this instead of what it would have answered.
 #[derive(Clone, Copy, Debug, PartialEq, Eq, Error)]
 #[error("OutOfMemory")]
 pub struct OutOfMemory;

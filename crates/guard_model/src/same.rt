@@ -1,10 +1,10 @@
 //! Equality of values.
-ghost use Rattle.std.specs.Prelude.{◌≡◌};
+ghost use Rattle.std.specs.Prelude.{◌≡◌, ◌&&◌, nat_eq};
 ghost use Rattle.std.specs.Bool.{Decides};
-ghost use Rattle.guard_model.specs.Same.{same, same_fields, same_items};
+ghost use Rattle.guard_model.specs.Same.{same, same_fields, same_items, same_numbers};
 ghost use Rattle.guard_model.specs.ValueView.{value_view, fields_view, items_view};
 
-use crate::value::Value;
+use crate::value::{Bits, Value};
 
 impl Value {
     /// Whether both stand for the same abstract value: they are of one form and their parts are the same, one by one.
@@ -24,9 +24,7 @@ impl Value {
             (Value::Int(one), Value::Int(two)) => one == two,
             (Value::Enumerated(one), Value::Enumerated(two)) => one == two,
             (Value::Null, Value::Null) => true,
-            (Value::Bits(one), Value::Bits(two)) => {
-                one.unused == two.unused && one.octets == two.octets
-            }
+            (Value::Bits(one), Value::Bits(two)) => one.is_same(two),
             (Value::Octets(one), Value::Octets(two)) => one == two,
             (Value::Oid(one), Value::Oid(two)) => one == two,
             (Value::Chars(one), Value::Chars(two)) => one == two,
@@ -35,6 +33,14 @@ impl Value {
             (Value::Chosen(at, one), Value::Chosen(place, two)) => at == place && one.equals(two),
             _ => false,
         }
+    }
+}
+
+impl Bits {
+    fn is_same(&self, other: &Bits) -> bool
+        ensures { result ≡ (nat_eq self.now.unused other.now.unused && same_numbers self.now.octets.items other.now.octets.items) }
+    {
+        self.unused == other.unused && self.octets == other.octets
     }
 }
 

@@ -1,7 +1,8 @@
 //! Whether two types have the same base.
 ghost use Rattle.guard_model.specs.BareView.{bare_components_view, bare_constraints_view, bare_parts_view, same_component, same_part};
 ghost use Rattle.guard_model.specs.SameBase.{HasSameBase, bare, bare_constraint, bare_element, bare_kind};
-ghost use Rattle.guard_model.specs.SameType.{same_base, same_components, same_constraint, same_constraints, same_element, same_kind, same_limit, same_named, same_parts, same_presence, same_range, same_tag, same_type};
+ghost use Rattle.guard_model.specs.SameType.{same_base, same_components, same_constraint, same_constraints, same_element, same_kind, same_limit, same_named, same_parts, same_presence, same_range, same_type};
+ghost use Rattle.guard_model.specs.Tags.{same_tag};
 ghost use Rattle.guard_model.specs.TypeView.{component_view, constraint_view, element_view, kind_view, named_view, part_view, presence_view, type_view};
 ghost use Rattle.std.specs.Bool.{Decides};
 ghost use Rattle.std.specs.Cmp.Lexicographic.{pointwise};
@@ -67,11 +68,19 @@ fn are_same_items(items: &[Named], others: &[Named]) -> bool
         return false;
     }
     for (item, other) in items.iter().zip(others) {
-        if item.name != other.name || item.number != other.number {
+        if !item.is_same(other) {
             return false;
         }
     }
     true
+}
+
+impl Named {
+    fn is_same(&self, other: &Named) -> bool
+        ensures { result ≡ same_named (named_view self.now) (named_view other.now) }
+    {
+        self.name == other.name && self.number == other.number
+    }
 }
 
 #[cycle(same_types)]

@@ -1,4 +1,5 @@
 //! Where something stands: in a module text, or in a value.
+use crate::limits::DEEPEST_NESTING;
 use arrayvec::ArrayVec;
 use std::fmt;
 
@@ -34,5 +35,29 @@ impl Default for Step {
     }
 }
 
-/// The way from a value to a value inside it, the outermost step first. Types are nested 32 deep at most.
-pub type Path = ArrayVec<Step, 32>;
+/// `.1` to a component, `[0]` to an element.
+impl fmt::Display for Step {
+    fn fmt<W: fmt::Write>(&self, f: &mut fmt::Formatter<W>) -> fmt::Result {
+        match self {
+            Step::Component(place) => write!(f, ".{place}"),
+            Step::Element(place) => write!(f, "[{place}]"),
+        }
+    }
+}
+
+/// The way from a value to a value inside it, the outermost step first. It has room for the deepest nesting of this profile.
+pub type Path = ArrayVec<Step, DEEPEST_NESTING>;
+
+/// Prints a path from `$` on: `$.1[0].2`.
+#[derive(Clone, Copy)]
+pub struct PathText<'a>(pub &'a Path);
+
+impl fmt::Display for PathText<'_> {
+    fn fmt<W: fmt::Write>(&self, f: &mut fmt::Formatter<W>) -> fmt::Result {
+        write!(f, "$")?;
+        for step in self.0.as_slice() {
+            write!(f, "{step}")?;
+        }
+        Ok(())
+    }
+}

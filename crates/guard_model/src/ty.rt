@@ -7,7 +7,7 @@ use crate::value::Value;
 #[derive(Debug, Drop)]
 #[cycle(types)]
 pub struct Ty {
-    /// From the outside in. Each but the last is a wrapper of its own, an explicit tag; for a CHOICE each is one, and there may be none.
+    /// The outermost first. The last one is the kind's own, and those before it are explicit and wrap it; a CHOICE has none of its own, so all of its tags wrap it, and it may have no tag.
     pub tags: Vec<Tag>,
     pub kind: Kind,
     /// In written order, those of a referenced type before the added ones.

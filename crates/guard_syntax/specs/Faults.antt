@@ -54,7 +54,7 @@ is_line_feed octet = octet == 10
 abbrev pub is_no_line_feed : ℕ → Bool
 is_no_line_feed octet = not (octet == 10)
 
--- where the text ends: the line is 1 plus its line feeds, the column 1 plus the octets since the last one
+-- the site behind the last octet of a text; lines and columns are counted from 1, and a line feed ends a line
 abbrev pub end_site : ℕ → List ℕ → Site
 end_site place text = record { text = place; line = 1 + count_by is_line_feed text; column = 1 + suffix_len is_no_line_feed text }
 

@@ -1,18 +1,23 @@
-pub mod Kinds
+-- ---- what `parse` promises
+pub mod Parses
+pub mod Faults
+-- ---- the tokens of a text
 pub mod Lexemes
+pub mod Kinds
+-- ---- trees: how they are written, where their nodes are, which of them the grammar allows
 pub mod Trees
 pub mod TokensOf
 pub mod Sites
 pub mod Grammar
+-- ---- which tree a tree of the code stands for
 pub mod Views
+pub mod SetViews
+pub mod TypeViews
+pub mod ModuleViews
+-- ---- what private contracts cite: reading step by step
 pub mod ReadTokens
+pub mod Cursors
 pub mod ReadValues
 pub mod ReadSets
-pub mod ReadInnerSet
-pub mod SetViews
 pub mod ReadTypes
-pub mod TypeViews
 pub mod ReadModule
-pub mod ModuleViews
-pub mod Parses
-pub mod Faults

@@ -1,5 +1,5 @@
 -- The trees of the definitions that the code's trees stand for: modules.
-use Rattle.std.specs.Prelude.{ℕ, List, Vec, map, Option, Some, None}
+use Rattle.std.specs.Prelude.{List, Vec, map, Option, Some, None}
 use Rattle.guard_syntax.specs.Trees.{WrittenValue, WrittenIdentifierPart, bare_name, arc_part, WrittenSymbol, WrittenExports, all_exported, exported, WrittenImport, WrittenAssignment, WrittenModule}
 use Rattle.guard_syntax.specs.Views.{arc_view, value_view}
 use Rattle.guard_syntax.specs.TypeViews.{type_view}

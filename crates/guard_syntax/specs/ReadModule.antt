@@ -1,16 +1,16 @@
 -- Reading modules.
-use Rattle.std.specs.Prelude.{ℕ, zero, suc, Bool, true, false, not, if◌then◌else◌, List, [], ◌∷◌, length, Option, Some, None, Result, Ok, Err}
+use Rattle.std.specs.Prelude.{ℕ, Bool, false, not, if◌then◌else◌, List, [], ◌∷◌, length, Option, Some, None, Result, Ok}
 use Rattle.guard_model.specs.Answer.{◌>>=◌}
 use Rattle.guard_lexer.specs.declared.token.TokenKind.TheVariants.{Reserved, UpperName, LowerName, Mark}
 use Rattle.guard_lexer.specs.declared.token.Reserved.TheVariants.{All, Automatic, Begin, Definitions, End, Explicit, Exports, From, Implicit, Imports, Tags}
 use Rattle.guard_lexer.specs.declared.token.Mark.TheVariants.{Assignment, LeftBrace, LeftParenthesis, RightBrace, Semicolon}
-use Rattle.guard_syntax.specs.declared.halt.Stop.{Stop}
+use Rattle.guard_syntax.specs.declared.read_error.Failure.{Failure}
 use Rattle.guard_syntax.specs.declared.tree.TagDefault.{TagDefault}
 use Rattle.guard_syntax.specs.declared.tree.TagDefault.TheVariants as tag_default
 use Rattle.guard_syntax.specs.declared.tree.SymbolKind.TheVariants as symbol
 use Rattle.guard_syntax.specs.Trees.{WrittenIdentifierPart, bare_name, arc_part, WrittenSymbol, WrittenExports, all_exported, exported, WrittenImport, WrittenAssignment, WrittenModule}
 use Rattle.guard_syntax.specs.Grammar.{most_levels}
-use Rattle.guard_syntax.specs.ReadTokens.{Placed, Reader, begins_with, behind, behind_if, site_at, unexpected, read_token, read_word, read_each, read_parted, read_arc}
+use Rattle.guard_syntax.specs.ReadTokens.{Placed, Reader, begins_with, behind, site_at, unexpected, read_token, read_spelling, read_each, read_parted, read_arc}
 use Rattle.guard_syntax.specs.ReadValues.{is_there, does_not_close, read_value}
 use Rattle.guard_syntax.specs.ReadTypes.{read_type}
 
@@ -22,7 +22,7 @@ begins_bare_name ps = if begins_with LowerName ps then not (begins_with (Mark Le
 
 unfoldable pub read_identifier_part : Reader WrittenIdentifierPart
 read_identifier_part ps =
-    if begins_bare_name ps then (read_word LowerName ps >>= λ name. Ok (bare_name name.0, name.1))
+    if begins_bare_name ps then (read_spelling LowerName ps >>= λ name. Ok (bare_name name.0, name.1))
     else (read_arc ps >>= λ a. Ok (arc_part a.0, a.1))
 
 -- between the braces
@@ -50,8 +50,8 @@ read_tag_default ps = if is_there (tag_default_at ps) then (read_token (Reserved
 
 unfoldable pub read_symbol : Reader WrittenSymbol
 read_symbol ps =
-    if begins_with UpperName ps then (read_word UpperName ps >>= λ name. Ok (record { site = site_at ps; kind = symbol.Type; name = name.0 }, name.1))
-    else (read_word LowerName ps >>= λ name. Ok (record { site = site_at ps; kind = symbol.Value; name = name.0 }, name.1))
+    if begins_with UpperName ps then (read_spelling UpperName ps >>= λ name. Ok (record { site = site_at ps; kind = symbol.Type; name = name.0 }, name.1))
+    else (read_spelling LowerName ps >>= λ name. Ok (record { site = site_at ps; kind = symbol.Value; name = name.0 }, name.1))
 
 -- behind EXPORTS
 unfoldable pub read_exported : Reader WrittenExports
@@ -67,7 +67,7 @@ unfoldable pub read_import : Reader WrittenImport
 read_import ps = do
   symbols ← read_parted read_symbol (length ps) ps
   from ← read_token (Reserved From) symbols.1
-  name ← read_word UpperName from
+  name ← read_spelling UpperName from
   id ← read_identifier name.1
   Ok (record { site = site_at ps; symbols = symbols.0; module_site = site_at from; module_name = name.0; identifier = id.0 }, id.1)
 
@@ -83,14 +83,14 @@ read_imports ps =
 
 unfoldable pub read_type_assignment : Reader WrittenAssignment
 read_type_assignment ps = do
-  name ← read_word UpperName ps
+  name ← read_spelling UpperName ps
   sign ← read_token (Mark Assignment) name.1
   ty ← read_type most_levels sign
   Ok (record { site = site_at ps; name = name.0; ty = ty.0; value = None }, ty.1)
 
 unfoldable pub read_value_assignment : Reader WrittenAssignment
 read_value_assignment ps = do
-  name ← read_word LowerName ps
+  name ← read_spelling LowerName ps
   ty ← read_type most_levels name.1
   sign ← read_token (Mark Assignment) ty.1
   v ← read_value most_levels sign
@@ -112,7 +112,7 @@ pub record WrittenHead : Type 0 where
 
 unfoldable pub read_head : Reader WrittenHead
 read_head ps = do
-  name ← read_word UpperName ps
+  name ← read_spelling UpperName ps
   id ← read_identifier name.1
   definitions ← read_token (Reserved Definitions) id.1
   tags ← read_tag_default definitions
@@ -120,12 +120,12 @@ read_head ps = do
   begin ← read_token (Reserved Begin) sign
   Ok (record { name = name.0; identifier = id.0; tag_default = tags.0 }, begin)
 
-unfoldable pub read_end : List Placed → Result (Unit {0}) Stop
+unfoldable pub read_end : List Placed → Result (Unit {0}) Failure
 read_end [] = Ok tt
 read_end (p ∷ ps) = unexpected (p ∷ ps)
 
 -- a module, and nothing behind it
-unfoldable pub read_module : List Placed → Result WrittenModule Stop
+unfoldable pub read_module : List Placed → Result WrittenModule Failure
 read_module ps = do
   head ← read_head ps
   exports ← read_exports head.1

@@ -1,17 +1,16 @@
 -- Reading sets of values and constraints.
-use Rattle.std.specs.Prelude.{ℕ, zero, suc, Bool, true, false, ◌||◌, ◌&&◌, not, if◌then◌else◌, List, [], ◌∷◌, length, Option, Some, None, Result, Ok, Err}
+use Rattle.std.specs.Prelude.{ℕ, zero, suc, Bool, true, false, ◌||◌, ◌&&◌, not, if◌then◌else◌, List, length, Option, Some, None, Ok}
 use Rattle.guard_model.specs.Answer.{◌>>=◌}
 use Rattle.guard_lexer.specs.declared.token.TokenKind.TheVariants.{Reserved, UpperName, LowerName, Number, CharacterString, Mark}
 use Rattle.guard_lexer.specs.declared.token.Reserved.{Reserved as ReservedWord}
 use Rattle.guard_lexer.specs.declared.token.Reserved.TheVariants.{Absent, All, Component, Components, Except, From, Includes, Intersection, Max, Min, Optional, Present, Size, Union, With}
 use Rattle.guard_lexer.specs.declared.token.Mark.TheVariants.{Bar, Caret, Comma, Ellipsis, LeftBrace, LeftParenthesis, LessThan, Minus, RangeSeparator, RightBrace, RightParenthesis}
-use Rattle.guard_syntax.specs.declared.halt.Stop.{Stop}
 use Rattle.guard_syntax.specs.declared.tree.JoinMark.{JoinMark}
 use Rattle.guard_syntax.specs.declared.tree.JoinMark.TheVariants as join
 use Rattle.guard_syntax.specs.declared.tree.PresenceWord.{PresenceWord}
 use Rattle.guard_syntax.specs.declared.tree.PresenceWord.TheVariants as presence
 use Rattle.guard_syntax.specs.Trees.{WrittenValue, WrittenEndForm, end_integer, end_reference, end_characters, WrittenEnd, WrittenRange, WrittenSet, set_node, WrittenSetForm, all_except, union, WrittenJoinedIntersection, united_of, WrittenIntersection, intersection, WrittenJoinedDifference, met_of, WrittenDifference, difference_of, WrittenElement, element_node, WrittenElementForm, parentheses, value, contained, range, size, from, with_component, with_components, WrittenConstraint, constraint, WrittenPart, parts_of}
-use Rattle.guard_syntax.specs.ReadTokens.{Placed, Reader, begins_with, behind, behind_if, site_at, unexpected, too_deep, read_token, read_word, read_each, read_parted, read_number}
+use Rattle.guard_syntax.specs.ReadTokens.{Placed, Reader, begins_with, behind, behind_if, site_at, too_deep, read_token, read_spelling, read_each, read_parted, begins_with_zero, read_number}
 use Rattle.guard_syntax.specs.ReadValues.{is_there, begins_number, begins_value, read_value}
 
 -- ---- ranges
@@ -19,17 +18,21 @@ use Rattle.guard_syntax.specs.ReadValues.{is_there, begins_number, begins_value,
 abbrev pub begins_dots : List Placed → Bool
 begins_dots ps = begins_with (Mark RangeSeparator) ps || begins_with (Mark LessThan) ps
 
+-- a number that may follow a minus sign
+abbrev pub begins_with_nonzero : List Placed → Bool
+begins_with_nonzero ps = begins_with Number ps && not (begins_with_zero ps)
+
 -- a range, and no value: MIN, or an end with `..` or `<` behind it
 abbrev pub begins_range : List Placed → Bool
 begins_range ps =
-    begins_with (Reserved Min) ps || begins_with (Mark Minus) ps && begins_dots (behind (behind ps))
+    begins_with (Reserved Min) ps || begins_with (Mark Minus) ps && begins_dots (behind (behind ps)) && begins_with_nonzero (behind ps)
     || (begins_with Number ps || begins_with LowerName ps || begins_with CharacterString ps) && begins_dots (behind ps)
 
 unfoldable pub read_end_form : Reader WrittenEndForm
 read_end_form ps =
     if begins_number ps then (read_number ps >>= λ n. Ok (end_integer n.0, n.1))
-    else (if begins_with LowerName ps then (read_word LowerName ps >>= λ name. Ok (end_reference name.0, name.1))
-    else (read_word CharacterString ps >>= λ s. Ok (end_characters s.0, s.1)))
+    else (if begins_with LowerName ps then (read_spelling LowerName ps >>= λ name. Ok (end_reference name.0, name.1))
+    else (read_spelling CharacterString ps >>= λ s. Ok (end_characters s.0, s.1)))
 
 -- an end, or this word
 unfoldable pub read_end_or : ReservedWord → Reader (Option WrittenEnd)
@@ -71,7 +74,7 @@ read_parentheses sets ps = do
 unfoldable pub read_contained : Reader WrittenElementForm
 read_contained ps =
     let includes = begins_with (Reserved Includes) ps in
-    read_word UpperName (behind_if includes ps) >>= λ name. Ok (contained includes name.0, name.1)
+    read_spelling UpperName (behind_if includes ps) >>= λ name. Ok (contained includes name.0, name.1)
 
 abbrev pub presence_at : List Placed → Option PresenceWord
 presence_at ps =
@@ -86,7 +89,7 @@ read_perhaps_constraint sets ps = if begins_with (Mark LeftParenthesis) ps then 
 
 unfoldable pub read_part : Reader WrittenSet → Reader WrittenPart
 read_part sets ps = do
-  name ← read_word LowerName ps
+  name ← read_spelling LowerName ps
   c ← read_perhaps_constraint sets name.1
   Ok (record { site = site_at ps; name = name.0; constraint = c.0; presence = presence_at c.1 }, behind_if (is_there (presence_at c.1)) c.1)
 
@@ -102,8 +105,8 @@ read_with_components sets ps = do
   closing ← read_token (Mark RightBrace) parts.1
   Ok (with_components partial.0 (parts_of parts.0), closing)
 
-unfoldable pub read_with : Reader WrittenSet → Reader WrittenElementForm
-read_with sets ps =
+unfoldable pub read_inner_type_constraints : Reader WrittenSet → Reader WrittenElementForm
+read_inner_type_constraints sets ps =
     read_token (Reserved With) ps >>= λ behind_with.
     if begins_with (Reserved Component) behind_with then (read_constraint sets (behind behind_with) >>= λ c. Ok (with_component c.0, c.1))
     else (read_token (Reserved Components) behind_with >>= λ behind_components. read_with_components sets behind_components)
@@ -120,7 +123,7 @@ read_element_form values sets ps =
     else (if begins_with (Reserved Includes) ps || begins_with UpperName ps then read_contained ps
     else (if begins_with (Reserved Size) ps then (read_constraint sets (behind ps) >>= λ c. Ok (size c.0, c.1))
     else (if begins_with (Reserved From) ps then (read_constraint sets (behind ps) >>= λ c. Ok (from c.0, c.1))
-    else (if begins_with (Reserved With) ps then read_with sets ps
+    else (if begins_with (Reserved With) ps then read_inner_type_constraints sets ps
     else (read_range_or_value values ps)))))
 
 unfoldable pub read_element : Reader WrittenValue → Reader WrittenSet → Reader WrittenElement
@@ -187,7 +190,11 @@ read_all_except values sets ps = do
 unfoldable pub read_set_form : Reader WrittenValue → Reader WrittenSet → Reader WrittenSetForm
 read_set_form values sets ps = if begins_with (Reserved All) ps then read_all_except values sets ps else read_union values sets ps
 
+-- a set with what stands inside
+unfoldable pub read_inner_set : Reader WrittenValue → Reader WrittenSet → Reader WrittenSet
+read_inner_set values sets ps = read_set_form values sets ps >>= λ form. Ok (set_node (site_at ps) form.0, form.1)
+
 -- A set. The number says how many types, values and sets may stand one in the other here.
 unfoldable pub read_set : ℕ → Reader WrittenSet
 read_set zero ps = too_deep (begins_set ps) ps
-read_set (suc levels) ps = read_set_form (read_value levels) (read_set levels) ps >>= λ form. Ok (set_node (site_at ps) form.0, form.1)
+read_set (suc levels) ps = read_inner_set (read_value levels) (read_set levels) ps

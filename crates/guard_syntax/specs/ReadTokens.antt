@@ -1,15 +1,15 @@
--- Reading tokens from left to right: what they write and the tokens behind it, or how many tokens are left where reading stops.
-use Rattle.std.specs.Prelude.{ℕ, zero, suc, Bool, true, false, ◌||◌, ◌&&◌, ◌==◌, not, if◌then◌else◌, List, [], ◌∷◌, length, map, Option, Some, None, Result, Ok, Err}
+-- Reading tokens from left to right: what they write and the tokens behind it, or how many tokens are left where that fails.
+use Rattle.std.specs.Prelude.{ℕ, zero, suc, Bool, true, false, ◌&&◌, ◌==◌, if◌then◌else◌, List, [], ◌∷◌, length, map, Option, Some, None, Result, Ok, Err}
 use Rattle.guard_model.specs.Answer.{◌>>=◌}
 use Rattle.guard_model.specs.declared.site.Site.{Site}
 use Rattle.guard_lexer.specs.declared.token.Token.{Token}
 use Rattle.guard_lexer.specs.declared.token.TokenKind.{TokenKind}
 use Rattle.guard_lexer.specs.declared.token.TokenKind.TheVariants.{LowerName, Number, Mark}
 use Rattle.guard_lexer.specs.declared.token.Mark.TheVariants.{Comma, LeftParenthesis, Minus, RightParenthesis}
-use Rattle.guard_syntax.specs.declared.halt.Stop.{Stop}
-use Rattle.guard_syntax.specs.declared.halt.Stop.TheVariants.{Unexpected, TooDeep}
-use Rattle.guard_syntax.specs.declared.halt.Halt.{Halt}
-use Rattle.guard_syntax.specs.declared.halt.Halt.TheVariants as halt
+use Rattle.guard_syntax.specs.declared.read_error.Failure.{Failure}
+use Rattle.guard_syntax.specs.declared.read_error.Failure.TheVariants.{Unexpected, TooDeep}
+use Rattle.guard_syntax.specs.declared.read_error.ReadError.{ReadError}
+use Rattle.guard_syntax.specs.declared.read_error.ReadError.TheVariants as error
 use Rattle.guard_syntax.specs.Kinds.{same_kind}
 use Rattle.guard_syntax.specs.Lexemes.{Lexeme, kind_of, spelling_of, lexeme_of, octets_of}
 use Rattle.guard_syntax.specs.Trees.{WrittenNumber, WrittenArc}
@@ -26,12 +26,12 @@ placed text t = record { lexeme = lexeme_of t.kind (octets_of text t); site = t.
 abbrev pub placed_of : List ℕ → List Token → List Placed
 placed_of text tokens = map (placed text) tokens
 
-abbrev pub stop_of : Halt → Option Stop
-stop_of (halt.At stop) = Some stop
-stop_of halt.NoMemory = None
+abbrev pub failure_of : ReadError → Option Failure
+failure_of (error.At failure) = Some failure
+failure_of error.OutOfMemory = None
 
 abbrev pub Reader : Type 0 → Type 0
-Reader A = List Placed → Result (A × List Placed) Stop
+Reader A = List Placed → Result (A × List Placed) Failure
 
 abbrev pub begins_with : TokenKind → List Placed → Bool
 begins_with k [] = false
@@ -58,20 +58,20 @@ abbrev pub spelling_at : List Placed → List ℕ
 spelling_at [] = []
 spelling_at (p ∷ ps) = spelling_of p.lexeme
 
-abbrev pub unexpected : {A : Type 0} → List Placed → Result A Stop
+abbrev pub unexpected : {A : Type 0} → List Placed → Result A Failure
 unexpected ps = Err (Unexpected (length ps))
 
 -- a node that may not stand here since it lies too deep; where nothing begins it, the token is unexpected
-abbrev pub too_deep : {A : Type 0} → Bool → List Placed → Result A Stop
+abbrev pub too_deep : {A : Type 0} → Bool → List Placed → Result A Failure
 too_deep begins ps = if begins then Err (TooDeep (length ps)) else unexpected ps
 
 -- one token of a kind
-unfoldable pub read_token : TokenKind → List Placed → Result (List Placed) Stop
+unfoldable pub read_token : TokenKind → List Placed → Result (List Placed) Failure
 read_token k ps = if begins_with k ps then Ok (behind ps) else unexpected ps
 
 -- one name, number or string: its spelling
-unfoldable pub read_word : TokenKind → Reader (List ℕ)
-read_word k ps = if begins_with k ps then Ok (spelling_at ps, behind ps) else unexpected ps
+unfoldable pub read_spelling : TokenKind → Reader (List ℕ)
+read_spelling k ps = if begins_with k ps then Ok (spelling_at ps, behind ps) else unexpected ps
 
 -- As long as the next token says so, one more. The number is that of the tokens.
 unfoldable pub read_each : {A : Type 0} → (List Placed → Bool) → Reader A → ℕ → Reader (List A)
@@ -98,7 +98,7 @@ begins_with_zero ps = begins_with Number ps && is_zero (spelling_at ps)
 
 -- the digits of a number, where the sign is there or not
 unfoldable pub read_digits : Bool → Reader (List ℕ)
-read_digits minus ps = if minus && begins_with_zero ps then unexpected ps else read_word Number ps
+read_digits minus ps = if minus && begins_with_zero ps then unexpected ps else read_spelling Number ps
 
 unfoldable pub read_number : Reader WrittenNumber
 read_number ps =
@@ -106,13 +106,13 @@ read_number ps =
     read_digits minus (behind_if minus ps) >>= λ digits. Ok (record { site = site_at ps; minus = minus; digits = digits.0 }, digits.1)
 
 unfoldable pub read_bare_arc : Reader WrittenArc
-read_bare_arc ps = read_word Number ps >>= λ number. Ok (record { site = site_at ps; name = None; number = number.0 }, number.1)
+read_bare_arc ps = read_spelling Number ps >>= λ number. Ok (record { site = site_at ps; name = None; number = number.0 }, number.1)
 
 unfoldable pub read_named_arc : Reader WrittenArc
 read_named_arc ps = do
-  name ← read_word LowerName ps
+  name ← read_spelling LowerName ps
   opening ← read_token (Mark LeftParenthesis) name.1
-  number ← read_word Number opening
+  number ← read_spelling Number opening
   closing ← read_token (Mark RightParenthesis) number.1
   Ok (record { site = site_at ps; name = Some name.0; number = number.0 }, closing)
 

@@ -1,10 +1,9 @@
 -- Reading types.
-use Rattle.std.specs.Prelude.{ℕ, zero, suc, Bool, true, false, ◌||◌, ◌&&◌, not, if◌then◌else◌, List, [], ◌∷◌, length, Option, Some, None, Result, Ok, Err}
+use Rattle.std.specs.Prelude.{ℕ, zero, suc, Bool, true, false, ◌||◌, if◌then◌else◌, List, [], length, Option, Some, None, Ok}
 use Rattle.guard_model.specs.Answer.{◌>>=◌}
 use Rattle.guard_lexer.specs.declared.token.TokenKind.TheVariants.{Reserved, UpperName, LowerName, Number, Mark}
 use Rattle.guard_lexer.specs.declared.token.Reserved.TheVariants.{Application, Bit, Boolean, Choice, Components, Default, Enumerated, Explicit, Ia5String, Identifier, Implicit, Integer, Null, NumericString, Object, Octet, Of, Optional, PrintableString, Private, Sequence, Set, Size, String, Universal, Utf8String, VisibleString}
 use Rattle.guard_lexer.specs.declared.token.Mark.TheVariants.{LeftBrace, LeftBracket, LeftParenthesis, RightBrace, RightBracket, RightParenthesis}
-use Rattle.guard_syntax.specs.declared.halt.Stop.{Stop}
 use Rattle.guard_syntax.specs.declared.tree.TagClass.{TagClass}
 use Rattle.guard_syntax.specs.declared.tree.TagClass.TheVariants as class
 use Rattle.guard_syntax.specs.declared.tree.TagMode.{TagMode}
@@ -14,7 +13,7 @@ use Rattle.guard_syntax.specs.declared.tree.PlainType.TheVariants as plain_type
 use Rattle.guard_syntax.specs.declared.tree.Collection.{Collection}
 use Rattle.guard_syntax.specs.declared.tree.Collection.TheVariants as collection
 use Rattle.guard_syntax.specs.Trees.{WrittenNumber, WrittenValue, WrittenSet, WrittenConstraint, WrittenTag, WrittenNamed, WrittenItem, WrittenOfConstraint, WrittenPresence, mandatory, optional, default, WrittenType, type_node, WrittenBase, plain, numbers, enumerated, structure, choice, of_type, named_type, WrittenComponentForm, named, components_of_type, WrittenComponent, components_of, WrittenAlternative, alternatives_of}
-use Rattle.guard_syntax.specs.ReadTokens.{Placed, Reader, begins_with, behind, behind_if, site_at, unexpected, too_deep, read_token, read_word, read_each, read_parted, read_number}
+use Rattle.guard_syntax.specs.ReadTokens.{Placed, Reader, begins_with, behind, behind_if, site_at, too_deep, read_token, read_spelling, read_each, read_parted, read_number}
 use Rattle.guard_syntax.specs.ReadValues.{is_there, read_value}
 use Rattle.guard_syntax.specs.ReadSets.{read_constraint, read_set}
 
@@ -36,7 +35,7 @@ mode_at ps =
 unfoldable pub read_tag : Reader WrittenTag
 read_tag ps = do
   opening ← read_token (Mark LeftBracket) ps
-  number ← read_word Number (behind_if (is_there (class_at opening)) opening)
+  number ← read_spelling Number (behind_if (is_there (class_at opening)) opening)
   closing ← read_token (Mark RightBracket) number.1
   Ok (record { site = site_at ps; class = class_at opening; number = number.0; mode = mode_at closing }, behind_if (is_there (mode_at closing)) closing)
 
@@ -58,7 +57,7 @@ read_in_parentheses ps = do
 
 unfoldable pub read_named : Reader WrittenNamed
 read_named ps = do
-  name ← read_word LowerName ps
+  name ← read_spelling LowerName ps
   n ← read_in_parentheses name.1
   Ok (record { site = site_at ps; name = name.0; number = n.0 }, n.1)
 
@@ -67,7 +66,7 @@ read_item_number ps = if begins_with (Mark LeftParenthesis) ps then (read_in_par
 
 unfoldable pub read_item : Reader WrittenItem
 read_item ps = do
-  name ← read_word LowerName ps
+  name ← read_spelling LowerName ps
   n ← read_item_number name.1
   Ok (record { site = site_at ps; name = name.0; number = n.0 }, n.1)
 
@@ -120,7 +119,7 @@ read_presence values ps =
 unfoldable pub read_component_form : Reader WrittenValue → Reader WrittenType → Reader WrittenComponentForm
 read_component_form values types ps =
     if begins_with (Reserved Components) ps then (read_token (Reserved Of) (behind ps) >>= λ rest. types rest >>= λ ty. Ok (components_of_type ty.0, ty.1))
-    else (read_word LowerName ps >>= λ name. types name.1 >>= λ ty. read_presence values ty.1 >>= λ p. Ok (named name.0 ty.0 p.0, p.1))
+    else (read_spelling LowerName ps >>= λ name. types name.1 >>= λ ty. read_presence values ty.1 >>= λ p. Ok (named name.0 ty.0 p.0, p.1))
 
 unfoldable pub read_component : Reader WrittenValue → Reader WrittenType → Reader WrittenComponent
 read_component values types ps = read_component_form values types ps >>= λ form. Ok (record { site = site_at ps; form = form.0 }, form.1)
@@ -131,7 +130,7 @@ read_components values types ps = if begins_with (Mark RightBrace) ps then Ok ([
 
 unfoldable pub read_alternative : Reader WrittenType → Reader WrittenAlternative
 read_alternative types ps = do
-  name ← read_word LowerName ps
+  name ← read_spelling LowerName ps
   ty ← types name.1
   Ok (record { site = site_at ps; name = name.0; ty = ty.0 }, ty.1)
 
@@ -171,7 +170,7 @@ read_collection k values sets types ps = if begins_with (Mark LeftBrace) ps then
 
 -- a type that is a single word, or the name of a type
 abbrev pub plain_or_name : Option PlainType → Reader WrittenBase
-plain_or_name None ps = read_word UpperName ps >>= λ name. Ok (named_type name.0, name.1)
+plain_or_name None ps = read_spelling UpperName ps >>= λ name. Ok (named_type name.0, name.1)
 plain_or_name (Some p) ps = Ok (plain p, behind ps)
 
 unfoldable pub read_word_or_name : Reader WrittenBase

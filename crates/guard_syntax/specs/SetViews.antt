@@ -1,5 +1,5 @@
 -- The trees of the definitions that the code's trees stand for: sets of values and constraints.
-use Rattle.std.specs.Prelude.{ℕ, List, map, Option, Some, None}
+use Rattle.std.specs.Prelude.{Option, Some, None}
 use Rattle.guard_syntax.specs.Trees.{WrittenEndForm, end_integer, end_reference, end_characters, WrittenEnd, WrittenRange, WrittenSet, set_node, WrittenSetForm, all_except, union, WrittenJoinedIntersection, united_of, WrittenIntersection, intersection, WrittenJoinedDifference, met_of, WrittenDifference, difference_of, WrittenElement, element_node, WrittenElementForm, parentheses, value, contained, range, size, from, with_component, with_components, WrittenConstraint, constraint, WrittenPart, parts_of}
 use Rattle.guard_syntax.specs.Views.{number_view, value_view}
 use Rattle.guard_syntax.specs.declared.tree.EndForm.{EndForm}

@@ -2,7 +2,6 @@
 use Rattle.std.specs.Prelude.{ℕ, Bool, true, false, List, [], ◌∷◌, Option, Some, None}
 use Rattle.guard_lexer.specs.declared.token.Reserved.{Reserved}
 use Rattle.guard_lexer.specs.declared.token.Reserved.TheVariants.{Absent, All, Application, Automatic, Begin, Bit, Boolean, Choice, Component, Components, Default, Definitions, End, Enumerated, Except, Explicit, Exports, False, From, Ia5String, Identifier, Implicit, Imports, Includes, Integer, Intersection, Max, Min, Null, NumericString, Object, Octet, Of, Optional, Present, PrintableString, Private, Sequence, Set, Size, String, Tags, True, Union, Universal, Utf8String, VisibleString, With}
-use Rattle.guard_lexer.specs.declared.token.Mark.{Mark}
 use Rattle.guard_lexer.specs.declared.token.Mark.TheVariants.{Assignment, Bar, Caret, Colon, Comma, Ellipsis, LeftBrace, LeftBracket, LeftParenthesis, LessThan, Minus, RangeSeparator, RightBrace, RightBracket, RightParenthesis, Semicolon}
 use Rattle.guard_syntax.specs.declared.tree.TagDefault.{TagDefault}
 use Rattle.guard_syntax.specs.declared.tree.TagDefault.TheVariants as tag_default

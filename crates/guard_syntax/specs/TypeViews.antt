@@ -1,5 +1,5 @@
 -- The trees of the definitions that the code's trees stand for: types.
-use Rattle.std.specs.Prelude.{ℕ, List, map, Option, Some, None}
+use Rattle.std.specs.Prelude.{map, Option, Some, None}
 use Rattle.guard_syntax.specs.Trees.{WrittenNumber, WrittenTag, WrittenNamed, WrittenItem, WrittenOfConstraint, WrittenPresence, mandatory, optional, default, WrittenType, type_node, WrittenBase, plain, numbers, enumerated, structure, choice, of_type, named_type, WrittenComponentForm, named, components_of_type, WrittenComponent, components_of, WrittenAlternative, alternatives_of}
 use Rattle.guard_syntax.specs.Views.{number_view, value_view}
 use Rattle.guard_syntax.specs.SetViews.{constraint_view}

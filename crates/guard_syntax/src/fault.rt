@@ -10,16 +10,16 @@ use thiserror::Error;
 /// Why a text has no tree. Its text is the number, the name and the fields, parted by spaces.
 #[derive(Debug, Drop, Error)]
 pub enum SyntaxFault {
-    /// The first token with which the tokens so far begin no module, or the place where the text ends.
+    /// A token that no module has behind the tokens before it, or the end of the text where a module would go on.
     #[error("P1 Unexpected {0}")]
     Unexpected(Site),
-    /// In the place of P1 where that token is of a form that is left out, and where it is a comma before such a token.
+    /// The same at a token of a form that is left out. Where a comma stands before an extension or an exception, that is named.
     #[error("P2 Unsupported {0} {1}")]
     Unsupported(Spelling, Site),
-    /// The first token of a type or set that lies in more than 128 others.
+    /// The first token of a type, value or set with more than 128 others round it.
     #[error("P3 TooDeep {0}")]
     TooDeep(Site),
-    /// A growth was refused. It may stand in place of any other answer.
+    /// Memory ran out. A call may answer so whatever the text is.
     #[error("OutOfMemory")]
     OutOfMemory,
 }

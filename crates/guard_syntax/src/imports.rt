@@ -2,91 +2,76 @@
 ghost use Rattle.std.specs.Prelude.{◌≡◌, map, length};
 ghost use Rattle.guard_model.specs.Answer.{Gives};
 ghost use Rattle.guard_syntax.specs.ReadTokens as tokens_reading;
-ghost use Rattle.guard_syntax.specs.ReadTokens.{placed_of, stop_of};
+ghost use Rattle.guard_syntax.specs.Cursors.{ahead, Reads, each_view, boxed_view};
 ghost use Rattle.guard_syntax.specs.ReadModule as reading;
 ghost use Rattle.guard_syntax.specs.ModuleViews.{symbol_view, exports_view, perhaps_exports_view, import_view, imports_view};
 
-use crate::halt::Halt;
-use crate::identifier::identifier;
-use crate::tokens::{begins_with, behind, site_at, token_of_kind, unexpected, word_of_kind};
+use crate::cursor::{Cursor, Read};
+use crate::module_identifiers::identifier;
 use crate::tree::{ExportsTree, ImportTree, NameTree, SymbolKind, SymbolTree};
-use guard_lexer::{Mark, Reserved, Token, TokenKind};
+use guard_lexer::{Mark, Reserved, TokenKind};
 use std::alloc::Global;
 
 /// The exports, where the word EXPORTS stands.
 #[tactic(auto, unfolding(crate::specs::ReadModule::read_exports))]
-pub fn exports<'a, 't>(
-    alloc: Global,
-    text: &'a [u8],
-    tokens: &'t [Token],
-) -> Result<(Option<ExportsTree<'a>>, &'t [Token]), Halt>
-    ensures { Gives (λ x. (perhaps_exports_view x.0, placed_of text.now x.1.now)) stop_of result (reading.read_exports (placed_of text.now tokens.now)) }
+pub fn exports<'a, 't>(alloc: Global, at: Cursor<'a, 't>) -> Read<'a, 't, Option<ExportsTree<'a>>>
+    ensures { Reads perhaps_exports_view result (reading.read_exports (ahead at.entry)) }
 {
-    if !begins_with(TokenKind::Reserved(Reserved::Exports), text, tokens) {
-        return Ok((None, tokens));
+    if !at.begins_with(TokenKind::Reserved(Reserved::Exports)) {
+        return Ok((None, at));
     }
-    let (all, rest) = exported(alloc, text, behind(text, tokens))?;
+    let (all, rest) = exported(alloc, at.behind())?;
     Ok((Some(all), rest))
 }
 
 #[tactic(auto, unfolding(crate::specs::ReadModule::read_exported))]
-fn exported<'a, 't>(
-    alloc: Global,
-    text: &'a [u8],
-    tokens: &'t [Token],
-) -> Result<(ExportsTree<'a>, &'t [Token]), Halt>
-    ensures { Gives (λ x. (exports_view x.0, placed_of text.now x.1.now)) stop_of result (reading.read_exported (placed_of text.now tokens.now)) }
+fn exported<'a, 't>(alloc: Global, at: Cursor<'a, 't>) -> Read<'a, 't, ExportsTree<'a>>
+    ensures { Reads exports_view result (reading.read_exported (ahead at.entry)) }
 {
-    if begins_with(TokenKind::Reserved(Reserved::All), text, tokens) {
-        let rest = behind(text, tokens);
-        let rest = token_of_kind(TokenKind::Mark(Mark::Semicolon), text, rest)?;
+    if at.begins_with(TokenKind::Reserved(Reserved::All)) {
+        let rest = at.behind();
+        let rest = rest.after(TokenKind::Mark(Mark::Semicolon))?;
         Ok((ExportsTree::All, rest))
-    } else if begins_with(TokenKind::Mark(Mark::Semicolon), text, tokens) {
+    } else if at.begins_with(TokenKind::Mark(Mark::Semicolon)) {
         let none = Vec::new(alloc);
-        Ok((ExportsTree::Symbols(none), behind(text, tokens)))
+        Ok((ExportsTree::Symbols(none), at.behind()))
     } else {
-        let (all, rest) = symbols(alloc, text, tokens)?;
-        let rest = token_of_kind(TokenKind::Mark(Mark::Semicolon), text, rest)?;
+        let (all, rest) = symbols(alloc, at)?;
+        let rest = rest.after(TokenKind::Mark(Mark::Semicolon))?;
         Ok((ExportsTree::Symbols(all), rest))
     }
 }
 
 /// One or more names, parted by commas. Each takes a token, so there are no more than tokens.
-fn symbols<'a, 't>(
-    alloc: Global,
-    text: &'a [u8],
-    tokens: &'t [Token],
-) -> Result<(Vec<SymbolTree<'a>>, &'t [Token]), Halt>
-    ensures { Gives (λ x. (map symbol_view x.0.items, placed_of text.now x.1.now)) stop_of result (tokens_reading.read_parted reading.read_symbol (length tokens.now) (placed_of text.now tokens.now)) }
+#[tactic(auto, using(crate::proofs::Loops::parted_loop))]
+fn symbols<'a, 't>(alloc: Global, at: Cursor<'a, 't>) -> Read<'a, 't, Vec<SymbolTree<'a>>>
+    ensures { Reads (each_view symbol_view) result (tokens_reading.read_parted reading.read_symbol (length (ahead at.entry)) (ahead at.entry)) }
 {
     let mut all = Vec::new(alloc);
-    let mut rest = tokens;
-    for _ in 0..tokens.len() {
-        let (one, next) = symbol(text, rest)?;
+    let mut rest = at;
+    for _ in 0..at.len() {
+        let (one, next) = symbol(rest)?;
         all.push(one)?;
-        if !begins_with(TokenKind::Mark(Mark::Comma), text, next) {
+        if !next.begins_with(TokenKind::Mark(Mark::Comma)) {
             return Ok((all, next));
         }
-        rest = behind(text, next);
+        rest = next.behind();
     }
-    Err(unexpected(rest))
+    Err(rest.unexpected())
 }
 
 #[tactic(auto, unfolding(crate::specs::ReadModule::read_symbol))]
-fn symbol<'a, 't>(
-    text: &'a [u8],
-    tokens: &'t [Token],
-) -> Result<(SymbolTree<'a>, &'t [Token]), Halt>
-    ensures { Gives (λ x. (symbol_view x.0, placed_of text.now x.1.now)) stop_of result (reading.read_symbol (placed_of text.now tokens.now)) }
+fn symbol<'a, 't>(at: Cursor<'a, 't>) -> Read<'a, 't, SymbolTree<'a>>
+    ensures { Reads symbol_view result (reading.read_symbol (ahead at.entry)) }
 {
-    let site = site_at(text, tokens);
-    if begins_with(TokenKind::UpperName, text, tokens) {
+    let site = at.site();
+    if at.begins_with(TokenKind::UpperName) {
         let kind = SymbolKind::Type;
-        let (name, rest) = word_of_kind(TokenKind::UpperName, text, tokens)?;
+        let (name, rest) = at.spelling(TokenKind::UpperName)?;
         Ok((SymbolTree { site, kind, name }, rest))
     } else {
         let kind = SymbolKind::Value;
-        let (name, rest) = word_of_kind(TokenKind::LowerName, text, tokens)?;
+        let (name, rest) = at.spelling(TokenKind::LowerName)?;
         Ok((SymbolTree { site, kind, name }, rest))
     }
 }
@@ -95,56 +80,48 @@ fn symbol<'a, 't>(
 #[tactic(auto, unfolding(crate::specs::ReadModule::read_imports))]
 pub fn imports<'a, 't>(
     alloc: Global,
-    text: &'a [u8],
-    tokens: &'t [Token],
-) -> Result<(Option<Vec<ImportTree<'a>>>, &'t [Token]), Halt>
-    ensures { Gives (λ x. (imports_view x.0, placed_of text.now x.1.now)) stop_of result (reading.read_imports (placed_of text.now tokens.now)) }
+    at: Cursor<'a, 't>,
+) -> Read<'a, 't, Option<Vec<ImportTree<'a>>>>
+    ensures { Reads imports_view result (reading.read_imports (ahead at.entry)) }
 {
-    if !begins_with(TokenKind::Reserved(Reserved::Imports), text, tokens) {
-        return Ok((None, tokens));
+    if !at.begins_with(TokenKind::Reserved(Reserved::Imports)) {
+        return Ok((None, at));
     }
-    let (all, rest) = all_imports(alloc, text, behind(text, tokens))?;
-    let rest = token_of_kind(TokenKind::Mark(Mark::Semicolon), text, rest)?;
+    let (all, rest) = all_imports(alloc, at.behind())?;
+    let rest = rest.after(TokenKind::Mark(Mark::Semicolon))?;
     Ok((Some(all), rest))
 }
 
 /// Imports up to the semicolon. Each takes a token, so there are no more than tokens.
-fn all_imports<'a, 't>(
-    alloc: Global,
-    text: &'a [u8],
-    tokens: &'t [Token],
-) -> Result<(Vec<ImportTree<'a>>, &'t [Token]), Halt>
-    ensures { Gives (λ x. (map import_view x.0.items, placed_of text.now x.1.now)) stop_of result (tokens_reading.read_each reading.goes_on_importing reading.read_import (length tokens.now) (placed_of text.now tokens.now)) }
+#[tactic(auto, using(crate::proofs::Loops::each_loop))]
+fn all_imports<'a, 't>(alloc: Global, at: Cursor<'a, 't>) -> Read<'a, 't, Vec<ImportTree<'a>>>
+    ensures { Reads (each_view import_view) result (tokens_reading.read_each reading.goes_on_importing reading.read_import (length (ahead at.entry)) (ahead at.entry)) }
 {
     let mut all = Vec::new(alloc);
-    let mut rest = tokens;
-    for _ in 0..tokens.len() {
-        if begins_with(TokenKind::Mark(Mark::Semicolon), text, rest) {
+    let mut rest = at;
+    for _ in 0..at.len() {
+        if rest.begins_with(TokenKind::Mark(Mark::Semicolon)) {
             return Ok((all, rest));
         }
-        let (one, next) = import(alloc, text, rest)?;
+        let (one, next) = import(alloc, rest)?;
         all.push(one)?;
         rest = next;
     }
-    Err(unexpected(rest))
+    Err(rest.unexpected())
 }
 
 /// Names, FROM and the name of a module, which ends the list.
 #[tactic(auto, unfolding(crate::specs::ReadModule::read_import))]
-fn import<'a, 't>(
-    alloc: Global,
-    text: &'a [u8],
-    tokens: &'t [Token],
-) -> Result<(ImportTree<'a>, &'t [Token]), Halt>
-    ensures { Gives (λ x. (import_view x.0, placed_of text.now x.1.now)) stop_of result (reading.read_import (placed_of text.now tokens.now)) }
+fn import<'a, 't>(alloc: Global, at: Cursor<'a, 't>) -> Read<'a, 't, ImportTree<'a>>
+    ensures { Reads import_view result (reading.read_import (ahead at.entry)) }
 {
-    let site = site_at(text, tokens);
-    let (symbols, rest) = symbols(alloc, text, tokens)?;
-    let from = token_of_kind(TokenKind::Reserved(Reserved::From), text, rest)?;
-    let (name, rest) = word_of_kind(TokenKind::UpperName, text, from)?;
-    let (identifier, rest) = identifier(alloc, text, rest)?;
+    let site = at.site();
+    let (symbols, rest) = symbols(alloc, at)?;
+    let from = rest.after(TokenKind::Reserved(Reserved::From))?;
+    let (name, rest) = from.spelling(TokenKind::UpperName)?;
+    let (identifier, rest) = identifier(alloc, rest)?;
     let module = NameTree {
-        site: site_at(text, from),
+        site: from.site(),
         name,
     };
     Ok((

@@ -1,27 +1,41 @@
-//! The parser of module texts: from the tokens of a text to its tree.
+//! The parser of module texts (X.680): from the tokens of a text to its tree, or the first token where there is none.
+//!
+//! The one call is [`parse`]. Each reader below takes a [`Cursor`](cursor::Cursor) and answers what it read, with the cursor behind it.
+//!
+//! | question | file |
+//! |---|---|
+//! | What does `parse` promise? | `parser.rt`, `specs/Parses.antt`, `specs/Faults.antt` |
+//! | What is a tree? | `tree.rt`; without places in memory `specs/Trees.antt`, and the way between them `specs/*Views.antt` |
+//! | Which trees does the grammar allow, and how are they written? | `specs/Grammar.antt`, `specs/TokensOf.antt` |
+//! | Which token is the site of a node? | `specs/Sites.antt` |
+//! | How is a form read? | modules `module.rt`, `imports.rt`, `module_identifiers.rt`; types `types.rt`, `tags.rt`, `named_numbers.rt`; constraints and sets of values `sets.rt`, `ranges.rt`; values `values.rt`, `numbers.rt`; each beside its reading function in `specs/Read*.antt` |
+//! | How is one token read? | `cursor.rt` |
+//! | How deep may a tree be nested? | `MOST_OTHERS` in `module.rt`, `most_levels` in `specs/Grammar.antt` |
+//! | Where does a new fault go? | `fault.rt` (its text), `read_error.rt` (where a reader fails), `fault_of_failure.rt` (which fault that is), `specs/Faults.antt` |
+//! | Why is what is read the text's tree, and the only one? | `proofs/Lib.antt` lists the lemmas in reading order; `laws.rt` |
 #![tactic(auto)]
 
-mod constraint;
-mod ending;
+mod cursor;
 mod fault;
-mod halt;
-mod identifier;
+mod fault_of_failure;
 mod imports;
-mod items;
 pub mod laws;
 mod module;
-mod naming;
+mod module_identifiers;
+mod named_numbers;
 mod numbers;
+mod parser;
 mod ranges;
-mod reading;
+mod read_error;
+mod sets;
 mod tags;
-mod tokens;
+mod text_end;
 mod tree;
 mod types;
 mod values;
 
 pub use fault::{Spelling, SyntaxFault};
-pub use reading::parse;
+pub use parser::parse;
 pub use tree::{
     AlternativeTree, ArcTree, Assignment, BaseTree, Collection, CompForm, CompTree,
     ComponentConsTree, ConsTree, DifferenceTree, ElementForm, ElementTree, EndForm, EndTree,
@@ -30,10 +44,3 @@ pub use tree::{
     PresenceTree, PresenceWord, RangeTree, SetForm, SetTree, StringKind, SymbolKind, SymbolTree,
     TagClass, TagDefault, TagMode, TagTree, TypeTree, ValueForm, ValueTree,
 };
-
-#[cfg(test)]
-mod printer;
-#[cfg(test)]
-mod session;
-#[cfg(test)]
-mod tests;

@@ -2,18 +2,19 @@
 ghost use Rattle.std.specs.Prelude.{◌≡◌, map, length};
 ghost use Rattle.guard_model.specs.Answer.{Gives};
 ghost use Rattle.guard_syntax.specs.ReadTokens as tokens_reading;
-ghost use Rattle.guard_syntax.specs.ReadTokens.{placed_of, stop_of};
+ghost use Rattle.guard_syntax.specs.ReadTokens.{failure_of};
+ghost use Rattle.guard_syntax.specs.Cursors.{ahead, Reads, each_view, boxed_view};
 ghost use Rattle.guard_syntax.specs.ReadModule as reading;
 ghost use Rattle.guard_syntax.specs.ModuleViews.{head_view, assignment_view, module_view};
 
-use crate::halt::Halt;
-use crate::identifier::identifier;
+use crate::cursor::{Cursor, Read};
 use crate::imports::{exports, imports};
-use crate::tokens::{begins_with, behind, site_at, token_of_kind, unexpected, word_of_kind};
+use crate::module_identifiers::identifier;
+use crate::read_error::ReadError;
 use crate::tree::{Assignment, Module, PartTree, TagDefault};
 use crate::types::type_tree;
 use crate::values::value;
-use guard_lexer::{Mark, Reserved, Token, TokenKind};
+use guard_lexer::{Mark, Reserved, TokenKind};
 use std::alloc::Global;
 
 /// In so many others a type, value or set may lie.
@@ -29,17 +30,17 @@ struct Heading<'a> {
 
 /// A module, and no token behind it.
 #[tactic(auto, unfolding(crate::specs::ReadModule::read_module))]
-pub fn module<'a>(alloc: Global, text: &'a [u8], tokens: &[Token]) -> Result<Module<'a>, Halt>
-    ensures { Gives module_view tokens_reading.stop_of result (reading.read_module (placed_of text.now tokens.now)) }
+pub fn module<'a>(alloc: Global, at: Cursor<'a, '_>) -> Result<Module<'a>, ReadError>
+    ensures { Gives module_view failure_of result (reading.read_module (ahead at.entry)) }
 {
-    let (head, rest) = head(alloc, text, tokens)?;
-    let (exports, rest) = exports(alloc, text, rest)?;
-    let (imports, rest) = imports(alloc, text, rest)?;
-    let (assignments, rest) = assignments(alloc, text, rest)?;
-    let rest = token_of_kind(TokenKind::Reserved(Reserved::End), text, rest)?;
-    ended(text, rest)?;
+    let (head, rest) = head(alloc, at)?;
+    let (exports, rest) = exports(alloc, rest)?;
+    let (imports, rest) = imports(alloc, rest)?;
+    let (assignments, rest) = assignments(alloc, rest)?;
+    let rest = rest.after(TokenKind::Reserved(Reserved::End))?;
+    ended(rest)?;
     Ok(Module {
-        site: site_at(text, tokens),
+        site: at.site(),
         name: head.name,
         identifier: head.identifier,
         tag_default: head.tag_default,
@@ -50,19 +51,15 @@ pub fn module<'a>(alloc: Global, text: &'a [u8], tokens: &[Token]) -> Result<Mod
 }
 
 #[tactic(auto, unfolding(crate::specs::ReadModule::read_head))]
-fn head<'a, 't>(
-    alloc: Global,
-    text: &'a [u8],
-    tokens: &'t [Token],
-) -> Result<(Heading<'a>, &'t [Token]), Halt>
-    ensures { Gives (λ x. (head_view x.0, placed_of text.now x.1.now)) stop_of result (reading.read_head (placed_of text.now tokens.now)) }
+fn head<'a, 't>(alloc: Global, at: Cursor<'a, 't>) -> Read<'a, 't, Heading<'a>>
+    ensures { Reads head_view result (reading.read_head (ahead at.entry)) }
 {
-    let (name, rest) = word_of_kind(TokenKind::UpperName, text, tokens)?;
-    let (identifier, rest) = identifier(alloc, text, rest)?;
-    let rest = token_of_kind(TokenKind::Reserved(Reserved::Definitions), text, rest)?;
-    let (tag_default, rest) = tag_default(text, rest)?;
-    let rest = token_of_kind(TokenKind::Mark(Mark::Assignment), text, rest)?;
-    let rest = token_of_kind(TokenKind::Reserved(Reserved::Begin), text, rest)?;
+    let (name, rest) = at.spelling(TokenKind::UpperName)?;
+    let (identifier, rest) = identifier(alloc, rest)?;
+    let rest = rest.after(TokenKind::Reserved(Reserved::Definitions))?;
+    let (tag_default, rest) = tag_default(rest)?;
+    let rest = rest.after(TokenKind::Mark(Mark::Assignment))?;
+    let rest = rest.after(TokenKind::Reserved(Reserved::Begin))?;
     Ok((
         Heading {
             name,
@@ -74,30 +71,27 @@ fn head<'a, 't>(
 }
 
 #[tactic(auto, unfolding(crate::specs::ReadModule::read_tag_default))]
-fn tag_default<'t>(
-    text: &[u8],
-    tokens: &'t [Token],
-) -> Result<(Option<TagDefault>, &'t [Token]), Halt>
-    ensures { Gives (λ x. (x.0, placed_of text.now x.1.now)) stop_of result (reading.read_tag_default (placed_of text.now tokens.now)) }
+fn tag_default<'a, 't>(at: Cursor<'a, 't>) -> Read<'a, 't, Option<TagDefault>>
+    ensures { Reads (λ x. x) result (reading.read_tag_default (ahead at.entry)) }
 {
-    let written = tag_default_at(text, tokens);
+    let written = tag_default_at(at);
     if !written.is_some() {
-        return Ok((None, tokens));
+        return Ok((None, at));
     }
-    let rest = behind(text, tokens);
-    let rest = token_of_kind(TokenKind::Reserved(Reserved::Tags), text, rest)?;
+    let rest = at.behind();
+    let rest = rest.after(TokenKind::Reserved(Reserved::Tags))?;
     Ok((written, rest))
 }
 
 /// The word before TAGS that stands here.
-fn tag_default_at(text: &[u8], tokens: &[Token]) -> Option<TagDefault>
-    ensures { result ≡ reading.tag_default_at (placed_of text.now tokens.now) }
+fn tag_default_at(at: Cursor) -> Option<TagDefault>
+    ensures { result ≡ reading.tag_default_at (ahead at.entry) }
 {
-    if begins_with(TokenKind::Reserved(Reserved::Explicit), text, tokens) {
+    if at.begins_with(TokenKind::Reserved(Reserved::Explicit)) {
         Some(TagDefault::Explicit)
-    } else if begins_with(TokenKind::Reserved(Reserved::Implicit), text, tokens) {
+    } else if at.begins_with(TokenKind::Reserved(Reserved::Implicit)) {
         Some(TagDefault::Implicit)
-    } else if begins_with(TokenKind::Reserved(Reserved::Automatic), text, tokens) {
+    } else if at.begins_with(TokenKind::Reserved(Reserved::Automatic)) {
         Some(TagDefault::Automatic)
     } else {
         None
@@ -105,55 +99,44 @@ fn tag_default_at(text: &[u8], tokens: &[Token]) -> Option<TagDefault>
 }
 
 /// The assignments up to the word END. Each takes a token, so there are no more than tokens.
-fn assignments<'a, 't>(
-    alloc: Global,
-    text: &'a [u8],
-    tokens: &'t [Token],
-) -> Result<(Vec<Assignment<'a>>, &'t [Token]), Halt>
-    ensures { Gives (λ x. (map assignment_view x.0.items, placed_of text.now x.1.now)) stop_of result (tokens_reading.read_each reading.goes_on_assigning reading.read_assignment (length tokens.now) (placed_of text.now tokens.now)) }
+#[tactic(auto, using(crate::proofs::Loops::each_loop))]
+fn assignments<'a, 't>(alloc: Global, at: Cursor<'a, 't>) -> Read<'a, 't, Vec<Assignment<'a>>>
+    ensures { Reads (each_view assignment_view) result (tokens_reading.read_each reading.goes_on_assigning reading.read_assignment (length (ahead at.entry)) (ahead at.entry)) }
 {
     let mut all = Vec::new(alloc);
-    let mut rest = tokens;
-    for _ in 0..tokens.len() {
-        if begins_with(TokenKind::Reserved(Reserved::End), text, rest) {
+    let mut rest = at;
+    for _ in 0..at.len() {
+        if rest.begins_with(TokenKind::Reserved(Reserved::End)) {
             return Ok((all, rest));
         }
-        let (one, next) = assignment(alloc, text, rest)?;
+        let (one, next) = assignment(alloc, rest)?;
         all.push(one)?;
         rest = next;
     }
-    Err(unexpected(rest))
+    Err(rest.unexpected())
 }
 
 #[tactic(auto, unfolding(crate::specs::ReadModule::read_assignment))]
-fn assignment<'a, 't>(
-    alloc: Global,
-    text: &'a [u8],
-    tokens: &'t [Token],
-) -> Result<(Assignment<'a>, &'t [Token]), Halt>
-    ensures { Gives (λ x. (assignment_view x.0, placed_of text.now x.1.now)) stop_of result (reading.read_assignment (placed_of text.now tokens.now)) }
+fn assignment<'a, 't>(alloc: Global, at: Cursor<'a, 't>) -> Read<'a, 't, Assignment<'a>>
+    ensures { Reads assignment_view result (reading.read_assignment (ahead at.entry)) }
 {
-    if begins_with(TokenKind::LowerName, text, tokens) {
-        value_assignment(alloc, text, tokens)
+    if at.begins_with(TokenKind::LowerName) {
+        value_assignment(alloc, at)
     } else {
-        type_assignment(alloc, text, tokens)
+        type_assignment(alloc, at)
     }
 }
 
 #[tactic(auto, unfolding(crate::specs::ReadModule::read_type_assignment))]
-fn type_assignment<'a, 't>(
-    alloc: Global,
-    text: &'a [u8],
-    tokens: &'t [Token],
-) -> Result<(Assignment<'a>, &'t [Token]), Halt>
-    ensures { Gives (λ x. (assignment_view x.0, placed_of text.now x.1.now)) stop_of result (reading.read_type_assignment (placed_of text.now tokens.now)) }
+fn type_assignment<'a, 't>(alloc: Global, at: Cursor<'a, 't>) -> Read<'a, 't, Assignment<'a>>
+    ensures { Reads assignment_view result (reading.read_type_assignment (ahead at.entry)) }
 {
-    let (name, rest) = word_of_kind(TokenKind::UpperName, text, tokens)?;
-    let rest = token_of_kind(TokenKind::Mark(Mark::Assignment), text, rest)?;
-    let (ty, rest) = type_tree(alloc, MOST_OTHERS + 1, text, rest)?;
+    let (name, rest) = at.spelling(TokenKind::UpperName)?;
+    let rest = rest.after(TokenKind::Mark(Mark::Assignment))?;
+    let (ty, rest) = type_tree(alloc, MOST_OTHERS + 1, rest)?;
     Ok((
         Assignment {
-            site: site_at(text, tokens),
+            site: at.site(),
             name,
             ty,
             value: None,
@@ -163,20 +146,16 @@ fn type_assignment<'a, 't>(
 }
 
 #[tactic(auto, unfolding(crate::specs::ReadModule::read_value_assignment))]
-fn value_assignment<'a, 't>(
-    alloc: Global,
-    text: &'a [u8],
-    tokens: &'t [Token],
-) -> Result<(Assignment<'a>, &'t [Token]), Halt>
-    ensures { Gives (λ x. (assignment_view x.0, placed_of text.now x.1.now)) stop_of result (reading.read_value_assignment (placed_of text.now tokens.now)) }
+fn value_assignment<'a, 't>(alloc: Global, at: Cursor<'a, 't>) -> Read<'a, 't, Assignment<'a>>
+    ensures { Reads assignment_view result (reading.read_value_assignment (ahead at.entry)) }
 {
-    let (name, rest) = word_of_kind(TokenKind::LowerName, text, tokens)?;
-    let (ty, rest) = type_tree(alloc, MOST_OTHERS + 1, text, rest)?;
-    let rest = token_of_kind(TokenKind::Mark(Mark::Assignment), text, rest)?;
-    let (value, rest) = value(alloc, MOST_OTHERS + 1, text, rest)?;
+    let (name, rest) = at.spelling(TokenKind::LowerName)?;
+    let (ty, rest) = type_tree(alloc, MOST_OTHERS + 1, rest)?;
+    let rest = rest.after(TokenKind::Mark(Mark::Assignment))?;
+    let (value, rest) = value(alloc, MOST_OTHERS + 1, rest)?;
     Ok((
         Assignment {
-            site: site_at(text, tokens),
+            site: at.site(),
             name,
             ty,
             value: Some(value),
@@ -187,12 +166,12 @@ fn value_assignment<'a, 't>(
 
 /// No token is left.
 #[tactic(auto, unfolding(crate::specs::ReadModule::read_end))]
-fn ended(text: &[u8], tokens: &[Token]) -> Result<(), Halt>
-    ensures { Gives (λ x. x) stop_of result (reading.read_end (placed_of text.now tokens.now)) }
+fn ended(at: Cursor) -> Result<(), ReadError>
+    ensures { Gives (λ x. x) failure_of result (reading.read_end (ahead at.entry)) }
 {
-    if tokens.is_empty() {
+    if at.tokens.is_empty() {
         Ok(())
     } else {
-        Err(unexpected(tokens))
+        Err(at.unexpected())
     }
 }

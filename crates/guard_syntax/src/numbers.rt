@@ -2,29 +2,23 @@
 ghost use Rattle.std.specs.Prelude.{◌≡◌};
 ghost use Rattle.guard_model.specs.Answer.{Gives};
 ghost use Rattle.guard_syntax.specs.ReadTokens as reading;
-ghost use Rattle.guard_syntax.specs.ReadTokens.{placed_of, stop_of};
+ghost use Rattle.guard_syntax.specs.Cursors.{ahead, Reads, each_view, boxed_view};
 ghost use Rattle.guard_syntax.specs.Views.{number_view, arc_view};
 
-use crate::halt::Halt;
-use crate::tokens::{
-    begins_with, behind_if, octets, site_at, token_of_kind, unexpected, word_of_kind,
-};
+use crate::cursor::{Cursor, Read, octets};
 use crate::tree::{ArcTree, NumberTree};
-use guard_lexer::{Mark, Token, TokenKind};
+use guard_lexer::{Mark, TokenKind};
 
 /// An integer. A minus sign isn't followed by the number 0.
 #[tactic(auto, unfolding(crate::specs::ReadTokens::read_number))]
-pub fn number<'a, 't>(
-    text: &'a [u8],
-    tokens: &'t [Token],
-) -> Result<(NumberTree<'a>, &'t [Token]), Halt>
-    ensures { Gives (λ x. (number_view x.0, placed_of text.now x.1.now)) stop_of result (reading.read_number (placed_of text.now tokens.now)) }
+pub fn number<'a, 't>(at: Cursor<'a, 't>) -> Read<'a, 't, NumberTree<'a>>
+    ensures { Reads number_view result (reading.read_number (ahead at.entry)) }
 {
-    let minus = begins_with(TokenKind::Mark(Mark::Minus), text, tokens);
-    let (digits, rest) = digits(minus, text, behind_if(minus, text, tokens))?;
+    let minus = at.begins_with(TokenKind::Mark(Mark::Minus));
+    let (digits, rest) = digits(minus, at.behind_if(minus))?;
     Ok((
         NumberTree {
-            site: site_at(text, tokens),
+            site: at.site(),
             minus,
             digits,
         },
@@ -33,25 +27,21 @@ pub fn number<'a, 't>(
 }
 
 #[tactic(auto, unfolding(crate::specs::ReadTokens::read_digits))]
-fn digits<'a, 't>(
-    minus: bool,
-    text: &'a [u8],
-    tokens: &'t [Token],
-) -> Result<(&'a [u8], &'t [Token]), Halt>
-    ensures { Gives (λ x. (x.0.now, placed_of text.now x.1.now)) stop_of result (reading.read_digits minus (placed_of text.now tokens.now)) }
+fn digits<'a, 't>(minus: bool, at: Cursor<'a, 't>) -> Read<'a, 't, &'a [u8]>
+    ensures { Reads (λ s. s.now) result (reading.read_digits minus (ahead at.entry)) }
 {
-    if minus && begins_with_zero(text, tokens) {
-        return Err(unexpected(tokens));
+    if minus && begins_with_zero(at) {
+        return Err(at.unexpected());
     }
-    word_of_kind(TokenKind::Number, text, tokens)
+    at.spelling(TokenKind::Number)
 }
 
 /// Whether the first token is the number 0.
-fn begins_with_zero(text: &[u8], tokens: &[Token]) -> bool
-    ensures { result ≡ reading.begins_with_zero (placed_of text.now tokens.now) }
+pub fn begins_with_zero(at: Cursor) -> bool
+    ensures { result ≡ reading.begins_with_zero (ahead at.entry) }
 {
-    match tokens {
-        [first, ..] => first.kind == TokenKind::Number && is_zero(octets(text, first)),
+    match at.tokens {
+        [first, ..] => first.kind == TokenKind::Number && is_zero(octets(at.text, first)),
         [] => false,
     }
 }
@@ -68,30 +58,27 @@ fn is_zero(digits: &[u8]) -> bool
 
 /// A number, or a name with a number in parentheses.
 #[tactic(auto, unfolding(crate::specs::ReadTokens::read_arc))]
-pub fn arc<'a, 't>(text: &'a [u8], tokens: &'t [Token]) -> Result<(ArcTree<'a>, &'t [Token]), Halt>
-    ensures { Gives (λ x. (arc_view x.0, placed_of text.now x.1.now)) stop_of result (reading.read_arc (placed_of text.now tokens.now)) }
+pub fn arc<'a, 't>(at: Cursor<'a, 't>) -> Read<'a, 't, ArcTree<'a>>
+    ensures { Reads arc_view result (reading.read_arc (ahead at.entry)) }
 {
-    if begins_with(TokenKind::LowerName, text, tokens) {
-        named_arc(text, tokens)
+    if at.begins_with(TokenKind::LowerName) {
+        named_arc(at)
     } else {
-        bare_arc(text, tokens)
+        bare_arc(at)
     }
 }
 
 #[tactic(auto, unfolding(crate::specs::ReadTokens::read_named_arc))]
-fn named_arc<'a, 't>(
-    text: &'a [u8],
-    tokens: &'t [Token],
-) -> Result<(ArcTree<'a>, &'t [Token]), Halt>
-    ensures { Gives (λ x. (arc_view x.0, placed_of text.now x.1.now)) stop_of result (reading.read_named_arc (placed_of text.now tokens.now)) }
+fn named_arc<'a, 't>(at: Cursor<'a, 't>) -> Read<'a, 't, ArcTree<'a>>
+    ensures { Reads arc_view result (reading.read_named_arc (ahead at.entry)) }
 {
-    let (name, rest) = word_of_kind(TokenKind::LowerName, text, tokens)?;
-    let rest = token_of_kind(TokenKind::Mark(Mark::LeftParenthesis), text, rest)?;
-    let (number, rest) = word_of_kind(TokenKind::Number, text, rest)?;
-    let rest = token_of_kind(TokenKind::Mark(Mark::RightParenthesis), text, rest)?;
+    let (name, rest) = at.spelling(TokenKind::LowerName)?;
+    let rest = rest.after(TokenKind::Mark(Mark::LeftParenthesis))?;
+    let (number, rest) = rest.spelling(TokenKind::Number)?;
+    let rest = rest.after(TokenKind::Mark(Mark::RightParenthesis))?;
     Ok((
         ArcTree {
-            site: site_at(text, tokens),
+            site: at.site(),
             name: Some(name),
             number,
         },
@@ -100,13 +87,13 @@ fn named_arc<'a, 't>(
 }
 
 #[tactic(auto, unfolding(crate::specs::ReadTokens::read_bare_arc))]
-fn bare_arc<'a, 't>(text: &'a [u8], tokens: &'t [Token]) -> Result<(ArcTree<'a>, &'t [Token]), Halt>
-    ensures { Gives (λ x. (arc_view x.0, placed_of text.now x.1.now)) stop_of result (reading.read_bare_arc (placed_of text.now tokens.now)) }
+fn bare_arc<'a, 't>(at: Cursor<'a, 't>) -> Read<'a, 't, ArcTree<'a>>
+    ensures { Reads arc_view result (reading.read_bare_arc (ahead at.entry)) }
 {
-    let (number, rest) = word_of_kind(TokenKind::Number, text, tokens)?;
+    let (number, rest) = at.spelling(TokenKind::Number)?;
     Ok((
         ArcTree {
-            site: site_at(text, tokens),
+            site: at.site(),
             name: None,
             number,
         },

@@ -1,53 +1,57 @@
 //! Ranges of values.
 ghost use Rattle.std.specs.Prelude.{◌≡◌};
 ghost use Rattle.guard_model.specs.Answer.{Gives};
-ghost use Rattle.guard_syntax.specs.ReadTokens.{placed_of, stop_of};
+ghost use Rattle.guard_syntax.specs.Cursors.{ahead, Reads, each_view, boxed_view};
 ghost use Rattle.guard_syntax.specs.ReadSets as reading;
 ghost use Rattle.guard_syntax.specs.SetViews.{end_form_view, end_or_view, range_view};
 
-use crate::halt::Halt;
-use crate::numbers::number;
-use crate::tokens::{begins_with, behind, behind_if, site_at, token_of_kind, word_of_kind};
+use crate::cursor::{Cursor, Read};
+use crate::numbers::{begins_with_zero, number};
 use crate::tree::{EndForm, EndTree, RangeTree};
 use crate::values::begins_number;
-use guard_lexer::{Mark, Reserved, Token, TokenKind};
+use guard_lexer::{Mark, Reserved, TokenKind};
 
 /// Whether a range stands here, and no value: MIN, or an end with `..` or `<` behind it.
-pub fn begins_range(text: &[u8], tokens: &[Token]) -> bool
-    ensures { result ≡ reading.begins_range (placed_of text.now tokens.now) }
+pub fn begins_range(at: Cursor) -> bool
+    ensures { result ≡ reading.begins_range (ahead at.entry) }
 {
-    let next = behind(text, tokens);
-    begins_with(TokenKind::Reserved(Reserved::Min), text, tokens)
-        || begins_with(TokenKind::Mark(Mark::Minus), text, tokens)
-            && begins_dots(text, behind(text, next))
-        || (begins_with(TokenKind::Number, text, tokens)
-            || begins_with(TokenKind::LowerName, text, tokens)
-            || begins_with(TokenKind::CharacterString, text, tokens))
-            && begins_dots(text, next)
+    let next = at.behind();
+    at.begins_with(TokenKind::Reserved(Reserved::Min))
+        || at.begins_with(TokenKind::Mark(Mark::Minus))
+            && begins_dots(next.behind())
+            && begins_with_nonzero(next)
+        || (at.begins_with(TokenKind::Number)
+            || at.begins_with(TokenKind::LowerName)
+            || at.begins_with(TokenKind::CharacterString))
+            && begins_dots(next)
 }
 
-fn begins_dots(text: &[u8], tokens: &[Token]) -> bool
-    ensures { result ≡ reading.begins_dots (placed_of text.now tokens.now) }
+/// Whether a number stands here that may follow a minus sign.
+fn begins_with_nonzero(at: Cursor) -> bool
+    ensures { result ≡ reading.begins_with_nonzero (ahead at.entry) }
 {
-    begins_with(TokenKind::Mark(Mark::RangeSeparator), text, tokens)
-        || begins_with(TokenKind::Mark(Mark::LessThan), text, tokens)
+    at.begins_with(TokenKind::Number) && !begins_with_zero(at)
+}
+
+fn begins_dots(at: Cursor) -> bool
+    ensures { result ≡ reading.begins_dots (ahead at.entry) }
+{
+    at.begins_with(TokenKind::Mark(Mark::RangeSeparator))
+        || at.begins_with(TokenKind::Mark(Mark::LessThan))
 }
 
 /// A range of values.
 #[tactic(auto, unfolding(crate::specs::ReadSets::read_range))]
-pub fn range<'a, 't>(
-    text: &'a [u8],
-    tokens: &'t [Token],
-) -> Result<(RangeTree<'a>, &'t [Token]), Halt>
-    ensures { Gives (λ x. (range_view x.0, placed_of text.now x.1.now)) stop_of result (reading.read_range (placed_of text.now tokens.now)) }
+pub fn range<'a, 't>(at: Cursor<'a, 't>) -> Read<'a, 't, RangeTree<'a>>
+    ensures { Reads range_view result (reading.read_range (ahead at.entry)) }
 {
-    let (low, rest) = end_or(Reserved::Min, text, tokens)?;
-    let above_low = begins_with(TokenKind::Mark(Mark::LessThan), text, rest);
-    let rest = behind_if(above_low, text, rest);
-    let rest = token_of_kind(TokenKind::Mark(Mark::RangeSeparator), text, rest)?;
-    let below_high = begins_with(TokenKind::Mark(Mark::LessThan), text, rest);
-    let rest = behind_if(below_high, text, rest);
-    let (high, rest) = end_or(Reserved::Max, text, rest)?;
+    let (low, rest) = end_or(Reserved::Min, at)?;
+    let above_low = rest.begins_with(TokenKind::Mark(Mark::LessThan));
+    let rest = rest.behind_if(above_low);
+    let rest = rest.after(TokenKind::Mark(Mark::RangeSeparator))?;
+    let below_high = rest.begins_with(TokenKind::Mark(Mark::LessThan));
+    let rest = rest.behind_if(below_high);
+    let (high, rest) = end_or(Reserved::Max, rest)?;
     Ok((
         RangeTree {
             low,
@@ -61,33 +65,29 @@ pub fn range<'a, 't>(
 
 /// An end, or this word.
 #[tactic(auto, unfolding(crate::specs::ReadSets::read_end_or))]
-fn end_or<'a, 't>(
-    word: Reserved,
-    text: &'a [u8],
-    tokens: &'t [Token],
-) -> Result<(Option<EndTree<'a>>, &'t [Token]), Halt>
-    ensures { Gives (λ x. (end_or_view x.0, placed_of text.now x.1.now)) stop_of result (reading.read_end_or word (placed_of text.now tokens.now)) }
+fn end_or<'a, 't>(word: Reserved, at: Cursor<'a, 't>) -> Read<'a, 't, Option<EndTree<'a>>>
+    ensures { Reads end_or_view result (reading.read_end_or word (ahead at.entry)) }
 {
-    if begins_with(TokenKind::Reserved(word), text, tokens) {
-        return Ok((None, behind(text, tokens)));
+    if at.begins_with(TokenKind::Reserved(word)) {
+        return Ok((None, at.behind()));
     }
-    let (form, rest) = end_form(text, tokens)?;
-    let site = site_at(text, tokens);
+    let (form, rest) = end_form(at)?;
+    let site = at.site();
     Ok((Some(EndTree { site, form }), rest))
 }
 
 #[tactic(auto, unfolding(crate::specs::ReadSets::read_end_form))]
-fn end_form<'a, 't>(text: &'a [u8], tokens: &'t [Token]) -> Result<(EndForm<'a>, &'t [Token]), Halt>
-    ensures { Gives (λ x. (end_form_view x.0, placed_of text.now x.1.now)) stop_of result (reading.read_end_form (placed_of text.now tokens.now)) }
+fn end_form<'a, 't>(at: Cursor<'a, 't>) -> Read<'a, 't, EndForm<'a>>
+    ensures { Reads end_form_view result (reading.read_end_form (ahead at.entry)) }
 {
-    if begins_number(text, tokens) {
-        let (number, rest) = number(text, tokens)?;
+    if begins_number(at) {
+        let (number, rest) = number(at)?;
         Ok((EndForm::Integer(number), rest))
-    } else if begins_with(TokenKind::LowerName, text, tokens) {
-        let (name, rest) = word_of_kind(TokenKind::LowerName, text, tokens)?;
+    } else if at.begins_with(TokenKind::LowerName) {
+        let (name, rest) = at.spelling(TokenKind::LowerName)?;
         Ok((EndForm::Reference(name), rest))
     } else {
-        let (spelling, rest) = word_of_kind(TokenKind::CharacterString, text, tokens)?;
+        let (spelling, rest) = at.spelling(TokenKind::CharacterString)?;
         Ok((EndForm::Characters(spelling), rest))
     }
 }

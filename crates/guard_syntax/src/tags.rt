@@ -2,55 +2,51 @@
 ghost use Rattle.std.specs.Prelude.{◌≡◌, map, length};
 ghost use Rattle.guard_model.specs.Answer.{Gives};
 ghost use Rattle.guard_syntax.specs.ReadTokens as tokens_reading;
-ghost use Rattle.guard_syntax.specs.ReadTokens.{placed_of, stop_of};
+ghost use Rattle.guard_syntax.specs.Cursors.{ahead, Reads, each_view, boxed_view};
 ghost use Rattle.guard_syntax.specs.ReadTypes as reading;
 ghost use Rattle.guard_syntax.specs.TypeViews.{tag_view};
 
-use crate::halt::Halt;
-use crate::tokens::{begins_with, behind_if, site_at, token_of_kind, unexpected, word_of_kind};
+use crate::cursor::{Cursor, Read};
 use crate::tree::{TagClass, TagMode, TagTree};
-use guard_lexer::{Mark, Reserved, Token, TokenKind};
+use guard_lexer::{Mark, Reserved, TokenKind};
 use std::alloc::Global;
 
 /// Whether a tag begins here.
-pub fn begins_tag(text: &[u8], tokens: &[Token]) -> bool
-    ensures { result ≡ reading.begins_tag (placed_of text.now tokens.now) }
+pub fn begins_tag(at: Cursor) -> bool
+    ensures { result ≡ reading.begins_tag (ahead at.entry) }
 {
-    begins_with(TokenKind::Mark(Mark::LeftBracket), text, tokens)
+    at.begins_with(TokenKind::Mark(Mark::LeftBracket))
 }
 
 /// The tags before a type. Each takes a token, so there are no more than tokens.
-pub fn tags<'a, 't>(
-    alloc: Global,
-    text: &'a [u8],
-    tokens: &'t [Token],
-) -> Result<(Vec<TagTree<'a>>, &'t [Token]), Halt>
-    ensures { Gives (λ x. (map tag_view x.0.items, placed_of text.now x.1.now)) stop_of result (tokens_reading.read_each reading.begins_tag reading.read_tag (length tokens.now) (placed_of text.now tokens.now)) }
+#[tactic(auto, using(crate::proofs::Loops::each_loop))]
+pub fn tags<'a, 't>(alloc: Global, at: Cursor<'a, 't>) -> Read<'a, 't, Vec<TagTree<'a>>>
+    ensures { Reads (each_view tag_view) result (tokens_reading.read_each reading.begins_tag reading.read_tag (length (ahead at.entry)) (ahead at.entry)) }
 {
     let mut all = Vec::new(alloc);
-    let mut rest = tokens;
-    for _ in 0..tokens.len() {
-        if !begins_tag(text, rest) {
+    let mut rest = at;
+    for _ in 0..at.len() {
+        if !begins_tag(rest) {
             return Ok((all, rest));
         }
-        let (one, next) = tag(text, rest)?;
+        let (one, next) = tag(rest)?;
         all.push(one)?;
         rest = next;
     }
-    Err(unexpected(rest))
+    Err(rest.unexpected())
 }
 
 #[tactic(auto, unfolding(crate::specs::ReadTypes::read_tag))]
-fn tag<'a, 't>(text: &'a [u8], tokens: &'t [Token]) -> Result<(TagTree<'a>, &'t [Token]), Halt>
-    ensures { Gives (λ x. (tag_view x.0, placed_of text.now x.1.now)) stop_of result (reading.read_tag (placed_of text.now tokens.now)) }
+fn tag<'a, 't>(at: Cursor<'a, 't>) -> Read<'a, 't, TagTree<'a>>
+    ensures { Reads tag_view result (reading.read_tag (ahead at.entry)) }
 {
-    let rest = token_of_kind(TokenKind::Mark(Mark::LeftBracket), text, tokens)?;
-    let class = class_at(text, rest);
-    let rest = behind_if(class.is_some(), text, rest);
-    let (number, rest) = word_of_kind(TokenKind::Number, text, rest)?;
-    let rest = token_of_kind(TokenKind::Mark(Mark::RightBracket), text, rest)?;
-    let mode = mode_at(text, rest);
-    let site = site_at(text, tokens);
+    let rest = at.after(TokenKind::Mark(Mark::LeftBracket))?;
+    let class = class_at(rest);
+    let rest = rest.behind_if(class.is_some());
+    let (number, rest) = rest.spelling(TokenKind::Number)?;
+    let rest = rest.after(TokenKind::Mark(Mark::RightBracket))?;
+    let mode = mode_at(rest);
+    let site = at.site();
     Ok((
         TagTree {
             site,
@@ -58,19 +54,19 @@ fn tag<'a, 't>(text: &'a [u8], tokens: &'t [Token]) -> Result<(TagTree<'a>, &'t 
             number,
             mode,
         },
-        behind_if(mode.is_some(), text, rest),
+        rest.behind_if(mode.is_some()),
     ))
 }
 
 /// The word for a class that stands here.
-fn class_at(text: &[u8], tokens: &[Token]) -> Option<TagClass>
-    ensures { result ≡ reading.class_at (placed_of text.now tokens.now) }
+fn class_at(at: Cursor) -> Option<TagClass>
+    ensures { result ≡ reading.class_at (ahead at.entry) }
 {
-    if begins_with(TokenKind::Reserved(Reserved::Universal), text, tokens) {
+    if at.begins_with(TokenKind::Reserved(Reserved::Universal)) {
         Some(TagClass::Universal)
-    } else if begins_with(TokenKind::Reserved(Reserved::Application), text, tokens) {
+    } else if at.begins_with(TokenKind::Reserved(Reserved::Application)) {
         Some(TagClass::Application)
-    } else if begins_with(TokenKind::Reserved(Reserved::Private), text, tokens) {
+    } else if at.begins_with(TokenKind::Reserved(Reserved::Private)) {
         Some(TagClass::Private)
     } else {
         None
@@ -78,12 +74,12 @@ fn class_at(text: &[u8], tokens: &[Token]) -> Option<TagClass>
 }
 
 /// The word IMPLICIT or EXPLICIT that stands here.
-fn mode_at(text: &[u8], tokens: &[Token]) -> Option<TagMode>
-    ensures { result ≡ reading.mode_at (placed_of text.now tokens.now) }
+fn mode_at(at: Cursor) -> Option<TagMode>
+    ensures { result ≡ reading.mode_at (ahead at.entry) }
 {
-    if begins_with(TokenKind::Reserved(Reserved::Implicit), text, tokens) {
+    if at.begins_with(TokenKind::Reserved(Reserved::Implicit)) {
         Some(TagMode::Implicit)
-    } else if begins_with(TokenKind::Reserved(Reserved::Explicit), text, tokens) {
+    } else if at.begins_with(TokenKind::Reserved(Reserved::Explicit)) {
         Some(TagMode::Explicit)
     } else {
         None

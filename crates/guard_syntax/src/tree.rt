@@ -1,4 +1,5 @@
-//! Syntax trees. They borrow the text, and keep each choice of spelling and the site of each node's first token.
+//! Syntax trees. Their names and numbers are parts of the text. Where a form may be spelled in two ways a tree says which was
+//! taken, and each of its nodes has the site of its first token.
 use guard_model::Site;
 
 /// A module (X.680 13.1).

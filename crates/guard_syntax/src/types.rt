@@ -2,115 +2,114 @@
 ghost use Rattle.std.specs.Prelude.{◌≡◌, map, length};
 ghost use Rattle.guard_model.specs.Answer.{Gives, Refuses};
 ghost use Rattle.guard_syntax.specs.ReadTokens as tokens_reading;
-ghost use Rattle.guard_syntax.specs.ReadTokens.{placed_of, stop_of};
+ghost use Rattle.guard_syntax.specs.ReadTokens.{failure_of};
+ghost use Rattle.guard_syntax.specs.Cursors.{ahead, Reads, each_view, boxed_view};
 ghost use Rattle.guard_syntax.specs.ReadValues.{read_value};
 ghost use Rattle.guard_syntax.specs.ReadSets.{read_set, read_constraint};
 ghost use Rattle.guard_syntax.specs.ReadTypes as reading;
 ghost use Rattle.guard_syntax.specs.SetViews.{constraint_view};
 ghost use Rattle.guard_syntax.specs.TypeViews.{of_constraint_view, presence_view, base_view, component_form_view, component_view, alternative_view, type_view};
 
-use crate::constraint::constraint;
-use crate::halt::Halt;
-use crate::items::{items, numbers};
+use crate::cursor::{Cursor, Read};
+use crate::named_numbers::{items, numbers};
+use crate::read_error::ReadError;
+use crate::sets::constraint;
 use crate::tags::{begins_tag, tags};
-use crate::tokens::{
-    begins_with, behind, behind_if, site_at, token_of_kind, too_deep, unexpected, word_of_kind,
-};
 use crate::tree::{
     AlternativeTree, BaseTree, Collection, CompForm, CompTree, ConsTree, OfConsTree, PlainType,
     PresenceTree, TypeTree,
 };
 use crate::values::value;
-use guard_lexer::{Mark, Reserved, Token, TokenKind};
+use guard_lexer::{Mark, Reserved, TokenKind};
 use std::alloc::Global;
 use std::boxed::Box;
 
-fn begins_type(text: &[u8], tokens: &[Token]) -> bool
-    ensures { result ≡ reading.begins_type (placed_of text.now tokens.now) }
+fn begins_type(at: Cursor) -> bool
+    ensures { result ≡ reading.begins_type (ahead at.entry) }
 {
-    begins_tag(text, tokens)
-        || single_word_at(text, tokens).is_some()
-        || begins_two_words(text, tokens)
-        || begins_with(TokenKind::Reserved(Reserved::Integer), text, tokens)
-        || begins_with(TokenKind::Reserved(Reserved::Enumerated), text, tokens)
-        || begins_with(TokenKind::Reserved(Reserved::Sequence), text, tokens)
-        || begins_with(TokenKind::Reserved(Reserved::Set), text, tokens)
-        || begins_with(TokenKind::Reserved(Reserved::Choice), text, tokens)
-        || begins_with(TokenKind::UpperName, text, tokens)
+    begins_tag(at)
+        || single_word_at(at).is_some()
+        || begins_two_words(at)
+        || at.begins_with(TokenKind::Reserved(Reserved::Integer))
+        || at.begins_with(TokenKind::Reserved(Reserved::Enumerated))
+        || at.begins_with(TokenKind::Reserved(Reserved::Sequence))
+        || at.begins_with(TokenKind::Reserved(Reserved::Set))
+        || at.begins_with(TokenKind::Reserved(Reserved::Choice))
+        || at.begins_with(TokenKind::UpperName)
 }
 
 /// The type that is written with the word that stands here.
-fn single_word_at(text: &[u8], tokens: &[Token]) -> Option<PlainType>
-    ensures { result ≡ reading.single_word_at (placed_of text.now tokens.now) }
+fn single_word_at(at: Cursor) -> Option<PlainType>
+    ensures { result ≡ reading.single_word_at (ahead at.entry) }
 {
-    if begins_with(TokenKind::Reserved(Reserved::Boolean), text, tokens) {
+    if at.begins_with(TokenKind::Reserved(Reserved::Boolean)) {
         Some(PlainType::Boolean)
-    } else if begins_with(TokenKind::Reserved(Reserved::Null), text, tokens) {
+    } else if at.begins_with(TokenKind::Reserved(Reserved::Null)) {
         Some(PlainType::Null)
-    } else if begins_with(TokenKind::Reserved(Reserved::Utf8String), text, tokens) {
+    } else if at.begins_with(TokenKind::Reserved(Reserved::Utf8String)) {
         Some(PlainType::Utf8String)
-    } else if begins_with(TokenKind::Reserved(Reserved::NumericString), text, tokens) {
+    } else if at.begins_with(TokenKind::Reserved(Reserved::NumericString)) {
         Some(PlainType::NumericString)
-    } else if begins_with(TokenKind::Reserved(Reserved::PrintableString), text, tokens) {
+    } else if at.begins_with(TokenKind::Reserved(Reserved::PrintableString)) {
         Some(PlainType::PrintableString)
-    } else if begins_with(TokenKind::Reserved(Reserved::Ia5String), text, tokens) {
+    } else if at.begins_with(TokenKind::Reserved(Reserved::Ia5String)) {
         Some(PlainType::Ia5String)
-    } else if begins_with(TokenKind::Reserved(Reserved::VisibleString), text, tokens) {
+    } else if at.begins_with(TokenKind::Reserved(Reserved::VisibleString)) {
         Some(PlainType::VisibleString)
     } else {
         None
     }
 }
 
-fn begins_two_words(text: &[u8], tokens: &[Token]) -> bool
-    ensures { result ≡ reading.begins_two_words (placed_of text.now tokens.now) }
+fn begins_two_words(at: Cursor) -> bool
+    ensures { result ≡ reading.begins_two_words (ahead at.entry) }
 {
-    begins_with(TokenKind::Reserved(Reserved::Bit), text, tokens)
-        || begins_with(TokenKind::Reserved(Reserved::Octet), text, tokens)
-        || begins_with(TokenKind::Reserved(Reserved::Object), text, tokens)
+    at.begins_with(TokenKind::Reserved(Reserved::Bit))
+        || at.begins_with(TokenKind::Reserved(Reserved::Octet))
+        || at.begins_with(TokenKind::Reserved(Reserved::Object))
 }
 
 #[tactic(auto, unfolding(crate::specs::ReadTypes::read_two_words))]
-fn two_words<'t>(text: &[u8], tokens: &'t [Token]) -> Result<(PlainType, &'t [Token]), Halt>
-    ensures { Gives (λ x. (x.0, placed_of text.now x.1.now)) stop_of result (reading.read_two_words (placed_of text.now tokens.now)) }
+fn two_words<'a, 't>(at: Cursor<'a, 't>) -> Read<'a, 't, PlainType>
+    ensures { Reads (λ x. x) result (reading.read_two_words (ahead at.entry)) }
 {
-    if begins_with(TokenKind::Reserved(Reserved::Bit), text, tokens) {
-        let rest = behind(text, tokens);
-        let rest = token_of_kind(TokenKind::Reserved(Reserved::String), text, rest)?;
+    if at.begins_with(TokenKind::Reserved(Reserved::Bit)) {
+        let rest = at.behind();
+        let rest = rest.after(TokenKind::Reserved(Reserved::String))?;
         Ok((PlainType::BitString, rest))
-    } else if begins_with(TokenKind::Reserved(Reserved::Octet), text, tokens) {
-        let rest = behind(text, tokens);
-        let rest = token_of_kind(TokenKind::Reserved(Reserved::String), text, rest)?;
+    } else if at.begins_with(TokenKind::Reserved(Reserved::Octet)) {
+        let rest = at.behind();
+        let rest = rest.after(TokenKind::Reserved(Reserved::String))?;
         Ok((PlainType::OctetString, rest))
     } else {
-        let rest = token_of_kind(TokenKind::Reserved(Reserved::Object), text, tokens)?;
-        let rest = token_of_kind(TokenKind::Reserved(Reserved::Identifier), text, rest)?;
+        let rest = at.after(TokenKind::Reserved(Reserved::Object))?;
+        let rest = rest.after(TokenKind::Reserved(Reserved::Identifier))?;
         Ok((PlainType::ObjectIdentifier, rest))
     }
 }
 
 /// A type. `levels` says how many types, values and sets may stand one in the other here.
 #[cycle(types)]
+#[tactic(auto, using(crate::proofs::Levels::read_type_above))]
 pub fn type_tree<'a, 't>(
     alloc: Global,
     levels: u8,
-    text: &'a [u8],
-    tokens: &'t [Token],
-) -> Result<(Box<TypeTree<'a>>, &'t [Token]), Halt>
-    ensures { Gives (λ x. (type_view x.0.value, placed_of text.now x.1.now)) stop_of result (reading.read_type levels (placed_of text.now tokens.now)) }
+    at: Cursor<'a, 't>,
+) -> Read<'a, 't, Box<TypeTree<'a>>>
+    ensures { Reads (boxed_view type_view) result (reading.read_type levels (ahead at.entry)) }
 {
     if levels == 0 {
-        return Err(type_too_deep(text, tokens));
+        return Err(type_too_deep(at));
     }
-    inner_type(alloc, levels - 1, text, tokens)
+    inner_type(alloc, levels - 1, at)
 }
 
 /// No type may stand here: it would lie too deep.
 #[tactic(auto, unfolding(crate::specs::ReadTypes::read_type))]
-fn type_too_deep(text: &[u8], tokens: &[Token]) -> Halt
-    ensures { Refuses (stop_of result) (reading.read_type 0 (placed_of text.now tokens.now)) }
+fn type_too_deep(at: Cursor) -> ReadError
+    ensures { Refuses (failure_of result) (reading.read_type 0 (ahead at.entry)) }
 {
-    too_deep(begins_type(text, tokens), tokens)
+    at.too_deep(begins_type(at))
 }
 
 #[cycle(types)]
@@ -118,15 +117,14 @@ fn type_too_deep(text: &[u8], tokens: &[Token]) -> Halt
 fn inner_type<'a, 't>(
     alloc: Global,
     levels: u8,
-    text: &'a [u8],
-    tokens: &'t [Token],
-) -> Result<(Box<TypeTree<'a>>, &'t [Token]), Halt>
-    ensures { Gives (λ x. (type_view x.0.value, placed_of text.now x.1.now)) stop_of result (reading.read_inner_type (read_value levels) (read_set levels) (reading.read_type levels) (placed_of text.now tokens.now)) }
+    at: Cursor<'a, 't>,
+) -> Read<'a, 't, Box<TypeTree<'a>>>
+    ensures { Reads (boxed_view type_view) result (reading.read_inner_type (read_value levels) (read_set levels) (reading.read_type levels) (ahead at.entry)) }
 {
-    let (tags, rest) = tags(alloc, text, tokens)?;
-    let (base, rest) = base(alloc, levels, text, rest)?;
-    let (cons, rest) = constraints(alloc, levels, is_of(&base), text, rest)?;
-    let site = site_at(text, tokens);
+    let (tags, rest) = tags(alloc, at)?;
+    let (base, rest) = base(alloc, levels, rest)?;
+    let (cons, rest) = constraints(alloc, levels, is_of(&base), rest)?;
+    let site = at.site();
     let tree = TypeTree {
         site,
         tags,
@@ -157,108 +155,89 @@ fn constraints<'a, 't>(
     alloc: Global,
     levels: u8,
     of: bool,
-    text: &'a [u8],
-    tokens: &'t [Token],
-) -> Result<(Vec<ConsTree<'a>>, &'t [Token]), Halt>
-    ensures { Gives (λ x. (map constraint_view x.0.items, placed_of text.now x.1.now)) stop_of result (reading.read_constraints (read_set levels) of (placed_of text.now tokens.now)) }
+    at: Cursor<'a, 't>,
+) -> Read<'a, 't, Vec<ConsTree<'a>>>
+    ensures { Reads (each_view constraint_view) result (reading.read_constraints (read_set levels) of (ahead at.entry)) }
 {
     if of {
-        return Ok((Vec::new(alloc), tokens));
+        return Ok((Vec::new(alloc), at));
     }
-    each_constraint(alloc, levels, text, tokens)
+    each_constraint(alloc, levels, at)
 }
 
 /// Constraints one after the other. Each takes a token, so there are no more than tokens.
+#[tactic(auto, using(crate::proofs::Loops::each_loop))]
 fn each_constraint<'a, 't>(
     alloc: Global,
     levels: u8,
-    text: &'a [u8],
-    tokens: &'t [Token],
-) -> Result<(Vec<ConsTree<'a>>, &'t [Token]), Halt>
-    ensures { Gives (λ x. (map constraint_view x.0.items, placed_of text.now x.1.now)) stop_of result (tokens_reading.read_each reading.begins_constraint (read_constraint (read_set levels)) (length tokens.now) (placed_of text.now tokens.now)) }
+    at: Cursor<'a, 't>,
+) -> Read<'a, 't, Vec<ConsTree<'a>>>
+    ensures { Reads (each_view constraint_view) result (tokens_reading.read_each reading.begins_constraint (read_constraint (read_set levels)) (length (ahead at.entry)) (ahead at.entry)) }
 {
     let mut all = Vec::new(alloc);
-    let mut rest = tokens;
-    for _ in 0..tokens.len() {
-        if !begins_constraint(text, rest) {
+    let mut rest = at;
+    for _ in 0..at.len() {
+        if !begins_constraint(rest) {
             return Ok((all, rest));
         }
-        let (one, next) = constraint(alloc, levels, text, rest)?;
+        let (one, next) = constraint(alloc, levels, rest)?;
         all.push(one)?;
         rest = next;
     }
-    Err(unexpected(rest))
+    Err(rest.unexpected())
 }
 
-fn begins_constraint(text: &[u8], tokens: &[Token]) -> bool
-    ensures { result ≡ reading.begins_constraint (placed_of text.now tokens.now) }
+fn begins_constraint(at: Cursor) -> bool
+    ensures { result ≡ reading.begins_constraint (ahead at.entry) }
 {
-    begins_with(TokenKind::Mark(Mark::LeftParenthesis), text, tokens)
+    at.begins_with(TokenKind::Mark(Mark::LeftParenthesis))
 }
 
 /// Each form of a type without its tags and constraints.
 #[cycle(types)]
 #[tactic(auto, unfolding(crate::specs::ReadTypes::read_base))]
-fn base<'a, 't>(
-    alloc: Global,
-    levels: u8,
-    text: &'a [u8],
-    tokens: &'t [Token],
-) -> Result<(BaseTree<'a>, &'t [Token]), Halt>
-    ensures { Gives (λ x. (base_view x.0, placed_of text.now x.1.now)) stop_of result (reading.read_base (read_value levels) (read_set levels) (reading.read_type levels) (placed_of text.now tokens.now)) }
+fn base<'a, 't>(alloc: Global, levels: u8, at: Cursor<'a, 't>) -> Read<'a, 't, BaseTree<'a>>
+    ensures { Reads base_view result (reading.read_base (read_value levels) (read_set levels) (reading.read_type levels) (ahead at.entry)) }
 {
-    if begins_with(TokenKind::Reserved(Reserved::Sequence), text, tokens) {
-        collection(
-            alloc,
-            Collection::Sequence,
-            levels,
-            text,
-            behind(text, tokens),
-        )
-    } else if begins_with(TokenKind::Reserved(Reserved::Set), text, tokens) {
-        collection(alloc, Collection::Set, levels, text, behind(text, tokens))
-    } else if begins_with(TokenKind::Reserved(Reserved::Choice), text, tokens) {
-        choice(alloc, levels, text, behind(text, tokens))
+    if at.begins_with(TokenKind::Reserved(Reserved::Sequence)) {
+        collection(alloc, Collection::Sequence, levels, at.behind())
+    } else if at.begins_with(TokenKind::Reserved(Reserved::Set)) {
+        collection(alloc, Collection::Set, levels, at.behind())
+    } else if at.begins_with(TokenKind::Reserved(Reserved::Choice)) {
+        choice(alloc, levels, at.behind())
     } else {
-        simple(alloc, text, tokens)
+        simple(alloc, at)
     }
 }
 
 /// A base in which no type stands.
 #[tactic(auto, unfolding(crate::specs::ReadTypes::read_simple))]
-fn simple<'a, 't>(
-    alloc: Global,
-    text: &'a [u8],
-    tokens: &'t [Token],
-) -> Result<(BaseTree<'a>, &'t [Token]), Halt>
-    ensures { Gives (λ x. (base_view x.0, placed_of text.now x.1.now)) stop_of result (reading.read_simple (placed_of text.now tokens.now)) }
+fn simple<'a, 't>(alloc: Global, at: Cursor<'a, 't>) -> Read<'a, 't, BaseTree<'a>>
+    ensures { Reads base_view result (reading.read_simple (ahead at.entry)) }
 {
-    if begins_two_words(text, tokens) {
-        let (plain, rest) = two_words(text, tokens)?;
+    if begins_two_words(at) {
+        let (plain, rest) = two_words(at)?;
         Ok((BaseTree::Plain(plain), rest))
-    } else if begins_with(TokenKind::Reserved(Reserved::Integer), text, tokens) {
-        let (all, rest) = numbers(alloc, text, behind(text, tokens))?;
+    } else if at.begins_with(TokenKind::Reserved(Reserved::Integer)) {
+        let (all, rest) = numbers(alloc, at.behind())?;
         Ok((BaseTree::Integer(all), rest))
-    } else if begins_with(TokenKind::Reserved(Reserved::Enumerated), text, tokens) {
-        let (all, rest) = items(alloc, text, behind(text, tokens))?;
+    } else if at.begins_with(TokenKind::Reserved(Reserved::Enumerated)) {
+        let (all, rest) = items(alloc, at.behind())?;
         Ok((BaseTree::Enumerated(all), rest))
     } else {
-        word_or_name(text, tokens)
+        word_or_name(at)
     }
 }
 
 /// A type that is a single word, or the name of a type.
 #[tactic(auto, unfolding(crate::specs::ReadTypes::read_word_or_name))]
-fn word_or_name<'a, 't>(
-    text: &'a [u8],
-    tokens: &'t [Token],
-) -> Result<(BaseTree<'a>, &'t [Token]), Halt>
-    ensures { Gives (λ x. (base_view x.0, placed_of text.now x.1.now)) stop_of result (reading.read_word_or_name (placed_of text.now tokens.now)) }
+fn word_or_name<'a, 't>(at: Cursor<'a, 't>) -> Read<'a, 't, BaseTree<'a>>
+    ensures { Reads base_view result (reading.read_word_or_name (ahead at.entry)) }
 {
-    match single_word_at(text, tokens) {
-        Some(plain) => Ok((BaseTree::Plain(plain), behind(text, tokens))),
+    match single_word_at(at) {
+        Some(plain) => Ok((BaseTree::Plain(plain), at.behind())),
         None => {
-            let (name, rest) = word_of_kind(TokenKind::UpperName, text, tokens)?;
+            let (name, rest) = at.spelling(TokenKind::UpperName)?;
             Ok((BaseTree::Reference(name), rest))
         }
     }
@@ -271,15 +250,14 @@ fn collection<'a, 't>(
     alloc: Global,
     kind: Collection,
     levels: u8,
-    text: &'a [u8],
-    tokens: &'t [Token],
-) -> Result<(BaseTree<'a>, &'t [Token]), Halt>
-    ensures { Gives (λ x. (base_view x.0, placed_of text.now x.1.now)) stop_of result (reading.read_collection kind (read_value levels) (read_set levels) (reading.read_type levels) (placed_of text.now tokens.now)) }
+    at: Cursor<'a, 't>,
+) -> Read<'a, 't, BaseTree<'a>>
+    ensures { Reads base_view result (reading.read_collection kind (read_value levels) (read_set levels) (reading.read_type levels) (ahead at.entry)) }
 {
-    if begins_with(TokenKind::Mark(Mark::LeftBrace), text, tokens) {
-        structure(alloc, kind, levels, text, tokens)
+    if at.begins_with(TokenKind::Mark(Mark::LeftBrace)) {
+        structure(alloc, kind, levels, at)
     } else {
-        of_type(alloc, kind, levels, text, tokens)
+        of_type(alloc, kind, levels, at)
     }
 }
 
@@ -289,14 +267,13 @@ fn of_type<'a, 't>(
     alloc: Global,
     kind: Collection,
     levels: u8,
-    text: &'a [u8],
-    tokens: &'t [Token],
-) -> Result<(BaseTree<'a>, &'t [Token]), Halt>
-    ensures { Gives (λ x. (base_view x.0, placed_of text.now x.1.now)) stop_of result (reading.read_of kind (read_set levels) (reading.read_type levels) (placed_of text.now tokens.now)) }
+    at: Cursor<'a, 't>,
+) -> Read<'a, 't, BaseTree<'a>>
+    ensures { Reads base_view result (reading.read_of kind (read_set levels) (reading.read_type levels) (ahead at.entry)) }
 {
-    let (before, rest) = of_constraint(alloc, levels, text, tokens)?;
-    let rest = token_of_kind(TokenKind::Reserved(Reserved::Of), text, rest)?;
-    let (element, rest) = type_tree(alloc, levels, text, rest)?;
+    let (before, rest) = of_constraint(alloc, levels, at)?;
+    let rest = rest.after(TokenKind::Reserved(Reserved::Of))?;
+    let (element, rest) = type_tree(alloc, levels, rest)?;
     Ok((BaseTree::Of(kind, before, element), rest))
 }
 
@@ -305,17 +282,16 @@ fn of_type<'a, 't>(
 fn of_constraint<'a, 't>(
     alloc: Global,
     levels: u8,
-    text: &'a [u8],
-    tokens: &'t [Token],
-) -> Result<(Option<OfConsTree<'a>>, &'t [Token]), Halt>
-    ensures { Gives (λ x. (of_constraint_view x.0, placed_of text.now x.1.now)) stop_of result (reading.read_of_constraint (read_set levels) (placed_of text.now tokens.now)) }
+    at: Cursor<'a, 't>,
+) -> Read<'a, 't, Option<OfConsTree<'a>>>
+    ensures { Reads of_constraint_view result (reading.read_of_constraint (read_set levels) (ahead at.entry)) }
 {
-    let size = begins_with(TokenKind::Reserved(Reserved::Size), text, tokens);
-    if !(size || begins_constraint(text, tokens)) {
-        return Ok((None, tokens));
+    let size = at.begins_with(TokenKind::Reserved(Reserved::Size));
+    if !(size || begins_constraint(at)) {
+        return Ok((None, at));
     }
-    let (cons, rest) = constraint(alloc, levels, text, behind_if(size, text, tokens))?;
-    let site = site_at(text, tokens);
+    let (cons, rest) = constraint(alloc, levels, at.behind_if(size))?;
+    let site = at.site();
     let cons = Box::new(alloc, cons)?;
     Ok((Some(OfConsTree { site, size, cons }), rest))
 }
@@ -326,14 +302,13 @@ fn structure<'a, 't>(
     alloc: Global,
     kind: Collection,
     levels: u8,
-    text: &'a [u8],
-    tokens: &'t [Token],
-) -> Result<(BaseTree<'a>, &'t [Token]), Halt>
-    ensures { Gives (λ x. (base_view x.0, placed_of text.now x.1.now)) stop_of result (reading.read_structure kind (read_value levels) (reading.read_type levels) (placed_of text.now tokens.now)) }
+    at: Cursor<'a, 't>,
+) -> Read<'a, 't, BaseTree<'a>>
+    ensures { Reads base_view result (reading.read_structure kind (read_value levels) (reading.read_type levels) (ahead at.entry)) }
 {
-    let rest = token_of_kind(TokenKind::Mark(Mark::LeftBrace), text, tokens)?;
-    let (all, rest) = components(alloc, levels, text, rest)?;
-    let rest = token_of_kind(TokenKind::Mark(Mark::RightBrace), text, rest)?;
+    let rest = at.after(TokenKind::Mark(Mark::LeftBrace))?;
+    let (all, rest) = components(alloc, levels, rest)?;
+    let rest = rest.after(TokenKind::Mark(Mark::RightBrace))?;
     Ok((BaseTree::Structure(kind, all), rest))
 }
 
@@ -343,52 +318,46 @@ fn structure<'a, 't>(
 fn components<'a, 't>(
     alloc: Global,
     levels: u8,
-    text: &'a [u8],
-    tokens: &'t [Token],
-) -> Result<(Vec<CompTree<'a>>, &'t [Token]), Halt>
-    ensures { Gives (λ x. (map component_view x.0.items, placed_of text.now x.1.now)) stop_of result (reading.read_components (read_value levels) (reading.read_type levels) (placed_of text.now tokens.now)) }
+    at: Cursor<'a, 't>,
+) -> Read<'a, 't, Vec<CompTree<'a>>>
+    ensures { Reads (each_view component_view) result (reading.read_components (read_value levels) (reading.read_type levels) (ahead at.entry)) }
 {
-    if begins_with(TokenKind::Mark(Mark::RightBrace), text, tokens) {
-        return Ok((Vec::new(alloc), tokens));
+    if at.begins_with(TokenKind::Mark(Mark::RightBrace)) {
+        return Ok((Vec::new(alloc), at));
     }
-    some_components(alloc, levels, text, tokens)
+    some_components(alloc, levels, at)
 }
 
 /// One or more components, parted by commas. Each takes a token, so there are no more than tokens.
 #[cycle(types)]
+#[tactic(auto, using(crate::proofs::Loops::parted_loop))]
 fn some_components<'a, 't>(
     alloc: Global,
     levels: u8,
-    text: &'a [u8],
-    tokens: &'t [Token],
-) -> Result<(Vec<CompTree<'a>>, &'t [Token]), Halt>
-    ensures { Gives (λ x. (map component_view x.0.items, placed_of text.now x.1.now)) stop_of result (tokens_reading.read_parted (reading.read_component (read_value levels) (reading.read_type levels)) (length tokens.now) (placed_of text.now tokens.now)) }
+    at: Cursor<'a, 't>,
+) -> Read<'a, 't, Vec<CompTree<'a>>>
+    ensures { Reads (each_view component_view) result (tokens_reading.read_parted (reading.read_component (read_value levels) (reading.read_type levels)) (length (ahead at.entry)) (ahead at.entry)) }
 {
     let mut all = Vec::new(alloc);
-    let mut rest = tokens;
-    for _ in 0..tokens.len() {
-        let (one, next) = component(alloc, levels, text, rest)?;
+    let mut rest = at;
+    for _ in 0..at.len() {
+        let (one, next) = component(alloc, levels, rest)?;
         all.push(one)?;
-        if !begins_with(TokenKind::Mark(Mark::Comma), text, next) {
+        if !next.begins_with(TokenKind::Mark(Mark::Comma)) {
             return Ok((all, next));
         }
-        rest = behind(text, next);
+        rest = next.behind();
     }
-    Err(unexpected(rest))
+    Err(rest.unexpected())
 }
 
 #[cycle(types)]
 #[tactic(auto, unfolding(crate::specs::ReadTypes::read_component))]
-fn component<'a, 't>(
-    alloc: Global,
-    levels: u8,
-    text: &'a [u8],
-    tokens: &'t [Token],
-) -> Result<(CompTree<'a>, &'t [Token]), Halt>
-    ensures { Gives (λ x. (component_view x.0, placed_of text.now x.1.now)) stop_of result (reading.read_component (read_value levels) (reading.read_type levels) (placed_of text.now tokens.now)) }
+fn component<'a, 't>(alloc: Global, levels: u8, at: Cursor<'a, 't>) -> Read<'a, 't, CompTree<'a>>
+    ensures { Reads component_view result (reading.read_component (read_value levels) (reading.read_type levels) (ahead at.entry)) }
 {
-    let (form, rest) = component_form(alloc, levels, text, tokens)?;
-    let site = site_at(text, tokens);
+    let (form, rest) = component_form(alloc, levels, at)?;
+    let site = at.site();
     Ok((CompTree { site, form }, rest))
 }
 
@@ -397,81 +366,70 @@ fn component<'a, 't>(
 fn component_form<'a, 't>(
     alloc: Global,
     levels: u8,
-    text: &'a [u8],
-    tokens: &'t [Token],
-) -> Result<(CompForm<'a>, &'t [Token]), Halt>
-    ensures { Gives (λ x. (component_form_view x.0, placed_of text.now x.1.now)) stop_of result (reading.read_component_form (read_value levels) (reading.read_type levels) (placed_of text.now tokens.now)) }
+    at: Cursor<'a, 't>,
+) -> Read<'a, 't, CompForm<'a>>
+    ensures { Reads component_form_view result (reading.read_component_form (read_value levels) (reading.read_type levels) (ahead at.entry)) }
 {
-    if begins_with(TokenKind::Reserved(Reserved::Components), text, tokens) {
-        let rest = behind(text, tokens);
-        let rest = token_of_kind(TokenKind::Reserved(Reserved::Of), text, rest)?;
-        let (ty, rest) = type_tree(alloc, levels, text, rest)?;
+    if at.begins_with(TokenKind::Reserved(Reserved::Components)) {
+        let rest = at.behind();
+        let rest = rest.after(TokenKind::Reserved(Reserved::Of))?;
+        let (ty, rest) = type_tree(alloc, levels, rest)?;
         return Ok((CompForm::ComponentsOf(ty), rest));
     }
-    let (name, rest) = word_of_kind(TokenKind::LowerName, text, tokens)?;
-    let (ty, rest) = type_tree(alloc, levels, text, rest)?;
-    let (presence, rest) = presence(alloc, levels, text, rest)?;
+    let (name, rest) = at.spelling(TokenKind::LowerName)?;
+    let (ty, rest) = type_tree(alloc, levels, rest)?;
+    let (presence, rest) = presence(alloc, levels, rest)?;
     Ok((CompForm::Named(name, ty, presence), rest))
 }
 
 /// What stands behind the type of a component.
 #[tactic(auto, unfolding(crate::specs::ReadTypes::read_presence))]
-fn presence<'a, 't>(
-    alloc: Global,
-    levels: u8,
-    text: &'a [u8],
-    tokens: &'t [Token],
-) -> Result<(PresenceTree<'a>, &'t [Token]), Halt>
-    ensures { Gives (λ x. (presence_view x.0, placed_of text.now x.1.now)) stop_of result (reading.read_presence (read_value levels) (placed_of text.now tokens.now)) }
+fn presence<'a, 't>(alloc: Global, levels: u8, at: Cursor<'a, 't>) -> Read<'a, 't, PresenceTree<'a>>
+    ensures { Reads presence_view result (reading.read_presence (read_value levels) (ahead at.entry)) }
 {
-    if begins_with(TokenKind::Reserved(Reserved::Optional), text, tokens) {
-        Ok((PresenceTree::Optional, behind(text, tokens)))
-    } else if begins_with(TokenKind::Reserved(Reserved::Default), text, tokens) {
-        let (value, rest) = value(alloc, levels, text, behind(text, tokens))?;
+    if at.begins_with(TokenKind::Reserved(Reserved::Optional)) {
+        Ok((PresenceTree::Optional, at.behind()))
+    } else if at.begins_with(TokenKind::Reserved(Reserved::Default)) {
+        let (value, rest) = value(alloc, levels, at.behind())?;
         Ok((PresenceTree::Default(value), rest))
     } else {
-        Ok((PresenceTree::Mandatory, tokens))
+        Ok((PresenceTree::Mandatory, at))
     }
 }
 
 /// What stands behind CHOICE.
 #[cycle(types)]
 #[tactic(auto, unfolding(crate::specs::ReadTypes::read_choice))]
-fn choice<'a, 't>(
-    alloc: Global,
-    levels: u8,
-    text: &'a [u8],
-    tokens: &'t [Token],
-) -> Result<(BaseTree<'a>, &'t [Token]), Halt>
-    ensures { Gives (λ x. (base_view x.0, placed_of text.now x.1.now)) stop_of result (reading.read_choice (reading.read_type levels) (placed_of text.now tokens.now)) }
+fn choice<'a, 't>(alloc: Global, levels: u8, at: Cursor<'a, 't>) -> Read<'a, 't, BaseTree<'a>>
+    ensures { Reads base_view result (reading.read_choice (reading.read_type levels) (ahead at.entry)) }
 {
-    let rest = token_of_kind(TokenKind::Mark(Mark::LeftBrace), text, tokens)?;
-    let (all, rest) = alternatives(alloc, levels, text, rest)?;
-    let rest = token_of_kind(TokenKind::Mark(Mark::RightBrace), text, rest)?;
+    let rest = at.after(TokenKind::Mark(Mark::LeftBrace))?;
+    let (all, rest) = alternatives(alloc, levels, rest)?;
+    let rest = rest.after(TokenKind::Mark(Mark::RightBrace))?;
     Ok((BaseTree::Choice(all), rest))
 }
 
 /// One or more alternatives, parted by commas. Each takes a token, so there are no more than tokens.
 #[cycle(types)]
+#[tactic(auto, using(crate::proofs::Loops::parted_loop))]
 fn alternatives<'a, 't>(
     alloc: Global,
     levels: u8,
-    text: &'a [u8],
-    tokens: &'t [Token],
-) -> Result<(Vec<AlternativeTree<'a>>, &'t [Token]), Halt>
-    ensures { Gives (λ x. (map alternative_view x.0.items, placed_of text.now x.1.now)) stop_of result (tokens_reading.read_parted (reading.read_alternative (reading.read_type levels)) (length tokens.now) (placed_of text.now tokens.now)) }
+    at: Cursor<'a, 't>,
+) -> Read<'a, 't, Vec<AlternativeTree<'a>>>
+    ensures { Reads (each_view alternative_view) result (tokens_reading.read_parted (reading.read_alternative (reading.read_type levels)) (length (ahead at.entry)) (ahead at.entry)) }
 {
     let mut all = Vec::new(alloc);
-    let mut rest = tokens;
-    for _ in 0..tokens.len() {
-        let (one, next) = alternative(alloc, levels, text, rest)?;
+    let mut rest = at;
+    for _ in 0..at.len() {
+        let (one, next) = alternative(alloc, levels, rest)?;
         all.push(one)?;
-        if !begins_with(TokenKind::Mark(Mark::Comma), text, next) {
+        if !next.begins_with(TokenKind::Mark(Mark::Comma)) {
             return Ok((all, next));
         }
-        rest = behind(text, next);
+        rest = next.behind();
     }
-    Err(unexpected(rest))
+    Err(rest.unexpected())
 }
 
 #[cycle(types)]
@@ -479,13 +437,12 @@ fn alternatives<'a, 't>(
 fn alternative<'a, 't>(
     alloc: Global,
     levels: u8,
-    text: &'a [u8],
-    tokens: &'t [Token],
-) -> Result<(AlternativeTree<'a>, &'t [Token]), Halt>
-    ensures { Gives (λ x. (alternative_view x.0, placed_of text.now x.1.now)) stop_of result (reading.read_alternative (reading.read_type levels) (placed_of text.now tokens.now)) }
+    at: Cursor<'a, 't>,
+) -> Read<'a, 't, AlternativeTree<'a>>
+    ensures { Reads alternative_view result (reading.read_alternative (reading.read_type levels) (ahead at.entry)) }
 {
-    let (name, rest) = word_of_kind(TokenKind::LowerName, text, tokens)?;
-    let (ty, rest) = type_tree(alloc, levels, text, rest)?;
-    let site = site_at(text, tokens);
+    let (name, rest) = at.spelling(TokenKind::LowerName)?;
+    let (ty, rest) = type_tree(alloc, levels, rest)?;
+    let site = at.site();
     Ok((AlternativeTree { site, name, ty }, rest))
 }

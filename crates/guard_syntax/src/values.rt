@@ -2,49 +2,45 @@
 ghost use Rattle.std.specs.Prelude.{◌≡◌, map, length};
 ghost use Rattle.guard_model.specs.Answer.{Gives};
 ghost use Rattle.guard_syntax.specs.ReadTokens as tokens_reading;
-ghost use Rattle.guard_syntax.specs.ReadTokens.{placed_of, stop_of};
+ghost use Rattle.guard_syntax.specs.Cursors.{ahead, Reads, each_view, boxed_view};
 ghost use Rattle.guard_syntax.specs.ReadValues as reading;
 ghost use Rattle.guard_syntax.specs.Views.{name_view, arc_view, value_view, value_form_view, entry_view};
 
-use crate::halt::Halt;
+use crate::cursor::{Cursor, Read};
 use crate::numbers::{arc, number};
-use crate::tokens::{
-    begins_with, behind, site_at, token_of_kind, too_deep, unexpected, word_of_kind,
-};
 use crate::tree::{ArcTree, EntryTree, StringKind, ValueForm, ValueTree};
-use guard_lexer::{Mark, Reserved, Token, TokenKind};
+use guard_lexer::{Mark, Reserved, TokenKind};
 use std::alloc::Global;
 use std::boxed::Box;
 
 /// Whether a value begins here.
-pub fn begins_value(text: &[u8], tokens: &[Token]) -> bool
-    ensures { result ≡ reading.begins_value (placed_of text.now tokens.now) }
+pub fn begins_value(at: Cursor) -> bool
+    ensures { result ≡ reading.begins_value (ahead at.entry) }
 {
-    begins_with(TokenKind::Reserved(Reserved::True), text, tokens)
-        || begins_with(TokenKind::Reserved(Reserved::False), text, tokens)
-        || begins_with(TokenKind::Reserved(Reserved::Null), text, tokens)
-        || begins_number(text, tokens)
-        || string_at(text, tokens).is_some()
-        || begins_with(TokenKind::LowerName, text, tokens)
-        || begins_with(TokenKind::Mark(Mark::LeftBrace), text, tokens)
+    at.begins_with(TokenKind::Reserved(Reserved::True))
+        || at.begins_with(TokenKind::Reserved(Reserved::False))
+        || at.begins_with(TokenKind::Reserved(Reserved::Null))
+        || begins_number(at)
+        || string_at(at).is_some()
+        || at.begins_with(TokenKind::LowerName)
+        || at.begins_with(TokenKind::Mark(Mark::LeftBrace))
 }
 
-pub fn begins_number(text: &[u8], tokens: &[Token]) -> bool
-    ensures { result ≡ reading.begins_number (placed_of text.now tokens.now) }
+pub fn begins_number(at: Cursor) -> bool
+    ensures { result ≡ reading.begins_number (ahead at.entry) }
 {
-    begins_with(TokenKind::Mark(Mark::Minus), text, tokens)
-        || begins_with(TokenKind::Number, text, tokens)
+    at.begins_with(TokenKind::Mark(Mark::Minus)) || at.begins_with(TokenKind::Number)
 }
 
 /// Which string the first token is.
-fn string_at(text: &[u8], tokens: &[Token]) -> Option<StringKind>
-    ensures { result ≡ reading.string_at (placed_of text.now tokens.now) }
+fn string_at(at: Cursor) -> Option<StringKind>
+    ensures { result ≡ reading.string_at (ahead at.entry) }
 {
-    if begins_with(TokenKind::CharacterString, text, tokens) {
+    if at.begins_with(TokenKind::CharacterString) {
         Some(StringKind::Characters)
-    } else if begins_with(TokenKind::BitString, text, tokens) {
+    } else if at.begins_with(TokenKind::BitString) {
         Some(StringKind::Bits)
-    } else if begins_with(TokenKind::HexadecimalString, text, tokens) {
+    } else if at.begins_with(TokenKind::HexadecimalString) {
         Some(StringKind::Hexadecimal)
     } else {
         None
@@ -54,21 +50,16 @@ fn string_at(text: &[u8], tokens: &[Token]) -> Option<StringKind>
 /// A value. `levels` says how many types, values and sets may stand one in the other here.
 #[cycle(values)]
 #[tactic(auto, unfolding(crate::specs::ReadValues::read_value))]
-pub fn value<'a, 't>(
-    alloc: Global,
-    levels: u8,
-    text: &'a [u8],
-    tokens: &'t [Token],
-) -> Result<(ValueTree<'a>, &'t [Token]), Halt>
-    ensures { Gives (λ x. (value_view x.0, placed_of text.now x.1.now)) stop_of result (reading.read_value levels (placed_of text.now tokens.now)) }
+pub fn value<'a, 't>(alloc: Global, levels: u8, at: Cursor<'a, 't>) -> Read<'a, 't, ValueTree<'a>>
+    ensures { Reads value_view result (reading.read_value levels (ahead at.entry)) }
 {
     if levels == 0 {
-        return Err(too_deep(begins_value(text, tokens), tokens));
+        return Err(at.too_deep(begins_value(at)));
     }
-    let (form, rest) = form(alloc, levels - 1, text, tokens)?;
+    let (form, rest) = form(alloc, levels - 1, at)?;
     Ok((
         ValueTree {
-            site: site_at(text, tokens),
+            site: at.site(),
             form,
         },
         rest,
@@ -78,54 +69,46 @@ pub fn value<'a, 't>(
 /// Each form of a value.
 #[cycle(values)]
 #[tactic(auto, unfolding(crate::specs::ReadValues::read_value_form))]
-fn form<'a, 't>(
-    alloc: Global,
-    levels: u8,
-    text: &'a [u8],
-    tokens: &'t [Token],
-) -> Result<(ValueForm<'a>, &'t [Token]), Halt>
-    ensures { Gives (λ x. (value_form_view x.0, placed_of text.now x.1.now)) stop_of result (reading.read_value_form (reading.read_value levels) (placed_of text.now tokens.now)) }
+fn form<'a, 't>(alloc: Global, levels: u8, at: Cursor<'a, 't>) -> Read<'a, 't, ValueForm<'a>>
+    ensures { Reads value_form_view result (reading.read_value_form levels (reading.read_value levels) (ahead at.entry)) }
 {
-    if begins_with(TokenKind::Reserved(Reserved::True), text, tokens) {
-        Ok((ValueForm::Boolean(true), behind(text, tokens)))
-    } else if begins_with(TokenKind::Reserved(Reserved::False), text, tokens) {
-        Ok((ValueForm::Boolean(false), behind(text, tokens)))
-    } else if begins_with(TokenKind::Reserved(Reserved::Null), text, tokens) {
-        Ok((ValueForm::Null, behind(text, tokens)))
-    } else if begins_number(text, tokens) {
-        integer(text, tokens)
-    } else if begins_with(TokenKind::LowerName, text, tokens) {
-        name(alloc, levels, text, tokens)
-    } else if begins_with(TokenKind::Mark(Mark::LeftBrace), text, tokens) {
-        braces(alloc, levels, text, tokens)
+    if at.begins_with(TokenKind::Reserved(Reserved::True)) {
+        Ok((ValueForm::Boolean(true), at.behind()))
+    } else if at.begins_with(TokenKind::Reserved(Reserved::False)) {
+        Ok((ValueForm::Boolean(false), at.behind()))
+    } else if at.begins_with(TokenKind::Reserved(Reserved::Null)) {
+        Ok((ValueForm::Null, at.behind()))
+    } else if begins_number(at) {
+        integer(at)
+    } else if at.begins_with(TokenKind::LowerName) {
+        name(alloc, levels, at)
+    } else if at.begins_with(TokenKind::Mark(Mark::LeftBrace)) {
+        braces(alloc, levels, at)
     } else {
-        string(text, tokens)
+        string(at)
     }
 }
 
 #[tactic(auto, unfolding(crate::specs::ReadValues::read_integer_form))]
-fn integer<'a, 't>(
-    text: &'a [u8],
-    tokens: &'t [Token],
-) -> Result<(ValueForm<'a>, &'t [Token]), Halt>
-    ensures { Gives (λ x. (value_form_view x.0, placed_of text.now x.1.now)) stop_of result (reading.read_integer_form (placed_of text.now tokens.now)) }
+fn integer<'a, 't>(at: Cursor<'a, 't>) -> Read<'a, 't, ValueForm<'a>>
+    ensures { Reads value_form_view result (reading.read_integer_form (ahead at.entry)) }
 {
-    let (number, rest) = number(text, tokens)?;
+    let (number, rest) = number(at)?;
     Ok((ValueForm::Integer(number), rest))
 }
 
 #[tactic(auto, unfolding(crate::specs::ReadValues::read_string))]
-fn string<'a, 't>(text: &'a [u8], tokens: &'t [Token]) -> Result<(ValueForm<'a>, &'t [Token]), Halt>
-    ensures { Gives (λ x. (value_form_view x.0, placed_of text.now x.1.now)) stop_of result (reading.read_string (placed_of text.now tokens.now)) }
+fn string<'a, 't>(at: Cursor<'a, 't>) -> Read<'a, 't, ValueForm<'a>>
+    ensures { Reads value_form_view result (reading.read_string (ahead at.entry)) }
 {
-    if begins_with(TokenKind::CharacterString, text, tokens) {
-        let (spelling, rest) = word_of_kind(TokenKind::CharacterString, text, tokens)?;
+    if at.begins_with(TokenKind::CharacterString) {
+        let (spelling, rest) = at.spelling(TokenKind::CharacterString)?;
         Ok((ValueForm::Text(StringKind::Characters, spelling), rest))
-    } else if begins_with(TokenKind::BitString, text, tokens) {
-        let (spelling, rest) = word_of_kind(TokenKind::BitString, text, tokens)?;
+    } else if at.begins_with(TokenKind::BitString) {
+        let (spelling, rest) = at.spelling(TokenKind::BitString)?;
         Ok((ValueForm::Text(StringKind::Bits, spelling), rest))
     } else {
-        let (spelling, rest) = word_of_kind(TokenKind::HexadecimalString, text, tokens)?;
+        let (spelling, rest) = at.spelling(TokenKind::HexadecimalString)?;
         Ok((ValueForm::Text(StringKind::Hexadecimal, spelling), rest))
     }
 }
@@ -133,111 +116,97 @@ fn string<'a, 't>(text: &'a [u8], tokens: &'t [Token]) -> Result<(ValueForm<'a>,
 /// A name, or a chosen alternative.
 #[cycle(values)]
 #[tactic(auto, unfolding(crate::specs::ReadValues::read_name))]
-fn name<'a, 't>(
-    alloc: Global,
-    levels: u8,
-    text: &'a [u8],
-    tokens: &'t [Token],
-) -> Result<(ValueForm<'a>, &'t [Token]), Halt>
-    ensures { Gives (λ x. (value_form_view x.0, placed_of text.now x.1.now)) stop_of result (reading.read_name (reading.read_value levels) (placed_of text.now tokens.now)) }
+fn name<'a, 't>(alloc: Global, levels: u8, at: Cursor<'a, 't>) -> Read<'a, 't, ValueForm<'a>>
+    ensures { Reads value_form_view result (reading.read_name (reading.read_value levels) (ahead at.entry)) }
 {
-    let (name, rest) = word_of_kind(TokenKind::LowerName, text, tokens)?;
-    if !begins_with(TokenKind::Mark(Mark::Colon), text, rest) {
+    let (name, rest) = at.spelling(TokenKind::LowerName)?;
+    if !rest.begins_with(TokenKind::Mark(Mark::Colon)) {
         return Ok((ValueForm::Reference(name), rest));
     }
-    let (inside, rest) = value(alloc, levels, text, behind(text, rest))?;
+    let (inside, rest) = value(alloc, levels, rest.behind())?;
     Ok((ValueForm::Chosen(name, Box::new(alloc, inside)?), rest))
 }
 
 /// Entries or arcs.
 #[cycle(values)]
 #[tactic(auto, unfolding(crate::specs::ReadValues::read_braces))]
-fn braces<'a, 't>(
-    alloc: Global,
-    levels: u8,
-    text: &'a [u8],
-    tokens: &'t [Token],
-) -> Result<(ValueForm<'a>, &'t [Token]), Halt>
-    ensures { Gives (λ x. (value_form_view x.0, placed_of text.now x.1.now)) stop_of result (reading.read_braces (reading.read_value levels) (placed_of text.now tokens.now)) }
+fn braces<'a, 't>(alloc: Global, levels: u8, at: Cursor<'a, 't>) -> Read<'a, 't, ValueForm<'a>>
+    ensures { Reads value_form_view result (reading.read_braces levels (reading.read_value levels) (ahead at.entry)) }
 {
-    let rest = token_of_kind(TokenKind::Mark(Mark::LeftBrace), text, tokens)?;
-    if begins_arcs(text, rest) {
-        let (all, rest) = arcs(alloc, text, rest)?;
-        let rest = token_of_kind(TokenKind::Mark(Mark::RightBrace), text, rest)?;
+    let rest = at.after(TokenKind::Mark(Mark::LeftBrace))?;
+    if begins_arcs(rest) {
+        let (all, rest) = arcs(alloc, rest)?;
+        let rest = rest.after(TokenKind::Mark(Mark::RightBrace))?;
         return Ok((ValueForm::Arcs(all), rest));
     }
-    let (all, rest) = entries(alloc, levels, text, rest)?;
-    let rest = token_of_kind(TokenKind::Mark(Mark::RightBrace), text, rest)?;
+    let (all, rest) = entries(alloc, levels, rest)?;
+    let rest = rest.after(TokenKind::Mark(Mark::RightBrace))?;
     Ok((ValueForm::List(all), rest))
 }
 
 /// Whether arcs stand behind an opening brace: a number and then a number or name, or a name and then a parenthesis.
-fn begins_arcs(text: &[u8], tokens: &[Token]) -> bool
-    ensures { result ≡ reading.begins_arcs (placed_of text.now tokens.now) }
+fn begins_arcs(at: Cursor) -> bool
+    ensures { result ≡ reading.begins_arcs (ahead at.entry) }
 {
-    let next = behind(text, tokens);
-    begins_with(TokenKind::Number, text, tokens)
-        && (begins_with(TokenKind::Number, text, next)
-            || begins_with(TokenKind::LowerName, text, next))
-        || begins_with(TokenKind::LowerName, text, tokens)
-            && begins_with(TokenKind::Mark(Mark::LeftParenthesis), text, next)
+    let next = at.behind();
+    at.begins_with(TokenKind::Number)
+        && (next.begins_with(TokenKind::Number) || next.begins_with(TokenKind::LowerName))
+        || at.begins_with(TokenKind::LowerName)
+            && next.begins_with(TokenKind::Mark(Mark::LeftParenthesis))
 }
 
-/// Entries up to the closing brace, perhaps none.
+/// Entries up to the closing brace, perhaps none. Where no value may stand in the braces the first entry is too deep.
 #[cycle(values)]
 #[tactic(auto, unfolding(crate::specs::ReadValues::read_entries))]
 fn entries<'a, 't>(
     alloc: Global,
     levels: u8,
-    text: &'a [u8],
-    tokens: &'t [Token],
-) -> Result<(Vec<EntryTree<'a>>, &'t [Token]), Halt>
-    ensures { Gives (λ x. (map entry_view x.0.items, placed_of text.now x.1.now)) stop_of result (reading.read_entries (reading.read_value levels) (placed_of text.now tokens.now)) }
+    at: Cursor<'a, 't>,
+) -> Read<'a, 't, Vec<EntryTree<'a>>>
+    ensures { Reads (each_view entry_view) result (reading.read_entries levels (reading.read_value levels) (ahead at.entry)) }
 {
-    if begins_with(TokenKind::Mark(Mark::RightBrace), text, tokens) {
-        return Ok((Vec::new(alloc), tokens));
+    if at.begins_with(TokenKind::Mark(Mark::RightBrace)) {
+        return Ok((Vec::new(alloc), at));
     }
-    some_entries(alloc, levels, text, tokens)
+    if levels == 0 {
+        return Err(at.too_deep(begins_value(at)));
+    }
+    some_entries(alloc, levels, at)
 }
 
 /// One or more entries, parted by commas. Each takes a token, so there are no more than tokens.
 #[cycle(values)]
+#[tactic(auto, using(crate::proofs::Loops::parted_loop))]
 fn some_entries<'a, 't>(
     alloc: Global,
     levels: u8,
-    text: &'a [u8],
-    tokens: &'t [Token],
-) -> Result<(Vec<EntryTree<'a>>, &'t [Token]), Halt>
-    ensures { Gives (λ x. (map entry_view x.0.items, placed_of text.now x.1.now)) stop_of result (tokens_reading.read_parted (reading.read_entry (reading.read_value levels)) (length tokens.now) (placed_of text.now tokens.now)) }
+    at: Cursor<'a, 't>,
+) -> Read<'a, 't, Vec<EntryTree<'a>>>
+    ensures { Reads (each_view entry_view) result (tokens_reading.read_parted (reading.read_entry (reading.read_value levels)) (length (ahead at.entry)) (ahead at.entry)) }
 {
     let mut all = Vec::new(alloc);
-    let mut rest = tokens;
-    for _ in 0..tokens.len() {
-        let (one, next) = entry(alloc, levels, text, rest)?;
+    let mut rest = at;
+    for _ in 0..at.len() {
+        let (one, next) = entry(alloc, levels, rest)?;
         all.push(one)?;
-        if !begins_with(TokenKind::Mark(Mark::Comma), text, next) {
+        if !next.begins_with(TokenKind::Mark(Mark::Comma)) {
             return Ok((all, next));
         }
-        rest = behind(text, next);
+        rest = next.behind();
     }
-    Err(unexpected(rest))
+    Err(rest.unexpected())
 }
 
 #[cycle(values)]
 #[tactic(auto, unfolding(crate::specs::ReadValues::read_entry))]
-fn entry<'a, 't>(
-    alloc: Global,
-    levels: u8,
-    text: &'a [u8],
-    tokens: &'t [Token],
-) -> Result<(EntryTree<'a>, &'t [Token]), Halt>
-    ensures { Gives (λ x. (entry_view x.0, placed_of text.now x.1.now)) stop_of result (reading.read_entry (reading.read_value levels) (placed_of text.now tokens.now)) }
+fn entry<'a, 't>(alloc: Global, levels: u8, at: Cursor<'a, 't>) -> Read<'a, 't, EntryTree<'a>>
+    ensures { Reads entry_view result (reading.read_entry (reading.read_value levels) (ahead at.entry)) }
 {
-    let (name, rest) = entry_name(text, tokens)?;
-    let (value, rest) = value(alloc, levels, text, rest)?;
+    let (name, rest) = entry_name(at)?;
+    let (value, rest) = value(alloc, levels, rest)?;
     Ok((
         EntryTree {
-            site: site_at(text, tokens),
+            site: at.site(),
             name,
             value,
         },
@@ -247,36 +216,29 @@ fn entry<'a, 't>(
 
 /// The name before a value, where there is one.
 #[tactic(auto, unfolding(crate::specs::ReadValues::read_entry_name))]
-fn entry_name<'a, 't>(
-    text: &'a [u8],
-    tokens: &'t [Token],
-) -> Result<(Option<&'a [u8]>, &'t [Token]), Halt>
-    ensures { Gives (λ x. (name_view x.0, placed_of text.now x.1.now)) stop_of result (reading.read_entry_name (placed_of text.now tokens.now)) }
+fn entry_name<'a, 't>(at: Cursor<'a, 't>) -> Read<'a, 't, Option<&'a [u8]>>
+    ensures { Reads name_view result (reading.read_entry_name (ahead at.entry)) }
 {
-    if !begins_with(TokenKind::LowerName, text, tokens) {
-        return Ok((None, tokens));
+    if !at.begins_with(TokenKind::LowerName) {
+        return Ok((None, at));
     }
-    if !begins_value(text, behind(text, tokens)) {
-        return Ok((None, tokens));
+    if !begins_value(at.behind()) {
+        return Ok((None, at));
     }
-    let (name, rest) = word_of_kind(TokenKind::LowerName, text, tokens)?;
+    let (name, rest) = at.spelling(TokenKind::LowerName)?;
     Ok((Some(name), rest))
 }
 
 /// Two or more arcs, or one that has a name. Each takes a token, so there are no more than tokens.
 #[tactic(auto, unfolding(crate::specs::ReadValues::read_arcs))]
-fn arcs<'a, 't>(
-    alloc: Global,
-    text: &'a [u8],
-    tokens: &'t [Token],
-) -> Result<(Vec<ArcTree<'a>>, &'t [Token]), Halt>
-    ensures { Gives (λ x. (map arc_view x.0.items, placed_of text.now x.1.now)) stop_of result (reading.read_arcs (placed_of text.now tokens.now)) }
+fn arcs<'a, 't>(alloc: Global, at: Cursor<'a, 't>) -> Read<'a, 't, Vec<ArcTree<'a>>>
+    ensures { Reads (each_view arc_view) result (reading.read_arcs (ahead at.entry)) }
 {
-    let (all, rest) = all_arcs(alloc, text, tokens)?;
+    let (all, rest) = all_arcs(alloc, at)?;
     if are_arcs(&all) {
         Ok((all, rest))
     } else {
-        Err(unexpected(tokens))
+        Err(at.unexpected())
     }
 }
 
@@ -291,22 +253,19 @@ fn are_arcs(all: &[ArcTree]) -> bool
     }
 }
 
-fn all_arcs<'a, 't>(
-    alloc: Global,
-    text: &'a [u8],
-    tokens: &'t [Token],
-) -> Result<(Vec<ArcTree<'a>>, &'t [Token]), Halt>
-    ensures { Gives (λ x. (map arc_view x.0.items, placed_of text.now x.1.now)) stop_of result (tokens_reading.read_each reading.does_not_close tokens_reading.read_arc (length tokens.now) (placed_of text.now tokens.now)) }
+#[tactic(auto, using(crate::proofs::Loops::each_loop))]
+fn all_arcs<'a, 't>(alloc: Global, at: Cursor<'a, 't>) -> Read<'a, 't, Vec<ArcTree<'a>>>
+    ensures { Reads (each_view arc_view) result (tokens_reading.read_each reading.does_not_close tokens_reading.read_arc (length (ahead at.entry)) (ahead at.entry)) }
 {
     let mut all = Vec::new(alloc);
-    let mut rest = tokens;
-    for _ in 0..tokens.len() {
-        if begins_with(TokenKind::Mark(Mark::RightBrace), text, rest) {
+    let mut rest = at;
+    for _ in 0..at.len() {
+        if rest.begins_with(TokenKind::Mark(Mark::RightBrace)) {
             return Ok((all, rest));
         }
-        let (one, next) = arc(text, rest)?;
+        let (one, next) = arc(rest)?;
         all.push(one)?;
         rest = next;
     }
-    Err(unexpected(rest))
+    Err(rest.unexpected())
 }

@@ -1,14 +1,18 @@
 -- The search finds the first clash of a type, and none only where all tags that must differ do.
-use Rattle.std.proofs.Common.{◌≡◌, ℕ, zero, suc, ◌+◌, ◌<◌, ◌≤◌, Bool, true, false, List, [], ◌∷◌, Option, Some, None, ◌⊎◌, inl, inr, refl, sym, ap, ◌∙◌, arith}
+use Rattle.std.proofs.Common.{◌≡◌, ℕ, zero, suc, ◌+◌, ◌<◌, ◌≤◌, Bool, true, false, List, [], ◌∷◌, Some, None, ◌⊎◌, inl, inr, refl, sym, ap, ◌∙◌, arith}
 use Rattle.guard_model.specs.declared.tag.Tag.{Tag}
 use Rattle.guard_model.specs.declared.site.Step.{Step}
 use Rattle.guard_model.specs.declared.site.Step.TheVariants.{Component, Element}
 use Rattle.guard_model.specs.AbstractType as type
 use Rattle.guard_model.specs.AbstractType.{AbstractType, AbstractKind, AbstractPresence, Components, Constraints, type_of, no_components, component}
 use Rattle.guard_tagcheck.specs.Distinct.{component_type, part_at, Collide, CollideAt, Distinct, AbstractClash, Before, IsClash}
-use Rattle.guard_tagcheck.specs.Search.{first_pair, first_clash, clash_of_kind, clash_inside, or_else, here, inside, below}
-use Rattle.guard_tagcheck.proofs.Options.{some_is, or_else_some, or_else_none, inside_some, inside_none, here_some, here_none, clash_here}
-use Rattle.guard_tagcheck.proofs.Pairs.{pair_some, pair_none}
+use Rattle.guard_tagcheck.specs.Search.{first_pair, first_clash, clash_of_kind, clash_inside, here, inside, below}
+use Rattle.std.specs.Option.{option_or}
+use Rattle.std.proofs.lemmas.Option.{same_Some, none-some}
+use Rattle.std.proofs.lemmas.Bool.{cases_order}
+use Rattle.guard_model.proofs.Options.{option_or_some, option_or_none}
+use Rattle.guard_tagcheck.proofs.Options.{inside_some, inside_none, here_some, here_none, clash_here}
+use Rattle.guard_tagcheck.proofs.LeastPairs.{pair_some, pair_none}
 use Rattle.guard_tagcheck.proofs.Collisions.{Agrees, PartsAre, PartIs, sequence_agrees, set_agrees, choice_agrees, sequence_part, set_part, choice_part, sequence_of_part, set_of_part, collide_here, collide_inside, collide_round, collide_moved, distinct_moved, clash_moved}
 
 -- ---- where nothing is found
@@ -32,10 +36,7 @@ leaf_none : (tags : List Tag) (kind : AbstractKind) (cons : Constraints) → ((i
 leaf_none tags kind cons none parts [] i j p = none i j (collide_here (type_of tags kind cons) i j p)
 leaf_none tags kind cons none parts (step ∷ path) i j p =
     let v = collide_inside tags kind cons step path i j p in
-    absurd (nothing_there v.0 (sym (parts step) ∙ v.1))
-  where
-    nothing_there : (v : AbstractType) → ◌≡◌ {A = Option AbstractType} None (Some v) → ⊥
-    nothing_there v e = cc
+    absurd (none-some v.0 (sym (parts step) ∙ v.1))
 
 mutual
   pub type_none : (t : AbstractType) → first_clash t ≡ None → Distinct t
@@ -43,13 +44,13 @@ mutual
 
   kind_none : (tags : List Tag) (kind : AbstractKind) (cons : Constraints) → clash_of_kind kind ≡ None → Distinct (type_of tags kind cons)
   kind_none tags (type.sequence cs) cons e =
-      let n = or_else_none (here (first_pair true 0 cs)) (clash_inside 0 cs) e in
+      let n = option_or_none (here (first_pair true 0 cs)) (clash_inside 0 cs) e in
       list_none tags (type.sequence cs) cons true cs (sequence_agrees tags cs cons) (sequence_part cs, λ i. refl) (here_none (first_pair true 0 cs) n.0) (inside_all 0 cs n.1)
   kind_none tags (type.set cs) cons e =
-      let n = or_else_none (here (first_pair false 0 cs)) (clash_inside 0 cs) e in
+      let n = option_or_none (here (first_pair false 0 cs)) (clash_inside 0 cs) e in
       list_none tags (type.set cs) cons false cs (set_agrees tags cs cons) (set_part cs, λ i. refl) (here_none (first_pair false 0 cs) n.0) (inside_all 0 cs n.1)
   kind_none tags (type.choice cs) cons e =
-      let n = or_else_none (here (first_pair false 0 cs)) (clash_inside 0 cs) e in
+      let n = option_or_none (here (first_pair false 0 cs)) (clash_inside 0 cs) e in
       list_none tags (type.choice cs) cons false cs (choice_agrees tags cs cons) (choice_part cs, λ i. refl) (here_none (first_pair false 0 cs) n.0) (inside_all 0 cs n.1)
   kind_none tags (type.sequence_of t) cons e = part_none tags (type.sequence_of t) cons t (λ i j p. p.0) (sequence_of_part t) (type_none t (inside_none (Element 0) (first_clash t) e))
   kind_none tags (type.set_of t) cons e = part_none tags (type.set_of t) cons t (λ i j p. p.0) (set_of_part t) (type_none t (inside_none (Element 0) (first_clash t) e))
@@ -65,21 +66,11 @@ mutual
   inside_all : (i : ℕ) (cs : Components) → clash_inside i cs ≡ None → (d : ℕ) (v : AbstractType) → component_type d cs ≡ Some v → Distinct v
   inside_all i no_components e d v is = absurd cc
   inside_all i (component name t presence rest) e zero v is =
-      distinct_moved t v (some_is t v is) (type_none t (inside_none (Component i) (first_clash t) (or_else_none (inside (Component i) (first_clash t)) (clash_inside (suc i) rest) e).0))
+      distinct_moved t v (same_Some t v is) (type_none t (inside_none (Component i) (first_clash t) (option_or_none (inside (Component i) (first_clash t)) (clash_inside (suc i) rest) e).0))
   inside_all i (component name t presence rest) e (suc d) v is =
-      inside_all (suc i) rest (or_else_none (inside (Component i) (first_clash t)) (clash_inside (suc i) rest) e).1 d v is
+      inside_all (suc i) rest (option_or_none (inside (Component i) (first_clash t)) (clash_inside (suc i) rest) e).1 d v is
 
 -- ---- where something is found
-
-trichotomy : (d e : ℕ) → (e < d) ⊎ ((d ≡ e) ⊎ (d < e))
-trichotomy zero zero = inr (inl refl)
-trichotomy zero (suc e) = inr (inr (omega arith))
-trichotomy (suc d) zero = inl (omega arith)
-trichotomy (suc d) (suc e) = elim (trichotomy d e) [
-  | inl lt ↦ inl (omega (arith, lt))
-  | inr (inl is) ↦ inr (inl (ap suc is))
-  | inr (inr gt) ↦ inr (inr (omega (arith, gt)))
-]
 
 -- a clash of one of these components, of which the first is component i, and none before it
 abbrev InsideFirst : ℕ → Components → AbstractClash → Type 0
@@ -91,7 +82,7 @@ InsideFirst i cs c =
 before_later : (name : List ℕ) (t : AbstractType) (presence : AbstractPresence) (rest : Components) (d : ℕ) → Distinct t
     → ((e : ℕ) (w : AbstractType) → e < d → component_type e rest ≡ Some w → Distinct w)
     → (e : ℕ) (w : AbstractType) → e < suc d → component_type e (component name t presence rest) ≡ Some w → Distinct w
-before_later name t presence rest d first others zero w lt is = distinct_moved t w (some_is t w is) first
+before_later name t presence rest d first others zero w lt is = distinct_moved t w (same_Some t w is) first
 before_later name t presence rest d first others (suc e) w lt is = others e w (omega (arith, lt)) is
 
 first_here : (t : AbstractType) (s : Bool) (cs : Components) (c : AbstractClash) → Agrees t s cs → here (first_pair s 0 cs) ≡ Some c → IsClash t c
@@ -108,19 +99,19 @@ first_here t s cs c agrees e =
     nothing_before (r ∷ path) i j x = inr tt
 
 same_part : (cs : Components) (d e : ℕ) (v w : AbstractType) → d ≡ e → component_type d cs ≡ Some v → component_type e cs ≡ Some w → v ≡ w
-same_part cs d e v w is at there = some_is v w (sym at ∙ ap (λ (k : ℕ). component_type k cs) is ∙ there)
+same_part cs d e v w is at there = same_Some v w (sym at ∙ ap (λ (k : ℕ). component_type k cs) is ∙ there)
 
 in_order : (cs : Components) (d : ℕ) (v : AbstractType) (b : AbstractClash) → component_type d cs ≡ Some v → IsClash v b
     → ((e : ℕ) (w : AbstractType) → e < d → component_type e cs ≡ Some w → Distinct w)
     → (e : ℕ) (w : AbstractType) (path : List Step) (i j : ℕ) → component_type e cs ≡ Some w → CollideAt w path i j
     → (Component d ∷ b.path ≡ Component e ∷ path) ⊎ Before (Component d ∷ b.path) (Component e ∷ path)
-in_order cs d v b at clash earlier e w path i j there x = elim (trichotomy d e) [
-  | inl lt ↦ absurd (earlier e w lt there path i j x)
-  | inr (inl is) ↦ elim (clash.1 path i j (collide_moved v w (same_part cs d e v w is at there) path i j x)) [
+in_order cs d v b at clash earlier e w path i j there x = elim (cases_order d e) [
+  | inl is ↦ elim (clash.1 path i j (collide_moved v w (same_part cs d e v w is at there) path i j x)) [
     | inl same ↦ inl (ap (λ (k : ℕ). Component k ∷ b.path) is ∙ ap (λ (p : List Step). Component e ∷ p) same)
     | inr before ↦ inr (inr (ap (λ (k : ℕ). Component k) is, before))
   ]
-  | inr (inr gt) ↦ inr (inl gt)
+  | inr (inl lt) ↦ inr (inl lt)
+  | inr (inr gt) ↦ absurd (earlier e w gt there path i j x)
 ]
 
 at_step : (c : List Step) (s r : Step) (path : List Step) → s ≡ r → (c ≡ r ∷ path) ⊎ Before c (r ∷ path) → (c ≡ s ∷ path) ⊎ Before c (s ∷ path)
@@ -146,8 +137,8 @@ first_inside tags kind cons s cs c agrees parts none (d, v, b, at, clash, is, ea
         clash.2 i j (collide_moved v w.0 (same_part cs d d v w.0 refl at (sym (parts.1 d) ∙ w.1)) b.path i j w.2)
 
 list_some : (tags : List Tag) (kind : AbstractKind) (cons : Constraints) (s : Bool) (cs : Components) (c : AbstractClash) → Agrees (type_of tags kind cons) s cs → PartsAre kind cs
-    → ((b : AbstractClash) → clash_inside 0 cs ≡ Some b → InsideFirst 0 cs b) → or_else (here (first_pair s 0 cs)) (clash_inside 0 cs) ≡ Some c → IsClash (type_of tags kind cons) c
-list_some tags kind cons s cs c agrees parts inner e = elim (or_else_some (here (first_pair s 0 cs)) (clash_inside 0 cs) c e) [
+    → ((b : AbstractClash) → clash_inside 0 cs ≡ Some b → InsideFirst 0 cs b) → option_or (here (first_pair s 0 cs)) (clash_inside 0 cs) ≡ Some c → IsClash (type_of tags kind cons) c
+list_some tags kind cons s cs c agrees parts inner e = elim (option_or_some (here (first_pair s 0 cs)) (clash_inside 0 cs) c e) [
   | inl pair ↦ first_here (type_of tags kind cons) s cs c agrees pair
   | inr (none, deeper) ↦ first_inside tags kind cons s cs c agrees parts (here_none (first_pair s 0 cs) none) (inner c deeper)
 ]
@@ -197,7 +188,7 @@ mutual
 
   inside_first : (i : ℕ) (cs : Components) (c : AbstractClash) → clash_inside i cs ≡ Some c → InsideFirst i cs c
   inside_first i no_components c e = absurd cc
-  inside_first i (component name t presence rest) c e = elim (or_else_some (inside (Component i) (first_clash t)) (clash_inside (suc i) rest) c e) [
+  inside_first i (component name t presence rest) c e = elim (option_or_some (inside (Component i) (first_clash t)) (clash_inside (suc i) rest) c e) [
     | inl first ↦
         let d = inside_some (Component i) (first_clash t) c first in
         let at : i ≡ i + 0 = omega arith in

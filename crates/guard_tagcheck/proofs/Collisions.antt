@@ -7,11 +7,12 @@ use Rattle.guard_model.specs.declared.site.Step.TheVariants.{Component, Element}
 use Rattle.guard_model.specs.AbstractType as type
 use Rattle.guard_model.specs.AbstractType.{AbstractType, AbstractKind, AbstractPresence, Components, Constraints, type_of}
 use Rattle.guard_model.specs.TypeView.{OneComponent}
-use Rattle.guard_tagcheck.specs.Distinct.{component_at, component_type, part_at, type_at, Collide, CollideAt, Distinct, AbstractClash, IsClash}
+use Rattle.guard_tagcheck.specs.Distinct.{component_type, part_at, type_at, Collide, CollideAt, Distinct, AbstractClash, IsClash}
 use Rattle.guard_tagcheck.specs.Search.{is_passed}
-use Rattle.guard_tagcheck.proofs.Options.{some_is}
-use Rattle.guard_tagcheck.proofs.Sharing.{share_from, share_to}
-use Rattle.guard_tagcheck.proofs.Pairs.{Pair}
+use Rattle.std.proofs.lemmas.Option.{same_Some}
+use Rattle.guard_model.specs.Components.{component_at}
+use Rattle.guard_tagcheck.proofs.SharedTags.{share_from, share_to}
+use Rattle.guard_tagcheck.proofs.LeastPairs.{Pair}
 
 -- ---- the pairs that are looked at are those that collide
 
@@ -87,12 +88,12 @@ PartIs kind t = (s : Step) (v : AbstractType) → part_at kind s ≡ Some v → 
 
 pub sequence_of_part : (t : AbstractType) → PartIs (type.sequence_of t) t
 sequence_of_part t (Component i) v e = absurd cc
-sequence_of_part t (Element zero) v e = (refl, some_is t v e)
+sequence_of_part t (Element zero) v e = (refl, same_Some t v e)
 sequence_of_part t (Element (suc n)) v e = absurd cc
 
 pub set_of_part : (t : AbstractType) → PartIs (type.set_of t) t
 set_of_part t (Component i) v e = absurd cc
-set_of_part t (Element zero) v e = (refl, some_is t v e)
+set_of_part t (Element zero) v e = (refl, same_Some t v e)
 set_of_part t (Element (suc n)) v e = absurd cc
 
 -- ---- collisions in a type and in its parts
@@ -101,7 +102,7 @@ same_type : (t u : AbstractType) → t ≡ u → (i j : ℕ) → Collide u i j �
 same_type t u e i j p = rw e p
 
 pub collide_here : (t : AbstractType) (i j : ℕ) → CollideAt t [] i j → Collide t i j
-collide_here t i j (u, e, p) = same_type t u (some_is t u e) i j p
+collide_here t i j (u, e, p) = same_type t u (same_Some t u e) i j p
 
 through : (part : Option AbstractType) (path : List Step) (u : AbstractType) → elim part [ None ↦ None | Some v ↦ type_at path v ] ≡ Some u
     → (v : AbstractType) × (part ≡ Some v) × (type_at path v ≡ Some u)

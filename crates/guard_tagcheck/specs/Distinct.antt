@@ -6,28 +6,22 @@ use Rattle.guard_model.specs.declared.tag.Tag.{Tag}
 use Rattle.guard_model.specs.AbstractType as type
 use Rattle.guard_model.specs.AbstractType.{AbstractType, AbstractKind, Components, type_of, no_components, component}
 use Rattle.guard_model.specs.TypeView.{OneComponent}
-use Rattle.guard_tagcheck.specs.Limits.{components_in}
+use Rattle.guard_model.specs.Components.{components_in, component_at}
 use Rattle.guard_tagcheck.specs.FirstTags.{begins_with}
-
--- the component at this position, from 0
-abbrev pub component_at : ℕ → Components → Option OneComponent
-component_at i no_components = None
-component_at zero (component name t presence rest) = Some (record { name = name; ty = t; presence = presence })
-component_at (suc i) (component name t presence rest) = component_at i rest
 
 -- Component i and each one between it and component j are OPTIONAL or DEFAULT.
 abbrev pub CanBeAbsent : Components → ℕ → ℕ → Type 0
 CanBeAbsent cs i j = (k : ℕ) → i ≤ k → k < j → IfSome (component_at k cs) (λ c. c.presence ≢ type.mandatory)
 
 -- The tags of component i must differ from those of the later component j: in a SEQUENCE where an encoding that comes after
--- those of the components before i may be of either (25.6), in a SET (27.3) and in a CHOICE (29.3) always.
+-- those of the components before i may be of or_cases (25.6), in a SET (27.3) and in a CHOICE (29.3) always.
 abbrev pub MustDiffer : AbstractKind → ℕ → ℕ → Type 0
 MustDiffer (type.sequence cs) i j = (i < j) × CanBeAbsent cs i j
 MustDiffer (type.set cs) i j = i < j
 MustDiffer (type.choice cs) i j = i < j
 MustDiffer _ i j = ⊥
 
--- An encoding of either type may begin with the same tag.
+-- An encoding of or_cases type may begin with the same tag.
 abbrev pub ShareTag : AbstractType → AbstractType → Type 0
 ShareTag a b = (tag : Tag) × IsTrue (begins_with a tag) × IsTrue (begins_with b tag)
 

@@ -1,12 +1,9 @@
 -- The tags with which an encoding of a type may begin.
-use Rattle.std.specs.Prelude.{Bool, false, ◌&&◌, ◌||◌, [], ◌∷◌, nat_eq}
+use Rattle.std.specs.Prelude.{Bool, false, ◌||◌, [], ◌∷◌}
 use Rattle.guard_model.specs.declared.tag.Tag.{Tag}
-use Rattle.guard_model.specs.Tags.{class_rank}
+use Rattle.guard_model.specs.Tags.{same_tag}
 use Rattle.guard_model.specs.AbstractType as type
 use Rattle.guard_model.specs.AbstractType.{AbstractType, AbstractKind, Components, type_of, no_components, component}
-
-abbrev pub same_tag : Tag → Tag → Bool
-same_tag a b = nat_eq (class_rank a.class) (class_rank b.class) && nat_eq a.number b.number
 
 abbrev mutual
   -- its outermost tag; of an untagged CHOICE those of all alternatives (X.680 8.1, 29.3)

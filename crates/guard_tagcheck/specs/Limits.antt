@@ -2,6 +2,9 @@
 use Rattle.std.specs.Prelude.{ℕ, suc, ◌+◌, Bool, true, false, ◌&&◌, ◌||◌, List, [], ◌∷◌, length, max, nat_le}
 use Rattle.guard_model.specs.AbstractType as type
 use Rattle.guard_model.specs.AbstractType.{AbstractType, AbstractKind, Components, type_of, no_components, component}
+use Rattle.guard_model.specs.Components.{components_in}
+use Rattle.guard_model.specs.Counts.{component_count}
+use Rattle.guard_model.specs.Limits.{most_components, deepest_nesting, greatest_tag_number}
 use Rattle.guard_model.specs.declared.tag.Tag.{Tag}
 
 abbrev mutual
@@ -38,17 +41,6 @@ abbrev mutual
   every_component test no_components = true
   every_component test (component name t presence rest) = every_type test t && every_component test rest
 
-abbrev pub count : Components → ℕ
-count no_components = 0
-count (component name t presence rest) = suc (count rest)
-
--- of a SEQUENCE, SET or CHOICE; other kinds have none
-abbrev pub components_in : AbstractKind → Components
-components_in (type.sequence cs) = cs
-components_in (type.set cs) = cs
-components_in (type.choice cs) = cs
-components_in _ = no_components
-
 abbrev pub has_tag : List Tag → Bool
 has_tag [] = false
 has_tag (t ∷ ts) = true
@@ -62,15 +54,11 @@ abbrev pub is_tagged : List Tag → AbstractKind → Bool
 is_tagged tags kind = has_tag tags || is_choice kind
 
 abbrev pub has_few_components : List Tag → AbstractKind → Bool
-has_few_components tags kind = nat_le (count (components_in kind)) 64
+has_few_components tags kind = nat_le (component_count (components_in kind)) most_components
 
--- each number is below 2^28
 abbrev pub are_low : List Tag → Bool
 are_low [] = true
-are_low (t ∷ ts) = nat_le t.number 268435455 && are_low ts
-
-abbrev pub has_low_tags : List Tag → AbstractKind → Bool
-has_low_tags tags kind = are_low tags
+are_low (t ∷ ts) = nat_le t.number greatest_tag_number && are_low ts
 
 -- Tags are there except on a CHOICE, and no list of components or alternatives is too long.
 abbrev pub is_formed : List Tag → AbstractKind → Bool
@@ -85,20 +73,17 @@ parts_keep_limits kind = every_part is_formed kind
 abbrev pub components_keep_limits : Components → Bool
 components_keep_limits cs = every_component is_formed cs
 
-abbrev pub keeps_tag_limit : AbstractType → Bool
-keeps_tag_limit t = every_type has_low_tags t
-
 -- ---- the same with a bound on the nesting
 
 abbrev pub type_within : AbstractType → ℕ → Bool
 type_within t depth = keeps_limits t && nat_le (nesting t) depth
 
 abbrev pub kind_within : AbstractKind → ℕ → Bool
-kind_within kind depth = nat_le (count (components_in kind)) 64 && (parts_keep_limits kind && nat_le (nesting_inside kind) depth)
+kind_within kind depth = nat_le (component_count (components_in kind)) most_components && (parts_keep_limits kind && nat_le (nesting_inside kind) depth)
 
 abbrev pub all_within : Components → ℕ → Bool
 all_within cs depth = components_keep_limits cs && nat_le (deepest cs) depth
 
--- what the check of tags needs: nesting up to 32
+-- what the check of tags needs
 abbrev pub is_within_limits : AbstractType → Bool
-is_within_limits t = type_within t 32
+is_within_limits t = type_within t deepest_nesting

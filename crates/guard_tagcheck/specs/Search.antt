@@ -1,5 +1,6 @@
 -- How the first clash is looked for: each type before its parts, pairs of components in the order of their positions.
 use Rattle.std.specs.Prelude.{ℕ, suc, Bool, true, false, not, ◌||◌, [], ◌∷◌, Option, Some, None, if◌then◌else◌}
+use Rattle.std.specs.Option.{option_or}
 use Rattle.guard_model.specs.declared.site.Step.{Step}
 use Rattle.guard_model.specs.declared.site.Step.TheVariants.{Component, Element}
 use Rattle.guard_model.specs.AbstractType as type
@@ -37,10 +38,6 @@ partner in_sequence a j (component name t presence rest) =
     else if is_passed in_sequence presence then partner in_sequence a (suc j) rest
     else None
 
-abbrev pub or_else : {A : Type 0} → Option A → Option A → Option A
-or_else None b = b
-or_else (Some x) b = Some x
-
 abbrev pub paired : ℕ → Option ℕ → Option (ℕ × ℕ)
 paired i None = None
 paired i (Some j) = Some (i, j)
@@ -49,7 +46,7 @@ paired i (Some j) = Some (i, j)
 abbrev pub first_pair : Bool → ℕ → Components → Option (ℕ × ℕ)
 first_pair in_sequence i no_components = None
 first_pair in_sequence i (component name t presence rest) =
-    or_else
+    option_or
     (if is_passed in_sequence presence then paired i (partner in_sequence t (suc i) rest) else None)
     (first_pair in_sequence (suc i) rest)
 
@@ -69,9 +66,9 @@ abbrev mutual
   first_clash (type_of tags kind cons) = clash_of_kind kind
 
   pub clash_of_kind : AbstractKind → Option AbstractClash
-  clash_of_kind (type.sequence cs) = or_else (here (first_pair true 0 cs)) (clash_inside 0 cs)
-  clash_of_kind (type.set cs) = or_else (here (first_pair false 0 cs)) (clash_inside 0 cs)
-  clash_of_kind (type.choice cs) = or_else (here (first_pair false 0 cs)) (clash_inside 0 cs)
+  clash_of_kind (type.sequence cs) = option_or (here (first_pair true 0 cs)) (clash_inside 0 cs)
+  clash_of_kind (type.set cs) = option_or (here (first_pair false 0 cs)) (clash_inside 0 cs)
+  clash_of_kind (type.choice cs) = option_or (here (first_pair false 0 cs)) (clash_inside 0 cs)
   clash_of_kind (type.sequence_of t) = inside (Element 0) (first_clash t)
   clash_of_kind (type.set_of t) = inside (Element 0) (first_clash t)
   clash_of_kind _ = None
@@ -79,4 +76,4 @@ abbrev mutual
   -- in the types of these components, of which the first is component i
   pub clash_inside : ℕ → Components → Option AbstractClash
   clash_inside i no_components = None
-  clash_inside i (component name t presence rest) = or_else (inside (Component i) (first_clash t)) (clash_inside (suc i) rest)
+  clash_inside i (component name t presence rest) = option_or (inside (Component i) (first_clash t)) (clash_inside (suc i) rest)

@@ -1,10 +1,11 @@
 //! Components that share a tag.
-use guard_model::{Path, Step};
-use std::error::Error;
-use std::fmt;
+use guard_model::{Path, PathText, Step};
+use thiserror::Error;
 
 /// Two components of a SEQUENCE or SET, or alternatives of a CHOICE, that must differ in their tags and share one.
-#[derive(Debug, Drop)]
+/// It prints as the path and both positions: `$.0[0].2 0 1`.
+#[derive(Debug, Drop, Error)]
+#[error("{way} {first} {second}", way = PathText(.path))]
 pub struct Clash {
     /// The way from the type to the SEQUENCE, SET or CHOICE. A component or alternative is `Step::Component`, the type of
     /// an OF type's elements `Step::Element(0)`.
@@ -15,31 +16,15 @@ pub struct Clash {
     pub second: u8,
 }
 
-/// The path from `$` on, and both positions: `$.0[0].2 0 1`. A component is `.` and its position, an element its position
-/// in brackets.
-impl fmt::Display for Clash {
-    fn fmt<W: fmt::Write>(&self, f: &mut fmt::Formatter<W>) -> fmt::Result {
-        write!(f, "$")?;
-        for step in self.path.as_slice() {
-            match step {
-                Step::Component(position) => write!(f, ".{position}")?,
-                Step::Element(position) => write!(f, "[{position}]")?,
-            }
-        }
-        write!(f, " {} {}", self.first, self.second)
-    }
-}
-
-impl Error for Clash {}
-
 impl Clash {
     ghost use Rattle.std.specs.Prelude.{◌≡◌, ◌<◌, length};
+    ghost use Rattle.guard_model.specs.Limits.{deepest_nesting};
     ghost use Rattle.guard_tagcheck.specs.Search.{below};
     ghost use Rattle.guard_tagcheck.specs.Views.{clash_view};
 
     /// The clash of a part, seen from the type round it.
     pub(crate) fn below(mut self, step: Step) -> Clash
-        requires { length self.path.items < 32 }
+        requires { length self.path.items < deepest_nesting }
         ensures { clash_view result ≡ below step (clash_view self) }
     {
         self.path.insert(0, step);

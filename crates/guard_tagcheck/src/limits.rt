@@ -1,21 +1,18 @@
 //! Whether a type keeps the limits of this profile.
 ghost use Rattle.std.specs.Prelude.{◌≡◌, ◌&&◌, nat_le, map};
 ghost use Rattle.guard_model.specs.TypeView.{type_view, kind_view, component_view, components_of};
-ghost use Rattle.guard_tagcheck.specs.Limits.{is_within_limits, is_tagged, kind_within, all_within, type_within, count};
+ghost use Rattle.guard_model.specs.Counts.{component_count};
+ghost use Rattle.guard_model.specs.Limits.{most_components};
+ghost use Rattle.guard_tagcheck.specs.Limits.{is_within_limits, is_tagged, kind_within, all_within, type_within};
 
-use guard_model::{Comp, Kind, Tag, Ty};
-
-/// Nesting of types.
-const DEEPEST: usize = 32;
-
-const MOST_COMPONENTS: usize = 64;
+use guard_model::{Comp, DEEPEST_NESTING, Kind, MOST_COMPONENTS, Tag, Ty};
 
 /// Whether each type inside has a tag unless it is a CHOICE, no list of components or alternatives has more than 64, and
 /// the type is nested 32 deep at most: a type takes a level for each of its tags, a CHOICE one more.
 pub fn is_within_limits(ty: &Ty) -> bool
     ensures { result ≡ is_within_limits (type_view ty.now) }
 {
-    is_within(ty, DEEPEST)
+    is_within(ty, DEEPEST_NESTING)
 }
 
 #[cycle(limits)]
@@ -33,13 +30,7 @@ fn is_within(ty: &Ty, depth: usize) -> bool
 fn is_tagged(tags: &[Tag], kind: &Kind) -> bool
     ensures { result ≡ is_tagged tags.now (kind_view kind.now) }
 {
-    if !tags.is_empty() {
-        return true;
-    }
-    match kind {
-        Kind::Choice(_) => true,
-        _ => false,
-    }
+    !tags.is_empty() || matches!(kind, Kind::Choice(_))
 }
 
 #[cycle(limits)]
@@ -47,25 +38,16 @@ fn is_kind_within(kind: &Kind, depth: usize) -> bool
     ensures { result ≡ kind_within (kind_view kind.now) depth }
 {
     match kind {
-        Kind::Sequence(comps) => are_within(comps, depth),
-        Kind::Set(comps) => are_within(comps, depth),
+        Kind::Sequence(comps) | Kind::Set(comps) => are_within(comps, depth),
         Kind::Choice(comps) => depth > 0 && are_within(comps, depth - 1),
-        Kind::SequenceOf(element) => is_within(element, depth),
-        Kind::SetOf(element) => is_within(element, depth),
-        Kind::Bool => true,
-        Kind::Int(_) => true,
-        Kind::Bits => true,
-        Kind::Octets => true,
-        Kind::Null => true,
-        Kind::Oid => true,
-        Kind::Enumerated(_) => true,
-        Kind::Chars(_) => true,
+        Kind::SequenceOf(element) | Kind::SetOf(element) => is_within(element, depth),
+        _ => true,
     }
 }
 
 #[cycle(limits)]
 fn are_within(comps: &[Comp], depth: usize) -> bool
-    ensures { result ≡ (nat_le (count (components_of (map component_view comps.now))) 64 && all_within (components_of (map component_view comps.now)) depth) }
+    ensures { result ≡ (nat_le (component_count (components_of (map component_view comps.now))) most_components && all_within (components_of (map component_view comps.now)) depth) }
 {
     if comps.len() > MOST_COMPONENTS {
         return false;

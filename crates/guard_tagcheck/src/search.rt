@@ -1,24 +1,26 @@
 //! The first clash of a type.
-ghost use Rattle.std.specs.Prelude.{◌≡◌, ℕ, zero, suc, ◌+◌, ◌≤◌, ◌<◌, length, map, drop, true, false, option_map, IfOk, IfErr, IsTrue, IsOk, Err, Some};
-ghost use Rattle.guard_model.specs.TypeView.{type_view, kind_view, component_view, components_of, presence_view};
+ghost use Rattle.std.specs.Prelude.{◌≡◌, suc, ◌≤◌, ◌<◌, length, map, drop, option_map, IfOk, IfErr, IsTrue, IsOk, Err, Some};
+ghost use Rattle.std.specs.Option.{option_or};
+ghost use Rattle.guard_model.specs.TypeView.{type_view, component_view, components_of, presence_view};
 ghost use Rattle.guard_model.specs.Answer.{Gives};
+ghost use Rattle.guard_model.specs.Limits.{most_components, deepest_nesting};
 ghost use Rattle.guard_model.specs.declared.site.Step.TheVariants.{Element};
-ghost use Rattle.guard_tagcheck.specs.Limits.{is_within_limits, keeps_limits, parts_keep_limits, components_keep_limits, nesting, nesting_inside, deepest};
+ghost use Rattle.guard_tagcheck.specs.Limits.{is_within_limits, keeps_limits, components_keep_limits, nesting, deepest};
 ghost use Rattle.guard_tagcheck.specs.Distinct.{Distinct, IsClash, AbstractClash};
-ghost use Rattle.guard_tagcheck.specs.Search.{first_clash, clash_of_kind, inside, clash_inside, first_pair, partner, is_passed, is_mandatory, or_else, here};
+ghost use Rattle.guard_tagcheck.specs.Search.{first_clash, inside, clash_inside, first_pair, partner, is_passed, here};
 ghost use Rattle.guard_tagcheck.specs.Views.{clash_view};
 
 use crate::clash::Clash;
-use crate::tags::share_tag;
+use crate::first_tags::share_tag;
 use guard_model::{Comp, Kind, Path, Presence, Step, Ty};
 
-/// Whether all tags that must differ do, in the type and in each type inside it: in a SEQUENCE those of an OPTIONAL or
-/// DEFAULT component and of each later one up to and with the next mandatory one (X.680 25.6), in a SET (27.3) and a CHOICE
-/// (29.3) those of all. An untagged CHOICE counts with the tags of all its alternatives. Types inside constraints and
-/// defaults don't count.
+/// Whether the tags tell components and alternatives apart, in the type and in each type inside it. All of a SET (X.680
+/// 27.3) and of a CHOICE (29.3) must differ in theirs; in a SEQUENCE (25.6) a component that may be left out must differ
+/// from those that may then come next, of which the first mandatory one is the last. A CHOICE without a tag counts with
+/// those of its alternatives. Types that stand in constraints and defaults have no part in it.
 ///
-/// Where some don't differ: the clash that comes first, a type before its parts and the parts in written order, and in that
-/// type the least pair of positions.
+/// Where two share a tag, it names the first such pair: a type comes before its parts, parts come as they are written, and
+/// in one type the least pair of positions counts.
 pub fn check(ty: &Ty) -> Result<(), Clash>
     requires { IsTrue (is_within_limits (type_view ty.now)) }
     // Ok says that they all differ.
@@ -39,30 +41,21 @@ pub fn check(ty: &Ty) -> Result<(), Clash>
 #[cycle(search)]
 fn first_clash(ty: &Ty) -> Option<Clash>
     requires limits { IsTrue (keeps_limits (type_view ty.now)) }
-    requires depth { nesting (type_view ty.now) ≤ 32 }
+    requires depth { nesting (type_view ty.now) ≤ deepest_nesting }
     ensures { option_map clash_view result ≡ first_clash (type_view ty.now) }
 {
     match &ty.kind {
         Kind::Sequence(comps) => clash_among(comps, true),
-        Kind::Set(comps) => clash_among(comps, false),
-        Kind::Choice(comps) => clash_among(comps, false),
-        Kind::SequenceOf(element) => clash_of_elements(element),
-        Kind::SetOf(element) => clash_of_elements(element),
-        Kind::Bool => None,
-        Kind::Int(_) => None,
-        Kind::Bits => None,
-        Kind::Octets => None,
-        Kind::Null => None,
-        Kind::Oid => None,
-        Kind::Enumerated(_) => None,
-        Kind::Chars(_) => None,
+        Kind::Set(comps) | Kind::Choice(comps) => clash_among(comps, false),
+        Kind::SequenceOf(element) | Kind::SetOf(element) => clash_of_elements(element),
+        _ => None,
     }
 }
 
 #[cycle(search)]
 fn clash_of_elements(element: &Ty) -> Option<Clash>
     requires limits { IsTrue (keeps_limits (type_view element.now)) }
-    requires depth { nesting (type_view element.now) ≤ 31 }
+    requires depth { nesting (type_view element.now) < deepest_nesting }
     ensures { option_map clash_view result ≡ inside (Element 0) (first_clash (type_view element.now)) }
 {
     let clash = first_clash(element)?;
@@ -73,9 +66,9 @@ fn clash_of_elements(element: &Ty) -> Option<Clash>
 #[cycle(search)]
 fn clash_among(comps: &[Comp], in_sequence: bool) -> Option<Clash>
     requires limits { IsTrue (components_keep_limits (components_of (map component_view comps.now))) }
-    requires few { length comps.now ≤ 64 }
-    requires depth { deepest (components_of (map component_view comps.now)) ≤ 31 }
-    ensures { option_map clash_view result ≡ or_else (here (first_pair in_sequence 0 (components_of (map component_view comps.now)))) (clash_inside 0 (components_of (map component_view comps.now))) }
+    requires few { length comps.now ≤ most_components }
+    requires depth { deepest (components_of (map component_view comps.now)) < deepest_nesting }
+    ensures { option_map clash_view result ≡ option_or (here (first_pair in_sequence 0 (components_of (map component_view comps.now)))) (clash_inside 0 (components_of (map component_view comps.now))) }
 {
     match first_pair(comps, in_sequence) {
         Some((first, second)) => Some(Clash {
@@ -90,8 +83,8 @@ fn clash_among(comps: &[Comp], in_sequence: bool) -> Option<Clash>
 #[cycle(search)]
 fn clash_inside(comps: &[Comp]) -> Option<Clash>
     requires limits { IsTrue (components_keep_limits (components_of (map component_view comps.now))) }
-    requires few { length comps.now ≤ 64 }
-    requires depth { deepest (components_of (map component_view comps.now)) ≤ 31 }
+    requires few { length comps.now ≤ most_components }
+    requires depth { deepest (components_of (map component_view comps.now)) < deepest_nesting }
     ensures { option_map clash_view result ≡ clash_inside 0 (components_of (map component_view comps.now)) }
 {
     for (index, comp) in comps.iter().enumerate() {
@@ -104,7 +97,7 @@ fn clash_inside(comps: &[Comp]) -> Option<Clash>
 
 /// The least pair of positions whose components must differ in their tags and share one.
 fn first_pair(comps: &[Comp], in_sequence: bool) -> Option<(u8, u8)>
-    requires { length comps.now ≤ 64 }
+    requires { length comps.now ≤ most_components }
     ensures { result ≡ first_pair in_sequence 0 (components_of (map component_view comps.now)) }
 {
     for (index, comp) in comps.iter().enumerate() {
@@ -121,7 +114,7 @@ fn first_pair(comps: &[Comp], in_sequence: bool) -> Option<(u8, u8)>
 /// component is the last that counts.
 fn partner(comps: &[Comp], index: usize, ty: &Ty, in_sequence: bool) -> Option<u8>
     requires there { index < length comps.now }
-    requires few { length comps.now ≤ 64 }
+    requires few { length comps.now ≤ most_components }
     ensures { result ≡ partner in_sequence (type_view ty.now) (suc index) (components_of (map component_view (drop (suc index) comps.now))) }
 {
     for later in index + 1..comps.len() {
@@ -140,13 +133,5 @@ fn partner(comps: &[Comp], index: usize, ty: &Ty, in_sequence: bool) -> Option<u
 fn is_passed(presence: &Presence, in_sequence: bool) -> bool
     ensures { result ≡ is_passed in_sequence (presence_view presence.now) }
 {
-    if !in_sequence {
-        return true;
-    }
-    match presence {
-        Presence::Mandatory => false,
-        Presence::Optional => true,
-        Presence::Pending => true,
-        Presence::Default(_) => true,
-    }
+    !in_sequence || !matches!(presence, Presence::Mandatory)
 }

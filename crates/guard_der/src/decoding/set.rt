@@ -7,37 +7,37 @@ ghost use Rattle.guard_der.specs.Reading.{all_absent, completed, follows as come
 ghost use Rattle.guard_der.specs.Views.{breach_of};
 
 use crate::breach::{Code, DecodeFault};
-use crate::decoding::not_sent;
 use crate::faults::fault_at;
+use crate::presence::not_sent;
 use crate::tags::one_with;
 use guard_model::{Comp, Step, Tag, Value};
 use std::alloc::Global;
 use std::cmp::Ordering;
 
 /// Nothing was read yet.
-pub fn empty_slots(alloc: Global, comps: &[Comp]) -> Result<Vec<Option<Value>>, DecodeFault>
+pub fn absent_fields(alloc: Global, comps: &[Comp]) -> Result<Vec<Option<Value>>, DecodeFault>
     ensures count { IfOk result (λ v. length v.items ≡ length comps.now) }
     ensures given { Gives (λ v. fields_view v.items) breach_of result (Ok (all_absent (components_of (map component_view comps.now)))) }
 {
-    let mut slots = Vec::with_capacity(alloc, comps.len())?;
+    let mut fields = Vec::with_capacity(alloc, comps.len())?;
     for _comp in comps {
-        slots.push(None)?;
+        fields.push(None)?;
     }
-    Ok(slots)
+    Ok(fields)
 }
 
 /// The place of the component with this tag, which comes after those that were read and was not there among them.
 pub fn place_of(
     comps: &[Comp],
-    slots: &[Option<Value>],
+    fields: &[Option<Value>],
     before: Option<Tag>,
     at: usize,
     tag: Tag,
 ) -> Result<usize, DecodeFault>
     requires few { length comps.now ≤ 64 }
-    requires slots { length slots.now ≡ length comps.now }
+    requires fields { length fields.now ≡ length comps.now }
     ensures within { IfOk result (λ i. i < length comps.now) }
-    ensures given { Gives (λ i. i) breach_of result (placed_at (components_of (map component_view comps.now)) (fields_view slots.now) before at tag) }
+    ensures given { Gives (λ i. i) breach_of result (placed_at (components_of (map component_view comps.now)) (fields_view fields.now) before at tag) }
 {
     let Some(place) = one_with(comps, tag) else {
         return Err(fault_at(Code::UnexpectedTag, at));
@@ -45,7 +45,7 @@ pub fn place_of(
     if !follows(before, tag) {
         return Err(fault_at(Code::SetOrder, at).below(Step::Component(place as u8)));
     }
-    if slots[place].is_some() {
+    if fields[place].is_some() {
         return Err(fault_at(Code::UnexpectedTag, at));
     }
     Ok(place)
@@ -65,26 +65,30 @@ fn follows(before: Option<Tag>, tag: Tag) -> bool
 pub fn completed(
     alloc: Global,
     comps: &[Comp],
-    mut slots: Vec<Option<Value>>,
+    mut fields: Vec<Option<Value>>,
     at: usize,
 ) -> Result<Vec<Option<Value>>, DecodeFault>
     requires few { length comps.now ≤ 64 }
-    requires slots { length slots.items ≡ length comps.now }
-    ensures { Gives (λ v. fields_view v.items) breach_of result (completed 0 (components_of (map component_view comps.now)) (fields_view slots.items) at) }
+    requires fields { length fields.items ≡ length comps.now }
+    ensures { Gives (λ v. fields_view v.items) breach_of result (completed 0 (components_of (map component_view comps.now)) (fields_view fields.items) at) }
 {
     for (index, comp) in comps.iter().enumerate() {
-        if slots[index].is_none() {
+        if fields[index].is_none() {
             let missing = fault_at(Code::MissingComponent, at).below(Step::Component(index as u8));
-            put(&mut slots, index, not_sent(alloc, &comp.presence, missing)?);
+            put(
+                &mut fields,
+                index,
+                not_sent(alloc, &comp.presence, missing)?,
+            );
         }
     }
-    Ok(slots)
+    Ok(fields)
 }
 
 /// The component at this place is settled: a value, or absent.
-pub fn put(slots: &mut Vec<Option<Value>>, place: usize, field: Option<Value>)
-    requires { place < length slots.old.items }
-    ensures { slots.new.items ≡ set slots.old.items place field }
+pub fn put(fields: &mut Vec<Option<Value>>, place: usize, field: Option<Value>)
+    requires { place < length fields.old.items }
+    ensures { fields.new.items ≡ set fields.old.items place field }
 {
-    slots[place] = field;
+    fields[place] = field;
 }

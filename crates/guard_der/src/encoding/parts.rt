@@ -1,8 +1,7 @@
 //! What a SEQUENCE or SET sends of its components.
 ghost use Rattle.std.specs.Prelude.{◌≡◌, ◌≤◌, length, IfOk};
 ghost use Rattle.guard_der.specs.Der.{ascending, insert_part, parts_joined, tag_before};
-ghost use Rattle.guard_der.specs.Sent.{part_view, parts_view};
-ghost use Rattle.guard_der.specs.Sent.{place};
+ghost use Rattle.guard_der.specs.EncodingSteps.{part_view, parts_view, place_among};
 
 use guard_model::{OutOfMemory, Tag};
 use std::alloc::Global;
@@ -10,26 +9,29 @@ use std::cmp::Ordering;
 
 /// The encoding of a component, and its outermost tag.
 #[derive(Debug, Drop)]
-pub struct Sent {
+pub struct EncodedPart {
     pub tag: Tag,
     pub octets: Vec<u8>,
 }
 
 /// In ascending order of tags (X.690 10.3).
-pub fn ascending(alloc: Global, mut parts: Vec<Sent>) -> Result<Vec<Sent>, OutOfMemory>
+pub fn ascending(
+    alloc: Global,
+    mut parts: Vec<EncodedPart>,
+) -> Result<Vec<EncodedPart>, OutOfMemory>
     ensures { IfOk result (λ sorted. parts_view sorted.items ≡ ascending (parts_view parts.items)) }
 {
     let mut sorted = Vec::with_capacity(alloc, parts.len())?;
     while let Some(part) = parts.pop() {
-        let at = place(&part.tag, &sorted);
+        let at = place_among(&part.tag, &sorted);
         sorted.insert(at, part)?;
     }
     Ok(sorted)
 }
 
 /// How many parts with lesser tags lead the sorted ones.
-fn place(tag: &Tag, parts: &[Sent]) -> usize
-    ensures value { result ≡ place tag.now (parts_view parts.now) }
+fn place_among(tag: &Tag, parts: &[EncodedPart]) -> usize
+    ensures value { result ≡ place_among tag.now (parts_view parts.now) }
     ensures bound { result ≤ length parts.now }
 {
     for (index, part) in parts.iter().enumerate() {
@@ -41,7 +43,7 @@ fn place(tag: &Tag, parts: &[Sent]) -> usize
 }
 
 /// One after the other.
-pub fn joined(alloc: Global, parts: &[Sent]) -> Result<Vec<u8>, OutOfMemory>
+pub fn joined(alloc: Global, parts: &[EncodedPart]) -> Result<Vec<u8>, OutOfMemory>
     ensures { IfOk result (λ v. v.items ≡ parts_joined (parts_view parts.now)) }
 {
     let mut out = Vec::new(alloc);

@@ -3,16 +3,18 @@ ghost use Rattle.std.specs.Prelude.{◌≡◌, map, IsTrue};
 ghost use Rattle.guard_model.specs.Answer.{Gives};
 ghost use Rattle.guard_model.specs.TypeView.{type_view, kind_view, component_view, components_of, presence_view};
 ghost use Rattle.guard_model.specs.ValueView.{value_view, field_view, fields_view, items_view};
-ghost use Rattle.guard_der.specs.Der.{der, contents_octets, parts_of, alternative_octets, item_encodings, is_constructed, is_left_out};
-ghost use Rattle.guard_der.specs.Fits.{fits, fits_kind, fits_fields, fits_alternative, every_fits};
+ghost use Rattle.guard_der.specs.Der.{der, contents_octets, parts_of, alternative_octets, item_encodings};
+ghost use Rattle.guard_der.specs.Fits.{fits, fits_kind, fits_fields, fits_alternative, every_fits, fits_field};
 ghost use Rattle.guard_der.specs.Encoding.{refusal};
-ghost use Rattle.guard_der.specs.Sent.{or_too_long, part_of, parts_view, field_fits, with_parts, all_joined, sequence_octets, set_octets};
+ghost use Rattle.guard_der.specs.EncodingSteps.{or_too_long, part_of, parts_view, with_parts, all_joined, sequence_octets, set_octets};
 
 use crate::encoding::EncodeFault;
 use crate::encoding::element::tagged;
 use crate::encoding::first_tag::outermost;
-use crate::encoding::parts::{Sent, ascending, joined};
+use crate::encoding::parts::{EncodedPart, ascending, joined};
 use crate::encoding::simple::{bit_string, boolean, characters, integer, object_identifier};
+use crate::forms::is_constructed;
+use crate::presence::is_left_out;
 use guard_model::{Comp, Kind, Presence, Ty, Value};
 use std::alloc::Global;
 
@@ -24,26 +26,6 @@ pub fn encoding(alloc: Global, ty: &Ty, value: &Value) -> Result<Vec<u8>, Encode
 {
     let inside = contents(alloc, &ty.kind, value)?;
     tagged(alloc, &ty.tags, is_constructed(&ty.kind), inside)
-}
-
-fn is_constructed(kind: &Kind) -> bool
-    ensures { result ≡ is_constructed (kind_view kind.now) }
-{
-    match kind {
-        Kind::Bool => false,
-        Kind::Int(_) => false,
-        Kind::Bits => false,
-        Kind::Octets => false,
-        Kind::Null => false,
-        Kind::Oid => false,
-        Kind::Enumerated(_) => false,
-        Kind::Chars(_) => false,
-        Kind::Sequence(_) => true,
-        Kind::Set(_) => true,
-        Kind::Choice(_) => true,
-        Kind::SequenceOf(_) => true,
-        Kind::SetOf(_) => true,
-    }
 }
 
 #[cycle(encoding)]
@@ -111,7 +93,11 @@ fn alternative(
 
 /// What is sent of the components, in written order.
 #[cycle(encoding)]
-fn parts(alloc: Global, comps: &[Comp], fields: &[Option<Value>]) -> Result<Vec<Sent>, EncodeFault>
+fn parts(
+    alloc: Global,
+    comps: &[Comp],
+    fields: &[Option<Value>],
+) -> Result<Vec<EncodedPart>, EncodeFault>
     requires { IsTrue (fits_fields (components_of (map component_view comps.now)) (fields_view fields.now)) }
     ensures { Gives (λ v. parts_view v.items) refusal result (or_too_long (parts_of (components_of (map component_view comps.now)) (fields_view fields.now))) }
 {
@@ -130,12 +116,12 @@ fn parts(alloc: Global, comps: &[Comp], fields: &[Option<Value>]) -> Result<Vec<
 #[cycle(encoding)]
 fn push_part(
     alloc: Global,
-    parts: &mut Vec<Sent>,
+    parts: &mut Vec<EncodedPart>,
     presence: &Presence,
     ty: &Ty,
     field: &Option<Value>,
 ) -> Result<(), EncodeFault>
-    requires { IsTrue (field_fits (presence_view presence.now) (type_view ty.now) (field_view field.now)) }
+    requires { IsTrue (fits_field (presence_view presence.now) (type_view ty.now) (field_view field.now)) }
     ensures { Gives (λ _. parts_view parts.new.items) refusal result (or_too_long (with_parts (parts_view parts.old.items) (part_of (presence_view presence.now) (type_view ty.now) (field_view field.now)))) }
 {
     let Some(value) = field else {
@@ -145,22 +131,10 @@ fn push_part(
         return Ok(());
     }
     let octets = encoding(alloc, ty, value)?;
-    Ok(parts.push(Sent {
+    Ok(parts.push(EncodedPart {
         tag: outermost(ty, value),
         octets,
     })?)
-}
-
-/// A component whose value is its default is not sent (X.690 11.5).
-fn is_left_out(presence: &Presence, value: &Value) -> bool
-    ensures { result ≡ is_left_out (presence_view presence.now) (value_view value.now) }
-{
-    match presence {
-        Presence::Mandatory => false,
-        Presence::Optional => false,
-        Presence::Pending => false,
-        Presence::Default(default) => default.same(value),
-    }
 }
 
 /// The encodings of an OF type's elements, one after the other.

@@ -1,10 +1,9 @@
 //! Which values the simple kinds have.
-ghost use Rattle.std.specs.Prelude.{◌≡◌, ◌^◌, ◌≤◌, chars, map};
+ghost use Rattle.std.specs.Prelude.{◌≡◌, chars, map};
 ghost use Rattle.guard_model.specs.TypeView.{named_view};
-ghost use Rattle.guard_der.specs.Contents.{is_character, is_between, is_digit, is_letter, is_printable_mark};
-ghost use Rattle.guard_der.specs.Pieces.{two_fit};
-ghost use Rattle.guard_der.specs.Fits.{all_below, all_characters, fits_128_bits, fits_arcs, fits_bits, fits_characters, is_item};
+ghost use Rattle.guard_der.specs.Fits.{all_below, all_characters, fits_128_bits, fits_arcs, fits_bits, fits_characters, is_item, fits_first_arcs};
 
+use crate::bits::{has_proper_end, has_zero_end};
 use guard_model::{Bits, CharKind, Named};
 
 /// An INTEGER and an ENUMERATED lie within signed 128 bits, as each number of this type does.
@@ -26,33 +25,12 @@ pub fn are_octets(octets: &[u8]) -> bool
 pub fn bits_fit(bits: &Bits) -> bool
     ensures { result ≡ fits_bits bits.now.octets.items bits.now.unused }
 {
-    if bits.unused > 7 || !are_octets(&bits.octets) {
-        return false;
-    }
-    let count = bits.octets.len();
-    if count == 0 {
-        return bits.unused == 0;
-    }
-    bits.octets[count - 1] % power_of_two(bits.unused) == 0
+    are_octets(&bits.octets)
+        && has_proper_end(&bits.octets, bits.unused)
+        && has_zero_end(&bits.octets, bits.unused)
 }
 
-fn power_of_two(exponent: u8) -> u8
-    requires { exponent ≤ 7 }
-    ensures { result ≡ 2 ^ exponent }
-{
-    match exponent {
-        0 => 1,
-        1 => 2,
-        2 => 4,
-        3 => 8,
-        4 => 16,
-        5 => 32,
-        6 => 64,
-        _ => 128,
-    }
-}
-
-/// The first arc is 0 to 2, the second at most 39 under 0 and 1 (X.660); each subidentifier has at most 128 bits.
+/// X.660 has three first arcs, 0, 1 and 2, and 40 arcs each under 0 and 1; in this profile no subidentifier has more than 128 bits.
 pub fn arcs_fit(arcs: &[u128]) -> bool
     ensures { result ≡ fits_arcs arcs.now }
 {
@@ -63,7 +41,7 @@ pub fn arcs_fit(arcs: &[u128]) -> bool
 }
 
 fn first_two_fit(first: u128, second: u128) -> bool
-    ensures { result ≡ two_fit first second }
+    ensures { result ≡ fits_first_arcs first second }
 {
     match first {
         0 => second <= 39,
@@ -102,52 +80,9 @@ fn are_characters(kind: CharKind, text: &str) -> bool
     ensures { result ≡ all_characters kind (chars text.now) }
 {
     for character in text.chars() {
-        if !is_character(kind, u32::from(character)) {
+        if !kind.has(u32::from(character)) {
             return false;
         }
     }
     true
-}
-
-fn is_character(kind: CharKind, code: u32) -> bool
-    ensures { result ≡ is_character kind code }
-{
-    match kind {
-        CharKind::Numeric => code == 32 || is_digit(code),
-        CharKind::Printable => is_digit(code) || is_letter(code) || is_printable_mark(code),
-        CharKind::Ia5 => code < 128,
-        CharKind::Visible => is_between(32, 126, code),
-        CharKind::Utf8 => true,
-    }
-}
-
-fn is_between(low: u32, high: u32, code: u32) -> bool
-    ensures { result ≡ is_between low high code }
-{
-    low <= code && code <= high
-}
-
-fn is_digit(code: u32) -> bool
-    ensures { result ≡ is_digit code }
-{
-    is_between(48, 57, code)
-}
-
-/// A-Z and a-z.
-fn is_letter(code: u32) -> bool
-    ensures { result ≡ is_letter code }
-{
-    is_between(65, 90, code) || is_between(97, 122, code)
-}
-
-/// Space and ' ( ) + , - . / : = ?
-fn is_printable_mark(code: u32) -> bool
-    ensures { result ≡ is_printable_mark code }
-{
-    code == 32
-        || is_between(39, 41, code)
-        || is_between(43, 47, code)
-        || code == 58
-        || code == 61
-        || code == 63
 }

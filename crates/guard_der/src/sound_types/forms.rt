@@ -2,12 +2,9 @@
 ghost use Rattle.std.specs.Prelude.{◌≡◌, map};
 ghost use Rattle.guard_model.specs.TypeView.{type_view, kind_view, constraint_view, constraints_of, element_view};
 ghost use Rattle.guard_tagcheck.specs.Limits.{is_tagged, is_choice, are_low};
-ghost use Rattle.guard_der.specs.Sound.{applies, all_apply};
-ghost use Rattle.guard_der.specs.Pieces.{is_formed};
+ghost use Rattle.guard_der.specs.Sound.{applies, all_apply, is_formed};
 
-use guard_model::{Cons, Kind, Rule, Tag, Ty};
-
-const GREATEST_TAG_NUMBER: u32 = 268_435_455;
+use guard_model::{Cons, GREATEST_TAG_NUMBER, Kind, Rule, Tag, Ty};
 
 /// A tag is there except on a CHOICE, tags are low, and each constraint applies.
 pub fn is_formed(ty: &Ty) -> bool
@@ -27,19 +24,8 @@ fn is_choice(kind: &Kind) -> bool
     ensures { result ≡ is_choice (kind_view kind.now) }
 {
     match kind {
-        Kind::Bool => false,
-        Kind::Int(_) => false,
-        Kind::Bits => false,
-        Kind::Octets => false,
-        Kind::Null => false,
-        Kind::Oid => false,
-        Kind::Enumerated(_) => false,
-        Kind::Chars(_) => false,
-        Kind::Sequence(_) => false,
-        Kind::Set(_) => false,
         Kind::Choice(_) => true,
-        Kind::SequenceOf(_) => false,
-        Kind::SetOf(_) => false,
+        _ => false,
     }
 }
 

@@ -1,7 +1,5 @@
-use Rattle.std.proofs.Common.{◌≡◌, ap, sym, ◌∙◌}
+use Rattle.std.proofs.Common.{◌∙◌}
 use Rattle.std.proofs.lemmas.Str.{IsUtf8-string_bytes}
-use Rattle.guard_model.specs.Same.{same}
-use Rattle.guard_model.specs.ValueView.{value_view}
 use Rattle.guard_model.proofs.Sameness.{fields_apart, items_apart, same_characters}
 use Rattle.guard_model.proofs.ValueViews.{value_view_fields, value_view_characters}
 use Rattle.guard_model.proofs.+same.Goals as goal

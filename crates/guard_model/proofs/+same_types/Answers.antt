@@ -1,4 +1,4 @@
-use Rattle.guard_model.proofs.Lengths.{components_apart, constraints_apart, parts_apart}
+use Rattle.guard_model.proofs.DifferentLengths.{components_apart, constraints_apart, parts_apart}
 use Rattle.guard_model.proofs.+same_types.Goals as goal
 
 pub same_base::are_same_components-returns-then-comps-others : goal.same_base::are_same_components-returns-then-comps-others

@@ -1,6 +1,5 @@
-use Rattle.std.proofs.Common.{◌≡◌, ap, sym, ◌∙◌, map}
+use Rattle.std.proofs.Common.{ap, sym, ◌∙◌}
 use Rattle.guard_model.specs.AbstractValue.{fields, fields_of}
-use Rattle.guard_model.specs.ValueView.{value_view, field_view}
 use Rattle.guard_model.proofs.ValueViews.{value_view_fields}
 use Rattle.guard_model.proofs.+value_copies.Goals as goal
 

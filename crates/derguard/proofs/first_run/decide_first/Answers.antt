@@ -1,6 +1,6 @@
 use Rattle.std.proofs.Common.{◌∷◌, []}
 use Rattle.std.specs.Prelude.{codes}
-use Rattle.derguard.specs.PolicyView.{policy_view}
+use Rattle.guard_policy.specs.PolicyView.{policy_view}
 use Rattle.derguard.specs.FirstRun.{sent}
 use Rattle.derguard.proofs.Lines.{four_lines}
 use Rattle.derguard.proofs.first_run.decide_first.Goals as goal

@@ -1,16 +1,18 @@
-use Rattle.std.proofs.Common.{◌∙◌, ap, arith}
+use Rattle.std.proofs.Common.{◌∙◌, sym, ap}
 use Rattle.std.specs.Str.{chars}
-use Rattle.guard_der.proofs.Digits.{are_digits}
-use Rattle.guard_der.proofs.Texts.{utf8_is, text_utf8, unwrapped}
+use Rattle.guard_der.specs.Fits.{fits_characters}
+use Rattle.guard_der.proofs.Simple.Texts.{is_read, is_not_read, not_spelled}
 use Rattle.guard_der.proofs.characters.text_of.Goals as goal
 
-pub unwrap-text-requires : goal.unwrap-text-requires
-unwrap-text-requires c =
-    let t = text_utf8 c.args.kind c.args.octets.now (are_digits 256 c.args.octets.now (λ i _. omega (arith, c.type_inv.octets i))) c.requires in
-    utf8_is c.from_utf8.result _ _ c.args.octets.now (λ e m u. m.0 u) t.0 c.from_utf8.ensures.cases
+pub returns-in_default : goal.returns-in_default
+returns-in_default c = not_spelled c.args.kind c.args.octets.now c.in_default.ensures.cases.0
 
-pub returns : goal.returns
-returns c =
-    let t = text_utf8 c.args.kind c.args.octets.now (are_digits 256 c.args.octets.now (λ i _. omega (arith, c.type_inv.octets i))) c.requires in
-    let s = unwrapped c.from_utf8.result c.unwrap-text.result _ _ c.unwrap-text.ensures c.from_utf8.ensures.cases in
-    ap chars c.in_ok-from_str.ensures.ok ∙ ap chars s.0 ∙ t.1
+pub returns-then-characters_fit : goal.returns-then-characters_fit
+returns-then-characters_fit c =
+    let is = c.in-Ok.ensures.cases in
+    rw is.0 (is_read c.args.kind c.args.octets.now is.1 (rw is.0 at (sym c.characters_fit.ensures ∙ c.if-characters_fit.true)))
+
+pub returns-else-characters_fit : goal.returns-else-characters_fit
+returns-else-characters_fit c =
+    let is = c.in-Ok.ensures.cases in
+    is_not_read c.args.kind c.args.octets.now is.1 (rw is.0 at (sym c.characters_fit.ensures ∙ c.if-characters_fit.false))

@@ -15,21 +15,23 @@ use Rattle.guard_der.specs.Der.{is_left_out as left_out}
 use Rattle.guard_der.specs.Breach.{below}
 use Rattle.guard_der.specs.Reading.{element_at, part_at, fields_at, contents_at, missing_at, fault, same_form}
 use Rattle.guard_der.specs.Views.{head_view, breach_of}
-use Rattle.guard_der.proofs.Digits.{are_digits}
-use Rattle.guard_der.proofs.Headers.{head_room, head_small}
-use Rattle.guard_der.proofs.Steps.{due_ok}
-use Rattle.guard_der.proofs.ComponentSteps.{located_is}
-use Rattle.guard_der.proofs.Components.{left_proper, goes_on, refused, end_refused, is_done}
-use Rattle.guard_der.proofs.Paths.{room_below, room_below_item}
-use Rattle.guard_der.proofs.Items.{item_reads}
-use Rattle.guard_der.proofs.ItemLoop.{due_some, item_tags, item_not_due, item_not_read, item_descends, item_is_read, item_refused, items_go_on, items_refused, items_done, sequence_of_contents, set_of_contents, contents_refused, contents_read}
-use Rattle.guard_der.proofs.Decodings as decodings
-use Rattle.guard_der.proofs.Decodings.{several, was_false, was_true, whole, due_room, inner_proper, proper_inside, element_none, element_one, element_one_wrong, element_more, element_more_wrong, part_is, chosen_none, chosen_some, chosen_refused, end_ok, no_header, stray_ok, stray_refused, sent_done, default_sent, inside_refused, value_chosen, components_in, sequence_parts, choice_parts, choice_proper, choice_contents, choice_element, tags_element, tags_proper, tags_nesting, refuses_as, inside_room}
-use Rattle.guard_der.proofs.SetSteps.{member_reads, member_default}
-use Rattle.guard_der.proofs.Slots.{slot_filled}
-use Rattle.guard_der.proofs.Members as members
-use Rattle.guard_der.proofs.Members.{set_parts, set_read, set_given, set_refused, presence_is, head_size}
+use Rattle.guard_der.proofs.Numbers.Digits.{are_digits}
+use Rattle.guard_der.proofs.Headers.Offsets.{head_room, head_small}
+use Rattle.guard_der.proofs.Elements.Steps.{due_ok}
+use Rattle.guard_der.proofs.Components.OneComponent.{located_is, sent_again, sent_default}
+use Rattle.guard_der.proofs.Functions.ComponentLoop.{left_proper, goes_on, refused, end_refused, is_done}
+use Rattle.guard_der.proofs.Types.Paths.{room_below, room_below_item}
+use Rattle.guard_der.proofs.Lists.Elements.{item_reads}
+use Rattle.guard_der.proofs.Functions.ElementLoop.{due_some, item_tags, item_not_due, item_not_read, item_descends, item_is_read, item_refused, items_go_on, items_refused, items_done, sequence_of_contents, set_of_contents, contents_refused, contents_read}
+use Rattle.guard_der.proofs.Functions.Decoding as decodings
+use Rattle.guard_der.proofs.Functions.Decoding.{several, whole, due_room, inner_proper, proper_inside, element_none, element_one, element_one_wrong, element_more, element_more_wrong, part_is, chosen_none, chosen_some, chosen_refused, end_ok, no_header, stray_ok, stray_refused, component_ok, component_refused, sent_refused, sequence_parts, choice_parts, choice_proper, choice_contents, choice_element, tags_element, tags_proper, tags_nesting, refuses_as, inside_room}
+use Rattle.guard_der.proofs.Functions.SetFields.{field_filled}
+use Rattle.guard_der.proofs.Functions.SetLoop as set_components
+use Rattle.guard_der.proofs.Functions.SetLoop.{set_parts, set_read, set_given, set_refused, sent_part, element_is_read, element_refused, head_size}
 use Rattle.guard_der.proofs.decoding.+reading.Goals as goal
+use Rattle.std.proofs.lemmas.Bool.{not-true, not-false}
+use Rattle.guard_model.proofs.ValueViews.{value_view_chosen}
+use Rattle.guard_model.proofs.Components.{in_view}
 
 -- ---- one element alone
 
@@ -84,23 +86,23 @@ element-returns-then-is_empty t c =
 pub element-returns-then-not-is_form : goal.element-returns-then-not-is_form
 element-returns-then-not-is_form t c =
     rw c.wrong_form.ensures (element_one_wrong c.args.tags.now (kind_view c.args.kind.now) c.args.at (head_view c.args.head) c.args.octets.now c.if-tags-eq1.true
-    (ap (same_form c.args.head.constructed) (sym c.is_kind_constructed.ensures) ∙ sym c.is_form.ensures ∙ c.if-not-is_form.true))
+    (ap (same_form c.args.head.constructed) (sym c.is_constructed.ensures) ∙ sym c.is_form.ensures ∙ c.if-not-is_form.true))
 
 pub element-returns-then-tags-eq1 : goal.element-returns-then-tags-eq1
 element-returns-then-tags-eq1 t c =
     subst (λ r. Gives value_view breach_of c.contents.result r) (sym (element_one c.args.tags.now (kind_view c.args.kind.now) c.args.at (head_view c.args.head) c.args.octets.now c.if-tags-eq1.true
-    (ap (same_form c.args.head.constructed) (sym c.is_kind_constructed.ensures) ∙ sym c.is_form.ensures ∙ c.if-not-is_form.false)))
+    (ap (same_form c.args.head.constructed) (sym c.is_constructed.ensures) ∙ sym c.is_form.ensures ∙ c.if-not-is_form.false)))
     (rw (c.split_at-2.ensures.front, c.split_at.ensures.back) at c.contents.ensures)
 
 pub element-returns-then-not-head : goal.element-returns-then-not-head
 element-returns-then-not-head t c =
     rw c.fault_at.ensures (element_more_wrong c.args.tags.now (kind_view c.args.kind.now) c.args.at (head_view c.args.head) c.args.octets.now
-    (several c.args.tags.now (sym c.is_empty.ensures ∙ c.if-is_empty.false) c.if-tags-eq1.false) (was_false c.args.head.constructed c.if-not-head.true))
+    (several c.args.tags.now (sym c.is_empty.ensures ∙ c.if-is_empty.false) c.if-tags-eq1.false) (not-true c.args.head.constructed c.if-not-head.true))
 
 pub element-returns : goal.element-returns
 element-returns t c =
     subst (λ r. Gives value_view breach_of c.alone.result r) (sym (element_more c.args.tags.now (kind_view c.args.kind.now) c.args.at (head_view c.args.head) c.args.octets.now
-    (several c.args.tags.now (sym c.is_empty.ensures ∙ c.if-is_empty.false) c.if-tags-eq1.false) (was_true c.args.head.constructed c.if-not-head.false)))
+    (several c.args.tags.now (sym c.is_empty.ensures ∙ c.if-is_empty.false) c.if-tags-eq1.false) (not-false c.args.head.constructed c.if-not-head.false)))
     (rw (c.split_at-2.ensures.front, c.split_at.ensures.back) at c.alone.ensures)
 
 -- ---- CHOICE
@@ -108,7 +110,7 @@ element-returns t c =
 pub untagged-chosen-requires : goal.untagged-chosen-requires
 untagged-chosen-requires t c =
     let p = choice_parts c.args.kind.now c.in-Choice.alternatives c.in-Choice.is c.requires.proper in
-    let d = ap (λ x. deepest (components_in x)) c.deref.ensures.value in
+    let d = ap (λ x. deepest (in_view x)) c.deref.ensures.value in
     (omega (arith, p.2, d), (rw c.deref.ensures.value p.0, (rw c.deref.ensures.value p.1, (omega (arith, p.2, d, c.requires.depth), (c.requires.header, c.requires.room)))))
 
 pub untagged-returns-in-Choice : goal.untagged-returns-in-Choice
@@ -123,7 +125,7 @@ contents-returns-in-Choice t c =
     subst (λ r. Gives value_view breach_of c.alone.result r) (choice_contents c.args.kind.now c.in-Choice.field-0 c.args.at c.args.start c.args.octets.now c.in-Choice.is) c.alone.ensures
 
 pub chosen-returns-in_default : goal.chosen-returns-in_default
-chosen-returns-in_default t c = rw c.fault_at.ensures (chosen_none (components_in c.args.alternatives.now) c.args.at (head_view c.args.head) c.args.octets.now (sym c.in_default.ensures.place))
+chosen-returns-in_default t c = rw c.fault_at.ensures (chosen_none (in_view c.args.alternatives.now) c.args.at (head_view c.args.head) c.args.octets.now (sym c.in_default.ensures.place))
 
 pub chosen-element-requires : goal.chosen-element-requires
 chosen-element-requires t c =
@@ -144,14 +146,14 @@ chosen-returns-in_ok-new-in-Ok t c =
     let ty = (out-Comp (get_or c.args.alternatives.now c.in-Some.place c.index-alternatives-place.result)).ty in
     let p = part_is c.args.alternatives.now c.in-Some.place (get_or c.args.alternatives.now c.in-Some.place c.index-alternatives-place.result) c.in-Some.ensures.within (ap (λ x. get_or c.args.alternatives.now c.in-Some.place x) c.index-alternatives-place.is) c.requires.proper in
     let read = p.2 c.args.at (head_view c.args.head) c.args.octets.now ∙ tags_element ty c.deref.result.now c.args.at (head_view c.args.head) c.args.octets.now c.deref.ensures.value ∙ c.in-Ok.ensures in
-    rw (value_chosen c.in-Some.place c.in_ok-new-in-Ok.field-0, c.in_ok-new-in-Ok.ensures.ok) (chosen_some (components_in c.args.alternatives.now) c.in-Some.place c.args.at (head_view c.args.head) c.args.octets.now (value_view c.in-Ok.value) (sym c.in-Some.ensures.place) read)
+    rw (value_view_chosen c.in-Some.place c.in_ok-new-in-Ok.field-0, c.in_ok-new-in-Ok.ensures.ok) (chosen_some (in_view c.args.alternatives.now) c.in-Some.place c.args.at (head_view c.args.head) c.args.octets.now (value_view c.in-Ok.value) (sym c.in-Some.ensures.place) read)
 
 pub chosen-returns-in-Err : goal.chosen-returns-in-Err
 chosen-returns-in-Err t c =
     let ty = (out-Comp (get_or c.args.alternatives.now c.in-Some.place c.index-alternatives-place.result)).ty in
     let p = part_is c.args.alternatives.now c.in-Some.place (get_or c.args.alternatives.now c.in-Some.place c.index-alternatives-place.result) c.in-Some.ensures.within (ap (λ x. get_or c.args.alternatives.now c.in-Some.place x) c.index-alternatives-place.is) c.requires.proper in
     let same = p.2 c.args.at (head_view c.args.head) c.args.octets.now ∙ tags_element ty c.deref.result.now c.args.at (head_view c.args.head) c.args.octets.now c.deref.ensures.value in
-    rw c.below.ensures (chosen_refused (breach_of c.in-Err.fault) (components_in c.args.alternatives.now) c.in-Some.place c.args.at (head_view c.args.head) c.args.octets.now (sym c.in-Some.ensures.place) (refuses_as (breach_of c.in-Err.fault) _ _ same c.in-Err.ensures))
+    rw c.below.ensures (chosen_refused (breach_of c.in-Err.fault) (in_view c.args.alternatives.now) c.in-Some.place c.args.at (head_view c.args.head) c.args.octets.now (sym c.in-Some.ensures.place) (refuses_as (breach_of c.in-Err.fault) _ _ same c.in-Err.ensures))
 
 -- ---- component
 
@@ -159,8 +161,8 @@ pub component-returns-in_err-not_sent-clause-given : goal.component-returns-in_e
 component-returns-in_err-not_sent-clause-given t c =
     let p = err_from_is_err_and c.from_residual.result c.from_residual.ensures.1 in
     let named = c.below-missing.ensures ∙ ap (option_map (below (Component c.args.index))) c.fault_at.ensures in
-    rw (p.1, p.2) (decodings.end_refused (breach_of c.in_err-not_sent.field-0.0) c.args.index (presence_view c.args.presence.now) (begins_with (type_view c.args.ty.now)) (element_at (type_view c.args.ty.now)) c.args.at c.args.octets.now
-    (sym c.is_empty.ensures ∙ c.if-is_empty.true) (c.in_err-not_sent.ensures (missing_at c.args.index c.args.at) named))
+    rw (p.1, p.2) (decodings.end_refused c.args.index (presence_view c.args.presence.now) (begins_with (type_view c.args.ty.now)) (element_at (type_view c.args.ty.now)) c.args.at c.args.octets.now
+    (breach_of c.in_err-not_sent.field-0.0) (sym c.is_empty.ensures ∙ c.if-is_empty.true) (c.in_err-not_sent.ensures (missing_at c.args.index c.args.at) named))
 
 pub component-returns-then-is_empty-clause-given : goal.component-returns-then-is_empty-clause-given
 component-returns-then-is_empty-clause-given t c =
@@ -171,59 +173,73 @@ component-returns-then-is_empty-clause-given t c =
 pub component-returns-in_err-head-clause-given : goal.component-returns-in_err-head-clause-given
 component-returns-in_err-head-clause-given t c =
     let p = err_from_is_err_and c.from_residual-in_err-head.result c.from_residual-in_err-head.ensures.1 in
-    rw (p.1, p.2) (no_header (breach_of c.in_err-head.field-0.0) c.args.index (presence_view c.args.presence.now) (begins_with (type_view c.args.ty.now)) (element_at (type_view c.args.ty.now)) c.args.at c.args.octets.now (sym c.is_empty.ensures ∙ c.if-is_empty.false) c.in_err-head.ensures)
+    rw (p.1, p.2) (no_header c.args.index (presence_view c.args.presence.now) (begins_with (type_view c.args.ty.now)) (element_at (type_view c.args.ty.now)) c.args.at c.args.octets.now
+    (breach_of c.in_err-head.field-0.0) (sym c.is_empty.ensures ∙ c.if-is_empty.false) c.in_err-head.ensures)
 
 pub component-returns-in_err-not_sent-2-clause-given : goal.component-returns-in_err-not_sent-2-clause-given
 component-returns-in_err-not_sent-2-clause-given t c =
     let p = err_from_is_err_and c.from_residual-in_err-not_sent-2.result c.from_residual-in_err-not_sent-2.ensures.1 in
-    rw (p.1, p.2) (stray_refused (breach_of c.in_err-not_sent-2.field-0.0) c.args.index (presence_view c.args.presence.now) (begins_with (type_view c.args.ty.now)) (element_at (type_view c.args.ty.now)) c.args.at c.args.octets.now (head_view c.in_ok-head.head)
-    (sym c.is_empty.ensures ∙ c.if-is_empty.false) c.in_ok-head.ensures (sym c.begins.ensures ∙ c.if-not-begins.true) (c.in_err-not_sent-2.ensures (fault code.UnexpectedTag c.args.at) c.fault_at-stray.ensures))
+    rw (p.1, p.2) (stray_refused c.args.index (presence_view c.args.presence.now) (begins_with (type_view c.args.ty.now)) (element_at (type_view c.args.ty.now)) c.args.at c.args.octets.now (head_view c.in_ok-head.head)
+    (sym c.is_empty.ensures ∙ c.if-is_empty.false) c.in_ok-head.ensures (breach_of c.in_err-not_sent-2.field-0.0) (sym c.begins.ensures ∙ c.if-not-begins.true) (c.in_err-not_sent-2.ensures (fault code.UnexpectedTag c.args.at) c.fault_at-stray.ensures))
 
 pub component-returns-then-not-begins-clause-given : goal.component-returns-then-not-begins-clause-given
 component-returns-then-not-begins-clause-given t c =
-    stray_ok c.args.index (presence_view c.args.presence.now) (begins_with (type_view c.args.ty.now)) (element_at (type_view c.args.ty.now)) c.args.at c.args.octets.now (head_view c.in_ok-head.head) (field_view c.in_ok-not_sent-2.field-0)
-    (sym c.is_empty.ensures ∙ c.if-is_empty.false) c.in_ok-head.ensures (sym c.begins.ensures ∙ c.if-not-begins.true) (c.in_ok-not_sent-2.ensures (fault code.UnexpectedTag c.args.at) c.fault_at-stray.ensures)
+    stray_ok c.args.index (presence_view c.args.presence.now) (begins_with (type_view c.args.ty.now)) (element_at (type_view c.args.ty.now)) c.args.at c.args.octets.now (head_view c.in_ok-head.head)
+    (sym c.is_empty.ensures ∙ c.if-is_empty.false) c.in_ok-head.ensures (field_view c.in_ok-not_sent-2.field-0) (sym c.begins.ensures ∙ c.if-not-begins.true) (c.in_ok-not_sent-2.ensures (fault code.UnexpectedTag c.args.at) c.fault_at-stray.ensures)
 
-pub component-element-requires : goal.component-element-requires
-component-element-requires t c =
-    let n = tags_nesting c.args.ty.now c.deref.result.now c.deref.ensures.value in
-    (omega (arith, n), (tags_proper c.args.ty.now c.deref.result.now c.deref.ensures.value c.requires.proper, (omega (arith, n, c.requires.depth), (located_is c.args.at (head_of c.args.octets.now) (head_view c.in_ok-head.head) c.in_ok-head.ensures, c.requires.room))))
+pub component-sent-requires : goal.component-sent-requires
+component-sent-requires t c = (omega arith, (c.requires.proper, (c.requires.depth, (located_is c.args.at (head_of c.args.octets.now) (head_view c.in_ok-head.head) c.in_ok-head.ensures, c.requires.room))))
 
-pub component-returns-then-is_left_out-clause-given : goal.component-returns-then-is_left_out-clause-given
-component-returns-then-is_left_out-clause-given t c =
-    let read = tags_element c.args.ty.now c.deref.result.now c.args.at (head_view c.in_ok-head.head) c.args.octets.now c.deref.ensures.value ∙ c.in-Ok.ensures in
-    rw (c.below.ensures, c.fault_at-then-is_left_out.ensures) (default_sent c.args.index (presence_view c.args.presence.now) (begins_with (type_view c.args.ty.now)) (element_at (type_view c.args.ty.now)) c.args.at c.args.octets.now (head_view c.in_ok-head.head) (value_view c.in-Ok.value)
-    (sym c.is_empty.ensures ∙ c.if-is_empty.false) c.in_ok-head.ensures (sym c.begins.ensures ∙ c.if-not-begins.false) read (sym c.is_left_out.ensures ∙ c.if-is_left_out.true))
+pub component-returns-in_err-value-clause-given : goal.component-returns-in_err-value-clause-given
+component-returns-in_err-value-clause-given t c =
+    let p = err_from_is_err_and c.from_residual-in_err-value.result c.from_residual-in_err-value.ensures.1 in
+    rw (p.1, p.2) (component_refused c.args.index (presence_view c.args.presence.now) (begins_with (type_view c.args.ty.now)) (element_at (type_view c.args.ty.now)) c.args.at c.args.octets.now (head_view c.in_ok-head.head)
+    (sym c.is_empty.ensures ∙ c.if-is_empty.false) c.in_ok-head.ensures (breach_of c.in_err-value.field-0.0) (sym c.begins.ensures ∙ c.if-not-begins.false) c.in_err-value.ensures)
 
 pub component-overflow_add-result : goal.component-overflow_add-result
 component-overflow_add-result t c = omega (arith, c.requires.room, head_room c.args.octets.now (head_view c.in_ok-head.head) (are_digits 256 c.args.octets.now (λ i _. omega (arith, c.type_inv.octets i))) (located_is c.args.at (head_of c.args.octets.now) (head_view c.in_ok-head.head) c.in_ok-head.ensures))
 
-pub component-below-requires-in-Err : goal.component-below-requires-in-Err
-component-below-requires-in-Err t c =
-    room_below (breach_of c.in-Err.fault) (whole c.deref.result.now (kind_view (out-Ty c.args.ty.now).kind)) c.args.at (head_view c.in_ok-head.head) c.args.octets.now (tags_proper c.args.ty.now c.deref.result.now c.deref.ensures.value c.requires.proper)
+pub component-returns-clause-within : goal.component-returns-clause-within
+component-returns-clause-within t c = head_room c.args.octets.now (head_view c.in_ok-head.head) (are_digits 256 c.args.octets.now (λ i _. omega (arith, c.type_inv.octets i))) (located_is c.args.at (head_of c.args.octets.now) (head_view c.in_ok-head.head) c.in_ok-head.ensures)
+
+pub component-returns-clause-given : goal.component-returns-clause-given
+component-returns-clause-given t c =
+    component_ok c.args.index (presence_view c.args.presence.now) (begins_with (type_view c.args.ty.now)) (element_at (type_view c.args.ty.now)) c.args.at c.args.octets.now (head_view c.in_ok-head.head)
+    (sym c.is_empty.ensures ∙ c.if-is_empty.false) c.in_ok-head.ensures (value_view c.in_ok-value.value) (sym c.begins.ensures ∙ c.if-not-begins.false) c.in_ok-value.ensures
+
+-- ---- a component that is sent
+
+pub sent-element-requires : goal.sent-element-requires
+sent-element-requires t c =
+    let n = tags_nesting c.args.ty.now c.deref.result.now c.deref.ensures.value in
+    (omega (arith, n), (tags_proper c.args.ty.now c.deref.result.now c.deref.ensures.value c.requires.proper, (omega (arith, n, c.requires.depth), (c.requires.header, c.requires.room))))
+
+pub sent-returns-then-is_left_out : goal.sent-returns-then-is_left_out
+sent-returns-then-is_left_out t c =
+    let read = tags_element c.args.ty.now c.deref.result.now c.args.at (head_view c.args.head) c.args.octets.now c.deref.ensures.value ∙ c.in-Ok.ensures in
+    rw (c.below.ensures, c.fault_at.ensures) (sent_default c.args.index (presence_view c.args.presence.now) (element_at (type_view c.args.ty.now)) c.args.at (head_view c.args.head) c.args.octets.now (value_view c.in-Ok.value) read (sym c.is_left_out.ensures ∙ c.if-is_left_out.true))
+
+pub sent-returns-else-is_left_out : goal.sent-returns-else-is_left_out
+sent-returns-else-is_left_out t c =
+    let read = tags_element c.args.ty.now c.deref.result.now c.args.at (head_view c.args.head) c.args.octets.now c.deref.ensures.value ∙ c.in-Ok.ensures in
+    sent_again c.args.index (presence_view c.args.presence.now) (element_at (type_view c.args.ty.now)) c.args.at (head_view c.args.head) c.args.octets.now (value_view c.in-Ok.value) read (sym c.is_left_out.ensures ∙ c.if-is_left_out.false)
+
+pub sent-below-requires-in-Err : goal.sent-below-requires-in-Err
+sent-below-requires-in-Err t c =
+    room_below (breach_of c.in-Err.fault) (whole c.deref.result.now (kind_view (out-Ty c.args.ty.now).kind)) c.args.at (head_view c.args.head) c.args.octets.now (tags_proper c.args.ty.now c.deref.result.now c.deref.ensures.value c.requires.proper)
     (omega (arith, tags_nesting c.args.ty.now c.deref.result.now c.deref.ensures.value, c.requires.depth)) c.in-Err.ensures
 
-pub component-returns-else-is_left_out-clause-within : goal.component-returns-else-is_left_out-clause-within
-component-returns-else-is_left_out-clause-within t c = head_room c.args.octets.now (head_view c.in_ok-head.head) (are_digits 256 c.args.octets.now (λ i _. omega (arith, c.type_inv.octets i))) (located_is c.args.at (head_of c.args.octets.now) (head_view c.in_ok-head.head) c.in_ok-head.ensures)
-
-pub component-returns-else-is_left_out-clause-given : goal.component-returns-else-is_left_out-clause-given
-component-returns-else-is_left_out-clause-given t c =
-    let read = tags_element c.args.ty.now c.deref.result.now c.args.at (head_view c.in_ok-head.head) c.args.octets.now c.deref.ensures.value ∙ c.in-Ok.ensures in
-    sent_done c.args.index (presence_view c.args.presence.now) (begins_with (type_view c.args.ty.now)) (element_at (type_view c.args.ty.now)) c.args.at c.args.octets.now (head_view c.in_ok-head.head) (value_view c.in-Ok.value)
-    (sym c.is_empty.ensures ∙ c.if-is_empty.false) c.in_ok-head.ensures (sym c.begins.ensures ∙ c.if-not-begins.false) read (sym c.is_left_out.ensures ∙ c.if-is_left_out.false)
-
-pub component-returns-in-Err-clause-given : goal.component-returns-in-Err-clause-given
-component-returns-in-Err-clause-given t c =
-    let same = tags_element c.args.ty.now c.deref.result.now c.args.at (head_view c.in_ok-head.head) c.args.octets.now c.deref.ensures.value in
-    rw c.below-in-Err.ensures (inside_refused (breach_of c.in-Err.fault) c.args.index (presence_view c.args.presence.now) (begins_with (type_view c.args.ty.now)) (element_at (type_view c.args.ty.now)) c.args.at c.args.octets.now (head_view c.in_ok-head.head)
-    (sym c.is_empty.ensures ∙ c.if-is_empty.false) c.in_ok-head.ensures (sym c.begins.ensures ∙ c.if-not-begins.false) (refuses_as (breach_of c.in-Err.fault) _ _ same c.in-Err.ensures))
+pub sent-returns-in-Err : goal.sent-returns-in-Err
+sent-returns-in-Err t c =
+    let same = tags_element c.args.ty.now c.deref.result.now c.args.at (head_view c.args.head) c.args.octets.now c.deref.ensures.value in
+    rw c.below-in-Err.ensures (sent_refused c.args.index (presence_view c.args.presence.now) (element_at (type_view c.args.ty.now)) c.args.at (head_view c.args.head) c.args.octets.now (breach_of c.in-Err.fault) (refuses_as (breach_of c.in-Err.fault) _ _ same c.in-Err.ensures))
 
 -- ---- components
 
 pub contents-components-requires : goal.contents-components-requires
 contents-components-requires t c =
     let p = sequence_parts c.args.kind.now c.in-Sequence.comps c.in-Sequence.is c.requires.proper in
-    let d = ap (λ x. deepest (components_in x)) c.deref.ensures.value in
+    let d = ap (λ x. deepest (in_view x)) c.deref.ensures.value in
     (omega (arith, p.2, d), (rw c.deref.ensures.value p.0, (rw c.deref.ensures.value p.1, (omega (arith, p.2, d, c.requires.depth), c.requires.room))))
 
 pub components-component-requires : goal.components-component-requires
@@ -236,14 +252,14 @@ pub components-returns-in_err-field : goal.components-returns-in_err-field
 components-returns-in_err-field t c =
     let p = err_from_is_err_and c.from_residual-in_err-field.result c.from_residual-in_err-field.ensures.1 in
     rw (p.1, p.2) (refused (breach_of c.in_err-field.field-0.0) c.args.comps.now c.loop-index.index c.index-comps-index.result (map field_view c.loop-index.fields.items) c.loop-index.at c.loop-index.rest.now
-    (fields_at 0 (components_in c.args.comps.now) c.args.start c.args.octets.now) c.loop-index-test.true c.index-comps-index.is c.in_err-field.ensures.given c.loop-index.invariant.so_far)
+    (fields_at 0 (in_view c.args.comps.now) c.args.start c.args.octets.now) c.loop-index-test.true c.index-comps-index.is c.in_err-field.ensures.given c.loop-index.invariant.so_far)
 
 pub components-loop-index-preserved : goal.components-loop-index-preserved
 components-loop-index-preserved t c =
     let l = left_proper c.args.comps.now c.loop-index.index c.index-comps-index.result c.loop-index-test.true c.index-comps-index.is c.loop-index.invariant.proper c.loop-index.invariant.depth in
     let pushed : map field_view c.push.new.self.items ≡ map field_view c.loop-index.fields.items ++ field_view c.in_ok-field.field ∷ [] = rw c.in_ok-push.ensures.items (map_push field_view c.loop-index.fields.items c.in_ok-field.field) in
     let on = goes_on c.args.comps.now c.loop-index.index c.index-comps-index.result (map field_view c.loop-index.fields.items) c.loop-index.at c.in_ok-field.size c.loop-index.rest.now (field_view c.in_ok-field.field)
-    (fields_at 0 (components_in c.args.comps.now) c.args.start c.args.octets.now) c.loop-index-test.true c.index-comps-index.is c.in_ok-field.ensures.given c.loop-index.invariant.so_far in
+    (fields_at 0 (in_view c.args.comps.now) c.args.start c.args.octets.now) c.loop-index-test.true c.index-comps-index.is c.in_ok-field.ensures.given c.loop-index.invariant.so_far in
     record {
       so_far = rw (pushed, c.split_at.ensures.back) on;
       proper = l.2;
@@ -255,12 +271,12 @@ pub components-returns-in_err-end : goal.components-returns-in_err-end
 components-returns-in_err-end t c =
     let p = err_from_is_err_and c.from_residual-in_err-end.result c.from_residual-in_err-end.ensures.1 in
     rw (p.1, p.2) (end_refused (breach_of c.in_err-end.field-0.0) c.args.comps.now c.loop-index.index (map field_view c.loop-index.fields.items) c.loop-index.at c.loop-index.rest.now
-    (fields_at 0 (components_in c.args.comps.now) c.args.start c.args.octets.now) c.loop-index-test.false c.in_err-end.ensures c.loop-index.invariant.so_far)
+    (fields_at 0 (in_view c.args.comps.now) c.args.start c.args.octets.now) c.loop-index-test.false c.in_err-end.ensures c.loop-index.invariant.so_far)
 
 pub components-returns : goal.components-returns
 components-returns t c =
     is_done c.args.comps.now c.loop-index.index (map field_view c.loop-index.fields.items) c.loop-index.at c.loop-index.rest.now
-    (fields_at 0 (components_in c.args.comps.now) c.args.start c.args.octets.now) c.loop-index-test.false c.in_ok-end.ensures c.loop-index.invariant.so_far
+    (fields_at 0 (in_view c.args.comps.now) c.args.start c.args.octets.now) c.loop-index-test.false c.in_ok-end.ensures c.loop-index.invariant.so_far
 
 -- ---- elements of an OF type
 
@@ -374,118 +390,91 @@ next_item-returns-clause-given t c =
 
 -- ---- SET
 
-pub contents-members-requires : goal.contents-members-requires
-contents-members-requires t c =
+pub contents-set_components-requires : goal.contents-set_components-requires
+contents-set_components-requires t c =
     let p = set_parts c.args.kind.now c.in-Set.comps c.in-Set.is c.requires.proper in
-    let d = ap (λ x. deepest (components_in x)) c.deref-in-Set.ensures.value in
+    let d = ap (λ x. deepest (in_view x)) c.deref-in-Set.ensures.value in
     (omega (arith, p.2, d), (rw c.deref-in-Set.ensures.value p.0, (rw c.deref-in-Set.ensures.value p.1, (omega (arith, p.2, d, c.requires.depth), c.requires.room))))
 
-pub contents-returns-in_err-members-in-Set : goal.contents-returns-in_err-members-in-Set
-contents-returns-in_err-members-in-Set t c =
-    let p = err_from_is_err_and c.from_residual-in_err-members-in-Set.result c.from_residual-in_err-members-in-Set.ensures.1 in
-    rw (p.1, p.2) (set_refused (breach_of c.in_err-members-in-Set.field-0.0) c.args.kind.now c.in-Set.comps c.args.at c.args.start c.args.octets.now c.in-Set.is (rw c.deref-in-Set.ensures.value at c.in_err-members-in-Set.ensures))
+pub contents-returns-in_err-set_components-in-Set : goal.contents-returns-in_err-set_components-in-Set
+contents-returns-in_err-set_components-in-Set t c =
+    let p = err_from_is_err_and c.from_residual-in_err-set_components-in-Set.result c.from_residual-in_err-set_components-in-Set.ensures.1 in
+    rw (p.1, p.2) (set_refused (breach_of c.in_err-set_components-in-Set.field-0.0) c.args.kind.now c.in-Set.comps c.args.at c.args.start c.args.octets.now c.in-Set.is (rw c.deref-in-Set.ensures.value at c.in_err-set_components-in-Set.ensures))
 
-pub contents-returns-in_ok-members-in-Set : goal.contents-returns-in_ok-members-in-Set
-contents-returns-in_ok-members-in-Set t c =
-    set_given c.args.kind.now c.in-Set.comps c.in_ok-members-in-Set.field-0 c.args.at c.args.start c.args.octets.now c.in-Set.is (rw c.deref-in-Set.ensures.value at c.in_ok-members-in-Set.ensures)
+pub contents-returns-in_ok-set_components-in-Set : goal.contents-returns-in_ok-set_components-in-Set
+contents-returns-in_ok-set_components-in-Set t c =
+    set_given c.args.kind.now c.in-Set.comps c.in_ok-set_components-in-Set.field-0 c.args.at c.args.start c.args.octets.now c.in-Set.is (rw c.deref-in-Set.ensures.value at c.in_ok-set_components-in-Set.ensures)
 
-pub member-returns-in_err-head-clause-given : goal.member-returns-in_err-head-clause-given
-member-returns-in_err-head-clause-given t c =
+pub set_component-returns-in_err-head-clause-given : goal.set_component-returns-in_err-head-clause-given
+set_component-returns-in_err-head-clause-given t c =
     let p = err_from_is_err_and c.from_residual.result c.from_residual.ensures.1 in
-    let cs = components_in c.args.comps.now in
-    rw (p.1, p.2) (members.no_header (breach_of c.in_err-head.field-0.0) cs (part_at cs) (fields_view c.args.slots.now) c.args.before c.args.at c.args.octets.now c.in_err-head.ensures)
+    let cs = in_view c.args.comps.now in
+    rw (p.1, p.2) (set_components.no_header (breach_of c.in_err-head.field-0.0) cs (part_at cs) (fields_view c.args.fields.now) c.args.before c.args.at c.args.octets.now c.in_err-head.ensures)
 
-pub member-returns-in_err-place-clause-given : goal.member-returns-in_err-place-clause-given
-member-returns-in_err-place-clause-given t c =
+pub set_component-returns-in_err-place-clause-given : goal.set_component-returns-in_err-place-clause-given
+set_component-returns-in_err-place-clause-given t c =
     let p = err_from_is_err_and c.from_residual-in_err-place.result c.from_residual-in_err-place.ensures.1 in
-    let cs = components_in c.args.comps.now in
-    rw (p.1, p.2) (members.no_place (breach_of c.in_err-place.field-0.0) cs (part_at cs) (fields_view c.args.slots.now) c.args.before c.args.at c.args.octets.now (head_view c.in_ok-head.head) c.in_ok-head.ensures c.in_err-place.ensures.given)
+    let cs = in_view c.args.comps.now in
+    rw (p.1, p.2) (set_components.no_place (breach_of c.in_err-place.field-0.0) cs (part_at cs) (fields_view c.args.fields.now) c.args.before c.args.at c.args.octets.now (head_view c.in_ok-head.head) c.in_ok-head.ensures c.in_err-place.ensures.given)
 
-pub member-element-requires : goal.member-element-requires
-member-element-requires t c =
-    let ty = (out-Comp c.index-comps-place.result).ty in
+pub set_component-sent-requires : goal.set_component-sent-requires
+set_component-sent-requires t c =
     let p = part_is c.args.comps.now c.in_ok-place.place c.index-comps-place.result c.in_ok-place.ensures.within c.index-comps-place.is c.requires.proper in
-    let n = tags_nesting ty c.deref.result.now c.deref.ensures.value in
-    (omega (arith, n, p.1), (tags_proper ty c.deref.result.now c.deref.ensures.value p.0, (omega (arith, n, p.1, c.requires.depth), (located_is c.args.at (head_of c.args.octets.now) (head_view c.in_ok-head.head) c.in_ok-head.ensures, c.requires.room))))
+    (omega (arith, p.1), (p.0, (omega (arith, p.1, c.requires.depth), (located_is c.args.at (head_of c.args.octets.now) (head_view c.in_ok-head.head) c.in_ok-head.ensures, c.requires.room))))
 
-pub member-returns-then-is_left_out-clause-given : goal.member-returns-then-is_left_out-clause-given
-member-returns-then-is_left_out-clause-given t c =
-    let comp = c.index-comps-place.result in
-    let cs = components_in c.args.comps.now in
+pub set_component-returns-in_err-value-clause-given : goal.set_component-returns-in_err-value-clause-given
+set_component-returns-in_err-value-clause-given t c =
+    let q = err_from_is_err_and c.from_residual-in_err-value.result c.from_residual-in_err-value.ensures.1 in
+    let cs = in_view c.args.comps.now in
     let h = head_view c.in_ok-head.head in
-    let p = part_is c.args.comps.now c.in_ok-place.place comp c.in_ok-place.ensures.within c.index-comps-place.is c.requires.proper in
-    let read = p.2 c.args.at h c.args.octets.now ∙ tags_element (out-Comp comp).ty c.deref.result.now c.args.at h c.args.octets.now c.deref.ensures.value ∙ c.in-Ok.ensures in
-    let presence = presence_is c.args.comps.now c.in_ok-place.place comp c.in_ok-place.ensures.within c.index-comps-place.is in
-    let left = ap (λ p. left_out p (value_view c.in-Ok.value)) presence ∙ sym c.is_left_out.ensures ∙ c.if-is_left_out.true in
-    rw (c.below.ensures, c.fault_at.ensures) (member_default cs (part_at cs) (fields_view c.args.slots.now) c.args.before c.args.at c.args.octets.now h c.in_ok-place.place (value_view c.in-Ok.value)
-    (located_is c.args.at (head_of c.args.octets.now) h c.in_ok-head.ensures) c.in_ok-place.ensures.given read left)
+    let same = sent_part c.args.comps.now c.in_ok-place.place c.index-comps-place.result c.args.at h c.args.octets.now c.in_ok-place.ensures.within c.index-comps-place.is c.requires.proper in
+    rw (q.1, q.2) (element_refused cs (part_at cs) (fields_view c.args.fields.now) c.args.before c.args.at c.args.octets.now h c.in_ok-place.place c.in_ok-head.ensures c.in_ok-place.ensures.given
+    (breach_of c.in_err-value.field-0.0) (refuses_as (breach_of c.in_err-value.field-0.0) _ _ same c.in_err-value.ensures))
 
-pub member-below-requires-in-Err : goal.member-below-requires-in-Err
-member-below-requires-in-Err t c =
-    let ty = (out-Comp c.index-comps-place.result).ty in
-    let p = part_is c.args.comps.now c.in_ok-place.place c.index-comps-place.result c.in_ok-place.ensures.within c.index-comps-place.is c.requires.proper in
-    room_below (breach_of c.in-Err.fault) (whole c.deref.result.now (kind_view (out-Ty ty).kind)) c.args.at (head_view c.in_ok-head.head) c.args.octets.now (tags_proper ty c.deref.result.now c.deref.ensures.value p.0)
-    (omega (arith, tags_nesting ty c.deref.result.now c.deref.ensures.value, p.1, c.requires.depth)) c.in-Err.ensures
+pub set_component-returns-clause-some : goal.set_component-returns-clause-some
+set_component-returns-clause-some t c = head_size c.args.octets.now (head_view c.in_ok-head.head) (are_digits 256 c.args.octets.now (λ i _. omega (arith, c.type_inv.octets i))) (located_is c.args.at (head_of c.args.octets.now) (head_view c.in_ok-head.head) c.in_ok-head.ensures)
 
-pub member-returns-else-is_left_out-clause-some : goal.member-returns-else-is_left_out-clause-some
-member-returns-else-is_left_out-clause-some t c = head_size c.args.octets.now (head_view c.in_ok-head.head) (are_digits 256 c.args.octets.now (λ i _. omega (arith, c.type_inv.octets i))) (located_is c.args.at (head_of c.args.octets.now) (head_view c.in_ok-head.head) c.in_ok-head.ensures)
+pub set_component-returns-clause-within : goal.set_component-returns-clause-within
+set_component-returns-clause-within t c = head_room c.args.octets.now (head_view c.in_ok-head.head) (are_digits 256 c.args.octets.now (λ i _. omega (arith, c.type_inv.octets i))) (located_is c.args.at (head_of c.args.octets.now) (head_view c.in_ok-head.head) c.in_ok-head.ensures)
 
-pub member-returns-else-is_left_out-clause-within : goal.member-returns-else-is_left_out-clause-within
-member-returns-else-is_left_out-clause-within t c = head_room c.args.octets.now (head_view c.in_ok-head.head) (are_digits 256 c.args.octets.now (λ i _. omega (arith, c.type_inv.octets i))) (located_is c.args.at (head_of c.args.octets.now) (head_view c.in_ok-head.head) c.in_ok-head.ensures)
-
-pub member-returns-else-is_left_out-clause-given : goal.member-returns-else-is_left_out-clause-given
-member-returns-else-is_left_out-clause-given t c =
-    let comp = c.index-comps-place.result in
-    let cs = components_in c.args.comps.now in
+pub set_component-returns-clause-given : goal.set_component-returns-clause-given
+set_component-returns-clause-given t c =
+    let cs = in_view c.args.comps.now in
     let h = head_view c.in_ok-head.head in
-    let p = part_is c.args.comps.now c.in_ok-place.place comp c.in_ok-place.ensures.within c.index-comps-place.is c.requires.proper in
-    let read = p.2 c.args.at h c.args.octets.now ∙ tags_element (out-Comp comp).ty c.deref.result.now c.args.at h c.args.octets.now c.deref.ensures.value ∙ c.in-Ok.ensures in
-    let presence = presence_is c.args.comps.now c.in_ok-place.place comp c.in_ok-place.ensures.within c.index-comps-place.is in
-    let kept = ap (λ p. left_out p (value_view c.in-Ok.value)) presence ∙ sym c.is_left_out.ensures ∙ c.if-is_left_out.false in
-    member_reads cs (part_at cs) (fields_view c.args.slots.now) c.args.before c.args.at c.args.octets.now h c.in_ok-place.place (value_view c.in-Ok.value)
-    (located_is c.args.at (head_of c.args.octets.now) h c.in_ok-head.ensures) c.in_ok-place.ensures.given read kept
+    let same = sent_part c.args.comps.now c.in_ok-place.place c.index-comps-place.result c.args.at h c.args.octets.now c.in_ok-place.ensures.within c.index-comps-place.is c.requires.proper in
+    element_is_read cs (part_at cs) (fields_view c.args.fields.now) c.args.before c.args.at c.args.octets.now h c.in_ok-place.place c.in_ok-head.ensures c.in_ok-place.ensures.given (value_view c.in_ok-value.value) (same ∙ c.in_ok-value.ensures)
 
-pub member-returns-in-Err-clause-given : goal.member-returns-in-Err-clause-given
-member-returns-in-Err-clause-given t c =
-    let comp = c.index-comps-place.result in
-    let cs = components_in c.args.comps.now in
-    let h = head_view c.in_ok-head.head in
-    let p = part_is c.args.comps.now c.in_ok-place.place comp c.in_ok-place.ensures.within c.index-comps-place.is c.requires.proper in
-    let same = p.2 c.args.at h c.args.octets.now ∙ tags_element (out-Comp comp).ty c.deref.result.now c.args.at h c.args.octets.now c.deref.ensures.value in
-    rw c.below-in-Err.ensures (members.no_value (breach_of c.in-Err.fault) cs (part_at cs) (fields_view c.args.slots.now) c.args.before c.args.at c.args.octets.now h c.in_ok-place.place
-    c.in_ok-head.ensures c.in_ok-place.ensures.given (refuses_as (breach_of c.in-Err.fault) _ _ same c.in-Err.ensures))
-
-pub members-returns-in_err-place : goal.members-returns-in_err-place
-members-returns-in_err-place t c =
+pub set_components-returns-in_err-place : goal.set_components-returns-in_err-place
+set_components-returns-in_err-place t c =
     let p = err_from_is_err_and c.from_residual-in_err-place.result c.from_residual-in_err-place.ensures.1 in
-    rw (p.1, p.2) (members.stops (breach_of c.in_err-place.field-0.0) (components_in c.args.comps.now) (fields_view c.loop-rest.slots.items) c.loop-rest.before c.loop-rest.at c.loop-rest.rest.now
+    rw (p.1, p.2) (set_components.stops (breach_of c.in_err-place.field-0.0) (in_view c.args.comps.now) (fields_view c.loop-rest.fields.items) c.loop-rest.before c.loop-rest.at c.loop-rest.rest.now
     (set_read c.args.comps.now c.args.start c.args.octets.now) (sym c.is_empty.ensures ∙ c.loop-rest-test.true) (rw c.deref.ensures.value at c.in_err-place.ensures.given) c.loop-rest.invariant.so_far)
 
-pub members-overflow_add-size : goal.members-overflow_add-size
-members-overflow_add-size t c = omega (arith, c.in_ok-place.ensures.within, c.loop-rest.invariant.room)
+pub set_components-overflow_add-size : goal.set_components-overflow_add-size
+set_components-overflow_add-size t c = omega (arith, c.in_ok-place.ensures.within, c.loop-rest.invariant.room)
 
-pub members-split_at-requires : goal.members-split_at-requires
-members-split_at-requires t c = omega (arith, c.in_ok-place.ensures.within)
+pub set_components-split_at-requires : goal.set_components-split_at-requires
+set_components-split_at-requires t c = omega (arith, c.in_ok-place.ensures.within)
 
-pub members-loop-rest-smaller : goal.members-loop-rest-smaller
-members-loop-rest-smaller t c = rw c.split_at.ensures.back (omega (arith, c.in_ok-place.ensures.within, c.in_ok-place.ensures.some, length-drop (c.in_ok-place.head.size + c.in_ok-place.head.contents) c.loop-rest.rest.now))
+pub set_components-loop-rest-smaller : goal.set_components-loop-rest-smaller
+set_components-loop-rest-smaller t c = rw c.split_at.ensures.back (omega (arith, c.in_ok-place.ensures.within, c.in_ok-place.ensures.some, length-drop (c.in_ok-place.head.size + c.in_ok-place.head.contents) c.loop-rest.rest.now))
 
-pub members-loop-rest-preserved : goal.members-loop-rest-preserved
-members-loop-rest-preserved t c =
+pub set_components-loop-rest-preserved : goal.set_components-loop-rest-preserved
+set_components-loop-rest-preserved t c =
     let place = c.in_ok-place.place in
     let head = c.in_ok-place.head in
-    let within : place < length c.loop-rest.slots.items = omega (arith, c.in_ok-place.ensures.place, c.loop-rest.invariant.count) in
-    let filled = ap fields_view c.put.ensures ∙ slot_filled c.loop-rest.slots.items place c.in_ok-place.value within in
-    let on = members.goes_on (components_in c.args.comps.now) (fields_view c.loop-rest.slots.items) c.loop-rest.before c.loop-rest.at c.loop-rest.rest.now place (value_view c.in_ok-place.value) (head_view head)
+    let within : place < length c.loop-rest.fields.items = omega (arith, c.in_ok-place.ensures.place, c.loop-rest.invariant.count) in
+    let filled = ap fields_view c.put.ensures ∙ field_filled c.loop-rest.fields.items place c.in_ok-place.value within in
+    let on = set_components.goes_on (in_view c.args.comps.now) (fields_view c.loop-rest.fields.items) c.loop-rest.before c.loop-rest.at c.loop-rest.rest.now place (value_view c.in_ok-place.value) (head_view head)
     (set_read c.args.comps.now c.args.start c.args.octets.now) (sym c.is_empty.ensures ∙ c.loop-rest-test.true) c.in_ok-place.ensures.some (rw c.deref.ensures.value at c.in_ok-place.ensures.given) c.loop-rest.invariant.so_far in
     record {
       so_far = rw (filled, c.split_at.ensures.back) on;
-      count = ap length c.put.ensures ∙ length-set c.loop-rest.slots.items place _ ∙ c.loop-rest.invariant.count;
+      count = ap length c.put.ensures ∙ length-set c.loop-rest.fields.items place _ ∙ c.loop-rest.invariant.count;
       room = rw c.split_at.ensures.back (omega (arith, c.loop-rest.invariant.room, c.in_ok-place.ensures.within, length-drop (head.size + head.contents) c.loop-rest.rest.now));
     }
 
-pub members-returns : goal.members-returns
-members-returns t c =
+pub set_components-returns : goal.set_components-returns
+set_components-returns t c =
     subst (λ r. Gives (λ v. fields_view v.items) breach_of c.completed.result r)
-    (members.ends (components_in c.args.comps.now) (fields_view c.loop-rest.slots.items) c.loop-rest.before c.loop-rest.at c.loop-rest.rest.now (set_read c.args.comps.now c.args.start c.args.octets.now) (sym c.is_empty.ensures ∙ c.loop-rest-test.false) c.loop-rest.invariant.so_far)
+    (set_components.ends (in_view c.args.comps.now) (fields_view c.loop-rest.fields.items) c.loop-rest.before c.loop-rest.at c.loop-rest.rest.now (set_read c.args.comps.now c.args.start c.args.octets.now) (sym c.is_empty.ensures ∙ c.loop-rest-test.false) c.loop-rest.invariant.so_far)
     c.completed.ensures

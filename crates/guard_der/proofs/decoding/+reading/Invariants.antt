@@ -5,14 +5,13 @@ use Rattle.guard_model.specs.AbstractType.{type_of, no_constraints}
 use Rattle.guard_model.specs.TypeView.{type_view, kind_view, component_view, components_of}
 use Rattle.guard_tagcheck.specs.FirstTags.{begins_with}
 use Rattle.guard_tagcheck.specs.Limits.{nesting, nesting_inside, deepest}
-use Rattle.guard_tagcheck.proofs.Components.{left}
 use Rattle.guard_der.specs.Sound.{are_proper}
 use Rattle.guard_der.specs.Reading.{element_at, fields_at, items_at, all_absent, part_at, set_at}
-use Rattle.guard_der.proofs.Components.{with_front}
-use Rattle.guard_der.proofs.ItemLoop.{with_items, items_left}
-use Rattle.guard_der.proofs.Slots.{in_view}
-use Rattle.guard_der.proofs.Members.{Going}
+use Rattle.guard_der.proofs.Functions.ComponentLoop.{with_front}
+use Rattle.guard_der.proofs.Functions.ElementLoop.{with_items, items_left}
+use Rattle.guard_der.proofs.Functions.SetLoop.{Going}
 use Rattle.guard_der.proofs.decoding.+reading.Given as goal
+use Rattle.guard_model.proofs.Components.{left, in_view}
 
 abbrev pub invariant-components-loop-index : goal.invariant-components-loop-index
 invariant-components-loop-index l = record {
@@ -49,10 +48,13 @@ abbrev pub decreases-contents : goal.decreases-contents
 decreases-contents l = 8 * nesting_inside (kind_view l.kind.now) + 7
 
 abbrev pub decreases-components : goal.decreases-components
-decreases-components l = 8 * deepest (components_of (map component_view l.comps.now)) + 5
+decreases-components l = 8 * deepest (components_of (map component_view l.comps.now)) + 6
 
 abbrev pub decreases-component : goal.decreases-component
-decreases-component l = 8 * nesting (type_view l.ty.now) + 4
+decreases-component l = 8 * nesting (type_view l.ty.now) + 5
+
+abbrev pub decreases-sent : goal.decreases-sent
+decreases-sent l = 8 * nesting (type_view l.ty.now) + 4
 
 abbrev pub decreases-items : goal.decreases-items
 decreases-items l = 8 * nesting (type_view l.ty.now) + 6
@@ -63,18 +65,18 @@ decreases-item l = 8 * nesting (type_view l.ty.now) + 5
 abbrev pub decreases-next_item : goal.decreases-next_item
 decreases-next_item l = 8 * nesting (type_view l.ty.now) + 4
 
-abbrev pub invariant-members-loop-rest : goal.invariant-members-loop-rest
-invariant-members-loop-rest l = record {
-  so_far : Going (in_view l.comps) (fields_view l.slots.items) l.before l.at l.rest (set_at (length l.octets) (in_view l.comps) (part_at (in_view l.comps)) (all_absent (in_view l.comps)) None l.start l.octets);
-  count : length l.slots.items ≡ length l.comps;
+abbrev pub invariant-set_components-loop-rest : goal.invariant-set_components-loop-rest
+invariant-set_components-loop-rest l = record {
+  so_far : Going (in_view l.comps) (fields_view l.fields.items) l.before l.at l.rest (set_at (length l.octets) (in_view l.comps) (part_at (in_view l.comps)) (all_absent (in_view l.comps)) None l.start l.octets);
+  count : length l.fields.items ≡ length l.comps;
   room : l.at + length l.rest < 2 ^ 64;
 }
 
-abbrev pub decreases-members-loop-rest : goal.decreases-members-loop-rest
-decreases-members-loop-rest l = length l.rest
+abbrev pub decreases-set_components-loop-rest : goal.decreases-set_components-loop-rest
+decreases-set_components-loop-rest l = length l.rest
 
-abbrev pub decreases-members : goal.decreases-members
-decreases-members l = 8 * deepest (components_of (map component_view l.comps.now)) + 5
+abbrev pub decreases-set_components : goal.decreases-set_components
+decreases-set_components l = 8 * deepest (components_of (map component_view l.comps.now)) + 6
 
-abbrev pub decreases-member : goal.decreases-member
-decreases-member l = 8 * deepest (components_of (map component_view l.comps.now)) + 4
+abbrev pub decreases-set_component : goal.decreases-set_component
+decreases-set_component l = 8 * deepest (components_of (map component_view l.comps.now)) + 5

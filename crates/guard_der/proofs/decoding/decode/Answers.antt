@@ -1,7 +1,7 @@
 use Rattle.std.proofs.Common.{arith}
 use Rattle.guard_model.specs.TypeView.{type_view}
-use Rattle.guard_der.proofs.Digits.{are_digits}
-use Rattle.guard_der.proofs.Messages.{is_decoded, is_only, is_breach, is_breach_only}
+use Rattle.guard_der.proofs.Numbers.Digits.{are_digits}
+use Rattle.guard_der.proofs.Types.Messages.{is_decoded, is_only, is_breach, is_breach_only}
 use Rattle.guard_der.proofs.decoding.decode.Goals as goal
 
 pub returns-clause-decoded : goal.returns-clause-decoded

@@ -6,7 +6,7 @@ use Rattle.guard_model.specs.declared.ty.Kind.TheViews.{out-Ty}
 use Rattle.guard_tagcheck.specs.FirstTags.{begins_with}
 use Rattle.guard_der.specs.Reading.{alone_at, element_at}
 use Rattle.guard_der.specs.Views.{breach_of}
-use Rattle.guard_der.proofs.Decodings.{whole, message_is}
+use Rattle.guard_der.proofs.Functions.Decoding.{whole, message_is}
 use Rattle.guard_der.proofs.decoding.message.Goals as goal
 
 pub returns : goal.returns

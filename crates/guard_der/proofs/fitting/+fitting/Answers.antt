@@ -2,8 +2,8 @@ use Rattle.std.proofs.Common.{refl, sym, arith}
 use Rattle.guard_model.specs.TypeView.{type_view}
 use Rattle.guard_model.specs.ValueView.{value_view}
 use Rattle.guard_der.specs.Fits.{fits, fits_alternative}
-use Rattle.guard_der.proofs.TypeLevels.{found_at, none_at}
-use Rattle.guard_der.proofs.FitsSteps.{fit_on, fit_stop, uneven_fields, fields_fit_is, set_fields_fit_is, items_fit_is, set_items_fit_is, too_many, few_enough}
+use Rattle.guard_der.proofs.Functions.Places.{found_at, none_at}
+use Rattle.guard_der.proofs.Functions.Fitting.{fit_on, fit_stop, uneven_fields, fields_fit_is, set_fields_fit_is, items_fit_is, set_items_fit_is, too_many, few_enough}
 use Rattle.guard_der.proofs.fitting.+fitting.Goals as goal
 
 pub alternative_fits-returns-then-at-alternatives : goal.alternative_fits-returns-then-at-alternatives

@@ -1,5 +1,5 @@
 use Rattle.std.proofs.Common.{◌-◌, arith}
-use Rattle.guard_der.proofs.Room.{room_next, room_now}
+use Rattle.guard_der.proofs.Numbers.Widths.{room_next, room_now}
 use Rattle.guard_der.proofs.head.+number_after.Goals as goal
 
 pub overflow_mul-result : goal.overflow_mul-result

@@ -1,8 +1,8 @@
 use Rattle.std.proofs.Common.{◌-◌, ◌%◌, length, take, drop, get_or, arith}
 use Rattle.std.proofs.lemmas.List.{length-take, length-drop}
-use Rattle.guard_der.proofs.Digits.{are_digits}
-use Rattle.guard_der.proofs.Fields.{digits_take, digits_drop}
-use Rattle.guard_der.proofs.Heads.{left_over}
+use Rattle.guard_der.proofs.Numbers.Digits.{are_digits}
+use Rattle.guard_der.proofs.Headers.TagsAndLengths.{digits_take, digits_drop}
+use Rattle.guard_der.proofs.Headers.Heads.{left_over}
 use Rattle.guard_der.proofs.head.head_at_front.Goals as goal
 
 pub overflow_sub-result : goal.overflow_sub-result

@@ -1,6 +1,6 @@
 use Rattle.std.proofs.Common.{arith}
-use Rattle.guard_der.proofs.Digits.{are_digits}
-use Rattle.guard_der.proofs.Headers.{header_stands, header_only}
+use Rattle.guard_der.proofs.Numbers.Digits.{are_digits}
+use Rattle.guard_der.proofs.Headers.Offsets.{header_stands, header_only}
 use Rattle.guard_der.proofs.head.header.Goals as goal
 
 pub returns-clause-stands : goal.returns-clause-stands

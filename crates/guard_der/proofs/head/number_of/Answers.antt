@@ -1,6 +1,6 @@
 use Rattle.std.proofs.Common.{◌+◌, ◌-◌, arith}
-use Rattle.guard_der.proofs.Room.{room_next, room_now}
-use Rattle.guard_der.proofs.Digits.{spell_next}
+use Rattle.guard_der.proofs.Numbers.Widths.{room_next, room_now}
+use Rattle.guard_der.proofs.Numbers.Digits.{spell_next}
 use Rattle.guard_der.proofs.head.number_of.Goals as goal
 
 pub overflow_mul-number : goal.overflow_mul-number

@@ -1,7 +1,7 @@
 use Rattle.std.proofs.Common.{arith}
 use Rattle.guard_der.specs.Views.{head_view}
-use Rattle.guard_der.proofs.Digits.{are_digits}
-use Rattle.guard_der.proofs.Headers.{head_room_at}
+use Rattle.guard_der.proofs.Numbers.Digits.{are_digits}
+use Rattle.guard_der.proofs.Headers.Offsets.{head_room_at}
 use Rattle.guard_der.proofs.head.placed_header.Goals as goal
 
 pub overflow_add-result : goal.overflow_add-result

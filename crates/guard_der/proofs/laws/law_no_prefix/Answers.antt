@@ -1,6 +1,6 @@
 use Rattle.guard_model.specs.TypeView.{type_view}
 use Rattle.guard_model.specs.ValueView.{value_view}
-use Rattle.guard_der.proofs.Messages.{no_prefix}
+use Rattle.guard_der.proofs.Types.Messages.{no_prefix}
 use Rattle.guard_der.proofs.laws.law_no_prefix.Goals as goal
 
 pub returns : goal.returns

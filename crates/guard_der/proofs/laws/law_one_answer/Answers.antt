@@ -1,7 +1,7 @@
 use Rattle.std.proofs.Common.{arith}
 use Rattle.guard_model.specs.TypeView.{type_view}
-use Rattle.guard_der.proofs.Digits.{are_digits}
-use Rattle.guard_der.proofs.Messages.{some_answer, never_both, one_breach}
+use Rattle.guard_der.proofs.Numbers.Digits.{are_digits}
+use Rattle.guard_der.proofs.Types.Messages.{some_answer, never_both, one_breach}
 use Rattle.guard_der.proofs.laws.law_one_answer.Goals as goal
 
 pub returns-clause-one : goal.returns-clause-one

@@ -1,6 +1,6 @@
 use Rattle.guard_model.specs.TypeView.{type_view}
 use Rattle.guard_model.specs.ValueView.{value_view}
-use Rattle.guard_der.proofs.Messages.{one_encoding}
+use Rattle.guard_der.proofs.Types.Messages.{one_encoding}
 use Rattle.guard_der.proofs.laws.law_one_encoding.Goals as goal
 
 pub returns : goal.returns

@@ -1,7 +1,7 @@
 use Rattle.std.proofs.Common.{map, sym}
 use Rattle.guard_model.specs.TypeView.{component_view, components_of}
 use Rattle.guard_der.specs.Sound.{are_proper}
-use Rattle.guard_der.proofs.SoundSteps.{many_components, few_components}
+use Rattle.guard_der.proofs.Functions.Soundness.{many_components, few_components}
 use Rattle.guard_der.proofs.sound_types.+proper.Goals as goal
 
 pub list_is_proper-returns-then-comps-gt-MOST_COMPONENTS : goal.list_is_proper-returns-then-comps-gt-MOST_COMPONENTS

@@ -1,7 +1,7 @@
 use Rattle.std.proofs.Common.{◌≡◌, ◌∙◌, sym, subst, Bool}
 use Rattle.std.specs.Prelude.{IfOk}
 use Rattle.guard_model.specs.TypeView.{type_view}
-use Rattle.guard_der.proofs.SoundTypes.{outside_limits, has_clash, distinct_within}
+use Rattle.guard_der.proofs.Functions.SoundTypes.{outside_limits, has_clash, distinct_within}
 use Rattle.guard_der.proofs.sound_types.sound.Goals as goal
 
 pub returns-then-not-is_within_limits-clause-exact : goal.returns-then-not-is_within_limits-clause-exact

@@ -1,5 +1,5 @@
 use Rattle.std.proofs.Common.{◌-◌, length}
-use Rattle.guard_lexer.proofs.Steps.{IsRead}
+use Rattle.guard_lexer.proofs.ReadItems.{IsRead}
 use Rattle.guard_lexer.proofs.lexer.read_items.Given as goal
 
 abbrev pub invariant-loop-at : goal.invariant-loop-at

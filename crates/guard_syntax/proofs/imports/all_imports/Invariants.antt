@@ -1,11 +1,8 @@
-use Rattle.std.proofs.Common.{◌≡◌, map, length, ◌-◌}
-use Rattle.guard_syntax.specs.ReadTokens.{placed_of, read_each}
+use Rattle.guard_syntax.specs.Cursors.{ahead}
 use Rattle.guard_syntax.specs.ReadModule.{goes_on_importing, read_import}
 use Rattle.guard_syntax.specs.ModuleViews.{import_view}
-use Rattle.guard_syntax.proofs.Loops.{with_front}
+use Rattle.guard_syntax.proofs.Loops.{EachSoFar}
 use Rattle.guard_syntax.proofs.imports.all_imports.Given as goal
 
 abbrev pub invariant-loop : goal.invariant-loop
-invariant-loop l =
-    with_front (map import_view l.all.items) (read_each goes_on_importing read_import (length l.tokens - l.counter) (placed_of l.text l.rest))
-    ≡ read_each goes_on_importing read_import (length l.tokens) (placed_of l.text l.tokens)
+invariant-loop l = EachSoFar import_view goes_on_importing read_import (ahead l.at) l.all.items l.counter (ahead l.rest)

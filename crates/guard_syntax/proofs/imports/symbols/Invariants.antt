@@ -1,11 +1,8 @@
-use Rattle.std.proofs.Common.{◌≡◌, map, length, ◌-◌}
-use Rattle.guard_syntax.specs.ReadTokens.{placed_of, read_parted}
+use Rattle.guard_syntax.specs.Cursors.{ahead}
 use Rattle.guard_syntax.specs.ReadModule.{read_symbol}
 use Rattle.guard_syntax.specs.ModuleViews.{symbol_view}
-use Rattle.guard_syntax.proofs.Loops.{with_front}
+use Rattle.guard_syntax.proofs.Loops.{PartedSoFar}
 use Rattle.guard_syntax.proofs.imports.symbols.Given as goal
 
 abbrev pub invariant-loop : goal.invariant-loop
-invariant-loop l =
-    with_front (map symbol_view l.all.items) (read_parted read_symbol (length l.tokens - l.counter) (placed_of l.text l.rest))
-    ≡ read_parted read_symbol (length l.tokens) (placed_of l.text l.tokens)
+invariant-loop l = PartedSoFar symbol_view read_symbol (ahead l.at) l.all.items l.counter (ahead l.rest)

@@ -1,11 +1,8 @@
-use Rattle.std.proofs.Common.{◌≡◌, map, length, ◌-◌}
-use Rattle.guard_syntax.specs.ReadTokens.{placed_of, read_each}
+use Rattle.guard_syntax.specs.Cursors.{ahead}
 use Rattle.guard_syntax.specs.ReadModule.{goes_on_assigning, read_assignment}
 use Rattle.guard_syntax.specs.ModuleViews.{assignment_view}
-use Rattle.guard_syntax.proofs.Loops.{with_front}
+use Rattle.guard_syntax.proofs.Loops.{EachSoFar}
 use Rattle.guard_syntax.proofs.module.assignments.Given as goal
 
 abbrev pub invariant-loop : goal.invariant-loop
-invariant-loop l =
-    with_front (map assignment_view l.all.items) (read_each goes_on_assigning read_assignment (length l.tokens - l.counter) (placed_of l.text l.rest))
-    ≡ read_each goes_on_assigning read_assignment (length l.tokens) (placed_of l.text l.tokens)
+invariant-loop l = EachSoFar assignment_view goes_on_assigning read_assignment (ahead l.at) l.all.items l.counter (ahead l.rest)

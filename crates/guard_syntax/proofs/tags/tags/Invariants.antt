@@ -1,11 +1,8 @@
-use Rattle.std.proofs.Common.{◌≡◌, map, length, ◌-◌}
-use Rattle.guard_syntax.specs.ReadTokens.{placed_of, read_each}
+use Rattle.guard_syntax.specs.Cursors.{ahead}
 use Rattle.guard_syntax.specs.ReadTypes.{begins_tag, read_tag}
 use Rattle.guard_syntax.specs.TypeViews.{tag_view}
-use Rattle.guard_syntax.proofs.Loops.{with_front}
+use Rattle.guard_syntax.proofs.Loops.{EachSoFar}
 use Rattle.guard_syntax.proofs.tags.tags.Given as goal
 
 abbrev pub invariant-loop : goal.invariant-loop
-invariant-loop l =
-    with_front (map tag_view l.all.items) (read_each begins_tag read_tag (length l.tokens - l.counter) (placed_of l.text l.rest))
-    ≡ read_each begins_tag read_tag (length l.tokens) (placed_of l.text l.tokens)
+invariant-loop l = EachSoFar tag_view begins_tag read_tag (ahead l.at) l.all.items l.counter (ahead l.rest)

@@ -1,9 +1,9 @@
-use Rattle.std.proofs.Common.{◌≡◌, map, length, ◌+◌, ◌-◌, ◌*◌}
-use Rattle.guard_syntax.specs.ReadTokens.{placed_of, read_parted}
+use Rattle.std.proofs.Common.{◌+◌, ◌*◌}
+use Rattle.guard_syntax.specs.Cursors.{ahead}
 use Rattle.guard_syntax.specs.ReadValues.{read_value}
 use Rattle.guard_syntax.specs.ReadTypes.{read_component, read_alternative, read_type}
 use Rattle.guard_syntax.specs.TypeViews.{component_view, alternative_view}
-use Rattle.guard_syntax.proofs.Loops.{with_front}
+use Rattle.guard_syntax.proofs.Loops.{PartedSoFar}
 use Rattle.guard_syntax.proofs.types.+types.Given as goal
 
 abbrev pub decreases-type_tree : goal.decreases-type_tree
@@ -46,11 +46,7 @@ abbrev pub decreases-inner_type : goal.decreases-inner_type
 decreases-inner_type l = l.levels * 12 + 11
 
 abbrev pub invariant-some_components-loop : goal.invariant-some_components-loop
-invariant-some_components-loop l =
-    with_front (map component_view l.all.items) (read_parted (read_component (read_value l.levels) (read_type l.levels)) (length l.tokens - l.counter) (placed_of l.text l.rest))
-    ≡ read_parted (read_component (read_value l.levels) (read_type l.levels)) (length l.tokens) (placed_of l.text l.tokens)
+invariant-some_components-loop l = PartedSoFar component_view (read_component (read_value l.levels) (read_type l.levels)) (ahead l.at) l.all.items l.counter (ahead l.rest)
 
 abbrev pub invariant-alternatives-loop : goal.invariant-alternatives-loop
-invariant-alternatives-loop l =
-    with_front (map alternative_view l.all.items) (read_parted (read_alternative (read_type l.levels)) (length l.tokens - l.counter) (placed_of l.text l.rest))
-    ≡ read_parted (read_alternative (read_type l.levels)) (length l.tokens) (placed_of l.text l.tokens)
+invariant-alternatives-loop l = PartedSoFar alternative_view (read_alternative (read_type l.levels)) (ahead l.at) l.all.items l.counter (ahead l.rest)

@@ -1,12 +1,9 @@
-use Rattle.std.proofs.Common.{◌≡◌, map, length, ◌-◌}
-use Rattle.guard_syntax.specs.ReadTokens.{placed_of, read_each}
+use Rattle.guard_syntax.specs.Cursors.{ahead}
 use Rattle.guard_syntax.specs.ReadSets.{read_constraint, read_set}
 use Rattle.guard_syntax.specs.ReadTypes.{begins_constraint}
 use Rattle.guard_syntax.specs.SetViews.{constraint_view}
-use Rattle.guard_syntax.proofs.Loops.{with_front}
+use Rattle.guard_syntax.proofs.Loops.{EachSoFar}
 use Rattle.guard_syntax.proofs.types.each_constraint.Given as goal
 
 abbrev pub invariant-loop : goal.invariant-loop
-invariant-loop l =
-    with_front (map constraint_view l.all.items) (read_each begins_constraint (read_constraint (read_set l.levels)) (length l.tokens - l.counter) (placed_of l.text l.rest))
-    ≡ read_each begins_constraint (read_constraint (read_set l.levels)) (length l.tokens) (placed_of l.text l.tokens)
+invariant-loop l = EachSoFar constraint_view begins_constraint (read_constraint (read_set l.levels)) (ahead l.at) l.all.items l.counter (ahead l.rest)

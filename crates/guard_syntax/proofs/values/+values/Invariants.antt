@@ -1,8 +1,8 @@
-use Rattle.std.proofs.Common.{◌≡◌, map, length, ◌+◌, ◌-◌, ◌*◌}
-use Rattle.guard_syntax.specs.ReadTokens.{placed_of, read_parted}
+use Rattle.std.proofs.Common.{◌+◌, ◌*◌}
+use Rattle.guard_syntax.specs.Cursors.{ahead}
 use Rattle.guard_syntax.specs.ReadValues.{read_value, read_entry}
 use Rattle.guard_syntax.specs.Views.{entry_view}
-use Rattle.guard_syntax.proofs.Loops.{with_front}
+use Rattle.guard_syntax.proofs.Loops.{PartedSoFar}
 use Rattle.guard_syntax.proofs.values.+values.Given as goal
 
 abbrev pub decreases-value : goal.decreases-value
@@ -27,6 +27,4 @@ abbrev pub decreases-entry : goal.decreases-entry
 decreases-entry l = l.levels * 8 + 3
 
 abbrev pub invariant-some_entries-loop : goal.invariant-some_entries-loop
-invariant-some_entries-loop l =
-    with_front (map entry_view l.all.items) (read_parted (read_entry (read_value l.levels)) (length l.tokens - l.counter) (placed_of l.text l.rest))
-    ≡ read_parted (read_entry (read_value l.levels)) (length l.tokens) (placed_of l.text l.tokens)
+invariant-some_entries-loop l = PartedSoFar entry_view (read_entry (read_value l.levels)) (ahead l.at) l.all.items l.counter (ahead l.rest)

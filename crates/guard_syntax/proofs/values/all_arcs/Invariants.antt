@@ -1,11 +1,9 @@
-use Rattle.std.proofs.Common.{◌≡◌, map, length, ◌-◌}
-use Rattle.guard_syntax.specs.ReadTokens.{placed_of, read_each, read_arc}
+use Rattle.guard_syntax.specs.Cursors.{ahead}
+use Rattle.guard_syntax.specs.ReadTokens.{read_arc}
 use Rattle.guard_syntax.specs.ReadValues.{does_not_close}
 use Rattle.guard_syntax.specs.Views.{arc_view}
-use Rattle.guard_syntax.proofs.Loops.{with_front}
+use Rattle.guard_syntax.proofs.Loops.{EachSoFar}
 use Rattle.guard_syntax.proofs.values.all_arcs.Given as goal
 
 abbrev pub invariant-loop : goal.invariant-loop
-invariant-loop l =
-    with_front (map arc_view l.all.items) (read_each does_not_close read_arc (length l.tokens - l.counter) (placed_of l.text l.rest))
-    ≡ read_each does_not_close read_arc (length l.tokens) (placed_of l.text l.tokens)
+invariant-loop l = EachSoFar arc_view does_not_close read_arc (ahead l.at) l.all.items l.counter (ahead l.rest)

@@ -1,4 +1,4 @@
-use Rattle.guard_tagcheck.proofs.Bounds.{list_refused, list_goes_on, list_too_long, list_done}
+use Rattle.guard_tagcheck.proofs.LimitTests.{list_refused, list_goes_on, list_too_long, list_done}
 use Rattle.guard_tagcheck.proofs.limits.+limits.Goals as goal
 
 pub are_within-returns-then-comps-gt-MOST_COMPONENTS : goal.are_within-returns-then-comps-gt-MOST_COMPONENTS

@@ -1,10 +1,11 @@
-use Rattle.std.proofs.Common.{rules, ap, ◌∙◌, Some}
+use Rattle.std.proofs.Common.{rules, ap, ◌∙◌, Some, inl, inr}
 use Rattle.guard_model.specs.declared.ty.Kind.{the_lemmas}
 use Rattle.guard_model.specs.declared.ty.Kind.TheViews.{out-Comp}
 use Rattle.guard_tagcheck.specs.Search.{clash_inside}
 use Rattle.guard_tagcheck.specs.Views.{clash_view}
-use Rattle.guard_tagcheck.proofs.Components.{left, left_limits, sequence_within, set_within, choice_within}
-use Rattle.guard_tagcheck.proofs.Searches.{found, found_none, path_fits, inside_found, inside_goes_on}
+use Rattle.guard_model.proofs.Components.{left}
+use Rattle.guard_tagcheck.proofs.PartLimits.{Within, left_limits, sequence_within, set_within, choice_within}
+use Rattle.guard_tagcheck.proofs.SearchLoops.{found, found_none, path_fits, inside_found, inside_goes_on}
 use Rattle.guard_tagcheck.proofs.search.+search.Goals as goal
 
 pub clash_inside-below-requires : goal.clash_inside-below-requires
@@ -38,10 +39,8 @@ first_clash-clash_among-requires t c =
 
 pub first_clash-clash_among-requires-in-Set : goal.first_clash-clash_among-requires-in-Set
 first_clash-clash_among-requires-in-Set t c =
-    let l = set_within c.args.ty.now c.in-Set.comps c.in-Set.is c.requires.limits c.requires.depth in
+    let l : Within c.in-Set.comps.items = elim c.in-Set.is [
+      | inl is ↦ set_within c.args.ty.now c.in-Set.comps is c.requires.limits c.requires.depth
+      | inr is ↦ choice_within c.args.ty.now c.in-Set.comps is c.requires.limits c.requires.depth
+    ] in
     (search (rules, the_lemmas), (rw c.deref-in-Set.ensures.value l.0, (rw c.deref-in-Set.ensures.value l.1, rw c.deref-in-Set.ensures.value l.2)))
-
-pub first_clash-clash_among-requires-in-Choice : goal.first_clash-clash_among-requires-in-Choice
-first_clash-clash_among-requires-in-Choice t c =
-    let l = choice_within c.args.ty.now c.in-Choice.comps c.in-Choice.is c.requires.limits c.requires.depth in
-    (search (rules, the_lemmas), (rw c.deref-in-Choice.ensures.value l.0, (rw c.deref-in-Choice.ensures.value l.1, rw c.deref-in-Choice.ensures.value l.2)))

@@ -1,7 +1,7 @@
 use Rattle.std.proofs.Common.{ap, Err}
 use Rattle.guard_model.specs.TypeView.{type_view}
 use Rattle.guard_tagcheck.specs.Views.{clash_view}
-use Rattle.guard_tagcheck.proofs.Searches.{found, found_none}
+use Rattle.guard_tagcheck.proofs.SearchLoops.{found, found_none}
 use Rattle.guard_tagcheck.proofs.Clashes.{type_some, type_none}
 use Rattle.guard_tagcheck.proofs.OneClash.{one_clash, not_distinct}
 use Rattle.guard_tagcheck.proofs.search.check.Goals as goal

@@ -1,6 +1,6 @@
 use Rattle.std.proofs.Common.{◌≡◌}
 use Rattle.guard_tagcheck.specs.Search.{first_pair}
-use Rattle.guard_tagcheck.proofs.Components.{left}
+use Rattle.guard_model.proofs.Components.{left}
 use Rattle.guard_tagcheck.proofs.search.first_pair.Given as goal
 
 abbrev pub invariant-loop-index : goal.invariant-loop-index

@@ -1,7 +1,7 @@
 use Rattle.std.proofs.Common.{◌≡◌, suc}
 use Rattle.guard_model.specs.TypeView.{type_view}
 use Rattle.guard_tagcheck.specs.Search.{partner}
-use Rattle.guard_tagcheck.proofs.Components.{left}
+use Rattle.guard_model.proofs.Components.{left}
 use Rattle.guard_tagcheck.proofs.search.partner.Given as goal
 
 abbrev pub invariant-loop-later : goal.invariant-loop-later

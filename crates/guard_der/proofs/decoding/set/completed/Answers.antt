@@ -7,11 +7,11 @@ use Rattle.guard_model.specs.declared.site.Step.TheVariants.{Component}
 use Rattle.guard_der.specs.Breach.{below}
 use Rattle.guard_der.specs.Reading.{missing_at, completed}
 use Rattle.guard_der.specs.Views.{breach_of}
-use Rattle.guard_tagcheck.proofs.Components.{left}
 use Rattle.guard_model.specs.ValueView.{fields_view}
-use Rattle.guard_der.proofs.Slots.{put_settles, kept_settles, settles_badly, all_settled, is_empty}
+use Rattle.guard_der.proofs.Functions.SetFields.{put_settles, kept_settles, settles_badly, all_settled, is_empty}
 use Rattle.guard_der.proofs.decoding.set.completed.Goals as goal
 use Rattle.guard_der.proofs.decoding.set.completed.Goals.{then-is_none+in_ok-not_sent, else-is_none}
+use Rattle.guard_model.proofs.Components.{left}
 
 pub loop-index-preserved : goal.loop-index-preserved
 loop-index-preserved c = elim c.if-is_none.branch [
@@ -19,15 +19,15 @@ loop-index-preserved c = elim c.if-is_none.branch [
       let named = w.below-missing.ensures ∙ ap (option_map (below (Component c.loop-index.index))) w.fault_at.ensures in
       let presence = presence_view (out-Comp c.index-comps-index.result).presence in
       let settles = is_empty presence c.index.result.now (missing_at c.loop-index.index c.args.at) (c.is_none.ensures ∙ ap not w.if-is_none.true) ∙ w.in_ok-not_sent.ensures (missing_at c.loop-index.index c.args.at) named in
-      let p = put_settles c.args.comps.now c.loop-index.index c.index-comps-index.result c.loop-index.slots.items c.if-is_none.slots.items c.index.result.now w.in_ok-not_sent.field-0 c.args.at
-      (completed 0 (left c.args.comps.now 0) (fields_view c.args.slots.items) c.args.at) c.loop-index-test.true c.loop-index.invariant.count c.index-comps-index.is c.index.ensures
-      settles (ap (λ v. v.items) w.slots-is ∙ w.put.ensures) c.loop-index.invariant.so_far in
+      let p = put_settles c.args.comps.now c.loop-index.index c.index-comps-index.result c.loop-index.fields.items c.if-is_none.fields.items c.index.result.now w.in_ok-not_sent.field-0 c.args.at
+      (completed 0 (left c.args.comps.now 0) (fields_view c.args.fields.items) c.args.at) c.loop-index-test.true c.loop-index.invariant.count c.index-comps-index.is c.index.ensures
+      settles (ap (λ v. v.items) w.fields-is ∙ w.put.ensures) c.loop-index.invariant.so_far in
       record { so_far = p.0; count = p.1 }
   | else-is_none w ↦
-      let kept = kept_settles c.args.comps.now c.loop-index.index c.index-comps-index.result c.loop-index.slots.items c.index.result.now c.args.at
-      (completed 0 (left c.args.comps.now 0) (fields_view c.args.slots.items) c.args.at) c.loop-index-test.true c.loop-index.invariant.count c.index-comps-index.is c.index.ensures
+      let kept = kept_settles c.args.comps.now c.loop-index.index c.index-comps-index.result c.loop-index.fields.items c.index.result.now c.args.at
+      (completed 0 (left c.args.comps.now 0) (fields_view c.args.fields.items) c.args.at) c.loop-index-test.true c.loop-index.invariant.count c.index-comps-index.is c.index.ensures
       (c.is_none.ensures ∙ ap not w.if-is_none.false) c.loop-index.invariant.so_far in
-      rw w.slots-is (record { so_far = kept; count = c.loop-index.invariant.count })
+      rw w.fields-is (record { so_far = kept; count = c.loop-index.invariant.count })
 ]
 
 pub returns-in_err-not_sent : goal.returns-in_err-not_sent
@@ -36,10 +36,10 @@ returns-in_err-not_sent c =
     let named = c.below-missing.ensures ∙ ap (option_map (below (Component c.loop-index.index))) c.fault_at.ensures in
     let empty = c.is_none.ensures ∙ ap not c.if-is_none.true in
     let presence = presence_view (out-Comp c.index-comps-index.result).presence in
-    rw (p.1, p.2) (settles_badly (breach_of c.in_err-not_sent.field-0.0) c.args.comps.now c.loop-index.index c.index-comps-index.result c.loop-index.slots.items c.index.result.now c.args.at
-    (completed 0 (left c.args.comps.now 0) (fields_view c.args.slots.items) c.args.at) c.loop-index-test.true c.loop-index.invariant.count c.index-comps-index.is c.index.ensures
+    rw (p.1, p.2) (settles_badly (breach_of c.in_err-not_sent.field-0.0) c.args.comps.now c.loop-index.index c.index-comps-index.result c.loop-index.fields.items c.index.result.now c.args.at
+    (completed 0 (left c.args.comps.now 0) (fields_view c.args.fields.items) c.args.at) c.loop-index-test.true c.loop-index.invariant.count c.index-comps-index.is c.index.ensures
     (rw (is_empty presence c.index.result.now (missing_at c.loop-index.index c.args.at) empty) (c.in_err-not_sent.ensures (missing_at c.loop-index.index c.args.at) named)) c.loop-index.invariant.so_far)
 
 pub returns : goal.returns
 returns c =
-    all_settled c.args.comps.now c.loop-index.index c.loop-index.slots.items c.args.at (completed 0 (left c.args.comps.now 0) (fields_view c.args.slots.items) c.args.at) c.loop-index-test.false c.loop-index.invariant.count c.loop-index.invariant.so_far
+    all_settled c.args.comps.now c.loop-index.index c.loop-index.fields.items c.args.at (completed 0 (left c.args.comps.now 0) (fields_view c.args.fields.items) c.args.at) c.loop-index-test.false c.loop-index.invariant.count c.loop-index.invariant.so_far

@@ -2,7 +2,7 @@ use Rattle.std.proofs.Common.{refl, sym, ◌∙◌}
 use Rattle.guard_model.specs.declared.tag.Class.TheVariants.{Universal}
 use Rattle.guard_model.specs.ValueView.{value_view}
 use Rattle.guard_der.specs.Der.{outermost, outermost_alternative}
-use Rattle.guard_der.proofs.TypeLevels.{found_at, none_at}
+use Rattle.guard_der.proofs.Functions.Places.{found_at, none_at}
 use Rattle.guard_der.proofs.encoding.first_tag.+outermost.Goals as goal
 
 pub outermost_alternative-returns-then-at-alternatives : goal.outermost_alternative-returns-then-at-alternatives

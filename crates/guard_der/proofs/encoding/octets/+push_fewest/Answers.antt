@@ -2,7 +2,7 @@ use Rattle.std.proofs.Common.{◌∷◌, [], ◌%◌, ◌/◌, ◌-◌, append_a
 use Rattle.std.proofs.lemmas.List.{map-append}
 use Rattle.guard_der.specs.Octets.{fewest}
 use Rattle.guard_der.specs.Digits.{digit_octet}
-use Rattle.guard_der.proofs.Numbers.{fewest_more, part_room}
+use Rattle.guard_der.proofs.Numbers.FewestDigits.{fewest_more, part_room}
 use Rattle.guard_der.proofs.encoding.octets.+push_fewest.Goals as goal
 
 pub push_fewest-requires : goal.push_fewest-requires

@@ -1,5 +1,5 @@
 use Rattle.std.proofs.Common.{◌∙◌, sym}
-use Rattle.guard_der.proofs.WrittenTexts.{characters_written}
+use Rattle.guard_der.proofs.Simple.Texts.{characters_written}
 use Rattle.guard_der.proofs.encoding.simple.characters.Goals as goal
 
 pub returns : goal.returns

@@ -1,5 +1,5 @@
 use Rattle.std.proofs.Common.{◌-◌, length, take, drop}
-use Rattle.guard_der.proofs.Arcs.{first_written, one_more}
+use Rattle.guard_der.proofs.Functions.Arcs.{first_written, one_more}
 use Rattle.guard_der.proofs.encoding.simple.object_identifier.Goals as goal
 
 pub loop-arc-init : goal.loop-arc-init

@@ -5,11 +5,11 @@ use Rattle.guard_model.specs.TypeView.{component_view, components_of}
 use Rattle.guard_model.specs.ValueView.{value_view, fields_view}
 use Rattle.guard_der.specs.Der.{Part, der, alternative_octets, parts_of, parts_joined, ascending}
 use Rattle.guard_der.specs.Fits.{fits, fits_alternative}
-use Rattle.guard_der.specs.Sent.{or_too_long, parts_view}
-use Rattle.guard_der.specs.declared.encoding.parts.Sent.{Sent}
-use Rattle.guard_der.proofs.TypeLevels.{found_at, none_at}
-use Rattle.guard_der.proofs.EncodingSteps.{refused_whole, there_whole, sequence_fits, set_fits, sequence_contents, set_contents, sequence_of_contents, set_of_contents, others, next_fits, parts_on, parts_stop, parts_begin, parts_end, uneven_parts}
+use Rattle.guard_der.specs.declared.encoding.parts.EncodedPart.{EncodedPart}
+use Rattle.guard_der.proofs.Functions.Places.{found_at, none_at}
+use Rattle.guard_der.proofs.Functions.Encoding.{refused_whole, there_whole, sequence_fits, set_fits, sequence_contents, set_contents, sequence_of_contents, set_of_contents, others, next_fits, parts_on, parts_stop, parts_begin, parts_end, uneven_parts}
 use Rattle.guard_der.proofs.encoding.values.+encoding.Goals as goal
+use Rattle.guard_der.specs.EncodingSteps.{or_too_long, parts_view}
 
 -- ---- alternative
 
@@ -90,7 +90,7 @@ sequence-returns-in_err-parts t c =
 pub sequence-returns : goal.sequence-returns
 sequence-returns t c =
     ap or_too_long (there_whole (parts_of (components_of (map component_view c.args.comps.now)) (fields_view c.args.fields.now)) (parts_view c.in_ok-parts.parts.items) (λ ps. Some (parts_joined ps)) c.in_ok-parts.ensures)
-    ∙ ap (λ (os : List ℕ). Ok os) (ap (λ (xs : List Sent). parts_joined (parts_view xs)) (sym c.deref.ensures.value) ∙ sym c.in_ok-joined.ensures)
+    ∙ ap (λ (os : List ℕ). Ok os) (ap (λ (xs : List EncodedPart). parts_joined (parts_view xs)) (sym c.deref.ensures.value) ∙ sym c.in_ok-joined.ensures)
 
 pub set-returns-in_err-parts : goal.set-returns-in_err-parts
 set-returns-in_err-parts t c =
@@ -100,4 +100,4 @@ set-returns-in_err-parts t c =
 pub set-returns : goal.set-returns
 set-returns t c =
     ap or_too_long (there_whole (parts_of (components_of (map component_view c.args.comps.now)) (fields_view c.args.fields.now)) (parts_view c.in_ok-parts.parts.items) (λ ps. Some (parts_joined (ascending ps))) c.in_ok-parts.ensures)
-    ∙ ap (λ (os : List ℕ). Ok os) (ap (λ (ps : List Part). parts_joined ps) (sym c.in_ok-sorted.ensures) ∙ ap (λ (xs : List Sent). parts_joined (parts_view xs)) (sym c.deref.ensures.value) ∙ sym c.in_ok-joined.ensures)
+    ∙ ap (λ (os : List ℕ). Ok os) (ap (λ (ps : List Part). parts_joined ps) (sym c.in_ok-sorted.ensures) ∙ ap (λ (xs : List EncodedPart). parts_joined (parts_view xs)) (sym c.deref.ensures.value) ∙ sym c.in_ok-joined.ensures)

@@ -4,7 +4,7 @@ use Rattle.guard_model.specs.TypeView.{type_view}
 use Rattle.guard_model.specs.ValueView.{items_view}
 use Rattle.guard_der.specs.Der.{der, item_encodings}
 use Rattle.guard_der.specs.Fits.{fits, every_fits, are_ascending}
-use Rattle.guard_der.proofs.Ascending.{ascend_behind}
+use Rattle.guard_der.proofs.Functions.Ascending.{ascend_behind}
 use Rattle.guard_der.proofs.fitting.ascending.are_ascending.Given as goal
 
 abbrev pub invariant-loop-item : goal.invariant-loop-item

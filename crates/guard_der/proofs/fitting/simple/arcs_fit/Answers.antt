@@ -1,5 +1,5 @@
 use Rattle.std.proofs.Common.{◌∙◌, arith}
-use Rattle.guard_der.proofs.ValueTests.{two_arcs}
+use Rattle.guard_der.proofs.Functions.SimpleValues.{two_arcs}
 use Rattle.guard_der.proofs.fitting.simple.arcs_fit.Goals as goal
 
 pub returns-in-len2-up : goal.returns-in-len2-up

@@ -1,5 +1,5 @@
 use Rattle.std.proofs.Common.{sym, arith}
-use Rattle.guard_der.proofs.ValueTests.{all_below_from}
+use Rattle.guard_der.proofs.Functions.SimpleValues.{all_below_from}
 use Rattle.guard_der.proofs.fitting.simple.are_octets.Goals as goal
 
 pub returns : goal.returns

@@ -1,8 +1,0 @@
-use Rattle.std.proofs.Common.{◌≡◌, ◌^◌, ◌<◌, drop}
-use Rattle.std.specs.Prelude.{fold}
-use Rattle.guard_lexer.specs.Shapes.{number_value}
-use Rattle.derguard.proofs.SchemaNumbers.{with_digit}
-use Rattle.derguard.proofs.guard_schema.values.magnitude.Given as goal
-
-abbrev pub invariant-loop-digit : goal.invariant-loop-digit
-invariant-loop-digit l = (l.value < 2 ^ 128) × (fold with_digit l.value (drop l.digit-index l.digits) ≡ number_value l.digits)

@@ -1,8 +1,0 @@
--- The schema that a schema of the code stands for.
-use Rattle.std.specs.Prelude.{[], ◌∷◌, map, string_bytes}
-use Rattle.derguard.specs.declared.guard_schema.schema.Schema.{Schema}
-use Rattle.derguard.specs.Schemas.{AbstractSchema}
-use Rattle.derguard.specs.SchemaViews.{definition_view}
-
-abbrev pub schema_view : Schema → AbstractSchema
-schema_view s = record { modules = string_bytes s.module ∷ []; types = map definition_view s.definitions.items }

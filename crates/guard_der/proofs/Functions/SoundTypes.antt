@@ -1,0 +1,82 @@
+-- A sound type keeps the limits that the check of tags asks for, and that check finds no clash in it.
+use Rattle.std.proofs.Common.{◌≡◌, Bool, true, false, Option, Some, None, refl, sym, ap}
+use Rattle.std.specs.Prelude.{◌&&◌, nat_le}
+use Rattle.std.proofs.lemmas.Bool.{and_parts, and_from, false≢true}
+use Rattle.guard_model.specs.AbstractType as type
+use Rattle.guard_model.specs.AbstractType.{AbstractType, AbstractKind, Components, type_of, no_components, component}
+use Rattle.guard_tagcheck.specs.Limits.{nesting, every_part, every_component, is_formed, is_tagged, are_low, keeps_limits, is_within_limits}
+use Rattle.guard_tagcheck.specs.Distinct.{Distinct, IsClash, AbstractClash}
+use Rattle.guard_tagcheck.specs.Search.{first_clash}
+use Rattle.guard_tagcheck.proofs.Clashes.{type_none, type_some}
+use Rattle.guard_tagcheck.proofs.OneClash.{not_distinct}
+use Rattle.guard_der.specs.Sound.{is_sound, is_proper, is_proper_kind, are_proper, is_proper_presence, all_apply, none_clash}
+use Rattle.guard_model.specs.Counts.{component_count}
+use Rattle.guard_model.specs.Components.{components_in}
+
+mutual
+  proper_limits : (t : AbstractType) → is_proper t ≡ true → keeps_limits t ≡ true
+  proper_limits (type_of tags kind cons) e =
+      let p = and_parts (is_tagged tags kind && are_low tags && all_apply kind cons) (is_proper_kind kind) e in
+      let q = and_parts (is_tagged tags kind && are_low tags) (all_apply kind cons) p.0 in
+      let r = and_parts (is_tagged tags kind) (are_low tags) q.0 in
+      let k = kind_limits kind p.1 in
+      and_from (is_formed tags kind) (every_part (λ tags kind. is_formed tags kind) kind) (and_from (is_tagged tags kind) (nat_le (component_count (components_in kind)) 64) r.0 k.0) k.1
+
+  kind_limits : (kind : AbstractKind) → is_proper_kind kind ≡ true → (nat_le (component_count (components_in kind)) 64 ≡ true) × (every_part (λ tags kind. is_formed tags kind) kind ≡ true)
+  kind_limits (type.sequence cs) e = let p = and_parts (nat_le (component_count cs) 64) (are_proper cs) e in (p.0, all_limits cs p.1)
+  kind_limits (type.set cs) e = let p = and_parts (nat_le (component_count cs) 64) (are_proper cs) e in (p.0, all_limits cs p.1)
+  kind_limits (type.choice cs) e = let p = and_parts (nat_le (component_count cs) 64) (are_proper cs) e in (p.0, all_limits cs p.1)
+  kind_limits (type.sequence_of t) e = (refl, proper_limits t e)
+  kind_limits (type.set_of t) e = (refl, proper_limits t e)
+  kind_limits type.boolean e = (refl, refl)
+  kind_limits (type.integer ns) e = (refl, refl)
+  kind_limits type.bit_string e = (refl, refl)
+  kind_limits type.octet_string e = (refl, refl)
+  kind_limits type.null e = (refl, refl)
+  kind_limits type.object_identifier e = (refl, refl)
+  kind_limits (type.enumerated ns) e = (refl, refl)
+  kind_limits (type.characters k) e = (refl, refl)
+
+  all_limits : (cs : Components) → are_proper cs ≡ true → every_component (λ tags kind. is_formed tags kind) cs ≡ true
+  all_limits no_components e = refl
+  all_limits (component name t presence rest) e =
+      let p = and_parts (is_proper t && is_proper_presence t presence) (are_proper rest) e in
+      let q = and_parts (is_proper t) (is_proper_presence t presence) p.0 in
+      and_from (keeps_limits t) (every_component (λ tags kind. is_formed tags kind) rest) (proper_limits t q.0) (all_limits rest p.1)
+
+-- ---- the three tests
+
+by_limits : (proper keeps apart shallow : Bool) → (proper ≡ true → keeps ≡ true) → (keeps && shallow) ≡ false → false ≡ ((proper && apart) && shallow)
+by_limits true true apart true from e = absurd (false≢true (sym e))
+by_limits true true true false from e = refl
+by_limits true true false false from e = refl
+by_limits true false apart shallow from e = absurd (false≢true (from refl))
+by_limits false keeps apart shallow from e = refl
+
+pub outside_limits : (t : AbstractType) → is_within_limits t ≡ false → false ≡ is_sound t
+outside_limits t e = by_limits (is_proper t) (keeps_limits t) (none_clash (first_clash t)) (nat_le (nesting t) 32) (proper_limits t) e
+
+by_clash : (proper apart shallow : Bool) → apart ≡ false → false ≡ ((proper && apart) && shallow)
+by_clash true apart shallow e = ap (λ (b : Bool). b && shallow) (sym e)
+by_clash false apart shallow e = refl
+
+clash_none : (t : AbstractType) (c : AbstractClash) (found : Option AbstractClash) → first_clash t ≡ found → IsClash t c → none_clash found ≡ false
+clash_none t c None e clash = absurd (not_distinct t c clash (type_none t e))
+clash_none t c (Some d) e clash = refl
+
+pub has_clash : (t : AbstractType) (c : AbstractClash) → IsClash t c → false ≡ is_sound t
+has_clash t c clash = by_clash (is_proper t) (none_clash (first_clash t)) (nat_le (nesting t) 32) (clash_none t c (first_clash t) refl clash)
+
+apart_none : (t : AbstractType) (found : Option AbstractClash) → first_clash t ≡ found → Distinct t → none_clash found ≡ true
+apart_none t None e distinct = refl
+apart_none t (Some d) e distinct = absurd (not_distinct t d (type_some t d e) distinct)
+
+by_both : (proper keeps apart shallow : Bool) → apart ≡ true → (keeps && shallow) ≡ true → proper ≡ ((proper && apart) && shallow)
+by_both true true true true e f = refl
+by_both true true true false e f = absurd (false≢true f)
+by_both true true false shallow e f = absurd (false≢true e)
+by_both true false apart shallow e f = absurd (false≢true f)
+by_both false keeps apart shallow e f = refl
+
+pub distinct_within : (t : AbstractType) → is_within_limits t ≡ true → Distinct t → is_proper t ≡ is_sound t
+distinct_within t within distinct = by_both (is_proper t) (keeps_limits t) (none_clash (first_clash t)) (nat_le (nesting t) 32) (apart_none t (first_clash t) refl distinct) within

@@ -1,0 +1,3 @@
+-- The elements of an OF type.
+pub mod Elements
+pub mod Faults

@@ -1,0 +1,3 @@
+-- The contents of a SEQUENCE.
+pub mod Contents
+pub mod Faults

@@ -1,0 +1,44 @@
+//! The end of a BIT STRING: how many bits are unused, and what they are.
+ghost use Rattle.std.specs.Prelude.{◌≡◌, ◌^◌, ◌≤◌};
+ghost use Rattle.guard_der.specs.Fits.{last_octet as last_of, has_proper_end, has_zero_end};
+
+/// At most seven bits are unused, and without octets none (X.690 8.6.2).
+pub fn has_proper_end(octets: &[u8], unused: u8) -> bool
+    ensures { result ≡ has_proper_end octets.now unused }
+{
+    unused <= 7 && (unused == 0 || !octets.is_empty())
+}
+
+/// The unused bits are zero (X.690 11.2.1).
+pub fn has_zero_end(octets: &[u8], unused: u8) -> bool
+    requires { unused ≤ 7 }
+    ensures { result ≡ has_zero_end octets.now unused }
+{
+    last_octet(octets) % power_of_two(unused) == 0
+}
+
+fn last_octet(octets: &[u8]) -> u8
+    ensures { result ≡ last_of octets.now }
+{
+    if octets.is_empty() {
+        0
+    } else {
+        octets[octets.len() - 1]
+    }
+}
+
+fn power_of_two(exponent: u8) -> u8
+    requires { exponent ≤ 7 }
+    ensures { result ≡ 2 ^ exponent }
+{
+    match exponent {
+        0 => 1,
+        1 => 2,
+        2 => 4,
+        3 => 8,
+        4 => 16,
+        5 => 32,
+        6 => 64,
+        _ => 128,
+    }
+}

@@ -1,0 +1,45 @@
+//! Whether a component is sent, by its presence.
+ghost use Rattle.std.specs.Prelude.{◌≡◌, ◌≢◌, None, Some};
+ghost use Rattle.guard_model.specs.Answer.{Gives};
+ghost use Rattle.guard_model.specs.TypeView.{presence_view};
+ghost use Rattle.guard_model.specs.ValueView.{value_view, field_view};
+ghost use Rattle.guard_der.specs.Breach.{AbstractBreach};
+ghost use Rattle.guard_der.specs.Der.{is_left_out as left_out};
+ghost use Rattle.guard_der.specs.Reading.{not_sent as unsent};
+ghost use Rattle.guard_der.specs.Views.{breach_of};
+
+use crate::breach::DecodeFault;
+use guard_model::{Presence, Value};
+use std::alloc::Global;
+
+/// A component whose value is its default is not sent (X.690 11.5).
+pub fn is_left_out(presence: &Presence, value: &Value) -> bool
+    ensures { result ≡ left_out (presence_view presence.now) (value_view value.now) }
+{
+    match presence {
+        Presence::Default(default) => default.same(value),
+        Presence::Mandatory => false,
+        Presence::Optional => false,
+        Presence::Pending => false,
+    }
+}
+
+/// What a component is that isn't sent; or this fault, if it is mandatory.
+pub fn not_sent(
+    alloc: Global,
+    presence: &Presence,
+    fault: DecodeFault,
+) -> Result<Option<Value>, DecodeFault>
+    requires named { breach_of fault ≢ None }
+    ensures { (b : AbstractBreach) → breach_of fault ≡ Some b → Gives field_view breach_of result (unsent (presence_view presence.now) b) }
+{
+    match presence {
+        Presence::Mandatory => Err(fault),
+        Presence::Optional => Ok(None),
+        Presence::Pending => Ok(None),
+        Presence::Default(value) => match value.copy(alloc) {
+            Ok(copy) => Ok(Some(copy)),
+            Err(_) => Err(DecodeFault::OutOfMemory),
+        },
+    }
+}

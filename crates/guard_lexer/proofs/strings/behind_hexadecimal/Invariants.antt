@@ -1,0 +1,12 @@
+use Rattle.std.proofs.Common.{◌≡◌, ◌≤◌, length}
+use Rattle.guard_lexer.specs.Reading.{behind_hexadecimal}
+use Rattle.guard_lexer.proofs.strings.behind_hexadecimal.Given as goal
+
+abbrev pub invariant-loop-left : goal.invariant-loop-left
+invariant-loop-left l = record {
+  within : length l.left ≤ length l.text;
+  reads : behind_hexadecimal l.left ≡ behind_hexadecimal l.text;
+}
+
+abbrev pub decreases-loop-left : goal.decreases-loop-left
+decreases-loop-left l = length l.left

@@ -1,0 +1,45 @@
+//! The alphabets of the character strings (X.680 clause 41).
+ghost use Rattle.guard_model.specs.Alphabets.{is_character, is_printable_mark as printable_mark};
+ghost use Rattle.std.specs.Char.{is_ascii_alphabetic, is_ascii_digit};
+ghost use Rattle.std.specs.Prelude.{◌≡◌};
+
+use crate::ty::CharKind;
+
+impl CharKind {
+    /// Whether the character with this code is of the kind's alphabet; any is of that of UTF8String.
+    pub fn has(self, code: u32) -> bool
+        ensures { result ≡ is_character self code }
+    {
+        match self {
+            CharKind::Numeric => code == 32 || is_digit(code),
+            CharKind::Printable => is_digit(code) || is_letter(code) || is_printable_mark(code),
+            CharKind::Ia5 => code < 128,
+            CharKind::Visible => 32 <= code && code <= 126,
+            CharKind::Utf8 => true,
+        }
+    }
+}
+
+fn is_digit(code: u32) -> bool
+    ensures { result ≡ is_ascii_digit code }
+{
+    48 <= code && code <= 57
+}
+
+fn is_letter(code: u32) -> bool
+    ensures { result ≡ is_ascii_alphabetic code }
+{
+    (65 <= code && code <= 90) || (97 <= code && code <= 122)
+}
+
+/// Space and `' ( ) + , - . / : = ?`.
+fn is_printable_mark(code: u32) -> bool
+    ensures { result ≡ printable_mark code }
+{
+    code == 32
+        || (39 <= code && code <= 41)
+        || (43 <= code && code <= 47)
+        || code == 58
+        || code == 61
+        || code == 63
+}

@@ -1,4 +1,0 @@
-mod making;
-mod texts;
-mod types;
-mod values;

@@ -1,0 +1,6 @@
+-- ---- policies
+pub mod Policies
+pub mod PolicyView
+-- ---- verdicts
+pub mod Verdicts
+pub mod Decisions

@@ -1,0 +1,66 @@
+-- Policies as the definitions see them.
+use Rattle.std.specs.Prelude.{◌≡◌, ℕ, ◌-◌, nat_eq, List, [], ◌∷◌, All, option_map, slice_get, string_bytes, Option, Some, None, IsTrue, if◌then◌else◌}
+use Rattle.std.specs.Str.{bytes_eq}
+use Rattle.guard_model.specs.AbstractType.{AbstractType}
+use Rattle.guard_model.specs.AbstractValue.{AbstractValue}
+use Rattle.guard_model.specs.TypeView.{type_view}
+use Rattle.guard_der.specs.Fits.{fits}
+use Rattle.guard_der.specs.Sound.{is_sound}
+use Rattle.guard_policy.specs.declared.policy.Effect.{Effect}
+use Rattle.guard_policy.specs.declared.policy.Message.{Message}
+use Rattle.guard_policy.specs.declared.policy.Rule.{Rule}
+
+pub record AbstractMessage : Type 0 where
+  pub name : List ℕ
+  pub ty : AbstractType
+
+pub record AbstractRule : Type 0 where
+  pub name : List ℕ
+  pub effect : Effect
+  pub from : List ℕ
+  pub to : List ℕ
+  pub message : List ℕ
+  pub ty : AbstractType
+
+-- messages and rules in file order, and the names of the schema's modules
+pub record AbstractPolicy : Type 0 where
+  pub messages : List AbstractMessage
+  pub rules : List AbstractRule
+  pub modules : List (List ℕ)
+
+pub record AbstractRoute : Type 0 where
+  pub from : List ℕ
+  pub to : List ℕ
+  pub message : List ℕ
+
+abbrev pub message_view : Message → AbstractMessage
+message_view m = record { name = string_bytes m.name; ty = type_view m.ty }
+
+abbrev pub rule_view : Rule → AbstractRule
+rule_view r = record { name = string_bytes r.name; effect = r.effect; from = string_bytes r.from; to = string_bytes r.to; message = string_bytes r.message; ty = type_view r.ty }
+
+-- the declared type of the first message of this name
+abbrev pub declared_among : List AbstractMessage → List ℕ → Option AbstractType
+declared_among [] name = None
+declared_among (m ∷ ms) name = if bytes_eq m.name name then Some m.ty else declared_among ms name
+
+abbrev pub declared_type : AbstractPolicy → List ℕ → Option AbstractType
+declared_type p name = declared_among p.messages name
+
+-- the name of a rule by its number, from 0
+abbrev pub rule_name_of : AbstractPolicy → ℕ → Option (List ℕ)
+rule_name_of p i = option_map (λ r. r.name) (slice_get p.rules i)
+
+-- the name of the module at this place of the list of texts, from 1
+abbrev pub module_name : AbstractPolicy → ℕ → Option (List ℕ)
+module_name p text = if nat_eq text 0 then None else slice_get p.modules (text - 1)
+
+-- Every value that fits the first type fits the second.
+abbrev pub FitsAlso : AbstractType → AbstractType → Type 0
+FitsAlso t u = (v : AbstractValue) → IsTrue (fits t v) → IsTrue (fits u v)
+
+-- Each type is sound, and a rule's type has the kind of the declared type of its message.
+pub record IsConsistent (messages : List AbstractMessage) (rules : List AbstractRule) : Type 0 where
+  pub messages_sound : All (λ m. IsTrue (is_sound m.ty)) messages
+  pub rules_sound : All (λ r. IsTrue (is_sound r.ty)) rules
+  pub rules_fit : All (λ r. (t : AbstractType) → declared_among messages r.message ≡ Some t → FitsAlso t r.ty) rules

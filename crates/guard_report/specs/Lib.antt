@@ -1,0 +1,3 @@
+pub mod Text
+-- ---- worked examples, which the checker computes
+pub mod Rows

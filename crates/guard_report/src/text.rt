@@ -1,0 +1,127 @@
+//! The text of a verdict, as it stands in a report.
+ghost use Rattle.std.specs.Prelude.{◌≡◌, ◌++◌, OnOk, IfOk, codes, map, option_map};
+ghost use Rattle.guard_policy.specs.PolicyView.{policy_view, route_view};
+ghost use Rattle.guard_eval.specs.Violations.{violation_view, shortfall_view};
+ghost use Rattle.guard_policy.specs.Verdicts.{verdict_view};
+ghost use Rattle.guard_der.specs.Views.{breach_view};
+ghost use Rattle.guard_report.specs.Text.{verdict_octets, breach_text, violation_text, site_text, rule_text, shortfall_text, shortfalls_text};
+
+use super::path::add_path;
+use super::words::{add, add_name, add_number};
+use guard_der::Breach;
+use guard_eval::Violation;
+use guard_model::{OutOfMemory, Site};
+use guard_policy::{Policy, Route, Verdict};
+use std::alloc::Global;
+
+/// The text of a verdict on a message of the route. Its one refusal is want of memory.
+pub fn verdict_text(
+    alloc: Global,
+    verdict: &Verdict,
+    route: &Route,
+    policy: &Policy,
+) -> Result<Vec<u8>, OutOfMemory>
+    ensures { IfOk result (λ text. text.items ≡ verdict_octets (policy_view policy.now) (route_view route.now) (verdict_view verdict.now)) }
+{
+    let mut text = Vec::new(alloc);
+    match verdict {
+        Verdict::Pass => add(&mut text, b"pass")?,
+        Verdict::UnknownMessage => add(&mut text, b"unknown-message")?,
+        Verdict::Undecodable(breach) => {
+            add(&mut text, b"undecodable ")?;
+            add_breach(&mut text, breach, route, policy)?;
+        }
+        Verdict::OutsideType(violation) => {
+            add(&mut text, b"outside-type ")?;
+            add_violation(&mut text, violation, route, policy)?;
+        }
+        Verdict::DeniedBy(rule) => {
+            add(&mut text, b"denied-by ")?;
+            add_rule(&mut text, *rule, policy)?;
+        }
+        Verdict::NotAllowed(shortfalls) => {
+            add(&mut text, b"not-allowed ")?;
+            add_shortfalls(&mut text, shortfalls, route, policy)?;
+        }
+        Verdict::NoRule => add(&mut text, b"no-rule")?,
+    }
+    Ok(text)
+}
+
+fn add_breach(
+    text: &mut Vec<u8>,
+    breach: &Breach,
+    route: &Route,
+    policy: &Policy,
+) -> Result<(), OutOfMemory>
+    ensures { OnOk result (text.new.items ≡ text.old.items ++ breach_text (policy_view policy.now) (route_view route.now) (breach_view breach.now)) }
+{
+    add(text, breach.code.name().as_bytes())?;
+    add(text, b" at ")?;
+    add_number(text, breach.at as u64)?;
+    add(text, b" ")?;
+    add_path(text, policy.declared(route.message), &breach.path)
+}
+
+/// Each rule with its first violation, parted by commas.
+fn add_shortfalls(
+    text: &mut Vec<u8>,
+    shortfalls: &[(usize, Violation)],
+    route: &Route,
+    policy: &Policy,
+) -> Result<(), OutOfMemory>
+    ensures { OnOk result (text.new.items ≡ text.old.items ++ shortfalls_text (policy_view policy.now) (route_view route.now) (map shortfall_view shortfalls.now)) }
+{
+    let [first, rest @ ..] = shortfalls else {
+        return Ok(());
+    };
+    add_shortfall(text, first, route, policy)?;
+    for shortfall in rest {
+        add(text, b", ")?;
+        add_shortfall(text, shortfall, route, policy)?;
+    }
+    Ok(())
+}
+
+fn add_shortfall(
+    text: &mut Vec<u8>,
+    shortfall: &(usize, Violation),
+    route: &Route,
+    policy: &Policy,
+) -> Result<(), OutOfMemory>
+    ensures { OnOk result (text.new.items ≡ text.old.items ++ shortfall_text (policy_view policy.now) (route_view route.now) (shortfall_view shortfall.now)) }
+{
+    let (rule, violation) = shortfall;
+    add_rule(text, *rule, policy)?;
+    add(text, b" ")?;
+    add_violation(text, violation, route, policy)
+}
+
+fn add_rule(text: &mut Vec<u8>, rule: usize, policy: &Policy) -> Result<(), OutOfMemory>
+    ensures { OnOk result (text.new.items ≡ text.old.items ++ rule_text (policy_view policy.now) rule) }
+{
+    add_name(text, policy.rule_name(rule), rule as u64)
+}
+
+fn add_violation(
+    text: &mut Vec<u8>,
+    violation: &Violation,
+    route: &Route,
+    policy: &Policy,
+) -> Result<(), OutOfMemory>
+    ensures { OnOk result (text.new.items ≡ text.old.items ++ violation_text (policy_view policy.now) (route_view route.now) (violation_view violation.now)) }
+{
+    add_site(text, violation.site, policy)?;
+    add(text, b" ")?;
+    add_path(text, policy.declared(route.message), &violation.path)
+}
+
+fn add_site(text: &mut Vec<u8>, site: Site, policy: &Policy) -> Result<(), OutOfMemory>
+    ensures { OnOk result (text.new.items ≡ text.old.items ++ site_text (policy_view policy.now) site) }
+{
+    add_name(text, policy.module(site.text), u64::from(site.text))?;
+    add(text, b":")?;
+    add_number(text, u64::from(site.line))?;
+    add(text, b":")?;
+    add_number(text, u64::from(site.column))
+}

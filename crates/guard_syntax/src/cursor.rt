@@ -1,0 +1,125 @@
+//! A place among the tokens of a text, and steps over single tokens.
+ghost use Rattle.std.specs.Prelude.{◌≡◌, length, Some, true, false};
+ghost use Rattle.guard_model.specs.Answer.{Gives};
+ghost use Rattle.guard_syntax.specs.Lexemes.{octets_of, HasSpelling};
+ghost use Rattle.guard_syntax.specs.ReadTokens as reading;
+ghost use Rattle.guard_syntax.specs.ReadTokens.{failure_of};
+ghost use Rattle.guard_syntax.specs.Cursors.{ahead, Reads};
+
+use crate::read_error::{Failure, ReadError};
+use guard_lexer::{Token, TokenKind};
+use guard_model::Site;
+
+/// What is still to be read: some last tokens of a text, and the text that they borrow their spellings from.
+#[derive(Clone, Copy)]
+pub struct Cursor<'a, 't> {
+    pub text: &'a [u8],
+    pub tokens: &'t [Token],
+}
+
+/// What was read, and what is still to be read behind it.
+pub type Read<'a, 't, T> = Result<(T, Cursor<'a, 't>), ReadError>;
+
+impl<'a, 't> Cursor<'a, 't> {
+    /// How many tokens there are.
+    pub fn len(self) -> usize
+        ensures { result ≡ length (ahead self.entry) }
+    {
+        self.tokens.len()
+    }
+
+    pub fn begins_with(self, kind: TokenKind) -> bool
+        ensures { result ≡ reading.begins_with kind (ahead self.entry) }
+    {
+        match self.tokens {
+            [first, ..] => first.kind == kind,
+            [] => false,
+        }
+    }
+
+    /// Behind the first token.
+    pub fn behind(self) -> Cursor<'a, 't>
+        ensures { ahead result ≡ reading.behind (ahead self.entry) }
+    {
+        match self.tokens {
+            [_, rest @ ..] => Cursor {
+                text: self.text,
+                tokens: rest,
+            },
+            [] => self,
+        }
+    }
+
+    /// Behind a token that is there or not.
+    pub fn behind_if(self, there: bool) -> Cursor<'a, 't>
+        ensures { ahead result ≡ reading.behind_if there (ahead self.entry) }
+    {
+        if there { self.behind() } else { self }
+    }
+
+    /// The site of the first token; where there is none, no place.
+    pub fn site(self) -> Site
+        ensures { result ≡ reading.site_at (ahead self.entry) }
+    {
+        match self.tokens {
+            [first, ..] => first.site,
+            [] => Site {
+                text: 0,
+                line: 0,
+                column: 0,
+            },
+        }
+    }
+
+    /// Reading fails here.
+    pub fn unexpected(self) -> ReadError
+        ensures { failure_of result ≡ Some (Failure.Unexpected (length (ahead self.entry))) }
+    {
+        ReadError::At(Failure::Unexpected(self.len()))
+    }
+
+    /// Reading fails here since a node would lie too deep, where a token begins one.
+    pub fn too_deep(self, begins: bool) -> ReadError
+        ensures deep { begins ≡ true → failure_of result ≡ Some (Failure.TooDeep (length (ahead self.entry))) }
+        ensures other { begins ≡ false → failure_of result ≡ Some (Failure.Unexpected (length (ahead self.entry))) }
+    {
+        if begins {
+            ReadError::At(Failure::TooDeep(self.len()))
+        } else {
+            self.unexpected()
+        }
+    }
+
+    /// Behind one token of this kind.
+    #[tactic(auto, unfolding(crate::specs::ReadTokens::read_token))]
+    pub fn after(self, kind: TokenKind) -> Result<Cursor<'a, 't>, ReadError>
+        ensures { Gives ahead failure_of result (reading.read_token kind (ahead self.entry)) }
+    {
+        if self.begins_with(kind) {
+            Ok(self.behind())
+        } else {
+            Err(self.unexpected())
+        }
+    }
+
+    /// The spelling of one name, number or string.
+    #[tactic(auto, unfolding(crate::specs::ReadTokens::read_spelling))]
+    pub fn spelling(self, kind: TokenKind) -> Read<'a, 't, &'a [u8]>
+        requires { HasSpelling kind }
+        ensures { Reads (λ s. s.now) result (reading.read_spelling kind (ahead self.entry)) }
+    {
+        match self.tokens {
+            [first, ..] if first.kind == kind => Ok((octets(self.text, first), self.behind())),
+            _ => Err(self.unexpected()),
+        }
+    }
+}
+
+/// The octets of a token. A span that leaves the text is cut.
+pub fn octets<'a>(text: &'a [u8], token: &Token) -> &'a [u8]
+    ensures { result.now ≡ octets_of text.now token.now }
+{
+    let end = token.end.min(text.len());
+    let start = token.start.min(end);
+    &text[start..end]
+}

@@ -1,0 +1,101 @@
+//! Which fault a failure is, and where it is.
+ghost use Rattle.std.specs.Prelude.{◌≡◌, ◌-◌, drop, length};
+ghost use Rattle.guard_syntax.specs.Faults as faults;
+ghost use Rattle.guard_syntax.specs.Faults.{NamesToken, NamesBrace, HasNamedBits, BeginWithNamedBits};
+
+use crate::cursor::octets;
+use crate::fault::{Spelling, SyntaxFault};
+use crate::read_error::{Failure, ReadError};
+use crate::text_end::end_of;
+use guard_lexer::{Mark, Reserved, Token, TokenKind};
+use guard_model::Site;
+
+/// The fault for this error.
+pub fn fault(place: u32, text: &[u8], tokens: &[Token], error: ReadError) -> SyntaxFault
+    ensures memory { error ≡ ReadError.OutOfMemory → result ≡ SyntaxFault.OutOfMemory }
+    ensures named { NamesToken place text.now tokens.now result }
+{
+    match error {
+        ReadError::OutOfMemory => SyntaxFault::OutOfMemory,
+        ReadError::At(Failure::Unexpected(left)) => match named_bits(tokens, left) {
+            Some(fault) => fault,
+            None => unexpected(place, text, last(tokens, left)),
+        },
+        ReadError::At(Failure::TooDeep(left)) => too_deep(place, text, last(tokens, left)),
+    }
+}
+
+/// The last tokens, as many as are said.
+fn last(tokens: &[Token], left: usize) -> &[Token]
+    ensures { result.now ≡ drop (length tokens.now - left) tokens.now }
+{
+    &tokens[tokens.len().saturating_sub(left)..]
+}
+
+/// The fault at a brace directly behind BIT STRING, where so many tokens are left.
+fn named_bits(tokens: &[Token], left: usize) -> Option<SyntaxFault>
+    ensures { NamesBrace (HasNamedBits tokens.now) result }
+{
+    if left >= tokens.len() || tokens.len() - left < 2 {
+        return None;
+    }
+    brace_behind_bit_string(last(tokens, left + 2))
+}
+
+fn brace_behind_bit_string(tokens: &[Token]) -> Option<SyntaxFault>
+    ensures { NamesBrace (BeginWithNamedBits tokens.now) result }
+{
+    match tokens {
+        [bit, string, brace, ..]
+            if bit.kind == TokenKind::Reserved(Reserved::Bit)
+                && string.kind == TokenKind::Reserved(Reserved::String)
+                && brace.kind == TokenKind::Mark(Mark::LeftBrace) => {
+            Some(SyntaxFault::Unsupported(Spelling::of(b"{"), brace.site))
+        }
+        _ => None,
+    }
+}
+
+fn too_deep(place: u32, text: &[u8], tokens: &[Token]) -> SyntaxFault
+    ensures { NamesToken place text.now tokens.now result }
+{
+    match tokens {
+        [first, ..] => SyntaxFault::TooDeep(first.site),
+        [] => SyntaxFault::Unexpected(end_of(place, text)),
+    }
+}
+
+fn unexpected(place: u32, text: &[u8], tokens: &[Token]) -> SyntaxFault
+    ensures { NamesToken place text.now tokens.now result }
+{
+    match tokens {
+        [] => SyntaxFault::Unexpected(end_of(place, text)),
+        [comma, next, ..]
+            if comma.kind == TokenKind::Mark(Mark::Comma) && is_extension(next.kind) => {
+            SyntaxFault::Unsupported(Spelling::of(octets(text, next)), next.site)
+        }
+        [first, ..] if is_left_out(first.kind) => {
+            SyntaxFault::Unsupported(Spelling::of(octets(text, first)), first.site)
+        }
+        [first, ..] => SyntaxFault::Unexpected(first.site),
+    }
+}
+
+/// Whether a token belongs to a form that is left out.
+fn is_left_out(kind: TokenKind) -> bool
+    ensures { result ≡ faults.is_left_out kind }
+{
+    kind == TokenKind::Unsupported
+        || is_extension(kind)
+        || kind == TokenKind::Mark(Mark::LeftVersionBrackets)
+        || kind == TokenKind::Mark(Mark::RightVersionBrackets)
+        || kind == TokenKind::Mark(Mark::CommercialAt)
+        || kind == TokenKind::Mark(Mark::FullStop)
+}
+
+/// Whether a token begins an extension or an exception.
+fn is_extension(kind: TokenKind) -> bool
+    ensures { result ≡ faults.is_extension kind }
+{
+    kind == TokenKind::Mark(Mark::Ellipsis) || kind == TokenKind::Mark(Mark::Exclamation)
+}

@@ -3,7 +3,7 @@ use Rattle.std.proofs.Common.{◌≡◌, ◌≢◌, ◌⊎◌, inl, inr, ⊎_eli
 use Rattle.std.specs.Prelude.{nat_eq, nat_lt, count_by, sum_by, All, IsTrue}
 use Rattle.std.specs.List.{list_any}
 use Rattle.std.specs.List.Sorted.{IsPermutation}
-use Rattle.std.proofs.lemmas.Bool.{eqb-true, ne_eqb, eq-eqb, ltb-true, ltb-false}
+use Rattle.std.proofs.lemmas.Bool.{eqb-true, ne_eqb, eq-eqb, ltb-true, ltb-false, not-true}
 use Rattle.std.proofs.lemmas.Bool.Decides.{eqb_tells}
 use Rattle.std.proofs.lemmas.List.{length-set, get_or-set_same, get_or-set_other, get_or_past}
 use Rattle.std.proofs.lemmas.List.Elements.{All-push, All-nil, All-weaker, All-get_or}
@@ -11,12 +11,12 @@ use Rattle.std.proofs.lemmas.List.Folds.{list_any-append, list_any_at}
 use Rattle.std.proofs.lemmas.List.Sums.{sum_by-cons, sum_by_push, sum_by-set}
 use Rattle.guard_names.specs.declared.order.Waiting.{Waiting}
 use Rattle.guard_names.specs.Order.{is_listed, IsReady, IsNext, IsRecursive}
-use Rattle.guard_names.specs.Queues.{times, times_waiting, times_in, once_at, used_by, UsesIn, AreInside, IsMet, IsMetBefore, IsWaitingFor, Stands}
+use Rattle.guard_names.specs.Queues.{times, times_waiting, times_in, once_at, used_by, UsesIn, AreInside, IsMet, IsMetBefore, IsWaitingFor, IsReleased, Stands}
 use Rattle.guard_names.proofs.Chains.{or_true, or_false, stuck_is_recursive}
 
-not_true : (b : Bool) → not b ≡ true → b ≡ false
-not_true true h = absurd cc
-not_true false h = refl
+
+
+
 
 true_false : {P : Type 0} → true ≡ false → P
 true_false h = absurd cc
@@ -105,11 +105,6 @@ module _ (us : List (List ℕ)) where
 
   -- ---- one that is listed
 
-  -- what waited for it has all its uses before its place met
-  pub record IsReleased (listed : List ℕ) (w : Waiting) : Type 0 where
-    pub number : w.number < length us
-    pub met : IsMetBefore us listed w.number w.met
-
   pub listed_one : (listed : List ℕ) (ready ready' : ℕ → ℕ) (waiting : List (List Waiting)) (a : ℕ)
       → Stands us listed ready waiting (λ _. 0) → ((k : ℕ) → ready' k + once_at a k ≡ ready k) → a < length us
       → Stands us (listed ++ a ∷ []) ready' (set waiting a []) (times_waiting (get_or waiting a []))
@@ -139,9 +134,9 @@ module _ (us : List (List ℕ)) where
           subst (λ x. All (IsWaitingFor us (listed ++ a ∷ []) x) (get_or (set waiting a []) x [])) (sym same.1) new
 
   pub released_by : (listed : List ℕ) (ready underway : ℕ → ℕ) (waiting : List (List Waiting)) (a : ℕ)
-      → Stands us listed ready waiting underway → All (IsReleased (listed ++ a ∷ [])) (get_or waiting a [])
+      → Stands us listed ready waiting underway → All (IsReleased us (listed ++ a ∷ [])) (get_or waiting a [])
   released_by listed ready underway waiting a s =
-      All-weaker (IsWaitingFor us listed a) (IsReleased (listed ++ a ∷ []))
+      All-weaker (IsWaitingFor us listed a) (IsReleased us (listed ++ a ∷ []))
       (λ w h. record { number = h.number; met = λ i below. still_listed listed a (get_or (used_by us w.number) i 0) (h.met i below) })
       (get_or waiting a []) (s.waiting_for a)
 
@@ -221,7 +216,7 @@ module _ (us : List (List ℕ)) where
       where
         next : (k : ℕ) → k < length us → not (is_listed listed k) ≡ true → (used : ℕ) × (used < length us) × (not (is_listed listed used) ≡ true) × UsesIn us k used
         next k below is =
-            let unlisted : is_listed listed k ≡ false = not_true (is_listed listed k) is in
+            let unlisted : is_listed listed k ≡ false = not-true (is_listed listed k) is in
             let one = just_once k below in
             let none = times_of_unlisted listed k unlisted in
             let r = none_ready k in
@@ -231,3 +226,7 @@ module _ (us : List (List ℕ)) where
         by : (b : Bool) → is_listed listed k ≡ b → is_listed listed k ≡ true
         by true e = e
         by false e = let r = stuck_is_recursive (length us) (UsesIn us) (λ x. not (is_listed listed x)) next k below (ap not e) in absurd (acyclic r.0 r.1)
+
+    -- where as many are underway
+    pub same_underway : (other : ℕ → ℕ) → ((k : ℕ) → other k ≡ underway k) → Stands us listed ready waiting other
+    same_underway other e = record s { once = λ k. let o = s.once k in let p = e k in omega (arith, o, p) }

@@ -5,6 +5,9 @@ pub mod Meanings
 pub mod Order
 pub mod Faults
 pub mod Rows
+pub mod Queues
+pub mod Searches
+pub mod QueueViews
 pub mod Views
 pub mod ExportViews
 pub mod DeclarationViews

@@ -53,3 +53,15 @@ module _ (us : List (List ℕ)) where
     pub once : (k : ℕ) → times listed k + ready k + times_in waiting k + underway k ≡ (if nat_lt k (length us) then 1 else 0)
     pub ready_met : (k : ℕ) → 0 < ready k → IsMet listed k
     pub waiting_for : (used : ℕ) → All (IsWaitingFor listed used) (slice_index_or waiting used [])
+
+  -- its uses before its place are all listed
+  pub record IsReleased (listed : List ℕ) (w : Waiting) : Type 0 where
+    pub number : w.number < length us
+    pub met : IsMetBefore listed w.number w.met
+
+  -- ---- what the code keeps
+
+  -- a flag for each definition, whether it is listed
+  pub record AreFlags (flags : List Bool) (listed : List ℕ) : Type 0 where
+    pub size : length flags ≡ length us
+    pub says : (k : ℕ) → k < length us → slice_index_or flags k false ≡ is_listed listed k

@@ -17,16 +17,18 @@ abbrev pub part_at : List Part → ℕ → Part
 part_at parts place = fold (λ found p. if nat_le p.start place then p else found) (record { start = 0; cyclic = false }) parts
 
 module _ (us : List (List ℕ)) (len : ℕ) (node : ℕ → ℕ) (start : ℕ → ℕ) (cyclic : ℕ → Bool) (pending : List Pending) (mark : ℕ → Mark) where
-  -- The use of a definition on the path is followed: what is used is left, or still to be followed, or on the path in this part, which is cyclic then, or
-  -- in a later one.
-  abbrev pub IsFollowed : ℕ → ℕ → Type 0
-  IsFollowed place used =
-      (mark used ≡ Done) ⊎ Contains pending (record { place = place; used = used })
-      ⊎ ((other : ℕ) × (other < len) × (node other ≡ used) × (start place ≤ start other) × (start place ≡ start other → cyclic place ≡ true))
+  -- the use of a definition on the path is followed
+  pub data IsFollowed (place used : ℕ) : Type 0 where
+    -- what is used is left
+    left : mark used ≡ Done → IsFollowed place used
+    -- the use is still to be followed
+    pending_use : Contains pending (record { place = place; used = used }) → IsFollowed place used
+    -- what is used is on the path, in the same part, which is cyclic then, or in a later one
+    on_path : (other : ℕ) → other < len → node other ≡ used → start place ≤ start other → (start place ≡ start other → cyclic place ≡ true) → IsFollowed place used
 
   -- what holds of a search, where all uses are followed but those of one
   pub record IsPath (excepted : ℕ → Type 0) : Type 0 where
-    pub on_path : (q : ℕ) → q < len → mark (node q) ≡ OnPath q
+    pub marked : (q : ℕ) → q < len → mark (node q) ≡ OnPath q
     pub inside : (q : ℕ) → q < len → node q < length us
     pub at_place : (k q : ℕ) → mark k ≡ OnPath q → (q < len) × (node q ≡ k)
     pub ahead : (p q : ℕ) → p < q → q < len → Leads (UsesIn us) (node p) (node q)

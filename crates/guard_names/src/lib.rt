@@ -8,7 +8,12 @@ mod exports;
 mod fault;
 mod meanings;
 mod mentions;
+mod names;
+mod order;
+mod recursion;
 mod table;
 mod uses;
 
+pub use declarations::Id;
 pub use fault::NameFault;
+pub use names::{MOST_MODULES, Names, resolve};

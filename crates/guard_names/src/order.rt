@@ -1,7 +1,10 @@
 //! The order in which definitions stand behind all that they use.
-ghost use Rattle.std.specs.Prelude.{◌≡◌, ℕ, ◌+◌, ◌<◌, ◌++◌, ◌∷◌, [], length, vec_len, slice_index_or, map, IfOk, OnOk, OnTrue, OnFalse, IsTrue, Some, None, MatchOption, nat_cmp};
-ghost use Rattle.guard_names.specs.Order.{IsOrder, IsRecursive, Follow, is_listed};
-ghost use Rattle.guard_names.specs.Queues.{used_by, UsesIn, AreInside};
+ghost use Rattle.std.specs.Prelude.{◌≡◌, ℕ, ◌+◌, ◌<◌, ◌≤◌, ◌++◌, ◌∷◌, [], false, true, length, map, slice_index_or, replicate, IfOk, OnOk, OnTrue, OnFalse, IfSome, IfNone, IsTrue};
+ghost use Rattle.std.specs.BinaryHeap.{IsHeap, heap_items};
+ghost use Rattle.std.specs.Ordering.{nat_cmp};
+ghost use Rattle.std.proofs.Props.{props};
+ghost use Rattle.guard_names.specs.Order.{IsOrder, IsRecursive, is_listed};
+ghost use Rattle.guard_names.specs.Queues.{AreInside, UsesIn, IsReleased, Stands, once_at};
 
 use crate::declarations::Id;
 use std::alloc::{AllocError, Global};
@@ -27,6 +30,7 @@ pub struct Queue {
     ready: BinaryHeap<Reverse<Id>>,
     /// The others, by the definition that they wait for.
     waiting: Vec<Vec<Waiting>>,
+    ghost least_first: { IsHeap (λ x y. nat_cmp y.0 x.0) (heap_items ready) } by { Prim.hlevel props },
 }
 
 /// The order of definitions that use these.
@@ -41,12 +45,12 @@ pub fn order(alloc: Global, uses: &[Vec<Id>]) -> Result<Vec<Id>, AllocError>
 }
 
 impl Queue {
-    ghost use Rattle.guard_names.specs.QueueViews.{IsQueue, Settles, left_in};
+    ghost use Rattle.guard_names.specs.QueueViews.{IsQueue, IsSized, StandsIn, left_in, times_ready};
 
     /// Nothing is listed yet.
     fn new(alloc: Global, uses: &[Vec<Id>]) -> Result<Queue, AllocError>
         requires { AreInside (map (λ v. v.items) uses.now) }
-        ensures { IfOk result (λ q. IsQueue (map (λ v. v.items) uses.now) (λ _. 0) q × Follow (length uses.now) (UsesIn (map (λ v. v.items) uses.now)) [] q.order.items) }
+        ensures { IfOk result (IsQueue (map (λ v. v.items) uses.now)) }
     {
         let count = uses.len();
         let mut queue = Queue {
@@ -63,21 +67,47 @@ impl Queue {
 
     /// Lists the first definition that is ready, and says whether there was one.
     fn list_next(&mut self, alloc: Global, uses: &[Vec<Id>]) -> Result<bool, AllocError>
+        requires inside { AreInside (map (λ v. v.items) uses.now) }
+        requires queue { IsQueue (map (λ v. v.items) uses.now) self.old }
+        ensures queue { OnOk result (IsQueue (map (λ v. v.items) uses.now) self.new) }
+        ensures left { IfOk result (λ more. OnTrue more (left_in self.new + 1 ≡ left_in self.old)) }
+        ensures ends { IfOk result (λ more. OnFalse more ((k : ℕ) → times_ready (heap_items self.new.ready) k ≡ 0)) }
     {
         let Some(Reverse(next)) = self.ready.pop() else {
             return Ok(false);
         };
+        self.list(alloc, uses, next)?;
+        Ok(true)
+    }
+
+    /// Lists a definition, and lets those that waited for it go on.
+    fn list(&mut self, alloc: Global, uses: &[Vec<Id>], next: Id) -> Result<(), AllocError>
+        requires inside { AreInside (map (λ v. v.items) uses.now) }
+        requires next { next < length uses.now }
+        requires sized { IsSized (map (λ v. v.items) uses.now) self.old }
+        ensures order { OnOk result (self.new.order.items ≡ self.old.order.items ++ next ∷ []) }
+        ensures sized { OnOk result (IsSized (map (λ v. v.items) uses.now) self.new) }
+        ensures stands { OnOk result ((ready : ℕ → ℕ) → Stands (map (λ v. v.items) uses.now) self.old.order.items ready (map (λ v. v.items) self.old.waiting.items) (λ _. 0) → ((k : ℕ) → times_ready (heap_items self.old.ready) k + once_at next k ≡ ready k) → StandsIn (map (λ v. v.items) uses.now) self.new (λ _. 0)) }
+        ensures left { OnOk result (left_in self.new ≡ left_in self.old) }
+    {
         self.order.push(next)?;
         self.listed[next] = true;
         let released = mem::replace(&mut self.waiting[next], Vec::new(alloc));
         for waiting in &released {
             self.settle(uses, *waiting)?;
         }
-        Ok(true)
+        Ok(())
     }
 
     /// Lets a definition wait for the first of its uses that isn't listed, or makes it ready.
     fn settle(&mut self, uses: &[Vec<Id>], waiting: Waiting) -> Result<(), AllocError>
+        requires inside { AreInside (map (λ v. v.items) uses.now) }
+        requires number { waiting.number < length uses.now }
+        requires sized { IsSized (map (λ v. v.items) uses.now) self.old }
+        ensures order { OnOk result (self.new.order.items ≡ self.old.order.items) }
+        ensures sized { OnOk result (IsSized (map (λ v. v.items) uses.now) self.new) }
+        ensures stands { OnOk result ((underway : ℕ → ℕ) → IsReleased (map (λ v. v.items) uses.now) self.old.order.items waiting → StandsIn (map (λ v. v.items) uses.now) self.old (λ k. once_at waiting.number k + underway k) → StandsIn (map (λ v. v.items) uses.now) self.new underway) }
+        ensures left { OnOk result (left_in self.new ≡ left_in self.old + 1) }
     {
         let used = &uses[waiting.number];
         match first_unlisted(used, waiting.met, &self.listed) {
@@ -93,6 +123,11 @@ impl Queue {
 
 /// The place of the first of them, from this one on, that isn't listed.
 fn first_unlisted(used: &[Id], from: usize, listed: &[bool]) -> Option<usize>
+    requires { (u : ℕ) → IsTrue (is_listed used.now u) → u < length listed.now }
+    ensures inside { IfSome result (λ place. place < length used.now) }
+    ensures found { IfSome result (λ place. slice_index_or listed.now (slice_index_or used.now place 0) false ≡ false) }
+    ensures before { IfSome result (λ place. (i : ℕ) → from ≤ i → i < place → slice_index_or listed.now (slice_index_or used.now i 0) false ≡ true) }
+    ensures none { IfNone result ((i : ℕ) → from ≤ i → i < length used.now → slice_index_or listed.now (slice_index_or used.now i 0) false ≡ true) }
 {
     for place in from..used.len() {
         if !listed[used[place]] {
@@ -103,6 +138,7 @@ fn first_unlisted(used: &[Id], from: usize, listed: &[bool]) -> Option<usize>
 }
 
 fn empty_lists(alloc: Global, count: usize) -> Result<Vec<Vec<Waiting>>, AllocError>
+    ensures { IfOk result (λ v. map (λ w. w.items) v.items ≡ replicate count []) }
 {
     let mut lists = Vec::with_capacity(alloc, count)?;
     for _ in 0..count {

@@ -1,7 +1,8 @@
 //! Definitions that use themselves, directly or through others.
-ghost use Rattle.std.specs.Prelude.{◌≡◌, ℕ, map, length, IfOk, MatchOption};
-ghost use Rattle.guard_names.specs.Order.{IsRecursive, IsFirstRecursive};
-ghost use Rattle.guard_names.specs.Queues.{UsesIn, AreInside};
+ghost use Rattle.std.specs.Prelude.{◌≡◌, ◌⊎◌, ℕ, ◌+◌, ◌<◌, ◌≤◌, ◌++◌, ◌∷◌, [], IsTrue, map, length, take, drop, slice_index_or, vec_len, Contains, AllPairs, IfOk, OnOk, IfSome, IfNone, MatchOption, OnTrue, Option, Some, None};
+ghost use Rattle.guard_names.specs.Order.{IsRecursive, IsFirstRecursive, is_listed, Leads};
+ghost use Rattle.guard_names.specs.Queues.{UsesIn, AreInside, used_by};
+ghost use Rattle.guard_names.specs.declared.recursion.Mark.TheVariants as mark;
 
 use crate::declarations::Id;
 use std::alloc::{AllocError, Global};
@@ -57,6 +58,8 @@ pub fn first_recursive(alloc: Global, uses: &[Vec<Id>]) -> Result<Option<Id>, Al
 }
 
 impl Search {
+    ghost use Rattle.guard_names.specs.SearchViews.{IsSearch, IsSearchBut, steps_left};
+
     fn new(alloc: Global, count: usize) -> Result<Search, AllocError> {
         Ok(Search {
             marks: vec![in alloc; Mark::New; count]?,
@@ -103,7 +106,7 @@ impl Search {
         match self.marks[used] {
             Mark::New => self.enter(uses, used),
             Mark::OnPath(place) => {
-                self.join(place);
+                join(&mut self.parts, place);
                 Ok(())
             }
             Mark::Done => Ok(()),
@@ -119,25 +122,57 @@ impl Search {
             start: place,
             cyclic: false,
         })?;
-        for used in &uses[number] {
-            self.pending.push(Pending { place, used: *used })?;
-        }
-        Ok(())
-    }
-
-    /// Makes one part of the one with this place and all behind it: a chain of uses leads from its end back to the place.
-    fn join(&mut self, place: usize) {
-        while let Some(part) = self.parts.pop() {
-            if part.start <= place {
-                break;
-            }
-        }
+        add_pending(place, &uses[number], &mut self.pending)
     }
 
     /// Leaves the last part.
     fn leave(&mut self, part: Part) {
-        self.parts.pop();
-        while part.start < self.path.len() {
+        let left = &self.path[part.start..];
+        mark_done(&mut self.marks, left);
+        if part.cyclic {
+            self.first = least(self.first, left);
         }
+        self.path.truncate(part.start);
+        self.parts.pop();
     }
+}
+
+fn add_pending(place: usize, uses: &[Id], into: &mut Vec<Pending>) -> Result<(), AllocError>
+    ensures { OnOk result (into.new.items ≡ into.old.items ++ map (λ used. record { place = place; used = used }) uses.now) }
+{
+    for used in uses {
+        into.push(Pending { place, used: *used })?;
+    }
+    Ok(())
+}
+
+/// Makes one part of the one with this place and those behind it, since a chain of uses leads back to the place.
+fn join(parts: &mut Vec<Part>, place: usize)
+{
+    let mut last = parts.len() - 1;
+    while place < parts[last].start {
+        last -= 1;
+    }
+    parts.truncate(last + 1);
+    parts[last].cyclic = true;
+}
+
+fn mark_done(marks: &mut [Mark], numbers: &[Id])
+    requires { (number : ℕ) → IsTrue (is_listed numbers.now number) → number < length marks.old }
+    ensures listed { (number : ℕ) → IsTrue (is_listed numbers.now number) → slice_index_or marks.new number mark.New ≡ mark.Done }
+    ensures others { (number : ℕ) → is_listed numbers.now number ≡ false → slice_index_or marks.new number mark.New ≡ slice_index_or marks.old number mark.New }
+{
+    for number in numbers {
+        marks[*number] = Mark::Done;
+    }
+}
+
+/// The least of them.
+fn least(first: Option<Id>, numbers: &[Id]) -> Option<Id>
+{
+    let mut least = first;
+    for number in numbers {
+        least = Some(least.map_or(*number, |least| least.min(*number)));
+    }
+    least
 }

@@ -1,0 +1,3 @@
+pub mod Fronts
+pub mod Listing
+pub mod Keys

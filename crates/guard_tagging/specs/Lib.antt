@@ -1,0 +1,6 @@
+-- Definitions, in reading order.
+pub mod Numbers
+pub mod Tagging
+pub mod Enumerations
+pub mod Types
+pub mod Faults

@@ -13,7 +13,7 @@ use Rattle.guard_syntax.specs.declared.fault.SyntaxFault.{SyntaxFault}
 use Rattle.guard_syntax.specs.declared.fault.SyntaxFault.TheVariants as syntax
 use Rattle.guard_syntax.specs.Trees.{WrittenModule}
 use Rattle.guard_syntax.specs.Lexemes.{lexemes_of, sites_of}
-use Rattle.guard_syntax.specs.Parses.{IsWritten}
+use Rattle.guard_syntax.specs.Parses.{IsWritten, HasSites}
 use Rattle.guard_syntax.specs.Sites.{sited}
 use Rattle.guard_syntax.specs.Faults.{NamesToken, fault_of}
 use Rattle.guard_schema.specs.declared.fault.SchemaFault.{SchemaFault}
@@ -159,6 +159,14 @@ unfolding check_assigned
 definitions_kept assigned types texts names read =
     let p = none_where_ok (definitions_fault first_clash 0 assigned) (map denoted_definition assigned) types (sym (read_definitions-is 0 assigned texts) ∙ read) in
     subst AreDefinitions (sym p.1) (definitions_are assigned (assigned_once (repeated (assigned_names assigned)) names) p.0)
+
+-- the tree of tokens that were lent to the parser
+pub module_text_of : (text : List ℕ) (tokens lent : List Token) (tree : WrittenModule) → lent ≡ tokens → Lexes 1 text tokens → IsWritten tree (lexemes_of text lent) → HasSites tree (sites_of lent) → IsModuleText text tokens tree
+module_text_of text tokens lent tree same lexes written sites = record {
+  lexes = lexes;
+  written = subst (λ (ts : List Token). IsWritten tree (lexemes_of text ts)) same written;
+  sites = subst (λ (ts : List Token). HasSites tree (sites_of ts)) same sites;
+}
 
 -- a form that is left out
 pub form_refused : (text : List ℕ) (tokens : List Token) (tree : WrittenModule) → IsModuleText text tokens tree → (f : FormFault) → Refuses (form_named f) (basic_module tokens tree) → IfSome (named (form_fault f)) (IsRefused text)

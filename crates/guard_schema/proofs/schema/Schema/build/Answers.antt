@@ -11,8 +11,7 @@ use Rattle.guard_syntax.specs.ModuleViews as written
 use Rattle.guard_schema.specs.Faults.{form_named}
 use Rattle.guard_schema.specs.Forms.{basic_module}
 use Rattle.guard_schema.specs.Views.{module_view}
-use Rattle.guard_schema.specs.Accepts.{IsModuleText}
-use Rattle.guard_schema.proofs.Steps.{lex_refused, syntax_refused, form_refused, built, names_are_texts}
+use Rattle.guard_schema.proofs.Steps.{lex_refused, syntax_refused, form_refused, built, names_are_texts, module_text_of}
 use Rattle.guard_schema.proofs.Accepted.{lex_only, syntax_only, form_only, built_only}
 use Rattle.guard_schema.proofs.schema.Schema.build.Goals as goal
 
@@ -47,7 +46,7 @@ returns-in_err-basic-clause-refused c =
     let p = err_from_is_err_and c.from_residual-in_err-basic.result c.from_residual-in_err-basic.ensures.1 in
     let tokens = c.in_ok-tokens.tokens.items in
     let tree = written.module_view c.in_ok-tree.tree in
-    let is : IsModuleText c.args.text.now tokens tree = record { lexes = c.in_ok-tokens.ensures.tokens; written = rw (← c.deref.ensures.value) c.in_ok-tree.ensures.found; sites = rw (← c.deref.ensures.value) c.in_ok-tree.ensures.sites } in
+    let is = module_text_of c.args.text.now tokens _ tree c.deref.ensures.value c.in_ok-tokens.ensures.tokens c.in_ok-tree.ensures.found c.in_ok-tree.ensures.sites in
     let f = c.in_err-basic.field-0.0 in
     let left_out : Refuses (form_named f) (basic_module tokens tree) = rw (← c.deref-2.ensures.value) c.in_err-basic.ensures in
     rw (p.1, p.2) (form_refused c.args.text.now tokens tree is f left_out)
@@ -66,7 +65,7 @@ pub of_basic-requires : goal.of_basic-requires
 of_basic-requires c =
     let tokens = c.in_ok-tokens.tokens.items in
     let tree = written.module_view c.in_ok-tree.tree in
-    let is : IsModuleText c.args.text.now tokens tree = record { lexes = c.in_ok-tokens.ensures.tokens; written = rw (← c.deref.ensures.value) c.in_ok-tree.ensures.found; sites = rw (← c.deref.ensures.value) c.in_ok-tree.ensures.sites } in
+    let is = module_text_of c.args.text.now tokens _ tree c.deref.ensures.value c.in_ok-tokens.ensures.tokens c.in_ok-tree.ensures.found c.in_ok-tree.ensures.sites in
     let basic = module_view c.in_ok-basic.basic in
     let made : basic_module tokens tree ≡ Ok basic = rw (← c.deref-2.ensures.value) c.in_ok-basic.ensures in
     (names_are_texts c.args.text.now tokens tree basic c.in_ok-tokens.ensures.spans is.written made).1
@@ -75,7 +74,7 @@ pub returns-clause-accepted : goal.returns-clause-accepted
 returns-clause-accepted c =
     let tokens = c.in_ok-tokens.tokens.items in
     let tree = written.module_view c.in_ok-tree.tree in
-    let is : IsModuleText c.args.text.now tokens tree = record { lexes = c.in_ok-tokens.ensures.tokens; written = rw (← c.deref.ensures.value) c.in_ok-tree.ensures.found; sites = rw (← c.deref.ensures.value) c.in_ok-tree.ensures.sites } in
+    let is = module_text_of c.args.text.now tokens _ tree c.deref.ensures.value c.in_ok-tokens.ensures.tokens c.in_ok-tree.ensures.found c.in_ok-tree.ensures.sites in
     let basic = module_view c.in_ok-basic.basic in
     let made : basic_module tokens tree ≡ Ok basic = rw (← c.deref-2.ensures.value) c.in_ok-basic.ensures in
     (built c.args.text.now tokens tree is c.in_ok-tokens.ensures.spans basic made c.of_basic.result c.of_basic.ensures).0
@@ -84,7 +83,7 @@ pub returns-clause-refused : goal.returns-clause-refused
 returns-clause-refused c =
     let tokens = c.in_ok-tokens.tokens.items in
     let tree = written.module_view c.in_ok-tree.tree in
-    let is : IsModuleText c.args.text.now tokens tree = record { lexes = c.in_ok-tokens.ensures.tokens; written = rw (← c.deref.ensures.value) c.in_ok-tree.ensures.found; sites = rw (← c.deref.ensures.value) c.in_ok-tree.ensures.sites } in
+    let is = module_text_of c.args.text.now tokens _ tree c.deref.ensures.value c.in_ok-tokens.ensures.tokens c.in_ok-tree.ensures.found c.in_ok-tree.ensures.sites in
     let basic = module_view c.in_ok-basic.basic in
     let made : basic_module tokens tree ≡ Ok basic = rw (← c.deref-2.ensures.value) c.in_ok-basic.ensures in
     (built c.args.text.now tokens tree is c.in_ok-tokens.ensures.spans basic made c.of_basic.result c.of_basic.ensures).2
@@ -93,7 +92,7 @@ pub returns-clause-only : goal.returns-clause-only
 returns-clause-only c =
     let tokens = c.in_ok-tokens.tokens.items in
     let tree = written.module_view c.in_ok-tree.tree in
-    let is : IsModuleText c.args.text.now tokens tree = record { lexes = c.in_ok-tokens.ensures.tokens; written = rw (← c.deref.ensures.value) c.in_ok-tree.ensures.found; sites = rw (← c.deref.ensures.value) c.in_ok-tree.ensures.sites } in
+    let is = module_text_of c.args.text.now tokens _ tree c.deref.ensures.value c.in_ok-tokens.ensures.tokens c.in_ok-tree.ensures.found c.in_ok-tree.ensures.sites in
     let basic = module_view c.in_ok-basic.basic in
     let made : basic_module tokens tree ≡ Ok basic = rw (← c.deref-2.ensures.value) c.in_ok-basic.ensures in
     let one_tree : (m : WrittenModule) → IsWritten m (lexemes_of c.args.text.now tokens) → ◌≡◌ {A = Result WrittenModule SyntaxFault} (Ok (sited m (sites_of tokens))) (Ok tree) = rw (← c.deref.ensures.value) c.in_ok-tree.ensures.only in

@@ -1,7 +1,7 @@
 -- Why octets are no encoding of a value of a type: the first place that is reached and at fault.
 --
--- A place is an offset in the message or in the contents of an element in it. It is reached where all octets before it,
--- there and in all contents round it, are encodings of values of the parts that are due. At most one reached place is at fault:
+-- A place is an offset in the message or in the contents of an element in it. It is reached where what stands in front of it,
+-- and in front of each element that it lies in, encodes values of the parts that are due there. At most one reached place is at fault:
 -- behind it none is reached.
 use Rattle.std.specs.Prelude.{◌≡◌, ◌≢◌, ℕ, zero, suc, ◌+◌, Bool, true, false, not, ◌&&◌, ◌||◌, List, [], ◌∷◌, ◌++◌, length, take, drop, Option, Some, None, Ok, Err, IsTrue, if◌then◌else◌, ◌⊎◌}
 use Rattle.guard_model.specs.declared.site.Step.{Step}

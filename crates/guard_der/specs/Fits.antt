@@ -40,7 +40,7 @@ has_zero_end os unused = nat_eq (last_octet os % 2 ^ unused) 0
 abbrev pub fits_bits : List ℕ → ℕ → Bool
 fits_bits os unused = all_below 256 os && has_proper_end os unused && has_zero_end os unused
 
--- The first arc is 0 to 2, the second at most 39 under 0 and 1 (X.660); this profile's limit on subidentifiers is 128 bits.
+-- X.660 has three first arcs, 0, 1 and 2, and 40 arcs each under 0 and 1. In this profile no subidentifier has more than 128 bits.
 abbrev pub fits_first_arcs : ℕ → ℕ → Bool
 fits_first_arcs x y = nat_le x 2 && (nat_eq x 2 || nat_le y 39) && nat_lt (40 * x + y) (2 ^ 128)
 

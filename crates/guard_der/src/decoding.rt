@@ -19,7 +19,7 @@ mod set;
 
 use crate::breach::{Code, DecodeFault};
 use crate::contents::value_of_simple;
-use crate::decoding::set::{completed, absent_fields, place_of, put};
+use crate::decoding::set::{absent_fields, completed, place_of, put};
 use crate::faults::{end, fault_at, header_at_front, wrong_form};
 use crate::fitting::ascending::descends;
 use crate::forms::{is_constructed, is_form};
@@ -426,6 +426,14 @@ fn set_component(
     let head = header_at_front(at, octets)?;
     let place = place_of(comps, fields, before, at, head.tag)?;
     let comp = &comps[place];
-    let value = sent(alloc, &comp.ty, &comp.presence, place as u8, at, head, octets)?;
+    let value = sent(
+        alloc,
+        &comp.ty,
+        &comp.presence,
+        place as u8,
+        at,
+        head,
+        octets,
+    )?;
     Ok((place, value, head))
 }

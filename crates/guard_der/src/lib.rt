@@ -1,4 +1,15 @@
-//! The distinguished encoding rules (X.690): what octets say, or why they are no encoding.
+//! The distinguished encoding rules (X.690): from octets to the value of a type that they encode, or the first place that breaks the rules; from a
+//! value to its encoding; and which types are sound.
+//!
+//! | question | code | definition |
+//! |---|---|---|
+//! | What is the encoding of a value? | `encoding.rt` (`encode`) and its folder | `specs/Der.antt`, `specs/Element.antt`, `specs/Contents.antt`, `specs/Encoding.antt` |
+//! | Which values does a type have, constraints aside? | `fitting.rt` (`fits`) | `specs/Fits.antt` |
+//! | Of which types do encodings tell the values? | `sound_types.rt` (`sound`) | `specs/Sound.antt` |
+//! | Which value do octets encode, and where do they break the rules first? | `decoding.rt` (`decode`), simple kinds `contents.rt`, SET `decoding/set.rt` | `specs/Breach.antt`, `specs/Simple.antt` |
+//! | Which header stands at an offset? | `head.rt` (`header`) | `specs/Head.antt`, `specs/Header.antt` |
+//! | Which breaches are there, and what are they called? | `breach.rt` | `specs/Names.antt` |
+//! | What holds for every type, value and octets? | `laws.rt` | `specs/Der.antt`, `specs/Breach.antt` |
 #![tactic(auto)]
 
 mod bits;

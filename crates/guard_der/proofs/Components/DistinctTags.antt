@@ -2,6 +2,8 @@
 use Rattle.std.proofs.Common.{◌≡◌, ℕ, suc, Bool, true, false, cond, List, Option, Some, None, refl, sym, ap, ◌∙◌, inl, inr}
 use Rattle.std.specs.Prelude.{◌&&◌, ◌||◌, not, ◌⊎◌}
 use Rattle.std.proofs.lemmas.Bool.{and_from}
+use Rattle.std.specs.Option.{option_or}
+use Rattle.guard_model.proofs.Options.{option_or_none}
 use Rattle.guard_model.specs.AbstractType as type
 use Rattle.guard_model.specs.AbstractType.{AbstractType, AbstractPresence, Components, no_components, component}
 use Rattle.guard_model.specs.declared.site.Step.{Step}
@@ -11,8 +13,6 @@ use Rattle.guard_tagcheck.specs.Search as search
 use Rattle.guard_tagcheck.specs.Search.{share_tag, partner, first_pair, paired, here, inside, first_clash, clash_inside, is_mandatory}
 use Rattle.guard_der.specs.Sound.{none_clash}
 use Rattle.guard_tagcheck.proofs.Options.{inside_none, here_none, paired_none}
-use Rattle.std.specs.Option.{option_or}
-use Rattle.guard_model.proofs.Options.{option_or_none}
 
 -- no tag begins encodings of both
 abbrev pub differ : AbstractType → AbstractType → Bool

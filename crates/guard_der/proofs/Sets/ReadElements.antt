@@ -123,6 +123,25 @@ by_order t x y false own other before e = absurd (true≢false (sym own ∙ ap (
 less_of : (t : AbstractType) (x y : Tag) → begins_with t x ≡ true → begins_with t y ≡ false → tag_before x y ≡ false → tag_before y x ≡ true
 less_of t x y own other before = by_order t x y (tag_before y x) own other before refl
 
+-- the first one, where its tag comes after those of all the others
+first_greatest : (name : List ℕ) (t : AbstractType) (presence : AbstractPresence) (rest : Components) (v : AbstractValue) (gs : Fields) (first : List ℕ) (ps : List Part)
+    → fits t v ≡ true → is_left_out presence v ≡ false → der t v ≡ Some first → fits_partly rest gs ≡ true → all_sent rest gs ≡ true → parts_of rest gs ≡ Some ps → is_after (outermost t v) ps ≡ true → Greatest (component name t presence rest) (value.present v gs)
+first_greatest name t presence rest v gs first ps fit kept encoded fit_rest sent e after = record {
+  element = record { place = 0; value = v; octets = first };
+  others = value.absent gs;
+  parts = ps;
+  is = refl;
+  fits_one = fit;
+  encoded = encoded;
+  kept = kept;
+  free = refl;
+  fits = fit_rest;
+  sent = sent;
+  parts_are = e;
+  after = after;
+  fewer = refl;
+}
+
 -- the first one is the greatest, or that of the others is
 choose : (name : List ℕ) (t : AbstractType) (presence : AbstractPresence) (rest : Components) (v : AbstractValue) (gs : Fields) (first : List ℕ) (ps : List Part) → LawfulType t → AllLawful rest → differs_from_all t rest ≡ true
     → fits t v ≡ true → is_left_out presence v ≡ false → der t v ≡ Some first → fits_partly rest gs ≡ true → all_sent rest gs ≡ true → parts_of rest gs ≡ Some ps
@@ -149,40 +168,10 @@ choose name t presence rest v gs first ps law laws distinct fit kept encoded fit
     let b = filled_parts rest g.element.place g.element.value g.element.octets g.others g.parts g.parts_are g.free g.kept g.encoded in
     let parts : ps ≡ b.xs ++ part_from rest g.element.place g.element.value g.element.octets ∷ b.ys = same_Some ps _ (sym e ∙ ap (parts_of rest) g.is ∙ b.filled) in
     let lower : is_after (element_tag rest g.element) (b.xs ++ b.ys) ≡ true = ap (is_after (element_tag rest g.element)) (sym b.are) ∙ g.after in
-    record {
-      element = record { place = 0; value = v; octets = first };
-      others = value.absent gs;
-      parts = ps;
-      is = refl;
-      fits_one = fit;
-      encoded = encoded;
-      kept = kept;
-      free = refl;
-      fits = fit_rest;
-      sent = sent;
-      parts_are = e;
-      after = ap (is_after (outermost t v)) parts ∙ after_between (outermost t v) b.xs b.ys (part_from rest g.element.place g.element.value g.element.octets)
-          ∙ and_from (tag_before (element_tag rest g.element) (outermost t v)) (is_after (outermost t v) (b.xs ++ b.ys)) less (after_on (element_tag rest g.element) (outermost t v) (b.xs ++ b.ys) lower less);
-      fewer = refl;
-    }
-
-alone_first : (name : List ℕ) (t : AbstractType) (presence : AbstractPresence) (rest : Components) (v : AbstractValue) (gs : Fields) (first : List ℕ) (ps : List Part)
-    → fits t v ≡ true → is_left_out presence v ≡ false → der t v ≡ Some first → fits_partly rest gs ≡ true → all_sent rest gs ≡ true → parts_of rest gs ≡ Some ps → gs ≡ all_absent rest → Greatest (component name t presence rest) (value.present v gs)
-alone_first name t presence rest v gs first ps fit kept encoded fit_rest sent e none = record {
-  element = record { place = 0; value = v; octets = first };
-  others = value.absent gs;
-  parts = ps;
-  is = refl;
-  fits_one = fit;
-  encoded = encoded;
-  kept = kept;
-  free = refl;
-  fits = fit_rest;
-  sent = sent;
-  parts_are = e;
-  after = ap (is_after (outermost t v)) (no_parts rest gs ps none e);
-  fewer = refl;
-}
+    first_greatest name t presence rest v gs first ps fit kept encoded fit_rest sent e (
+    ap (is_after (outermost t v)) parts ∙ after_between (outermost t v) b.xs b.ys (part_from rest g.element.place g.element.value g.element.octets)
+    ∙ and_from (tag_before (element_tag rest g.element) (outermost t v)) (is_after (outermost t v) (b.xs ++ b.ys)) less (after_on (element_tag rest g.element) (outermost t v) (b.xs ++ b.ys) lower less)
+    )
 
 passed : (name : List ℕ) (t : AbstractType) (presence : AbstractPresence) (rest : Components) (gs : Fields) → Greatest rest gs → Greatest (component name t presence rest) (value.absent gs)
 passed name t presence rest gs g = record {
@@ -220,7 +209,7 @@ greatest (component name t presence rest) (value.present v gs) ps laws distinct 
     let a = option_parts (der t v) (λ os. bind (parts_of rest gs) (λ ps. Some (part os ∷ ps))) ps (sym (ap (λ (left : Bool). part_unless left (outermost t v) (der t v) (parts_of rest gs)) kept) ∙ e) in
     let b = option_parts (parts_of rest gs) (λ ps. Some (part a.0 ∷ ps)) ps a.2 in
     elim (greatest rest gs b.0 laws.1 d.1 f.1 s.1 b.1) [
-      | inl none ↦ inr (alone_first name t presence rest v gs a.0 b.0 f.0 kept a.1 f.1 s.1 b.1 none)
+      | inl none ↦ inr (first_greatest name t presence rest v gs a.0 b.0 f.0 kept a.1 f.1 s.1 b.1 (ap (is_after (outermost t v)) (no_parts rest gs b.0 none b.1)))
       | inr g ↦ inr (choose name t presence rest v gs a.0 b.0 laws.0 laws.1 d.0 f.0 kept a.1 f.1 s.1 b.1 g (tag_before (outermost t v) (element_tag rest g.element)) refl)
     ]
 

@@ -75,7 +75,11 @@ pub fn completed(
     for (index, comp) in comps.iter().enumerate() {
         if fields[index].is_none() {
             let missing = fault_at(Code::MissingComponent, at).below(Step::Component(index as u8));
-            put(&mut fields, index, not_sent(alloc, &comp.presence, missing)?);
+            put(
+                &mut fields,
+                index,
+                not_sent(alloc, &comp.presence, missing)?,
+            );
         }
     }
     Ok(fields)

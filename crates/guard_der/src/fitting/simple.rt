@@ -30,7 +30,7 @@ pub fn bits_fit(bits: &Bits) -> bool
         && has_zero_end(&bits.octets, bits.unused)
 }
 
-/// The first arc is 0 to 2, the second at most 39 under 0 and 1 (X.660); each subidentifier has at most 128 bits.
+/// X.660 has three first arcs, 0, 1 and 2, and 40 arcs each under 0 and 1; in this profile no subidentifier has more than 128 bits.
 pub fn arcs_fit(arcs: &[u128]) -> bool
     ensures { result ≡ fits_arcs arcs.now }
 {

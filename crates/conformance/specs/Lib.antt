@@ -1,0 +1,2 @@
+pub mod IntegerTypes
+pub mod Rules

@@ -1,0 +1,75 @@
+//! Octets in hexadecimal digits, and bits.
+use crate::unread::Unread;
+use guard_model::Bits;
+use std::alloc::Global;
+
+fn digit_of(letter: u8) -> Option<u8> {
+    match letter {
+        b'0'..=b'9' => Some(letter - b'0'),
+        b'A'..=b'F' => Some(letter - b'A' + 10),
+        _ => None,
+    }
+}
+
+/// The octets that hexadecimal digits write, two for each, the last one filled with zeros; spaces are for reading.
+pub fn octets_of(alloc: Global, text: &str) -> Result<Vec<u8>, Unread> {
+    let mut octets = Vec::new(alloc);
+    let mut high = None;
+    for letter in text.as_bytes() {
+        match (digit_of(*letter), high) {
+            (Some(digit), None) => high = Some(u8::wrapping_mul(digit, 16)),
+            (Some(digit), Some(upper)) => {
+                octets.push(upper | digit)?;
+                high = None;
+            }
+            (None, _) if *letter == b' ' => {}
+            _ => return Err(Unread::Malformed),
+        }
+    }
+    if let Some(upper) = high {
+        octets.push(upper)?;
+    }
+    Ok(octets)
+}
+
+/// The string of bits that hexadecimal digits write, four for each.
+pub fn bits_of_digits(alloc: Global, text: &str) -> Result<Bits, Unread> {
+    let digits = text.chars().filter(|c| *c != ' ').count();
+    Ok(Bits {
+        octets: octets_of(alloc, text)?,
+        unused: if digits % 2 == 0 { 0 } else { 4 },
+    })
+}
+
+/// The string of bits that zeros and ones write.
+pub fn bits_of(alloc: Global, text: &str) -> Result<Bits, Unread> {
+    let mut octets = Vec::new(alloc);
+    let mut octet = 0u8;
+    // the weight of the next bit, and how many bits of the octet come from it on
+    let mut weight = 128u8;
+    let mut unused = 0u8;
+    for letter in text.as_bytes() {
+        match letter {
+            b'0' => {}
+            b'1' => octet |= weight,
+            _ => return Err(Unread::Malformed),
+        }
+        if weight == 1 {
+            octets.push(octet)?;
+            octet = 0;
+            weight = 128;
+            unused = 0;
+        } else {
+            unused = if weight == 128 {
+                7
+            } else {
+                unused.wrapping_sub(1)
+            };
+            weight /= 2;
+        }
+    }
+    if unused > 0 {
+        octets.push(octet)?;
+    }
+    Ok(Bits { octets, unused })
+}

@@ -1,0 +1,66 @@
+//! `decode`: what is wrong with octets that are no encoding of a value of the type that is set.
+ghost use Rattle.std.specs.Prelude.{IsTrue};
+ghost use Rattle.guard_model.specs.TypeView.{type_view};
+ghost use Rattle.guard_der.specs.Sound.{is_sound};
+
+use crate::type_row::set_type;
+use crate::unanswered::not_read;
+use conformance_notation::{octets_of, read};
+use conformance_rows::{Layer, text_of};
+use guard_der::{Breach, Code, DecodeFault, decode, header, sound};
+use guard_model::Ty;
+use std::alloc::{AllocError, Global};
+
+#[derive(Drop)]
+pub struct Decoding {
+    pub ty: Option<Box<Ty>>,
+}
+
+/// The breach, or the value as it is kept.
+fn decoded(alloc: Global, ty: &Ty, octets: &[u8]) -> Result<String, AllocError>
+    requires { IsTrue (is_sound (type_view ty.now)) }
+{
+    match decode(alloc, ty, octets) {
+        Ok(value) => format!(in alloc; "{value:?}"),
+        Err(DecodeFault::Breach(breach)) if !is_named_by_header(octets, &breach) => {
+            format!(in alloc; "{breach}, which header does not answer")
+        }
+        Err(fault) => format!(in alloc; "{fault}"),
+    }
+}
+
+/// Whether `header` answers the same at that offset, where the fault is one of a header alone.
+fn is_named_by_header(octets: &[u8], breach: &Breach) -> bool {
+    if !is_of_header(breach.code) {
+        return true;
+    }
+    breach.at <= octets.len()
+        && matches!(
+            header(octets, breach.at),
+            Err(found) if found.code == breach.code && found.at == breach.at && found.path.is_empty()
+        )
+}
+
+fn is_of_header(code: Code) -> bool {
+    matches!(
+        code,
+        Code::TagForm | Code::IndefiniteLength | Code::NonMinimalLength | Code::LengthTooLarge
+    )
+}
+
+impl Layer for Decoding {
+    fn answer(&mut self, alloc: Global, input: &[u8]) -> Result<String, AllocError> {
+        let (Some(ty), Some(octets)) = (&self.ty, read(octets_of(alloc, text_of(input)))?) else {
+            return not_read(alloc);
+        };
+        match sound(alloc, ty) {
+            Ok(true) => decoded(alloc, ty, &octets),
+            Ok(false) => String::from_str(alloc, "no sound type"),
+            Err(_) => Err(AllocError),
+        }
+    }
+
+    fn set(&mut self, alloc: Global, name: &str, text: &[u8]) -> Result<String, AllocError> {
+        set_type(alloc, &mut self.ty, name, text)
+    }
+}

@@ -1,0 +1,21 @@
+//! What answers the rows of a file.
+use std::alloc::{AllocError, Global};
+use std::str;
+
+/// What answers the rows of a file.
+pub trait Layer {
+    /// The answer to the input of a row.
+    fn answer(&mut self, alloc: Global, input: &[u8]) -> Result<String, AllocError>;
+
+    /// Sets for the rows below what the line `@NAME TEXT` names, and answers whether that was possible, or what the
+    /// layer has to say of it.
+    fn set(&mut self, alloc: Global, name: &str, text: &[u8]) -> Result<String, AllocError>;
+}
+
+/// The input as text, for a layer that reads nothing else.
+pub fn text_of(input: &[u8]) -> &str {
+    match str::from_utf8(input) {
+        Ok(text) => text,
+        Err(_) => "(not UTF-8)",
+    }
+}

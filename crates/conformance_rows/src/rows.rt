@@ -1,0 +1,142 @@
+//! The lines of a file of rows.
+use crate::escapes::octets_of;
+use crate::layer::Layer;
+use std::alloc::{AllocError, Global};
+use std::rt::Files;
+use std::{fs, io};
+
+const NO_ESCAPE: &str = "(a backslash begins nothing)";
+
+/// Reads a file of rows, prints each row whose answer isn't the expected one, with both, and then how many rows there
+/// were; answers whether all were as expected.
+///
+/// The file lies where the program runs, or there in the folder `data`.
+pub fn check_rows<R: Files + Print + AllocGlobal, L: Layer>(
+    rt: &R,
+    file: &str,
+    layer: &mut L,
+) -> io::Result<bool> {
+    let text = read(rt, file)?;
+    let mut rows = Rows {
+        file,
+        before: Vec::new(rt.alloc()),
+        read: 0,
+        differing: 0,
+    };
+    for (index, line) in text.lines().enumerate() {
+        rows.take(rt, layer, index.saturating_add(1), line)?;
+    }
+    rows.close(rt)
+}
+
+/// The text of a file.
+fn read<R: Files + AllocGlobal>(rt: &R, file: &str) -> io::Result<String> {
+    if let Ok(text) = fs::read_to_string(rt, file) {
+        return Ok(text);
+    }
+    let path = format!(in rt.alloc(); "data/{file}")?;
+    fs::read_to_string(rt, path.as_str())
+}
+
+/// What has been read of a file.
+#[derive(Drop)]
+struct Rows<'a> {
+    file: &'a str,
+    /// The lines that stand in front of the next row's input.
+    before: Vec<u8>,
+    read: u32,
+    differing: u32,
+}
+
+impl Rows<'_> {
+    /// Takes the next line.
+    fn take<R: Print + AllocGlobal, L: Layer>(
+        &mut self,
+        rt: &R,
+        layer: &mut L,
+        number: usize,
+        line: &str,
+    ) -> io::Result<()> {
+        if line.is_empty() || line == "#" || line.starts_with("# ") {
+            return Ok(());
+        }
+        if let Some(text) = line.strip_prefix('|') {
+            let text = text.strip_prefix(' ').unwrap_or(text);
+            return match self.keep(rt.alloc(), text)? {
+                true => Ok(()),
+                false => self.differs(rt, number, line, NO_ESCAPE),
+            };
+        }
+        let Some((input, expected)) = line.split_once("=>") else {
+            return self.differs(rt, number, line, "(a row has =>)");
+        };
+        self.read = self.read.saturating_add(1);
+        let answer = self.answer_to(rt.alloc(), layer, input.trim())?;
+        self.before.clear();
+        match octets_of(rt.alloc(), expected.trim())? {
+            Some(expected) if expected.as_slice() == answer.as_bytes() => Ok(()),
+            _ => self.differs(rt, number, line, answer.as_str()),
+        }
+    }
+
+    /// Keeps a line for the next row's input, and answers whether each backslash in it begins something.
+    fn keep(&mut self, alloc: Global, text: &str) -> Result<bool, AllocError> {
+        let Some(octets) = octets_of(alloc, text)? else {
+            return Ok(false);
+        };
+        self.before.extend_from_slice(&octets)?;
+        self.before.push(b'\n')?;
+        Ok(true)
+    }
+
+    /// What the layer answers to an input, or why that is none.
+    fn answer_to<L: Layer>(
+        &mut self,
+        alloc: Global,
+        layer: &mut L,
+        input: &str,
+    ) -> Result<String, AllocError> {
+        let (name, text) = match input.strip_prefix('@') {
+            None => (None, input),
+            Some(directive) => match directive.split_once(' ') {
+                None => (Some(directive), ""),
+                Some((name, text)) => (Some(name), text.trim_start()),
+            },
+        };
+        let Some(octets) = octets_of(alloc, text)? else {
+            return String::from_str(alloc, NO_ESCAPE);
+        };
+        self.before.extend_from_slice(&octets)?;
+        match name {
+            None => layer.answer(alloc, &self.before),
+            Some(name) => layer.set(alloc, name, &self.before),
+        }
+    }
+
+    /// Prints a row whose answer isn't the expected one.
+    fn differs<R: Print>(
+        &mut self,
+        rt: &R,
+        number: usize,
+        line: &str,
+        answer: &str,
+    ) -> io::Result<()> {
+        self.differing = self.differing.saturating_add(1);
+        let file = self.file;
+        println!(rt; "{file}:{number}: {line}")?;
+        println!(rt; "    answered: {answer}")
+    }
+
+    /// Prints the counts, and answers whether no row differed.
+    fn close<R: Print>(&self, rt: &R) -> io::Result<bool> {
+        let file = self.file;
+        let read = self.read;
+        let differing = self.differing;
+        if differing == 0 {
+            println!(rt; "{file}: {read} rows")?;
+        } else {
+            println!(rt; "{file}: {read} rows, {differing} with another answer")?;
+        }
+        Ok(differing == 0)
+    }
+}

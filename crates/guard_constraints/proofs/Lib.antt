@@ -1,0 +1,5 @@
+mod Lists
+mod Gaps
+mod Overlaps
+mod Sets
+mod Searching

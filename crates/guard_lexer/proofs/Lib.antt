@@ -1,16 +1,16 @@
--- the definitions, computed on examples
-mod Rows
--- what stands at the front of a text
+-- ---- what stands at the front of a text
 pub mod OctetTests
 pub mod Lengths
 pub mod CommentsAndStrings
 pub mod LongestMarks
 pub mod NumberValues
 pub mod LongestItems
--- what follows for the whole text
+
+-- ---- what follows for the whole text
 pub mod OneCut
 pub mod SpelledTokens
 pub mod OneAnswer
 pub mod TokensOrFault
--- the code reads item by item
+
+-- ---- the code reads item by item
 pub mod ReadItems

@@ -1,14 +1,14 @@
--- what limits say of a type and its parts
+-- ---- what limits say of a type and its parts
 pub mod PartLimits
 pub mod LimitTests
--- the search as it is defined finds the first clash
+-- ---- the search as it is defined finds the first clash
 pub mod Options
 pub mod PathLengths
 pub mod SharedTags
 pub mod LeastPairs
 pub mod Collisions
 pub mod Clashes
--- the code goes as the search is defined
+-- ---- the code goes as the search is defined
 pub mod SearchLoops
--- a type has one clash at most
+-- ---- a type has one clash at most
 pub mod OneClash

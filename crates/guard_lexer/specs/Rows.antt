@@ -1,6 +1,5 @@
--- The definitions, computed on examples.
-use Rattle.std.proofs.Common.{◌≡◌, ◌^◌, true, false, [], ◌∷◌, ◌++◌, refl}
-use Rattle.std.specs.Prelude.{codes}
+-- Worked examples, computed from the definitions.
+use Rattle.std.specs.Prelude.{◌≡◌, ◌^◌, true, false, [], ◌∷◌, ◌++◌, refl, codes}
 use Rattle.guard_lexer.specs.Items.{is_word, is_number, number_value, is_line_comment, is_block_comment, is_character_string, is_bit_string, is_hexadecimal_string}
 use Rattle.guard_lexer.specs.Sites.{site_after}
 use Rattle.guard_lexer.specs.Words.{word_kind}

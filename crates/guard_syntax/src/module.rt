@@ -4,6 +4,7 @@ ghost use Rattle.guard_model.specs.Answer.{Gives};
 ghost use Rattle.guard_syntax.specs.ReadTokens as tokens_reading;
 ghost use Rattle.guard_syntax.specs.ReadTokens.{failure_of};
 ghost use Rattle.guard_syntax.specs.Cursors.{ahead, Reads, each_view, boxed_view};
+ghost use Rattle.guard_syntax.specs.Grammar.{most_levels};
 ghost use Rattle.guard_syntax.specs.ReadModule as reading;
 ghost use Rattle.guard_syntax.specs.ModuleViews.{head_view, assignment_view, module_view};
 
@@ -127,13 +128,20 @@ fn assignment<'a, 't>(alloc: Global, at: Cursor<'a, 't>) -> Read<'a, 't, Assignm
     }
 }
 
+/// How many types, values and sets may stand one in the other in an assignment: the others, and the one that lies in them.
+fn levels() -> u8
+    ensures { result ≡ most_levels }
+{
+    MOST_OTHERS + 1
+}
+
 #[tactic(auto, unfolding(crate::specs::ReadModule::read_type_assignment))]
 fn type_assignment<'a, 't>(alloc: Global, at: Cursor<'a, 't>) -> Read<'a, 't, Assignment<'a>>
     ensures { Reads assignment_view result (reading.read_type_assignment (ahead at.entry)) }
 {
     let (name, rest) = at.spelling(TokenKind::UpperName)?;
     let rest = rest.after(TokenKind::Mark(Mark::Assignment))?;
-    let (ty, rest) = type_tree(alloc, MOST_OTHERS + 1, rest)?;
+    let (ty, rest) = type_tree(alloc, levels(), rest)?;
     Ok((
         Assignment {
             site: at.site(),
@@ -150,9 +158,9 @@ fn value_assignment<'a, 't>(alloc: Global, at: Cursor<'a, 't>) -> Read<'a, 't, A
     ensures { Reads assignment_view result (reading.read_value_assignment (ahead at.entry)) }
 {
     let (name, rest) = at.spelling(TokenKind::LowerName)?;
-    let (ty, rest) = type_tree(alloc, MOST_OTHERS + 1, rest)?;
+    let (ty, rest) = type_tree(alloc, levels(), rest)?;
     let rest = rest.after(TokenKind::Mark(Mark::Assignment))?;
-    let (value, rest) = value(alloc, MOST_OTHERS + 1, rest)?;
+    let (value, rest) = value(alloc, levels(), rest)?;
     Ok((
         Assignment {
             site: at.site(),

@@ -8,10 +8,13 @@ ghost use Rattle.guard_syntax.specs.ReadSets as reading;
 ghost use Rattle.guard_syntax.specs.SetViews.{element_form_view, element_view, perhaps_element_view, difference_view, joined_difference_view, intersection_view, joined_intersection_view, set_form_view, set_view, constraint_view, perhaps_constraint_view, part_view};
 
 use crate::cursor::{Cursor, Read};
+use crate::join_marks::{
+    begins_intersection_mark, begins_union_mark, intersection_mark, union_mark,
+};
 use crate::ranges::{begins_range, range};
 use crate::tree::{
     ComponentConsTree, ConsTree, DifferenceTree, ElementForm, ElementTree, IntersectionTree,
-    JoinMark, JoinedDifference, JoinedIntersection, NameTree, PresenceWord, SetForm, SetTree,
+    JoinedDifference, JoinedIntersection, NameTree, PresenceWord, SetForm, SetTree,
 };
 use crate::values::{begins_value, value};
 use guard_lexer::{Mark, Reserved, TokenKind};
@@ -118,35 +121,6 @@ fn joined_intersections<'a, 't>(
     Err(rest.unexpected())
 }
 
-fn begins_union_mark(at: Cursor) -> bool
-    ensures { result ≡ reading.begins_union_mark (ahead at.entry) }
-{
-    at.begins_with(TokenKind::Mark(Mark::Bar))
-        || at.begins_with(TokenKind::Reserved(Reserved::Union))
-}
-
-#[tactic(auto, unfolding(crate::specs::ReadSets::read_union_mark))]
-fn union_mark<'a, 't>(at: Cursor<'a, 't>) -> Read<'a, 't, JoinMark>
-    ensures { Reads (λ x. x) result (reading.read_union_mark (ahead at.entry)) }
-{
-    if at.begins_with(TokenKind::Reserved(Reserved::Union)) {
-        return Ok((JoinMark::Word, at.behind()));
-    }
-    let rest = at.after(TokenKind::Mark(Mark::Bar))?;
-    Ok((JoinMark::Sign, rest))
-}
-
-#[tactic(auto, unfolding(crate::specs::ReadSets::read_intersection_mark))]
-fn intersection_mark<'a, 't>(at: Cursor<'a, 't>) -> Read<'a, 't, JoinMark>
-    ensures { Reads (λ x. x) result (reading.read_intersection_mark (ahead at.entry)) }
-{
-    if at.begins_with(TokenKind::Reserved(Reserved::Intersection)) {
-        return Ok((JoinMark::Word, at.behind()));
-    }
-    let rest = at.after(TokenKind::Mark(Mark::Caret))?;
-    Ok((JoinMark::Sign, rest))
-}
-
 #[cycle(sets)]
 #[tactic(auto, unfolding(crate::specs::ReadSets::read_joined_intersection))]
 fn joined_intersection<'a, 't>(
@@ -202,13 +176,6 @@ fn joined_differences<'a, 't>(
         rest = next;
     }
     Err(rest.unexpected())
-}
-
-fn begins_intersection_mark(at: Cursor) -> bool
-    ensures { result ≡ reading.begins_intersection_mark (ahead at.entry) }
-{
-    at.begins_with(TokenKind::Mark(Mark::Caret))
-        || at.begins_with(TokenKind::Reserved(Reserved::Intersection))
 }
 
 #[cycle(sets)]

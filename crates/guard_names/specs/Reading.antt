@@ -1,0 +1,28 @@
+-- What the code is proved to compute, as functions on the trees of the definitions.
+use Rattle.std.specs.Prelude.{ℕ, List, Vec, map, Option, Some, None, Result, Ok, Err}
+use Rattle.std.specs.List.{filter_map}
+use Rattle.guard_model.specs.declared.site.Site.{Site}
+use Rattle.guard_syntax.specs.Trees.{WrittenAssignment, WrittenModule}
+use Rattle.guard_names.specs.declared.fault.NameFault.{NameFault}
+use Rattle.guard_names.specs.Mentions.{mentions}
+use Rattle.guard_names.specs.Declarations.{Numbers}
+
+abbrev pub nothing : {A : Type 0} → A → Unit {0}
+nothing a = tt
+
+-- it is refused with this fault where there is a site
+abbrev pub refused_at : (Site → NameFault) → Option Site → Result (Unit {0}) NameFault
+refused_at fault None = Ok tt
+refused_at fault (Some site) = Err (fault site)
+
+-- the definitions that an assignment uses, in the order in which it mentions them
+abbrev pub used_in : Numbers → List ℕ → WrittenAssignment → List ℕ
+used_in numbers home a = filter_map (λ x. numbers home x.name) (mentions a)
+
+-- of each assignment of a module
+abbrev pub used_in_module : Numbers → WrittenModule → List (List ℕ)
+used_in_module numbers m = map (used_in numbers m.name) m.assignments
+
+-- what the code keeps of them
+abbrev pub listed_uses : {Y Z : Type 0} → Vec (Vec ℕ Y) Z → List (List ℕ)
+listed_uses all = map (λ v. v.items) all.items

@@ -5,4 +5,5 @@ pub mod Chains
 pub mod Queueing
 pub mod Paths
 pub mod Meaning
-pub mod Uses
+pub mod FirstFaults
+pub mod UseLists

@@ -1,9 +1,10 @@
 //! What the names in a list of modules mean.
-ghost use Rattle.std.specs.Prelude.{◌≡◌, ◌↔◌, ℕ, List, map, length, option_map, slice_get, IfOk, IfErr, IfSome, Some, None};
+ghost use Rattle.std.specs.Prelude.{◌≡◌, ◌↔◌, ℕ, ◌<◌, IsTrue, List, map, length, option_map, slice_get, IfOk, IfErr, IfSome, Some, None};
+ghost use Rattle.guard_names.specs.declared.fault.NameFault.TheVariants as fault;
 ghost use Rattle.guard_names.specs.Declarations.{definitions, declarations, origin_there, definition_of};
 ghost use Rattle.guard_names.specs.Faults.{AreFaultless, IsFirstFault, named};
 ghost use Rattle.guard_names.specs.Meanings.{Means, Uses};
-ghost use Rattle.guard_names.specs.Order.{IsOrder};
+ghost use Rattle.guard_names.specs.Order.{IsOrder, is_listed};
 ghost use Rattle.guard_names.specs.TableViews.{meaning_in};
 ghost use Rattle.guard_syntax.specs.ModuleViews.{module_view, assignment_view};
 
@@ -16,7 +17,7 @@ use crate::recursion::first_recursive;
 use crate::table::Table;
 use crate::uses::uses;
 use guard_syntax::{Assignment, Module};
-use std::alloc::Global;
+use std::alloc::{AllocError, Global};
 
 /// How many modules there may be.
 pub const MOST_MODULES: usize = 64;
@@ -27,6 +28,8 @@ pub struct Names<'a> {
     modules: &'a [Module<'a>],
     meanings: Meanings<'a>,
     order: Vec<Id>,
+    /// Where each definition stands in the order, by definitions.
+    places: Vec<usize>,
 }
 
 /// What the names in these modules mean, or the first fault of names in this order, each in module and text order: more than 64
@@ -44,11 +47,24 @@ pub fn resolve<'a>(alloc: Global, modules: &'a [Module<'a>]) -> Result<Names<'a>
         return Err(recursive(modules, number));
     }
     let order = order(alloc, &uses)?;
+    let places = places(alloc, &order)?;
     Ok(Names {
         modules,
         meanings,
         order,
+        places,
     })
+}
+
+/// The fault of a definition that uses itself.
+fn recursive(modules: &[Module], number: Id) -> NameFault
+    requires { number < length (definitions (map module_view modules.now)) }
+    ensures { option_map (λ d. fault.Recursive d.assignment.site) (slice_get (definitions (map module_view modules.now)) number) ≡ Some result }
+{
+    match home_of(modules, number) {
+        Some((_, assignment)) => NameFault::Recursive(assignment.site),
+        None => unreachable!(),
+    }
 }
 
 /// What the declared names mean, and which definitions each definition uses.
@@ -81,6 +97,17 @@ fn home_of<'m, 'a>(modules: &'m [Module<'a>], number: Id) -> Option<(&'m Module<
     None
 }
 
+/// Where each definition stands in an order of all of them.
+fn places(alloc: Global, order: &[Id]) -> Result<Vec<usize>, AllocError>
+    requires { (number : ℕ) → IsTrue (is_listed order.now number) → number < length order.now }
+{
+    let mut places = vec![in alloc; 0; order.len()]?;
+    for place in 0..order.len() {
+        places[order[place]] = place;
+    }
+    Ok(places)
+}
+
 impl<'a> Names<'a> {
     /// The definition that a name means in the module of a name: one that is assigned there, or in a module from which the name is
     /// imported and that exports it.
@@ -94,6 +121,12 @@ impl<'a> Names<'a> {
     pub fn order(&self) -> &[Id]
     {
         &self.order
+    }
+
+    /// The place of a definition in the order.
+    pub fn place(&self, id: Id) -> Option<usize>
+    {
+        self.places.get(id).copied()
     }
 
     /// The module and the assignment of a definition.

@@ -111,7 +111,7 @@ past_element : (e : WrittenElement) (ends : Ends) (rest : List Lexeme) → ends_
 past_element (element_node site (range r)) ends rest is h = past_range r rest h
 past_element (element_node site (parentheses s)) ends rest is h = absurd cc
 past_element (element_node site (value v)) ends rest is h = absurd cc
-past_element (element_node site (contained includes name)) ends rest is h = absurd cc
+past_element (element_node site (contained includes at name)) ends rest is h = absurd cc
 past_element (element_node site (size c)) ends rest is h = absurd cc
 past_element (element_node site (from c)) ends rest is h = absurd cc
 past_element (element_node site (with_component c)) ends rest is h = absurd cc
@@ -233,7 +233,7 @@ mutual
       (subst HasTextNamesInside (same_Ok (basic.of_type k one.0) b one.2) inside.0, inside.1)
   base_text site (of_type k (Some c) ty) b rest is h = absurd cc
   base_text site (enumerated is) b rest e h = absurd cc
-  base_text site (named_type name) b rest is h = absurd cc
+  base_text site (named_type at name) b rest is h = absurd cc
 
   components_text : (cs : WrittenComponents) (parts : List BasicComponent) (rest : List Lexeme) → basic_components cs ≡ Ok parts → AreTextLexemes (components_then cs rest) → HaveTextNames (basic.components_of parts) × AreTextLexemes rest
   components_text no_components parts rest is h = (subst (λ (ps : List BasicComponent). HaveTextNames (basic.components_of ps)) (same_Ok [] parts is) tt, h)

@@ -40,7 +40,7 @@ abbrev pub ends_of_element_form : WrittenElementForm → Option (WrittenNumber �
 ends_of_element_form (range r) = integer_ends r
 ends_of_element_form (parentheses s) = None
 ends_of_element_form (value v) = None
-ends_of_element_form (contained includes name) = None
+ends_of_element_form (contained includes at name) = None
 ends_of_element_form (size c) = None
 ends_of_element_form (from c) = None
 ends_of_element_form (with_component c) = None
@@ -145,7 +145,7 @@ unfoldable mutual
   basic_base site (choice alternatives) = basic_alternatives alternatives >>= λ parts. Ok (basic.choice (basic.components_of parts))
   basic_base site (of_type k c ty) = nothing_before_of c >>= λ _. basic_type ty >>= λ t. Ok (basic.of_type k t)
   basic_base site (enumerated is) = Err site
-  basic_base site (named_type name) = Err site
+  basic_base site (named_type at name) = Err site
 
   pub basic_components : WrittenComponents → Result (List BasicComponent) Site
   basic_components no_components = Ok []

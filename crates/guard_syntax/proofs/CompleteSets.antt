@@ -131,8 +131,8 @@ low_not_all (Some e) ls ss = end_not_all e.form ls ss
 element_not_all : (e : WrittenElement) (ls : List Lexeme) (ss : List Site) → begins_with (Reserved All) (place (element_then e ls) ss) ≡ false
 element_not_all (element_node site (parentheses s)) ls ss = refl
 element_not_all (element_node site (value v)) ls ss = value_not_all v ls ss
-element_not_all (element_node site (contained true name)) ls ss = refl
-element_not_all (element_node site (contained false name)) ls ss = refl
+element_not_all (element_node site (contained true at name)) ls ss = refl
+element_not_all (element_node site (contained false at name)) ls ss = refl
 element_not_all (element_node site (range r)) ls ss = low_not_all r.low (if_there_then r.above_low (mark LessThan) (mark RangeSeparator ∷ if_there_then r.below_high (mark LessThan) (end_or_then Max r.high ls))) ss
 element_not_all (element_node site (size c)) ls ss = refl
 element_not_all (element_node site (from c)) ls ss = refl
@@ -260,8 +260,8 @@ module _ (levels : ℕ) {values : Reader WrittenValue} {sets : Reader WrittenSet
   unfolding read_element_form read_parentheses read_contained read_inner_type_constraints read_spelling read_token
   element_form_complete (parentheses s) ls ss h after = rw (sets_complete s (mark RightParenthesis ∷ ls) (past ss) h (closes_set ls)) refl
   element_form_complete (value v) ls ss h after = value_shown v ls ss after ∙ rw (values_complete v ls ss h (λ ts. (after ts).0)) refl
-  element_form_complete (contained true name) ls ss h after = refl
-  element_form_complete (contained false name) ls ss h after = refl
+  element_form_complete (contained true at name) ls ss h after = refl
+  element_form_complete (contained false at name) ls ss h after = refl
   element_form_complete (range r) ls ss h after =
       range_shown r.low r.above_low (if_there_then r.below_high (mark LessThan) (end_or_then Max r.high ls)) ss h.0 ∙ rw (range_complete_at r.low r.above_low r.below_high r.high ls ss h.0 h.1) refl
   element_form_complete (size c) ls ss h after = rw (constraint_complete c ls (past ss) h tt) refl

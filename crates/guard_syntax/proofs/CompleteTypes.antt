@@ -91,7 +91,7 @@ base_first (structure collection.Set cs) ls ss = (refl, refl, refl)
 base_first (choice all) ls ss = (refl, refl, refl)
 base_first (of_type collection.Sequence c ty) ls ss = (refl, refl, refl)
 base_first (of_type collection.Set c ty) ls ss = (refl, refl, refl)
-base_first (named_type name) ls ss = (refl, refl, refl)
+base_first (named_type site name) ls ss = (refl, refl, refl)
 
 plain_some : (p : PlainType) (ls : List Lexeme) → 1 ≤ length (plain_then p ls)
 plain_some plain_type.Boolean ls = omega arith
@@ -112,7 +112,7 @@ base_some (enumerated is) ls = omega arith
 base_some (structure k cs) ls = omega arith
 base_some (choice all) ls = omega arith
 base_some (of_type k c ty) ls = omega arith
-base_some (named_type name) ls = omega arith
+base_some (named_type site name) ls = omega arith
 
 type_first : (tags : List WrittenTag) (b : WrittenBase) (ls : List Lexeme) (ss : List Site) → site_at (place (each_then tag_then tags (base_then b ls)) ss) ≡ first ss
 type_first [] b ls ss = (base_first b ls ss).2
@@ -316,7 +316,7 @@ module _ (levels : ℕ) {values : Reader WrittenValue} {sets : Reader WrittenSet
   base_complete (choice all) ls ss h after = choice_complete all ls ss h.0 h.1
   base_complete (of_type collection.Sequence c ty) ls ss h after = of_complete collection.Sequence c ty ls ss h.0 h.1 after
   base_complete (of_type collection.Set c ty) ls ss h after = of_complete collection.Set c ty ls ss h.0 h.1 after
-  base_complete (named_type name) ls ss h after = refl
+  base_complete (named_type site name) ls ss h after = refl
 
   -- ---- the constraints behind a base
 
@@ -343,7 +343,7 @@ module _ (levels : ℕ) {values : Reader WrittenValue} {sets : Reader WrittenSet
   may_constrain_complete (structure k ds) cs ls ts ss h after = each_constraint_complete cs ls ss h after
   may_constrain_complete (choice all) cs ls ts ss h after = each_constraint_complete cs ls ss h after
   may_constrain_complete (of_type k c ty) cs ls ts ss h after = no_constraint_complete k c ty cs ls ts ss h
-  may_constrain_complete (named_type name) cs ls ts ss h after = each_constraint_complete cs ls ss h after
+  may_constrain_complete (named_type site name) cs ls ts ss h after = each_constraint_complete cs ls ss h after
 
   not_brace_behind : (cs : List WrittenConstraint) (ls : List Lexeme) → NotBefore (Mark LeftBrace) ls → NotBefore (Mark LeftBrace) (each_then constraint_then cs ls)
   not_brace_behind [] ls h = h
@@ -358,7 +358,7 @@ module _ (levels : ℕ) {values : Reader WrittenValue} {sets : Reader WrittenSet
   after_base (choice all) cs ls h after = not_brace_behind cs ls after.not_brace
   after_base (of_type k c ty) [] ls h after = after
   after_base (of_type k c ty) (d ∷ ds) ls h after = absurd h
-  after_base (named_type name) cs ls h after = not_brace_behind cs ls after.not_brace
+  after_base (named_type site name) cs ls h after = not_brace_behind cs ls after.not_brace
 
   -- ---- types
 

@@ -318,7 +318,7 @@ may_have_none levels (enumerated is) = tt
 may_have_none levels (structure k cs) = tt
 may_have_none levels (choice all) = tt
 may_have_none levels (of_type k c ty) = tt
-may_have_none levels (named_type name) = tt
+may_have_none levels (named_type site name) = tt
 
 may_have_each : (levels : ℕ) (b : WrittenBase) (cs : List WrittenConstraint) → is_of b ≡ false → AreEach (IsConstraint levels) cs → MayConstrain levels b cs
 may_have_each levels (plain p) cs e h = h
@@ -327,7 +327,7 @@ may_have_each levels (enumerated is) cs e h = h
 may_have_each levels (structure k ds) cs e h = h
 may_have_each levels (choice all) cs e h = h
 may_have_each levels (of_type k c ty) cs e h = absurd cc
-may_have_each levels (named_type name) cs e h = h
+may_have_each levels (named_type site name) cs e h = h
 
 -- what stands behind the type of a component
 record PresenceRead (levels : ℕ) (ps : List Placed) (p : WrittenPresence) (rest : List Placed) : Type 0 where

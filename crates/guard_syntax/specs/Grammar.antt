@@ -109,7 +109,7 @@ abbrev mutual
   pub IsElementForm : ℕ → WrittenElementForm → Type 0
   IsElementForm levels (parentheses s) = IsSet levels s
   IsElementForm levels (value v) = IsValue levels v
-  IsElementForm levels (contained includes name) = Unit {0}
+  IsElementForm levels (contained includes site name) = Unit {0}
   IsElementForm levels (range r) = IsRange r
   IsElementForm levels (size c) = IsConstraint levels c
   IsElementForm levels (from c) = IsConstraint levels c
@@ -163,7 +163,7 @@ abbrev mutual
   IsBase levels (structure k cs) = AreComponents levels cs
   IsBase levels (choice alternatives) = HasAlternatives alternatives × AreAlternatives levels alternatives
   IsBase levels (of_type k c ty) = IsPerhaps (IsOfConstraint levels) c × IsType levels ty
-  IsBase levels (named_type name) = Unit {0}
+  IsBase levels (named_type site name) = Unit {0}
 
   pub AreComponents : ℕ → WrittenComponents → Type 0
   AreComponents levels no_components = Unit {0}

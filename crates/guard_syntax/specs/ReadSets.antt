@@ -74,7 +74,7 @@ read_parentheses sets ps = do
 unfoldable pub read_contained : Reader WrittenElementForm
 read_contained ps =
     let includes = begins_with (Reserved Includes) ps in
-    read_spelling UpperName (behind_if includes ps) >>= λ name. Ok (contained includes name.0, name.1)
+    read_spelling UpperName (behind_if includes ps) >>= λ name. Ok (contained includes (site_at (behind_if includes ps)) name.0, name.1)
 
 abbrev pub presence_at : List Placed → Option PresenceWord
 presence_at ps =

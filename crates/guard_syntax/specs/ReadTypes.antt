@@ -170,7 +170,7 @@ read_collection k values sets types ps = if begins_with (Mark LeftBrace) ps then
 
 -- a type that is a single word, or the name of a type
 abbrev pub plain_or_name : Option PlainType → Reader WrittenBase
-plain_or_name None ps = read_spelling UpperName ps >>= λ name. Ok (named_type name.0, name.1)
+plain_or_name None ps = read_spelling UpperName ps >>= λ name. Ok (named_type (site_at ps) name.0, name.1)
 plain_or_name (Some p) ps = Ok (plain p, behind ps)
 
 unfoldable pub read_word_or_name : Reader WrittenBase

@@ -38,7 +38,7 @@ range_view r = record { low = end_or_view r.low; above_low = r.above_low; below_
 abbrev pub element_form_step : ElementForm-F WrittenElementForm WrittenSetForm WrittenPart WrittenConstraint WrittenDifference WrittenElement WrittenIntersection WrittenJoinedDifference WrittenJoinedIntersection WrittenSet → WrittenElementForm
 element_form_step (ElementForm-F.Parentheses s) = parentheses s.value
 element_form_step (ElementForm-F.Value v) = value (value_view v)
-element_form_step (ElementForm-F.Contained includes name) = contained includes name.now
+element_form_step (ElementForm-F.Contained includes name) = contained includes name.site name.name.now
 element_form_step (ElementForm-F.Range r) = range (range_view r)
 element_form_step (ElementForm-F.Size c) = size c.value
 element_form_step (ElementForm-F.From c) = from c.value

@@ -165,7 +165,7 @@ abbrev mutual
   pub sited_element_form : WrittenElementForm → List Site → WrittenElementForm × List Site
   sited_element_form (parentheses s) ss = let inside = sited_set s (past ss) in (parentheses inside.0, past inside.1)
   sited_element_form (value v) ss = let one = sited_value v ss in (value one.0, one.1)
-  sited_element_form (contained includes name) ss = (contained includes name, past (past_if includes ss))
+  sited_element_form (contained includes site name) ss = (contained includes (first (past_if includes ss)) name, past (past_if includes ss))
   sited_element_form (range r) ss = let one = sited_range r ss in (range one.0, one.1)
   sited_element_form (size c) ss = let one = sited_constraint c (past ss) in (size one.0, one.1)
   sited_element_form (from c) ss = let one = sited_constraint c (past ss) in (from one.0, one.1)
@@ -255,7 +255,7 @@ abbrev mutual
       let before = sited_perhaps sited_of_constraint c (past ss) in
       let inside = sited_type ty (past before.1) in
       (of_type k before.0 inside.0, inside.1)
-  sited_base (named_type name) ss = (named_type name, past ss)
+  sited_base (named_type site name) ss = (named_type (first ss) name, past ss)
 
   pub sited_components : WrittenComponents → List Site → WrittenComponents × List Site
   sited_components no_components ss = (no_components, ss)

@@ -181,7 +181,7 @@ abbrev mutual
   pub element_form_then : WrittenElementForm → List Lexeme → List Lexeme
   element_form_then (parentheses s) rest = mark LeftParenthesis ∷ set_then s (mark RightParenthesis ∷ rest)
   element_form_then (value v) rest = value_then v rest
-  element_form_then (contained includes name) rest = if_there_then includes (word Includes) (upper_name name ∷ rest)
+  element_form_then (contained includes site name) rest = if_there_then includes (word Includes) (upper_name name ∷ rest)
   element_form_then (range r) rest = range_then r rest
   element_form_then (size c) rest = word Size ∷ constraint_then c rest
   element_form_then (from c) rest = word From ∷ constraint_then c rest
@@ -286,7 +286,7 @@ abbrev mutual
   base_then (structure k cs) rest = word (collection_word k) ∷ mark LeftBrace ∷ components_then cs (mark RightBrace ∷ rest)
   base_then (choice alternatives) rest = word Choice ∷ mark LeftBrace ∷ alternatives_then alternatives (mark RightBrace ∷ rest)
   base_then (of_type k c ty) rest = word (collection_word k) ∷ perhaps_then of_constraint_then c (word Of ∷ type_then ty rest)
-  base_then (named_type name) rest = upper_name name ∷ rest
+  base_then (named_type site name) rest = upper_name name ∷ rest
 
   -- Comp = lower Type [OPTIONAL | DEFAULT Value] | COMPONENTS OF Type, parted by commas
   pub components_then : WrittenComponents → List Lexeme → List Lexeme

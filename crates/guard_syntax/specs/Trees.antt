@@ -104,7 +104,7 @@ mutual
   pub data WrittenElementForm : Type 0 where
     parentheses : WrittenSet → WrittenElementForm
     value : WrittenValue → WrittenElementForm
-    contained : Bool → List ℕ → WrittenElementForm
+    contained : Bool → Site → List ℕ → WrittenElementForm
     range : WrittenRange → WrittenElementForm
     size : WrittenConstraint → WrittenElementForm
     from : WrittenConstraint → WrittenElementForm
@@ -202,7 +202,7 @@ mutual
     structure : Collection → WrittenComponents → WrittenBase
     choice : WrittenAlternatives → WrittenBase
     of_type : Collection → Option WrittenOfConstraint → WrittenType → WrittenBase
-    named_type : List ℕ → WrittenBase
+    named_type : Site → List ℕ → WrittenBase
 
   -- the components of a SEQUENCE or SET in written order
   pub data WrittenComponents : Type 0 where

@@ -48,7 +48,7 @@ base_step (BaseTree-F.Enumerated is) = enumerated (map item_view is.items)
 base_step (BaseTree-F.Structure k cs) = structure k (components_of cs.items)
 base_step (BaseTree-F.Choice all) = choice (alternatives_of all.items)
 base_step (BaseTree-F.Of k c ty) = of_type k (of_constraint_view c) ty.value
-base_step (BaseTree-F.Reference name) = named_type name.now
+base_step (BaseTree-F.Reference name) = named_type name.site name.name.now
 
 abbrev pub component_form_step : CompForm-F WrittenBase WrittenComponentForm WrittenAlternative WrittenComponent WrittenType → WrittenComponentForm
 component_form_step (CompForm-F.Named name ty p) = named name.now ty.value (presence_view p)

@@ -11,7 +11,7 @@ use crate::cursor::{Cursor, Read};
 use crate::ranges::{begins_range, range};
 use crate::tree::{
     ComponentConsTree, ConsTree, DifferenceTree, ElementForm, ElementTree, IntersectionTree,
-    JoinMark, JoinedDifference, JoinedIntersection, PresenceWord, SetForm, SetTree,
+    JoinMark, JoinedDifference, JoinedIntersection, NameTree, PresenceWord, SetForm, SetTree,
 };
 use crate::values::{begins_value, value};
 use guard_lexer::{Mark, Reserved, TokenKind};
@@ -322,9 +322,13 @@ fn contained<'a, 't>(at: Cursor<'a, 't>) -> Read<'a, 't, ElementForm<'a>>
     ensures { Reads element_form_view result (reading.read_contained (ahead at.entry)) }
 {
     let includes = at.begins_with(TokenKind::Reserved(Reserved::Includes));
-    let rest = at.behind_if(includes);
-    let (name, rest) = rest.spelling(TokenKind::UpperName)?;
-    Ok((ElementForm::Contained(includes, name), rest))
+    let at_name = at.behind_if(includes);
+    let (name, rest) = at_name.spelling(TokenKind::UpperName)?;
+    let site = at_name.site();
+    Ok((
+        ElementForm::Contained(includes, NameTree { site, name }),
+        rest,
+    ))
 }
 
 #[cycle(sets)]

@@ -153,7 +153,7 @@ pub enum BaseTree<'a> {
     /// SEQUENCE OF or SET OF, with the constraint before OF and the type of the elements (X.680 26.1, 28.1, 49.4).
     Of(Collection, Option<OfConsTree<'a>>, Box<TypeTree<'a>>),
     /// The name of a type (X.680 16.3).
-    Reference(&'a [u8]),
+    Reference(NameTree<'a>),
 }
 
 /// The types that are written with words alone.
@@ -325,7 +325,7 @@ pub enum ElementForm<'a> {
     /// A single value (X.680 51.2).
     Value(ValueTree<'a>),
     /// A contained subtype: whether INCLUDES is written, and the name of the type (X.680 51.3).
-    Contained(bool, &'a [u8]),
+    Contained(bool, NameTree<'a>),
     /// X.680 51.4.
     Range(RangeTree<'a>),
     /// X.680 51.5.

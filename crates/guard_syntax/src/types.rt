@@ -16,8 +16,8 @@ use crate::read_error::ReadError;
 use crate::sets::constraint;
 use crate::tags::{begins_tag, tags};
 use crate::tree::{
-    AlternativeTree, BaseTree, Collection, CompForm, CompTree, ConsTree, OfConsTree, PlainType,
-    PresenceTree, TypeTree,
+    AlternativeTree, BaseTree, Collection, CompForm, CompTree, ConsTree, NameTree, OfConsTree,
+    PlainType, PresenceTree, TypeTree,
 };
 use crate::values::value;
 use guard_lexer::{Mark, Reserved, TokenKind};
@@ -238,7 +238,8 @@ fn word_or_name<'a, 't>(at: Cursor<'a, 't>) -> Read<'a, 't, BaseTree<'a>>
         Some(plain) => Ok((BaseTree::Plain(plain), at.behind())),
         None => {
             let (name, rest) = at.spelling(TokenKind::UpperName)?;
-            Ok((BaseTree::Reference(name), rest))
+            let site = at.site();
+            Ok((BaseTree::Reference(NameTree { site, name }), rest))
         }
     }
 }

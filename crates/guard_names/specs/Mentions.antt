@@ -74,17 +74,17 @@ abbrev mutual
   in_difference (element_except site e f) = in_element e ++ in_element f
 
   pub in_element : WrittenElement → List Mention
-  in_element (element_node site form) = in_element_form site form
+  in_element (element_node site form) = in_element_form form
 
-  pub in_element_form : Site → WrittenElementForm → List Mention
-  in_element_form site (parentheses s) = in_set s
-  in_element_form site (value v) = in_value v
-  in_element_form site (contained includes name) = type_name site name
-  in_element_form site (range r) = in_end r.low ++ in_end r.high
-  in_element_form site (size c) = in_constraint c
-  in_element_form site (from c) = in_constraint c
-  in_element_form site (with_component c) = in_constraint c
-  in_element_form site (with_components partial ps) = in_parts ps
+  pub in_element_form : WrittenElementForm → List Mention
+  in_element_form (parentheses s) = in_set s
+  in_element_form (value v) = in_value v
+  in_element_form (contained includes at name) = type_name at name
+  in_element_form (range r) = in_end r.low ++ in_end r.high
+  in_element_form (size c) = in_constraint c
+  in_element_form (from c) = in_constraint c
+  in_element_form (with_component c) = in_constraint c
+  in_element_form (with_components partial ps) = in_parts ps
 
   pub in_constraint : WrittenConstraint → List Mention
   in_constraint (constraint site s) = in_set s
@@ -112,16 +112,16 @@ in_presence (default v) = in_value v
 
 abbrev mutual
   pub in_type : WrittenType → List Mention
-  in_type (type_node site tags base cons) = in_base site base ++ flat_map in_constraint cons
+  in_type (type_node site tags base cons) = in_base base ++ flat_map in_constraint cons
 
-  pub in_base : Site → WrittenBase → List Mention
-  in_base site (plain p) = []
-  in_base site (numbers ns) = []
-  in_base site (enumerated items) = []
-  in_base site (structure kind cs) = in_components cs
-  in_base site (choice all) = in_alternatives all
-  in_base site (of_type kind c t) = in_of_constraint c ++ in_type t
-  in_base site (named_type name) = type_name site name
+  pub in_base : WrittenBase → List Mention
+  in_base (plain p) = []
+  in_base (numbers ns) = []
+  in_base (enumerated items) = []
+  in_base (structure kind cs) = in_components cs
+  in_base (choice all) = in_alternatives all
+  in_base (of_type kind c t) = in_of_constraint c ++ in_type t
+  in_base (named_type site name) = type_name site name
 
   pub in_components : WrittenComponents → List Mention
   in_components no_components = []

@@ -38,7 +38,7 @@ abbrev null_type : WrittenType
 null_type = type_node (at 0) [] (plain plain_type.Null) []
 
 abbrev name_of_type : ℕ → List ℕ → WrittenType
-name_of_type n name = type_node (at n) [] (named_type name) []
+name_of_type n name = type_node (at n) [] (named_type (at n) name) []
 
 abbrev assigned : ℕ → List ℕ → WrittenType → WrittenAssignment
 assigned n name ty = record { site = at n; name = name; ty = ty; value = None }
@@ -65,7 +65,7 @@ abbrev in_parentheses : WrittenElementForm → WrittenConstraint
 in_parentheses form = constraint (at 0) (set_node (at 0) (union (intersection (at 0) (element_alone (at 0) (element_node (at 0) form)) none_met) none_united))
 
 -- A ::= T (a..b): a type, and the values at both ends
-ends_of_a_range : map (λ m. m.site.column) (mentions (assigned 1 A (type_node (at 2) [] (named_type T) (in_parentheses (range (record { low = Some (record { site = at 3; form = end_reference a }); above_low = false; below_high = false; high = Some (record { site = at 4; form = end_reference b }) })) ∷ [])))) ≡ 2 ∷ 3 ∷ 4 ∷ []
+ends_of_a_range : map (λ m. m.site.column) (mentions (assigned 1 A (type_node (at 2) [] (named_type (at 2) T) (in_parentheses (range (record { low = Some (record { site = at 3; form = end_reference a }); above_low = false; below_high = false; high = Some (record { site = at 4; form = end_reference b }) })) ∷ [])))) ≡ 2 ∷ 3 ∷ 4 ∷ []
 ends_of_a_range = refl
 
 -- A ::= SEQUENCE {a NULL DEFAULT b}: the value, and not the name of the component
@@ -89,7 +89,7 @@ arcs_mention_nothing : mentions (record { site = at 1; name = a; ty = null_type;
 arcs_mention_nothing = refl
 
 -- A ::= T (WITH COMPONENTS {a (B)}): the contained type, and not the name of the component
-part_of_a_constraint : map (λ m. m.name) (mentions (assigned 1 A (type_node (at 2) [] (named_type T) (in_parentheses (with_components false (part_in (at 3) a (in_parentheses (contained false B)) None no_parts)) ∷ [])))) ≡ T ∷ B ∷ []
+part_of_a_constraint : map (λ m. m.name) (mentions (assigned 1 A (type_node (at 2) [] (named_type (at 2) T) (in_parentheses (with_components false (part_in (at 3) a (in_parentheses (contained false (at 4) B)) None no_parts)) ∷ [])))) ≡ T ∷ B ∷ []
 part_of_a_constraint = refl
 
 -- ---- what a name means: A and B define T, and C imports that of A

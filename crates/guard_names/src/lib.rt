@@ -11,9 +11,11 @@ mod mentions;
 mod names;
 mod order;
 mod recursion;
+mod resolve;
 mod table;
 mod uses;
 
 pub use declarations::Id;
 pub use fault::NameFault;
-pub use names::{MOST_MODULES, Names, resolve};
+pub use names::Names;
+pub use resolve::{MOST_MODULES, resolve};

@@ -46,17 +46,13 @@ pub fn mentions<'a>(
 fn add_type<'a>(ty: &TypeTree<'a>, into: &mut Vec<Mention<'a>>) -> Result<(), AllocError>
     ensures { OnOk result (map mention_view into.new.items ≡ map mention_view into.old.items ++ mentions.in_type (type_view ty.now)) }
 {
-    add_base(ty.site, &ty.base, into)?;
+    add_base(&ty.base, into)?;
     add_constraints(&ty.cons, into)
 }
 
 #[cycle(types)]
-fn add_base<'a>(
-    site: Site,
-    base: &BaseTree<'a>,
-    into: &mut Vec<Mention<'a>>,
-) -> Result<(), AllocError>
-    ensures { OnOk result (map mention_view into.new.items ≡ map mention_view into.old.items ++ mentions.in_base site (base_view base.now)) }
+fn add_base<'a>(base: &BaseTree<'a>, into: &mut Vec<Mention<'a>>) -> Result<(), AllocError>
+    ensures { OnOk result (map mention_view into.new.items ≡ map mention_view into.old.items ++ mentions.in_base (base_view base.now)) }
 {
     match base {
         BaseTree::Plain(_) => Ok(()),
@@ -68,7 +64,7 @@ fn add_base<'a>(
             add_before_of(before, into)?;
             add_type(element, into)
         }
-        BaseTree::Reference(name) => add_name(site, SymbolKind::Type, *name, into),
+        BaseTree::Reference(name) => add_name(name.site, SymbolKind::Type, name.name, into),
     }
 }
 
@@ -224,7 +220,9 @@ fn add_element<'a>(element: &ElementTree<'a>, into: &mut Vec<Mention<'a>>) -> Re
     match &element.form {
         ElementForm::Parentheses(set) => add_set(set, into),
         ElementForm::Value(value) => add_value(value, into),
-        ElementForm::Contained(_, name) => { add_name(element.site, SymbolKind::Type, *name, into) }
+        ElementForm::Contained(_, name) => {
+            add_name(name.site, SymbolKind::Type, name.name, into)
+        }
         ElementForm::Range(range) => add_range(range, into),
         ElementForm::Size(constraint) => add_constraint(constraint, into),
         ElementForm::From(constraint) => add_constraint(constraint, into),

@@ -10,6 +10,6 @@ abbrev pub invariant-loop-module : goal.invariant-loop-module
 invariant-loop-module l = record {
   found : listed_uses l.all ++ flat_map (used_in_module (meaning_in l.meanings)) (map module_view (drop l.module-index l.modules)) ≡ flat_map (used_in_module (meaning_in l.meanings)) (map module_view l.modules);
   rest :
-    first_found (undefined_in (origin_in l.table) (meaning_in l.meanings)) (map module_view (drop l.module-index l.modules))
-    ≡ first_found (undefined_in (origin_in l.table) (meaning_in l.meanings)) (map module_view l.modules);
+      first_found (undefined_in (origin_in l.table) (meaning_in l.meanings)) (map module_view (drop l.module-index l.modules))
+      ≡ first_found (undefined_in (origin_in l.table) (meaning_in l.meanings)) (map module_view l.modules);
 }

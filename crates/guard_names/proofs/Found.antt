@@ -48,7 +48,7 @@ module _ (ms : List WrittenModule) (none : fault_of_names ms ≡ None) where
         by None e h = absurd cc
         by (Some d) e h =
             subst (λ g. IfSome (named g) (IsFirstFault ms)) (same_Some (Recursive d.assignment.site) f h)
-            (none, number, first_so ms none number (subst (λ xs. IsFirstRecursive (UsesIn xs) number) are first), d, e, refl)
+            (none, (number, first_so ms none number (subst (λ xs. IsFirstRecursive (UsesIn xs) number) are first), d, e, refl))
 
 -- a place in the order is kept by its definition
 module _ (count : ℕ) (uses : ℕ → ℕ → Type 0) (order places : List ℕ) (ordered : IsOrder count uses order) (whole : length places ≡ count)

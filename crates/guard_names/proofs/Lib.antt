@@ -7,3 +7,13 @@ pub mod Paths
 pub mod Meaning
 pub mod FirstFaults
 pub mod UseLists
+pub mod Numbered
+pub mod Refusals
+pub mod SameUses
+pub mod Placing
+pub mod Steps
+pub mod LookedUp
+pub mod HomePlaces
+pub mod Found
+pub mod Behind
+pub mod OneFault

@@ -57,7 +57,7 @@ declared_so ds scope name o h = by (find (declares scope name) ds) refl h
 
 -- ---- where nothing is declared twice, each declaration is found
 
-origin-append : (xs ys : List Declaration) (scope : Option (List ℕ)) (name : List ℕ) → origin_there (xs ++ ys) scope name ≡ option_or (origin_there xs scope name) (origin_there ys scope name)
+pub origin-append : (xs ys : List Declaration) (scope : Option (List ℕ)) (name : List ℕ) → origin_there (xs ++ ys) scope name ≡ option_or (origin_there xs scope name) (origin_there ys scope name)
 origin-append xs ys scope name = ap (option_map (λ d. d.origin)) (find-append (declares scope name) xs ys) ∙ by (find (declares scope name) xs)
   where
     by : (f : Option Declaration) → option_map (λ d. d.origin) (option_or f (find (declares scope name) ys)) ≡ option_or (option_map (λ d. d.origin) f) (origin_there ys scope name)
@@ -75,8 +75,8 @@ never_before before [] h k d l is = absurd (omega (arith, l))
 never_before before (e ∷ ds) h zero d l is =
     let new = first_new (origin_there before e.scope e.name) e.site (duplicate_after (before ++ e ∷ []) ds) h in
     let at : origin_there (before ++ e ∷ ds) e.scope e.name ≡ Some e.origin =
-      origin-append before (e ∷ ds) e.scope e.name ∙ ap (λ o. option_or o (origin_there (e ∷ ds) e.scope e.name)) new.0
-      ∙ ap (λ b. option_map (λ (x : Declaration). x.origin) (cond b (Some e) (find (declares e.scope e.name) ds))) (declares_itself e) in
+    origin-append before (e ∷ ds) e.scope e.name ∙ ap (λ o. option_or o (origin_there (e ∷ ds) e.scope e.name)) new.0
+    ∙ ap (λ b. option_map (λ (x : Declaration). x.origin) (cond b (Some e) (find (declares e.scope e.name) ds))) (declares_itself e) in
     subst (λ (x : Declaration). origin_there (before ++ e ∷ ds) x.scope x.name ≡ Some x.origin) is at
 never_before before (e ∷ ds) h (suc k) d l is =
     let new = first_new (origin_there before e.scope e.name) e.site (duplicate_after (before ++ e ∷ []) ds) h in
@@ -114,6 +114,10 @@ module _ (ms : List WrittenModule) where
   pub means_number : not_exported_among origins (declarations ms) ≡ None → (home name : List ℕ) (number : ℕ) → definition_of origins home name ≡ Some number → Means ms home name number
   means_number exported home name number h = by (origins (Some home) name) refl h
     where
+      not_false : (b : Bool) → not b ≡ false → b ≡ true
+      not_false true h' = refl
+      not_false false h' = absurd cc
+
       imported : (from : List ℕ) → origins (Some home) name ≡ Some (imported_from from) → (exports : Bool) → origins (Some from) name ≡ Some (assigned_by number exports) → IsImported ms home name number
       imported from e exports a =
           let here = declared_so (declarations ms) (Some home) name (imported_from from) e in
@@ -121,9 +125,7 @@ module _ (ms : List WrittenModule) where
           let yes : exports ≡ true = not_false exports (ap (λ o. not (is_exported o)) (sym a) ∙ open_there) in
           let there = declared_so (declarations ms) (Some from) name (assigned_by number exports) a in
           (from, here, subst (λ b. IsDeclared ms from name (assigned_by number b)) yes there)
-      not_false : (b : Bool) → not b ≡ false → b ≡ true
-      not_false true h' = refl
-      not_false false h' = absurd cc
+
       by : (o : Option Origin) → origins (Some home) name ≡ o → number_behind origins name o ≡ Some number → Means ms home name number
       by None e h' = absurd cc
       by (Some of_module) e h' = absurd cc
@@ -134,8 +136,8 @@ module _ (ms : List WrittenModule) where
 
   -- what the name means, a look-up answers
   pub number_meant : duplicate_after [] (declarations ms) ≡ None → (home name : List ℕ) (number : ℕ) → Means ms home name number → definition_of origins home name ≡ Some number
-  number_meant once home name number (inl (exports, site, is)) =
-      ap (number_behind origins name) (found_so (declarations ms) once (Some home) name site (assigned_by number exports) is)
+  number_meant once home name number (inl (exports, there)) =
+      ap (number_behind origins name) (found_so (declarations ms) once (Some home) name there.0 (assigned_by number exports) there.1)
   number_meant once home name number (inr (from, here, there)) =
       ap (number_behind origins name) (found_so (declarations ms) once (Some home) name here.0 (imported_from from) here.1)
       ∙ ap assigned_number (found_so (declarations ms) once (Some from) name there.0 (assigned_by number true) there.1)

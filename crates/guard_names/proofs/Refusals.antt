@@ -1,5 +1,5 @@
 -- The faults of names in their order: what a refusal names, and what there isn't where nothing is refused.
-use Rattle.std.proofs.Common.{◌≡◌, Bool, true, false, List, Option, Some, None, option_map, Result, Ok, Err, is_some, IfSome, if◌then◌else◌, refl, sym, ◌∙◌, ap}
+use Rattle.std.proofs.Common.{◌≡◌, Bool, true, false, List, Option, Some, None, option_map, Result, Ok, Err, is_some, IfSome, if◌then◌else◌, refl, sym, ◌∙◌, ap, arith}
 use Rattle.std.specs.Option.{option_or}
 use Rattle.std.proofs.lemmas.Option.{same_Some}
 use Rattle.guard_model.specs.declared.site.Site.{Site}
@@ -69,40 +69,48 @@ fault_is_of_names ms f h = by (too_many ms) h
 pub refuses_first : (ms : List WrittenModule) → too_many ms ≡ false → (f : NameFault) → Refuses (named f) (check_names ms) → IfSome (named f) (IsFirstFault ms)
 refuses_first ms few f h = by f (λ g r. refused_is (fault_of_names ms) g (sym (check_is_fault ms few) ∙ r)) h
   where
+    never : false ≡ true → ⊥
+    never h' = cc
+
     by : (f : NameFault) → ((g : NameFault) → check_names ms ≡ Err g → fault_of_names ms ≡ Some g) → Refuses (named f) (check_names ms) → IfSome (named f) (IsFirstFault ms)
     by (Duplicate s) so h' = so (Duplicate s) h'
     by (Undefined s) so h' = so (Undefined s) h'
     by (NoModule s) so h' = so (NoModule s) h'
     by (NotExported s) so h' = so (NotExported s) h'
     by (ImportNotDefined s) so h' = so (ImportNotDefined s) h'
-    by (Recursive s) so h' = absurd (no (fault_is_of_names ms (Recursive s) (so (Recursive s) h')))
+    by (Recursive s) so h' = absurd (never (fault_is_of_names ms (Recursive s) (so (Recursive s) h')))
     by TooManyModules so h' = so TooManyModules h'
     by OutOfMemory so h' = tt
-
-    no : false ≡ true → ⊥
-    no h' = cc
 
 pub accepts_none : (ms : List WrittenModule) → too_many ms ≡ false → check_names ms ≡ Ok tt → fault_of_names ms ≡ None
 accepts_none ms few h = accepted_is (fault_of_names ms) (sym (check_is_fault ms few) ∙ h)
 
 -- ---- where there is no fault, there is none of each kind
 
-or_none : {A : Type 0} (a b : Option A) → option_or a b ≡ None → (a ≡ None) × (b ≡ None)
-or_none None b h = (refl, h)
-or_none (Some x) b h = absurd cc
+none_each : (a b c d e : Option Site) → first_of a b c d e ≡ None → (a ≡ None) × (b ≡ None) × (c ≡ None) × (d ≡ None) × (e ≡ None)
+none_each (Some s) b c d e h = absurd cc
+none_each None (Some s) c d e h = absurd cc
+none_each None None (Some s) d e h = absurd cc
+none_each None None None (Some s) e h = absurd cc
+none_each None None None None (Some s) h = absurd cc
+none_each None None None None None h = (refl, refl, refl, refl, refl)
 
-map_none : {A B : Type 0} (f : A → B) (o : Option A) → option_map f o ≡ None → o ≡ None
-map_none f None h = refl
-map_none f (Some x) h = absurd cc
+none_kinds : (ms : List WrittenModule) → fault_of_names ms ≡ None → first_of (duplicate ms) (no_module ms) (not_defined ms) (not_exported ms) (undefined ms) ≡ None
+none_kinds ms h = by (too_many ms) h
+  where
+    by : (b : Bool) → option_or (if b then Some TooManyModules else None) (first_of (duplicate ms) (no_module ms) (not_defined ms) (not_exported ms) (undefined ms)) ≡ None
+        → first_of (duplicate ms) (no_module ms) (not_defined ms) (not_exported ms) (undefined ms) ≡ None
+    by true h' = absurd cc
+    by false h' = h'
 
 pub none_duplicate : (ms : List WrittenModule) → fault_of_names ms ≡ None → duplicate ms ≡ None
-none_duplicate ms h = map_none Duplicate (duplicate ms) (or_none _ _ (or_none _ _ h).1).0
+none_duplicate ms h = (none_each (duplicate ms) (no_module ms) (not_defined ms) (not_exported ms) (undefined ms) (none_kinds ms h)).0
 
 pub none_missing : (ms : List WrittenModule) → fault_of_names ms ≡ None → no_module ms ≡ None
-none_missing ms h = map_none NoModule (no_module ms) (or_none _ _ (or_none _ _ (or_none _ _ h).1).1).0
+none_missing ms h = (none_each (duplicate ms) (no_module ms) (not_defined ms) (not_exported ms) (undefined ms) (none_kinds ms h)).1
 
 pub none_closed : (ms : List WrittenModule) → fault_of_names ms ≡ None → not_exported ms ≡ None
-none_closed ms h = map_none NotExported (not_exported ms) (or_none _ _ (or_none _ _ (or_none _ _ (or_none _ _ (or_none _ _ h).1).1).1).1).0
+none_closed ms h = (none_each (duplicate ms) (no_module ms) (not_defined ms) (not_exported ms) (undefined ms) (none_kinds ms h)).3
 
 pub none_is : (o : Option NameFault) → is_some o ≡ false → o ≡ None
 none_is None h = refl

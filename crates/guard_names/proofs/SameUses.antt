@@ -46,7 +46,7 @@ module _ (ms : List WrittenModule) (none : fault_of_names ms ≡ None) where
   by_definition = listed_by_definition (numbers_of ms) ms
 
   pub as_many : length (uses_of_all ms) ≡ length (definitions ms)
-  as_many = ap length by_definition ∙ length-map (uses_of (numbers_of ms)) (definitions ms)
+  as_many = ap length by_definition ∙ length-map (definitions ms) (uses_of (numbers_of ms))
 
   pub uses_so : (a b : ℕ) → UsesIn (uses_of_all ms) a b → Uses ms a b
   uses_so a b u = uses_from_list ms (numbers_of ms) are_means are_meant a b (subst (λ us. UsesIn us a b) by_definition u)

@@ -53,14 +53,15 @@ used_so numbers home (x ∷ xs) used h = by (numbers home x.name) refl h (used_s
   where
     later : (y : Mention) × Contains xs y × (numbers home y.name ≡ Some used) → (y : Mention) × Contains (x ∷ xs) y × (numbers home y.name ≡ Some used)
     later (y, is, e) = (y, (suc is.0, omega (arith, is.1), is.2), e)
+
     by : (o : Option ℕ) → numbers home x.name ≡ o → is_listed (cons_option o (filter_map (λ x. numbers home x.name) xs)) used ≡ true
         → (is_listed (filter_map (λ x. numbers home x.name) xs) used ≡ true → (y : Mention) × Contains xs y × (numbers home y.name ≡ Some used))
         → (y : Mention) × Contains (x ∷ xs) y × (numbers home y.name ≡ Some used)
     by None e h' rest = later (rest h')
     by (Some n) e h' rest = ⊎_elim
-      (λ (same : nat_eq used n ≡ true). (x, (0, omega arith, refl), e ∙ ap Some (sym (eqb-true used n same))))
-      (λ (more : is_listed (filter_map (λ x. numbers home x.name) xs) used ≡ true). later (rest more))
-      (or_cases (nat_eq used n) (is_listed (filter_map (λ x. numbers home x.name) xs) used) h')
+        (λ (same : nat_eq used n ≡ true). (x, (0, omega arith, refl), e ∙ ap Some (sym (eqb-true used n same))))
+        (λ (more : is_listed (filter_map (λ x. numbers home x.name) xs) used ≡ true). later (rest more))
+        (or_cases (nat_eq used n) (is_listed (filter_map (λ x. numbers home x.name) xs) used) h')
 
 so_used : (numbers : Numbers) (home : List ℕ) (xs : List Mention) (used k : ℕ) (x : Mention) → k < length xs → get_or xs k x ≡ x → numbers home x.name ≡ Some used
     → is_listed (filter_map (λ x. numbers home x.name) xs) used ≡ true
@@ -70,12 +71,13 @@ so_used numbers home (y ∷ ys) used zero x l is e =
     rw (here, eq-eqb used used refl) refl
 so_used numbers home (y ∷ ys) used (suc k) x l is e = by (numbers home y.name) (so_used numbers home ys used k x (omega (arith, l)) is e)
   where
-    by : (o : Option ℕ) → is_listed (filter_map (λ x. numbers home x.name) ys) used ≡ true → is_listed (cons_option o (filter_map (λ x. numbers home x.name) ys)) used ≡ true
-    by None h = h
-    by (Some n) h = or_right (nat_eq used n) _ h
     or_right : (a b : Bool) → b ≡ true → (a || b) ≡ true
     or_right true b h = refl
     or_right false b h = h
+
+    by : (o : Option ℕ) → is_listed (filter_map (λ x. numbers home x.name) ys) used ≡ true → is_listed (cons_option o (filter_map (λ x. numbers home x.name) ys)) used ≡ true
+    by None h = h
+    by (Some n) h = or_right (nat_eq used n) _ h
 
 -- ---- the same uses
 
@@ -88,14 +90,15 @@ module _ (ms : List WrittenModule) (numbers : Numbers)
   pub uses_from_list : (number used : ℕ) → UsesIn listed_uses_of number used → Uses ms number used
   uses_from_list number used u = by (at_place (definitions ms) number)
     where
+      no_use : false ≡ true → ⊥
+      no_use h = cc
+
       by : ((d : Definition) × (slice_get (definitions ms) number ≡ Some d)) ⊎ (slice_get (definitions ms) number ≡ None) → Uses ms number used
       by (inl (d, at)) =
           let h : is_listed (uses_of numbers d) used ≡ true = subst (λ xs. is_listed xs used ≡ true) (at_map (uses_of numbers) (definitions ms) number d [] at) u in
           let x = used_so numbers d.home.name (mentions d.assignment) used h in
           (d, at, x.0, x.1, means d.home.name x.0.name used x.2)
       by (inr none) = absurd (no_use (subst (λ xs. is_listed xs used ≡ true) (past_map (uses_of numbers) (definitions ms) number [] none) u))
-      no_use : false ≡ true → ⊥
-      no_use h = cc
 
   pub list_from_uses : (number used : ℕ) → Uses ms number used → UsesIn listed_uses_of number used
   list_from_uses number used (d, at, x, is, m) =

@@ -3,6 +3,7 @@ pub mod Mentions
 pub mod Declarations
 pub mod Meanings
 pub mod Order
+pub mod OrderProps
 pub mod Faults
 pub mod Rows
 pub mod Queues
@@ -13,3 +14,4 @@ pub mod ExportViews
 pub mod DeclarationViews
 pub mod TableViews
 pub mod Reading
+pub mod NamesView

@@ -1,7 +1,7 @@
 -- Chains of uses. Where each definition of some uses one of them, one of them uses itself.
-use Rattle.std.proofs.Common.{◌≡◌, ◌≢◌, ◌⊎◌, inl, inr, ⊎_elim, ℕ, zero, suc, ◌+◌, ◌<◌, ◌≤◌, Bool, true, false, ◌||◌, List, [], ◌∷◌, length, refl, sym, ◌∙◌, ap, subst, arith, rules}
+use Rattle.std.proofs.Common.{◌≡◌, ◌⊎◌, inl, inr, ⊎_elim, ℕ, zero, suc, ◌+◌, ◌<◌, Bool, true, false, ◌||◌, List, [], ◌∷◌, length, refl, sym, subst, arith, rules}
 use Rattle.std.specs.Prelude.{nat_eq}
-use Rattle.std.specs.List.{list_any, IsDistinct, AllByRecursion}
+use Rattle.std.specs.List.{IsDistinct, AllByRecursion}
 use Rattle.std.proofs.lemmas.Bool.{eqb-true}
 use Rattle.std.proofs.lemmas.Map.Keys.{IsDistinct-cons}
 use Rattle.std.proofs.lemmas.Map.Steps.{length-le_from_distinct_below}
@@ -47,6 +47,7 @@ module _ (count : ℕ) (uses : ℕ → ℕ → Type 0) (open_at : ℕ → Bool)
         leads = λ k h. ⊎_elim (λ (same : nat_eq k here ≡ true). subst (λ x. Leads uses x used) (sym (eqb-true k here same)) (at_once u)) (λ old. leads_on (way.leads k old) (at_once u)) (or_true (nat_eq k here) (is_listed visited k) h);
         new = new';
       }
+
       on : (used : ℕ) → used < count → open_at used ≡ true → uses here used → (b : Bool) → is_listed (here ∷ visited) used ≡ b
           → (IsWay (here ∷ visited) used → (k : ℕ) × IsRecursive uses k) → (k : ℕ) × IsRecursive uses k
       on used inside is' u false e rest = rest (more used u e)
@@ -56,6 +57,7 @@ module _ (count : ℕ) (uses : ℕ → ℕ → Type 0) (open_at : ℕ → Bool)
           (or_true (nat_eq used here) (is_listed visited used) e)
 
   pub stuck_is_recursive : (k : ℕ) → k < count → open_at k ≡ true → (r : ℕ) × IsRecursive uses r
+  unfolding IsDistinct
   stuck_is_recursive k below is = walk (suc count) [] k (omega arith) below is (record {
     below = λ q h. absurd cc;
     distinct = search rules;

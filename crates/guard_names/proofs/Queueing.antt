@@ -1,22 +1,17 @@
 -- How definitions move on their way into the order.
-use Rattle.std.proofs.Common.{◌≡◌, ◌≢◌, ◌⊎◌, inl, inr, ⊎_elim, ℕ, zero, suc, ◌+◌, ◌<◌, ◌≤◌, Bool, true, false, cond, not, ◌||◌, List, [], ◌∷◌, ◌++◌, length, get_or, set, refl, sym, ◌∙◌, ap, subst, arith, rules}
-use Rattle.std.specs.Prelude.{nat_eq, nat_lt, count_by, sum_by, All, IsTrue}
+use Rattle.std.proofs.Common.{◌≡◌, ◌≢◌, ◌⊎◌, inl, inr, ⊎_elim, ℕ, zero, suc, ◌+◌, ◌<◌, ◌≤◌, Bool, true, false, cond, not, ◌||◌, List, [], ◌∷◌, ◌++◌, length, get_or, set, refl, sym, ◌∙◌, ap, subst, arith}
+use Rattle.std.specs.Prelude.{nat_eq, nat_lt, sum_by, All}
 use Rattle.std.specs.List.{list_any}
-use Rattle.std.specs.List.Sorted.{IsPermutation}
 use Rattle.std.proofs.lemmas.Bool.{eqb-true, ne_eqb, eq-eqb, ltb-true, ltb-false, not-true}
 use Rattle.std.proofs.lemmas.Bool.Decides.{eqb_tells}
-use Rattle.std.proofs.lemmas.List.{length-set, get_or-set_same, get_or-set_other, get_or_past}
+use Rattle.std.proofs.lemmas.List.{length-set, get_or-set_same, get_or-set_other}
 use Rattle.std.proofs.lemmas.List.Elements.{All-push, All-nil, All-weaker, All-get_or}
 use Rattle.std.proofs.lemmas.List.Folds.{list_any-append, list_any_at}
 use Rattle.std.proofs.lemmas.List.Sums.{sum_by-cons, sum_by_push, sum_by-set}
 use Rattle.guard_names.specs.declared.order.Waiting.{Waiting}
 use Rattle.guard_names.specs.Order.{is_listed, IsReady, IsNext, IsRecursive}
-use Rattle.guard_names.specs.Queues.{times, times_waiting, times_in, once_at, used_by, UsesIn, AreInside, IsMet, IsMetBefore, IsWaitingFor, IsReleased, Stands}
-use Rattle.guard_names.proofs.Chains.{or_true, or_false, stuck_is_recursive}
-
-
-
-
+use Rattle.guard_names.specs.Queues.{times, times_waiting, times_in, once_at, used_by, UsesIn, AreInside, IsMet, IsWaitingFor, IsReleased, Stands}
+use Rattle.guard_names.proofs.Chains.{or_false, stuck_is_recursive}
 
 true_false : {P : Type 0} → true ≡ false → P
 true_false h = absurd cc
@@ -51,7 +46,8 @@ pub times_of_unlisted : (xs : List ℕ) (k : ℕ) → is_listed xs k ≡ false �
 times_of_unlisted [] k h = refl
 times_of_unlisted (x ∷ xs) k h =
     let p = or_false (nat_eq k x) (is_listed xs k) h in
-    rw (sum_by-cons (λ y. cond (nat_eq k y) 1 0) x xs, p.0) (times_of_unlisted xs k p.1)
+    let r : times xs k ≡ 0 = times_of_unlisted xs k p.1 in
+    rw (sum_by-cons (λ y. cond (nat_eq k y) 1 0) x xs, p.0) (omega (arith, r))
 
 -- a sum that isn't 0 has a term that isn't
 pub positive_term : {X : Type 0} (f : X → ℕ) (d : X) (xs : List X) → 0 < sum_by f xs → (i : ℕ) × (i < length xs) × (0 < f (get_or xs i d))
@@ -75,7 +71,7 @@ module _ (us : List (List ℕ)) where
     size = s.size;
     once = λ k. let o = s.once k in let p = e k in omega (arith, o, p);
     ready_met = λ k h. ⊎_elim (λ same. subst (λ x. IsMet us listed x) (sym same.1) met)
-      (λ other. s.ready_met k (let p : ready' k ≡ cond (nat_eq k a) 1 0 + ready k = e k in let q : ready' k ≡ cond false 1 0 + ready k = rw other.0 at p in omega (arith, q, h))) (eqb_tells k a);
+        (λ other. s.ready_met k (let p : ready' k ≡ cond (nat_eq k a) 1 0 + ready k = e k in let q : ready' k ≡ cond false 1 0 + ready k = rw other.0 at p in omega (arith, q, h))) (eqb_tells k a);
     waiting_for = s.waiting_for;
   }
 
@@ -87,10 +83,10 @@ module _ (us : List (List ℕ)) where
       record {
         size = length-set waiting used (get_or waiting used [] ++ w ∷ []) ∙ s.size;
         once = λ k.
-          let o = s.once k in
-          let t = sum_by-set (λ ws. times_waiting ws k) waiting used (get_or waiting used [] ++ w ∷ []) [] here in
-          let p = sum_by_push (λ v. cond (nat_eq k v.number) 1 0) (get_or waiting used []) w in
-          omega (arith, o, t, p);
+            let o = s.once k in
+            let t = sum_by-set (λ ws. times_waiting ws k) waiting used (get_or waiting used [] ++ w ∷ []) [] here in
+            let p = sum_by_push (λ v. cond (nat_eq k v.number) 1 0) (get_or waiting used []) w in
+            omega (arith, o, t, p);
         ready_met = s.ready_met;
         waiting_for = λ other. put other (eqb_tells other used) here;
       }
@@ -100,25 +96,24 @@ module _ (us : List (List ℕ)) where
       put other (inr apart) here = rw (get_or-set_other waiting used other (get_or waiting used [] ++ w ∷ []) [] apart.1) (s.waiting_for other)
       put other (inl same) here =
           let new : All (IsWaitingFor us listed used) (get_or (set waiting used (get_or waiting used [] ++ w ∷ [])) used []) =
-            rw (get_or-set_same waiting used (get_or waiting used [] ++ w ∷ []) [] here) (All-push (IsWaitingFor us listed used) (get_or waiting used []) w (s.waiting_for used) waits) in
+          rw (get_or-set_same waiting used (get_or waiting used [] ++ w ∷ []) [] here) (All-push (IsWaitingFor us listed used) (get_or waiting used []) w (s.waiting_for used) waits) in
           subst (λ x. All (IsWaitingFor us listed x) (get_or (set waiting used (get_or waiting used [] ++ w ∷ [])) x [])) (sym same.1) new
 
   -- ---- one that is listed
 
-  pub listed_one : (listed : List ℕ) (ready ready' : ℕ → ℕ) (waiting : List (List Waiting)) (a : ℕ)
-      → Stands us listed ready waiting (λ _. 0) → ((k : ℕ) → ready' k + once_at a k ≡ ready k) → a < length us
-      → Stands us (listed ++ a ∷ []) ready' (set waiting a []) (times_waiting (get_or waiting a []))
-  listed_one listed ready ready' waiting a s e inside =
+  pub listed_one : (listed : List ℕ) (ready : ℕ → ℕ) (waiting : List (List Waiting)) (a : ℕ)
+      → Stands us listed ready waiting (once_at a) → a < length us
+      → Stands us (listed ++ a ∷ []) ready (set waiting a []) (times_waiting (get_or waiting a []))
+  listed_one listed ready waiting a s inside =
       let here : a < length waiting = omega (arith, s.size, inside) in
       record {
         size = length-set waiting a [] ∙ s.size;
         once = λ k.
-          let o = s.once k in
-          let p = e k in
-          let t = sum_by-set (λ ws. times_waiting ws k) waiting a [] [] here in
-          let l = sum_by_push (λ x. cond (nat_eq k x) 1 0) listed a in
-          omega (arith, o, p, t, l);
-        ready_met = λ k h used u. still_listed listed a used (s.ready_met k (let p = e k in omega (arith, p, h)) used u);
+            let o = s.once k in
+            let t = sum_by-set (λ ws. times_waiting ws k) waiting a [] [] here in
+            let l = sum_by_push (λ x. cond (nat_eq k x) 1 0) listed a in
+            omega (arith, o, t, l);
+        ready_met = λ k h used u. still_listed listed a used (s.ready_met k h used u);
         waiting_for = λ other. still other (eqb_tells other a) here;
       }
     where
@@ -127,11 +122,21 @@ module _ (us : List (List ℕ)) where
       still other (inr apart) here =
           rw (get_or-set_other waiting a other [] [] apart.1)
           (All-weaker (IsWaitingFor us listed other) (IsWaitingFor us (listed ++ a ∷ []) other)
-            (λ w h. record { number = h.number; here = h.here; is = h.is; met = λ i below. still_listed listed a (get_or (used_by us w.number) i 0) (h.met i below); unlisted = still_unlisted listed a other h.unlisted apart.1 })
-            (get_or waiting other []) (s.waiting_for other))
+          (λ w h. record { number = h.number; here = h.here; is = h.is; met = λ i below. still_listed listed a (get_or (used_by us w.number) i 0) (h.met i below); unlisted = still_unlisted listed a other h.unlisted apart.1 })
+          (get_or waiting other []) (s.waiting_for other))
       still other (inl same) here =
           let new : All (IsWaitingFor us (listed ++ a ∷ []) a) (get_or (set waiting a []) a []) = rw (get_or-set_same waiting a [] [] here) (All-nil (IsWaitingFor us (listed ++ a ∷ []) a)) in
           subst (λ x. All (IsWaitingFor us (listed ++ a ∷ []) x) (get_or (set waiting a []) x [])) (sym same.1) new
+
+  -- the one that is taken out of those that are ready
+  pub taken : (listed : List ℕ) (ready ready' : ℕ → ℕ) (waiting : List (List Waiting)) (a : ℕ)
+      → Stands us listed ready waiting (λ _. 0) → ((k : ℕ) → ready' k + once_at a k ≡ ready k) → Stands us listed ready' waiting (once_at a)
+  taken listed ready ready' waiting a s e = record {
+    size = s.size;
+    once = λ k. let o = s.once k in let p = e k in omega (arith, o, p);
+    ready_met = λ k h. s.ready_met k (let p = e k in omega (arith, p, h));
+    waiting_for = s.waiting_for;
+  }
 
   pub released_by : (listed : List ℕ) (ready underway : ℕ → ℕ) (waiting : List (List Waiting)) (a : ℕ)
       → Stands us listed ready waiting underway → All (IsReleased us (listed ++ a ∷ [])) (get_or waiting a [])
@@ -186,6 +191,7 @@ module _ (us : List (List ℕ)) where
       where
         none : Waiting
         none = record { number = 0; met = 0 }
+
         by_number : {used : ℕ} (w : Waiting) → IsWaitingFor us listed used w → (b : Bool) → nat_eq k w.number ≡ b → 0 < cond b 1 0 → UsesIn us k used
         by_number {used} w waits true e h' =
             let at : list_any (nat_eq used) (used_by us w.number) ≡ true = list_any_at (nat_eq used) (used_by us w.number) w.met 0 waits.here (eq-eqb used (get_or (used_by us w.number) w.met 0) (sym waits.is)) in
@@ -223,10 +229,11 @@ module _ (us : List (List ℕ)) where
             let u = still k in
             let waits = waits_for k (omega (arith, one, none, r, u)) in
             (waits.0, inside k waits.0 waits.2, ap not waits.1, waits.2)
+
         by : (b : Bool) → is_listed listed k ≡ b → is_listed listed k ≡ true
         by true e = e
         by false e = let r = stuck_is_recursive (length us) (UsesIn us) (λ x. not (is_listed listed x)) next k below (ap not e) in absurd (acyclic r.0 r.1)
 
     -- where as many are underway
     pub same_underway : (other : ℕ → ℕ) → ((k : ℕ) → other k ≡ underway k) → Stands us listed ready waiting other
-    same_underway other e = record s { once = λ k. let o = s.once k in let p = e k in omega (arith, o, p) }
+    same_underway other e = record { size = s.size; once = λ k. let o = s.once k in let p = e k in omega (arith, o, p); ready_met = s.ready_met; waiting_for = s.waiting_for }

@@ -28,6 +28,10 @@ module _ (count : ℕ) (uses : ℕ → ℕ → Type 0) where
     pub follow : Follow [] numbers
     pub all : (number : ℕ) → number < count → IsTrue (is_listed numbers number)
 
+  -- there is one such order at most
+  abbrev pub OneOrder : Type 0
+  OneOrder = (numbers others : List ℕ) → IsOrder numbers → IsOrder others → numbers ≡ others
+
 module _ (uses : ℕ → ℕ → Type 0) where
   -- a chain of uses leads from the first to the second
   pub data Leads : ℕ → ℕ → Type 0 where

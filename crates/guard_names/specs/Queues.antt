@@ -1,6 +1,6 @@
 -- Definitions on their way into the order, as the code keeps them: some are listed, some are ready, and the others wait, each for one that it
 -- uses and that isn't listed.
-use Rattle.std.specs.Prelude.{◌≡◌, ℕ, ◌+◌, ◌<◌, Bool, true, false, List, [], length, slice_index_or, All, IsTrue, nat_eq, nat_lt, if◌then◌else◌, count_by, sum_by}
+use Rattle.std.specs.Prelude.{◌≡◌, ℕ, ◌+◌, ◌<◌, Bool, false, List, [], length, slice_index_or, All, IsTrue, nat_eq, nat_lt, if◌then◌else◌, count_by, sum_by}
 use Rattle.guard_names.specs.declared.order.Waiting.{Waiting}
 use Rattle.guard_names.specs.Order.{is_listed}
 

@@ -1,5 +1,5 @@
 -- A search through chains of uses, as the code keeps it: marks of definitions, a path cut into parts, and uses that aren't followed yet.
-use Rattle.std.specs.Prelude.{◌≡◌, ◌⊎◌, ℕ, ◌<◌, ◌≤◌, Bool, true, false, List, length, slice_index_or, Contains, Option, Some, None, nat_le, if◌then◌else◌, fold}
+use Rattle.std.specs.Prelude.{◌≡◌, ◌⊎◌, ℕ, ◌+◌, ◌-◌, ◌<◌, ◌≤◌, Bool, true, false, List, [], ◌∷◌, ◌++◌, length, take, slice_index_or, Contains, Option, Some, None, nat_le, nat_lt, if◌then◌else◌, fold}
 use Rattle.std.specs.List.{AllPairs}
 use Rattle.guard_names.specs.declared.recursion.Mark.{Mark}
 use Rattle.guard_names.specs.declared.recursion.Mark.TheVariants.{New, OnPath, Done}
@@ -12,9 +12,50 @@ use Rattle.guard_names.specs.Queues.{UsesIn}
 abbrev pub Reaches : (ℕ → ℕ → Type 0) → ℕ → ℕ → Type 0
 Reaches uses a b = (a ≡ b) ⊎ Leads uses a b
 
+abbrev pub no_part : Part
+no_part = record { start = 0; cyclic = false }
+
 -- the part in which a place is: the last one that starts there or before
 abbrev pub part_at : List Part → ℕ → Part
-part_at parts place = fold (λ found p. if nat_le p.start place then p else found) (record { start = 0; cyclic = false }) parts
+part_at parts place = fold (λ found p. if nat_le p.start place then p else found) no_part parts
+
+-- the first part starts at the path's first place
+abbrev pub StartsFirst : List Part → ℕ → Type 0
+StartsFirst [] len = len ≡ 0
+StartsFirst (p ∷ ps) len = p.start ≡ 0
+
+-- each part starts behind the one before it, and before the path's end
+abbrev pub Rises : ℕ → List Part → ℕ → Type 0
+Rises low [] len = low ≤ len
+Rises low (p ∷ ps) len = (low ≤ p.start) × Rises (p.start + 1) ps len
+
+-- the part with this place takes in those behind it, and is cyclic
+pub record Joins (parts : List Part) (place : ℕ) (joined : List Part) : Type 0 where
+  pub last : ℕ
+  pub here : last < length parts
+  pub start : (slice_index_or parts last no_part).start ≤ place
+  pub behind : (i : ℕ) → last < i → i < length parts → place < (slice_index_or parts i no_part).start
+  pub is : joined ≡ take last parts ++ record { start = (slice_index_or parts last no_part).start; cyclic = true } ∷ []
+
+-- one of the last part uses it
+pub record IsUsedFrom (us : List (List ℕ)) (path : List ℕ) (parts : List Part) (used : ℕ) : Type 0 where
+  pub from : ℕ
+  pub here : from < length path
+  pub last : (part_at parts (length path - 1)).start ≤ from
+  pub uses : UsesIn us (slice_index_or path from 0) used
+
+-- the lesser one, where there is one
+abbrev pub lesser : Option ℕ → ℕ → Option ℕ
+lesser None n = Some n
+lesser (Some m) n = if nat_lt n m then Some n else Some m
+
+-- of each new definition one, and one for each that it uses
+abbrev pub new_left : List Mark → List (List ℕ) → ℕ
+new_left [] us = 0
+new_left (m ∷ ms) [] = 0
+new_left (New ∷ ms) (u ∷ us) = 1 + length u + new_left ms us
+new_left (OnPath q ∷ ms) (u ∷ us) = new_left ms us
+new_left (Done ∷ ms) (u ∷ us) = new_left ms us
 
 module _ (us : List (List ℕ)) (len : ℕ) (node : ℕ → ℕ) (start : ℕ → ℕ) (cyclic : ℕ → Bool) (pending : List Pending) (mark : ℕ → Mark) where
   -- the use of a definition on the path is followed
@@ -47,3 +88,11 @@ module _ (us : List (List ℕ)) (len : ℕ) (node : ℕ → ℕ) (start : ℕ �
 pub record IsLeast (us : List (List ℕ)) (mark : ℕ → Mark) (first : Option ℕ) : Type 0 where
   pub recursive : (k : ℕ) → first ≡ Some k → IsRecursive (UsesIn us) k
   pub least : (k : ℕ) → mark k ≡ Done → IsRecursive (UsesIn us) k → (least : ℕ) × (first ≡ Some least) × (least ≤ k)
+
+-- what holds of a search
+pub record IsSearchOf (us : List (List ℕ)) (marks : List Mark) (path : List ℕ) (parts : List Part) (pending : List Pending) (first : Option ℕ) (excepted : ℕ → Type 0) : Type 0 where
+  pub sized : length marks ≡ length us
+  pub starts : StartsFirst parts (length path)
+  pub rises : Rises 0 parts (length path)
+  pub is_path : IsPath us (length path) (λ q. slice_index_or path q 0) (λ q. (part_at parts q).start) (λ q. (part_at parts q).cyclic) pending (λ k. slice_index_or marks k New) excepted
+  pub is_least : IsLeast us (λ k. slice_index_or marks k New) first

@@ -1,5 +1,6 @@
 //! The order in which definitions stand behind all that they use.
-ghost use Rattle.std.specs.Prelude.{◌≡◌, ℕ, ◌+◌, ◌<◌, ◌≤◌, ◌++◌, ◌∷◌, [], false, true, length, map, slice_index_or, replicate, IfOk, OnOk, OnTrue, OnFalse, IfSome, IfNone, IsTrue};
+ghost use Rattle.std.specs.Prelude.{◌≡◌, ℕ, ◌+◌, ◌<◌, ◌≤◌, ◌++◌, ◌∷◌, [], false, true, length, map, slice_index_or, replicate, IfOk, OnOk, IfSome, IfNone, IsTrue};
+ghost use Rattle.std.specs.Bool.{OnTrue, OnFalse};
 ghost use Rattle.std.specs.BinaryHeap.{IsHeap, heap_items};
 ghost use Rattle.std.specs.Ordering.{nat_cmp};
 ghost use Rattle.std.proofs.Props.{props};
@@ -84,10 +85,11 @@ impl Queue {
     fn list(&mut self, alloc: Global, uses: &[Vec<Id>], next: Id) -> Result<(), AllocError>
         requires inside { AreInside (map (λ v. v.items) uses.now) }
         requires next { next < length uses.now }
+        requires stands { StandsIn (map (λ v. v.items) uses.now) self.old (once_at next) }
         requires sized { IsSized (map (λ v. v.items) uses.now) self.old }
         ensures order { OnOk result (self.new.order.items ≡ self.old.order.items ++ next ∷ []) }
         ensures sized { OnOk result (IsSized (map (λ v. v.items) uses.now) self.new) }
-        ensures stands { OnOk result ((ready : ℕ → ℕ) → Stands (map (λ v. v.items) uses.now) self.old.order.items ready (map (λ v. v.items) self.old.waiting.items) (λ _. 0) → ((k : ℕ) → times_ready (heap_items self.old.ready) k + once_at next k ≡ ready k) → StandsIn (map (λ v. v.items) uses.now) self.new (λ _. 0)) }
+        ensures stands { OnOk result (StandsIn (map (λ v. v.items) uses.now) self.new (λ _. 0)) }
         ensures left { OnOk result (left_in self.new ≡ left_in self.old) }
     {
         self.order.push(next)?;

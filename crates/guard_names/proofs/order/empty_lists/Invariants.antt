@@ -2,5 +2,5 @@ use Rattle.std.proofs.Common.{◌≡◌, [], map}
 use Rattle.std.specs.Prelude.{replicate}
 use Rattle.guard_names.proofs.order.empty_lists.Given as goal
 
-abbrev pub invariant-loop-in-count : goal.invariant-loop-in-count
-invariant-loop-in-count l = map (λ w. w.items) l.lists.items ≡ replicate l.in-count []
+abbrev pub invariant-loop : goal.invariant-loop
+invariant-loop l = map (λ w. w.items) l.lists.items ≡ replicate l.counter []

@@ -3,6 +3,7 @@
 use std::alloc::{AllocError, Global};
 
 const FIRST: &[u8] = b"ABCDEFGHIJKLMNOPQRSTUVWXYZ";
+
 const FURTHER: &[u8] = b"ABCDEFGHIJKLMNOPQRSTUVWXYZabcdefghijklmnopqrstuvwxyz0123456789";
 
 /// The texts that a word and a number make:
@@ -73,7 +74,12 @@ fn add_importing(alloc: Global, text: &mut String, count: u32) -> Result<(), All
 }
 
 /// The names of these numbers, parted by a text.
-fn add_parted(alloc: Global, text: &mut String, count: u32, between: &str) -> Result<(), AllocError> {
+fn add_parted(
+    alloc: Global,
+    text: &mut String,
+    count: u32,
+    between: &str,
+) -> Result<(), AllocError> {
     for number in 0..count {
         if number != 0 {
             text.push_str(between)?;
@@ -99,7 +105,7 @@ fn name(alloc: Global, number: u32) -> Result<String, AllocError> {
         name.push(letter(FURTHER, number % 62))?;
     }
     if is_reserved(&name) {
-        name.push('0')?;
+        name.push_str("00")?;
     }
     Ok(name)
 }
@@ -111,5 +117,8 @@ fn letter(letters: &[u8], number: u32) -> char {
 
 /// Whether a name of three letters at most is a reserved word.
 fn is_reserved(name: &str) -> bool {
-    matches!(name, "ALL" | "ANY" | "BIT" | "BY" | "END" | "MAX" | "MIN" | "OF" | "PDV" | "SET")
+    matches!(
+        name,
+        "ALL" | "ANY" | "BIT" | "BY" | "END" | "MAX" | "MIN" | "OF" | "PDV" | "SET"
+    )
 }

@@ -4,6 +4,7 @@ use crate::large::large;
 use crate::texts::modules;
 use conformance_rows::{Layer, text_of};
 use guard_names::{NameFault, Names, resolve};
+use guard_syntax::Module;
 use std::alloc::{AllocError, Global};
 
 /// What the rows ask.
@@ -35,11 +36,19 @@ impl NamesRows {
 
     /// The answer to a row, of the names in these texts.
     fn answer_of(&self, alloc: Global, texts: &str, input: &str) -> Result<String, AllocError> {
-        let modules = match modules(alloc, texts) {
-            Ok(modules) => modules,
-            Err(fault) => return format!(in alloc; "{fault}"),
-        };
-        match resolve(alloc, &modules) {
+        match modules(alloc, texts) {
+            Ok(modules) => self.resolved(alloc, &modules, input),
+            Err(fault) => format!(in alloc; "{fault}"),
+        }
+    }
+
+    fn resolved(
+        &self,
+        alloc: Global,
+        modules: &[Module],
+        input: &str,
+    ) -> Result<String, AllocError> {
+        match resolve(alloc, modules) {
             Ok(names) => self.shown(alloc, &names, input),
             Err(fault) => format!(in alloc; "{fault}"),
         }
@@ -60,13 +69,19 @@ fn meaning(alloc: Global, names: &Names, input: &str) -> Result<String, AllocErr
     let Some((module, name)) = input.split_once(' ') else {
         return String::from_str(alloc, "no name");
     };
-    definition(alloc, names.find(module, name).and_then(|id| names.home(id)))
+    definition(
+        alloc,
+        names.find(module, name).and_then(|id| names.home(id)),
+    )
 }
 
 /// The definition at this place of the order, from 0.
 fn at_place(alloc: Global, names: &Names, input: &str) -> Result<String, AllocError> {
     let place = input.parse::<usize>().unwrap_or(usize::MAX);
-    definition(alloc, names.order().get(place).and_then(|id| names.home(*id)))
+    definition(
+        alloc,
+        names.order().get(place).and_then(|id| names.home(*id)),
+    )
 }
 
 impl Layer for NamesRows {

@@ -5,7 +5,7 @@ use std::alloc::{AllocError, AllocFailed, Global};
 use thiserror::Error;
 
 /// Why texts are no modules.
-#[derive(Debug, Error)]
+#[derive(Debug, Drop, Error)]
 pub enum TextsFault {
     #[error("{0}")]
     Lex(#[from] LexFault),

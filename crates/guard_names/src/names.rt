@@ -18,8 +18,8 @@ use std::alloc::{AllocError, Global};
 
 /// What the names in a list of modules mean. The modules have none of the faults of names.
 #[derive(Drop)]
-pub struct Names<'a> {
-    modules: &'a [Module<'a>],
+pub struct Names<'m, 'a> {
+    modules: &'m [Module<'a>],
     meanings: Meanings<'a>,
     order: Vec<Id>,
     /// Where each definition stands in the order, by definitions.
@@ -31,16 +31,16 @@ pub struct Names<'a> {
     pub ghost placed: { (number : ℕ) → number < length places.items → slice_get order.items (slice_index_or places.items number 0) ≡ Some number } by { Prim.hlevel props },
 }
 
-impl<'a> Names<'a> {
+impl<'m, 'a> Names<'m, 'a> {
     ghost use Rattle.guard_names.specs.NamesView.{modules_of, order_of};
 
     /// The names in modules without faults, of which this is known: what they mean, and which definitions each definition uses.
     pub(crate) fn of(
         alloc: Global,
-        modules: &'a [Module<'a>],
+        modules: &'m [Module<'a>],
         meanings: Meanings<'a>,
         uses: &[Vec<Id>],
-    ) -> Result<Names<'a>, AllocError>
+    ) -> Result<Names<'m, 'a>, AllocError>
         requires named { fault_of_names (map module_view modules.now) ≡ None }
         requires acyclic { (number : ℕ) → IsRecursive (Uses (map module_view modules.now)) number → ⊥ }
         requires meant { (home name : List ℕ) → meaning_in meanings home name ≡ numbers_of (map module_view modules.now) home name }

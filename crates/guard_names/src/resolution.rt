@@ -31,7 +31,7 @@ pub const MOST_MODULES: usize = 64;
 /// name that isn't assigned there (`ImportNotDefined`) or isn't exported (`NotExported`), a name that is exported and not assigned or
 /// the name of a type that means nothing (`Undefined`), a definition that uses itself (`Recursive`). OutOfMemory may stand in place
 /// of any answer.
-pub fn resolve<'a>(alloc: Global, modules: &'a [Module<'a>]) -> Result<Names<'a>, NameFault>
+pub fn resolve<'m, 'a>(alloc: Global, modules: &'m [Module<'a>]) -> Result<Names<'m, 'a>, NameFault>
     ensures faultless { IfOk result (λ _. AreFaultless (map module_view modules.now)) }
     ensures modules { IfOk result (λ names. modules_of names ≡ map module_view modules.now) }
     ensures refused { IfErr result (λ f. IfSome (named f) (IsFirstFault (map module_view modules.now))) }

@@ -1,5 +1,5 @@
 -- Modules that are added behind others change nothing of what names mean in these.
-use Rattle.std.proofs.Common.{◌≡◌, ◌↔◌, ◌⊎◌, inl, inr, ℕ, zero, suc, ◌+◌, ◌<◌, Bool, true, false, cond, not, List, [], ◌∷◌, ◌++◌, map, length, get_or, Option, Some, None, option_map, is_some, All, Contains, refl, sym, ◌∙◌, ap, subst, arith, append_assoc}
+use Rattle.std.proofs.Common.{◌≡◌, ◌↔◌, ℕ, zero, suc, ◌+◌, ◌<◌, Bool, true, false, cond, not, List, [], ◌∷◌, ◌++◌, length, get_or, Option, Some, None, is_some, All, Contains, refl, sym, ◌∙◌, ap, subst, arith, append_assoc}
 use Rattle.std.proofs.Common.{append-nil}
 use Rattle.std.specs.List.{flat_map}
 use Rattle.std.specs.Option.{option_or}
@@ -8,8 +8,8 @@ use Rattle.std.proofs.lemmas.Option.{same_Some}
 use Rattle.guard_model.specs.declared.site.Site.{Site}
 use Rattle.guard_syntax.specs.Trees.{WrittenSymbol, WrittenImport, WrittenAssignment, WrittenModule}
 use Rattle.guard_names.specs.Declarations.{Origin, of_module, imported_from, assigned_by, Declaration, declarations, declarations_from, module_declaration, module_declarations, lists_name, symbol_declarations, import_declarations, assigned_declarations, written_imports, Origins, origin_there, assigned_number, number_behind, definition_of}
-use Rattle.guard_names.specs.Meanings.{IsDeclared, IsAssigned, IsImported, Means}
-use Rattle.guard_names.specs.Faults.{first_where, first_found, is_missing, no_module_in, no_module, duplicate_after, duplicate, fault_of_names}
+use Rattle.guard_names.specs.Meanings.{Means}
+use Rattle.guard_names.specs.Faults.{first_where, first_found, is_missing, no_module_in, duplicate_after, fault_of_names}
 use Rattle.guard_names.proofs.Meaning.{declared_so, found_so, origin-append, means_number, number_meant}
 use Rattle.guard_names.proofs.Refusals.{none_duplicate, none_closed, none_missing}
 

@@ -1,11 +1,11 @@
 -- Look-ups in a table, and in the declarations of which it is made.
-use Rattle.std.proofs.Common.{◌≡◌, ℕ, ◌+◌, ◌<◌, ◌≤◌, Bool, true, false, cond, ◌&&◌, List, [], ◌∷◌, ◌++◌, map, length, get_or, take, drop, Option, Some, None, option_map, is_some, refl, sym, ◌∙◌, ap, arith}
+use Rattle.std.proofs.Common.{◌≡◌, ℕ, ◌+◌, ◌<◌, Bool, true, false, cond, ◌&&◌, List, [], ◌∷◌, ◌++◌, map, length, get_or, take, drop, Option, Some, None, option_map, is_some, refl, sym, ◌∙◌, ap}
 use Rattle.std.specs.Prelude.{bytes_eq}
 use Rattle.std.specs.List.{find}
 use Rattle.std.specs.Map.{lookup}
 use Rattle.std.specs.Option.{option_eq, option_or}
 use Rattle.std.specs.Cmp.Lexicographic.{nat_list_eq_equiv, bytes_decides}
-use Rattle.std.proofs.lemmas.List.{map_more, drop_more, drop_all}
+use Rattle.std.proofs.lemmas.List.{map_more, drop_more}
 use Rattle.std.proofs.lemmas.List.Folds.{find-append}
 use Rattle.indexmap.specs.IndexMap.{insert_entry}
 use Rattle.std.specs.Borrow.{Bor}

@@ -1,19 +1,18 @@
 -- Where names have no fault, a look-up answers what a name means.
-use Rattle.std.proofs.Common.{◌≡◌, ◌≢◌, ◌⊎◌, inl, inr, ⊎_elim, ℕ, zero, suc, ◌+◌, ◌<◌, ◌≤◌, Bool, true, false, cond, not, ◌&&◌, List, [], ◌∷◌, ◌++◌, length, get_or, Option, Some, None, option_map, is_some, Contains, refl, sym, ◌∙◌, ap, subst, arith, rules}
+use Rattle.std.proofs.Common.{◌≡◌, inl, inr, ℕ, zero, suc, ◌<◌, Bool, true, false, cond, not, List, [], ◌∷◌, ◌++◌, length, get_or, Option, Some, None, option_map, is_some, Contains, refl, sym, ◌∙◌, ap, subst, arith}
 use Rattle.std.specs.Prelude.{bytes_eq}
 use Rattle.std.proofs.Common.{append_assoc}
 use Rattle.std.specs.List.{find}
 use Rattle.std.specs.Option.{option_eq, option_or}
 use Rattle.std.specs.Cmp.Lexicographic.{bytes_decides}
-use Rattle.std.proofs.lemmas.Bool.{and_parts, and_from, or_cases, not-true}
+use Rattle.std.proofs.lemmas.Bool.{and_parts, and_from}
 use Rattle.std.proofs.lemmas.Option.{same_Some}
 use Rattle.std.proofs.lemmas.List.Folds.{find-append}
-use Rattle.std.proofs.lemmas.List.Elements.{Contains-append_right, Contains-push}
 use Rattle.guard_model.specs.declared.site.Site.{Site}
 use Rattle.guard_syntax.specs.Trees.{WrittenModule}
 use Rattle.guard_names.specs.Declarations.{Origin, of_module, imported_from, assigned_by, Declaration, declarations, declares, Origins, origin_there, assigned_number, is_exported, number_behind, definition_of}
-use Rattle.guard_names.specs.Meanings.{IsDeclared, IsAssigned, IsImported, Means}
-use Rattle.guard_names.specs.Faults.{first_where, duplicate_after, is_closed_import, not_exported_among}
+use Rattle.guard_names.specs.Meanings.{IsDeclared, IsImported, Means}
+use Rattle.guard_names.specs.Faults.{duplicate_after, is_closed_import, not_exported_among}
 
 -- ---- names that are the same
 

@@ -1,13 +1,12 @@
 -- The number of a definition, and the definition in its place.
-use Rattle.std.proofs.Common.{◌≡◌, ◌⊎◌, inl, inr, ℕ, zero, suc, true, ◌+◌, ◌<◌, ◌≤◌, List, [], ◌∷◌, ◌++◌, map, length, Option, Some, None, All, Contains, slice_get, refl, sym, ◌∙◌, ap, subst, arith}
+use Rattle.std.proofs.Common.{◌≡◌, inl, inr, ℕ, zero, suc, true, ◌+◌, List, [], ◌∷◌, ◌++◌, map, length, Option, Some, All, slice_get, refl, sym, subst, arith}
 use Rattle.std.specs.List.{flat_map}
 use Rattle.std.proofs.lemmas.List.{length-map}
 use Rattle.std.proofs.lemmas.List.Elements.{All-nil, All-cons, All-append, All-weaker, All-contains}
 use Rattle.std.proofs.lemmas.Option.{same_Some}
-use Rattle.guard_model.specs.declared.site.Site.{Site}
 use Rattle.guard_syntax.specs.Trees.{WrittenSymbol, WrittenImport, WrittenAssignment, WrittenModule}
 use Rattle.guard_names.specs.Declarations.{Definition, definitions, defined_in, Origin, of_module, imported_from, assigned_by, Declaration, declarations, declarations_from, module_declaration, lists_name, symbol_declarations, import_declarations, assigned_declarations, written_imports}
-use Rattle.guard_names.specs.Meanings.{IsDeclared, IsAssigned, Means}
+use Rattle.guard_names.specs.Meanings.{IsAssigned, Means}
 
 -- an assignment that is declared stands in the place of its number, where these definitions begin at the first number
 IsPlaced : List Definition → ℕ → Option (List ℕ) → List ℕ → Origin → Type 0

@@ -1,5 +1,5 @@
 -- Modules have one first fault, or none.
-use Rattle.std.proofs.Common.{◌≡◌, ◌⊎◌, inl, inr, ⊎_elim, ℕ, ◌<◌, ◌≤◌, List, Option, Some, None, slice_get, refl, sym, ◌∙◌, ap, subst, arith}
+use Rattle.std.proofs.Common.{◌≡◌, ◌⊎◌, inl, inr, ⊎_elim, ℕ, ◌<◌, ◌≤◌, List, Some, None, slice_get, refl, sym, ◌∙◌, ap, arith}
 use Rattle.std.proofs.lemmas.Bool.{cases_lt}
 use Rattle.std.proofs.lemmas.Option.{same_Some}
 use Rattle.guard_model.specs.declared.site.Site.{Site}
@@ -8,7 +8,7 @@ use Rattle.guard_names.specs.declared.fault.NameFault.{NameFault}
 use Rattle.guard_names.specs.declared.fault.NameFault.TheVariants.{Duplicate, Undefined, NoModule, NotExported, ImportNotDefined, Recursive, TooManyModules, OutOfMemory}
 use Rattle.guard_names.specs.Declarations.{Definition, definitions}
 use Rattle.guard_names.specs.Meanings.{Uses}
-use Rattle.guard_names.specs.Order.{IsRecursive, IsFirstRecursive}
+use Rattle.guard_names.specs.Order.{IsFirstRecursive}
 use Rattle.guard_names.specs.Faults.{fault_of_names, IsRecursiveAt, AreFaultless, IsFirstFault}
 
 module _ (ms : List WrittenModule) where

@@ -1,11 +1,11 @@
 -- Orders, and chains of uses, where two ways to say which uses which agree.
-use Rattle.std.proofs.Common.{◌≡◌, ℕ, ◌<◌, List, [], ◌∷◌, ◌++◌, map, length, slice_get, Option, Some, None, refl, sym, ◌∙◌, ap, subst}
+use Rattle.std.proofs.Common.{◌≡◌, ℕ, ◌<◌, List, [], ◌∷◌, ◌++◌, map, length, Some, None, sym, ◌∙◌, ap, subst}
 use Rattle.std.proofs.lemmas.List.{length-map}
 use Rattle.std.proofs.lemmas.Option.{slice_get_within}
 use Rattle.guard_syntax.specs.Trees.{WrittenModule}
-use Rattle.guard_names.specs.Declarations.{Definition, definitions}
+use Rattle.guard_names.specs.Declarations.{definitions}
 use Rattle.guard_names.specs.Meanings.{Means, Uses}
-use Rattle.guard_names.specs.Order.{IsReady, IsNext, Follow, IsOrder, Leads, at_once, through, IsRecursive, IsFirstRecursive}
+use Rattle.guard_names.specs.Order.{IsReady, Follow, IsOrder, Leads, at_once, through, IsRecursive, IsFirstRecursive}
 use Rattle.guard_names.specs.Faults.{fault_of_names}
 use Rattle.guard_names.specs.Queues.{UsesIn, AreInside}
 use Rattle.guard_names.specs.Reading.{numbers_of, uses_of_all}

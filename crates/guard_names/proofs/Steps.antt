@@ -1,5 +1,5 @@
 -- The steps by which the faults are looked for, from look-ups in a table to what is declared.
-use Rattle.std.proofs.Common.{◌≡◌, ℕ, List, [], Option, Some, None, Result, Ok, Err, refl, sym, ◌∙◌, ap}
+use Rattle.std.proofs.Common.{◌≡◌, ℕ, List, [], Option, Some, None, Result, Ok, sym, ◌∙◌, ap}
 use Rattle.std.specs.List.{flat_map}
 use Rattle.guard_model.specs.Answer.{◌>>=◌, Refuses}
 use Rattle.guard_syntax.specs.Trees.{WrittenModule}

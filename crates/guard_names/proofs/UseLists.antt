@@ -1,16 +1,16 @@
 -- The definitions that each definition uses, by look-ups and by what names mean.
-use Rattle.std.proofs.Common.{◌≡◌, ◌≢◌, ◌⊎◌, inl, inr, ⊎_elim, ℕ, zero, suc, ◌+◌, ◌<◌, ◌≤◌, Bool, true, false, cond, ◌||◌, List, [], ◌∷◌, ◌++◌, map, length, get_or, Option, Some, None, Contains, refl, sym, ◌∙◌, ap, subst, arith, rules}
+use Rattle.std.proofs.Common.{◌≡◌, ◌⊎◌, inl, inr, ⊎_elim, ℕ, zero, suc, ◌<◌, Bool, true, false, ◌||◌, List, [], ◌∷◌, ◌++◌, map, length, get_or, Option, Some, None, Contains, refl, sym, ◌∙◌, ap, subst, arith}
 use Rattle.std.specs.Prelude.{nat_eq, slice_get}
-use Rattle.std.specs.List.{flat_map, filter_map, list_any, cons_option}
+use Rattle.std.specs.List.{flat_map, filter_map, cons_option}
 use Rattle.std.proofs.lemmas.Bool.{eqb-true, eq-eqb, or_cases}
 use Rattle.std.proofs.lemmas.Option.{same_Some}
-use Rattle.std.proofs.lemmas.List.{map-append, length-map}
+use Rattle.std.proofs.lemmas.List.{map-append}
 use Rattle.guard_syntax.specs.Trees.{WrittenAssignment, WrittenModule}
 use Rattle.guard_names.specs.Mentions.{Mention, mentions}
-use Rattle.guard_names.specs.Declarations.{Definition, definitions, defined_in, declarations, Numbers, origin_there, definition_of}
+use Rattle.guard_names.specs.Declarations.{Definition, definitions, defined_in, Numbers}
 use Rattle.guard_names.specs.Meanings.{Means, Uses}
 use Rattle.guard_names.specs.Order.{is_listed}
-use Rattle.guard_names.specs.Queues.{used_by, UsesIn}
+use Rattle.guard_names.specs.Queues.{UsesIn}
 use Rattle.guard_names.specs.Reading.{used_in, used_in_module}
 
 abbrev pub uses_of : Numbers → Definition → List ℕ

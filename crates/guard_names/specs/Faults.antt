@@ -1,6 +1,5 @@
 -- Why names mean nothing. Each fault is looked for in module and text order, and named at the first place where it stands.
-use Rattle.std.specs.Prelude.{◌≡◌, ◌⊎◌, ℕ, Bool, true, false, not, ◌&&◌, List, [], ◌∷◌, ◌++◌, length, Option, Some, None, option_map, is_some, slice_get, nat_lt, if◌then◌else◌}
-use Rattle.std.specs.List.{flat_map}
+use Rattle.std.specs.Prelude.{◌≡◌, ℕ, Bool, true, false, not, ◌&&◌, List, [], ◌∷◌, ◌++◌, length, Option, Some, None, option_map, is_some, slice_get, nat_lt, if◌then◌else◌}
 use Rattle.std.specs.Option.{option_or}
 use Rattle.guard_model.specs.declared.site.Site.{Site}
 use Rattle.guard_syntax.specs.declared.tree.SymbolKind.{SymbolKind}

@@ -1,5 +1,5 @@
 -- That a list is the order has one proof at most, so that it may be kept beside the list.
-use Rattle.std.specs.Prelude.{ℕ, ◌<◌, List, [], ◌∷◌, ◌++◌}
+use Rattle.std.specs.Prelude.{ℕ, List, [], ◌∷◌, ◌++◌}
 use Rattle.std.specs.Coded.{le_prop, ×_prop, Unit-prop}
 use mathlib.Core.Bool.{Bool-set}
 use mathlib.Core.HLevel.{⊥_prop}

@@ -1,13 +1,12 @@
 -- Worked examples of the definitions, each computed by the checker.
-use Rattle.std.specs.Prelude.{◌≡◌, ℕ, ◌+◌, Bool, false, true, List, [], ◌∷◌, ◌++◌, map, Option, Some, None, refl, replicate, length}
+use Rattle.std.specs.Prelude.{◌≡◌, ℕ, ◌+◌, false, true, List, [], ◌∷◌, map, Option, Some, None, refl, replicate}
 use Rattle.guard_model.specs.declared.site.Site.{Site}
 use Rattle.guard_syntax.specs.declared.tree.SymbolKind.TheVariants as symbol
 use Rattle.guard_syntax.specs.declared.tree.PlainType.TheVariants as plain_type
 use Rattle.guard_syntax.specs.declared.tree.Collection.TheVariants as collection
-use Rattle.guard_syntax.specs.Trees.{WrittenNumber, WrittenArc, WrittenValue, value_node, WrittenValueForm, boolean, integer, reference, chosen, list, arcs, WrittenEntries, no_entries, entry, WrittenEnd, end_reference, set_node, union, none_united, intersection, none_met, element_alone, WrittenElementForm, element_node, contained, range, WrittenConstraint, constraint, with_components, part_in, no_parts, mandatory, default, WrittenType, type_node, WrittenBase, plain, structure, choice, named_type, no_components, component, no_alternatives, alternative, WrittenSymbol, WrittenExports, exported, WrittenImport, WrittenAssignment, WrittenModule}
-use Rattle.guard_names.specs.declared.fault.NameFault.{NameFault}
+use Rattle.guard_syntax.specs.Trees.{WrittenValue, value_node, reference, chosen, list, arcs, no_entries, entry, end_reference, set_node, union, none_united, intersection, none_met, element_alone, WrittenElementForm, element_node, contained, range, WrittenConstraint, constraint, with_components, part_in, no_parts, default, WrittenType, type_node, plain, structure, choice, named_type, no_components, component, no_alternatives, alternative, WrittenSymbol, WrittenExports, exported, WrittenImport, WrittenAssignment, WrittenModule}
 use Rattle.guard_names.specs.declared.fault.NameFault.TheVariants.{Duplicate, Undefined, NoModule, NotExported, ImportNotDefined, TooManyModules}
-use Rattle.guard_names.specs.Mentions.{Mention, mentions}
+use Rattle.guard_names.specs.Mentions.{mentions}
 use Rattle.guard_names.specs.Declarations.{imported_from, assigned_by, declarations, origin_there}
 use Rattle.guard_names.specs.Faults.{fault_of_names}
 

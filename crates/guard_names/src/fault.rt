@@ -30,7 +30,7 @@ pub enum NameFault {
     /// There are more than 64 modules.
     #[error("N7 TooManyModules")]
     TooManyModules,
-    /// A growth was refused. It may stand in place of any other answer.
+    /// A growth was refused: this may be answered instead of anything else.
     #[error("OutOfMemory")]
     OutOfMemory,
 }

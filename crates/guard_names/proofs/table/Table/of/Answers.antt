@@ -1,4 +1,3 @@
-use Rattle.std.proofs.Common.{◌≡◌, ap, ◌∙◌}
 use Rattle.guard_names.proofs.Keys.{more_origins, passes_new, none_from_old}
 use Rattle.guard_names.proofs.table.Table.of.Goals as goal
 

@@ -19,7 +19,7 @@ type_name site name = record { site = site; kind = symbol.Type; name = name } �
 abbrev pub value_name : Site → List ℕ → List Mention
 value_name site name = record { site = site; kind = symbol.Value; name = name } ∷ []
 
--- ---- values: a name that stands alone is that of a value (X.680 11.2), perhaps behind the name of an alternative or a component
+-- ---- values: a name that stands alone is that of a value (X.680 14.1), perhaps behind the name of an alternative or a component
 
 abbrev mutual
   pub in_value : WrittenValue → List Mention

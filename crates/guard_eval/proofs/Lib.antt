@@ -1,9 +1,10 @@
--- ---- what a sound type and a value that fits it say of their parts
-pub mod Proper
-pub mod Items
-pub mod Chosen
--- ---- loops over components and fields
-pub mod AtEnd
--- ---- violations
-pub mod Paths
+-- ---- parts of types and values
+pub mod AtPlace
+pub mod Characters
+-- ---- what the walk finds is the violation
 pub mod Law
+pub mod SameFits
+pub mod PartFits
+pub mod Walk
+pub mod Paths
+pub mod Calls

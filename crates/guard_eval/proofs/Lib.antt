@@ -1,10 +1,12 @@
--- ---- parts of types and values
+-- ---- parts of types and values, characters of texts
 pub mod AtPlace
 pub mod Characters
--- ---- what the walk finds is the violation
-pub mod Law
-pub mod SameFits
 pub mod PartFits
+pub mod SameFits
+-- ---- what the walk finds is the violation, and a member has none
+pub mod Law
 pub mod Walk
 pub mod Paths
 pub mod Calls
+-- ---- for callers: sound types
+pub mod Soundness

@@ -159,14 +159,14 @@ intruder_at kind ps v i (component name t presence cs) h =
     let k = and_parts (keeps_limits t) (every_component is_formed cs) h in
     let one = (lawful_kind t k.0).0 in
     elim (is_ruled_out kind ps i presence && is_there i v)
-      as (λ b. IfSome (cond b (Some i) (first_ruled_out kind ps v (suc i) cs)) (λ j. (j < i + suc (component_count cs)) × (0 < max (nesting t) (deepest cs)))) [
+    as (λ b. IfSome (cond b (Some i) (first_ruled_out kind ps v (suc i) cs)) (λ j. (j < i + suc (component_count cs)) × (0 < max (nesting t) (deepest cs)))) [
       | true ↦ (omega arith, omega (arith, one))
       | false ↦ further (first_ruled_out kind ps v (suc i) cs) (λ j x. (omega (arith, x.0), omega (arith, x.1))) (intruder_at kind ps v (suc i) cs k.1)
     ]
   where
-  further : {P Q : ℕ → Type 0} (j : Option ℕ) → ((j : ℕ) → P j → Q j) → IfSome j P → IfSome j Q
-  further None f p = tt
-  further (Some j) f p = f j p
+    further : {P Q : ℕ → Type 0} (j : Option ℕ) → ((j : ℕ) → P j → Q j) → IfSome j P → IfSome j Q
+    further None f p = tt
+    further (Some j) f p = f j p
 
 components_kept : (kind : AbstractKind) → IsTrue (every_part is_formed kind) → IsTrue (every_component is_formed (components_in kind)) × (deepest (components_in kind) ≤ room kind)
 components_kept (type.sequence cs) h = (h, omega arith)
@@ -230,11 +230,11 @@ mutual
       either_short n _ (first_failing_part ps partial kind v)
       (placed_short partial site i kind (component_at i (components_in kind)) word (is_there i v) n (blame_in_part (blame c (kind_at i kind)) i (part_at i v)) refl r l
       (λ found e.
-        let k = found_in kind i found e l.1 in
-        let t = lawful_kind found.ty k.0 in
-        let same : kind_of found.ty ≡ kind_at i kind = sym (ap (kind_found kind) e) in
-        part_short (blame c (kind_at i kind)) i (nesting found.ty) n (part_at i v) (omega (arith, k.2, l.0)) (omega (arith, k.1, r))
-        (λ p f. by_short c (kind_at i kind) p (nesting found.ty) (subst (λ x. room x < nesting found.ty) same t.0) (subst (λ x. IsLawful x) same t.1) (fits_at kind v i found p e f h))))
+      let k = found_in kind i found e l.1 in
+      let t = lawful_kind found.ty k.0 in
+      let same : kind_of found.ty ≡ kind_at i kind = sym (ap (kind_found kind) e) in
+      part_short (blame c (kind_at i kind)) i (nesting found.ty) n (part_at i v) (omega (arith, k.2, l.0)) (omega (arith, k.1, r))
+      (λ p f. by_short c (kind_at i kind) p (nesting found.ty) (subst (λ x. room x < nesting found.ty) same t.0) (subst (λ x. IsLawful x) same t.1) (fits_at kind v i found p e f h))))
       (listed_short ps partial kind v n r l h)
 
 -- ---- types

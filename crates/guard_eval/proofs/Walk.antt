@@ -48,9 +48,9 @@ or_seen (Some w) b {x} {y} e f = ap (λ a. option_or a y) e
 unless_seen : (site : Site) {a b : Bool} → a ≡ b → unless a site ≡ seen (unless b site)
 unless_seen site {a} {b} e = ap (λ x. unless x site) e ∙ kept b
   where
-  kept : (b : Bool) → unless b site ≡ seen (unless b site)
-  kept true = refl
-  kept false = refl
+    kept : (b : Bool) → unless b site ≡ seen (unless b site)
+    kept true = refl
+    kept false = refl
 
 pub seen_clear : (w : Option AbstractViolation) → is_none (seen w) ≡ is_none w
 seen_clear None = refl

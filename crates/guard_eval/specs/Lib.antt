@@ -10,3 +10,4 @@ pub mod Bases
 pub mod Failures
 -- ---- worked examples, which the checker computes
 pub mod Rows
+pub mod ConstraintRows

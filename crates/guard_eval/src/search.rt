@@ -188,10 +188,8 @@ fn failure_in_parts(
     kind: &Kind,
     value: &Value,
 ) -> Option<Violation>
-    ensures {
-        option_map violation_view result
-        ≡ option_or (unless (has_parts (value_view value.now)) site) (option_or (first_part_failure (parts_of (map part_view parts.now)) partial (kind_view kind.now) (value_view value.now)) (intruder_failure site (first_intruder partial (kind_view kind.now) (parts_of (map part_view parts.now)) (value_view value.now))))
-    }
+    ensures { option_map violation_view result
+        ≡ option_or (unless (has_parts (value_view value.now)) site) (option_or (first_part_failure (parts_of (map part_view parts.now)) partial (kind_view kind.now) (value_view value.now)) (intruder_failure site (first_intruder partial (kind_view kind.now) (parts_of (map part_view parts.now)) (value_view value.now)))) }
 {
     if !has_parts(value) {
         return Some(Violation::here(site));

@@ -1,11 +1,13 @@
 //! The first constraint that a value fails.
 ghost use Rattle.std.specs.Prelude.{◌≡◌, [], ◌∷◌, take, IsTrue, Some, option_map};
+ghost use Rattle.std.specs.Option.{is_none};
 ghost use Rattle.guard_model.specs.declared.site.Step.TheVariants.{Component, Element};
 ghost use Rattle.guard_model.specs.TypeView.{type_view};
 ghost use Rattle.guard_model.specs.ValueView.{value_view};
 ghost use Rattle.guard_tagcheck.specs.Limits.{is_within_limits};
 ghost use Rattle.guard_der.specs.Fits.{fits};
 ghost use Rattle.guard_eval.specs.Bases.{KeepsBase};
+ghost use Rattle.guard_eval.specs.Member.{is_member};
 ghost use Rattle.guard_eval.specs.Violations.{violation_view, here, violation};
 ghost use Rattle.guard_eval.specs.Failures.{under};
 
@@ -61,7 +63,8 @@ pub fn first_violation(ty: &Ty, value: &Value) -> Option<Violation>
     requires limits { IsTrue (is_within_limits (type_view ty.now)) }
     requires bases { KeepsBase (type_view ty.now) }
     requires fits { IsTrue (fits (type_view ty.now) (value_view value.now)) }
-    ensures { option_map violation_view result ≡ violation (type_view ty.now) (value_view value.now) }
+    ensures first { option_map violation_view result ≡ violation (type_view ty.now) (value_view value.now) }
+    ensures none { is_none result ≡ is_member (type_view ty.now) (value_view value.now) }
 {
     failure(ty, value)
 }

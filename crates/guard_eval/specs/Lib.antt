@@ -1,4 +1,13 @@
+-- ---- sets of values
+pub mod Elements
+pub mod Presence
 pub mod Member
+-- ---- what is violated first
 pub mod Violations
+-- ---- contained types
+pub mod Bases
+-- ---- what the code computes
+pub mod Failures
 -- ---- worked examples, which the checker computes
 pub mod Rows
+pub mod ConstraintRows

@@ -18,12 +18,11 @@ impl Words<'_> {
     /// Puts on a type the constraints that are written behind it.
     #[cycle(notation)]
     pub fn constraints(&mut self, alloc: Global, ty: &mut Ty, depth: u32) -> Result<(), Unread> {
-        let left = below(depth)?;
         for _ in 0..u32::MAX {
             if !self.is_next("(") {
                 break;
             }
-            let constraint = self.constraint(alloc, &ty.kind, left)?;
+            let constraint = self.constraint(alloc, &ty.kind, depth)?;
             ty.cons.push(Box::into_inner(constraint))?;
         }
         Ok(())
@@ -42,19 +41,18 @@ impl Words<'_> {
     /// An element, or elements with one operator between them.
     #[cycle(notation)]
     fn set(&mut self, alloc: Global, kind: &Kind, depth: u32) -> Result<Box<Cons>, Unread> {
-        let left = below(depth)?;
         let site = self.site();
-        let first = self.element(alloc, kind, left)?;
+        let first = self.element(alloc, kind, depth)?;
         if self.take("EXCEPT") {
-            let second = self.element(alloc, kind, left)?;
+            let second = self.element(alloc, kind, depth)?;
             return boxed(alloc, site, Rule::Minus(first, second));
         }
         if self.is_next("|") {
-            let all = self.operands(alloc, kind, "|", first, left)?;
+            let all = self.operands(alloc, kind, "|", first, depth)?;
             return boxed(alloc, site, Rule::Any(all));
         }
         if self.is_next("^") {
-            let all = self.operands(alloc, kind, "^", first, left)?;
+            let all = self.operands(alloc, kind, "^", first, depth)?;
             return boxed(alloc, site, Rule::Both(all));
         }
         Ok(first)
@@ -70,14 +68,13 @@ impl Words<'_> {
         first: Box<Cons>,
         depth: u32,
     ) -> Result<Vec<Cons>, Unread> {
-        let left = below(depth)?;
         let mut operands = Vec::new(alloc);
         operands.push(Box::into_inner(first))?;
         for _ in 0..u32::MAX {
             if !self.take(operator) || self.is_next(")") {
                 break;
             }
-            let operand = self.element(alloc, kind, left)?;
+            let operand = self.element(alloc, kind, depth)?;
             operands.push(Box::into_inner(operand))?;
         }
         Ok(operands)
@@ -85,33 +82,31 @@ impl Words<'_> {
 
     #[cycle(notation)]
     fn element(&mut self, alloc: Global, kind: &Kind, depth: u32) -> Result<Box<Cons>, Unread> {
-        let left = below(depth)?;
         if self.is_next("(") {
-            return self.constraint(alloc, kind, left);
+            return self.constraint(alloc, kind, depth);
         }
         let site = self.site();
-        let rule = self.rule(alloc, kind, left)?;
+        let rule = self.rule(alloc, kind, depth)?;
         boxed(alloc, site, rule)
     }
 
     #[cycle(notation)]
     fn rule(&mut self, alloc: Global, kind: &Kind, depth: u32) -> Result<Rule, Unread> {
-        let left = below(depth)?;
         if self.take("INCLUDES") {
-            return Ok(Rule::Inside(self.ty(alloc, left)?));
+            return Ok(Rule::Inside(self.ty(alloc, depth)?));
         }
         if self.take("SIZE") {
             let size = Kind::Int(Vec::new(alloc));
-            return Ok(Rule::Size(self.constraint(alloc, &size, left)?));
+            return Ok(Rule::Size(self.constraint(alloc, &size, depth)?));
         }
         if self.take("ALL EXCEPT") {
-            return Ok(Rule::Other(self.element(alloc, kind, left)?));
+            return Ok(Rule::Other(self.element(alloc, kind, below(depth)?)?));
         }
         if self.take("WITH COMPONENTS") {
-            return self.parts(alloc, components_of(kind), left);
+            return self.parts(alloc, components_of(kind), depth);
         }
         if self.take("WITH COMPONENT") {
-            return Ok(Rule::Each(self.constraint(alloc, element_of(kind), left)?));
+            return Ok(Rule::Each(self.constraint(alloc, element_of(kind), depth)?));
         }
         self.value_or_range(alloc, kind)
     }
@@ -119,7 +114,6 @@ impl Words<'_> {
     /// Components in braces, with `...` in front of them where they are not all.
     #[cycle(notation)]
     fn parts(&mut self, alloc: Global, comps: &[Comp], depth: u32) -> Result<Rule, Unread> {
-        let left = below(depth)?;
         self.expect("{")?;
         let partial = self.take("...");
         self.take(",");
@@ -128,7 +122,7 @@ impl Words<'_> {
             if self.take("}") {
                 return Ok(Rule::Parts(partial, parts));
             }
-            self.part(alloc, comps, &mut parts, left)?;
+            self.part(alloc, comps, &mut parts, depth)?;
             self.take(",");
         }
         Err(Unread::Malformed)
@@ -142,11 +136,10 @@ impl Words<'_> {
         parts: &mut Vec<Part>,
         depth: u32,
     ) -> Result<(), Unread> {
-        let left = below(depth)?;
         let site = self.site();
         let (at, comp) = component_of(comps, self.word())?;
         let cons = if self.is_next("(") {
-            let constraint = self.constraint(alloc, &comp.ty.kind, left)?;
+            let constraint = self.constraint(alloc, &comp.ty.kind, depth)?;
             Some(Box::into_inner(constraint))
         } else {
             None

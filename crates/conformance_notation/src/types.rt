@@ -89,17 +89,16 @@ impl Words<'_> {
 
     #[cycle(notation)]
     fn base(&mut self, alloc: Global, depth: u32) -> Result<Box<Ty>, Unread> {
-        let left = below(depth)?;
         let word = self.word();
         match word {
-            "SEQUENCE" => self.sequence(alloc, left),
-            "SET" => self.set_type(alloc, left),
+            "SEQUENCE" => self.sequence(alloc, depth),
+            "SET" => self.set_type(alloc, depth),
             "CHOICE" => {
-                let alternatives = self.components(alloc, left)?;
+                let alternatives = self.components(alloc, depth)?;
                 untagged(alloc, Kind::Choice(alternatives))
             }
             "UNTAGGED" => {
-                let mut ty = self.ty(alloc, left)?;
+                let mut ty = self.ty(alloc, depth)?;
                 ty.tags.clear();
                 Ok(ty)
             }
@@ -110,11 +109,10 @@ impl Words<'_> {
     /// What follows SEQUENCE.
     #[cycle(notation)]
     fn sequence(&mut self, alloc: Global, depth: u32) -> Result<Box<Ty>, Unread> {
-        let left = below(depth)?;
         let kind = if self.take("OF") {
-            Kind::SequenceOf(self.ty(alloc, left)?)
+            Kind::SequenceOf(self.ty(alloc, depth)?)
         } else {
-            Kind::Sequence(self.components(alloc, left)?)
+            Kind::Sequence(self.components(alloc, depth)?)
         };
         tagged(alloc, 16, kind)
     }
@@ -122,11 +120,10 @@ impl Words<'_> {
     /// What follows SET.
     #[cycle(notation)]
     fn set_type(&mut self, alloc: Global, depth: u32) -> Result<Box<Ty>, Unread> {
-        let left = below(depth)?;
         let kind = if self.take("OF") {
-            Kind::SetOf(self.ty(alloc, left)?)
+            Kind::SetOf(self.ty(alloc, depth)?)
         } else {
-            Kind::Set(self.components(alloc, left)?)
+            Kind::Set(self.components(alloc, depth)?)
         };
         tagged(alloc, 17, kind)
     }
@@ -134,14 +131,13 @@ impl Words<'_> {
     /// Components or alternatives in braces.
     #[cycle(notation)]
     fn components(&mut self, alloc: Global, depth: u32) -> Result<Vec<Comp>, Unread> {
-        let left = below(depth)?;
         let mut comps = Vec::new(alloc);
         self.expect("{")?;
         if self.take("}") {
             return Ok(comps);
         }
         for _ in 0..u32::MAX {
-            self.component(alloc, &mut comps, left)?;
+            self.component(alloc, &mut comps, depth)?;
             if !self.take(",") {
                 break;
             }
@@ -157,9 +153,8 @@ impl Words<'_> {
         comps: &mut Vec<Comp>,
         depth: u32,
     ) -> Result<(), Unread> {
-        let left = below(depth)?;
         let name = self.word();
-        let ty = self.ty(alloc, left)?;
+        let ty = self.ty(alloc, depth)?;
         let presence = self.presence(alloc, &ty.kind)?;
         comps.push(Comp {
             name: String::from_str(alloc, name)?,

@@ -1,0 +1,9 @@
+use Rattle.std.proofs.Common.{◌≡◌, map, drop}
+use Rattle.guard_names.specs.DeclarationViews.{declaration_view}
+use Rattle.guard_names.specs.Faults.{not_defined_among}
+use Rattle.guard_names.specs.TableViews.{origin_in}
+use Rattle.guard_names.proofs.checks.check_assigned.Given as goal
+
+abbrev pub invariant-loop-declaration : goal.invariant-loop-declaration
+invariant-loop-declaration l =
+    not_defined_among (origin_in l.table) (map declaration_view (drop l.declaration-index l.declarations)) ≡ not_defined_among (origin_in l.table) (map declaration_view l.declarations)

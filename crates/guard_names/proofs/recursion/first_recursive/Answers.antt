@@ -1,0 +1,12 @@
+use Rattle.std.proofs.Common.{◌≡◌, map, length, arith}
+use Rattle.std.proofs.lemmas.List.{length-map}
+use Rattle.guard_names.proofs.Searching.{first_of_search, met_is_done}
+use Rattle.guard_names.proofs.recursion.first_recursive.Goals as goal
+
+pub returns : goal.returns
+returns c =
+    let us = map (λ v. v.items) c.args.uses.now in
+    let count : length us ≡ length c.args.uses.now = length-map c.args.uses.now (λ v. v.items) in
+    let inv = c.loop-number.invariant in
+    first_of_search us _ c.loop-number.search.first inv.search.is_least
+    (λ k h. met_is_done us _ _ _ _ _ inv.search inv.idle k (inv.met k (omega (arith, h, count))))

@@ -1,0 +1,16 @@
+use Rattle.std.proofs.Common.{◌≡◌, ◌++◌, map, drop}
+use Rattle.std.specs.List.{filter_map}
+use Rattle.guard_names.specs.Faults.{first_where, is_undefined_mention}
+use Rattle.guard_names.specs.TableViews.{meaning_in}
+use Rattle.guard_names.specs.Views.{mention_view}
+use Rattle.guard_names.proofs.uses.uses_of.Given as goal
+
+abbrev pub invariant-loop-mention : goal.invariant-loop-mention
+invariant-loop-mention l = record {
+  found :
+      l.used.items ++ filter_map (λ x. meaning_in l.meanings l.home x.name) (map mention_view (drop l.mention-index l.mention-items))
+      ≡ filter_map (λ x. meaning_in l.meanings l.home x.name) (map mention_view l.mention-items);
+  rest :
+      first_where (is_undefined_mention (meaning_in l.meanings) l.home) (λ x. x.site) (map mention_view (drop l.mention-index l.mention-items))
+      ≡ first_where (is_undefined_mention (meaning_in l.meanings) l.home) (λ x. x.site) (map mention_view l.mention-items);
+}

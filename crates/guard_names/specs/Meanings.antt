@@ -1,0 +1,27 @@
+-- What a name means in a module (X.680 13.1), and which definitions a definition uses.
+use Rattle.std.specs.Prelude.{◌≡◌, ◌⊎◌, ℕ, ◌<◌, Bool, true, List, Contains, Option, Some, slice_get}
+use Rattle.guard_model.specs.declared.site.Site.{Site}
+use Rattle.guard_syntax.specs.Trees.{WrittenModule}
+use Rattle.guard_names.specs.Mentions.{Mention, mentions}
+use Rattle.guard_names.specs.Declarations.{Definition, definitions, Origin, imported_from, assigned_by, declarations}
+
+-- in the module of this name the name is declared so
+abbrev pub IsDeclared : List WrittenModule → List ℕ → List ℕ → Origin → Type 0
+IsDeclared ms home name origin = (site : Site) × Contains (declarations ms) (record { scope = Some home; name = name; site = site; origin = origin })
+
+-- the name is assigned there, in the definition of this number
+abbrev pub IsAssigned : List WrittenModule → List ℕ → List ℕ → ℕ → Type 0
+IsAssigned ms home name number = (exports : Bool) × IsDeclared ms home name (assigned_by number exports)
+
+-- it is imported from a module that assigns it, in the definition of this number, and exports it
+abbrev pub IsImported : List WrittenModule → List ℕ → List ℕ → ℕ → Type 0
+IsImported ms home name number = (from : List ℕ) × IsDeclared ms home name (imported_from from) × IsDeclared ms from name (assigned_by number true)
+
+-- In the module of this name the name means the definition of this number.
+abbrev pub Means : List WrittenModule → List ℕ → List ℕ → ℕ → Type 0
+Means ms home name number = IsAssigned ms home name number ⊎ IsImported ms home name number
+
+-- The definition of the first number uses that of the second one: it mentions a name that means it in its module.
+abbrev pub Uses : List WrittenModule → ℕ → ℕ → Type 0
+Uses ms number used =
+    (d : Definition) × (slice_get (definitions ms) number ≡ Some d) × (m : Mention) × Contains (mentions d.assignment) m × Means ms d.home.name m.name used

@@ -1,0 +1,154 @@
+//! The names that modules declare (X.680 13.1), in module and text order.
+ghost use Rattle.std.specs.Prelude.{◌≡◌, ◌+◌, ◌≤◌, ◌++◌, List, ℕ, map, length, IfOk, OnOk, vec_len};
+ghost use Rattle.std.specs.List.{flat_map};
+ghost use Rattle.guard_names.specs.Declarations as declared;
+ghost use Rattle.guard_names.specs.DeclarationViews.{declaration_view};
+ghost use Rattle.guard_names.specs.ExportViews.{has_name};
+ghost use Rattle.guard_syntax.specs.ModuleViews.{module_view, import_view, symbol_view, assignment_view, perhaps_exports_view};
+
+use crate::exports::Exports;
+use guard_model::Site;
+use guard_syntax::{ExportsTree, ImportTree, Module, SymbolTree};
+use std::alloc::{AllocError, Global};
+
+/// The number of a definition: its place among all assignments, in module and text order, from 0.
+pub type Id = usize;
+
+/// A name that is declared.
+#[derive(Clone, Copy)]
+pub struct Declaration<'a> {
+    /// The name of the module in which it is declared. The name of a module itself is declared in none.
+    pub scope: Option<&'a [u8]>,
+    pub name: &'a [u8],
+    pub site: Site,
+    pub origin: Origin<'a>,
+}
+
+/// Where a name comes from.
+#[derive(Clone, Copy)]
+pub enum Origin<'a> {
+    /// It is the name of a module.
+    Module,
+    /// It is imported from the module of this name.
+    Import(&'a [u8]),
+    /// It is assigned, in this definition; and whether its module exports it.
+    Assignment(Id, bool),
+}
+
+/// The names that modules declare, in module and text order.
+pub fn declarations<'a>(
+    alloc: Global,
+    modules: &[Module<'a>],
+) -> Result<Vec<Declaration<'a>>, AllocError>
+    ensures { IfOk result (λ v. map declaration_view v.items ≡ declared.declarations (map module_view modules.now)) }
+{
+    let mut found = Vec::new(alloc);
+    let mut next = 0;
+    for module in modules {
+        next = add_module(alloc, module, next, &mut found)?;
+    }
+    Ok(found)
+}
+
+/// Adds those of a module whose first assignment makes this definition, and answers the number of the next one.
+fn add_module<'a>(
+    alloc: Global,
+    module: &Module<'a>,
+    first: Id,
+    into: &mut Vec<Declaration<'a>>,
+) -> Result<Id, AllocError>
+    requires { first ≤ vec_len into.old }
+    ensures added { OnOk result (map declaration_view into.new.items ≡ map declaration_view into.old.items ++ declared.module_declarations first (module_view module.now)) }
+    ensures next { IfOk result (λ next. next ≡ first + length (module_view module.now).assignments) }
+    ensures few { IfOk result (λ next. next ≤ vec_len into.new) }
+{
+    into.push(Declaration {
+        scope: None,
+        name: module.name,
+        site: module.site,
+        origin: Origin::Module,
+    })?;
+    add_imports(module.name, written_imports(module), into)?;
+    let exports = Exports::of(alloc, &module.exports)?;
+    add_assignments(module, &exports, first, into)
+}
+
+/// The imports of a module, one for each module that is named behind FROM.
+pub fn written_imports<'m, 'a>(module: &'m Module<'a>) -> &'m [ImportTree<'a>]
+    ensures { map import_view result.now ≡ declared.written_imports (module_view module.now).imports }
+{
+    match &module.imports {
+        None => &[],
+        Some(imports) => imports,
+    }
+}
+
+/// The names that a module lists as exported.
+pub fn listed_exports<'m, 'a>(module: &'m Module<'a>) -> &'m [SymbolTree<'a>]
+    ensures { map symbol_view result.now ≡ declared.listed_exports (module_view module.now).exports }
+{
+    match &module.exports {
+        None => &[],
+        Some(ExportsTree::All) => &[],
+        Some(ExportsTree::Symbols(symbols)) => symbols,
+    }
+}
+
+fn add_imports<'a>(
+    home: &'a [u8],
+    imports: &[ImportTree<'a>],
+    into: &mut Vec<Declaration<'a>>,
+) -> Result<(), AllocError>
+    ensures added { OnOk result (map declaration_view into.new.items ≡ map declaration_view into.old.items ++ flat_map (declared.import_declarations home.now) (map import_view imports.now)) }
+    ensures more { OnOk result (vec_len into.old ≤ vec_len into.new) }
+{
+    for import in imports {
+        add_symbols(home, import.module.name, &import.symbols, into)?;
+    }
+    Ok(())
+}
+
+fn add_symbols<'a>(
+    home: &'a [u8],
+    from: &'a [u8],
+    symbols: &[SymbolTree<'a>],
+    into: &mut Vec<Declaration<'a>>,
+) -> Result<(), AllocError>
+    ensures added { OnOk result (map declaration_view into.new.items ≡ map declaration_view into.old.items ++ declared.symbol_declarations home.now from.now (map symbol_view symbols.now)) }
+    ensures more { OnOk result (vec_len into.old ≤ vec_len into.new) }
+{
+    for symbol in symbols {
+        into.push(Declaration {
+            scope: Some(home),
+            name: symbol.name,
+            site: symbol.site,
+            origin: Origin::Import(from),
+        })?;
+    }
+    Ok(())
+}
+
+fn add_assignments<'a>(
+    module: &Module<'a>,
+    exports: &Exports<'a>,
+    first: Id,
+    into: &mut Vec<Declaration<'a>>,
+) -> Result<Id, AllocError>
+    requires few { first ≤ vec_len into.old }
+    requires exports { (name : List ℕ) → has_name exports.now name ≡ declared.lists_name (perhaps_exports_view module.now.exports) name }
+    ensures added { OnOk result (map declaration_view into.new.items ≡ map declaration_view into.old.items ++ declared.assigned_declarations (module_view module.now) first (map assignment_view module.now.assignments.items)) }
+    ensures next { IfOk result (λ next. next ≡ first + length (module_view module.now).assignments) }
+    ensures few { IfOk result (λ next. next ≤ vec_len into.new) }
+{
+    let mut id = first;
+    for assignment in &module.assignments {
+        into.push(Declaration {
+            scope: Some(module.name),
+            name: assignment.name,
+            site: assignment.site,
+            origin: Origin::Assignment(id, exports.has(assignment.name)),
+        })?;
+        id += 1;
+    }
+    Ok(id)
+}

@@ -1,0 +1,121 @@
+//! What the names in a list of modules mean.
+ghost use Rattle.std.specs.Prelude.{◌≡◌, ◌↔◌, ℕ, ◌<◌, List, map, length, option_map, slice_get, slice_index_or, is_some, false, IsTrue, IfOk, IfErr, IfSome, Option, Some, None};
+ghost use Rattle.std.proofs.Props.{props};
+ghost use Rattle.guard_names.specs.Declarations.{Definition, definitions};
+ghost use Rattle.guard_names.specs.Faults.{fault_of_names};
+ghost use Rattle.guard_names.specs.Meanings.{Means, Uses};
+ghost use Rattle.guard_names.specs.Order.{IsOrder, IsRecursive, is_listed};
+ghost use Rattle.guard_names.specs.OrderProps.{IsOrder-prop};
+ghost use Rattle.guard_names.specs.Reading.{numbers_of, uses_of_all};
+ghost use Rattle.guard_names.specs.TableViews.{meaning_in};
+ghost use Rattle.guard_syntax.specs.ModuleViews.{module_view, assignment_view};
+
+use crate::declarations::Id;
+use crate::meanings::Meanings;
+use crate::order::order;
+use guard_syntax::{Assignment, Module};
+use std::alloc::{AllocError, Global};
+
+/// What the names in a list of modules mean. The modules have none of the faults of names.
+#[derive(Drop)]
+pub struct Names<'a> {
+    modules: &'a [Module<'a>],
+    meanings: Meanings<'a>,
+    order: Vec<Id>,
+    /// Where each definition stands in the order, by definitions.
+    places: Vec<usize>,
+    pub ghost faultless: { is_some (fault_of_names (map module_view modules.now)) ≡ false },
+    pub ghost meant: { (home name : List ℕ) → meaning_in meanings home name ≡ numbers_of (map module_view modules.now) home name } by { Prim.hlevel props },
+    pub ghost ordered: { IsOrder (length (definitions (map module_view modules.now))) (Uses (map module_view modules.now)) order.items } by { IsOrder-prop (length (definitions (map module_view modules.now))) (Uses (map module_view modules.now)) order.items },
+    pub ghost whole: { length places.items ≡ length (definitions (map module_view modules.now)) },
+    pub ghost placed: { (number : ℕ) → number < length places.items → slice_get order.items (slice_index_or places.items number 0) ≡ Some number } by { Prim.hlevel props },
+}
+
+impl<'a> Names<'a> {
+    ghost use Rattle.guard_names.specs.NamesView.{modules_of, order_of};
+
+    /// The names in modules without faults, of which this is known: what they mean, and which definitions each definition uses.
+    pub(crate) fn of(
+        alloc: Global,
+        modules: &'a [Module<'a>],
+        meanings: Meanings<'a>,
+        uses: &[Vec<Id>],
+    ) -> Result<Names<'a>, AllocError>
+        requires named { fault_of_names (map module_view modules.now) ≡ None }
+        requires acyclic { (number : ℕ) → IsRecursive (Uses (map module_view modules.now)) number → ⊥ }
+        requires meant { (home name : List ℕ) → meaning_in meanings home name ≡ numbers_of (map module_view modules.now) home name }
+        requires used { map (λ v. v.items) uses.now ≡ uses_of_all (map module_view modules.now) }
+        ensures { IfOk result (λ names. modules_of names ≡ map module_view modules.now) }
+    {
+        let order = order(alloc, uses)?;
+        let places = places(alloc, &order, uses.len())?;
+        Ok(Names {
+            modules,
+            meanings,
+            order,
+            places,
+        })
+    }
+
+    /// The definition that a name means in the module of a name (X.680 13.1): one that is assigned there, or in a module from which the
+    /// name is imported and that exports it.
+    pub fn find(&self, module_name: &str, name: &str) -> Option<Id>
+        ensures meant { (number : ℕ) → (result ≡ Some number) ↔ Means (modules_of self.now) module_name.now name.now number }
+        ensures home { IfSome result (λ id. (d : Definition) × (slice_get (definitions (modules_of self.now)) id ≡ Some d) × (d.assignment.name ≡ name.now)) }
+    {
+        self.meanings.find(module_name.as_bytes(), name.as_bytes())
+    }
+
+    /// All definitions, each behind those that it uses: again and again the first one in module and text order of those that may
+    /// stand next.
+    pub fn order(&self) -> &[Id]
+        ensures same { result.now ≡ order_of self.now }
+        ensures ordered { IsOrder (length (definitions (modules_of self.now))) (Uses (modules_of self.now)) result.now }
+    {
+        &self.order
+    }
+
+    /// The place of a definition in the order.
+    pub fn place(&self, id: Id) -> Option<usize>
+        ensures { (place : ℕ) → (result ≡ Some place) ↔ (slice_get (order_of self.now) place ≡ Some id) }
+    {
+        self.places.get(id).copied()
+    }
+
+    /// The module and the assignment of a definition.
+    pub fn home(&self, id: Id) -> Option<(&Module<'a>, &Assignment<'a>)>
+        ensures { option_map (λ p. record { home = module_view p.0.now; assignment = assignment_view p.1.now }) result ≡ slice_get (definitions (modules_of self.now)) id }
+    {
+        home_of(self.modules, id)
+    }
+}
+
+/// The module and the assignment of a definition.
+pub fn home_of<'m, 'a>(
+    modules: &'m [Module<'a>],
+    id: Id,
+) -> Option<(&'m Module<'a>, &'m Assignment<'a>)>
+    ensures { option_map (λ p. record { home = module_view p.0.now; assignment = assignment_view p.1.now }) result ≡ slice_get (definitions (map module_view modules.now)) id }
+{
+    let mut left = id;
+    for module in modules {
+        if let Some(assignment) = module.assignments.get(left) {
+            return Some((module, assignment));
+        }
+        left -= module.assignments.len();
+    }
+    None
+}
+
+/// Where each of the numbers below this one stands in a list of them.
+fn places(alloc: Global, order: &[Id], count: usize) -> Result<Vec<usize>, AllocError>
+    requires { (number : ℕ) → IsTrue (is_listed order.now number) → number < count }
+    ensures size { IfOk result (λ v. length v.items ≡ count) }
+    ensures placed { IfOk result (λ v. (number : ℕ) → IsTrue (is_listed order.now number) → slice_get order.now (slice_index_or v.items number 0) ≡ Some number) }
+{
+    let mut places = vec![in alloc; 0; count]?;
+    for place in 0..order.len() {
+        places[order[place]] = place;
+    }
+    Ok(places)
+}

@@ -1,0 +1,86 @@
+//! Whether the names in a list of modules have a fault, and what they mean where they have none.
+ghost use Rattle.std.specs.Prelude.{◌≡◌, ℕ, ◌<◌, List, map, length, option_map, slice_get, IfOk, IfErr, IfSome, Some, None};
+ghost use Rattle.std.specs.List.{flat_map};
+ghost use Rattle.guard_model.specs.Answer.{Gives};
+ghost use Rattle.guard_names.specs.declared.fault.NameFault.TheVariants as fault;
+ghost use Rattle.guard_names.specs.Declarations.{definitions};
+ghost use Rattle.guard_names.specs.Faults.{AreFaultless, IsFirstFault, IsRecursiveAt, named, fault_of_names};
+ghost use Rattle.guard_names.specs.Meanings.{Uses};
+ghost use Rattle.guard_names.specs.NamesView.{modules_of};
+ghost use Rattle.guard_names.specs.Order.{IsRecursive};
+ghost use Rattle.guard_names.specs.Reading as reading;
+ghost use Rattle.guard_names.specs.TableViews.{meaning_in};
+ghost use Rattle.guard_syntax.specs.ModuleViews.{module_view};
+
+use crate::checks::check_imports;
+use crate::declarations::{Id, declarations};
+use crate::fault::NameFault;
+use crate::meanings::Meanings;
+use crate::names::{Names, home_of};
+use crate::recursion::first_recursive;
+use crate::table::Table;
+use crate::uses::uses;
+use guard_syntax::Module;
+use std::alloc::Global;
+
+/// How many modules there may be.
+pub const MOST_MODULES: usize = 64;
+
+/// What the names in these modules mean, or the first fault of names in this order, each in module and text order: more than 64
+/// modules (`TooManyModules`), a name that is declared twice (`Duplicate`), an import from a module that isn't there (`NoModule`), of a
+/// name that isn't assigned there (`ImportNotDefined`) or isn't exported (`NotExported`), a name that is exported and not assigned or
+/// the name of a type that means nothing (`Undefined`), a definition that uses itself (`Recursive`). OutOfMemory may stand in place
+/// of any answer.
+pub fn resolve<'a>(alloc: Global, modules: &'a [Module<'a>]) -> Result<Names<'a>, NameFault>
+    ensures faultless { IfOk result (λ _. AreFaultless (map module_view modules.now)) }
+    ensures modules { IfOk result (λ names. modules_of names ≡ map module_view modules.now) }
+    ensures refused { IfErr result (λ f. IfSome (named f) (IsFirstFault (map module_view modules.now))) }
+{
+    if MOST_MODULES < modules.len() {
+        return Err(NameFault::TooManyModules);
+    }
+    let (meanings, uses) = meanings_and_uses(alloc, modules)?;
+    check_recursion(alloc, modules, &uses)?;
+    Ok(Names::of(alloc, modules, meanings, &uses)?)
+}
+
+/// What the declared names mean, and which definitions each definition uses.
+fn meanings_and_uses<'a>(
+    alloc: Global,
+    modules: &[Module<'a>],
+) -> Result<(Meanings<'a>, Vec<Vec<Id>>), NameFault>
+    ensures meant { IfOk result (λ p. (home name : List ℕ) → meaning_in p.0 home name ≡ reading.numbers_of (map module_view modules.now) home name) }
+    ensures used { IfOk result (λ p. reading.listed_uses p.1 ≡ reading.uses_of_all (map module_view modules.now)) }
+    ensures refused { Gives reading.nothing named result (reading.check_names (map module_view modules.now)) }
+{
+    let declared = declarations(alloc, modules)?;
+    let table = Table::of(alloc, &declared)?;
+    check_imports(modules, &declared, &table)?;
+    let meanings = Meanings::of(alloc, &declared, &table)?;
+    let uses = uses(alloc, modules, &table, &meanings)?;
+    Ok((meanings, uses))
+}
+
+/// Looks for a definition that uses itself, directly or through others.
+fn check_recursion(alloc: Global, modules: &[Module], uses: &[Vec<Id>]) -> Result<(), NameFault>
+    requires named { fault_of_names (map module_view modules.now) ≡ None }
+    requires used { map (λ v. v.items) uses.now ≡ reading.uses_of_all (map module_view modules.now) }
+    ensures acyclic { IfOk result (λ _. (number : ℕ) → IsRecursive (Uses (map module_view modules.now)) number → ⊥) }
+    ensures refused { IfErr result (λ f. IfSome (named f) (IsFirstFault (map module_view modules.now))) }
+{
+    match first_recursive(alloc, uses)? {
+        Some(number) => Err(recursive(modules, number)),
+        None => Ok(()),
+    }
+}
+
+/// The fault of a definition that uses itself.
+fn recursive(modules: &[Module], number: Id) -> NameFault
+    requires { number < length (definitions (map module_view modules.now)) }
+    ensures { option_map (λ d. fault.Recursive d.assignment.site) (slice_get (definitions (map module_view modules.now)) number) ≡ Some result }
+{
+    match home_of(modules, number) {
+        Some((_, assignment)) => NameFault::Recursive(assignment.site),
+        None => unreachable!(),
+    }
+}

@@ -1,5 +1,5 @@
 -- What a sound type is to the calls of this crate: within the limits, and contained types keep the base. For callers.
-use Rattle.std.proofs.Common.{◌≡◌, refl, ap, ◌∙◌, Bool, true, false, ◌&&◌, List, IsTrue, arith}
+use Rattle.std.proofs.Common.{refl, Bool, true, false, ◌&&◌, List, IsTrue}
 use Rattle.std.specs.Prelude.{nat_le}
 use Rattle.std.proofs.lemmas.Bool.{and_parts, and_from}
 use Rattle.guard_model.specs.declared.site.Site.{Site}
@@ -7,7 +7,6 @@ use Rattle.guard_model.specs.declared.tag.Tag.{Tag}
 use Rattle.guard_model.specs.AbstractType as type
 use Rattle.guard_model.specs.AbstractType.{AbstractType, AbstractKind, Components, Constraint, Constraints, Element, type_of, no_components, component, at, no_constraints, constraint}
 use Rattle.guard_model.specs.Counts.{component_count}
-use Rattle.guard_model.specs.Components.{components_in}
 use Rattle.guard_tagcheck.specs.Search.{first_clash}
 use Rattle.guard_tagcheck.specs.Limits.{nesting, is_tagged, are_low, has_few_components, every_part, every_component, keeps_limits, is_within_limits}
 use Rattle.guard_tagcheck.specs.Limits as limits

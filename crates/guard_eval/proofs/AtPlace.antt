@@ -1,10 +1,10 @@
 -- Components, alternatives and fields at a place.
-use Rattle.std.proofs.Common.{◌≡◌, refl, sym, ap, ◌∙◌, ℕ, zero, suc, ◌<◌, ◌≤◌, length, get_or, List, [], ◌∷◌, map, true, false, Bool, ◌⊎◌, inl, inr, Option, Some, None, IsTrue, Bor, MatchOption, ◌+◌, drop, arith}
+use Rattle.std.proofs.Common.{◌≡◌, refl, sym, ap, ◌∙◌, ℕ, zero, suc, ◌<◌, ◌≤◌, length, get_or, List, [], ◌∷◌, map, Bool, ◌⊎◌, inl, inr, Option, Some, None, Bor, MatchOption, ◌+◌, drop, arith}
 use Rattle.std.specs.List.{HoldsAt}
 use Rattle.std.proofs.lemmas.List.{at_drop_more}
 use Rattle.guard_model.specs.AbstractType.{AbstractType, AbstractKind, Components, Constraint, Element, Parts, no_components, component, type_of}
 use Rattle.guard_model.specs.AbstractValue.{AbstractValue}
-use Rattle.guard_model.specs.TypeView.{OneComponent, OnePart, type_view, kind_view, component_view, components_of, constraint_view, constraints_of, parts_of, part_before, part_view, element_view, rule_step, kind_step, comp_step, cons_step, part_step as step_of_part, ty_step}
+use Rattle.guard_model.specs.TypeView.{OneComponent, OnePart, type_view, kind_view, component_view, components_of, constraint_view, parts_of, part_before, part_view, element_view, rule_step, kind_step, comp_step, cons_step, part_step as step_of_part, ty_step}
 use Rattle.guard_model.specs.declared.ty.Part.{Part}
 use Rattle.guard_model.specs.declared.ty.Cons.{Cons}
 use Rattle.std.specs.Global.{Box}
@@ -13,7 +13,7 @@ use Rattle.guard_model.specs.declared.ty.Rule.{Each}
 use Rattle.guard_model.specs.declared.ty.Rule.TheVariants.{rolls-Each}
 use Rattle.guard_model.specs.declared.ty.Kind.TheFolds.{fold_out-Cons, fold-roll-Rule}
 use Rattle.guard_model.specs.declared.ty.Kind.TheOpen.{Rule-F}
-use Rattle.guard_model.specs.ValueView.{value_view, field_view, fields_view}
+use Rattle.guard_model.specs.ValueView.{field_view, fields_view}
 use Rattle.guard_model.specs.Components.{component_at, components_in}
 use Rattle.guard_model.specs.declared.ty.Comp.{Comp}
 use Rattle.guard_model.specs.declared.ty.Ty.{Ty}

@@ -7,12 +7,12 @@ use Rattle.guard_der.specs.Fits.{fits}
 use Rattle.guard_eval.specs.declared.violation.Violation.{Violation}
 use Rattle.guard_eval.specs.Presence.{kind_of}
 use Rattle.guard_eval.specs.Member.{is_member, holds}
-use Rattle.guard_eval.specs.Violations.{AbstractViolation, violation_view, violation, blame}
+use Rattle.guard_eval.specs.Violations.{violation_view, violation}
 use Rattle.guard_eval.specs.Bases.{KeepsBase, ConstraintKeepsBase}
 use Rattle.guard_eval.specs.Failures.{failure, failure_by}
 use Rattle.guard_eval.proofs.Law.{type_clear}
 use Rattle.guard_eval.proofs.PartFits.{fits_of}
-use Rattle.guard_eval.proofs.Walk.{seen, seen_clear, tested, walked, by_walked}
+use Rattle.guard_eval.proofs.Walk.{seen_clear, tested, walked, by_walked}
 
 pub not_some : {A : Type 0} (w : Option A) (b : Bool) → is_some w ≡ not b → b ≡ is_none w
 not_some None true e = refl

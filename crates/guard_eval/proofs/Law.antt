@@ -15,7 +15,7 @@ use Rattle.guard_model.specs.TypeView.{OneComponent}
 use Rattle.guard_der.specs.Fits.{fits, fits_kind, fits_fields, fits_alternative, every_fits, are_few, fits_items, may_be_absent}
 use Rattle.guard_eval.specs.Elements.{every_item, has_each}
 use Rattle.guard_eval.specs.Presence.{element_kind, kind_at, has_parts, part_at, is_there, if_there, is_placed, first_intruder}
-use Rattle.guard_eval.specs.Member.{holds, holds_element, all_hold, parts_hold, is_member, parts_are_members, fields_are_members, chosen_is_member}
+use Rattle.guard_eval.specs.Member.{holds, all_hold, parts_hold, is_member, parts_are_members, fields_are_members, chosen_is_member}
 use Rattle.guard_eval.specs.Violations.{AbstractViolation, below, unless, first_among, blame_in_items, misplaced, blame_in_part, blame_intruder, violation, violation_inside, violation_from, violation_of_chosen, first_failing, blame, first_failing_part, MembersViolateNothing}
 
 -- the test is true exactly where nothing is found

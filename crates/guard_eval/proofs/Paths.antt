@@ -1,7 +1,7 @@
 -- Of types within the limits paths are shorter than the types are nested, and steps as near as the limits say: nothing is cut off.
-use Rattle.std.proofs.Common.{◌≡◌, refl, sym, ap, subst, ◌∙◌, ℕ, zero, suc, ◌+◌, ◌≤◌, ◌<◌, max, length, List, [], ◌∷◌, map, take, Bool, true, false, ◌&&◌, not, IsTrue, IfSome, Option, Some, None, option_map, cond, arith}
-use Rattle.std.specs.Prelude.{min, nat_le}
-use Rattle.std.specs.Option.{option_or, is_some}
+use Rattle.std.proofs.Common.{◌≡◌, refl, sym, ap, subst, ◌∙◌, ℕ, zero, suc, ◌+◌, ◌≤◌, ◌<◌, max, length, List, [], ◌∷◌, map, take, Bool, true, false, ◌&&◌, not, IsTrue, IfSome, Option, Some, None, cond, arith}
+use Rattle.std.specs.Prelude.{nat_le}
+use Rattle.std.specs.Option.{option_or}
 use Rattle.std.proofs.Math.Nat.{min-eq_left}
 use Rattle.std.proofs.lemmas.Bool.{and_parts, leb-true}
 use Rattle.std.proofs.lemmas.Option.{same_Some}
@@ -17,14 +17,14 @@ use Rattle.guard_model.specs.AbstractValue.{AbstractValue, Fields, Items}
 use Rattle.guard_model.specs.Components.{components_in, component_at}
 use Rattle.guard_model.specs.Counts.{component_count, item_count}
 use Rattle.guard_model.specs.TypeView.{OneComponent}
-use Rattle.guard_tagcheck.specs.Limits.{nesting, nesting_inside, deepest, is_tagged, is_formed, has_few_components, every_type, every_part, every_component, keeps_limits, is_within_limits}
+use Rattle.guard_tagcheck.specs.Limits.{nesting, nesting_inside, deepest, is_tagged, is_formed, has_few_components, every_part, every_component, keeps_limits, is_within_limits}
 use Rattle.guard_der.specs.Fits.{fits, fits_kind, fits_fields, fits_alternative, every_fits, are_few, fits_items, may_be_absent}
 use Rattle.guard_eval.specs.Presence.{element_kind, kind_at, kind_of, kind_found, has_parts, part_at, is_there, is_placed, is_ruled_out, first_ruled_out, first_intruder}
-use Rattle.guard_eval.specs.Member.{is_member, holds}
+use Rattle.guard_eval.specs.Member.{holds}
 use Rattle.guard_eval.specs.Violations.{AbstractViolation, below, here, unless, first_among, blame_in_items, misplaced, blame_in_part, blame_intruder, violation, violation_inside, violation_from, violation_of_chosen, first_failing, blame, first_failing_part}
 use Rattle.guard_eval.specs.Failures.{near}
 use Rattle.guard_eval.proofs.PartFits.{fits_at}
-use Rattle.guard_eval.proofs.Walk.{cut, seen}
+use Rattle.guard_eval.proofs.Walk.{seen}
 
 -- shorter than this, with near steps
 abbrev IsShort : ℕ → Option AbstractViolation → Type 0

@@ -1,5 +1,5 @@
 -- Types of the same base have the same values, constraints aside.
-use Rattle.std.proofs.Common.{◌≡◌, refl, sym, ◌∙◌, ap, ℕ, zero, suc, List, [], ◌∷◌, Bool, true, false, ◌&&◌, Option, Some, None}
+use Rattle.std.proofs.Common.{◌≡◌, refl, sym, ◌∙◌, ap, ℕ, zero, suc, List, [], ◌∷◌, Bool, ◌&&◌, Option, Some}
 use Rattle.guard_model.specs.declared.tag.Tag.{Tag}
 use Rattle.guard_model.specs.AbstractType as type
 use Rattle.guard_model.specs.AbstractType.{AbstractType, AbstractKind, AbstractPresence, Components, type_of, no_components, component}
@@ -7,8 +7,7 @@ use Rattle.guard_model.specs.AbstractValue as value
 use Rattle.guard_model.specs.AbstractValue.{AbstractValue, Fields, Items}
 use Rattle.guard_model.specs.SameBase.{bare, bare_kind, bare_components}
 use Rattle.guard_der.specs.Der.{◌>>=◌, Part, der, contents_octets, alternative_octets, parts_of, part_unless, is_left_out, item_encodings, outermost, outermost_inside, outermost_alternative, is_constructed, joined, parts_joined, ascending}
-use Rattle.guard_der.specs.Element.{tagged}
-use Rattle.guard_der.specs.Fits.{fits, fits_kind, fits_fields, fits_alternative, every_fits, fits_items, fits_set, are_few, are_ascending, may_be_absent}
+use Rattle.guard_der.specs.Fits.{fits, fits_kind, fits_fields, fits_alternative, every_fits, are_few, are_ascending, may_be_absent}
 
 and_same : {a b c d : Bool} → a ≡ c → b ≡ d → (a && b) ≡ (c && d)
 and_same e f = cc

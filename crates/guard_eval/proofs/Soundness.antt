@@ -1,24 +1,39 @@
 -- What a sound type is to the calls of this crate: within the limits, and contained types keep the base. For callers.
-use Rattle.std.proofs.Common.{◌≡◌, refl, ap, ◌∙◌, Bool, true, false, ◌&&◌, List, IsTrue, arith}
+use Rattle.std.proofs.Common.{refl, Bool, true, false, ◌&&◌, List, IsTrue}
 use Rattle.std.specs.Prelude.{nat_le}
 use Rattle.std.proofs.lemmas.Bool.{and_parts, and_from}
+use Rattle.guard_model.specs.declared.site.Site.{Site}
 use Rattle.guard_model.specs.declared.tag.Tag.{Tag}
 use Rattle.guard_model.specs.AbstractType as type
 use Rattle.guard_model.specs.AbstractType.{AbstractType, AbstractKind, Components, Constraint, Constraints, Element, type_of, no_components, component, at, no_constraints, constraint}
 use Rattle.guard_model.specs.Counts.{component_count}
-use Rattle.guard_model.specs.Components.{components_in}
 use Rattle.guard_tagcheck.specs.Search.{first_clash}
 use Rattle.guard_tagcheck.specs.Limits.{nesting, is_tagged, are_low, has_few_components, every_part, every_component, keeps_limits, is_within_limits}
 use Rattle.guard_tagcheck.specs.Limits as limits
 use Rattle.guard_der.specs.Sound.{is_sound, is_proper, is_proper_kind, is_proper_presence, are_proper, applies, all_apply, none_clash}
-use Rattle.guard_eval.specs.Bases.{KeepsBase, PartsKeepBase, ComponentsKeepBase, AllKeepBase}
+use Rattle.guard_eval.specs.Bases.{KeepsBase, PartsKeepBase, ComponentsKeepBase, AllKeepBase, ConstraintKeepsBase}
 
 -- today only ranges are sound, and they contain no type
+is_range : Element → Bool
+is_range (type.range low high) = true
+is_range _ = false
+
+only_ranges : (kind : AbstractKind) (e : Element) → IsTrue (applies kind e) → IsTrue (is_range e)
+unfolding is_range
+only_ranges (type.integer ns) (type.range low high) h = refl
+only_ranges (type.integer ns) _ h = absurd cc
+only_ranges _ e h = absurd cc
+
+range_keeps : (site : Site) (e : Element) (kind : AbstractKind) → IsTrue (is_range e) → ConstraintKeepsBase (at site e) kind
+unfolding is_range
+range_keeps site (type.range low high) kind h = tt
+range_keeps site _ kind h = absurd cc
+
 applied_keep : (cs : Constraints) (kind : AbstractKind) → IsTrue (all_apply kind cs) → AllKeepBase cs kind
 applied_keep no_constraints kind h = tt
-applied_keep (constraint (at site (type.range low high)) cs) kind h = (tt, applied_keep cs kind (and_parts (applies kind (type.range low high)) (all_apply kind cs) h).1)
-applied_keep (constraint (at site e) cs) (type.integer ns) h = absurd cc
-applied_keep (constraint (at site e) cs) _ h = absurd cc
+applied_keep (constraint (at site e) cs) kind h =
+    let a = and_parts (applies kind e) (all_apply kind cs) h in
+    (range_keeps site e kind (only_ranges kind e a.0), applied_keep cs kind a.1)
 
 -- the parts of the tests of one type
 record Formed (tags : List Tag) (kind : AbstractKind) (cons : Constraints) : Type 0 where

@@ -1,5 +1,5 @@
 -- Contained types have the base of what they constrain, at any depth. So what fits the one fits the other.
-use Rattle.std.specs.Prelude.{◌≡◌, ⊤, ℕ, Bool, []}
+use Rattle.std.specs.Prelude.{◌≡◌, ⊤, []}
 use Rattle.guard_model.specs.AbstractType as type
 use Rattle.guard_model.specs.AbstractType.{AbstractType, AbstractKind, Components, Constraint, Constraints, Element, Parts, type_of, no_components, component, at, no_constraints, constraint}
 use Rattle.guard_model.specs.SameBase.{bare_kind, bare_kind_of}

@@ -1,5 +1,5 @@
 -- Worked examples of every constraint.
-use Rattle.std.specs.Prelude.{◌≡◌, ℕ, ℤ, pos, true, false, List, [], ◌∷◌, codes, Some, None, refl}
+use Rattle.std.specs.Prelude.{◌≡◌, ℕ, pos, true, false, List, [], ◌∷◌, codes, Some, None, refl}
 use Rattle.guard_model.specs.declared.site.Step.TheVariants.{Component, Element}
 use Rattle.guard_model.specs.declared.ty.CharKind.TheVariants.{Utf8, Ia5}
 use Rattle.guard_model.specs.declared.ty.Limit.TheVariants.{Free, At}

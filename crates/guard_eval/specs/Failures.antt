@@ -1,6 +1,6 @@
 -- What the code computes: the first violation in one walk. Elements that are blamed themselves are tested by the same walk, contained types
 -- are not asked whether the value fits, and paths have the bounds of the code's numbers.
-use Rattle.std.specs.Prelude.{ℕ, zero, suc, Bool, true, false, not, List, [], ◌∷◌, take, Option, Some, None, ◌||◌, min}
+use Rattle.std.specs.Prelude.{ℕ, zero, suc, Bool, false, ◌∷◌, take, Option, Some, None, ◌||◌, min}
 use Rattle.std.specs.Option.{option_or, is_none, is_some}
 use Rattle.guard_model.specs.declared.site.Site.{Site}
 use Rattle.guard_model.specs.declared.site.Step.{Step}

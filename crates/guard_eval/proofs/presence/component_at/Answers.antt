@@ -1,4 +1,3 @@
-use Rattle.std.proofs.Common.{◌∙◌}
 use Rattle.guard_model.proofs.Components.{looked_up}
 use Rattle.guard_eval.proofs.presence.component_at.Goals as goal
 

@@ -8,7 +8,7 @@ use Rattle.guard_model.specs.declared.ty.Comp.{Comp}
 use Rattle.guard_der.specs.declared.encoding.EncodeFault.{EncodeFault}
 use Rattle.guard_der.specs.declared.encoding.EncodeFault.TheVariants.{TooLong}
 use Rattle.guard_der.specs.Encoding.{limited}
-use Rattle.guard_der.specs.Sound.{is_short}
+use Rattle.guard_der.specs.ProperConstraints.{is_short}
 use Rattle.guard_model.specs.Counts.{component_count}
 use Rattle.guard_model.proofs.Components.{component_count_view}
 

@@ -229,6 +229,12 @@ ItemFault t ordered Inside i before octets b =
     ⊎ ((front : List ℕ) × (behind : List ℕ) × (ordered ≡ true) × Encodes (fits t) (der t) front × (octets ≡ front ++ behind)
     × IsTrue (descends before front) × (b ≡ below (Element i) (here code.SetOfOrder)))
 
+-- Contents of an OF type are at fault; those of a SET OF are `ordered`.
+abbrev pub FaultInItems : AbstractType → Bool → Faulty → FaultyContents
+FaultInItems t ordered Inside size octets b =
+    (vs : Items) × (es : List (List ℕ)) × (rest : List ℕ) × (c : AbstractBreach)
+    × (octets ≡ joined es ++ rest) × ItemsReached t ordered vs es × ItemFault t ordered Inside (item_count vs) (last_of es) rest c × (b ≡ after (size + length (joined es)) c)
+
 -- ---- all kinds
 
 -- Contents of a simple kind are at fault.
@@ -250,12 +256,8 @@ abbrev mutual
       × (octets ≡ front ++ rest) × SetReached cs fs ps front × SetFault cs (FaultInSent cs (FaultInPart cs)) fs ps rest c × (b ≡ after (size + length front) c)
   FaultInContents (type.choice cs) size octets b =
       FaultInWrapper (one_begins_with cs) (Encodes (fits_kind (type.choice cs)) (contents_octets (type.choice cs))) (FaultInChosen cs (FaultInPart cs)) size octets b
-  FaultInContents (type.sequence_of t) size octets b =
-      (vs : Items) × (es : List (List ℕ)) × (rest : List ℕ) × (c : AbstractBreach)
-      × (octets ≡ joined es ++ rest) × ItemsReached t false vs es × ItemFault t false (FaultIn t) (item_count vs) (last_of es) rest c × (b ≡ after (size + length (joined es)) c)
-  FaultInContents (type.set_of t) size octets b =
-      (vs : Items) × (es : List (List ℕ)) × (rest : List ℕ) × (c : AbstractBreach)
-      × (octets ≡ joined es ++ rest) × ItemsReached t true vs es × ItemFault t true (FaultIn t) (item_count vs) (last_of es) rest c × (b ≡ after (size + length (joined es)) c)
+  FaultInContents (type.sequence_of t) size octets b = FaultInItems t false (FaultIn t) size octets b
+  FaultInContents (type.set_of t) size octets b = FaultInItems t true (FaultIn t) size octets b
   FaultInContents kind size octets b = FaultInSimple kind size octets b
 
   -- An element of an untagged CHOICE is that of the chosen alternative.

@@ -17,6 +17,8 @@ use Rattle.guard_der.proofs.Elements.Steps.{inside_ok, inside_err}
 use Rattle.guard_tagcheck.specs.Search.{is_mandatory}
 use Rattle.guard_model.proofs.Results.{bind_ok, same_Ok, same_Err, bind_err}
 use Rattle.guard_model.proofs.Tests.{chosen}
+use Rattle.guard_der.specs.Fits.{may_be_absent}
+use Rattle.guard_model.proofs.Sameness.{equal_values}
 
 abbrev Component2 : Type 0
 Component2 = Option AbstractValue × ℕ
@@ -58,6 +60,19 @@ mandatory_kept type.mandatory v e = refl
 mandatory_kept type.optional v e = refl
 mandatory_kept type.pending v e = refl
 mandatory_kept (type.default d) v e = absurd cc
+
+-- a default is what a component is that isn't sent
+pub default_skipped : (presence : AbstractPresence) (v : AbstractValue) (b : AbstractBreach) → is_left_out presence v ≡ true → not_sent presence b ≡ Ok (Some v)
+default_skipped type.mandatory v b e = absurd cc
+default_skipped type.optional v b e = absurd cc
+default_skipped type.pending v b e = absurd cc
+default_skipped (type.default d) v b e = ap (λ (v : AbstractValue). Ok (Some v)) (equal_values d v e)
+
+pub absent_skipped : (presence : AbstractPresence) (b : AbstractBreach) → may_be_absent presence ≡ true → not_sent presence b ≡ Ok None
+absent_skipped type.mandatory b e = absurd cc
+absent_skipped type.optional b e = refl
+absent_skipped type.pending b e = absurd cc
+absent_skipped (type.default d) b e = absurd cc
 
 -- ---- a component
 

@@ -16,6 +16,7 @@ use Rattle.guard_der.specs.Breach.{AbstractBreach}
 use Rattle.guard_der.specs.Reading.{all_absent, is_filled, fill, settled, completed, missing_at, field_before}
 use Rattle.guard_der.proofs.Functions.ComponentLoop.{with_front, regroup, followed_all}
 use Rattle.guard_model.proofs.Components.{left, left_is, none_left, in_view}
+use Rattle.guard_der.proofs.Sets.SentFields.{completed_first}
 
 abbrev pub CodeFields : Type 0
 CodeFields = List (Option Value)
@@ -51,12 +52,6 @@ settled_then comp comps i fields at f =
 field_first : (s : Option Value) (fields : CodeFields) → fields_view (s ∷ fields) ≡ field_before (field_view s) (fields_view fields)
 field_first None fields = refl
 field_first (Some v) fields = refl
-
-completed_first : (i : ℕ) (name : List ℕ) (t : AbstractType) (presence : AbstractPresence) (rest : Components) (f : Option AbstractValue) (fs : Fields) (at : ℕ)
-    → completed i (component name t presence rest) (field_before f fs) at ≡ (settled presence f (missing_at i at) >>= λ g. completed (suc i) rest fs at >>= λ gs. Ok (field_before g gs))
-unfolding completed
-completed_first i name t presence rest None fs at = refl
-completed_first i name t presence rest (Some v) fs at = refl
 
 one_settled : (comps : List Comp) (i : ℕ) (comp : Comp) (fields : CodeFields) (s : Option Value) (at : ℕ) → i < length comps → length fields ≡ length comps → comp ≡ get_or comps i comp → s ≡ get_or fields i s
     → completed i (left comps i) (fields_view (drop i fields)) at ≡ settled_then comp comps i fields at (field_view s)

@@ -16,7 +16,7 @@ use Rattle.guard_der.specs.declared.breach.Code.TheVariants as code
 use Rattle.guard_der.specs.Head.{Head, head_of}
 use Rattle.guard_der.specs.Der.{der, contents_octets, item_encodings, joined}
 use Rattle.guard_der.specs.Fits.{fits, fits_kind, every_fits, are_few, are_ascending, descends, ascend_from}
-use Rattle.guard_der.specs.Breach.{AbstractBreach, FaultIn, FaultInContents, ItemFault, last_of, here, after, below}
+use Rattle.guard_der.specs.Breach.{AbstractBreach, FaultIn, FaultInContents, ItemFault, last_of, here, after, below, FaultInItems}
 use Rattle.guard_der.specs.Reading.{Reader, element_at, contents_at, item_at, items_at, items_read, fault}
 use Rattle.guard_der.proofs.Elements.Steps.{option_parts, fault_after, after_after}
 use Rattle.guard_der.proofs.Numbers.Digits.{AreDigits}
@@ -294,39 +294,38 @@ seen_from at size n b c e =
     let offset : at + size + n ≡ at + (size + n) = omega arith in
     e ∙ ap (λ (n : ℕ). after n c) offset ∙ after_after at (size + n) c
 
+elements_fault : (t : AbstractType) (ordered : Bool) → LawfulType t → (at size : ℕ) (os : List ℕ) (b : AbstractBreach) → AreDigits 256 os → items_read (Read t ordered (length os) 0 [] (at + size) os) ≡ Err b
+    → Found (λ os b. FaultInItems t ordered (λ os b. FaultIn t os b) size os b) at os b
+elements_fault t ordered law at size os b digits e =
+    let f = items_fault (length os) t ordered 0 (at + size) [] os b law digits (omega arith) (items_err (Read t ordered (length os) 0 [] (at + size) os) b e) in
+    record {
+      inner = after (size + length (joined f.encodings)) f.inner;
+      found = (f.passed, f.encodings, f.rest, f.inner, f.parts, (f.fit, f.encoded, f.ascend), fault_from t ordered f.passed f.encodings f.rest f.inner f.found, refl);
+      seen = seen_from at size (length (joined f.encodings)) b f.inner f.seen;
+    }
+
 sequence_fault : (t : AbstractType) → LawfulType t → (at size : ℕ) (os : List ℕ) (b : AbstractBreach) → AreDigits 256 os → length os < 2 ^ 32 → contents_at (type.sequence_of t) at (at + size) os ≡ Err b
     → Found (λ os b. FaultInContents (type.sequence_of t) size os b) at os b
 unfolding contents_at
-sequence_fault t law at size os b digits short e =
-    let f = items_fault (length os) t false 0 (at + size) [] os b law digits (omega arith) (items_err (Read t false (length os) 0 [] (at + size) os) b e) in
-    record {
-      inner = after (size + length (joined f.encodings)) f.inner;
-      found = (f.passed, f.encodings, f.rest, f.inner, f.parts, (f.fit, f.encoded, f.ascend), fault_from t false f.passed f.encodings f.rest f.inner f.found, refl);
-      seen = seen_from at size (length (joined f.encodings)) b f.inner f.seen;
-    }
+sequence_fault t law at size os b digits short e = elements_fault t false law at size os b digits e
 
 set_fault : (t : AbstractType) → LawfulType t → (at size : ℕ) (os : List ℕ) (b : AbstractBreach) → AreDigits 256 os → length os < 2 ^ 32 → contents_at (type.set_of t) at (at + size) os ≡ Err b
     → Found (λ os b. FaultInContents (type.set_of t) size os b) at os b
 unfolding contents_at
-set_fault t law at size os b digits short e =
-    let f = items_fault (length os) t true 0 (at + size) [] os b law digits (omega arith) (items_err (Read t true (length os) 0 [] (at + size) os) b e) in
-    record {
-      inner = after (size + length (joined f.encodings)) f.inner;
-      found = (f.passed, f.encodings, f.rest, f.inner, f.parts, (f.fit, f.encoded, f.ascend), fault_from t true f.passed f.encodings f.rest f.inner f.found, refl);
-      seen = seen_from at size (length (joined f.encodings)) b f.inner f.seen;
-    }
+set_fault t law at size os b digits short e = elements_fault t true law at size os b digits e
+
+elements_found : (t : AbstractType) (ordered : Bool) → LawfulType t → (at size : ℕ) (os : List ℕ) (c : AbstractBreach) → FaultInItems t ordered (λ os b. FaultIn t os b) size os c → items_read (Read t ordered (length os) 0 [] (at + size) os) ≡ Err (after at c)
+elements_found t ordered law at size os c (vs, es, rest, d, parts, (fit, encoded, up), found, is) =
+    ap items_read (items_found t ordered (at + size) os vs es rest d law parts fit encoded up found)
+    ∙ ap (λ (b : AbstractBreach). Err b) (seen_from at size (length (joined es)) (after (at + size + length (joined es)) d) d refl ∙ ap (after at) (sym is))
 
 sequence_found : (t : AbstractType) → LawfulType t → (at size : ℕ) (os : List ℕ) (c : AbstractBreach) → FaultInContents (type.sequence_of t) size os c → contents_at (type.sequence_of t) at (at + size) os ≡ Err (after at c)
 unfolding contents_at
-sequence_found t law at size os c (vs, es, rest, d, parts, (fit, encoded, up), found, is) =
-    ap items_read (items_found t false (at + size) os vs es rest d law parts fit encoded up found)
-    ∙ ap (λ (b : AbstractBreach). Err b) (seen_from at size (length (joined es)) (after (at + size + length (joined es)) d) d refl ∙ ap (after at) (sym is))
+sequence_found t law at size os c found = elements_found t false law at size os c found
 
 set_found : (t : AbstractType) → LawfulType t → (at size : ℕ) (os : List ℕ) (c : AbstractBreach) → FaultInContents (type.set_of t) size os c → contents_at (type.set_of t) at (at + size) os ≡ Err (after at c)
 unfolding contents_at
-set_found t law at size os c (vs, es, rest, d, parts, (fit, encoded, up), found, is) =
-    ap items_read (items_found t true (at + size) os vs es rest d law parts fit encoded up found)
-    ∙ ap (λ (b : AbstractBreach). Err b) (seen_from at size (length (joined es)) (after (at + size + length (joined es)) d) d refl ∙ ap (after at) (sym is))
+set_found t law at size os c found = elements_found t true law at size os c found
 
 paths_of : (t : AbstractType) (ordered : Bool) (start : ℕ) (os : List ℕ) (b : AbstractBreach) → LawfulType t → 1 ≤ nesting t → items_read (Read t ordered (length os) 0 [] start os) ≡ Err b → length b.path ≤ nesting t
 paths_of t ordered start os b law some e =

@@ -23,7 +23,7 @@ use Rattle.guard_der.proofs.Elements.Steps.{bind, option_parts, due_ok}
 use Rattle.guard_der.proofs.Numbers.Digits.{AreDigits}
 use Rattle.guard_der.proofs.Headers.TagsAndLengths.{digits_drop}
 use Rattle.guard_der.proofs.Components.ByTag.{LawfulType, AllLawful, differ_tags}
-use Rattle.guard_der.proofs.Components.OneComponent.{Unsent, ComponentOk, component_ok, component_sends, component_skips, skips_optional}
+use Rattle.guard_der.proofs.Components.OneComponent.{Unsent, ComponentOk, component_ok, component_sends, component_skips, skips_optional, default_skipped, absent_skipped}
 use Rattle.guard_model.specs.Counts.{component_count}
 use Rattle.guard_tagcheck.specs.Search.{is_mandatory}
 use Rattle.guard_model.proofs.Results.{bind_ok, same_Ok}
@@ -158,18 +158,6 @@ last_after_left : (name : List ℕ) (t : AbstractType) (presence : AbstractPrese
 last_after_left name t presence no_components v fs left e = absurd (false≢true (sym (ap not left) ∙ e))
 last_after_left name t presence (component name2 u p cs) v fs left e = (some_component name2 u p cs, e)
 
-left_skips : (presence : AbstractPresence) (v : AbstractValue) (b : AbstractBreach) → is_left_out presence v ≡ true → not_sent presence b ≡ Ok (Some v)
-left_skips type.mandatory v b e = absurd cc
-left_skips type.optional v b e = absurd cc
-left_skips type.pending v b e = absurd cc
-left_skips (type.default d) v b e = ap (λ (v : AbstractValue). Ok (Some v)) (equal_values d v e)
-
-absent_skips : (presence : AbstractPresence) (b : AbstractBreach) → may_be_absent presence ≡ true → not_sent presence b ≡ Ok None
-absent_skips type.mandatory b e = absurd cc
-absent_skips type.optional b e = refl
-absent_skips type.pending b e = absurd cc
-absent_skips (type.default d) b e = absurd cc
-
 next_of : (mandatory next : Bool) → (mandatory || next) ≡ true → mandatory ≡ false → next ≡ true
 next_of true next e f = absurd cc
 next_of false next e f = e
@@ -215,7 +203,7 @@ unlike_present t name u presence cs v fs front behind false kept law other fit s
     let s = sends_sent name u presence cs v fs front kept sends in
     unlike_sent t u v s.0 s.1 behind front law other fit s.2 s.4
 unlike_present t name u presence cs v fs front behind true left law other fit sends end later =
-    let optional = skips_optional presence (here code.MissingComponent) (Some v) (left_skips presence v (here code.MissingComponent) left) in
+    let optional = skips_optional presence (here code.MissingComponent) (Some v) (default_skipped presence v (here code.MissingComponent) left) in
     later optional (sends_left name u presence cs v fs front left sends) (left_end name u presence cs v fs behind left (some_end (component name u presence cs) (value.present v fs) behind end))
 
 -- What stands behind a component that is not sent is not of it.
@@ -231,7 +219,7 @@ unlike t (suc k) (component name u presence cs) (value.present v fs) front behin
 unlike t (suc k) (component name u presence cs) (value.absent fs) front behind laws others fit sends end =
     let o = and_parts (differ t u) (is_mandatory presence || differs_from_next t cs) others in
     let f = and_parts (may_be_absent presence) (fits_fields (first_components k cs) fs) fit in
-    let optional = skips_optional presence (here code.MissingComponent) None (absent_skips presence (here code.MissingComponent) f.0) in
+    let optional = skips_optional presence (here code.MissingComponent) None (absent_skipped presence (here code.MissingComponent) f.0) in
     unlike t k cs fs front behind laws.1 (next_of (is_mandatory presence) (differs_from_next t cs) o.1 optional) f.1 sends (absent_end name u presence (first_components k cs) fs behind (some_end (component name u presence (first_components k cs)) (value.absent fs) behind end))
 unlike t (suc k) (component name u presence cs) value.no_fields front behind laws others fit sends end = absurd cc
 
@@ -306,7 +294,7 @@ through_present : (name : List ℕ) (t : AbstractType) (presence : AbstractPrese
 through_present name t presence cs k i at v fs front behind false kept laws distinct fit fits_rest sends ih end =
     through_sent name t presence cs k i at v fs front behind laws.0 fit fits_rest kept sends ih (present_end name t presence (first_components k cs) v fs behind end)
 through_present name t presence cs k i at v fs front behind true left laws distinct fit fits_rest sends ih end =
-    let skip = left_skips presence v (here code.MissingComponent) left in
+    let skip = default_skipped presence v (here code.MissingComponent) left in
     let optional = skips_optional presence (here code.MissingComponent) (Some v) skip in
     let d = and_parts (is_mandatory presence || differs_from_next t cs) (optional_differ cs) distinct in
     let others = sends_left name t presence (first_components k cs) v fs front left sends in
@@ -325,7 +313,7 @@ through (suc k) (component name t presence cs) laws distinct i at (value.present
 through (suc k) (component name t presence cs) laws distinct i at (value.absent fs) front behind fit sends end =
     let f = and_parts (may_be_absent presence) (fits_fields (first_components k cs) fs) fit in
     let d = and_parts (is_mandatory presence || differs_from_next t cs) (optional_differ cs) distinct in
-    let skip = absent_skips presence (here code.MissingComponent) f.0 in
+    let skip = absent_skipped presence (here code.MissingComponent) f.0 in
     let optional = skips_optional presence (here code.MissingComponent) None skip in
     let e = absent_end name t presence (first_components k cs) fs behind end in
     let unsent = unlike t k cs fs front behind laws.1 (next_of (is_mandatory presence) (differs_from_next t cs) d.0 optional) f.1 sends e in

@@ -16,7 +16,7 @@ use Rattle.guard_der.specs.Sound.{is_proper, is_proper_presence, are_proper}
 use Rattle.guard_der.specs.Breach.{AbstractBreach, fits_partly, is_sent, missing}
 use Rattle.guard_der.specs.Reading.{all_absent, is_filled, fill, presence_at, settled, completed, not_sent, missing_at, field_before}
 use Rattle.guard_der.proofs.Elements.Steps.{bind, option_parts}
-use Rattle.guard_der.proofs.Components.OneComponent.{wanting_again, optional_skips}
+use Rattle.guard_der.proofs.Components.OneComponent.{wanting_again, optional_skips, default_skipped, absent_skipped}
 use Rattle.guard_tagcheck.specs.Search.{is_mandatory}
 use Rattle.guard_model.proofs.Results.{bind_ok, same_Ok, same_Err, bind_err}
 use Rattle.guard_model.proofs.Tests.{chosen}
@@ -130,28 +130,16 @@ partly (component name t presence rest) (value.absent fs) e = partly rest fs (an
 
 -- ---- those that are not sent
 
-completed_step : (i : ℕ) (name : List ℕ) (t : AbstractType) (presence : AbstractPresence) (rest : Components) (f : Option AbstractValue) (fs : Fields) (at : ℕ)
+pub completed_first : (i : ℕ) (name : List ℕ) (t : AbstractType) (presence : AbstractPresence) (rest : Components) (f : Option AbstractValue) (fs : Fields) (at : ℕ)
     → completed i (component name t presence rest) (field_before f fs) at ≡ (settled presence f (missing_at i at) >>= λ g. completed (suc i) rest fs at >>= λ gs. Ok (field_before g gs))
 unfolding completed
-completed_step i name t presence rest None fs at = refl
-completed_step i name t presence rest (Some v) fs at = refl
-
-left_default : (presence : AbstractPresence) (v : AbstractValue) (b : AbstractBreach) → is_left_out presence v ≡ true → not_sent presence b ≡ Ok (Some v)
-left_default type.mandatory v b e = absurd cc
-left_default type.optional v b e = absurd cc
-left_default type.pending v b e = absurd cc
-left_default (type.default d) v b e = ap (λ (v : AbstractValue). Ok (Some v)) (equal_values d v e)
-
-absent_again : (presence : AbstractPresence) (b : AbstractBreach) → may_be_absent presence ≡ true → not_sent presence b ≡ Ok None
-absent_again type.mandatory b e = absurd cc
-absent_again type.optional b e = refl
-absent_again type.pending b e = absurd cc
-absent_again (type.default d) b e = absurd cc
+completed_first i name t presence rest None fs at = refl
+completed_first i name t presence rest (Some v) fs at = refl
 
 complete_first : (i : ℕ) (name : List ℕ) (t : AbstractType) (presence : AbstractPresence) (rest : Components) (v : AbstractValue) (fs gs : Fields) (at : ℕ) (left : Bool) → is_left_out presence v ≡ left → completed (suc i) rest gs at ≡ Ok fs
     → completed i (component name t presence rest) (cond left (value.absent gs) (value.present v gs)) at ≡ Ok (value.present v fs)
-complete_first i name t presence rest v fs gs at true is e = completed_step i name t presence rest None gs at ∙ rw (left_default presence v (missing_at i at) is, e) refl
-complete_first i name t presence rest v fs gs at false is e = completed_step i name t presence rest (Some v) gs at ∙ rw e refl
+complete_first i name t presence rest v fs gs at true is e = completed_first i name t presence rest None gs at ∙ rw (default_skipped presence v (missing_at i at) is, e) refl
+complete_first i name t presence rest v fs gs at false is e = completed_first i name t presence rest (Some v) gs at ∙ rw e refl
 
 -- from what is sent of values that fit, all of them come back
 pub completed_again : (i : ℕ) (cs : Components) (fs : Fields) (at : ℕ) → fits_fields cs fs ≡ true → completed i cs (sent_only cs fs) at ≡ Ok fs
@@ -164,7 +152,7 @@ completed_again i (component name t presence rest) (value.present v fs) at e =
     complete_first i name t presence rest v fs (sent_only rest fs) at (is_left_out presence v) refl (completed_again (suc i) rest fs at (and_parts (fits t v) (fits_fields rest fs) e).1)
 completed_again i (component name t presence rest) (value.absent fs) at e =
     let p = and_parts (may_be_absent presence) (fits_fields rest fs) e in
-    completed_step i name t presence rest None (sent_only rest fs) at ∙ rw (absent_again presence (missing_at i at) p.0, completed_again (suc i) rest fs at p.1) refl
+    completed_first i name t presence rest None (sent_only rest fs) at ∙ rw (absent_skipped presence (missing_at i at) p.0, completed_again (suc i) rest fs at p.1) refl
 
 -- a component that was not sent, as it is then
 unsent_field : (name : List ℕ) (t : AbstractType) (presence : AbstractPresence) (rest : Components) (f : Option AbstractValue) (fs : Fields) (b : AbstractBreach)

@@ -1,1 +1,3 @@
-
+pub mod ReadNumbers
+pub mod Digits
+pub mod ReadArcs

@@ -1,5 +1,5 @@
 -- Why a written value denotes nothing: for each fault, the condition that stands at its site.
-use Rattle.std.specs.Prelude.{◌≡◌, ℕ, Bool, true, false, ◌&&◌, ◌||◌, not, List, [], ◌∷◌, nat_lt, Option, Some, None, IsTrue, ◌⊎◌}
+use Rattle.std.specs.Prelude.{◌≡◌, ℕ, suc, ℤ, Bool, true, false, ◌&&◌, ◌||◌, not, List, [], ◌∷◌, nat_lt, Option, Some, None, IsTrue, ◌⊎◌}
 use Rattle.std.specs.Option.{option_map}
 use Rattle.guard_model.specs.declared.site.Site.{Site}
 use Rattle.guard_model.specs.AbstractType as type
@@ -203,7 +203,7 @@ is_integer _ = false
 abbrev pub IsLargeNumber : Meaning → Site → AbstractType → WrittenValue → Type 0
 IsLargeNumber m s t (value_node site (written.integer n)) = (s ≡ n.site) × IsTrue (is_integer (kind_of t)) × (integer_value (kind_of t) n ≡ None)
 IsLargeNumber m s t (value_node site (written.reference name)) =
-    (s ≡ site) × ((z : _) × (own_number (kind_of t) name ≡ Some z) × (numbered_value (kind_of t) z ≡ None))
+    (s ≡ site) × ((z : ℤ) × (own_number (kind_of t) name ≡ Some z) × (numbered_value (kind_of t) z ≡ None))
 IsLargeNumber m s t (value_node site (written.arcs arcs)) = (kind_of t ≡ type.object_identifier) × (too_large_arc arcs ≡ Some s)
 IsLargeNumber m s t (value_node site (written.list es)) =
     (s ≡ site) × ((u : AbstractType) × (ws : List AbstractValue) × (entry_type (kind_of t) None ≡ Some u) × EntriesSay m u es ws × (are_few ws ≡ false))

@@ -39,4 +39,4 @@ abbrev pub AreFitting : Meaning → Type 0
 AreFitting meaning = (name : List ℕ) → IfSome (meaning name) (λ g. IsTrue (fits g.ty g.value))
 
 abbrev pub kind_of : AbstractType → AbstractKind
-kind_of (type_of tags kind constraints) = kind
+kind_of (type_of tags kind cons) = kind

@@ -1,5 +1,5 @@
 -- What object identifiers say (X.680 32.3). A name before a number in parentheses says nothing.
-use Rattle.std.specs.Prelude.{ℕ, ◌+◌, ◌^◌, Bool, true, false, ◌&&◌, List, [], ◌∷◌, map, nat_lt, nat_le, nat_eq, not, if◌then◌else◌, Option, Some, None}
+use Rattle.std.specs.Prelude.{ℕ, ◌+◌, ◌^◌, Bool, false, ◌&&◌, ◌||◌, List, [], ◌∷◌, map, nat_lt, nat_le, nat_eq, not, if◌then◌else◌, Option, Some, None}
 use Rattle.std.specs.Option.{option_or}
 use Rattle.guard_model.specs.declared.site.Site.{Site}
 use Rattle.guard_lexer.specs.Items.{number_value}
@@ -35,5 +35,5 @@ too_large_arc arcs = option_or (large_arc arcs) (large_second arcs)
 
 -- Two or more, the first 0 to 2, the second up to 39 under 0 and 1 (X.660, X.690 8.19.4).
 abbrev pub are_arcs : List ℕ → Bool
-are_arcs (x ∷ y ∷ rest) = nat_le x 2 && (if nat_eq x 2 then true else nat_le y 39)
+are_arcs (x ∷ y ∷ rest) = nat_le x 2 && (nat_eq x 2 || nat_le y 39)
 are_arcs _ = false

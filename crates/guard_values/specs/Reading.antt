@@ -15,7 +15,7 @@ use Rattle.guard_syntax.specs.Trees as written
 use Rattle.guard_syntax.specs.Trees.{WrittenNumber, WrittenArc, WrittenValue, WrittenValueForm, WrittenEntries, value_node, no_entries, entry}
 use Rattle.guard_values.specs.declared.fault.ValueFault.{ValueFault}
 use Rattle.guard_values.specs.declared.fault.ValueFault.TheVariants.{WrongNotation, UnknownName, MissingComponent, RepeatedComponent, OutOfOrder, BadCharacter, BadObjectId, TooLarge}
-use Rattle.guard_values.specs.ObjectIdentifiers.{arc_numbers, too_large_arc, are_arcs}
+use Rattle.guard_values.specs.ObjectIdentifiers.{arc_number, arc_numbers, is_large, too_large_arc, are_arcs}
 use Rattle.guard_values.specs.Meanings.{Governed, Meaning, own_number, kind_of}
 use Rattle.guard_values.specs.Simple.{boolean_value, null_value, integer_value, text_value, numbered_value, visible_value}
 use Rattle.guard_values.specs.Places.{Located, located}
@@ -42,6 +42,15 @@ string_fault site _ _ = WrongNotation site
 
 abbrev pub read_text : Site → AbstractKind → StringKind → List ℕ → Read AbstractValue
 read_text site kind k spelling = answered (string_fault site kind k) (text_value kind k spelling)
+
+-- one arc
+abbrev pub read_arc : WrittenArc → Read ℕ
+read_arc a = if is_large (arc_number a) then Err (TooLarge a.site) else Ok (arc_number a)
+
+-- unless an arc is too large
+abbrev pub unless_large : Option Site → Read (Unit {0})
+unless_large None = Ok tt
+unless_large (Some s) = Err (TooLarge s)
 
 abbrev pub limited_arcs : Site → Option Site → List ℕ → Read AbstractValue
 limited_arcs site (Some large) arcs = Err (TooLarge large)

@@ -13,7 +13,7 @@ use Rattle.guard_syntax.specs.declared.tree.StringKind.{StringKind}
 use Rattle.guard_syntax.specs.declared.tree.StringKind.TheVariants as string
 use Rattle.guard_syntax.specs.Trees.{WrittenNumber, WrittenArc}
 use Rattle.guard_values.specs.Numbers.{number_of}
-use Rattle.guard_values.specs.Strings.{binary_digits, hexadecimal_digits, octet_count, octets_of_bits, octets_of_hexadecimal, quoted}
+use Rattle.guard_values.specs.Strings.{binary_digits, hexadecimal_digits, octets_of_bits, octets_of_hexadecimal, quoted}
 use Rattle.guard_values.specs.ObjectIdentifiers.{arc_numbers, too_large_arc, are_arcs}
 use Rattle.guard_values.specs.Meanings.{Governed, Meaning, own_number, value_of_number, kind_of}
 
@@ -36,10 +36,10 @@ integer_value _ n = None
 
 -- the bits of a string of bits, and four bits for each hexadecimal digit (22.9, 22.10)
 abbrev pub bits_value : List ℕ → AbstractValue
-bits_value bits = value.bit_string (octets_of_bits bits) (8 * octet_count 8 bits - length bits)
+bits_value bits = value.bit_string (octets_of_bits bits) (8 * length (octets_of_bits bits) - length bits)
 
 abbrev pub hexadecimal_bits_value : List ℕ → AbstractValue
-hexadecimal_bits_value digits = value.bit_string (octets_of_hexadecimal digits) (8 * octet_count 2 digits - 4 * length digits)
+hexadecimal_bits_value digits = value.bit_string (octets_of_hexadecimal digits) (8 * length (octets_of_hexadecimal digits) - 4 * length digits)
 
 -- what is quoted, where all its characters are of the alphabet (41)
 abbrev pub characters_value : CharKind → List ℕ → Option AbstractValue

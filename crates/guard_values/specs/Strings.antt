@@ -1,5 +1,5 @@
 -- What strings say: those of bits and of hexadecimal digits (X.680 22 and 23), and those in double quotes (12.14, 41).
-use Rattle.std.specs.Prelude.{ℕ, zero, suc, ◌+◌, ◌-◌, ◌*◌, ◌/◌, ◌^◌, Bool, ◌||◌, ◌&&◌, ◌==◌, List, [], ◌∷◌, map, filter, length, drop, nat_le, if◌then◌else◌}
+use Rattle.std.specs.Prelude.{ℕ, zero, suc, ◌+◌, ◌-◌, ◌*◌, ◌^◌, Bool, ◌||◌, ◌&&◌, ◌==◌, List, [], ◌∷◌, map, filter, length, drop, nat_le, if◌then◌else◌}
 use Rattle.guard_lexer.specs.Octets.{is_digit, is_quote}
 
 -- ---- strings of digits
@@ -29,22 +29,19 @@ filled base zero digits = 0
 filled base (suc places) [] = 0
 filled base (suc places) (d ∷ ds) = d * base ^ places + filled base places ds
 
--- so many octets: the first has as many digits as it has places, the next one those behind them
+-- Octets for all digits, at most so many: the first has as many digits as it has places, the next one those behind them.
 abbrev pub packed : ℕ → ℕ → ℕ → List ℕ → List ℕ
-packed base places zero digits = []
-packed base places (suc octets) digits = filled base places digits ∷ packed base places octets (drop places digits)
-
--- the fewest octets with places for all digits
-abbrev pub octet_count : ℕ → List ℕ → ℕ
-octet_count places digits = (length digits + (places - 1)) / places
+packed base places octets [] = []
+packed base places zero (d ∷ ds) = []
+packed base places (suc octets) (d ∷ ds) = filled base places (d ∷ ds) ∷ packed base places octets (drop places (d ∷ ds))
 
 -- Eight bits to an octet, the first bit the highest (22.9, 23.3): the last octet is filled with zero bits.
 abbrev pub octets_of_bits : List ℕ → List ℕ
-octets_of_bits bits = packed 2 8 (octet_count 8 bits) bits
+octets_of_bits bits = packed 2 8 (length bits) bits
 
 -- Two hexadecimal digits to an octet, the first the higher (22.10, 23.4): a last one alone is followed by a zero digit.
 abbrev pub octets_of_hexadecimal : List ℕ → List ℕ
-octets_of_hexadecimal digits = packed 16 2 (octet_count 2 digits) digits
+octets_of_hexadecimal digits = packed 16 2 (length digits) digits
 
 -- ---- strings in double quotes
 

@@ -2,7 +2,10 @@
 #![tactic(auto)]
 
 mod fault;
+mod numbers;
+mod object_identifiers;
 mod scope;
+mod strings;
 
 pub use fault::ValueFault;
 pub use scope::{Known, Scope, VisibleName, VisibleValue};

@@ -27,6 +27,23 @@ abbrev pub arranged : AbstractType → List AbstractValue → List AbstractValue
 arranged t [] = []
 arranged t (v ∷ vs) = inserted t v (arranged t vs)
 
+-- ---- the same of values with their encodings
+
+pub record EncodedValue : Type 0 where
+  pub octets : List ℕ
+  pub value : AbstractValue
+
+abbrev pub encoded_value : EncodedValue → AbstractValue
+encoded_value e = e.value
+
+abbrev pub inserted_encoding : EncodedValue → List EncodedValue → List EncodedValue
+inserted_encoding e [] = e ∷ []
+inserted_encoding e (f ∷ fs) = if descends e.octets f.octets then f ∷ inserted_encoding e fs else e ∷ f ∷ fs
+
+abbrev pub arranged_encodings : List EncodedValue → List EncodedValue
+arranged_encodings [] = []
+arranged_encodings (e ∷ es) = inserted_encoding e (arranged_encodings es)
+
 -- Each has an encoding of at most 1,048,576 octets.
 abbrev pub are_short : AbstractType → List AbstractValue → Bool
 are_short t [] = true

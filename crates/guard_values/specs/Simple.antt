@@ -1,5 +1,5 @@
 -- Which value a form of the notation says under a type, where no value stands inside it.
-use Rattle.std.specs.Prelude.{ℕ, ◌-◌, ◌*◌, ℤ, Bool, ◌&&◌, List, length, Option, Some, None, if◌then◌else◌, chars}
+use Rattle.std.specs.Prelude.{ℕ, ◌-◌, ◌*◌, ◌%◌, ℤ, Bool, ◌&&◌, List, length, Option, Some, None, if◌then◌else◌, chars}
 use Rattle.std.specs.Str.{is_utf8}
 use Rattle.guard_model.specs.declared.site.Site.{Site}
 use Rattle.guard_model.specs.declared.ty.CharKind.{CharKind}
@@ -34,12 +34,12 @@ integer_value _ n = None
 
 -- ---- strings
 
--- the bits of a string of bits, and four bits for each hexadecimal digit (22.9, 22.10)
+-- The bits of a string of bits, and four bits for each hexadecimal digit (22.9, 22.10). Unused are those that the last octet has besides.
 abbrev pub bits_value : List ℕ → AbstractValue
-bits_value bits = value.bit_string (octets_of_bits bits) (8 * length (octets_of_bits bits) - length bits)
+bits_value bits = value.bit_string (octets_of_bits bits) ((8 - length bits % 8) % 8)
 
 abbrev pub hexadecimal_bits_value : List ℕ → AbstractValue
-hexadecimal_bits_value digits = value.bit_string (octets_of_hexadecimal digits) (8 * length (octets_of_hexadecimal digits) - 4 * length digits)
+hexadecimal_bits_value digits = value.bit_string (octets_of_hexadecimal digits) (4 * (length digits % 2))
 
 -- what is quoted, where all its characters are of the alphabet (41)
 abbrev pub characters_value : CharKind → List ℕ → Option AbstractValue

@@ -13,7 +13,9 @@ use Rattle.guard_values.specs.declared.scope.VisibleName.{VisibleName}
 use Rattle.guard_values.specs.declared.scope.Scope.{Scope}
 use Rattle.guard_values.specs.declared.scope.VisibleValue.{VisibleValue}
 use Rattle.guard_values.specs.Meanings.{Governed, Meaning}
+use Rattle.guard_values.specs.declared.arrangement.Encoded.{Encoded}
 use Rattle.guard_values.specs.Places.{Located}
+use Rattle.guard_values.specs.Arrangement.{EncodedValue}
 
 -- the fault that a refusal names, where memory didn't run out
 abbrev pub named : ValueFault → Option ValueFault
@@ -25,6 +27,9 @@ visible_view v = record { ty = type_view v.ty.now; value = value_view v.value.no
 
 abbrev pub located_view : ℕ × Bor Ty → Located
 located_view x = record { place = x.0; ty = type_view x.1.now }
+
+abbrev pub encoded_view : Encoded → EncodedValue
+encoded_view e = record { octets = e.octets.items; value = value_view e.value }
 
 -- ---- what visible names mean
 

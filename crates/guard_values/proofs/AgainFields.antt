@@ -1,7 +1,8 @@
 -- Fields are settled as the definition has them.
 use Rattle.std.proofs.Common.{◌≡◌, ◌≢◌, ℕ, zero, suc, ◌+◌, Bool, true, false, cond, not, ◌&&◌, ◌||◌, List, [], ◌∷◌, Option, Some, None, Result, Ok, Err, inl, inr, ◌⊎◌, option_map, refl, sym, ap, ◌∙◌, subst, arith}
 use Rattle.std.specs.Prelude.{nat_eq, nat_le, nat_lt, bytes_eq}
-use Rattle.std.proofs.lemmas.Bool.{eqb-true, eq-eqb, eqb_tells, and_parts}
+use Rattle.std.proofs.lemmas.Bool.{eq-eqb}
+use Rattle.std.proofs.lemmas.Bool.Decides.{eqb_tells}
 use Rattle.guard_model.specs.Answer.{◌>>=◌}
 use Rattle.guard_model.specs.declared.site.Site.{Site}
 use Rattle.guard_model.specs.AbstractType as type
@@ -63,6 +64,12 @@ filled_there (component name t presence rest) zero u v (value.absent fs) h e = r
 filled_there (component name t presence rest) (suc i) u v (value.present w fs) h e = filled_there rest i u v fs h e
 filled_there (component name t presence rest) (suc i) u v (value.absent fs) h e = filled_there rest i u v fs h e
 
+before_differ : (j i : ℕ) → nat_eq (suc j) (suc i) ≡ false → nat_eq j i ≡ false
+before_differ j i e = elim (eqb_tells j i) [
+  | inl h ↦ let same : nat_eq (suc j) (suc i) ≡ true = eq-eqb (suc j) (suc i) (ap suc h.1) in absurd cc
+  | inr h ↦ h.0
+]
+
 pub kept_elsewhere : (i j : ℕ) (v : AbstractValue) (fs : Fields) → nat_eq j i ≡ false → field_at j (fill i v fs) ≡ field_at j fs
 kept_elsewhere i j v value.no_fields e = refl
 kept_elsewhere zero zero v (value.present w fs) e = absurd cc
@@ -71,8 +78,8 @@ kept_elsewhere zero (suc j) v (value.present w fs) e = refl
 kept_elsewhere zero (suc j) v (value.absent fs) e = refl
 kept_elsewhere (suc i) zero v (value.present w fs) e = refl
 kept_elsewhere (suc i) zero v (value.absent fs) e = refl
-kept_elsewhere (suc i) (suc j) v (value.present w fs) e = kept_elsewhere i j v fs e
-kept_elsewhere (suc i) (suc j) v (value.absent fs) e = kept_elsewhere i j v fs e
+kept_elsewhere (suc i) (suc j) v (value.present w fs) e = kept_elsewhere i j v fs (before_differ j i e)
+kept_elsewhere (suc i) (suc j) v (value.absent fs) e = kept_elsewhere i j v fs (before_differ j i e)
 
 pub unfilled_elsewhere : (i j : ℕ) (v : AbstractValue) (fs : Fields) → nat_eq j i ≡ false → is_filled j (fill i v fs) ≡ is_filled j fs
 unfilled_elsewhere i j v value.no_fields e = refl
@@ -82,8 +89,8 @@ unfilled_elsewhere zero (suc j) v (value.present w fs) e = refl
 unfilled_elsewhere zero (suc j) v (value.absent fs) e = refl
 unfilled_elsewhere (suc i) zero v (value.present w fs) e = refl
 unfilled_elsewhere (suc i) zero v (value.absent fs) e = refl
-unfilled_elsewhere (suc i) (suc j) v (value.present w fs) e = unfilled_elsewhere i j v fs e
-unfilled_elsewhere (suc i) (suc j) v (value.absent fs) e = unfilled_elsewhere i j v fs e
+unfilled_elsewhere (suc i) (suc j) v (value.present w fs) e = unfilled_elsewhere i j v fs (before_differ j i e)
+unfilled_elsewhere (suc i) (suc j) v (value.absent fs) e = unfilled_elsewhere i j v fs (before_differ j i e)
 
 -- ---- a component by its name
 
@@ -122,11 +129,14 @@ slot_settles : (site : Site) (b : Bool) (Denoted : AbstractValue → Type 0) (pr
 slot_settles site true Denoted presence field slot h e = rw (e, h.1) refl
 slot_settles site false Denoted presence field slot h e = rw e (left_out_settles site presence field h)
 
+two_steps : (first : Read (Option AbstractValue)) (others : Read Fields) (field : Option AbstractValue) (fs : Fields) → first ≡ Ok field → others ≡ Ok fs → (first >>= λ f. others >>= λ gs. Ok (field_before f gs)) ≡ Ok (field_before field fs)
+two_steps first others field fs e f = rw (e, f) refl
+
 completed_first : (site : Site) (name : List ℕ) (t : AbstractType) (presence : AbstractPresence) (rest : Components) (slot field : Option AbstractValue) (cur fs : Fields)
     → settled site presence slot ≡ Ok field → completed site rest cur ≡ Ok fs → completed site (component name t presence rest) (field_before slot cur) ≡ Ok (field_before field fs)
 unfolding completed
-completed_first site name t presence rest None field cur fs e f = rw (e, f) refl
-completed_first site name t presence rest (Some v) field cur fs e f = rw (e, f) refl
+completed_first site name t presence rest None field cur fs e f = two_steps (settled site presence None) (completed site rest cur) field fs e f
+completed_first site name t presence rest (Some v) field cur fs e f = two_steps (settled site presence (Some v)) (completed site rest cur) field fs e f
 
 -- the places that entries name hold what the definition has, the others nothing
 abbrev pub Holds : List (Option ℕ) → ℕ → Fields → Fields → Type 0
@@ -176,14 +186,14 @@ first_wanted given Denoted i k t u presence field h e same among =
     let P : AbstractType → Type 0 = λ x. Denoted k x found.0 in
     (found.0, found.1, subst P ty found.2)
 
+wanted_at : (given : List (Option ℕ)) (Denoted : ℕ → AbstractType → AbstractValue → Type 0) (i : ℕ) (cs : Components) (fs : Fields) → FieldsDenote given Denoted i cs fs
+    → (j k : ℕ) (u : AbstractType) → k ≡ i + j → component_type j cs ≡ Some u → is_among k given ≡ true → (v : AbstractValue) × (field_at j fs ≡ Some v) × Denoted k u v
+wanted_at given Denoted i no_components fs h j k u e f among = absurd cc
+wanted_at given Denoted i (component name t presence rest) value.no_fields h j k u e f among = absurd h
+wanted_at given Denoted i (component name t presence rest) (value.present v fs) h zero k u e f among = first_wanted given Denoted i k t u presence (Some v) h.0 e f among
+wanted_at given Denoted i (component name t presence rest) (value.absent fs) h zero k u e f among = first_wanted given Denoted i k t u presence None h.0 e f among
+wanted_at given Denoted i (component name t presence rest) (value.present v fs) h (suc j) k u e f among = wanted_at given Denoted (suc i) rest fs h.1 j k u (omega (arith, e)) f among
+wanted_at given Denoted i (component name t presence rest) (value.absent fs) h (suc j) k u e f among = wanted_at given Denoted (suc i) rest fs h.1 j k u (omega (arith, e)) f among
+
 pub fields_wanted : (given : List (Option ℕ)) (Denoted : ℕ → AbstractType → AbstractValue → Type 0) (i : ℕ) (cs : Components) (fs : Fields) → FieldsDenote given Denoted i cs fs → Wanted given Denoted i cs fs
-fields_wanted given Denoted i no_components fs h = λ j k u e f among. absurd cc
-fields_wanted given Denoted i (component name t presence rest) value.no_fields h = absurd h
-fields_wanted given Denoted i (component name t presence rest) (value.present v fs) h = λ j. elim j [
-  | zero ↦ λ k u e f among. first_wanted given Denoted i k t u presence (Some v) h.0 e f among
-  | suc j ↦ λ k u e f among. fields_wanted given Denoted (suc i) rest fs h.1 j k u (omega (arith, e)) f among
-]
-fields_wanted given Denoted i (component name t presence rest) (value.absent fs) h = λ j. elim j [
-  | zero ↦ λ k u e f among. first_wanted given Denoted i k t u presence None h.0 e f among
-  | suc j ↦ λ k u e f among. fields_wanted given Denoted (suc i) rest fs h.1 j k u (omega (arith, e)) f among
-]
+fields_wanted given Denoted i cs fs h = λ j k u e f among. wanted_at given Denoted i cs fs h j k u e f among

@@ -1,5 +1,5 @@
 //! The value that a tree of the notation denotes under its type (X.680 17).
-ghost use Rattle.std.specs.Prelude.{◌≡◌, ◌<◌, [], length, map, IsTrue, IfOk, IfErr, IfSome, Ok, if◌then◌else◌};
+ghost use Rattle.std.specs.Prelude.{◌≡◌, ◌<◌, [], length, map, IsTrue, IfOk, IfErr, IfSome, Ok, false, if◌then◌else◌};
 ghost use Rattle.guard_model.specs.Answer.{Gives};
 ghost use Rattle.guard_model.specs.AbstractValue.{AbstractValue};
 ghost use Rattle.guard_model.specs.TypeView.{type_view, kind_view, component_view, components_of};

@@ -236,6 +236,7 @@ module _ (m : Meaning) (es : WrittenEntries)
 
 mutual
   unfolding read
+
   pub says_read : (m : Meaning) (tree : WrittenValue) (t : AbstractType) (v : AbstractValue) → Says m t tree v → read m t tree ≡ Ok v
   says_read m (value_node site form) t v h = form_read m form site t v h
 

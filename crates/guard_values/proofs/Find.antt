@@ -5,6 +5,13 @@ use Rattle.guard_model.specs.AbstractType.{AbstractType, Components, component}
 use Rattle.guard_model.specs.TypeView.{type_view, presence_view}
 use Rattle.guard_model.specs.declared.ty.Comp.{Comp}
 use Rattle.guard_model.specs.declared.ty.Kind.TheViews.{out-Comp}
+use Rattle.std.specs.Prelude.{nat_lt}
+use Rattle.std.proofs.Common.{◌&&◌, Ok, Err}
+use Rattle.guard_model.specs.AbstractValue.{Fields}
+use Rattle.guard_model.specs.declared.site.Site.{Site}
+use Rattle.guard_der.specs.Reading.{is_filled}
+use Rattle.guard_values.specs.declared.fault.ValueFault.TheVariants.{RepeatedComponent, OutOfOrder}
+use Rattle.guard_values.specs.Reading.{placed}
 use Rattle.guard_values.specs.Places.{Located, located, further}
 use Rattle.guard_model.proofs.Components.{left, left_is, none_left}
 
@@ -37,3 +44,15 @@ not_here name comps i comp total lt is other so_far =
 
 pub nowhere : (name : List ℕ) (comps : List Comp) (i : ℕ) (total : Option Located) → length comps ≤ i → option_map (from i) (located name (left comps i)) ≡ total → None ≡ total
 nowhere name comps i total le so_far = sym (ap (λ cs. option_map (from i) (located name cs)) (none_left comps i le)) ∙ so_far
+
+-- ---- where the value of an entry goes
+
+module _ (ordered : Bool) (next : ℕ) (fs : Fields) (site : Site) (found : Option Located) (l : Located) (e : found ≡ Some l) where
+  pub place_taken : is_filled l.place fs ≡ true → placed ordered next fs site found ≡ Err (RepeatedComponent site)
+  place_taken full = rw (e, full) refl
+
+  pub place_late : is_filled l.place fs ≡ false → (ordered && nat_lt l.place next) ≡ true → placed ordered next fs site found ≡ Err (OutOfOrder site)
+  place_late free late = rw (e, free, late) refl
+
+  pub place_found : is_filled l.place fs ≡ false → (ordered && nat_lt l.place next) ≡ false → placed ordered next fs site found ≡ Ok l
+  place_found free late = rw (e, free, late) refl

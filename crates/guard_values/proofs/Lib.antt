@@ -7,5 +7,6 @@ pub mod ReadArcs
 pub mod Find
 pub mod Slots
 -- ---- what a tree says is what is read
+pub mod Orders
 pub mod AgainFields
 pub mod Again

@@ -13,3 +13,5 @@ pub mod Faults
 -- ---- what private contracts cite
 pub mod Views
 pub mod Reading
+-- ---- worked examples
+mod Rows

@@ -1,5 +1,5 @@
 //! Components of a SEQUENCE or SET, and alternatives of a CHOICE: one slot for the value of each.
-ghost use Rattle.std.specs.Prelude.{◌≡◌, ◌<◌, length, map, set, option_map, IfOk, IfSome, Ok};
+ghost use Rattle.std.specs.Prelude.{◌≡◌, ◌&&◌, nat_lt, ◌<◌, length, map, set, option_map, IfOk, IfSome, Ok};
 ghost use Rattle.guard_model.specs.Answer.{Gives};
 ghost use Rattle.guard_model.specs.TypeView.{component_view, components_of, presence_view};
 ghost use Rattle.guard_model.specs.ValueView.{field_view, fields_view};
@@ -43,10 +43,17 @@ pub fn placed<'a>(
     if fields[place].is_some() {
         return Err(ValueFault::RepeatedComponent(site));
     }
-    if ordered && place < next {
+    if is_late(ordered, place, next) {
         return Err(ValueFault::OutOfOrder(site));
     }
     Ok((place, ty))
+}
+
+/// In a SEQUENCE: a place before the next one.
+fn is_late(ordered: bool, place: usize, next: usize) -> bool
+    ensures { result ≡ (ordered && nat_lt place next) }
+{
+    ordered && place < next
 }
 
 /// No entry was read yet.

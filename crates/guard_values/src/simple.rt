@@ -56,12 +56,7 @@ pub fn integer(kind: &Kind, site: Site, number: &NumberTree) -> Result<Value, Va
 }
 
 /// Arcs.
-pub fn arcs(
-    alloc: Global,
-    kind: &Kind,
-    site: Site,
-    arcs: &[ArcTree],
-) -> Result<Value, ValueFault>
+pub fn arcs(alloc: Global, kind: &Kind, site: Site, arcs: &[ArcTree]) -> Result<Value, ValueFault>
     ensures { Gives value_view named result (read_arcs site (kind_view kind.now) (map arc_view arcs.now)) }
 {
     match kind {

@@ -1,5 +1,5 @@
 //! The value that a tree of the notation denotes under its type (X.680 17).
-ghost use Rattle.std.specs.Prelude.{◌≡◌, ◌<◌, [], length, map, IsTrue, IfOk, IfErr, IfSome, Ok, false, if◌then◌else◌};
+ghost use Rattle.std.specs.Prelude.{◌≡◌, ◌<◌, [], ◌∷◌, length, map, IsTrue, IfOk, IfErr, IfSome, Ok, false, if◌then◌else◌};
 ghost use Rattle.guard_model.specs.Answer.{Gives};
 ghost use Rattle.guard_model.specs.AbstractValue.{AbstractValue};
 ghost use Rattle.guard_model.specs.TypeView.{type_view, kind_view, component_view, components_of};
@@ -32,12 +32,7 @@ use std::alloc::Global;
 const MOST_ITEMS: usize = 4_294_967_295;
 
 /// The value that the tree denotes under the type, where its names have the scope's meaning; or a fault whose condition stands at its site.
-pub fn value(
-    alloc: Global,
-    scope: Scope,
-    ty: &Ty,
-    tree: &ValueTree,
-) -> Result<Value, ValueFault>
+pub fn value(alloc: Global, scope: Scope, ty: &Ty, tree: &ValueTree) -> Result<Value, ValueFault>
     requires sound { IsTrue (is_sound (type_view ty.now)) }
     requires fitting { AreFitting (meaning_of scope) }
     // The value is the one denoted.
@@ -145,7 +140,10 @@ fn object_identifier_fault(site: Site, entries: &[EntryTree]) -> ValueFault
     }
 }
 
-fn is_arc(entry: &EntryTree) -> bool {
+/// A number without a minus sign, and without a name before it.
+fn is_arc(entry: &EntryTree) -> bool
+    ensures { result ≡ are_too_few_arcs (entries_of (trees.entry_view entry.now ∷ [])) }
+{
     match &entry.value.form {
         ValueForm::Integer(number) => entry.name.is_none() && !number.minus,
         _ => false,
@@ -262,12 +260,7 @@ fn set_items(
 
 /// An entry of an OF type has no name.
 #[cycle(values)]
-fn element(
-    alloc: Global,
-    scope: Scope,
-    ty: &Ty,
-    entry: &EntryTree,
-) -> Result<Value, ValueFault>
+fn element(alloc: Global, scope: Scope, ty: &Ty, entry: &EntryTree) -> Result<Value, ValueFault>
     requires proper { IsTrue (is_proper (type_view ty.now)) }
     requires fitting { AreFitting (meaning_of scope) }
     ensures { Gives value_view named result (element_at false (type_view ty.now) (trees.entry_view entry.now).site (trees.entry_view entry.now).name (reading.site_of (trees.entry_view entry.now).value) (reading.read (meaning_of scope.entry) (type_view ty.now) (trees.entry_view entry.now).value)) }

@@ -7,6 +7,5 @@ pub mod ReadArcs
 pub mod Find
 pub mod Slots
 -- ---- what a tree says is what is read
-pub mod Orders
 pub mod AgainFields
 pub mod Again

@@ -14,4 +14,4 @@ pub mod Faults
 pub mod Views
 pub mod Reading
 -- ---- worked examples
-mod Rows
+pub mod Rows

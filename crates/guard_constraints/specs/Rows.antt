@@ -1,0 +1,117 @@
+-- Worked examples of constraint trees: which elements apply, the first fault, and what is read. That the definition says what is
+-- read is a law.
+use Rattle.std.specs.Prelude.{◌≡◌, ℕ, ◌+◌, true, false, List, [], ◌∷◌, codes, Option, Some, None, refl}
+use Rattle.guard_model.specs.declared.site.Site.{Site}
+use Rattle.guard_model.specs.declared.ty.CharKind.TheVariants.{Ia5}
+use Rattle.guard_model.specs.declared.tag.Class.TheVariants.{Universal}
+use Rattle.guard_model.specs.AbstractType as type
+use Rattle.guard_model.specs.AbstractType.{AbstractType, AbstractKind, AbstractPresence, Components, Constraint, type_of, no_components, component}
+use Rattle.guard_syntax.specs.declared.tree.JoinMark.TheVariants.{Sign}
+use Rattle.guard_syntax.specs.declared.tree.PresenceWord.{PresenceWord}
+use Rattle.guard_syntax.specs.declared.tree.PresenceWord.TheVariants as says
+use Rattle.guard_syntax.specs.declared.tree.StringKind.TheVariants as string
+use Rattle.guard_syntax.specs.Trees as written
+use Rattle.guard_syntax.specs.Trees.{WrittenValue, WrittenEnd, WrittenSet, WrittenIntersection, WrittenDifference, WrittenElement, WrittenElementForm, WrittenConstraint, WrittenParts, value_node, set_node, all_except, union, none_united, united, intersection, none_met, met, element_alone, element_except, element_node, constraint, no_parts, part, part_in}
+use Rattle.guard_constraints.specs.declared.fault.ConsFault.TheVariants as fault
+use Rattle.guard_constraints.specs.Visible.{Visible}
+use Rattle.guard_constraints.specs.PermittedAlphabets.{items_of, items_of_form}
+use Rattle.guard_constraints.specs.ListedParts.{heads}
+use Rattle.guard_constraints.specs.PartFaults.{part_fault}
+use Rattle.guard_constraints.specs.Faults.{own_fault}
+
+-- ---- notation
+
+abbrev column : ℕ → Site
+column n = record { text = 1; line = 1; column = n }
+
+-- no name is visible
+abbrev nothing : Visible
+nothing = record { values = λ name. None; types = λ name. None }
+
+abbrev tagged : ℕ → AbstractKind → AbstractType
+tagged n kind = type_of (record { class = Universal; number = n } ∷ []) kind type.no_constraints
+
+abbrev set_of_element : Site → WrittenElementForm → WrittenSet
+set_of_element site form = set_node site (union (intersection site (element_alone site (element_node site form)) none_met) none_united)
+
+abbrev in_parentheses : ℕ → WrittenElementForm → WrittenConstraint
+in_parentheses n form = constraint (column n) (set_of_element (column (n + 1)) form)
+
+abbrev text_at : ℕ → List ℕ → WrittenElementForm
+text_at n spelling = written.value (value_node (column n) (written.text string.Characters spelling))
+
+abbrev part_at : ℕ → List ℕ → Option PresenceWord → WrittenParts → WrittenParts
+part_at n name presence others = part (column n) name presence others
+
+-- ---- an element's own fault
+
+-- BOOLEAN (SIZE (1)): C1 at SIZE
+size_of_boolean : own_fault nothing (tagged 1 type.boolean) (column 10) (written.size (in_parentheses 15 (text_at 16 []))) ≡ Some (fault.NotApplicable (column 10))
+size_of_boolean = refl
+
+-- INTEGER (MIN<..5): C2 at MIN
+abbrev below_five : WrittenElementForm
+below_five =
+    written.range (record {
+      low = None;
+      above_low = true;
+      below_high = false;
+      high = Some (record { site = column 16; form = written.end_integer (record { site = column 16; minus = false; digits = codes "5" }) });
+    })
+
+min_left_out : own_fault nothing (tagged 2 (type.integer [])) (column 10) below_five ≡ Some (fault.ExclusiveLimit (column 10))
+min_left_out = refl
+
+-- on BOOLEAN the same is C1
+range_of_boolean : own_fault nothing (tagged 1 type.boolean) (column 10) below_five ≡ Some (fault.NotApplicable (column 10))
+range_of_boolean = refl
+
+-- IA5String (FROM (ALL EXCEPT "q")): C3 at FROM
+all_except_q : own_fault nothing (tagged 22 (type.characters Ia5)) (column 12) (written.from (constraint (column 17) (set_node (column 18) (all_except (element_node (column 29) (text_at 29 (codes "\"q\""))))))) ≡ Some (fault.AlphabetForm (column 12))
+unfolding items_of items_of_form
+all_except_q = refl
+
+-- INTEGER (Level) where no such type is visible: C8
+unknown_type : own_fault nothing (tagged 2 (type.integer [])) (column 10) (written.contained false (column 10) (codes "Level")) ≡ Some (fault.ContainedMismatch (column 10))
+unknown_type = refl
+
+-- ---- parts of WITH COMPONENTS
+
+abbrev one_component : List ℕ → AbstractPresence → Components → Components
+one_component name presence others = component name (tagged 5 type.null) presence others
+
+-- SEQUENCE { a NULL, b NULL OPTIONAL }
+abbrev a_and_b : AbstractKind
+a_and_b = type.sequence (one_component (codes "a") type.mandatory (one_component (codes "b") type.optional no_components))
+
+-- CHOICE { a NULL, b NULL }
+abbrev a_or_b : AbstractKind
+a_or_b = type.choice (one_component (codes "a") type.mandatory (one_component (codes "b") type.mandatory no_components))
+
+-- { b PRESENT, a PRESENT }: C4 at the a, which isn't OPTIONAL
+word_on_mandatory : part_fault a_and_b (heads (part_at 30 (codes "b") (Some says.Present) (part_at 41 (codes "a") (Some says.Present) no_parts))) ≡ Some (fault.PresenceWord (column 41))
+word_on_mandatory = refl
+
+-- { c PRESENT, a PRESENT }: C4 comes before the unknown c, whose word counts for nothing
+word_before_name : part_fault a_and_b (heads (part_at 30 (codes "c") (Some says.Present) (part_at 41 (codes "a") (Some says.Present) no_parts))) ≡ Some (fault.PresenceWord (column 41))
+word_before_name = refl
+
+-- { c PRESENT }: C5
+unknown_name : part_fault a_and_b (heads (part_at 30 (codes "c") (Some says.Present) no_parts)) ≡ Some (fault.UnknownComponent (column 30))
+unknown_name = refl
+
+-- { b, b }: C6 at the second
+name_again : part_fault a_and_b (heads (part_at 30 (codes "b") None (part_at 33 (codes "b") None no_parts))) ≡ Some (fault.RepeatedComponent (column 33))
+name_again = refl
+
+-- over a CHOICE, { a OPTIONAL }: C4
+optional_alternative : part_fault a_or_b (heads (part_at 30 (codes "a") (Some says.Optional) no_parts)) ≡ Some (fault.PresenceWord (column 30))
+optional_alternative = refl
+
+-- over a CHOICE, { a PRESENT, b PRESENT }: C7 at the b
+both_present : part_fault a_or_b (heads (part_at 30 (codes "a") (Some says.Present) (part_at 41 (codes "b") (Some says.Present) no_parts))) ≡ Some (fault.TwoPresent (column 41))
+both_present = refl
+
+-- over a CHOICE, { a PRESENT, b ABSENT } has no fault
+one_present : part_fault a_or_b (heads (part_at 30 (codes "a") (Some says.Present) (part_at 41 (codes "b") (Some says.Absent) no_parts))) ≡ None
+one_present = refl

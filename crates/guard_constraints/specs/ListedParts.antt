@@ -11,7 +11,7 @@ use Rattle.guard_tagcheck.specs.Limits.{is_choice}
 use Rattle.guard_der.specs.Fits.{may_be_absent}
 use Rattle.guard_syntax.specs.declared.tree.PresenceWord.{PresenceWord}
 use Rattle.guard_syntax.specs.declared.tree.PresenceWord.TheVariants.{Present, Absent, Optional}
-use Rattle.guard_syntax.specs.Trees.{WrittenConstraint, WrittenParts, no_parts, part, part_in}
+use Rattle.guard_syntax.specs.Trees.{WrittenParts, WrittenPart, no_parts, part, part_in}
 
 -- ---- parts
 
@@ -21,7 +21,10 @@ pub record PartHead : Type 0 where
   pub name : List ℕ
   pub presence : Option PresenceWord
 
--- in written order
+abbrev pub head_of : WrittenPart → PartHead
+head_of p = record { site = p.site; name = p.name; presence = p.presence }
+
+-- of all parts in written order
 abbrev pub heads : WrittenParts → List PartHead
 heads no_parts = []
 heads (part site name presence others) = record { site = site; name = name; presence = presence } ∷ heads others

@@ -9,9 +9,10 @@ use Rattle.guard_model.specs.AbstractType as type
 use Rattle.guard_model.specs.AbstractType.{AbstractType, AbstractKind, Constraint, Constraints, Parts, at, no_constraints}
 use Rattle.guard_model.specs.AbstractValue as value
 use Rattle.guard_model.specs.AbstractValue.{AbstractValue}
+use Rattle.guard_model.specs.TypeView.{OnePart}
 use Rattle.guard_der.specs.ProperConstraints.{is_integer, has_size, type_of_size, is_string, element_of, has_parts}
 use Rattle.guard_syntax.specs.Trees as written
-use Rattle.guard_syntax.specs.Trees.{WrittenValue, WrittenEnd, WrittenRange, WrittenSet, WrittenSetForm, WrittenUnited, WrittenIntersection, WrittenMet, WrittenDifference, WrittenElement, WrittenElementForm, WrittenConstraint, WrittenParts, set_node, all_except, union, none_united, united, intersection, none_met, met, element_alone, element_except, element_node, constraint, no_parts, part, part_in}
+use Rattle.guard_syntax.specs.Trees.{WrittenValue, WrittenEnd, WrittenRange, WrittenSet, WrittenSetForm, WrittenUnited, WrittenIntersection, WrittenMet, WrittenDifference, WrittenElement, WrittenElementForm, WrittenConstraint, WrittenParts, WrittenPart, set_node, all_except, union, none_united, united, intersection, none_met, met, element_alone, element_except, element_node, constraint, no_parts, part, part_in}
 use Rattle.guard_values.specs.declared.fault.ValueFault.{ValueFault}
 use Rattle.guard_values.specs.declared.fault.ValueFault.TheVariants.{WrongNotation}
 use Rattle.guard_values.specs.Meanings.{Meaning, kind_of}
@@ -171,3 +172,13 @@ unfoldable mutual
   read_parts names kind (part_in site name inner presence others) =
       found (UnknownComponent site) (named_in kind name) >>= λ p. read names p.one.ty inner
       >>= λ c. read_parts names kind others >>= λ qs. Ok (type.part_within site p.place c (option_map word_of presence) qs)
+
+-- one part, as the code reads it
+abbrev pub read_within : Visible → AbstractType → Option WrittenConstraint → Read (Option Constraint)
+read_within names t None = Ok None
+read_within names t (Some inner) = read names t inner >>= λ c. Ok (Some c)
+
+abbrev pub read_part : Visible → AbstractKind → WrittenPart → Read OnePart
+read_part names kind p =
+    found (UnknownComponent p.site) (named_in kind p.name) >>= λ x. read_within names x.one.ty p.constraint
+    >>= λ within. Ok (record { site = p.site; place = x.place; within = within; word = option_map word_of p.presence })

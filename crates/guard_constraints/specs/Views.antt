@@ -5,6 +5,7 @@ use Rattle.std.specs.Borrow.{Bor}
 use Rattle.guard_model.specs.AbstractType.{AbstractType}
 use Rattle.guard_model.specs.TypeView.{type_view, component_view}
 use Rattle.guard_model.specs.declared.ty.Comp.{Comp}
+use Rattle.guard_syntax.specs.SetViews.{part_view}
 use Rattle.guard_syntax.specs.declared.tree.ComponentConsTree.{ComponentConsTree}
 use Rattle.guard_values.specs.declared.fault.ValueFault.{ValueFault}
 use Rattle.guard_values.specs.declared.fault.ValueFault.TheVariants as value_fault
@@ -21,7 +22,7 @@ use Rattle.guard_constraints.specs.declared.alphabets.Item.{Item}
 use Rattle.guard_constraints.specs.declared.alphabets.Item.TheVariants as item
 use Rattle.guard_constraints.specs.Visible.{Visible}
 use Rattle.guard_constraints.specs.PermittedAlphabets.{SitedText, CodeEnd, open_end, character, AlphabetItem, all_of, between}
-use Rattle.guard_constraints.specs.ListedParts.{PartHead, Placed}
+use Rattle.guard_constraints.specs.ListedParts.{PartHead, head_of, Placed}
 
 -- ---- faults
 
@@ -64,7 +65,7 @@ item_view (item.Between low high) = between (code_view low) (code_view high)
 -- ---- parts of WITH COMPONENTS
 
 abbrev pub head_view : ComponentConsTree → PartHead
-head_view p = record { site = p.site; name = p.name.now; presence = p.presence }
+head_view p = head_of (part_view p)
 
 abbrev pub placed_view : ℕ × Bor Comp → Placed
 placed_view x = record { place = x.0; one = component_view x.1.now }

@@ -336,12 +336,7 @@ fn first_in(site: Site, text: &str) -> Result<u32, ConsFault>
 }
 
 /// The characters of a string, which is a value of the type.
-fn characters(
-    alloc: Global,
-    scope: Scope,
-    ty: &Ty,
-    text: &WrittenText,
-) -> Result<String, ConsFault>
+fn characters(alloc: Global, scope: Scope, ty: &Ty, text: &WrittenText) -> Result<String, ConsFault>
     requires sound { IsTrue (is_sound (type_view ty.now)) }
     requires fitting { AreFitting (meaning_of scope) }
     ensures { Gives (λ s. chars (string_bytes s)) named result (read_text (meaning_of scope.entry) (type_view ty.now) (text_view text.now)) }
@@ -352,7 +347,7 @@ fn characters(
 
 /// The characters of a value of a character string.
 fn characters_in(site: Site, value: Value) -> Result<String, ConsFault>
-    ensures { Gives (λ s. chars (string_bytes s)) named result (characters_in site (values.value_view value.entry)) }
+    ensures { Gives (λ s. chars (string_bytes s)) named result (characters_in site (values.value_view value)) }
 {
     match value {
         Value::Chars(text) => Ok(text),

@@ -26,14 +26,14 @@ pub fn component_named<'a>(name: &[u8], comps: &'a [Comp]) -> Option<(usize, &'a
     None
 }
 
-/// The meaning of a presence word.
-pub fn word_of(word: PresenceWord) -> Word
-    ensures { result ≡ listing.word_of word }
+/// The presence word, where there is one.
+pub fn word_of(presence: Option<PresenceWord>) -> Option<Word>
+    ensures { result ≡ option_map listing.word_of presence }
 {
-    match word {
-        PresenceWord::Present => Word::Present,
-        PresenceWord::Absent => Word::Absent,
-        PresenceWord::Optional => Word::Optional,
+    match presence? {
+        PresenceWord::Present => Some(Word::Present),
+        PresenceWord::Absent => Some(Word::Absent),
+        PresenceWord::Optional => Some(Word::Optional),
     }
 }
 

@@ -3,12 +3,12 @@ ghost use Rattle.std.specs.Prelude.{◌≡◌, map, IsTrue, IfOk, IfErr, IfSome,
 ghost use Rattle.guard_model.specs.Answer.{Gives, ◌>>=◌};
 ghost use Rattle.guard_model.specs.AbstractType as abstract;
 ghost use Rattle.guard_model.specs.AbstractType.{Constraint};
-ghost use Rattle.guard_model.specs.TypeView.{type_view, kind_view, constraint_view, constraints_of, part_view, parts_of};
+ghost use Rattle.guard_model.specs.TypeView.{type_view, constraint_view, constraints_of, part_view, parts_of};
 ghost use Rattle.guard_der.specs.Sound.{is_sound, is_proper_constraint};
 ghost use Rattle.guard_syntax.specs.Trees as trees;
 ghost use Rattle.guard_syntax.specs.SetViews as views;
 ghost use Rattle.guard_syntax.specs.Views as values;
-ghost use Rattle.guard_values.specs.Meanings.{AreFitting};
+ghost use Rattle.guard_values.specs.Meanings.{AreFitting, kind_of};
 ghost use Rattle.guard_values.specs.Views.{meaning_of};
 ghost use Rattle.guard_constraints.specs.Visible.{AreSound};
 ghost use Rattle.guard_constraints.specs.Denotes.{Denotes};
@@ -22,7 +22,7 @@ use crate::fault::ConsFault;
 use crate::kinds::{components_in, element_of, has_parts, has_size, type_of_size};
 use crate::listed_parts::{check_parts, component_named, word_of};
 use crate::range_ends::range;
-use guard_model::{Cons, Kind, Part, Rule, Site, Ty};
+use guard_model::{Cons, Part, Rule, Site, Ty};
 use guard_syntax::{
     ComponentConsTree, ConsTree, DifferenceTree, ElementForm, ElementTree, IntersectionTree,
     JoinedDifference, JoinedIntersection, SetForm, SetTree, ValueTree,
@@ -31,12 +31,7 @@ use guard_values::{Scope, value};
 use std::alloc::Global;
 
 /// The constraint that the tree denotes on the type, where its names have the scope's meaning; or the first fault.
-pub fn constraint(
-    alloc: Global,
-    scope: Scope,
-    ty: &Ty,
-    tree: &ConsTree,
-) -> Result<Cons, ConsFault>
+pub fn constraint(alloc: Global, scope: Scope, ty: &Ty, tree: &ConsTree) -> Result<Cons, ConsFault>
     requires sound { IsTrue (is_sound (type_view ty.now)) }
     requires fitting { AreFitting (meaning_of scope) }
     requires known { AreSound (visible_in scope) }
@@ -134,7 +129,7 @@ fn united(
 ) -> Result<Vec<Cons>, ConsFault>
     requires sound { IsTrue (is_sound (type_view ty.now)) }
     requires fitting { AreFitting (meaning_of scope) }
-    ensures { Gives (λ v. constraints_of (map constraint_view v.items)) named result (reading.read_united (visible_in scope.entry) (type_view ty.now) (trees.united_of (map views.joined_intersection_view others.now)) >>= λ cs. Ok (abstract.constraint (constraint_view first.entry) cs)) }
+    ensures { Gives (λ v. constraints_of (map constraint_view v.items)) named result (reading.read_united (visible_in scope.entry) (type_view ty.now) (trees.united_of (map views.joined_intersection_view others.now)) >>= λ cs. Ok (abstract.constraint (constraint_view first) cs)) }
 {
     let mut all = Vec::new(alloc);
     all.push(first)?;
@@ -179,7 +174,7 @@ fn met(
 ) -> Result<Vec<Cons>, ConsFault>
     requires sound { IsTrue (is_sound (type_view ty.now)) }
     requires fitting { AreFitting (meaning_of scope) }
-    ensures { Gives (λ v. constraints_of (map constraint_view v.items)) named result (reading.read_met (visible_in scope.entry) (type_view ty.now) (trees.met_of (map views.joined_difference_view others.now)) >>= λ cs. Ok (abstract.constraint (constraint_view first.entry) cs)) }
+    ensures { Gives (λ v. constraints_of (map constraint_view v.items)) named result (reading.read_met (visible_in scope.entry) (type_view ty.now) (trees.met_of (map views.joined_difference_view others.now)) >>= λ cs. Ok (abstract.constraint (constraint_view first) cs)) }
 {
     let mut all = Vec::new(alloc);
     all.push(first)?;
@@ -234,12 +229,7 @@ fn except(
 
 #[cycle(sets)]
 #[tactic(auto, unfolding(crate::specs::Reading::read_element, crate::specs::Reading::read_element_form))]
-fn element(
-    alloc: Global,
-    scope: Scope,
-    ty: &Ty,
-    tree: &ElementTree,
-) -> Result<Cons, ConsFault>
+fn element(alloc: Global, scope: Scope, ty: &Ty, tree: &ElementTree) -> Result<Cons, ConsFault>
     requires sound { IsTrue (is_sound (type_view ty.now)) }
     requires fitting { AreFitting (meaning_of scope) }
     ensures { Gives constraint_view named result (reading.read_element (visible_in scope.entry) (type_view ty.now) (views.element_view tree.now)) }
@@ -260,6 +250,7 @@ fn element(
 }
 
 /// This value alone (51.2).
+#[tactic(auto, unfolding(crate::specs::Reading::read_element_form))]
 fn single_value(
     alloc: Global,
     scope: Scope,
@@ -364,7 +355,7 @@ fn each_part(
 ) -> Result<Vec<Part>, ConsFault>
     requires sound { IsTrue (is_sound (type_view ty.now)) }
     requires fitting { AreFitting (meaning_of scope) }
-    ensures { Gives (λ v. parts_of (map part_view v.items)) named result (reading.read_parts (visible_in scope.entry) (kind_view ty.now.kind) (trees.parts_of (map views.part_view listed.now))) }
+    ensures { Gives (λ v. parts_of (map part_view v.items)) named result (reading.read_parts (visible_in scope.entry) (kind_of (type_view ty.now)) (trees.parts_of (map views.part_view listed.now))) }
 {
     let mut parts = Vec::with_capacity(alloc, listed.len())?;
     for one in listed {
@@ -375,15 +366,10 @@ fn each_part(
 
 /// One part, at the place of its component or alternative.
 #[cycle(sets)]
-fn part(
-    alloc: Global,
-    scope: Scope,
-    ty: &Ty,
-    tree: &ComponentConsTree,
-) -> Result<Part, ConsFault>
+fn part(alloc: Global, scope: Scope, ty: &Ty, tree: &ComponentConsTree) -> Result<Part, ConsFault>
     requires sound { IsTrue (is_sound (type_view ty.now)) }
     requires fitting { AreFitting (meaning_of scope) }
-    ensures { Gives part_view named result (reading.read_part (visible_in scope.entry) (kind_view ty.now.kind) (views.part_view tree.now)) }
+    ensures { Gives part_view named result (reading.read_part (visible_in scope.entry) (kind_of (type_view ty.now)) (views.part_view tree.now)) }
 {
     let Some((place, comp)) = component_named(tree.name, components_in(&ty.kind)) else {
         return Err(ConsFault::UnknownComponent(tree.site));
@@ -393,7 +379,7 @@ fn part(
         site: tree.site,
         at: place as u8,
         cons,
-        word: tree.presence.map(word_of),
+        word: word_of(tree.presence),
     })
 }
 

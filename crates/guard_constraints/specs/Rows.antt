@@ -5,13 +5,13 @@ use Rattle.guard_model.specs.declared.site.Site.{Site}
 use Rattle.guard_model.specs.declared.ty.CharKind.TheVariants.{Ia5}
 use Rattle.guard_model.specs.declared.tag.Class.TheVariants.{Universal}
 use Rattle.guard_model.specs.AbstractType as type
-use Rattle.guard_model.specs.AbstractType.{AbstractType, AbstractKind, AbstractPresence, Components, Constraint, type_of, no_components, component}
+use Rattle.guard_model.specs.AbstractType.{AbstractType, AbstractKind, AbstractPresence, Components, type_of, no_components, component}
 use Rattle.guard_syntax.specs.declared.tree.JoinMark.TheVariants.{Sign}
 use Rattle.guard_syntax.specs.declared.tree.PresenceWord.{PresenceWord}
 use Rattle.guard_syntax.specs.declared.tree.PresenceWord.TheVariants as says
 use Rattle.guard_syntax.specs.declared.tree.StringKind.TheVariants as string
 use Rattle.guard_syntax.specs.Trees as written
-use Rattle.guard_syntax.specs.Trees.{WrittenValue, WrittenEnd, WrittenSet, WrittenIntersection, WrittenDifference, WrittenElement, WrittenElementForm, WrittenConstraint, WrittenParts, value_node, set_node, all_except, union, none_united, united, intersection, none_met, met, element_alone, element_except, element_node, constraint, no_parts, part, part_in}
+use Rattle.guard_syntax.specs.Trees.{WrittenSet, WrittenElementForm, WrittenConstraint, WrittenParts, value_node, set_node, all_except, union, none_united, intersection, none_met, element_alone, element_node, constraint, no_parts, part}
 use Rattle.guard_constraints.specs.declared.fault.ConsFault.TheVariants as fault
 use Rattle.guard_constraints.specs.Visible.{Visible}
 use Rattle.guard_constraints.specs.PermittedAlphabets.{items_of, items_of_form}
@@ -67,7 +67,7 @@ range_of_boolean : own_fault nothing (tagged 1 type.boolean) (column 10) below_f
 range_of_boolean = refl
 
 -- IA5String (FROM (ALL EXCEPT "q")): C3 at FROM
-all_except_q : own_fault nothing (tagged 22 (type.characters Ia5)) (column 12) (written.from (constraint (column 17) (set_node (column 18) (all_except (element_node (column 29) (text_at 29 (codes "\"q\""))))))) ≡ Some (fault.AlphabetForm (column 12))
+all_except_q : own_fault nothing (tagged 22 (type.characters Ia5)) (column 12) (written.from (constraint (column 17) (set_node (column 18) (all_except (element_node (column 29) (text_at 29 (0x22 ∷ 0x71 ∷ 0x22 ∷ []))))))) ≡ Some (fault.AlphabetForm (column 12))
 unfolding items_of items_of_form
 all_except_q = refl
 

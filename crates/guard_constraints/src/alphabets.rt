@@ -191,11 +191,11 @@ fn add_item<'a>(
 fn item_of_value<'a>(tree: &ValueTree<'a>) -> Option<Item<'a>>
     ensures { option_map (λ i. item_view i ∷ []) result ≡ alphabets.item_of_value (trees.value_view tree.now) }
 {
-    match tree.form {
-        ValueForm::Text(StringKind::Characters, spelling) => Some(Item::All(WrittenText {
-            site: tree.site,
-            spelling,
-        })),
+    let site = tree.site;
+    match &tree.form {
+        ValueForm::Text(StringKind::Characters, spelling) => {
+            Some(Item::All(WrittenText { site, spelling }))
+        }
         _ => None,
     }
 }

@@ -9,13 +9,13 @@
 //! | how are ends of ranges read | `range_ends.rt`, `specs/RangeEnds.antt` |
 //! | what may stand inside FROM | `alphabets.rt`, `specs/PermittedAlphabets.antt` |
 //! | what may WITH COMPONENTS list | `listed_parts.rt`, `specs/ListedParts.antt` |
-//! | what do names stand for | `contained.rt`, `specs/Visible.antt` |
+//! | what do names stand for | `contained_types.rt`, `specs/Visible.antt` |
 //! | what does the code compute, step by step | `specs/Reading.antt` |
 //! | which integers does a set hold | `int_set.rt`, `specs/IntSets.antt`; lists of ranges, their gaps and their common parts: `ranges.rt` |
 #![tactic(auto)]
 
 mod alphabets;
-mod contained;
+mod contained_types;
 mod fault;
 mod int_set;
 mod kinds;

@@ -17,7 +17,7 @@ ghost use Rattle.guard_constraints.specs.Reading as reading;
 ghost use Rattle.guard_constraints.specs.Views.{named, visible_in};
 
 use crate::alphabets::alphabet;
-use crate::contained::contained;
+use crate::contained_types::contained;
 use crate::fault::ConsFault;
 use crate::kinds::{components_in, element_of, has_parts, has_size, type_of_size};
 use crate::listed_parts::{check_parts, component_named, word_of};

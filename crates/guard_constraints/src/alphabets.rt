@@ -194,7 +194,10 @@ fn item_of_value<'a>(tree: &ValueTree<'a>) -> Option<Item<'a>>
     let site = tree.site;
     match &tree.form {
         ValueForm::Text(StringKind::Characters, spelling) => {
-            Some(Item::All(WrittenText { site, spelling }))
+            Some(Item::All(WrittenText {
+                site,
+                spelling: *spelling,
+            }))
         }
         _ => None,
     }

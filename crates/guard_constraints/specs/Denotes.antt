@@ -15,7 +15,7 @@ use Rattle.guard_values.specs.Meanings.{kind_of}
 use Rattle.guard_values.specs.Denotes as values
 use Rattle.guard_constraints.specs.Visible.{Visible, has_base_of}
 use Rattle.guard_constraints.specs.RangeEnds.{has_proper_ends, LimitDenotes}
-use Rattle.guard_constraints.specs.PermittedAlphabets.{AlphabetItem, items_of, ItemsDenote}
+use Rattle.guard_constraints.specs.PermittedAlphabets.{AlphabetItem, items_of, first_bad, ranges_of}
 use Rattle.guard_constraints.specs.ListedParts.{Placed, heads, word_of, named_in}
 use Rattle.guard_constraints.specs.PartFaults.{part_fault}
 
@@ -38,11 +38,10 @@ RangeDenotes names t site r c =
     × (c ≡ at site (type.range low high)))
 
 -- strings of the characters that are written, or that lie between two of them (51.7)
-abbrev pub AlphabetDenotes : Visible → AbstractType → Site → WrittenConstraint → Constraint → Type 0
-AlphabetDenotes names t site (constraint inner set) c =
+abbrev pub AlphabetDenotes : AbstractType → Site → WrittenConstraint → Constraint → Type 0
+AlphabetDenotes t site (constraint inner set) c =
     IsTrue (is_string (kind_of t))
-    × ((items : List AlphabetItem) × (ranges : List (ℕ × ℕ)) × (items_of set ≡ Some items) × ItemsDenote names.values t items ranges
-    × (c ≡ at site (type.permitted_alphabet ranges)))
+    × ((items : List AlphabetItem) × (items_of set ≡ Some items) × (first_bad (kind_of t) items ≡ None) × (c ≡ at site (type.permitted_alphabet (ranges_of items))))
 
 -- ---- elements with a constraint inside, given what that denotes under a type
 
@@ -111,7 +110,7 @@ abbrev mutual
   FormDenotes names t site (written.contained includes name_site name) c = ContainedDenotes names t site name c
   FormDenotes names t site (written.range r) c = RangeDenotes names t site r c
   FormDenotes names t site (written.size inner) c = SizeDenotes t site (λ u d. Denotes names u inner d) c
-  FormDenotes names t site (written.from inner) c = AlphabetDenotes names t site inner c
+  FormDenotes names t site (written.from inner) c = AlphabetDenotes t site inner c
   FormDenotes names t site (written.with_component inner) c = EachDenotes t site (λ u d. Denotes names u inner d) c
   FormDenotes names t site (written.with_components partial ps) c = PartsDenote t site partial ps (λ kind qs. ListedDenote names kind ps qs) c
 

@@ -1,12 +1,13 @@
 -- Why a constraint tree denotes nothing: which fault is named. An element's own fault comes before what stands inside it, else
 -- what is written first.
-use Rattle.std.specs.Prelude.{Bool, List, [], ◌∷◌, Option, Some, None, Result, Ok, Err, not, if◌then◌else◌}
+use Rattle.std.specs.Prelude.{Bool, List, Option, Some, None, Result, Ok, Err, not, if◌then◌else◌}
 use Rattle.std.specs.Option.{is_none, option_map, option_or}
 use Rattle.guard_model.specs.declared.site.Site.{Site}
 use Rattle.guard_model.specs.AbstractType.{AbstractType, AbstractKind}
 use Rattle.guard_der.specs.ProperConstraints.{type_of_size, element_of}
 use Rattle.guard_syntax.specs.Trees as written
 use Rattle.guard_syntax.specs.Trees.{WrittenValue, WrittenEnd, WrittenRange, WrittenSet, WrittenSetForm, WrittenUnited, WrittenIntersection, WrittenMet, WrittenDifference, WrittenElement, WrittenElementForm, WrittenConstraint, WrittenParts, set_node, all_except, union, none_united, united, intersection, none_met, met, element_alone, element_except, element_node, constraint, no_parts, part, part_in}
+use Rattle.guard_values.specs.declared.fault.ValueFault.TheVariants as value_fault_of
 use Rattle.guard_values.specs.Meanings.{Meaning, kind_of}
 use Rattle.guard_values.specs.Reading.{read_whole}
 use Rattle.guard_constraints.specs.declared.fault.ConsFault.{ConsFault}
@@ -14,7 +15,7 @@ use Rattle.guard_constraints.specs.declared.fault.ConsFault.TheVariants as fault
 use Rattle.guard_constraints.specs.Visible.{Visible, has_base_of}
 use Rattle.guard_constraints.specs.Applies.{applies}
 use Rattle.guard_constraints.specs.RangeEnds.{has_proper_ends, value_of_end}
-use Rattle.guard_constraints.specs.PermittedAlphabets.{SitedText, CodeEnd, open_end, character, AlphabetItem, all_of, between, items_of, value_of_text}
+use Rattle.guard_constraints.specs.PermittedAlphabets.{AlphabetItem, items_of, first_bad}
 use Rattle.guard_constraints.specs.ListedParts.{Placed, heads, named_in}
 use Rattle.guard_constraints.specs.PartFaults.{part_fault}
 
@@ -53,25 +54,13 @@ abbrev pub end_fault : Meaning → AbstractType → Option WrittenEnd → Option
 end_fault m t None = None
 end_fault m t (Some e) = value_fault m t (value_of_end e)
 
-abbrev pub text_fault : Meaning → AbstractType → SitedText → Option ConsFault
-text_fault m t s = value_fault m t (value_of_text s)
+-- V6, at the first string inside FROM with a character outside the alphabet
+abbrev pub characters_fault : Site → ConsFault
+characters_fault site = fault.Value (value_fault_of.BadCharacter site)
 
-abbrev pub code_fault : Meaning → AbstractType → CodeEnd → Option ConsFault
-code_fault m t open_end = None
-code_fault m t (character s) = text_fault m t s
-
-abbrev pub item_fault : Meaning → AbstractType → AlphabetItem → Option ConsFault
-item_fault m t (all_of s) = text_fault m t s
-item_fault m t (between low high) = option_or (code_fault m t low) (code_fault m t high)
-
--- the first of the items in written order
-abbrev pub items_fault : Meaning → AbstractType → List AlphabetItem → Option ConsFault
-items_fault m t [] = None
-items_fault m t (i ∷ others) = option_or (item_fault m t i) (items_fault m t others)
-
-abbrev pub perhaps_items_fault : Meaning → AbstractType → Option (List AlphabetItem) → Option ConsFault
-perhaps_items_fault m t None = None
-perhaps_items_fault m t (Some items) = items_fault m t items
+abbrev pub items_fault : AbstractKind → Option (List AlphabetItem) → Option ConsFault
+items_fault kind None = None
+items_fault kind (Some items) = option_map characters_fault (first_bad kind items)
 
 -- ---- the first fault
 
@@ -119,7 +108,7 @@ abbrev mutual
   fault_inside names t (written.contained includes name_site name) = None
   fault_inside names t (written.range r) = option_or (end_fault names.values t r.low) (end_fault names.values t r.high)
   fault_inside names t (written.size inner) = fault_of names type_of_size inner
-  fault_inside names t (written.from (constraint site set)) = perhaps_items_fault names.values t (items_of set)
+  fault_inside names t (written.from (constraint site set)) = items_fault (kind_of t) (items_of set)
   fault_inside names t (written.with_component inner) = fault_on (λ u. fault_of names u inner) (element_of (kind_of t))
   fault_inside names t (written.with_components partial ps) = fault_of_parts names (kind_of t) ps
 

@@ -1,5 +1,5 @@
 -- What the code reads, step by step: a constraint, or the first fault.
-use Rattle.std.specs.Prelude.{◌≡◌, ℕ, ℤ, Bool, true, false, List, [], ◌∷◌, ◌++◌, map, Option, Some, None, Result, Ok, Err, if◌then◌else◌}
+use Rattle.std.specs.Prelude.{ℕ, ℤ, Bool, List, ◌++◌, Option, Some, None, Result, Ok, Err, if◌then◌else◌}
 use Rattle.std.specs.Option.{option_map}
 use Rattle.guard_model.specs.Answer.{◌>>=◌}
 use Rattle.guard_model.specs.declared.site.Site.{Site}
@@ -21,10 +21,11 @@ use Rattle.guard_constraints.specs.declared.fault.ConsFault.{ConsFault}
 use Rattle.guard_constraints.specs.declared.fault.ConsFault.TheVariants.{NotApplicable, ExclusiveLimit, AlphabetForm, UnknownComponent, ContainedMismatch, Value}
 use Rattle.guard_constraints.specs.Visible.{Visible, has_base_of}
 use Rattle.guard_constraints.specs.RangeEnds.{has_proper_ends, value_of_end, limit_at}
-use Rattle.guard_constraints.specs.PermittedAlphabets.{SitedText, CodeEnd, open_end, character, AlphabetItem, all_of, between, items_of, value_of_text, least_code, greatest_code, alone}
+use Rattle.guard_constraints.specs.PermittedAlphabets.{AlphabetItem, items_of, first_bad, ranges_of}
 use Rattle.guard_constraints.specs.ListedParts.{Placed, heads, word_of, named_in}
 use Rattle.guard_constraints.specs.PartFaults.{part_fault}
 use Rattle.guard_constraints.specs.Denotes.{joined}
+use Rattle.guard_constraints.specs.Faults.{characters_fault}
 
 abbrev pub Read : Type 0 → Type 0
 Read A = Result A ConsFault
@@ -70,39 +71,15 @@ read_range m t site r =
 
 -- ---- permitted alphabets
 
--- a value of a character string has characters
-abbrev pub characters_in : Site → AbstractValue → Read (List ℕ)
-characters_in site (value.characters codes) = Ok codes
-characters_in site _ = Err (Value (WrongNotation site))
-
-abbrev pub read_text : Meaning → AbstractType → SitedText → Read (List ℕ)
-read_text m t s = read_value m t (value_of_text s) >>= λ v. characters_in s.site v
-
-abbrev pub first_in : Site → List ℕ → Read ℕ
-first_in site [] = Err (Value (WrongNotation site))
-first_in site (c ∷ cs) = Ok c
-
-abbrev pub read_code : Meaning → AbstractType → ℕ → CodeEnd → Read ℕ
-read_code m t free open_end = Ok free
-read_code m t free (character s) = read_text m t s >>= λ codes. first_in s.site codes
-
-abbrev pub read_item : Meaning → AbstractType → AlphabetItem → Read (List (ℕ × ℕ))
-read_item m t (all_of s) = read_text m t s >>= λ codes. Ok (map alone codes)
-read_item m t (between low high) = read_code m t least_code low >>= λ first. read_code m t greatest_code high >>= λ last. Ok ((first, last) ∷ [])
-
-unfoldable pub read_items : Meaning → AbstractType → List AlphabetItem → Read (List (ℕ × ℕ))
-read_items m t [] = Ok []
-read_items m t (i ∷ others) = read_item m t i >>= λ first. read_items m t others >>= λ more. Ok (first ++ more)
-
 -- the items behind those before them, where they have the form
 abbrev pub gathered : Site → List AlphabetItem → Option (List AlphabetItem) → Read (List AlphabetItem)
 gathered site before None = Err (AlphabetForm site)
 gathered site before (Some items) = Ok (before ++ items)
 
-abbrev pub read_alphabet : Meaning → AbstractType → Site → WrittenConstraint → Read Constraint
-read_alphabet m t site (constraint inner set) =
+abbrev pub read_alphabet : AbstractType → Site → WrittenConstraint → Read Constraint
+read_alphabet t site (constraint inner set) =
     demanded (is_string (kind_of t)) (NotApplicable site) >>= λ _. found (AlphabetForm site) (items_of set)
-    >>= λ items. read_items m t items >>= λ ranges. Ok (at site (type.permitted_alphabet ranges))
+    >>= λ items. unless_fault (option_map characters_fault (first_bad (kind_of t) items)) >>= λ _. Ok (at site (type.permitted_alphabet (ranges_of items)))
 
 -- ---- contained types
 
@@ -161,7 +138,7 @@ unfoldable mutual
   read_element_form names t site (written.contained includes name_site name) = read_contained t site (names.types name)
   read_element_form names t site (written.range r) = read_range names.values t site r
   read_element_form names t site (written.size inner) = read_size t site (λ u. read names u inner)
-  read_element_form names t site (written.from inner) = read_alphabet names.values t site inner
+  read_element_form names t site (written.from inner) = read_alphabet t site inner
   read_element_form names t site (written.with_component inner) = read_each t site (λ u. read names u inner)
   read_element_form names t site (written.with_components partial ps) = read_listed t site partial ps (λ kind. read_parts names kind ps)
 

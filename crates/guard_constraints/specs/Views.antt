@@ -1,5 +1,5 @@
 -- What the code's results and arguments stand for.
-use Rattle.std.specs.Prelude.{ℕ, List, [], ◌∷◌, Option, Some, None, if◌then◌else◌, bytes_eq, slice_get}
+use Rattle.std.specs.Prelude.{ℕ, List, [], ◌∷◌, Option, Some, None, if◌then◌else◌, bytes_eq, chars, slice_get, string_bytes}
 use Rattle.std.specs.Option.{option_map}
 use Rattle.std.specs.Borrow.{Bor}
 use Rattle.guard_model.specs.AbstractType.{AbstractType}
@@ -15,13 +15,12 @@ use Rattle.guard_values.specs.declared.scope.VisibleName.{VisibleName}
 use Rattle.guard_values.specs.Views.{meaning_of}
 use Rattle.guard_constraints.specs.declared.fault.ConsFault.{ConsFault}
 use Rattle.guard_constraints.specs.declared.fault.ConsFault.TheVariants as fault
-use Rattle.guard_constraints.specs.declared.alphabets.WrittenText.{WrittenText}
-use Rattle.guard_constraints.specs.declared.alphabets.WrittenCode.{WrittenCode}
-use Rattle.guard_constraints.specs.declared.alphabets.WrittenCode.TheVariants as code
+use Rattle.guard_constraints.specs.declared.alphabets.End.{End}
+use Rattle.guard_constraints.specs.declared.alphabets.End.TheVariants as code
 use Rattle.guard_constraints.specs.declared.alphabets.Item.{Item}
 use Rattle.guard_constraints.specs.declared.alphabets.Item.TheVariants as item
 use Rattle.guard_constraints.specs.Visible.{Visible}
-use Rattle.guard_constraints.specs.PermittedAlphabets.{SitedText, CodeEnd, open_end, character, AlphabetItem, all_of, between}
+use Rattle.guard_constraints.specs.PermittedAlphabets.{CodeEnd, open_end, character, AlphabetItem, all_of, between}
 use Rattle.guard_constraints.specs.ListedParts.{PartHead, head_of, Placed}
 
 -- ---- faults
@@ -51,15 +50,12 @@ visible_in scope = record { values = meaning_of scope; types = type_among scope.
 
 -- ---- what stands inside FROM
 
-abbrev pub text_view : WrittenText → SitedText
-text_view s = record { site = s.site; spelling = s.spelling.now }
-
-abbrev pub code_view : WrittenCode → CodeEnd
+abbrev pub code_view : End → CodeEnd
 code_view code.Open = open_end
-code_view (code.Character s) = character (text_view s)
+code_view (code.Character site c) = character site c
 
 abbrev pub item_view : Item → AlphabetItem
-item_view (item.All s) = all_of (text_view s)
+item_view (item.All site text) = all_of (record { site = site; codes = chars (string_bytes text) })
 item_view (item.Between low high) = between (code_view low) (code_view high)
 
 -- ---- parts of WITH COMPONENTS

@@ -3,7 +3,7 @@ ghost use Rattle.std.specs.Prelude.{◌≡◌, IfOk, map, option_map};
 ghost use Rattle.guard_model.specs.Components.{components_in};
 ghost use Rattle.guard_model.specs.TypeView.{type_view, kind_view, component_view, components_of};
 ghost use Rattle.guard_tagcheck.specs.Limits.{is_choice};
-ghost use Rattle.guard_der.specs.ProperConstraints.{is_integer, has_size, type_of_size, is_string, element_of, has_parts};
+ghost use Rattle.guard_der.specs.ProperConstraints.{is_integer, has_size, type_of_size, element_of, has_parts};
 
 use guard_model::{Class, Comp, Kind, OutOfMemory, Tag, Ty};
 use std::alloc::Global;
@@ -30,16 +30,6 @@ pub fn has_size(kind: &Kind) -> bool
         Kind::Chars(_) => true,
         Kind::SequenceOf(_) => true,
         Kind::SetOf(_) => true,
-        _ => false,
-    }
-}
-
-/// FROM applies to strings of characters (51.7).
-pub fn is_string(kind: &Kind) -> bool
-    ensures { result ≡ is_string (kind_view kind.now) }
-{
-    match kind {
-        Kind::Chars(_) => true,
         _ => false,
     }
 }

@@ -241,7 +241,7 @@ fn element(alloc: Global, scope: Scope, ty: &Ty, tree: &ElementTree) -> Result<C
         ElementForm::Contained(_, name) => contained(alloc, scope, ty, site, name.name),
         ElementForm::Range(tree) => range(alloc, scope, ty, site, tree),
         ElementForm::Size(inner) => size(alloc, scope, ty, site, inner),
-        ElementForm::From(inner) => alphabet(alloc, scope, ty, site, inner),
+        ElementForm::From(inner) => alphabet(alloc, ty, site, inner),
         ElementForm::WithComponent(inner) => each(alloc, scope, ty, site, inner),
         ElementForm::WithComponents(partial, listed) => {
             parts(alloc, scope, ty, site, *partial, listed)

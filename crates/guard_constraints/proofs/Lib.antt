@@ -3,3 +3,9 @@ mod Gaps
 mod Overlaps
 mod Sets
 mod Searching
+-- ---- constraint trees: what is read is what is denoted, and its fault the first
+mod SoundParts
+mod Agreement
+mod Elements
+mod Inner
+mod Trees

@@ -1,6 +1,6 @@
 //! Permitted alphabets (X.680 51.7). What stands inside FROM is first taken apart into strings and ranges, which says whether it
 //! has the form that this profile takes; then their characters are looked at.
-ghost use Rattle.std.specs.Prelude.{◌≡◌, [], ◌∷◌, ◌++◌, map, chars, IfOk, Ok, option_map, string_bytes};
+ghost use Rattle.std.specs.Prelude.{◌≡◌, [], ◌++◌, map, chars, IfOk, Some, option_map, string_bytes};
 ghost use Rattle.guard_model.specs.AbstractType as abstract;
 ghost use Rattle.guard_model.specs.Answer.{Gives};
 ghost use Rattle.guard_model.specs.TypeView.{type_view, constraint_view};

@@ -1,23 +1,24 @@
 -- Worked examples of constraint trees: which elements apply, the first fault, and what is read. That the definition says what is
 -- read is a law.
-use Rattle.std.specs.Prelude.{◌≡◌, ℕ, ◌+◌, true, false, List, [], ◌∷◌, codes, Option, Some, None, refl}
+use Rattle.std.specs.Prelude.{◌≡◌, ℕ, ◌+◌, true, false, List, [], ◌∷◌, codes, Option, Some, None, Result, Ok, refl}
 use Rattle.guard_model.specs.declared.site.Site.{Site}
 use Rattle.guard_model.specs.declared.ty.CharKind.TheVariants.{Ia5}
 use Rattle.guard_model.specs.declared.tag.Class.TheVariants.{Universal}
 use Rattle.guard_model.specs.AbstractType as type
-use Rattle.guard_model.specs.AbstractType.{AbstractType, AbstractKind, AbstractPresence, Components, type_of, no_components, component}
+use Rattle.guard_model.specs.AbstractType.{AbstractType, AbstractKind, AbstractPresence, Components, Constraint, Constraints, at, type_of, no_components, component}
 use Rattle.guard_syntax.specs.declared.tree.JoinMark.TheVariants.{Sign}
 use Rattle.guard_syntax.specs.declared.tree.PresenceWord.{PresenceWord}
 use Rattle.guard_syntax.specs.declared.tree.PresenceWord.TheVariants as says
 use Rattle.guard_syntax.specs.declared.tree.StringKind.TheVariants as string
 use Rattle.guard_syntax.specs.Trees as written
-use Rattle.guard_syntax.specs.Trees.{WrittenSet, WrittenElementForm, WrittenConstraint, WrittenParts, value_node, set_node, all_except, union, none_united, intersection, none_met, element_alone, element_node, constraint, no_parts, part}
+use Rattle.guard_syntax.specs.Trees.{WrittenSet, WrittenDifference, WrittenElementForm, WrittenConstraint, WrittenParts, value_node, set_node, all_except, union, none_united, united, intersection, none_met, met, element_alone, element_node, constraint, no_parts, part}
 use Rattle.guard_constraints.specs.declared.fault.ConsFault.TheVariants as fault
 use Rattle.guard_constraints.specs.Visible.{Visible}
 use Rattle.guard_constraints.specs.PermittedAlphabets.{items_of, items_of_form}
 use Rattle.guard_constraints.specs.ListedParts.{heads}
 use Rattle.guard_constraints.specs.PartFaults.{part_fault}
-use Rattle.guard_constraints.specs.Faults.{own_fault}
+use Rattle.guard_constraints.specs.Faults.{own_fault, fault_of}
+use Rattle.guard_constraints.specs.Reading.{read, read_set, read_set_form, read_united, read_intersection, read_met, read_difference, read_element, read_element_form}
 
 -- ---- notation
 
@@ -115,3 +116,47 @@ both_present = refl
 -- over a CHOICE, { a PRESENT, b ABSENT } has no fault
 one_present : part_fault a_or_b (heads (part_at 30 (codes "a") (Some says.Present) (part_at 41 (codes "b") (Some says.Absent) no_parts))) ≡ None
 one_present = refl
+
+-- ---- what is joined, and with which sites
+
+-- the type that every upper-case name stands for
+abbrev level : AbstractType
+level = tagged 2 (type.integer [])
+
+abbrev levels : Visible
+levels = record { values = λ name. None; types = λ name. Some level }
+
+abbrev level_at : ℕ → WrittenDifference
+level_at n = element_alone (column n) (element_node (column n) (written.contained false (column n) (codes "L")))
+
+abbrev is_level : ℕ → Constraint
+is_level n = at (column n) (type.contained_subtype level)
+
+abbrev both : Constraint → Constraint → Constraints
+both c d = type.constraint c (type.constraint d type.no_constraints)
+
+-- INTEGER (L | L ^ L): the intersection is one operand of the union
+abbrev united_levels : WrittenConstraint
+united_levels =
+    constraint (column 15) (set_node (column 16) (union (intersection (column 16) (level_at 16) none_met)
+    (united Sign (intersection (column 20) (level_at 20) (met Sign (level_at 24) none_met)) none_united)))
+
+intersection_first : read levels level united_levels ≡ Ok (at (column 16) (type.union (both (is_level 16) (at (column 20) (type.intersection (both (is_level 20) (is_level 24)))))))
+unfolding read read_set read_set_form read_united read_intersection read_met read_difference read_element read_element_form
+intersection_first = refl
+
+-- INTEGER ((L | L) ^ L): the intersection is at the parenthesis that it begins with, the union inside at its own first token
+abbrev met_levels : WrittenConstraint
+met_levels =
+    constraint (column 15) (set_node (column 16) (union (intersection (column 16)
+    (element_alone (column 16) (element_node (column 16) (written.parentheses (set_node (column 17) (union (intersection (column 17) (level_at 17) none_met)
+    (united Sign (intersection (column 21) (level_at 21) none_met) none_united))))))
+    (met Sign (level_at 26) none_met)) none_united))
+
+parenthesis_first : read levels level met_levels ≡ Ok (at (column 16) (type.intersection (both (at (column 17) (type.union (both (is_level 17) (is_level 21)))) (is_level 26))))
+unfolding read read_set read_set_form read_united read_intersection read_met read_difference read_element read_element_form
+parenthesis_first = refl
+
+-- the same on BOOLEAN: C8 at the first
+other_base : fault_of levels (tagged 1 type.boolean) met_levels ≡ Some (fault.ContainedMismatch (column 17))
+other_base = refl

@@ -9,3 +9,4 @@ mod Agreement
 mod Elements
 mod Inner
 mod Trees
+mod Said

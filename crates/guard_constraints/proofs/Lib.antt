@@ -10,3 +10,4 @@ mod Elements
 mod Inner
 mod Trees
 mod Said
+mod OneConstraint

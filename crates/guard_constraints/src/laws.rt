@@ -1,8 +1,11 @@
 //! Laws of constraint trees, over the definitions alone. Each is carried by a function that does nothing when it runs.
-ghost use Rattle.std.specs.Prelude.{◌≡◌, None};
+ghost use Rattle.std.specs.Prelude.{◌≡◌, None, IsTrue};
 ghost use Rattle.guard_model.specs.AbstractType.{Constraint};
 ghost use Rattle.guard_model.specs.TypeView.{type_view};
+ghost use Rattle.guard_der.specs.Sound.{is_sound};
 ghost use Rattle.guard_syntax.specs.SetViews as views;
+ghost use Rattle.guard_values.specs.Meanings.{AreFitting};
+ghost use Rattle.guard_values.specs.Views.{meaning_of};
 ghost use Rattle.guard_constraints.specs.Denotes.{Denotes};
 ghost use Rattle.guard_constraints.specs.Faults.{fault_of};
 ghost use Rattle.guard_constraints.specs.Views.{visible_in};
@@ -11,8 +14,14 @@ use guard_model::Ty;
 use guard_syntax::ConsTree;
 use guard_values::Scope;
 
-/// A tree denotes one constraint at most, and none where it has a fault.
+/// A tree denotes one constraint at most.
 pub fn law_one_constraint(scope: &Scope, ty: &Ty, tree: &ConsTree)
-    ensures one { (c d : Constraint) → Denotes (visible_in scope.now) (type_view ty.now) (views.constraint_view tree.now) c → Denotes (visible_in scope.now) (type_view ty.now) (views.constraint_view tree.now) d → c ≡ d }
-    ensures faultless { (c : Constraint) → Denotes (visible_in scope.now) (type_view ty.now) (views.constraint_view tree.now) c → fault_of (visible_in scope.now) (type_view ty.now) (views.constraint_view tree.now) ≡ None }
+    ensures { (c d : Constraint) → Denotes (visible_in scope.now) (type_view ty.now) (views.constraint_view tree.now) c → Denotes (visible_in scope.now) (type_view ty.now) (views.constraint_view tree.now) d → c ≡ d }
+{}
+
+/// A tree that denotes a constraint on a sound type has no fault.
+pub fn law_no_fault(scope: &Scope, ty: &Ty, tree: &ConsTree)
+    requires sound { IsTrue (is_sound (type_view ty.now)) }
+    requires fitting { AreFitting (meaning_of scope.now) }
+    ensures { (c : Constraint) → Denotes (visible_in scope.now) (type_view ty.now) (views.constraint_view tree.now) c → fault_of (visible_in scope.now) (type_view ty.now) (views.constraint_view tree.now) ≡ None }
 {}

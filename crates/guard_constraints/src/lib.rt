@@ -3,7 +3,7 @@
 //!
 //! | question | file |
 //! |---|---|
-//! | what does `constraint` promise | `written.rt`, `specs/Denotes.antt`, `specs/Faults.antt`; that a tree denotes one constraint at most: `laws.rt` |
+//! | what does `constraint` promise | `written.rt`, `specs/Denotes.antt`, `specs/Faults.antt`; that a tree denotes one constraint at most, and then has no fault: `laws.rt` |
 //! | which element applies to which kind | `specs/Applies.antt`, `kinds.rt` |
 //! | what is a fault, and how does it print | `fault.rt`; which one comes first: `specs/Faults.antt`, in WITH COMPONENTS `specs/PartFaults.antt` |
 //! | how are ends of ranges read | `range_ends.rt`, `specs/RangeEnds.antt` |

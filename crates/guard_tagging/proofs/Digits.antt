@@ -1,5 +1,5 @@
 -- Numbers as their digits are read.
-use Rattle.std.proofs.Common.{◌≡◌, ℕ, suc, ◌+◌, ◌-◌, ◌*◌, ◌<◌, ◌≤◌, List, [], ◌∷◌, length, get_or, drop, refl, sym, ap, ◌∙◌, arith, ◌⊎◌, inl, inr}
+use Rattle.std.proofs.Common.{◌≡◌, ℕ, suc, ◌+◌, ◌-◌, ◌*◌, ◌<◌, ◌≤◌, List, [], ◌∷◌, length, get_or, drop, refl, sym, ap, add-one, ◌∙◌, arith, ◌⊎◌, inl, inr}
 use Rattle.std.specs.Prelude.{fold, min}
 use Rattle.std.proofs.Math.Seq.{drop-cons}
 use Rattle.std.proofs.lemmas.List.{drop_all}
@@ -31,11 +31,12 @@ capped : (ds : List ℕ) (n top : ℕ) → min (fold with_digit (min n top) ds) 
 capped ds n top = by_order ds n top (cases_lt n top)
 
 pub one_more : (ds : List ℕ) (i n m total top : ℕ) → i < length ds → min (fold with_digit n (drop i ds)) top ≡ total → m ≡ min (with_digit n (get_or ds i 0)) top
-    → min (fold with_digit m (drop (suc i) ds)) top ≡ total
+    → min (fold with_digit m (drop (i + 1) ds)) top ≡ total
 one_more ds i n m total top lt e is =
     let d = get_or ds i 0 in
     let more : min (fold with_digit (with_digit n d) (drop (suc i) ds)) top ≡ total = ap (λ (xs : List ℕ). min (fold with_digit n xs) top) (sym (drop-cons ds i 0 lt)) ∙ e in
-    ap (λ (k : ℕ). min (fold with_digit k (drop (suc i) ds)) top) is ∙ capped (drop (suc i) ds) (with_digit n d) top ∙ more
+    rw add-one
+    (ap (λ (k : ℕ). min (fold with_digit k (drop (suc i) ds)) top) is ∙ capped (drop (suc i) ds) (with_digit n d) top ∙ more)
 
 pub all_read : (ds : List ℕ) (i n total top : ℕ) → length ds ≤ i → n ≤ top → min (fold with_digit n (drop i ds)) top ≡ total → n ≡ total
 all_read ds i n total top le small e =

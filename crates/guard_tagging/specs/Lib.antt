@@ -5,3 +5,12 @@ pub mod Tagging
 pub mod Enumerations
 pub mod Types
 pub mod Faults
+-- the refusals that name a fault, and what the code reads step by step
+pub mod Named
+pub mod ReadTags
+pub mod ReadNames
+pub mod Views
+pub mod ReadItems
+pub mod ScopeView
+pub mod ReadNodes
+pub mod NodeViews

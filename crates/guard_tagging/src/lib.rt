@@ -3,6 +3,14 @@
 
 mod fault;
 mod kinds;
+mod made;
+mod measure;
+mod names;
+mod node;
 mod number;
+mod numbering;
+mod scope;
+mod tags;
 
 pub use fault::TagFault;
+pub use scope::{Known, Scope};

@@ -4,16 +4,17 @@ use Rattle.std.specs.Prelude.{ℤ, pos}
 use Rattle.std.specs.List.{list_any}
 use Rattle.std.specs.Ordering.{int_eq}
 use Rattle.std.proofs.lemmas.Bool.Decides.{same_from_decides, Decides-like, Decides-int_eq}
-use Rattle.std.proofs.lemmas.List.{at_drop_more, at_drop_all}
+use Rattle.std.proofs.lemmas.List.{at_drop_more, at_drop_all, length-map}
 use Rattle.std.proofs.lemmas.List.Folds.{list_any_more}
 use Rattle.guard_model.specs.Answer.{◌>>=◌, Refuses}
 use Rattle.guard_model.specs.AbstractType.{NamedNumber}
-use Rattle.guard_syntax.specs.Trees.{WrittenItem}
+use Rattle.guard_model.specs.declared.site.Site.{Site}
+use Rattle.guard_syntax.specs.Trees.{WrittenItem, WrittenNumber}
 use Rattle.guard_syntax.specs.TypeViews.{item_view}
 use Rattle.guard_syntax.specs.declared.tree.ItemTree.{ItemTree}
 use Rattle.guard_tagging.specs.declared.fault.TagFault.{TagFault}
 use Rattle.guard_tagging.specs.Enumerations.{free_from}
-use Rattle.guard_tagging.specs.ReadItems.{read_own, option_list, read_written, read_item, read_numbered}
+use Rattle.guard_tagging.specs.ReadItems.{read_own, option_list, read_written, numbered_name, read_number, read_item, read_numbered, read_items}
 
 module _ (front : List ℤ) (items : List ItemTree) (i : ℕ) (total : Result (List ℤ) TagFault)
     (so_far : read_written front (map item_view (drop i items)) ≡ total) where
@@ -89,11 +90,14 @@ found_free taken tries n total e so_far = sym (free_now taken tries n e) ∙ so_
 free_next : (taken : List ℤ) (tries n : ℕ) → list_any (int_eq (pos n)) taken ≡ true → free_from taken (suc tries) n ≡ free_from taken tries (suc n)
 free_next taken tries n e = rw (e, free_from) refl
 
+plus_one : (n : ℕ) → suc n ≡ n + 1
+plus_one n = omega arith
+
 pub next_free : (taken : List ℤ) (tries i n total : ℕ) → i < tries → list_any (int_eq (pos n)) taken ≡ true → free_from taken (tries - i) n ≡ total → free_from taken (tries - (i + 1)) (n + 1) ≡ total
 next_free taken tries i n total lt e so_far =
     let k : tries - i ≡ suc (tries - (i + 1)) = omega arith in
     let m : free_from taken (suc (tries - (i + 1))) n ≡ total = subst (λ (t : ℕ). free_from taken t n ≡ total) k so_far in
-    ap (free_from taken (tries - (i + 1))) (add-one {n}) ∙ sym (free_next taken (tries - (i + 1)) n e) ∙ m
+    subst (λ (k : ℕ). free_from taken (tries - (i + 1)) k ≡ total) (plus_one n) (sym (free_next taken (tries - (i + 1)) n e) ∙ m)
 
 -- ---- numbering depends on which numbers are taken, in whatever order
 
@@ -102,12 +106,30 @@ SameTaken a b = (q : ℤ) → list_any (int_eq q) a ≡ list_any (int_eq q) b
 
 same_free : (a b : List ℤ) → SameTaken a b → (tries n : ℕ) → free_from a tries n ≡ free_from b tries n
 same_free a b h zero n = refl
-same_free a b h (suc tries) n = rw (free_from, h (pos n), same_free a b h tries (suc n)) refl
+same_free a b h (suc tries) n = λ i. elim (h (pos n) i) [ true ↦ same_free a b h tries (suc n) i | false ↦ n ]
+
+same_number_read : (a b : List ℤ) → SameTaken a b → (tries next : ℕ) (site : Site) (n : Option WrittenNumber) → read_number a tries next site n ≡ read_number b tries next site n
+same_number_read a b h tries next site None = ap (λ (free : ℕ). Ok (pos free, suc free)) (same_free a b h tries next)
+same_number_read a b h tries next site (Some n) = refl
 
 same_item : (a b : List ℤ) → SameTaken a b → (tries next : ℕ) (i : WrittenItem) → read_item a tries next i ≡ read_item b tries next i
-same_item a b h tries next i = ?
+same_item a b h tries next i = ap (λ (r : Result (ℤ × ℕ) TagFault). r >>= λ one. Ok (numbered_name i.name one.0, one.1)) (same_number_read a b h tries next i.site i.number)
 
-pub same_numbered : (a b : List ℤ) → SameTaken a b → (tries next : ℕ) (front : List NamedNumber) (items : List WrittenItem) → read_numbered a tries next front items ≡ read_numbered b tries next front items
+same_then : {A B F : Type 0} (r : Result A F) (f g : A → Result B F) → ((x : A) → f x ≡ g x) → (r >>= f) ≡ (r >>= g)
+same_then (Ok x) f g h = h x
+same_then (Err e) f g h = refl
+
+same_numbered : (a b : List ℤ) → SameTaken a b → (tries next : ℕ) (front : List NamedNumber) (items : List WrittenItem) → read_numbered a tries next front items ≡ read_numbered b tries next front items
 unfolding read_numbered
 same_numbered a b h tries next front [] = refl
-same_numbered a b h tries next front (i ∷ items) = ?
+same_numbered a b h tries next front (i ∷ items) =
+    ap (λ (r : Result (NamedNumber × ℕ) TagFault). r >>= λ one. read_numbered a tries one.1 (front ++ one.0 ∷ []) items) (same_item a b h tries next i)
+    ∙ same_then (read_item b tries next i) _ _ (λ one. same_numbered a b h tries one.1 (front ++ one.0 ∷ []) items)
+
+pub items_read : (trees : List ItemTree) (keys written : List ℤ) → read_written [] (map item_view trees) ≡ Ok written → SameTaken keys written
+    → read_items (map item_view trees) ≡ read_numbered keys (length trees) 0 [] (map item_view trees)
+unfolding read_items
+items_read trees keys written e h =
+    ap (λ (r : Result (List ℤ) TagFault). r >>= λ taken. read_numbered taken (length (map item_view trees)) 0 [] (map item_view trees)) e
+    ∙ ap (λ (n : ℕ). read_numbered written n 0 [] (map item_view trees)) (length-map trees item_view)
+    ∙ sym (same_numbered keys written h (length trees) 0 [] (map item_view trees))

@@ -95,10 +95,13 @@ tag_too_large (w ∷ ws) = option_or (fault_where (nat_lt greatest_tag_number (n
 
 -- ---- COMPONENTS OF
 
+abbrev pub is_kind_of : Collection → AbstractKind → Bool
+is_kind_of collection.Sequence (type.sequence cs) = true
+is_kind_of collection.Set (type.set cs) = true
+is_kind_of collection kind = false
+
 abbrev pub is_of_kind : Collection → AbstractType → Bool
-is_of_kind collection.Sequence (type_of tags (type.sequence cs) cons) = true
-is_of_kind collection.Set (type_of tags (type.set cs) cons) = true
-is_of_kind kind t = false
+is_of_kind collection (type_of tags kind cons) = is_kind_of collection kind
 
 -- one universal tag, as a type has that isn't tagged
 abbrev pub is_plain_tag : List Tag → Bool
@@ -108,12 +111,15 @@ is_plain_tag _ = false
 abbrev pub is_tagged : AbstractType → Bool
 is_tagged (type_of tags kind cons) = not (is_plain_tag tags)
 
--- what is wrong with COMPONENTS OF this type in a list, tagged automatically or not
+-- what is wrong with COMPONENTS OF this type, where its own list or the one that it takes in is tagged automatically or not
+abbrev pub taken_fault : Collection → Bool → Site → AbstractType → Option TagFault
+taken_fault kind automatic site t =
+    first_of (fault_where (not (is_of_kind kind t)) (ComponentsOfKind site)
+    ∷ fault_where automatic (ComponentsOfAutomatic site)
+    ∷ fault_where (is_tagged t) (ComponentsOfTagged site) ∷ [])
+
 abbrev pub entry_fault : Collection → Bool → Surroundings → Site → WrittenType → Option TagFault
-entry_fault kind automatic around site t =
-    first_of (fault_where (not (is_of_kind kind (denoted around t))) (ComponentsOfKind site)
-    ∷ fault_where (automatic || is_automatic around t) (ComponentsOfAutomatic site)
-    ∷ fault_where (is_tagged (denoted around t)) (ComponentsOfTagged site) ∷ [])
+entry_fault kind automatic around site t = taken_fault kind (automatic || is_automatic around t) site (denoted around t)
 
 -- ---- names and numbers
 

@@ -14,3 +14,8 @@ pub mod ReadItems
 pub mod ScopeView
 pub mod ReadNodes
 pub mod NodeViews
+pub mod ReadParts
+pub mod PartViews
+pub mod ReadBases
+pub mod ReadTypes
+pub mod Spelled

@@ -1,7 +1,7 @@
-//! A type as it is made: what is written before its base, and what is known of it once it keeps the limits.
-ghost use Rattle.std.specs.Prelude.{◌≤◌};
+//! A type as it is made: what is written before its base, its components so far, and what is known of it once it keeps the limits.
+ghost use Rattle.std.specs.Prelude.{◌≡◌, ◌≤◌, length};
 
-use guard_model::{Site, Tag, Ty};
+use guard_model::{Comp, Site, Tag, Ty};
 use guard_syntax::{TagDefault, TagTree};
 
 /// What is written of a type beside its base.
@@ -34,4 +34,17 @@ pub struct Made {
     /// The types up to it and with it, over all definitions.
     pub nodes: usize,
     ghost shallow: { nesting ≤ 32 },
+}
+
+/// Components so far.
+#[derive(Drop)]
+pub struct Parts {
+    /// Where each stands: its name, or the word COMPONENTS that puts it in.
+    pub sites: Vec<Site>,
+    pub comps: Vec<Comp>,
+    /// The greatest nesting of one.
+    pub deepest: usize,
+    /// The types up to their end, over all definitions.
+    pub nodes: usize,
+    ghost paired: { length sites.items ≡ length comps.items },
 }

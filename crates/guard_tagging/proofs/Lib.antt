@@ -9,3 +9,4 @@ pub mod WrittenTags
 pub mod WalkLoops
 pub mod Wholes
 pub mod WrittenNumbers
+pub mod Parts

@@ -34,7 +34,7 @@ near_is n h = let e : min (number_value n.digits) (2 ^ 128 - 1) ≡ number_value
 
 pub named_places_are : (ns : List WrittenNamed) → AreNamed ns → map reading.named_place ns ≡ map faults.named_place ns
 named_places_are [] h = refl
-named_places_are (n ∷ ns) h = λ i. record { site = n.site; name = n.name; number = Some (near_is n.number h.1.0 i) } ∷ named_places_are ns h.1.1 i
+named_places_are (n ∷ ns) h = λ i. record { site = n.site; name = n.name; number = Some (near_is n.number h.1 i) } ∷ named_places_are ns h.2 i
 
 near_or_none : (n : Option WrittenNumber) → IfSome n IsShort → option_map near_number n ≡ option_map number_of n
 near_or_none None h = refl
@@ -42,7 +42,7 @@ near_or_none (Some n) h = ap Some (near_is n h)
 
 pub item_places_are : (items : List WrittenItem) → AreItems items → map reading.item_place items ≡ map faults.item_place items
 item_places_are [] h = refl
-item_places_are (i ∷ items) h = λ j. record { site = i.site; name = i.name; number = near_or_none i.number h.1.0 j } ∷ item_places_are items h.1.1 j
+item_places_are (i ∷ items) h = λ j. record { site = i.site; name = i.name; number = near_or_none i.number h.1 j } ∷ item_places_are items h.2 j
 
 -- ---- named numbers
 
@@ -57,7 +57,7 @@ pub named_read : (ns : List WrittenNamed) → AreNamed ns → each read_named ns
 unfolding each
 named_read [] h = refl
 named_read (n ∷ ns) h =
-    one_named (is_number (number_of n.number)) (number_of n.number) n.site n.name (number_too_large (map faults.named_place ns)) (each read_named ns) (map named_number ns) (named_read ns h.1.1)
+    one_named (is_number (number_of n.number)) (number_of n.number) n.site n.name (number_too_large (map faults.named_place ns)) (each read_named ns) (map named_number ns) (named_read ns h.2)
     ∙ ap (λ (name : List ℕ). unless (number_too_large (map faults.named_place (n ∷ ns))) (record { name = name; number = number_of n.number } ∷ map named_number ns)) (text_is n.name h.0)
 
 -- ---- items
@@ -68,8 +68,9 @@ one_written false z site front rest next all e = refl
 one_written true z site front rest next all e = e
 
 mutual
-  pub written_read : (front : List ℤ) (items : List WrittenItem) → read_written front items ≡ unless (number_too_large (map faults.item_place items)) (front ++ written_numbers items)
   unfolding read_written
+
+  pub written_read : (front : List ℤ) (items : List WrittenItem) → read_written front items ≡ unless (number_too_large (map faults.item_place items)) (front ++ written_numbers items)
   written_read front [] = ap Ok (sym (append-nil front))
   written_read front (i ∷ items) = written_by i.site i.name i.number front items
 
@@ -91,11 +92,12 @@ fits_here : (n : WrittenNumber) (site : Site) (rest : Option TagFault) → optio
 fits_here n site rest h = fits_by (is_number (number_of n)) (number_of n) site rest h
 
 mutual
+  unfolding read_numbered
+
   pub numbers_given : (written : List ℤ) (tries next : ℕ) (front : List NamedNumber) (items : List WrittenItem) → AreItems items → number_too_large (map faults.item_place items) ≡ None
       → read_numbered written tries next front items ≡ Ok (front ++ numbered_from written tries next items)
-  unfolding read_numbered
   numbers_given written tries next front [] h e = ap Ok (sym (append-nil front))
-  numbers_given written tries next front (i ∷ items) h e = given_by written tries next front i.site i.name i.number items h.0 h.1.1 e
+  numbers_given written tries next front (i ∷ items) h e = given_by written tries next front i.site i.name i.number items h.0 h.2 e
 
   given_by : (written : List ℤ) (tries next : ℕ) (front : List NamedNumber) (site : Site) (name : List ℕ) (n : Option WrittenNumber) (items : List WrittenItem) → IsUtf8 name → AreItems items
       → option_or (fault_where (faults.is_too_large (option_map number_of n)) (NumberTooLarge site)) (number_too_large (map faults.item_place items)) ≡ None

@@ -45,23 +45,23 @@ pub fn plain_type(
 pub fn integer_type(
     alloc: Global,
     node: &Node,
-    named: &[NamedTree],
+    trees: &[NamedTree],
     before: usize,
 ) -> Result<Box<Made>, TagFault>
-    ensures { Gives (λ m. made_view m.value) named result (reading.integer_type (node_view node.now) (map written.named_view named.now) before) }
+    ensures { Gives (λ m. made_view m.value) named result (reading.integer_type (node_view node.now) (map written.named_view trees.now) before) }
 {
     let tags = tags_of(alloc, node, &[universal(2)], false)?;
-    check_named(alloc, named)?;
+    check_named(alloc, trees)?;
     let whole = whole_with(node, tags, 0, before)?;
-    let numbers = named_numbers(alloc, named)?;
+    let numbers = named_numbers(alloc, trees)?;
     Ok(new_type(alloc, whole, Kind::Int(numbers))?)
 }
 
 /// Named numbers must differ in their names and numbers (X.680 19.5, 19.6).
-fn check_named(alloc: Global, named: &[NamedTree]) -> Result<(), TagFault>
-    ensures { Gives (λ u. u) named result (reading.check_named (map written.named_view named.now)) }
+fn check_named(alloc: Global, trees: &[NamedTree]) -> Result<(), TagFault>
+    ensures { Gives (λ u. u) named result (reading.check_named (map written.named_view trees.now)) }
 {
-    let places = named_places(alloc, named)?;
+    let places = named_places(alloc, trees)?;
     match first_repeated(alloc, &places)? {
         Some(site) => Err(TagFault::DuplicateNumber(site)),
         None => Ok(()),
@@ -150,16 +150,27 @@ pub fn referred_type(
     known: Option<Known>,
     before: usize,
 ) -> Result<Box<Made>, TagFault>
-    ensures { Gives (λ m. made_view m.value) named result (reading.referred_type (node_view node.now) (option_map meaning_view known) before) }
+    ensures { Gives (λ m. made_view m.value) named result (reading.referred_type (node_view node.now) (option_map meaning_view known.entry) before) }
 {
     let Some(known) = known else {
         return Err(TagFault::UndefinedName(node.site));
     };
-    let tags = tags_of(alloc, node, &known.ty.tags, is_untagged_choice(known.ty))?;
-    let inside = nesting_inside(&known.ty.kind);
-    let nodes = nodes_inside(&known.ty.kind, before);
+    referred_to(alloc, node, known.ty, before)
+}
+
+fn referred_to(
+    alloc: Global,
+    node: &Node,
+    ty: &Ty,
+    before: usize,
+) -> Result<Box<Made>, TagFault>
+    ensures { Gives (λ m. made_view m.value) named result (reading.referred_to (node_view node.now) (model.type_view ty.now) before) }
+{
+    let tags = tags_of(alloc, node, &ty.tags, is_untagged_choice(ty))?;
+    let inside = nesting_inside(&ty.kind);
+    let nodes = nodes_inside(&ty.kind, before);
     let whole = whole_with(node, tags, inside, nodes)?;
-    copied(alloc, whole, known.ty)
+    copied(alloc, whole, ty)
 }
 
 fn copied(alloc: Global, whole: Whole, ty: &Ty) -> Result<Box<Made>, TagFault>

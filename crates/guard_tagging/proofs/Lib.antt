@@ -9,4 +9,5 @@ pub mod WrittenTags
 pub mod WalkLoops
 pub mod Wholes
 pub mod WrittenNumbers
-pub mod Parts
+pub mod TakenParts
+pub mod NodeKinds

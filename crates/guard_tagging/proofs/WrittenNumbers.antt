@@ -67,21 +67,20 @@ one_written : (fits : Bool) (z : ℤ) (site : Site) (front : List ℤ) (rest : O
 one_written false z site front rest next all e = refl
 one_written true z site front rest next all e = e
 
-mutual
-  unfolding read_written
+-- the first item, over the others
+written_by : (site : Site) (n : Option WrittenNumber) (front : List ℤ) (items : List WrittenItem)
+    → ((front : List ℤ) → read_written front items ≡ unless (number_too_large (map faults.item_place items)) (front ++ written_numbers items))
+    → (own_number site n >>= λ own. read_written (front ++ option_list own) items)
+    ≡ unless (option_or (fault_where (faults.is_too_large (option_map number_of n)) (NumberTooLarge site)) (number_too_large (map faults.item_place items))) (front ++ (written_number n ++ written_numbers items))
+written_by site None front items others = ap (λ (xs : List ℤ). read_written xs items) (append-nil front) ∙ others front
+written_by site (Some n) front items others =
+    one_written (is_number (number_of n)) (number_of n) site front (number_too_large (map faults.item_place items)) (λ xs. read_written xs items) (front ++ (number_of n ∷ written_numbers items))
+    (others (front ++ number_of n ∷ []) ∙ ap (unless (number_too_large (map faults.item_place items))) (append_assoc front (number_of n ∷ []) (written_numbers items)))
 
-  pub written_read : (front : List ℤ) (items : List WrittenItem) → read_written front items ≡ unless (number_too_large (map faults.item_place items)) (front ++ written_numbers items)
-  written_read front [] = ap Ok (sym (append-nil front))
-  written_read front (i ∷ items) = written_by i.site i.name i.number front items
-
-  written_by : (site : Site) (name : List ℕ) (n : Option WrittenNumber) (front : List ℤ) (items : List WrittenItem)
-      → (own_number site n >>= λ own. read_written (front ++ option_list own) items)
-      ≡ unless (option_or (fault_where (faults.is_too_large (option_map number_of n)) (NumberTooLarge site)) (number_too_large (map faults.item_place items))) (front ++ (written_number n ++ written_numbers items))
-  written_by site name None front items =
-      ap (λ (xs : List ℤ). read_written xs items) (append-nil front) ∙ written_read front items
-  written_by site name (Some n) front items =
-      one_written (is_number (number_of n)) (number_of n) site front (number_too_large (map faults.item_place items)) (λ xs. read_written xs items) (front ++ (number_of n ∷ written_numbers items))
-      (written_read (front ++ number_of n ∷ []) items ∙ ap (unless (number_too_large (map faults.item_place items))) (append_assoc front (number_of n ∷ []) (written_numbers items)))
+pub written_read : (front : List ℤ) (items : List WrittenItem) → read_written front items ≡ unless (number_too_large (map faults.item_place items)) (front ++ written_numbers items)
+unfolding read_written
+written_read front [] = ap Ok (sym (append-nil front))
+written_read front (i ∷ items) = written_by i.site i.number front items (λ xs. written_read xs items)
 
 -- where none is too large
 fits_by : (fits : Bool) (z : ℤ) (site : Site) (rest : Option TagFault) → option_or (fault_where (not fits) (NumberTooLarge site)) rest ≡ None → (number_result site (cond fits (Some z) None) ≡ Ok z) × (rest ≡ None)
@@ -91,29 +90,34 @@ fits_by true z site rest h = (refl, h)
 fits_here : (n : WrittenNumber) (site : Site) (rest : Option TagFault) → option_or (fault_where (not (is_number (number_of n))) (NumberTooLarge site)) rest ≡ None → (read_at site n ≡ Ok (number_of n)) × (rest ≡ None)
 fits_here n site rest h = fits_by (is_number (number_of n)) (number_of n) site rest h
 
-mutual
-  unfolding read_numbered
+abbrev as_item : List ℕ → ℤ × ℕ → Result (NamedNumber × ℕ) TagFault
+as_item name one = Ok (numbered_name name one.0, one.1)
 
-  pub numbers_given : (written : List ℤ) (tries next : ℕ) (front : List NamedNumber) (items : List WrittenItem) → AreItems items → number_too_large (map faults.item_place items) ≡ None
-      → read_numbered written tries next front items ≡ Ok (front ++ numbered_from written tries next items)
-  numbers_given written tries next front [] h e = ap Ok (sym (append-nil front))
-  numbers_given written tries next front (i ∷ items) h e = given_by written tries next front i.site i.name i.number items h.0 h.2 e
+abbrev with_next : ℕ → ℤ → Result (ℤ × ℕ) TagFault
+with_next next z = Ok (z, next)
 
-  given_by : (written : List ℤ) (tries next : ℕ) (front : List NamedNumber) (site : Site) (name : List ℕ) (n : Option WrittenNumber) (items : List WrittenItem) → IsUtf8 name → AreItems items
-      → option_or (fault_where (faults.is_too_large (option_map number_of n)) (NumberTooLarge site)) (number_too_large (map faults.item_place items)) ≡ None
-      → ((read_number written tries next site n >>= λ one. Ok (numbered_name name one.0, one.1)) >>= λ one. read_numbered written tries one.1 (front ++ one.0 ∷ []) items)
-      ≡ Ok (front ++ record { name = name; number = given_number written tries next n } ∷ numbered_from written tries (next_behind written tries next n) items)
-  given_by written tries next front site name None items utf8 h e =
-      let free = free_from written tries next in
-      numbers_given written tries (suc free) (front ++ numbered_name name (pos free) ∷ []) items h e
-      ∙ ap Ok (append_assoc front (numbered_name name (pos free) ∷ []) (numbered_from written tries (suc free) items)
-      ∙ ap (λ (text : List ℕ). front ++ record { name = text; number = pos free } ∷ numbered_from written tries (suc free) items) (text_is name utf8))
-  given_by written tries next front site name (Some n) items utf8 h e =
-      let p = fits_here n site (number_too_large (map faults.item_place items)) e in
-      ap (λ (r : Result ℤ TagFault). ((r >>= λ z. Ok (z, next)) >>= λ one. Ok (numbered_name name one.0, one.1)) >>= λ one. read_numbered written tries one.1 (front ++ one.0 ∷ []) items) p.0
-      ∙ numbers_given written tries next (front ++ numbered_name name (number_of n) ∷ []) items h p.1
-      ∙ ap Ok (append_assoc front (numbered_name name (number_of n) ∷ []) (numbered_from written tries next items)
-      ∙ ap (λ (text : List ℕ). front ++ record { name = text; number = number_of n } ∷ numbered_from written tries next items) (text_is name utf8))
+given_by : (written : List ℤ) (tries next : ℕ) (front : List NamedNumber) (site : Site) (name : List ℕ) (n : Option WrittenNumber) (items : List WrittenItem) → IsUtf8 name
+    → option_or (fault_where (faults.is_too_large (option_map number_of n)) (NumberTooLarge site)) (number_too_large (map faults.item_place items)) ≡ None
+    → ((next : ℕ) (front : List NamedNumber) → number_too_large (map faults.item_place items) ≡ None → read_numbered written tries next front items ≡ Ok (front ++ numbered_from written tries next items))
+    → ((read_number written tries next site n >>= as_item name) >>= λ one. read_numbered written tries one.1 (front ++ one.0 ∷ []) items)
+    ≡ Ok (front ++ record { name = name; number = given_number written tries next n } ∷ numbered_from written tries (next_behind written tries next n) items)
+given_by written tries next front site name None items utf8 e others =
+    let free = free_from written tries next in
+    others (suc free) (front ++ numbered_name name (pos free) ∷ []) e
+    ∙ ap Ok (append_assoc front (numbered_name name (pos free) ∷ []) (numbered_from written tries (suc free) items)
+    ∙ ap (λ (text : List ℕ). front ++ record { name = text; number = pos free } ∷ numbered_from written tries (suc free) items) (text_is name utf8))
+given_by written tries next front site name (Some n) items utf8 e others =
+    let p = fits_here n site (number_too_large (map faults.item_place items)) e in
+    ap (λ (r : Result ℤ TagFault). ((r >>= with_next next) >>= as_item name) >>= λ one. read_numbered written tries one.1 (front ++ one.0 ∷ []) items) p.0
+    ∙ others next (front ++ numbered_name name (number_of n) ∷ []) p.1
+    ∙ ap Ok (append_assoc front (numbered_name name (number_of n) ∷ []) (numbered_from written tries next items)
+    ∙ ap (λ (text : List ℕ). front ++ record { name = text; number = number_of n } ∷ numbered_from written tries next items) (text_is name utf8))
+
+pub numbers_given : (written : List ℤ) (tries next : ℕ) (front : List NamedNumber) (items : List WrittenItem) → AreItems items → number_too_large (map faults.item_place items) ≡ None
+    → read_numbered written tries next front items ≡ Ok (front ++ numbered_from written tries next items)
+unfolding read_numbered
+numbers_given written tries next front [] h e = ap Ok (sym (append-nil front))
+numbers_given written tries next front (i ∷ items) h e = given_by written tries next front i.site i.name i.number items h.0 e (λ n xs none. numbers_given written tries n xs items h.2 none)
 
 items_by : (items : List WrittenItem) (f : Option TagFault) → AreItems items → number_too_large (map faults.item_place items) ≡ f
     → (unless f (written_numbers items) >>= λ taken. read_numbered taken (length items) 0 [] items) ≡ unless f (numbered items)

@@ -55,8 +55,11 @@ levels_at automatic place t = one_where (gets_tag automatic place && is_tagless 
 
 -- ---- one more
 
+abbrev pub named_component : List ℕ → AbstractType → AbstractPresence → OneComponent
+named_component name t presence = record { name = text_octets name; ty = t; presence = presence }
+
 abbrev pub one_component : Bool → ℕ → List ℕ → AbstractType → AbstractPresence → OneComponent
-one_component automatic place name t presence = record { name = text_octets name; ty = tagged_at automatic place t; presence = presence }
+one_component automatic place name t presence = named_component name (tagged_at automatic place t) presence
 
 abbrev pub pushed : PartList → Site → OneComponent → ℕ → ℕ → PartList
 pushed parts site comp nesting nodes =

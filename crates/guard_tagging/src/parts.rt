@@ -42,15 +42,15 @@ pub fn with_component(
     let place = parts.comps.len();
     let added = levels_at(automatic, place, &ty);
     let ty = tagged_at(alloc, automatic, place, ty)?;
+    let comp = comp_of(alloc, name, ty, presence)?;
+    pushed(parts, alloc, site, comp, nesting + added, nodes)
+}
+
+fn comp_of(alloc: Global, name: &[u8], ty: Ty, presence: Presence) -> Result<Comp, AllocError>
+    ensures { IfOk result (λ comp. model.component_view comp ≡ reading.named_component name.now (model.type_view ty) (model.presence_view presence)) }
+{
     let name = name_text(alloc, name)?;
-    pushed(
-        parts,
-        alloc,
-        site,
-        Comp { name, ty, presence },
-        nesting + added,
-        nodes,
-    )
+    Ok(Comp { name, ty, presence })
 }
 
 /// The parts with this one, which is nested so deep.

@@ -74,15 +74,15 @@ module _ (around : Surroundings) (site : Site) (tags : List WrittenTag) (base : 
   pub node_is : (list large : Option TagFault) (inside many : ℕ) → undefined_name around site base ≡ None → list_fault around site base ≡ list → number_fault base ≡ large
       → inside ≡ nesting_inside kind → many ≡ before + nodes_inside kind
       → unless (node_fault (node_at around site tags counts) (type_of base_tags kind base_cons) list (length all + inside) (many + one_where counts) large)
-          (made_from (whole_made (node_at around site tags counts) base_tags kind base_cons list large inside many) kind base_cons)
+      (made_from (whole_made (node_at around site tags counts) base_tags kind base_cons list large inside many) kind base_cons)
       ≡ unless (own_fault around (before + counted counts (denoted around tree)) tree) (made_of counts before (denoted around tree))
   node_is list large inside many u l n deep much =
       let count : many + one_where counts ≡ before + counted counts (denoted around tree) =
-          ap (λ (k : ℕ). k + one_where counts) much ∙ plus_assoc before (nodes_inside kind) (one_where counts) ∙ ap (λ (t : AbstractType). before + counted counts t) (sym denoted_is) in
+      ap (λ (k : ℕ). k + one_where counts) much ∙ plus_assoc before (nodes_inside kind) (one_where counts) ∙ ap (λ (t : AbstractType). before + counted counts t) (sym denoted_is) in
       let fault : node_fault (node_at around site tags counts) (type_of base_tags kind base_cons) list (length all + inside) (many + one_where counts) large ≡ own_fault around (before + counted counts (denoted around tree)) tree =
-          (λ i. node_fault (node_at around site tags counts) (type_of base_tags kind base_cons) list (length all + deep i) (count i) large) ∙ sym (own_is list large (before + counted counts (denoted around tree)) u l n) in
+      (λ i. node_fault (node_at around site tags counts) (type_of base_tags kind base_cons) list (length all + deep i) (count i) large) ∙ sym (own_is list large (before + counted counts (denoted around tree)) u l n) in
       let made : made_from (whole_made (node_at around site tags counts) base_tags kind base_cons list large inside many) kind base_cons ≡ made_of counts before (denoted around tree) =
-          (λ i. record { ty = type_of all kind base_cons; nesting = length all + deep i; nodes = count i }) ∙ (λ i. record { ty = sym denoted_is i; nesting = nesting (sym denoted_is i); nodes = before + counted counts (denoted around tree) }) in
+      (λ i. record { ty = type_of all kind base_cons; nesting = length all + deep i; nodes = count i }) ∙ (λ i. record { ty = sym denoted_is i; nesting = nesting (sym denoted_is i); nodes = before + counted counts (denoted around tree) }) in
       λ i. unless (fault i) (made i)
 
 -- ---- types that are written with words alone
@@ -107,9 +107,9 @@ integer_is around site tags ns cons counts before spelled =
     let list = duplicate_number (map faults.named_place ns) in
     let large = number_too_large (map faults.named_place ns) in
     node_made (node_at around site tags counts) (universal 2) kind no_constraints list large 0 before (make.check_named ns) (λ whole. each read_named ns >>= λ all. Ok (made_with whole (type.integer all)))
-        (made_with (whole_made (node_at around site tags counts) (universal 2) kind no_constraints list large 0 before) kind)
-        (ap (λ (ps : List Placed). allowed (duplicate_number ps)) (named_places_are ns spelled))
-        (then_made (each read_named ns) large (map named_number ns) (λ all. made_with (whole_made (node_at around site tags counts) (universal 2) kind no_constraints list large 0 before) (type.integer all)) (named_read ns spelled))
+    (made_with (whole_made (node_at around site tags counts) (universal 2) kind no_constraints list large 0 before) kind)
+    (ap (λ (ps : List Placed). allowed (duplicate_number ps)) (named_places_are ns spelled))
+    (then_made (each read_named ns) large (map named_number ns) (λ all. made_with (whole_made (node_at around site tags counts) (universal 2) kind no_constraints list large 0 before) (type.integer all)) (named_read ns spelled))
     ∙ node_is around site tags (numbers ns) cons counts before (universal 2) kind no_constraints refl list large 0 before refl refl refl refl (plus_none before)
 
 pub enumerated_is : (around : Surroundings) (site : Site) (tags : List WrittenTag) (items : List WrittenItem) (cons : List WrittenConstraint) (counts : Bool) (before : ℕ) → AreItems items
@@ -121,9 +121,9 @@ enumerated_is around site tags items cons counts before spelled =
     let list = duplicate_number (map faults.item_place items) in
     let large = number_too_large (map faults.item_place items) in
     node_made (node_at around site tags counts) (universal 10) kind no_constraints list large 0 before (make.check_items items) (λ whole. read_items items >>= λ all. Ok (made_with whole (type.enumerated all)))
-        (made_with (whole_made (node_at around site tags counts) (universal 10) kind no_constraints list large 0 before) kind)
-        (ap (λ (ps : List Placed). allowed (duplicate_number ps)) (item_places_are items spelled))
-        (then_made (read_items items) large (numbered items) (λ all. made_with (whole_made (node_at around site tags counts) (universal 10) kind no_constraints list large 0 before) (type.enumerated all)) (items_are items spelled))
+    (made_with (whole_made (node_at around site tags counts) (universal 10) kind no_constraints list large 0 before) kind)
+    (ap (λ (ps : List Placed). allowed (duplicate_number ps)) (item_places_are items spelled))
+    (then_made (read_items items) large (numbered items) (λ all. made_with (whole_made (node_at around site tags counts) (universal 10) kind no_constraints list large 0 before) (type.enumerated all)) (items_are items spelled))
     ∙ node_is around site tags (enumerated items) cons counts before (universal 10) kind no_constraints refl list large 0 before refl refl refl refl (plus_none before)
 
 of_nesting : (k : Collection) (t : AbstractType) → nesting t ≡ nesting_inside (of_kind k t)
@@ -184,7 +184,7 @@ referred_is around site tags name cons counts before base_tags kind base_cons is
     let node = node_at around site tags counts in
     let last = λ (whole : Whole). Ok (made_from whole kind base_cons) in
     same_steps (tags_of node base_tags (is_untagged_choice (type_of base_tags kind base_cons))) _ _ (λ all. ap (λ (r : Result Whole TagFault). r >>= last)
-      (deep_enough node all (nesting_inside kind) (min (before + nodes_inside kind) 100001) (cases_lt 33 (nesting_inside kind))
-      ∙ with_nodes node all (nesting_inside kind) (min (before + nodes_inside kind) 100001) (before + nodes_inside kind) (many_enough node (before + nodes_inside kind) (cases_lt 100001 (before + nodes_inside kind)))))
+    (deep_enough node all (nesting_inside kind) (min (before + nodes_inside kind) 100001) (cases_lt 33 (nesting_inside kind))
+    ∙ with_nodes node all (nesting_inside kind) (min (before + nodes_inside kind) 100001) (before + nodes_inside kind) (many_enough node (before + nodes_inside kind) (cases_lt 100001 (before + nodes_inside kind)))))
     ∙ node_made node base_tags kind base_cons None None (nesting_inside kind) (before + nodes_inside kind) (Ok tt) last _ refl refl
     ∙ node_is around site tags name cons counts before base_tags kind base_cons is None None (nesting_inside kind) (before + nodes_inside kind) u l n refl refl

@@ -103,23 +103,23 @@ word_explicit = refl
 
 -- SEQUENCE {a INTEGER, b CHOICE {x NULL}}
 automatic_tags : denoted (alone Automatic) (bare (structure Sequence (component (at 2) (codes "a") (bare integer_type) mandatory
-        (component (at 3) (codes "b") (bare (choice (alternative (at 4) (codes "x") (bare (plain plain_type.Null)) no_alternatives))) mandatory no_components))))
+    (component (at 3) (codes "b") (bare (choice (alternative (at 4) (codes "x") (bare (plain plain_type.Null)) no_alternatives))) mandatory no_components))))
     ≡ of (universal 16 ∷ []) (type.sequence (type.component (codes "a") (integer_with (context 0 ∷ [])) type.mandatory
-        (type.component (codes "b") (of (context 1 ∷ []) (type.choice (type.component (codes "x") (of (context 0 ∷ []) type.null) type.mandatory type.no_components))) type.mandatory type.no_components)))
+    (type.component (codes "b") (of (context 1 ∷ []) (type.choice (type.component (codes "x") (of (context 0 ∷ []) type.null) type.mandatory type.no_components))) type.mandatory type.no_components)))
 automatic_tags = refl
 
 -- SEQUENCE {a [3] INTEGER, b BOOLEAN}: one component's type begins with a tag, which is implicit here
 no_automatic_tags : denoted (alone Automatic) (bare (structure Sequence (component (at 2) (codes "a") (tagged (context_tag (codes "3")) integer_type) mandatory
-        (component (at 3) (codes "b") (bare (plain plain_type.Boolean)) mandatory no_components))))
+    (component (at 3) (codes "b") (bare (plain plain_type.Boolean)) mandatory no_components))))
     ≡ of (universal 16 ∷ []) (type.sequence (type.component (codes "a") (integer_with (context 3 ∷ [])) type.mandatory
-        (type.component (codes "b") (of (universal 1 ∷ []) type.boolean) type.mandatory type.no_components)))
+    (type.component (codes "b") (of (universal 1 ∷ []) type.boolean) type.mandatory type.no_components)))
 no_automatic_tags = refl
 
 -- SET {a [1] INTEGER, b [0] BOOLEAN} under IMPLICIT TAGS
 set_in_order : denoted (alone Implicit) (bare (structure Set (component (at 2) (codes "a") (tagged (context_tag (codes "1")) integer_type) mandatory
-        (component (at 3) (codes "b") (tagged (context_tag (codes "0")) (plain plain_type.Boolean)) mandatory no_components))))
+    (component (at 3) (codes "b") (tagged (context_tag (codes "0")) (plain plain_type.Boolean)) mandatory no_components))))
     ≡ of (universal 17 ∷ []) (type.set (type.component (codes "a") (integer_with (context 1 ∷ [])) type.mandatory
-        (type.component (codes "b") (of (context 0 ∷ []) type.boolean) type.mandatory type.no_components)))
+    (type.component (codes "b") (of (context 0 ∷ []) type.boolean) type.mandatory type.no_components)))
 set_in_order = refl
 
 -- ---- COMPONENTS OF
@@ -129,9 +129,9 @@ abbrev type_a : List Tag → AbstractType
 type_a tags = of tags (type.sequence (type.component (codes "x") (integer_with (context 0 ∷ [])) type.mandatory type.no_components))
 
 components_of_a : denoted (module_with Implicit (codes "A") (type_a (universal 16 ∷ [])) false)
-        (bare (structure Sequence (components_from (at 2) (bare (named_type (codes "A"))) (component (at 3) (codes "y") (bare (plain plain_type.Boolean)) mandatory no_components))))
+    (bare (structure Sequence (components_from (at 2) (bare (named_type (codes "A"))) (component (at 3) (codes "y") (bare (plain plain_type.Boolean)) mandatory no_components))))
     ≡ of (universal 16 ∷ []) (type.sequence (type.component (codes "x") (integer_with (context 0 ∷ [])) type.mandatory
-        (type.component (codes "y") (of (universal 1 ∷ []) type.boolean) type.mandatory type.no_components)))
+    (type.component (codes "y") (of (universal 1 ∷ []) type.boolean) type.mandatory type.no_components)))
 components_of_a = refl
 
 abbrev takes : WrittenBase → WrittenType

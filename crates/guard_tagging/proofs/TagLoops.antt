@@ -24,7 +24,7 @@ module _ (default : TagDefault) (replaced : Bool) (front : List Tag) (ws : List 
   unfolding read_tags
   next_tag d lt tag read =
       let all : read_tags default replaced front (map tag_view (drop i ws)) base
-          ≡ read_tags default (not (is_explicit (get_or ws i d).mode default false)) (unless_replaced replaced front tag) (map tag_view (drop (i + 1) ws)) base =
+      ≡ read_tags default (not (is_explicit (get_or ws i d).mode default false)) (unless_replaced replaced front tag) (map tag_view (drop (i + 1) ws)) base =
       rw (at_drop_more (map tag_view) ws i d lt, read) refl in
       sym all ∙ so_far
 

@@ -43,8 +43,8 @@ module _ (around : Surroundings) (k : Collection) (automatic : Bool) (parts : Pa
   split x lt is =
       let c = written.component_view x in
       let first : left i ≡ component_before c.site c.form (left (i + 1)) =
-          at_drop_more (λ ts. components_of (map written.component_view ts)) trees i x lt
-          ∙ ap (λ (y : CompTree). component_before (written.component_view y).site (written.component_view y).form (left (i + 1))) (sym is) in
+      at_drop_more (λ ts. components_of (map written.component_view ts)) trees i x lt
+      ∙ ap (λ (y : CompTree). component_before (written.component_view y).site (written.component_view y).form (left (i + 1))) (sym is) in
       sym (ap (read_components around k automatic parts) first ∙ one_entry around k automatic parts c.site c.form (left (i + 1))) ∙ so_far
 
   pub component_stops : (x : CompTree) → i < length trees → x ≡ get_or trees i x → (f : Option TagFault) → Refuses f (read_component around k automatic parts (written.component_view x)) → Refuses f total
@@ -72,8 +72,8 @@ module _ (around : Surroundings) (automatic : Bool) (parts : PartList) (trees : 
   split_other x lt is =
       let a = written.alternative_view x in
       let first : others i ≡ alternative a.site a.name a.ty (others (i + 1)) =
-          at_drop_more (λ ts. alternatives_of (map written.alternative_view ts)) trees i x lt
-          ∙ ap (λ (y : AlternativeTree). alternative (written.alternative_view y).site (written.alternative_view y).name (written.alternative_view y).ty (others (i + 1))) (sym is) in
+      at_drop_more (λ ts. alternatives_of (map written.alternative_view ts)) trees i x lt
+      ∙ ap (λ (y : AlternativeTree). alternative (written.alternative_view y).site (written.alternative_view y).name (written.alternative_view y).ty (others (i + 1))) (sym is) in
       sym (ap (read_alternatives around automatic parts) first
       ∙ in_turn (read_type around true parts.nodes a.ty) (λ made. with_component automatic parts a.site a.name made type.mandatory) (λ p. read_alternatives around automatic p (others (i + 1)))) ∙ so_far
 

@@ -100,8 +100,8 @@ module _ (node : Node) (base : List Tag) (kind : AbstractKind) (cons : Constrain
       let nodes = before + one_where node.counts in
       ap (λ (r : Result (List Tag) TagFault). r >>= λ tags. check >>= λ _. whole_with node tags inside before >>= last) (tags_are node base kind cons)
       ∙ then_unless (tags_fault node t) all _ (option_or list (option_or (limits_fault node (length all + inside) nodes) numbers)) made
-        (ap (λ (r : Result (Unit {0}) TagFault). r >>= λ _. whole_with node all inside before >>= last) checked
-        ∙ then_allowed list _ (option_or (limits_fault node (length all + inside) nodes) numbers) made
-          (ap (λ (r : Result Whole TagFault). r >>= last) (limits_are node all inside before) ∙ then_unless (limits_fault node (length all + inside) nodes) whole_made last numbers made ended))
+      (ap (λ (r : Result (Unit {0}) TagFault). r >>= λ _. whole_with node all inside before >>= last) checked
+      ∙ then_allowed list _ (option_or (limits_fault node (length all + inside) nodes) numbers) made
+      (ap (λ (r : Result Whole TagFault). r >>= last) (limits_are node all inside before) ∙ then_unless (limits_fault node (length all + inside) nodes) whole_made last numbers made ended))
       ∙ ap (λ (f : Option TagFault). unless f made) (flat (universal_tag node.tags) (implicit_choice node.tag_default t node.tags) (tag_too_large node.tags) list
-        (fault_where (nat_lt deepest_nesting (length all + inside)) (TooDeep node.site)) (fault_where (nat_lt most_nodes nodes) (SchemaTooLarge node.site)) numbers)
+      (fault_where (nat_lt deepest_nesting (length all + inside)) (TooDeep node.site)) (fault_where (nat_lt most_nodes nodes) (SchemaTooLarge node.site)) numbers)

@@ -125,7 +125,7 @@ implicit_is default (w ∷ []) base kind cons =
     ∙ ap (λ (b : Bool). fault_where b (ImplicitChoice w.site)) (and-comm (is_implicit w.mode) (is_untagged_choice (type_of base kind cons)))
 implicit_is default (w ∷ v ∷ ws) base kind cons =
     let inside : is_untagged_choice (with_tags default (v ∷ ws) (type_of base kind cons)) ≡ false =
-        ap is_untagged_choice (with_tags_is default (v ∷ ws) base kind cons) ∙ put_nonempty (is_explicit v.mode default false) (tag_of v) (put_all default ws base) kind cons in
+    ap is_untagged_choice (with_tags_is default (v ∷ ws) base kind cons) ∙ put_nonempty (is_explicit v.mode default false) (tag_of v) (put_all default ws base) kind cons in
     ap (λ (b : Bool). option_or (fault_where (is_implicit w.mode && b) (ImplicitChoice w.site)) (implicit_choice default (type_of base kind cons) (v ∷ ws))) inside
     ∙ not_both (is_implicit w.mode) (ImplicitChoice w.site) (implicit_choice default (type_of base kind cons) (v ∷ ws))
     ∙ implicit_is default (v ∷ ws) base kind cons

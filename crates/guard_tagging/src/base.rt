@@ -14,9 +14,9 @@ use crate::fault::TagFault;
 use crate::kinds::{
     collection_number, of_kind, plain_kind, plain_number, structure_kind, universal,
 };
+use crate::made::{Made, Node, Parts, Whole};
 use crate::measure::{nesting_inside, nodes_inside};
 use crate::names::{first_repeated, item_places, named_places};
-use crate::made::{Made, Node, Parts, Whole};
 use crate::node::{new_type, tags_of, whole_with};
 use crate::numbering::{items, named_numbers};
 use crate::parts::check_list;
@@ -106,7 +106,12 @@ pub fn structure_type(
 ) -> Result<Box<Made>, TagFault>
     ensures { Gives (λ m. made_view m.value) named result (reading.structure_type (node_view node.now) collection (parts_view parts.value)) }
 {
-    let tags = tags_of(alloc, node, &[universal(collection_number(collection))], false)?;
+    let tags = tags_of(
+        alloc,
+        node,
+        &[universal(collection_number(collection))],
+        false,
+    )?;
     check_list(alloc, node.site, &parts)?;
     let whole = whole_with(node, tags, parts.deepest, parts.nodes)?;
     let Parts { comps, .. } = Box::into_inner(parts);
@@ -135,7 +140,12 @@ pub fn of_type(
 ) -> Result<Box<Made>, TagFault>
     ensures { Gives (λ m. made_view m.value) named result (reading.of_type (node_view node.now) collection (made_view element.value)) }
 {
-    let tags = tags_of(alloc, node, &[universal(collection_number(collection))], false)?;
+    let tags = tags_of(
+        alloc,
+        node,
+        &[universal(collection_number(collection))],
+        false,
+    )?;
     let whole = whole_with(node, tags, element.nesting, element.nodes)?;
     let Made { ty, .. } = Box::into_inner(element);
     let kind = of_kind(collection, Box::new(alloc, ty)?);
@@ -158,12 +168,7 @@ pub fn referred_type(
     referred_to(alloc, node, known.ty, before)
 }
 
-fn referred_to(
-    alloc: Global,
-    node: &Node,
-    ty: &Ty,
-    before: usize,
-) -> Result<Box<Made>, TagFault>
+fn referred_to(alloc: Global, node: &Node, ty: &Ty, before: usize) -> Result<Box<Made>, TagFault>
     ensures { Gives (λ m. made_view m.value) named result (reading.referred_to (node_view node.now) (model.type_view ty.now) before) }
 {
     let tags = tags_of(alloc, node, &ty.tags, is_untagged_choice(ty))?;

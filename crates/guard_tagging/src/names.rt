@@ -98,10 +98,7 @@ pub fn named_places<'a>(
 }
 
 /// The places of items.
-pub fn item_places<'a>(
-    alloc: Global,
-    trees: &[ItemTree<'a>],
-) -> Result<Vec<Placed<'a>>, AllocError>
+pub fn item_places<'a>(alloc: Global, trees: &[ItemTree<'a>]) -> Result<Vec<Placed<'a>>, AllocError>
     ensures { IfOk result (λ v. map place_view v.items ≡ map item_place (map written.item_view trees.now)) }
 {
     let mut places = Vec::with_capacity(alloc, trees.len())?;

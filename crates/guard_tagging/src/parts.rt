@@ -9,8 +9,8 @@ ghost use Rattle.guard_tagging.specs.PartViews.{parts_view};
 ghost use Rattle.guard_tagging.specs.ReadParts as reading;
 
 use crate::fault::TagFault;
-use crate::names::{component_places, first_repeated, name_text};
 use crate::made::{Made, Parts};
+use crate::names::{component_places, first_repeated, name_text};
 use guard_model::{Class, Comp, Kind, MOST_COMPONENTS, Presence, Site, Tag, Ty};
 use std::alloc::{AllocError, Global};
 

@@ -149,15 +149,7 @@ fn entry(
         CompForm::Named(name, ty, presence) => {
             let made = type_of(alloc, scope, ty, true, parts.nodes)?;
             let presence = presence_of(presence);
-            Ok(with_component(
-                parts,
-                alloc,
-                automatic,
-                tree.site,
-                name,
-                made,
-                presence,
-            )?)
+            Ok(with_component(parts, alloc, automatic, tree.site, name, made, presence)?)
         }
         CompForm::ComponentsOf(ty) => {
             let made = type_of(alloc, scope, ty, false, parts.nodes)?;

@@ -1,0 +1,18 @@
+//! Written values: which value a tree of the notation denotes under its type (X.680 17), or the first fault.
+#![tactic(auto)]
+
+mod arrangement;
+mod components;
+mod fault;
+pub mod laws;
+mod names;
+mod numbers;
+mod object_identifiers;
+mod scope;
+mod simple;
+mod strings;
+mod written;
+
+pub use fault::ValueFault;
+pub use scope::{Known, Scope, VisibleName, VisibleValue};
+pub use written::value;

@@ -1,0 +1,146 @@
+-- The constraints and defaults that are written in a type, filled into it (X.680 25.1, 26, 28, 49). A type comes without them from its tags and parts.
+-- Faults are looked for inside out in written order: for each component its type's constraints, then its default; then the constraints of the whole.
+use Rattle.std.specs.Prelude.{◌≡◌, ℕ, zero, suc, Bool, true, false, List, [], ◌∷◌, Option, Some, None, Ok, Err, IsTrue, if◌then◌else◌}
+use Rattle.guard_model.specs.declared.site.Site.{Site}
+use Rattle.guard_model.specs.AbstractType as type
+use Rattle.guard_model.specs.AbstractType.{AbstractType, AbstractKind, AbstractPresence, Components, Constraint, Constraints, type_of}
+use Rattle.guard_model.specs.AbstractValue.{AbstractValue}
+use Rattle.guard_model.specs.Components.{components_in}
+use Rattle.guard_model.specs.Counts.{component_count}
+use Rattle.guard_syntax.specs.Trees as written
+use Rattle.guard_syntax.specs.Trees.{WrittenValue, value_node, WrittenConstraint, WrittenOfConstraint, WrittenPresence, mandatory, optional, default, WrittenType, type_node, WrittenBase, structure, choice, of_type, WrittenComponents, no_components, component, components_from, WrittenAlternatives, no_alternatives, alternative}
+use Rattle.guard_tagging.specs.Types.{Surroundings, denoted, parts_of, join}
+use Rattle.guard_values.specs.Denotes.{Denotes}
+use Rattle.guard_values.specs.Faults.{Stands}
+use Rattle.guard_constraints.specs.Visible.{Visible}
+use Rattle.guard_eval.specs.Member.{is_member}
+use Rattle.guard_schema.specs.Outcomes.{Is, Then}
+use Rattle.guard_schema.specs.Faults.{AbstractFault, Value, DefaultOutside, Outcome}
+
+-- ---- a written value that is a member of its type: of a DEFAULT, or of a value assignment
+
+-- what it denotes; or a fault whose condition stands in it, where it denotes nothing
+abbrev pub ReadsValue : Visible → AbstractType → WrittenValue → Outcome AbstractValue → Type 0
+ReadsValue m t tree (Ok v) = Denotes m.values t tree v
+ReadsValue m t tree (Err (Value f)) = Stands m.values t tree f × ((v : AbstractValue) → ¬ (Denotes m.values t tree v))
+ReadsValue m t tree (Err _) = ⊥
+
+abbrev pub site_of : WrittenValue → Site
+site_of (value_node site form) = site
+
+-- S2: it is no member
+abbrev pub IsMember : AbstractType → Site → AbstractValue → Outcome AbstractValue → Type 0
+IsMember t site v (Ok w) = (w ≡ v) × IsTrue (is_member t v)
+IsMember t site v (Err (DefaultOutside s)) = (s ≡ site) × (is_member t v ≡ false)
+IsMember t site v (Err _) = ⊥
+
+abbrev pub ReadsMember : Visible → AbstractType → WrittenValue → Outcome AbstractValue → Type 0
+ReadsMember m t tree = Then (ReadsValue m t tree) (IsMember t (site_of tree))
+
+-- ---- parts of types
+
+abbrev pub add : Constraints → Constraint → Constraints
+add type.no_constraints c = type.constraint c type.no_constraints
+add (type.constraint d ds) c = type.constraint d (add ds c)
+
+-- the type with one constraint more, behind those that it has
+abbrev pub with_constraint : AbstractType → Constraint → AbstractType
+with_constraint (type_of tags kind cons) c = type_of tags kind (add cons c)
+
+abbrev pub with_parts : AbstractKind → Components → AbstractKind
+with_parts (type.sequence old) cs = type.sequence cs
+with_parts (type.set old) cs = type.set cs
+with_parts (type.choice old) cs = type.choice cs
+with_parts kind cs = kind
+
+abbrev pub with_element : AbstractKind → AbstractType → AbstractKind
+with_element (type.sequence_of old) t = type.sequence_of t
+with_element (type.set_of old) t = type.set_of t
+with_element kind t = kind
+
+-- the type of an OF type's elements, where it is one
+abbrev pub elements_in : AbstractKind → Option AbstractType
+elements_in (type.sequence_of t) = Some t
+elements_in (type.set_of t) = Some t
+elements_in _ = None
+
+-- what is left without so many components in front
+abbrev pub behind : ℕ → Components → Components
+behind zero cs = cs
+behind (suc n) type.no_components = type.no_components
+behind (suc n) (type.component name t presence cs) = behind n cs
+
+-- ---- constraints, where `Reads` says what one is on a type, or its first fault
+
+-- SIZE and a constraint before OF says what the same says in parentheses (49.4)
+abbrev pub in_parentheses : Site → written.WrittenElementForm → WrittenConstraint
+in_parentheses site form =
+    written.constraint site (written.set_node site (written.union
+      (written.intersection site (written.element_alone site (written.element_node site form)) written.none_met) written.none_united))
+
+abbrev pub constraint_before_of : WrittenOfConstraint → WrittenConstraint
+constraint_before_of c = if c.size then in_parentheses c.site (written.size c.constraint) else c.constraint
+
+abbrev pub before_of : Option WrittenOfConstraint → List WrittenConstraint
+before_of None = []
+before_of (Some c) = constraint_before_of c ∷ []
+
+module _ (Reads : Visible → AbstractType → WrittenConstraint → Outcome Constraint → Type 0) where
+  -- each on the type with those before it (49.1)
+  abbrev pub Constrains : Visible → List WrittenConstraint → AbstractType → Outcome AbstractType → Type 0
+  Constrains m [] t = Is t
+  Constrains m (c ∷ cs) t = Then (Reads m t c) (λ one. Constrains m cs (with_constraint t one))
+
+  -- ---- types. `bare` is the type as it comes from its tags and parts. What is referred to is finished, so nothing is filled into it.
+
+  abbrev pub FillsPresence : Visible → AbstractType → WrittenPresence → Outcome AbstractPresence → Type 0
+  FillsPresence m t mandatory = Is type.mandatory
+  FillsPresence m t optional = Is type.optional
+  FillsPresence m t (default tree) = Then (ReadsMember m t tree) (λ v. Is (type.default v))
+
+  -- the whole, when its kind is finished: the constraint before OF, or those behind
+  abbrev pub OfKind : Visible → AbstractType → List WrittenConstraint → AbstractKind → Outcome AbstractType → Type 0
+  OfKind m (type_of tags old constraints) cs kind = Constrains m cs (type_of tags kind constraints)
+
+  abbrev mutual
+    pub Finishes : Visible → Surroundings → WrittenType → AbstractType → Outcome AbstractType → Type 0
+    Finishes m around (type_node site tags base cs) bare = Then (FinishesBase m around base bare) (Constrains m cs)
+
+    pub FinishesBase : Visible → Surroundings → WrittenBase → AbstractType → Outcome AbstractType → Type 0
+    FinishesBase m around (structure k cs) (type_of tags kind cons) =
+        Then (FillsComponents m around cs (components_in kind)) (λ parts. Is (type_of tags (with_parts kind parts) cons))
+    FinishesBase m around (choice others) (type_of tags kind cons) =
+        Then (FillsAlternatives m around others (components_in kind)) (λ parts. Is (type_of tags (with_parts kind parts) cons))
+    FinishesBase m around (of_type k c t) (type_of tags kind cons) =
+        Then (FinishesElement m around t (elements_in kind)) (λ e. Constrains m (before_of c) (type_of tags (with_element kind e) cons))
+    FinishesBase m around base bare = Is bare
+
+    -- an OF type has a type of elements
+    pub FinishesElement : Visible → Surroundings → WrittenType → Option AbstractType → Outcome AbstractType → Type 0
+    FinishesElement m around t (Some bare) = Finishes m around t bare
+    FinishesElement m around t None answer = ⊥
+
+    -- one for each component that is written, in their order, and as many as COMPONENTS OF puts in
+    pub FillsComponents : Visible → Surroundings → WrittenComponents → Components → Outcome Components → Type 0
+    FillsComponents m around no_components bare = Is type.no_components
+    FillsComponents m around (component site name t presence cs) (type.component n u p bare) =
+        Then (Finishes m around t u) (λ v. Then (FillsPresence m v presence) (λ q.
+        Then (FillsComponents m around cs bare) (λ rest. Is (type.component n v q rest))))
+    FillsComponents m around (component site name t presence cs) type.no_components = λ answer. ⊥
+    FillsComponents m around (components_from site t cs) bare =
+        Then (FillsTaken m around t (parts_of (denoted around t))) (λ taken.
+        Then (FillsComponents m around cs (behind (component_count (parts_of (denoted around t))) bare)) (λ rest. Is (join taken rest)))
+
+    -- What COMPONENTS OF takes in: constraints on the type itself have no part in it (25.5), those in its braces do.
+    pub FillsTaken : Visible → Surroundings → WrittenType → Components → Outcome Components → Type 0
+    FillsTaken m around (type_node site tags base cs) bare = FillsTakenBase m around base bare
+
+    pub FillsTakenBase : Visible → Surroundings → WrittenBase → Components → Outcome Components → Type 0
+    FillsTakenBase m around (structure k cs) bare = FillsComponents m around cs bare
+    FillsTakenBase m around base bare = Is bare
+
+    pub FillsAlternatives : Visible → Surroundings → WrittenAlternatives → Components → Outcome Components → Type 0
+    FillsAlternatives m around no_alternatives bare = Is type.no_components
+    FillsAlternatives m around (alternative site name t others) (type.component n u p bare) =
+        Then (Finishes m around t u) (λ v. Then (FillsAlternatives m around others bare) (λ rest. Is (type.component n v p rest)))
+    FillsAlternatives m around (alternative site name t others) type.no_components = λ answer. ⊥

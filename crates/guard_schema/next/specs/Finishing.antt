@@ -118,7 +118,7 @@ module _ (Reads : Visible → AbstractType → WrittenConstraint → Outcome Con
     -- an OF type has a type of elements
     pub FinishesElement : Visible → Surroundings → WrittenType → Option AbstractType → Outcome AbstractType → Type 0
     FinishesElement m around t (Some bare) = Finishes m around t bare
-    FinishesElement m around t None answer = ⊥
+    FinishesElement m around t None = λ answer. ⊥
 
     -- one for each component that is written, in their order, and as many as COMPONENTS OF puts in
     pub FillsComponents : Visible → Surroundings → WrittenComponents → Components → Outcome Components → Type 0
@@ -131,7 +131,7 @@ module _ (Reads : Visible → AbstractType → WrittenConstraint → Outcome Con
         Then (FillsTaken m around t (parts_of (denoted around t))) (λ taken.
         Then (FillsComponents m around cs (behind (component_count (parts_of (denoted around t))) bare)) (λ rest. Is (join taken rest)))
 
-    -- What COMPONENTS OF takes in: constraints on the type itself have no part in it (25.5), those in its braces do.
+    -- What COMPONENTS OF takes in: constraints on the type itself have no part in it (clause 25), those in its braces do.
     pub FillsTaken : Visible → Surroundings → WrittenType → Components → Outcome Components → Type 0
     FillsTaken m around (type_node site tags base cs) bare = FillsTakenBase m around base bare
 

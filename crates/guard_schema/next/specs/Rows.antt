@@ -1,0 +1,6 @@
+-- Rows for the definitions (each by `refl`), once they compute over the layers:
+--   held of INTEGER (1) is 2; of I1 = I0 (I0) with I0 = INTEGER (1) it is 6, of the n-th such type 4 * 2^n - 2;
+--   value_nodes of {a 1, b {2, 3}} with an absent OPTIONAL c is 5;
+--   built_among 5 ∷ 3 ∷ [] with one thing built: Some for 5, None for 3 and for 7;
+--   constraint_before_of of SIZE (1..8) at a site is the written constraint (SIZE (1..8)) with that site on each of its nodes;
+--   type_alone of a value assignment is None.

@@ -1,0 +1,38 @@
+-- What the code's values stand for.
+use Rattle.std.specs.Prelude.{ℕ, List, [], ◌∷◌, map, string_bytes, Option, Some, None, option_map, option_and_then, bytes_eq}
+use Rattle.std.specs.Map.{lookup}
+use Rattle.guard_model.specs.TypeView.{type_view}
+use Rattle.guard_model.specs.ValueView.{value_view}
+use Rattle.guard_model.specs.declared.ty.Ty.{Ty}
+use Rattle.guard_names.specs.declared.names.Names.{Names}
+use Rattle.guard_names.specs.NamesView.{modules_of, order_of}
+use Rattle.guard_schema.specs.declared.progress.Progress.{Progress}
+use Rattle.guard_schema.specs.declared.progress.OneBuilt as code
+use Rattle.guard_schema.specs.declared.schema.Schema.{Schema}
+use Rattle.guard_schema.specs.declared.schema.ModuleTypes.{ModuleTypes}
+use Rattle.guard_schema.specs.Known.{Built, Known}
+use Rattle.guard_schema.specs.Schemas.{AbstractSchema}
+
+abbrev pub one_view : code.OneBuilt → Built
+one_view b = record { ty = type_view b.ty; is_automatic = b.is_automatic; value = option_map value_view b.value }
+
+-- the code keeps types, values and flags side by side, each in the order of definitions
+abbrev pub zipped : List Ty → List (Option code.Value) → List Bool → List Built
+zipped (t ∷ ts) (v ∷ vs) (a ∷ as) = record { ty = type_view t; is_automatic = a; value = option_map value_view v } ∷ zipped ts vs as
+zipped _ _ _ = []
+
+abbrev pub built_in : Progress → List Built
+built_in p = zipped p.known.types.items p.known.values.items p.automatic.items
+
+abbrev pub known_view : Names → Progress → Known
+known_view names p = record { modules = modules_of names; order = order_of names; built = built_in p }
+
+-- ---- the schema: for each module its types by name
+
+abbrev pub types_in : ModuleTypes → List ℕ → Option Ty
+types_in m name = lookup (λ k. bytes_eq name (string_bytes k)) m.types.entries
+
+abbrev pub schema_view : Schema → AbstractSchema
+schema_view s = record {
+    modules = map (λ e. string_bytes e.0) s.modules.entries;
+    types = λ home name. option_map type_view (option_and_then (λ m. types_in m name) (lookup (λ k. bytes_eq home (string_bytes k)) s.modules.entries)) }

@@ -53,22 +53,20 @@ with_parts (type.set old) cs = type.set cs
 with_parts (type.choice old) cs = type.choice cs
 with_parts kind cs = kind
 
-abbrev pub with_element : AbstractKind → AbstractType → AbstractKind
-with_element (type.sequence_of old) t = type.sequence_of t
-with_element (type.set_of old) t = type.set_of t
-with_element kind t = kind
+-- so many components in front, and those behind
+abbrev pub front : ℕ → Components → Components
+front zero cs = type.no_components
+front (suc n) type.no_components = type.no_components
+front (suc n) (type.component name t presence cs) = type.component name t presence (front n cs)
 
--- the type of an OF type's elements, where it is one
-abbrev pub elements_in : AbstractKind → Option AbstractType
-elements_in (type.sequence_of t) = Some t
-elements_in (type.set_of t) = Some t
-elements_in _ = None
-
--- what is left without so many components in front
 abbrev pub behind : ℕ → Components → Components
 behind zero cs = cs
 behind (suc n) type.no_components = type.no_components
 behind (suc n) (type.component name t presence cs) = behind n cs
+
+-- how many COMPONENTS OF this type puts in
+abbrev pub put_in : Surroundings → WrittenType → ℕ
+put_in around t = component_count (parts_of (denoted around t))
 
 -- ---- constraints, where `Reads` says what one is on a type, or its first fault
 
@@ -91,16 +89,13 @@ module _ (Reads : Visible → AbstractType → WrittenConstraint → Outcome Con
   Constrains m [] t = Is t
   Constrains m (c ∷ cs) t = Then (Reads m t c) (λ one. Constrains m cs (with_constraint t one))
 
-  -- ---- types. `bare` is the type as it comes from its tags and parts. What is referred to is finished, so nothing is filled into it.
+  -- ---- types. `bare` is the type as it comes from its tags and parts, so it has the kind and the components that are written. What is referred to is
+  -- finished, so nothing is filled into it.
 
   abbrev pub FillsPresence : Visible → AbstractType → WrittenPresence → Outcome AbstractPresence → Type 0
   FillsPresence m t mandatory = Is type.mandatory
   FillsPresence m t optional = Is type.optional
   FillsPresence m t (default tree) = Then (ReadsMember m t tree) (λ v. Is (type.default v))
-
-  -- the whole, when its kind is finished: the constraint before OF, or those behind
-  abbrev pub OfKind : Visible → AbstractType → List WrittenConstraint → AbstractKind → Outcome AbstractType → Type 0
-  OfKind m (type_of tags old constraints) cs kind = Constrains m cs (type_of tags kind constraints)
 
   abbrev mutual
     pub Finishes : Visible → Surroundings → WrittenType → AbstractType → Outcome AbstractType → Type 0
@@ -112,13 +107,14 @@ module _ (Reads : Visible → AbstractType → WrittenConstraint → Outcome Con
     FinishesBase m around (choice others) (type_of tags kind cons) =
         Then (FillsAlternatives m around others (components_in kind)) (λ parts. Is (type_of tags (with_parts kind parts) cons))
     FinishesBase m around (of_type k c t) (type_of tags kind cons) =
-        Then (FinishesElement m around t (elements_in kind)) (λ e. Constrains m (before_of c) (type_of tags (with_element kind e) cons))
+        Then (FinishesElement m around t kind) (λ finished. Constrains m (before_of c) (type_of tags finished cons))
     FinishesBase m around base bare = Is bare
 
-    -- an OF type has a type of elements
-    pub FinishesElement : Visible → Surroundings → WrittenType → Option AbstractType → Outcome AbstractType → Type 0
-    FinishesElement m around t (Some bare) = Finishes m around t bare
-    FinishesElement m around t None = λ answer. ⊥
+    -- the kind of an OF type, with the type of its elements finished
+    pub FinishesElement : Visible → Surroundings → WrittenType → AbstractKind → Outcome AbstractKind → Type 0
+    FinishesElement m around t (type.sequence_of bare) = Then (Finishes m around t bare) (λ u. Is (type.sequence_of u))
+    FinishesElement m around t (type.set_of bare) = Then (Finishes m around t bare) (λ u. Is (type.set_of u))
+    FinishesElement m around t kind = Is kind
 
     -- one for each component that is written, in their order, and as many as COMPONENTS OF puts in
     pub FillsComponents : Visible → Surroundings → WrittenComponents → Components → Outcome Components → Type 0
@@ -126,10 +122,10 @@ module _ (Reads : Visible → AbstractType → WrittenConstraint → Outcome Con
     FillsComponents m around (component site name t presence cs) (type.component n u p bare) =
         Then (Finishes m around t u) (λ v. Then (FillsPresence m v presence) (λ q.
         Then (FillsComponents m around cs bare) (λ rest. Is (type.component n v q rest))))
-    FillsComponents m around (component site name t presence cs) type.no_components = λ answer. ⊥
+    FillsComponents m around (component site name t presence cs) type.no_components = Is type.no_components
     FillsComponents m around (components_from site t cs) bare =
-        Then (FillsTaken m around t (parts_of (denoted around t))) (λ taken.
-        Then (FillsComponents m around cs (behind (component_count (parts_of (denoted around t))) bare)) (λ rest. Is (join taken rest)))
+        Then (FillsTaken m around t (front (put_in around t) bare)) (λ taken.
+        Then (FillsComponents m around cs (behind (put_in around t) bare)) (λ rest. Is (join taken rest)))
 
     -- What COMPONENTS OF takes in: constraints on the type itself have no part in it (clause 25), those in its braces do.
     pub FillsTaken : Visible → Surroundings → WrittenType → Components → Outcome Components → Type 0
@@ -143,4 +139,4 @@ module _ (Reads : Visible → AbstractType → WrittenConstraint → Outcome Con
     FillsAlternatives m around no_alternatives bare = Is type.no_components
     FillsAlternatives m around (alternative site name t others) (type.component n u p bare) =
         Then (Finishes m around t u) (λ v. Then (FillsAlternatives m around others bare) (λ rest. Is (type.component n v p rest)))
-    FillsAlternatives m around (alternative site name t others) type.no_components = λ answer. ⊥
+    FillsAlternatives m around (alternative site name t others) type.no_components = Is type.no_components

@@ -4,20 +4,21 @@ use Rattle.std.specs.Map.{lookup}
 use Rattle.guard_model.specs.TypeView.{type_view}
 use Rattle.guard_model.specs.ValueView.{value_view}
 use Rattle.guard_model.specs.declared.ty.Ty.{Ty}
+use Rattle.guard_model.specs.declared.value.Value.{Value}
 use Rattle.guard_names.specs.declared.names.Names.{Names}
 use Rattle.guard_names.specs.NamesView.{modules_of, order_of}
 use Rattle.guard_schema.specs.declared.progress.Progress.{Progress}
-use Rattle.guard_schema.specs.declared.progress.OneBuilt as code
+use Rattle.guard_schema.specs.declared.progress.Built as code
 use Rattle.guard_schema.specs.declared.schema.Schema.{Schema}
 use Rattle.guard_schema.specs.declared.schema.ModuleTypes.{ModuleTypes}
 use Rattle.guard_schema.specs.Known.{Built, Known}
 use Rattle.guard_schema.specs.Schemas.{AbstractSchema}
 
-abbrev pub one_view : code.OneBuilt → Built
-one_view b = record { ty = type_view b.ty; is_automatic = b.is_automatic; value = option_map value_view b.value }
+abbrev pub built_view : code.Built → Built
+built_view b = record { ty = type_view b.ty; is_automatic = b.is_automatic; value = option_map value_view b.value }
 
 -- the code keeps types, values and flags side by side, each in the order of definitions
-abbrev pub zipped : List Ty → List (Option code.Value) → List Bool → List Built
+abbrev pub zipped : List Ty → List (Option Value) → List Bool → List Built
 zipped (t ∷ ts) (v ∷ vs) (a ∷ as) = record { ty = type_view t; is_automatic = a; value = option_map value_view v } ∷ zipped ts vs as
 zipped _ _ _ = []
 

@@ -6,7 +6,7 @@ use Rattle.guard_names.specs.Declarations.{definitions}
 use Rattle.guard_names.specs.Meanings.{Uses}
 use Rattle.guard_names.specs.Order.{IsOrder}
 use Rattle.guard_names.specs.Faults.{AreFaultless, IsFirstFault}
-use Rattle.guard_constraints.specs.Outcome.{ReadsConstraint}
+use Rattle.guard_schema.specs.Constraints.{ReadsConstraint}
 use Rattle.guard_schema.specs.Outcomes.{Is, Then}
 use Rattle.guard_schema.specs.Faults.{AbstractFault, Name, Outcome}
 use Rattle.guard_schema.specs.Texts.{ReadsTexts, CountsTexts}

@@ -1,6 +1,6 @@
 //! What definitions denote, each in turn.
 ghost use Rattle.std.specs.Prelude.{◌≡◌, ◌+◌, length, option_map, slice_get, Some};
-ghost use Rattle.guard_constraints.specs.Outcome.{ReadsConstraint};
+ghost use Rattle.guard_schema.specs.Constraints.{ReadsConstraint};
 ghost use Rattle.guard_model.specs.TypeView.{type_view};
 ghost use Rattle.guard_model.specs.ValueView.{value_view};
 ghost use Rattle.guard_names.specs.NamesView.{modules_of, order_of};
@@ -83,7 +83,7 @@ fn assigned(
     value: &Option<ValueTree>,
 ) -> Result<Option<Value>, SchemaFault>
     // requires sound, fitting
-    // ensures { Answers (option_map value_view) named result (Assigns (visible_of scope.now) (type_view ty.now) (perhaps_value_view value.now)) }
+    // ensures { Answers (option_map value_view) named result (Assigns (visible_in scope.now) (type_view ty.now) (perhaps_value_view value.now)) }
 {
     match value {
         None => Ok(None),

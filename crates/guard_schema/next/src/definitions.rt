@@ -33,7 +33,7 @@ pub fn all_built(alloc: Global, names: &Names) -> Result<Progress, SchemaFault>
     let mut progress = Progress::with_room(alloc, order.len())?;
     for id in order {
         let built = built(alloc, names, &progress, *id)?;
-        progress.push(built)?;
+        progress = progress.with(built)?;
     }
     Ok(progress)
 }
@@ -42,7 +42,7 @@ pub fn all_built(alloc: Global, names: &Names) -> Result<Progress, SchemaFault>
 fn built(alloc: Global, names: &Names, progress: &Progress, id: Id) -> Result<Built, SchemaFault>
     requires next { slice_get (order_of names.now) (length (built_in progress.now)) ≡ Some id }
     ensures { Answers built_view named result (BuildsNumber ReadsConstraint (known_view names.now progress.now) id) }
-    // and of what is built: it is sound, its value fits, its counts are those of `Progress` with it (what `Progress::push` asks for)
+    // and of what is built: it is sound, its value fits, its counts are those with it (what `Progress::with` asks for), a clause each
 {
     let Some((home, assignment)) = names.home(id) else {
         unreachable!()

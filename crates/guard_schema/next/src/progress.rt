@@ -9,10 +9,8 @@ ghost use Rattle.guard_schema.specs.Counting.{type_nodes, all_held, most_held};
 ghost use Rattle.guard_schema.specs.Views.{zipped};
 
 use guard_model::{Ty, Value};
-use guard_names::Names;
-use guard_syntax::Module;
 use guard_tagging::Done;
-use guard_values::{Known, Scope};
+use guard_values::Known;
 use std::alloc::{AllocError, Global};
 
 /// What is built of one definition.
@@ -47,7 +45,7 @@ pub struct Progress {
 }
 
 impl Progress {
-    ghost use Rattle.guard_schema.specs.Views.{built_in, built_view, known_view};
+    ghost use Rattle.guard_schema.specs.Views.{built_in, built_view};
 
     /// Nothing yet, with room for so many definitions.
     pub fn with_room(alloc: Global, count: usize) -> Result<Progress, AllocError>
@@ -75,19 +73,25 @@ impl Progress {
         }
     }
 
-    /// One definition more. It is sound, its value fits, and the limits are kept.
-    pub fn push(&mut self, built: Built) -> Result<(), AllocError>
-        // requires sound, fitting, and both counts to be those with it
-        // ensures { OnOk result (built_in self.new ≡ built_in self.old ++ built_view built ∷ []) }
+    /// With one definition more. It is taken and handed back by value, since a list that is longer than the others would break what holds of it.
+    pub fn with(self, built: Built) -> Result<Progress, AllocError>
+        requires sound { IsTrue (is_sound (built_view built).ty) }
+        requires fits { IfSome (built_view built).value (λ v. IsTrue (fits (built_view built).ty v)) }
+        requires nodes { built.nodes ≡ type_nodes (built_in self ++ built_view built ∷ []) }
+        requires held { built.held ≡ all_held (built_in self ++ built_view built ∷ []) }
+        requires few { built.held ≤ most_held }
+        ensures { IfOk result (λ p. built_in p ≡ built_in self ++ built_view built ∷ []) }
     {
-        let Built { ty, is_automatic, value, nodes, held } = built;
-        self.known.types.push(Box::into_inner(ty))?;
-        self.known.values.push(value)?;
-        self.automatic.push(is_automatic)?;
-        self.nodes = nodes;
-        self.held = held;
-        Ok(())
-        // A `?` after the first push would leave the lists uneven, which the invariant forbids: `with_room` reserves, so write the pushes by
-        // `push_within_capacity`, or take `self` by value and hand it back, as guard_tagging's `Parts` does.
+        let Progress { known, mut automatic, .. } = self;
+        let Known { mut types, mut values } = known;
+        types.push(Box::into_inner(built.ty))?;
+        values.push(built.value)?;
+        automatic.push(built.is_automatic)?;
+        Ok(Progress {
+            known: Known { types, values },
+            automatic,
+            nodes: built.nodes,
+            held: built.held,
+        })
     }
 }

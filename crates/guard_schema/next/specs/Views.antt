@@ -5,14 +5,18 @@ use Rattle.guard_model.specs.TypeView.{type_view}
 use Rattle.guard_model.specs.ValueView.{value_view}
 use Rattle.guard_model.specs.declared.ty.Ty.{Ty}
 use Rattle.guard_model.specs.declared.value.Value.{Value}
+use Rattle.guard_syntax.specs.ModuleViews.{module_view}
 use Rattle.guard_names.specs.declared.names.Names.{Names}
 use Rattle.guard_names.specs.NamesView.{modules_of, order_of}
 use Rattle.guard_schema.specs.declared.progress.Progress.{Progress}
 use Rattle.guard_schema.specs.declared.progress.Built as code
 use Rattle.guard_schema.specs.declared.schema.Schema.{Schema}
 use Rattle.guard_schema.specs.declared.schema.ModuleTypes.{ModuleTypes}
-use Rattle.guard_schema.specs.Known.{Built, Known}
+use Rattle.guard_schema.specs.declared.scope.Scope.{Scope}
+use Rattle.guard_schema.specs.Known.{Built, Known, surroundings, visible}
 use Rattle.guard_schema.specs.Schemas.{AbstractSchema}
+use Rattle.guard_tagging.specs.Types.{Surroundings}
+use Rattle.guard_constraints.specs.Visible.{Visible}
 
 abbrev pub built_view : code.Built → Built
 built_view b = record { ty = type_view b.ty; is_automatic = b.is_automatic; value = option_map value_view b.value }
@@ -27,6 +31,14 @@ built_in p = zipped p.known.types.items p.known.values.items p.automatic.items
 
 abbrev pub known_view : Names → Progress → Known
 known_view names p = record { modules = modules_of names; order = order_of names; built = built_in p }
+
+-- ---- where a definition is built
+
+abbrev pub around_of : Scope → Surroundings
+around_of s = surroundings (known_view s.names.now s.progress.now) (module_view s.home.now)
+
+abbrev pub visible_of : Scope → Visible
+visible_of s = visible (known_view s.names.now s.progress.now) (module_view s.home.now)
 
 -- ---- the schema: for each module its types by name
 

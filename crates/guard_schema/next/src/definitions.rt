@@ -15,11 +15,11 @@ use crate::fault::SchemaFault;
 use crate::finishing::finished;
 use crate::members::member_value;
 use crate::progress::{Built, Progress};
+use crate::scope::Scope;
 use guard_model::{Site, Ty, Value};
 use guard_names::{Id, Names};
 use guard_syntax::ValueTree;
 use guard_tagging::skeleton_behind;
-use guard_values::Scope;
 use std::alloc::Global;
 
 /// Constraints, values and contained types over all definitions.
@@ -49,7 +49,7 @@ fn built(alloc: Global, names: &Names, progress: &Progress, id: Id) -> Result<Bu
     };
     let skeleton = skeleton_behind(alloc, names, &progress.done(), id)?;
     check_tags(assignment.site, &skeleton.ty)?;
-    let scope = Scope { names, home, known: &progress.known };
+    let scope = Scope { names, home, progress };
     let ty = finished(alloc, &scope, &assignment.ty, skeleton.ty)?;
     let value = assigned(alloc, &scope, &ty, &assignment.value)?;
     let held = within_limit(progress.held, assignment.site, &ty, &value)?;
@@ -83,7 +83,7 @@ fn assigned(
     value: &Option<ValueTree>,
 ) -> Result<Option<Value>, SchemaFault>
     // requires sound, fitting
-    // ensures { Answers (option_map value_view) named result (Assigns (visible_in scope.now) (type_view ty.now) (perhaps_value_view value.now)) }
+    // ensures { Answers (option_map value_view) named result (Assigns (visible_of scope.now) (type_view ty.now) (perhaps_value_view value.now)) }
 {
     match value {
         None => Ok(None),

@@ -4,7 +4,7 @@
 //! `mutual` of `specs/Finishing.antt` is one function here, in the same order.
 ghost use Rattle.std.specs.Prelude.{◌≡◌, ◌++◌, map, IsTrue, IfOk};
 ghost use Rattle.guard_schema.specs.Constraints.{ReadsConstraint};
-ghost use Rattle.guard_constraints.specs.Views.{visible_in};
+ghost use Rattle.guard_schema.specs.Views.{around_of, visible_of};
 ghost use Rattle.guard_model.specs.TypeView as model;
 ghost use Rattle.guard_schema.specs.Faults.{named};
 ghost use Rattle.guard_schema.specs.Finishing.{Finishes, FinishesBase, FinishesElement, FillsComponents, FillsAlternatives, FillsPresence, FillsTaken, Constrains, before_of};
@@ -12,22 +12,21 @@ ghost use Rattle.guard_schema.specs.Outcomes.{Answers};
 ghost use Rattle.guard_schema.specs.Outlines.{is_open, are_open};
 ghost use Rattle.guard_syntax.specs.Trees.{components_of, alternatives_of};
 ghost use Rattle.guard_syntax.specs.TypeViews as written;
-ghost use Rattle.guard_tagging.specs.ScopeView.{surroundings_of};
 
 use crate::fault::SchemaFault;
 use crate::members::member_value;
+use crate::scope::Scope;
 use guard_constraints::{constraint, constraint_before_of};
 use guard_model::{Comp, Kind, Presence, Ty};
 use guard_syntax::{AlternativeTree, BaseTree, CompForm, CompTree, ConsTree, OfConsTree, PresenceTree, TypeTree};
 use guard_tagging::put_in;
-use guard_values::Scope;
 use std::alloc::Global;
 use std::collections::VecDeque;
 
 // Conditions of each function here, not repeated below:
 //   requires open { IsTrue (is_open (type_view bare)) }     sound but for defaults that are pending (specs/Outlines.antt)
-//   requires known { AreSound (visible_in scope.now) }      types that names mean are sound
-//   requires fitting { AreFitting (meaning_of scope.now) } values fit their governors
+//   requires known { AreSound (visible_of scope.now) }      types that names mean are sound
+//   requires fitting { AreFitting (visible_of scope.now).values } values fit their governors
 // and what it ensures beside its outcome:
 //   ensures sound { IfOk result (λ t. IsTrue (is_sound (type_view t.value))) }
 //   ensures outline { IfOk result (λ t. outline (type_view t.value) ≡ outline (type_view bare.value)) }
@@ -42,7 +41,7 @@ pub fn finished(
     tree: &TypeTree,
     bare: Box<Ty>,
 ) -> Result<Box<Ty>, SchemaFault>
-    ensures { Answers (λ t. model.type_view t.value) named result (Finishes ReadsConstraint (visible_in scope.now) (surroundings_of scope.now) (written.type_view tree.now) (model.type_view bare.value)) }
+    ensures { Answers (λ t. model.type_view t.value) named result (Finishes ReadsConstraint (visible_of scope.now) (around_of scope.now) (written.type_view tree.now) (model.type_view bare.value)) }
 {
     let ty = finished_base(alloc, scope, &tree.base, bare)?;
     constrained(alloc, scope, &tree.cons, ty)
@@ -56,7 +55,7 @@ fn finished_base(
     base: &BaseTree,
     bare: Box<Ty>,
 ) -> Result<Box<Ty>, SchemaFault>
-    ensures { Answers (λ t. model.type_view t.value) named result (FinishesBase ReadsConstraint (visible_in scope.now) (surroundings_of scope.now) (written.base_view base.now) (model.type_view bare.value)) }
+    ensures { Answers (λ t. model.type_view t.value) named result (FinishesBase ReadsConstraint (visible_of scope.now) (around_of scope.now) (written.base_view base.now) (model.type_view bare.value)) }
 {
     match base {
         BaseTree::Structure(_, trees) => structure(alloc, scope, trees, bare),
@@ -130,7 +129,7 @@ fn components(
     trees: &[CompTree],
     bare: Vec<Comp>,
 ) -> Result<Vec<Comp>, SchemaFault>
-    ensures { Answers (λ v. model.components_of (map model.component_view v.items)) named result (FillsComponents ReadsConstraint (visible_in scope.now) (surroundings_of scope.now) (components_of (map written.component_view trees.now)) (model.components_of (map model.component_view bare.items))) }
+    ensures { Answers (λ v. model.components_of (map model.component_view v.items)) named result (FillsComponents ReadsConstraint (visible_of scope.now) (around_of scope.now) (components_of (map written.component_view trees.now)) (model.components_of (map model.component_view bare.items))) }
 {
     let mut done = Vec::with_capacity(alloc, bare.len())?;
     let mut left = VecDeque::from(bare);
@@ -153,7 +152,7 @@ fn entry(
     match &tree.form {
         CompForm::Named(_, ty, presence) => component(alloc, scope, ty, presence, left.pop_front()),
         CompForm::ComponentsOf(ty) => {
-            let bare = taken_front(alloc, left, put_in(scope, ty))?;
+            let bare = taken_front(alloc, left, put_in(&scope.tags(), ty))?;
             taken(alloc, scope, &ty.base, bare)
         }
     }
@@ -186,7 +185,7 @@ fn presence_of(
     ty: &Ty,
     presence: &PresenceTree,
 ) -> Result<Presence, SchemaFault>
-    ensures { Answers model.presence_view named result (FillsPresence (visible_in scope.now) (model.type_view ty.now) (written.presence_view presence.now)) }
+    ensures { Answers model.presence_view named result (FillsPresence (visible_of scope.now) (model.type_view ty.now) (written.presence_view presence.now)) }
 {
     match presence {
         PresenceTree::Mandatory => Ok(Presence::Mandatory),
@@ -234,7 +233,7 @@ fn alternatives(
     trees: &[AlternativeTree],
     bare: Vec<Comp>,
 ) -> Result<Vec<Comp>, SchemaFault>
-    ensures { Answers (λ v. model.components_of (map model.component_view v.items)) named result (FillsAlternatives ReadsConstraint (visible_in scope.now) (surroundings_of scope.now) (alternatives_of (map written.alternative_view trees.now)) (model.components_of (map model.component_view bare.items))) }
+    ensures { Answers (λ v. model.components_of (map model.component_view v.items)) named result (FillsAlternatives ReadsConstraint (visible_of scope.now) (around_of scope.now) (alternatives_of (map written.alternative_view trees.now)) (model.components_of (map model.component_view bare.items))) }
 {
     let mut done = Vec::with_capacity(alloc, bare.len())?;
     let mut left = VecDeque::from(bare);
@@ -266,11 +265,11 @@ fn constrained(
     trees: &[ConsTree],
     ty: Box<Ty>,
 ) -> Result<Box<Ty>, SchemaFault>
-    ensures { Answers (λ t. model.type_view t.value) named result (Constrains ReadsConstraint (visible_in scope.now) (map written.constraint_view trees.now) (model.type_view ty.value)) }
+    ensures { Answers (λ t. model.type_view t.value) named result (Constrains ReadsConstraint (visible_of scope.now) (map written.constraint_view trees.now) (model.type_view ty.value)) }
 {
     let mut ty = ty;
     for tree in trees {
-        let cons = constraint(alloc, *scope, &ty, tree)?;
+        let cons = constraint(alloc, scope.values(), &ty, tree)?;
         ty.cons.push(cons)?;
     }
     Ok(ty)
@@ -282,10 +281,10 @@ fn constrained_before_of(
     tree: &OfConsTree,
     ty: Box<Ty>,
 ) -> Result<Box<Ty>, SchemaFault>
-    ensures { Answers (λ t. model.type_view t.value) named result (Constrains ReadsConstraint (visible_in scope.now) (before_of (Some (written.of_constraint_view tree.now))) (model.type_view ty.value)) }
+    ensures { Answers (λ t. model.type_view t.value) named result (Constrains ReadsConstraint (visible_of scope.now) (before_of (Some (written.of_constraint_view tree.now))) (model.type_view ty.value)) }
 {
     let mut ty = ty;
-    let cons = constraint_before_of(alloc, *scope, &ty, tree)?;
+    let cons = constraint_before_of(alloc, scope.values(), &ty, tree)?;
     ty.cons.push(cons)?;
     Ok(ty)
 }

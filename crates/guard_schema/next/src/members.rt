@@ -9,13 +9,12 @@ ghost use Rattle.guard_schema.specs.Finishing.{ReadsMember};
 ghost use Rattle.guard_schema.specs.Outcomes.{Answers};
 ghost use Rattle.guard_syntax.specs.Views as trees;
 ghost use Rattle.guard_values.specs.Meanings.{AreFitting};
-ghost use Rattle.guard_values.specs.Views.{meaning_of};
-ghost use Rattle.guard_constraints.specs.Views.{visible_in};
+ghost use Rattle.guard_schema.specs.Views.{visible_of};
 
 use crate::fault::SchemaFault;
+use crate::scope::Scope;
 use guard_model::{Ty, Value};
 use guard_syntax::ValueTree;
-use guard_values::Scope;
 use std::alloc::Global;
 
 /// The value that is written, a member of its type.
@@ -26,11 +25,11 @@ pub fn member_value(
     tree: &ValueTree,
 ) -> Result<Value, SchemaFault>
     requires sound { IsTrue (is_sound (type_view ty.now)) }
-    requires fitting { AreFitting (meaning_of scope.now) }
-    ensures read { Answers value_view named result (ReadsMember (visible_in scope.now) (type_view ty.now) (trees.value_view tree.now)) }
+    requires fitting { AreFitting (visible_of scope.now).values }
+    ensures read { Answers value_view named result (ReadsMember (visible_of scope.now) (type_view ty.now) (trees.value_view tree.now)) }
     ensures proper { IfOk result (λ v. IsTrue (may_stand_in (type_view ty.now) (value_view v))) }
 {
-    let value = guard_values::value(alloc, *scope, ty, tree)?;
+    let value = guard_values::value(alloc, scope.values(), ty, tree)?;
     // `member` asks for KeepsBase, which guard_eval's law gives of a sound type, and for a value that fits, which `value` ensures
     if !guard_eval::member(ty, &value) {
         return Err(SchemaFault::DefaultOutside(tree.site));

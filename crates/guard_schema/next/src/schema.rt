@@ -1,5 +1,5 @@
 //! Schemas.
-ghost use Rattle.std.specs.Prelude.{◌≡◌, ◌++◌, ◌∷◌, [], map, length, IfOk, IfErr, IfSome, IsTrue, option_map, Option, Some, None, ℕ, List};
+ghost use Rattle.std.specs.Prelude.{◌≡◌, All, map, length, IfOk, IfErr, IfSome, IsTrue, option_map, Option, Some, None, ℕ, List};
 ghost use Rattle.std.proofs.Props.{props};
 ghost use Rattle.guard_der.specs.Sound.{is_sound};
 ghost use Rattle.guard_model.specs.Answer.{Gives};
@@ -23,7 +23,7 @@ use std::alloc::{AllocError, Global};
 #[derive(Drop)]
 pub struct Schema {
     modules: IndexMap<String, ModuleTypes>,
-    pub ghost sound: { AreSoundTypes modules.entries } by { Prim.hlevel props },
+    pub ghost sound: { All (λ e. All (λ f. IsTrue (is_sound (model.type_view f.1))) e.1.types.entries) modules.entries } by { Prim.hlevel props },
 }
 
 /// The types to which a module assigns names, in the order of definitions.

@@ -5,7 +5,6 @@ use Rattle.guard_model.specs.declared.site.Site.{Site}
 use Rattle.guard_model.specs.AbstractType as type
 use Rattle.guard_model.specs.AbstractType.{AbstractType, AbstractKind, AbstractPresence, Components, Constraint, Constraints, type_of}
 use Rattle.guard_model.specs.AbstractValue.{AbstractValue}
-use Rattle.guard_model.specs.Components.{components_in}
 use Rattle.guard_model.specs.Counts.{component_count}
 use Rattle.guard_syntax.specs.Trees as written
 use Rattle.guard_syntax.specs.Trees.{WrittenValue, value_node, WrittenConstraint, WrittenOfConstraint, WrittenPresence, mandatory, optional, default, WrittenType, type_node, WrittenBase, structure, choice, of_type, WrittenComponents, no_components, component, components_from, WrittenAlternatives, no_alternatives, alternative}
@@ -47,12 +46,6 @@ add (type.constraint d ds) c = type.constraint d (add ds c)
 abbrev pub with_constraint : AbstractType → Constraint → AbstractType
 with_constraint (type_of tags kind cons) c = type_of tags kind (add cons c)
 
-abbrev pub with_parts : AbstractKind → Components → AbstractKind
-with_parts (type.sequence old) cs = type.sequence cs
-with_parts (type.set old) cs = type.set cs
-with_parts (type.choice old) cs = type.choice cs
-with_parts kind cs = kind
-
 -- so many components in front, and those behind
 abbrev pub front : ℕ → Components → Components
 front zero cs = type.no_components
@@ -74,7 +67,7 @@ put_in around t = component_count (parts_of (denoted around t))
 abbrev pub in_parentheses : Site → written.WrittenElementForm → WrittenConstraint
 in_parentheses site form =
     written.constraint site (written.set_node site (written.union
-      (written.intersection site (written.element_alone site (written.element_node site form)) written.none_met) written.none_united))
+    (written.intersection site (written.element_alone site (written.element_node site form)) written.none_met) written.none_united))
 
 abbrev pub constraint_before_of : WrittenOfConstraint → WrittenConstraint
 constraint_before_of c = if c.size then in_parentheses c.site (written.size c.constraint) else c.constraint
@@ -103,14 +96,23 @@ module _ (Reads : Visible → AbstractType → WrittenConstraint → Outcome Con
 
     pub FinishesBase : Visible → Surroundings → WrittenBase → AbstractType → Outcome AbstractType → Type 0
     FinishesBase m around (structure k cs) (type_of tags kind cons) =
-        Then (FillsComponents m around cs (components_in kind)) (λ parts. Is (type_of tags (with_parts kind parts) cons))
+        Then (FinishesList m around cs kind) (λ finished. Is (type_of tags finished cons))
     FinishesBase m around (choice others) (type_of tags kind cons) =
-        Then (FillsAlternatives m around others (components_in kind)) (λ parts. Is (type_of tags (with_parts kind parts) cons))
+        Then (FinishesChoice m around others kind) (λ finished. Is (type_of tags finished cons))
     FinishesBase m around (of_type k c t) (type_of tags kind cons) =
         Then (FinishesElement m around t kind) (λ finished. Constrains m (before_of c) (type_of tags finished cons))
     FinishesBase m around base bare = Is bare
 
-    -- the kind of an OF type, with the type of its elements finished
+    -- the kind of a SEQUENCE or SET, of a CHOICE, of an OF type, with its parts finished; another kind isn't written so, and stays
+    pub FinishesList : Visible → Surroundings → WrittenComponents → AbstractKind → Outcome AbstractKind → Type 0
+    FinishesList m around cs (type.sequence bare) = Then (FillsComponents m around cs bare) (λ parts. Is (type.sequence parts))
+    FinishesList m around cs (type.set bare) = Then (FillsComponents m around cs bare) (λ parts. Is (type.set parts))
+    FinishesList m around cs kind = Is kind
+
+    pub FinishesChoice : Visible → Surroundings → WrittenAlternatives → AbstractKind → Outcome AbstractKind → Type 0
+    FinishesChoice m around others (type.choice bare) = Then (FillsAlternatives m around others bare) (λ parts. Is (type.choice parts))
+    FinishesChoice m around others kind = Is kind
+
     pub FinishesElement : Visible → Surroundings → WrittenType → AbstractKind → Outcome AbstractKind → Type 0
     FinishesElement m around t (type.sequence_of bare) = Then (Finishes m around t bare) (λ u. Is (type.sequence_of u))
     FinishesElement m around t (type.set_of bare) = Then (Finishes m around t bare) (λ u. Is (type.set_of u))

@@ -23,7 +23,7 @@ built_view b = record { ty = type_view b.ty; is_automatic = b.is_automatic; valu
 
 -- the code keeps types, values and flags side by side, each in the order of definitions
 abbrev pub zipped : List Ty → List (Option Value) → List Bool → List Built
-zipped (t ∷ ts) (v ∷ vs) (a ∷ as) = record { ty = type_view t; is_automatic = a; value = option_map value_view v } ∷ zipped ts vs as
+zipped (t ∷ ts) (v ∷ vs) (flag ∷ flags) = record { ty = type_view t; is_automatic = flag; value = option_map value_view v } ∷ zipped ts vs flags
 zipped _ _ _ = []
 
 abbrev pub built_in : Progress → List Built
@@ -47,5 +47,6 @@ types_in m name = lookup (λ k. bytes_eq name (string_bytes k)) m.types.entries
 
 abbrev pub schema_view : Schema → AbstractSchema
 schema_view s = record {
-    modules = map (λ e. string_bytes e.0) s.modules.entries;
-    types = λ home name. option_map type_view (option_and_then (λ m. types_in m name) (lookup (λ k. bytes_eq home (string_bytes k)) s.modules.entries)) }
+  modules = map (λ e. string_bytes e.0) s.modules.entries;
+  types = λ home name. option_map type_view (option_and_then (λ m. types_in m name) (lookup (λ k. bytes_eq home (string_bytes k)) s.modules.entries));
+}

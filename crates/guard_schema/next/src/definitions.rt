@@ -42,14 +42,18 @@ pub fn all_built(alloc: Global, names: &Names) -> Result<Progress, SchemaFault>
 fn built(alloc: Global, names: &Names, progress: &Progress, id: Id) -> Result<Built, SchemaFault>
     requires next { slice_get (order_of names.now) (length (built_in progress.now)) ≡ Some id }
     ensures { Answers built_view named result (BuildsNumber ReadsConstraint (known_view names.now progress.now) id) }
-    // and of what is built: it is sound, its value fits, its counts are those with it (what `Progress::with` asks for), a clause each
+// and of what is built: it is sound, its value fits, its counts are those with it (what `Progress::with` asks for), a clause each
 {
     let Some((home, assignment)) = names.home(id) else {
         unreachable!()
     };
     let skeleton = skeleton_behind(alloc, names, &progress.done(), id)?;
     check_tags(assignment.site, &skeleton.ty)?;
-    let scope = Scope { names, home, progress };
+    let scope = Scope {
+        names,
+        home,
+        progress,
+    };
     let ty = finished(alloc, &scope, &assignment.ty, skeleton.ty)?;
     let value = assigned(alloc, &scope, &ty, &assignment.value)?;
     let held = within_limit(progress.held, assignment.site, &ty, &value)?;
@@ -82,8 +86,8 @@ fn assigned(
     ty: &Ty,
     value: &Option<ValueTree>,
 ) -> Result<Option<Value>, SchemaFault>
-    // requires sound, fitting
-    // ensures { Answers (option_map value_view) named result (Assigns (visible_of scope.now) (type_view ty.now) (perhaps_value_view value.now)) }
+// requires sound, fitting
+// ensures { Answers (option_map value_view) named result (Assigns (visible_of scope.now) (type_view ty.now) (perhaps_value_view value.now)) }
 {
     match value {
         None => Ok(None),
@@ -98,7 +102,7 @@ fn within_limit(
     ty: &Ty,
     value: &Option<Value>,
 ) -> Result<usize, SchemaFault>
-    // ensures { Answers .. (KeepsLimit ..) }, and that the answer is before + what is held
+// ensures { Answers .. (KeepsLimit ..) }, and that the answer is before + what is held
 {
     let held = held_by(before, ty, value);
     if held > MOST_HELD {

@@ -18,7 +18,9 @@ use crate::members::member_value;
 use crate::scope::Scope;
 use guard_constraints::{constraint, constraint_before_of};
 use guard_model::{Comp, Kind, Presence, Ty};
-use guard_syntax::{AlternativeTree, BaseTree, CompForm, CompTree, ConsTree, OfConsTree, PresenceTree, TypeTree};
+use guard_syntax::{
+    AlternativeTree, BaseTree, CompForm, CompTree, ConsTree, OfConsTree, PresenceTree, TypeTree,
+};
 use guard_tagging::put_in;
 use std::alloc::Global;
 use std::collections::VecDeque;
@@ -81,7 +83,6 @@ fn structure(
     };
     Ok(Box::new(alloc, Ty { tags, kind, cons })?)
     // Box::into_inner and Box::new again: where `*bare = ..` proves (a write through a Box that is held), write that, and no new box is asked for.
-    // The kinds that don't come here (a CHOICE, `components_in` of which isn't empty) want a fourth arm to be exactly `FinishesBase`.
 }
 
 #[cycle(finishing)]
@@ -170,12 +171,23 @@ fn component(
     bare: Option<Comp>,
 ) -> Result<Vec<Comp>, SchemaFault> {
     let mut one = Vec::new(alloc);
-    let Some(Comp { name, ty: bare_ty, presence: bare_presence }) = bare else {
+    let Some(
+        Comp {
+            name,
+            ty: bare_ty,
+            presence: bare_presence,
+        },
+    ) = bare
+    else {
         return Ok(one);
     };
     let ty = finished(alloc, scope, ty, Box::new(alloc, bare_ty)?)?;
     let presence = presence_of(alloc, scope, &ty, presence)?;
-    one.push(Comp { name, ty: Box::into_inner(ty), presence })?;
+    one.push(Comp {
+        name,
+        ty: Box::into_inner(ty),
+        presence,
+    })?;
     Ok(one)
 }
 
@@ -214,7 +226,7 @@ fn taken_front(
     left: &mut VecDeque<Comp>,
     count: usize,
 ) -> Result<Vec<Comp>, SchemaFault>
-    // OnOk: result.items is `take count left.old`, left.new is `drop count left.old`
+// OnOk: result.items is `take count left.old`, left.new is `drop count left.old`
 {
     let mut taken = Vec::new(alloc);
     for _ in 0..count {
@@ -255,7 +267,11 @@ fn alternative(
 ) -> Result<Comp, SchemaFault> {
     let Comp { name, ty, presence } = bare;
     let ty = finished(alloc, scope, &tree.ty, Box::new(alloc, ty)?)?;
-    Ok(Comp { name, ty: Box::into_inner(ty), presence })
+    Ok(Comp {
+        name,
+        ty: Box::into_inner(ty),
+        presence,
+    })
 }
 
 /// The type with the constraints behind it, each on the type with those before it.

@@ -64,7 +64,7 @@ impl Progress {
 
     /// What guard_tagging sees of it.
     pub fn done(&self) -> Done<'_>
-        // the meanings of types that a scope of guard_tagging takes from it are those of `surroundings`
+    // the meanings of types that a scope of guard_tagging takes from it are those of `surroundings`
     {
         Done {
             types: &self.known.types,
@@ -82,8 +82,15 @@ impl Progress {
         requires few { built.held ≤ most_held }
         ensures { IfOk result (λ p. built_in p ≡ built_in self ++ built_view built ∷ []) }
     {
-        let Progress { known, mut automatic, .. } = self;
-        let Known { mut types, mut values } = known;
+        let Progress {
+            known,
+            mut automatic,
+            ..
+        } = self;
+        let Known {
+            mut types,
+            mut values,
+        } = known;
         types.push(Box::into_inner(built.ty))?;
         values.push(built.value)?;
         automatic.push(built.is_automatic)?;

@@ -69,11 +69,14 @@ impl Schema {
         names: &Names,
         progress: Progress,
     ) -> Result<Schema, AllocError>
-        // requires the progress to hold all definitions
-        // ensures { IfOk result (λ s. schema_view s ≡ schema_of (known_view names.now progress)) }
+    // requires the progress to hold all definitions
+    // ensures { IfOk result (λ s. schema_view s ≡ schema_of (known_view names.now progress)) }
     {
         let mut schema = Schema::without_types(alloc, modules)?;
-        let Progress { known: Known { types, values }, .. } = progress;
+        let Progress {
+            known: Known { types, values },
+            ..
+        } = progress;
         for (place, (ty, value)) in types.into_iter().zip(values).enumerate() {
             schema.put(alloc, names, names.order()[place], ty, value)?;
         }
@@ -85,7 +88,12 @@ impl Schema {
         let mut named = IndexMap::with_capacity(alloc, modules.len())?;
         for module in modules {
             let name = name_text(alloc, module.name)?;
-            named.insert(name, ModuleTypes { types: IndexMap::new(alloc) })?;
+            named.insert(
+                name,
+                ModuleTypes {
+                    types: IndexMap::new(alloc),
+                },
+            )?;
         }
         Ok(Schema { modules: named })
     }

@@ -24,7 +24,7 @@ pub fn check_count(texts: &[&[u8]]) -> Result<(), SchemaFault>
 pub fn modules<'a>(alloc: Global, texts: &[&'a [u8]]) -> Result<Vec<Module<'a>>, SchemaFault>
     requires { length texts.now < 65 }
     ensures { Answers (λ v. map module_view v.items) named result (ReadsTexts 1 (map (λ t. t.now) texts.now)) }
-    // proved by the loop's invariant: what the texts behind this one are, with those so far before them, is what all are
+// proved by the loop's invariant: what the texts behind this one are, with those so far before them, is what all are
 {
     let mut modules = Vec::with_capacity(alloc, texts.len())?;
     let mut place = 1;

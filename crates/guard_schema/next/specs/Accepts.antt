@@ -9,16 +9,16 @@ use Rattle.guard_names.specs.Faults.{AreFaultless, IsFirstFault}
 use Rattle.guard_schema.specs.Constraints.{ReadsConstraint}
 use Rattle.guard_schema.specs.Outcomes.{Is, Then}
 use Rattle.guard_schema.specs.Faults.{AbstractFault, Name, Outcome}
-use Rattle.guard_schema.specs.Texts.{ReadsTexts, CountsTexts}
+use Rattle.guard_schema.specs.Texts.{AreModuleTexts, ReadsTexts, CountsTexts}
 use Rattle.guard_schema.specs.Known.{Built, Known, none_known}
-use Rattle.guard_schema.specs.Building.{BuildsAll}
+use Rattle.guard_schema.specs.Building.{AreBuilt, BuildsAll}
 use Rattle.guard_schema.specs.Schemas.{AbstractSchema, schema_of}
 
 -- The texts denote the schema.
 pub record Accepts (texts : List (List ℕ)) (schema : AbstractSchema) : Type 0 where
   -- each text is cut into tokens that write the tree of a module
   pub modules : List WrittenModule
-  pub written : ReadsTexts 1 texts (Ok modules)
+  pub written : AreModuleTexts 1 texts modules
   -- names have no fault: there are 64 modules at most, each name means one definition, and none uses itself
   pub named : AreFaultless modules
   -- the order in which each definition stands behind all that it uses
@@ -27,7 +27,7 @@ pub record Accepts (texts : List (List ℕ)) (schema : AbstractSchema) : Type 0 
   -- In this order each definition denotes what is built of it: its tags, parts and numbering (guard_tagging), tags that tell the parts apart
   -- (guard_tagcheck), constraints (guard_constraints) and defaults (guard_values), and its value; defaults and values are members (guard_eval).
   pub built : List Built
-  pub denoted : BuildsAll ReadsConstraint (none_known modules order) order (Ok built)
+  pub denoted : AreBuilt ReadsConstraint (none_known modules order) order built
   -- so each type is sound (guard_der)
   pub sound : All (λ b. IsTrue (is_sound b.ty)) built
   -- the types by their names

@@ -20,6 +20,14 @@ pub record IsModuleText (place : ℕ) (text : List ℕ) (tree : WrittenModule) :
   pub written : IsWritten tree (lexemes_of text tokens)
   pub sites : HasSites tree (sites_of tokens)
 
+-- the texts from this place on are modules, with these trees
+abbrev pub AreModuleTexts : ℕ → List (List ℕ) → List WrittenModule → Type 0
+AreModuleTexts place [] [] = Unit {0}
+AreModuleTexts place (text ∷ texts) (tree ∷ trees) = IsModuleText place text tree × AreModuleTexts (suc place) texts trees
+AreModuleTexts place _ _ = ⊥
+
+-- ---- the same with its faults
+
 -- It is cut into tokens that write no tree, and the fault names one of them, or the end of the text.
 pub record WritesNothing (place : ℕ) (text : List ℕ) (fault : SyntaxFault) : Type 0 where
   pub tokens : List Token

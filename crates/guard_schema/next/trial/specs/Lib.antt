@@ -1,0 +1,3 @@
+-- What is said.
+pub mod Outcomes
+pub mod Toy

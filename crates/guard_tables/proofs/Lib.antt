@@ -1,0 +1,2 @@
+-- ---- counting down
+pub mod Counts

@@ -1,0 +1,15 @@
+use Rattle.std.proofs.Common.{◌≡◌, ◌∷◌}
+use Rattle.guard_model.specs.TypeView.{type_view}
+use Rattle.guard_model.proofs.Components.{left}
+use Rattle.guard_tables.specs.Conditions.{has_crowded_component}
+use Rattle.guard_tables.specs.Tables.{types_view}
+use Rattle.guard_tables.proofs.nodes.+nodes.Given as goal
+
+-- none of the components so far has such a node, and the way is what it was
+abbrev pub invariant-has_crowded_component-loop-place : goal.invariant-has_crowded_component-loop-place
+invariant-has_crowded_component-loop-place l =
+    let types = type_view l.declared ∷ types_view l.rules in
+    record {
+      found : has_crowded_component types l.way.items l.place (left l.comps l.place) ≡ has_crowded_component types l.way-entry.items 0 (left l.comps 0);
+      same : l.way.items ≡ l.way-entry.items;
+    }

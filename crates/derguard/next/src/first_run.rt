@@ -1,0 +1,65 @@
+//! Four messages, decided by the policy that is built in.
+ghost use Rattle.std.specs.Prelude.{◌≡◌, ◌++◌, codes, IfOk, OnOk};
+ghost use Rattle.guard_policy.specs.PolicyView.{policy_view};
+ghost use Rattle.derguard.specs.Printing.{AreLines, AppendsLine};
+ghost use Rattle.derguard.specs.FirstRun.{sent, first_messages, IsFirstRun};
+
+use crate::fault::Fault;
+use guard_model::OutOfMemory;
+use guard_policy::{Policy, Route};
+use guard_report::verdict_text;
+use guard_schema::Schema;
+use std::alloc::Global;
+
+/// The module that is built in.
+const MODULE: &str =
+    "First DEFINITIONS EXPLICIT TAGS ::= BEGIN\nLevel ::= INTEGER (0..100)\nLow ::= INTEGER (0..9)\nPing ::= SEQUENCE { level INTEGER (0..100), urgent BOOLEAN }\nEND\n";
+
+/// The policy that is built in.
+const POLICY: &str =
+    "modules = [\"first.asn1\"]\n[[message]]\nname = \"level\"\nmodule = \"First\"\ntype = \"Level\"\n[[message]]\nname = \"ping\"\nmodule = \"First\"\ntype = \"Ping\"\n[[rule]]\nname = \"low\"\neffect = \"allow\"\nfrom = \"a\"\nto = \"b\"\nmessage = \"level\"\nmodule = \"First\"\ntype = \"Low\"\n[[rule]]\nname = \"ping\"\neffect = \"allow\"\nfrom = \"a\"\nto = \"b\"\nmessage = \"ping\"\nmodule = \"First\"\ntype = \"Ping\"\n";
+
+/// The lines that are printed for the four messages.
+pub fn first_run(alloc: Global) -> Result<Vec<u8>, Fault>
+    ensures { IfOk result (λ out. IsFirstRun out.items) }
+{
+    let schema = Schema::build(alloc, &[MODULE.as_bytes()])?;
+    let policy = Policy::load(alloc, POLICY.as_bytes(), &schema)?;
+    Ok(decide_first(alloc, &policy)?)
+}
+
+/// A line for each of the four messages, with the text of its verdict.
+fn decide_first(alloc: Global, policy: &Policy) -> Result<Vec<u8>, OutOfMemory>
+    ensures { IfOk result (λ out. AreLines (policy_view policy.now) first_messages out.items) }
+{
+    let mut out = Vec::new(alloc);
+    decide(alloc, policy, b"level", &[0x02, 0x01, 0x05], &mut out)?;
+    decide(alloc, policy, b"level", &[0x02, 0x01, 0x14], &mut out)?;
+    let good = [0x30, 0x06, 0x02, 0x01, 0x05, 0x01, 0x01, 0xFF];
+    decide(alloc, policy, b"ping", &good, &mut out)?;
+    let bad = [0x30, 0x06, 0x02, 0x01, 0x05, 0x01, 0x01, 0x01];
+    decide(alloc, policy, b"ping", &bad, &mut out)?;
+    Ok(out)
+}
+
+/// Adds the line for a message from `a` to `b`.
+fn decide(
+    alloc: Global,
+    policy: &Policy,
+    message: &[u8],
+    octets: &[u8],
+    out: &mut Vec<u8>,
+) -> Result<(), OutOfMemory>
+    ensures { OnOk result (AppendsLine (policy_view policy.now) (sent message.now octets.now) out.old.items out.new.items) }
+{
+    let route = Route {
+        from: b"a",
+        to: b"b",
+        message,
+    };
+    let verdict = policy.verdict(alloc, &route, octets)?;
+    let text = verdict_text(alloc, &verdict, &route, policy)?;
+    out.extend_from_slice(&text)?;
+    out.push(b'\n')?;
+    Ok(())
+}

@@ -63,6 +63,6 @@ module _ (gives : List ℕ → Option (List ℕ) → Type 0) where
       ⊎ ((policy : List ℕ) × (fault : AbstractFault) × gives path (Some policy) × ListsNoFiles policy fault)
       ⊎ ((policy : List ℕ) × (files : List (List ℕ)) × (missing : List ℕ) × gives path (Some policy) × ListsFiles policy files × FailsAt (folder path) files missing)
       ⊎ ((policy : List ℕ) × (files : List (List ℕ)) × (modules : List (List ℕ)) × (fault : schema.AbstractFault)
-          × HaveTexts path policy files modules × MakesNoSchema modules fault)
+      × HaveTexts path policy files modules × MakesNoSchema modules fault)
       ⊎ ((policy : List ℕ) × (files : List (List ℕ)) × (modules : List (List ℕ)) × (s : AbstractSchema) × (fault : AbstractFault)
-          × HaveTexts path policy files modules × Accepts modules s × IsRefused policy s fault)
+      × HaveTexts path policy files modules × Accepts modules s × IsRefused policy s fault)

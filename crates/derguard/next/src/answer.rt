@@ -45,18 +45,22 @@ fn shown(alloc: Global, e: &clap::Error) -> Result<Answer, OutOfMemory> {
     let text = format!(in alloc; "{e}")?.into_bytes();
     let nothing = Vec::new(alloc);
     if e.use_stderr() {
-        Ok(Answer { out: nothing, err: text, status: 2 })
+        Ok(Answer {
+            out: nothing,
+            err: text,
+            status: 2,
+        })
     } else {
-        Ok(Answer { out: text, err: nothing, status: 0 })
+        Ok(Answer {
+            out: text,
+            err: nothing,
+            status: 0,
+        })
     }
 }
 
 /// What is answered to a request.
-pub fn met<F: Files>(
-    alloc: Global,
-    request: &Request,
-    files: &mut F,
-) -> Result<Answer, OutOfMemory>
+pub fn met<F: Files>(alloc: Global, request: &Request, files: &mut F) -> Result<Answer, OutOfMemory>
     // Status 0 or 1: what goes out is the answer to the request, and nothing goes to standard error;
     // status 2: nothing goes out, and some text that the request needs has a fault.
     ensures { IfOk result (λ a. IsAnswer (F.gives files.old) (request_view request.now) (answer_view a)) }
@@ -82,13 +86,20 @@ fn outcome<F: Files>(alloc: Global, request: &Request, files: &mut F) -> Result<
 
 /// An answer with status 0.
 fn passed(alloc: Global, out: Vec<u8>) -> Result<Answer, Fault> {
-    Ok(Answer { out, err: Vec::new(alloc), status: 0 })
+    Ok(Answer {
+        out,
+        err: Vec::new(alloc),
+        status: 0,
+    })
 }
 
 fn check<F: Files>(alloc: Global, path: &str, files: &mut F) -> Result<Answer, Fault> {
     let policy = load(alloc, path, files)?;
     let (messages, rules) = (policy.messages(), policy.rules());
-    passed(alloc, format!(in alloc; "ok: messages {messages}, rules {rules}\n")?.into_bytes())
+    passed(
+        alloc,
+        format!(in alloc; "ok: messages {messages}, rules {rules}\n")?.into_bytes(),
+    )
 }
 
 fn decide<F: Files>(alloc: Global, message: &Message, files: &mut F) -> Result<Answer, Fault> {
@@ -103,12 +114,7 @@ fn decide<F: Files>(alloc: Global, message: &Message, files: &mut F) -> Result<A
 }
 
 /// The text of the verdict and a line feed, with status 1 where the message doesn't pass.
-fn decided(
-    alloc: Global,
-    policy: &Policy,
-    route: &Route,
-    octets: &[u8],
-) -> Result<Answer, Fault>
+fn decided(alloc: Global, policy: &Policy, route: &Route, octets: &[u8]) -> Result<Answer, Fault>
     ensures { IfOk result (λ a. IsDecided (policy_view policy.now) (route_view route.now) octets.now (answer_view a)) }
 {
     let verdict = policy.verdict(alloc, route, octets)?;
@@ -118,7 +124,11 @@ fn decided(
         Verdict::Pass => 0,
         _ => 1,
     };
-    Ok(Answer { out, err: Vec::new(alloc), status })
+    Ok(Answer {
+        out,
+        err: Vec::new(alloc),
+        status,
+    })
 }
 
 /// The octets that the digits write.

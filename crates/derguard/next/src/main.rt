@@ -21,10 +21,9 @@ mod words;
 use answer::{Answer, answer};
 use real_files::RealFiles;
 use std::alloc::{AllocError, Global};
-use std::env;
-use std::io;
 use std::io::Write;
 use std::process::ExitCode;
+use std::{env, io};
 
 /// Writes what is answered to the words of the command line, and ends with its status.
 fn main(rt: HostRuntime) -> ExitCode {

@@ -16,8 +16,7 @@ pub struct Texts {
 
 impl Texts {
     /// Reads the policy at this path, and then each module that it lists, beside it.
-    pub fn read<F: Files>(alloc: Global, path: &str, files: &mut F) -> Result<Texts, Fault>
-    {
+    pub fn read<F: Files>(alloc: Global, path: &str, files: &mut F) -> Result<Texts, Fault> {
         let policy = read(alloc, path, files)?;
         let listed = module_files(alloc, &policy)?;
         let modules = read_modules(alloc, folder(path), &listed, files)?;

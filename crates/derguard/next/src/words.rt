@@ -9,9 +9,11 @@ const EXAMPLES: &str = "Example:\n  derguard check examples/orders.toml";
 
 const CHECK_EXAMPLE: &str = "Example:\n  derguard check examples/orders.toml";
 
-const DECIDE_EXAMPLE: &str = "Example:\n  derguard decide examples/orders.toml --from north --to south --message order 300B800105810101A403020107";
+const DECIDE_EXAMPLE: &str =
+    "Example:\n  derguard decide examples/orders.toml --from north --to south --message order 300B800105810101A403020107";
 
-const STATUSES: &str = "Statuses: 0 all passed, 1 something was denied, 2 bad words, policy, modules or hexadecimal text, or a file that can't be read, 3 no memory.";
+const STATUSES: &str =
+    "Statuses: 0 all passed, 1 something was denied, 2 bad words, policy, modules or hexadecimal text, or a file that can't be read, 3 no memory.";
 
 /// What the words ask for; the first is the program's name. Help is an error of `clap` too, of its own kind.
 pub fn request<'a>(alloc: Global, words: &'a [&'a str]) -> Result<Request<'a>, Error> {
@@ -76,14 +78,17 @@ fn decide(alloc: Global) -> Result<Command<'static>, AllocError> {
 }
 
 fn policy(alloc: Global) -> Arg<'static> {
-    required(alloc, "policy")
-        .value_name("POLICY")
-        .help("The file of the policy; module files are looked for beside it.")
+    required(alloc, "policy").value_name("POLICY").help(
+        "The file of the policy; module files are looked for beside it.",
+    )
 }
 
 /// An option whose value is taken as it is, a hyphen in front included.
 fn option(alloc: Global, name: &'static str, help: &'static str) -> Arg<'static> {
-    required(alloc, name).long(name).allow_hyphen_values(true).help(help)
+    required(alloc, name)
+        .long(name)
+        .allow_hyphen_values(true)
+        .help(help)
 }
 
 fn required(alloc: Global, name: &'static str) -> Arg<'static> {

@@ -3,7 +3,7 @@ use Rattle.std.specs.Prelude.{◌≡◌, ℕ, List, [], ◌∷◌, codes, Option
 use Rattle.toml.specs.Data.{Data, Items, no_items, item, Members, get_member, as_str, as_array, as_table}
 use Rattle.toml.specs.Parse.{parse_document}
 use Rattle.guard_policy.specs.declared.entry.Key.{Key}
-use Rattle.guard_policy.specs.declared.entry.Key.TheVariants.{Modules, Message, Rule, Name, Module, Type, Effect, From, To}
+use Rattle.guard_policy.specs.declared.entry.Key.TheVariants.{Modules, Message, Rule, Name, Module, TypeName, Effect, From, To}
 
 -- the text is a document of TOML, with these members
 abbrev pub IsDocument : List ℕ → Members → Type 0
@@ -19,7 +19,7 @@ key_text Message = codes "message"
 key_text Rule = codes "rule"
 key_text Name = codes "name"
 key_text Module = codes "module"
-key_text Type = codes "type"
+key_text TypeName = codes "type"
 key_text Effect = codes "effect"
 key_text From = codes "from"
 key_text To = codes "to"

@@ -14,7 +14,7 @@ effect_named word = if bytes_eq word (codes "allow") then Some Allow else if byt
 
 -- the type that an entry names, by its module and its own name
 abbrev pub type_in : AbstractSchema → Members → Option AbstractType
-type_in s entry = type_named s (text_of key.Module entry) (text_of key.Type entry)
+type_in s entry = type_named s (text_of key.Module entry) (text_of key.TypeName entry)
 
 abbrev pub message_in : AbstractSchema → Members → Option AbstractMessage
 message_in s entry = option_map (λ t. record { name = text_of key.Name entry; ty = t }) (type_in s entry)

@@ -11,7 +11,7 @@ use Rattle.guard_tables.specs.Tables.{first_fault}
 use Rattle.guard_policy.specs.declared.entry.Entry.{Entry}
 use Rattle.guard_policy.specs.declared.entry.Entry.TheVariants as entry
 use Rattle.guard_policy.specs.declared.entry.Key.{Key}
-use Rattle.guard_policy.specs.declared.entry.Key.TheVariants.{Modules, Message, Rule, Name, Module, Type, Effect, From, To}
+use Rattle.guard_policy.specs.declared.entry.Key.TheVariants.{Modules, Message, Rule, Name, Module, TypeName, Effect, From, To}
 use Rattle.guard_policy.specs.declared.fault.PolicyFault.{PolicyFault}
 use Rattle.guard_policy.specs.declared.fault.PolicyFault.TheVariants as code
 use Rattle.guard_policy.specs.Names.{is_name}
@@ -54,10 +54,10 @@ abbrev pub top_keys : List Key
 top_keys = Modules ∷ Message ∷ Rule ∷ []
 
 abbrev pub message_keys : List Key
-message_keys = Name ∷ Module ∷ Type ∷ []
+message_keys = Name ∷ Module ∷ TypeName ∷ []
 
 abbrev pub rule_keys : List Key
-rule_keys = Name ∷ Effect ∷ From ∷ To ∷ Message ∷ Module ∷ Type ∷ []
+rule_keys = Name ∷ Effect ∷ From ∷ To ∷ Message ∷ Module ∷ TypeName ∷ []
 
 abbrev pub is_key : List Key → List ℕ → Bool
 is_key keys word = list_any (λ key. bytes_eq (key_text key) word) keys

@@ -21,7 +21,7 @@ use guard_tables::{Table as TypeTable, TableFault};
 use std::alloc::{AllocError, Global};
 use toml::Table;
 
-const MESSAGE_KEYS: [Key; 3] = [Key::Name, Key::Module, Key::Type];
+const MESSAGE_KEYS: [Key; 3] = [Key::Name, Key::Module, Key::TypeName];
 
 const RULE_KEYS: [Key; 7] = [
     Key::Name,
@@ -30,7 +30,7 @@ const RULE_KEYS: [Key; 7] = [
     Key::To,
     Key::Message,
     Key::Module,
-    Key::Type,
+    Key::TypeName,
 ];
 
 /// The files of modules that the text of a policy lists, in order. Only the top of the document is looked at, so its refusals are Q1 and those
@@ -69,8 +69,7 @@ impl Policy {
 
 // ---- messages
 
-fn messages_of(alloc: Global, schema: &Schema, tables: &[&Table]) -> Result<Messages, PolicyFault>
-{
+fn messages_of(alloc: Global, schema: &Schema, tables: &[&Table]) -> Result<Messages, PolicyFault> {
     let mut messages = Messages::new(alloc);
     for (index, table) in tables.iter().enumerate() {
         let (name, message) = message_of(alloc, schema, &messages, index + 1, table)?;
@@ -93,7 +92,7 @@ fn message_of(
     check_keys(alloc, entry, &MESSAGE_KEYS, table)?;
     let name = text_in(entry, Key::Name, table)?;
     let module = text_in(entry, Key::Module, table)?;
-    let type_name = text_in(entry, Key::Type, table)?;
+    let type_name = text_in(entry, Key::TypeName, table)?;
     if !is_name(name.as_bytes()) {
         return Err(PolicyFault::BadName(entry));
     }
@@ -102,10 +101,13 @@ fn message_of(
     }
     let ty = type_named(alloc, schema, entry, module, type_name)?;
     let name = Vec::from_slice(alloc, name.as_bytes())?;
-    Ok((name, Message {
-        ty,
-        rules: Vec::new(alloc),
-    }))
+    Ok((
+        name,
+        Message {
+            ty,
+            rules: Vec::new(alloc),
+        },
+    ))
 }
 
 // ---- rules
@@ -127,8 +129,7 @@ fn rules_of(
     schema: &Schema,
     messages: &mut Messages,
     tables: &[&Table],
-) -> Result<Rules, PolicyFault>
-{
+) -> Result<Rules, PolicyFault> {
     let mut rules = Rules::new(alloc);
     for (index, table) in tables.iter().enumerate() {
         let (name, rule) = rule_of(alloc, schema, messages, &rules, index + 1, table)?;
@@ -184,7 +185,7 @@ fn rule_texts<'a>(entry: Entry, table: &'a Table) -> Result<RuleTexts<'a>, Polic
         to: text_in(entry, Key::To, table)?,
         message: text_in(entry, Key::Message, table)?,
         module: text_in(entry, Key::Module, table)?,
-        type_name: text_in(entry, Key::Type, table)?,
+        type_name: text_in(entry, Key::TypeName, table)?,
     })
 }
 
@@ -241,8 +242,7 @@ fn type_named(
     entry: Entry,
     module: &str,
     name: &str,
-) -> Result<Ty, PolicyFault>
-{
+) -> Result<Ty, PolicyFault> {
     match schema.ty(module, name) {
         Some(ty) => Ok(ty.copy(alloc)?),
         None => Err(PolicyFault::NoSuchType(entry)),

@@ -27,7 +27,9 @@ impl<'a> Route<'a> {
 pub(crate) fn is_name(octets: &[u8]) -> bool
     ensures { result ≡ is_name octets.now }
 {
-    !octets.is_empty() && octets.len() <= LONGEST_NAME && octets.iter().all(|octet| is_name_octet(*octet))
+    !octets.is_empty()
+        && octets.len() <= LONGEST_NAME
+        && octets.iter().all(|octet| is_name_octet(*octet))
 }
 
 fn is_name_octet(octet: u8) -> bool

@@ -1,6 +1,7 @@
 -- ---- what is asked of a value at a node
 pub mod Conditions
--- ---- what a table is, and why there is none
+-- ---- why there is no table, and what a table is
 pub mod Tables
+pub mod TableView
 -- ---- what private contracts cite
 pub mod Counting

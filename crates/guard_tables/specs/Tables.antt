@@ -1,4 +1,4 @@
--- Tables, and why types make none.
+-- Why the types of a message and its rules make no table.
 use Rattle.std.specs.Prelude.{ℕ, suc, Bool, ◌&&◌, not, nat_le, List, [], ◌∷◌, map, length, Option, Some, None, option_map, Bor, if◌then◌else◌}
 use Rattle.std.specs.Option.{option_or}
 use Rattle.std.specs.Cmp.Lexicographic.{pointwise}
@@ -10,16 +10,11 @@ use Rattle.guard_model.specs.declared.tag.Tag.{Tag}
 use Rattle.guard_model.specs.declared.ty.Ty.{Ty}
 use Rattle.guard_tables.specs.declared.fault.TableFault.{TableFault}
 use Rattle.guard_tables.specs.declared.fault.TableFault.TheVariants.{RuleTypeMismatch, TooManyConditions, TooManyRules, OutOfMemory}
-use Rattle.guard_tables.specs.declared.table.Table.{Table}
 use Rattle.guard_tables.specs.Conditions.{has_crowded_node}
 
 -- of one message
 abbrev pub most_rules : ℕ
 most_rules = 255
-
--- the types that a table stands for: the declared one, then those of the rules in order
-abbrev pub table_types : Table → List AbstractType
-table_types table = type_view table.declared ∷ map type_view table.rules.items
 
 abbrev pub types_view : List (Bor Ty) → List AbstractType
 types_view rules = map (λ t. type_view t.now) rules

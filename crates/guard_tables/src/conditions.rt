@@ -27,6 +27,7 @@ fn left_by_all(declared: &Ty, rules: &[&Ty], way: &[usize]) -> Option<usize>
     left_by_types(rules, way, left)
 }
 
+#[tactic(auto, using(crate::proofs::Counts::less_less, crate::proofs::Counts::less_none))]
 fn left_by_types(types: &[&Ty], way: &[usize], left: usize) -> Option<usize>
     ensures { result ≡ less left (conditions (types_view types.now) way.now) }
 {
@@ -117,6 +118,7 @@ fn one_less(left: usize) -> Option<usize>
 // ---- constraints
 
 #[cycle(conditions)]
+#[tactic(auto, using(crate::proofs::Counts::less_less, crate::proofs::Counts::less_none))]
 fn left_by_constraints(constraints: &[Cons], way: &[usize], left: usize) -> Option<usize>
     ensures { result ≡ less left (of_constraints (constraints_of (map constraint_view constraints.now)) way.now) }
 {
@@ -187,6 +189,7 @@ fn left_by_parts(parts: &[Part], way: &[usize], left: usize) -> Option<usize>
 
 /// By those of the parts that speak of the one at this place.
 #[cycle(conditions)]
+#[tactic(auto, using(crate::proofs::Counts::less_less, crate::proofs::Counts::less_none))]
 fn left_by_parts_at(parts: &[Part], place: usize, way: &[usize], left: usize) -> Option<usize>
     ensures { result ≡ less left (of_parts (parts_of (map part_view parts.now)) place way.now) }
 {

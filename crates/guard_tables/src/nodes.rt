@@ -19,7 +19,7 @@ pub(crate) fn has_crowded_node(
     ensures found { IfOk result (λ found. found ≡ has_crowded_node (type_view declared.now ∷ types_view rules.now) way.old.items (type_view ty.now)) }
     ensures same { OnOk result (way.new.items ≡ way.old.items) }
 {
-    if is_crowded(declared, rules, way) {
+    if is_crowded(declared, rules, way.as_slice()) {
         return Ok(true);
     }
     has_crowded_part(declared, rules, &ty.kind, way)

@@ -22,7 +22,8 @@ pub struct Table {
 }
 
 impl Table {
-    ghost use Rattle.guard_tables.specs.Tables.{table_types, first_fault, named};
+    ghost use Rattle.guard_tables.specs.Tables.{first_fault, named};
+    ghost use Rattle.guard_tables.specs.TableView.{table_types};
 
     /// The table of a declared type and the types of rules.
     ///

@@ -1,5 +1,5 @@
 -- The policy that a policy of the code stands for.
-use Rattle.std.specs.Prelude.{◌≡◌, ℕ, List, All, map, string_bytes, String, Vec}
+use Rattle.std.specs.Prelude.{◌≡◌, ℕ, List, [], ◌∷◌, ◌++◌, All, map, bytes_eq, string_bytes, String, Vec, if◌then◌else◌}
 use Rattle.std.specs.declared.alloc.Global.{Global}
 use Rattle.guard_model.specs.TypeView.{type_view}
 use Rattle.guard_policy.specs.declared.policy.Message.{Message}
@@ -28,6 +28,16 @@ messages_view ms = map message_view ms.entries
 
 abbrev pub rules_view : {S : Type 0} → IndexMap (String Global) Rule S → List AbstractRule
 rules_view rs = map rule_view rs.entries
+
+abbrev pub message_names : {S : Type 0} → IndexMap (Vec ℕ Global) Message S → List (List ℕ)
+message_names ms = map (λ m. m.0.items) ms.entries
+
+abbrev pub rule_names : {S : Type 0} → IndexMap (String Global) Rule S → List (List ℕ)
+rule_names rs = map (λ r. string_bytes r.0) rs.entries
+
+-- the numbers of rules that are noted at the message of this name, with one more
+abbrev pub noted : List ℕ → ℕ → Vec ℕ Global × Message → List ℕ
+noted name rule m = if bytes_eq m.0.items name then m.1.rules.items ++ rule ∷ [] else m.1.rules.items
 
 -- each message has the numbers of the rules that speak of it
 abbrev pub KnowsRules : {S : Type 0} → List AbstractRule → IndexMap (Vec ℕ Global) Message S → Type 0

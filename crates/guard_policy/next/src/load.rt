@@ -1,13 +1,14 @@
 //! Policies from their texts.
-ghost use Rattle.std.specs.Prelude.{◌≡◌, Some, map, option_map, IfOk, IfErr, IfSome, IsTrue};
+ghost use Rattle.std.specs.Prelude.{◌≡◌, ◌&&◌, [], None, Some, map, option_map, string_bytes, IfOk, IfErr, OnOk, IfSome};
 ghost use Rattle.toml.specs.View.{table_view};
 ghost use Rattle.guard_model.specs.TypeView.{type_view};
 ghost use Rattle.guard_schema.specs.SchemaView.{schema_view};
-ghost use Rattle.guard_policy.specs.Documents.{text_at};
-ghost use Rattle.guard_policy.specs.Entries.{effect_named, type_in};
+ghost use Rattle.guard_policy.specs.Documents.{text_at, text_of};
+ghost use Rattle.guard_policy.specs.Names.{is_name};
+ghost use Rattle.guard_policy.specs.Entries.{effect_named, message_in, rule_in, those_there};
 ghost use Rattle.guard_policy.specs.Loads.{Loads, IsRefused, ListsFiles, ListsNoFiles};
-ghost use Rattle.guard_policy.specs.PolicyFaults.{named, message_fault, rule_fault, entries_fault, tables_fault, missing_key};
-ghost use Rattle.guard_policy.specs.PolicyView.{messages_view, rules_view};
+ghost use Rattle.guard_policy.specs.PolicyFaults.{named, message_fault, rule_fault, rule_keys, missing_in, entries_fault, tables_fault, missing_key};
+ghost use Rattle.guard_policy.specs.PolicyView.{message_view, rule_view, messages_view, rules_view, message_names, rule_names, noted, KnowsRules};
 ghost use Rattle.guard_policy.specs.Reading.{Meets, tables_view, texts_view};
 
 use crate::document::{check_keys, document, text_at, top_of};
@@ -45,6 +46,9 @@ pub fn module_files(alloc: Global, text: &[u8]) -> Result<Vec<String>, PolicyFau
 }
 
 impl Policy {
+    ghost use Rattle.guard_policy.specs.Policies.{AbstractPolicy};
+    ghost use Rattle.guard_policy.specs.PolicyView.{policy_view};
+
     /// The policy of a text, over the types of a schema.
     ///
     /// A refusal names the first fault: Q1, then those of the top, of each message, of each rule, and of each message's table. OutOfMemory may
@@ -69,7 +73,12 @@ impl Policy {
 
 // ---- messages
 
-fn messages_of(alloc: Global, schema: &Schema, tables: &[&Table]) -> Result<Messages, PolicyFault> {
+/// Each message. No rule speaks of one yet.
+fn messages_of(alloc: Global, schema: &Schema, tables: &[&Table]) -> Result<Messages, PolicyFault>
+    ensures met { Meets (entries_fault (message_fault (schema_view schema.now)) [] 1 (tables_view tables.now)) result }
+    ensures made { IfOk result (λ ms. messages_view ms ≡ those_there (map (message_in (schema_view schema.now)) (tables_view tables.now))) }
+    ensures unspoken { IfOk result (KnowsRules []) }
+{
     let mut messages = Messages::new(alloc);
     for (index, table) in tables.iter().enumerate() {
         let (name, message) = message_of(alloc, schema, &messages, index + 1, table)?;
@@ -86,7 +95,9 @@ fn message_of(
     number: usize,
     table: &Table,
 ) -> Result<(Vec<u8>, Message), PolicyFault>
-    ensures { Meets (message_fault (schema_view schema.now) (names_of before.now) number (table_view table.now)) result }
+    ensures met { Meets (message_fault (schema_view schema.now) (message_names before.now) number (table_view table.now)) result }
+    ensures made { IfOk result (λ m. message_in (schema_view schema.now) (table_view table.now) ≡ Some (message_view m)) }
+    ensures unspoken { IfOk result (λ m. m.1.rules.items ≡ []) }
 {
     let entry = Entry::Message(number);
     check_keys(alloc, entry, &MESSAGE_KEYS, table)?;
@@ -129,7 +140,13 @@ fn rules_of(
     schema: &Schema,
     messages: &mut Messages,
     tables: &[&Table],
-) -> Result<Rules, PolicyFault> {
+) -> Result<Rules, PolicyFault>
+    requires { KnowsRules [] messages.old }
+    ensures met { Meets (entries_fault (rule_fault (schema_view schema.now) (message_names messages.old)) [] 1 (tables_view tables.now)) result }
+    ensures made { IfOk result (λ rs. rules_view rs ≡ those_there (map (rule_in (schema_view schema.now)) (tables_view tables.now))) }
+    ensures known { IfOk result (λ rs. KnowsRules (rules_view rs) messages.new) }
+    ensures same { OnOk result (messages_view messages.new ≡ messages_view messages.old) }
+{
     let mut rules = Rules::new(alloc);
     for (index, table) in tables.iter().enumerate() {
         let (name, rule) = rule_of(alloc, schema, messages, &rules, index + 1, table)?;
@@ -140,7 +157,11 @@ fn rules_of(
 }
 
 /// Notes at the message that the rule of this number, from 0, speaks of it.
-fn note_rule(messages: &mut Messages, message: &str, rule: usize) -> Result<(), PolicyFault> {
+fn note_rule(messages: &mut Messages, message: &str, rule: usize) -> Result<(), PolicyFault>
+    ensures noted { OnOk result (map (λ m. m.1.rules.items) messages.new.entries ≡ map (noted message.now rule) messages.old.entries) }
+    ensures same { OnOk result (messages_view messages.new ≡ messages_view messages.old) }
+    ensures memory { IfErr result (λ f. named f ≡ None) }
+{
     if let Some(message) = messages.get_mut(message.as_bytes()) {
         message.rules.push(rule)?;
     }
@@ -155,7 +176,8 @@ fn rule_of(
     number: usize,
     table: &Table,
 ) -> Result<(String, Rule), PolicyFault>
-    ensures { Meets (rule_fault (schema_view schema.now) (names_of messages.now) (names_of before.now) number (table_view table.now)) result }
+    ensures met { Meets (rule_fault (schema_view schema.now) (message_names messages.now) (rule_names before.now) number (table_view table.now)) result }
+    ensures made { IfOk result (λ r. rule_in (schema_view schema.now) (table_view table.now) ≡ Some (rule_view r)) }
 {
     let entry = Entry::Rule(number);
     check_keys(alloc, entry, &RULE_KEYS, table)?;
@@ -177,7 +199,13 @@ fn rule_of(
     Ok((String::from_str(alloc, texts.name)?, rule))
 }
 
-fn rule_texts<'a>(entry: Entry, table: &'a Table) -> Result<RuleTexts<'a>, PolicyFault> {
+fn rule_texts<'a>(entry: Entry, table: &'a Table) -> Result<RuleTexts<'a>, PolicyFault>
+    ensures met { Meets (missing_in entry rule_keys (table_view table.now)) result }
+    ensures texts { IfOk result (λ t. (text_of Key.Name (table_view table.now) ≡ t.name.now) × (text_of Key.Effect (table_view table.now) ≡ t.effect.now)
+        × (text_of Key.From (table_view table.now) ≡ t.from.now) × (text_of Key.To (table_view table.now) ≡ t.to.now)
+        × (text_of Key.Message (table_view table.now) ≡ t.message.now) × (text_of Key.Module (table_view table.now) ≡ t.module.now)
+        × (text_of Key.TypeName (table_view table.now) ≡ t.type_name.now)) }
+{
     Ok(RuleTexts {
         name: text_in(entry, Key::Name, table)?,
         effect: text_in(entry, Key::Effect, table)?,
@@ -190,7 +218,9 @@ fn rule_texts<'a>(entry: Entry, table: &'a Table) -> Result<RuleTexts<'a>, Polic
 }
 
 /// Whether the rule's own name and those that it speaks of are names.
-fn has_names(texts: &RuleTexts) -> bool {
+fn has_names(texts: &RuleTexts) -> bool
+    ensures { result ≡ (is_name texts.now.name.now && is_name texts.now.from.now && is_name texts.now.to.now && is_name texts.now.message.now) }
+{
     is_name(texts.name.as_bytes())
         && is_name(texts.from.as_bytes())
         && is_name(texts.to.as_bytes())

@@ -19,27 +19,42 @@ mod texts;
 mod words;
 
 use answer::{Answer, answer};
+use guard_model::OutOfMemory;
 use real_files::RealFiles;
 use std::alloc::{AllocError, Global};
-use std::io::Write;
+use std::io::{ErrorKind, Write};
 use std::process::ExitCode;
 use std::{env, io};
 
 /// Writes what is answered to the words of the command line, and ends with its status.
 fn main(rt: HostRuntime) -> ExitCode {
-    match run(&rt) {
-        Ok(status) => ExitCode::from(status),
-        Err(_) => ExitCode::from(3),
+    let words = match words(&rt) {
+        Ok(words) => words,
+        Err(e) if e.kind() == ErrorKind::OutOfMemory => return failed(
+            &rt,
+            b"derguard: no-memory\n",
+            3,
+        ),
+        Err(_) => return failed(&rt, b"derguard: bad words\n", 2),
+    };
+    match answered(&rt, &words) {
+        Ok(answer) => written(&rt, &answer),
+        Err(_) => failed(&rt, b"derguard: no-memory\n", 3),
     }
 }
 
-fn run(rt: &HostRuntime) -> anyhow::Result<u8> {
-    let words: Vec<String> = env::args(rt)?.collect(rt.alloc())?;
-    let texts = texts_of(rt.alloc(), &words)?;
-    let answer = answer(rt.alloc(), &texts, &mut RealFiles::new(rt))?;
-    io::writer(rt).write_all(&answer.out)?;
-    io::err_writer(rt).write_all(&answer.err)?;
-    Ok(answer.status)
+/// The words of the command line. One that isn't UTF-8 is refused.
+fn words(rt: &HostRuntime) -> io::Result<Vec<String>> {
+    let mut words = Vec::new(rt.alloc());
+    for word in env::args(rt)? {
+        words.push(word)?;
+    }
+    Ok(words)
+}
+
+fn answered(rt: &HostRuntime, words: &[String]) -> Result<Answer, OutOfMemory> {
+    let texts = texts_of(rt.alloc(), words)?;
+    answer(rt.alloc(), &texts, &mut RealFiles::new(rt))
 }
 
 fn texts_of(alloc: Global, words: &[String]) -> Result<Vec<&str>, AllocError> {
@@ -48,4 +63,22 @@ fn texts_of(alloc: Global, words: &[String]) -> Result<Vec<&str>, AllocError> {
         texts.push(word.as_str())?;
     }
     Ok(texts)
+}
+
+fn written(rt: &HostRuntime, answer: &Answer) -> ExitCode {
+    if io::writer(rt).write_all(&answer.out).is_err() {
+        return failed(rt, b"derguard: F2 WriteFailed\n", 3);
+    }
+    if io::err_writer(rt).write_all(&answer.err).is_err() {
+        return ExitCode::from(3);
+    }
+    ExitCode::from(answer.status)
+}
+
+/// Says why, where standard error takes it, and ends with the status.
+fn failed(rt: &HostRuntime, text: &[u8], status: u8) -> ExitCode {
+    match io::err_writer(rt).write_all(text) {
+        Ok(()) => ExitCode::from(status),
+        Err(_) => ExitCode::from(3),
+    }
 }

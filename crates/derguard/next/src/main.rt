@@ -69,7 +69,7 @@ fn written(rt: &HostRuntime, answer: &Answer) -> ExitCode {
     if io::writer(rt).write_all(&answer.out).is_err() {
         return failed(rt, b"derguard: F2 WriteFailed\n", 3);
     }
-    if io::err_writer(rt).write_all(&answer.err).is_err() {
+    if rt.stderr().write_all(&answer.err).is_err() {
         return ExitCode::from(3);
     }
     ExitCode::from(answer.status)
@@ -77,7 +77,7 @@ fn written(rt: &HostRuntime, answer: &Answer) -> ExitCode {
 
 /// Says why, where standard error takes it, and ends with the status.
 fn failed(rt: &HostRuntime, text: &[u8], status: u8) -> ExitCode {
-    match io::err_writer(rt).write_all(text) {
+    match rt.stderr().write_all(text) {
         Ok(()) => ExitCode::from(status),
         Err(_) => ExitCode::from(3),
     }

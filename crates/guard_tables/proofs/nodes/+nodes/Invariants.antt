@@ -10,6 +10,6 @@ abbrev pub invariant-has_crowded_component-loop-place : goal.invariant-has_crowd
 invariant-has_crowded_component-loop-place l =
     let types = type_view l.declared ∷ types_view l.rules in
     record {
-      found : has_crowded_component types l.way.items l.place (left l.comps l.place) ≡ has_crowded_component types l.way-entry.items 0 (left l.comps 0);
-      same : l.way.items ≡ l.way-entry.items;
+      found : has_crowded_component types l.way.items l.place (left l.comps l.place) ≡ has_crowded_component types l.initial.way.items 0 (left l.comps 0);
+      same : l.way.items ≡ l.initial.way.items;
     }

@@ -1,0 +1,17 @@
+-- ---- lists
+pub mod Elements
+pub mod Ranges
+-- ---- devices
+pub mod Appending
+pub mod Reading
+-- ---- streams and bodies
+pub mod Readings
+pub mod Splitting
+pub mod Headers
+-- ---- frames that are decided one after another
+pub mod Counting
+pub mod Progress
+pub mod Steps
+pub mod OneFrame
+pub mod Composing
+pub mod Holding

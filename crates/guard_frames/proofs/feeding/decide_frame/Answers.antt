@@ -1,0 +1,20 @@
+use Rattle.std.proofs.Common.{◌≡◌, true, false, ◌∙◌, sym}
+use Rattle.guard_frames.specs.Outputs.{goes}
+use Rattle.guard_frames.proofs.Steps.{on_err_of}
+use Rattle.guard_frames.proofs.OneFrame.{goes_partly, reported_partly}
+use Rattle.guard_frames.proofs.feeding.decide_frame.Goals as goal
+
+pub returns-in_err-put_all-clause-failure : goal.returns-in_err-put_all-clause-failure
+returns-in_err-put_all-clause-failure g c =
+    let d = g.D.Decide.decides c.args.policy.now in
+    let go : goes d c.args.frame.now ≡ true = sym c.goes.ensures ∙ c.if-goes.true in
+    let p = c.in_err-put_all.ensures.part in
+    on_err_of c.from_residual.result (goes_partly d c.args.totals c.args.frame.now p.0 _ _ _ c.requires go p.1 p.2)
+
+pub returns-in_err-report-clause-failure : goal.returns-in_err-report-clause-failure
+returns-in_err-report-clause-failure g c =
+    let d = g.D.Decide.decides c.args.policy.now in
+    let stays : goes d c.args.frame.now ≡ false = sym c.goes.ensures ∙ c.if-goes.false in
+    let p = c.in_err-report.ensures.part in
+    on_err_of c.from_residual-in_err-report.result
+    (reported_partly d c.args.totals c.args.frame.now p.0 p.1 _ _ _ c.requires stays (rw c.next_number-number.ensures at p.2) p.3 p.4)

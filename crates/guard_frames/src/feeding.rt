@@ -1,0 +1,145 @@
+//! Feeds pieces to a link.
+
+ghost use Rattle.std.specs.Prelude.{◌≡◌, ◌⊎◌, true, false, [], ◌∷◌, IfOk, OnErr, IsErrOf};
+ghost use Rattle.guard_frames.specs.Frames.{IsFrame, IsUnfinished};
+ghost use Rattle.guard_frames.specs.Totals.{next_number as number_of_next};
+ghost use Rattle.guard_frames.specs.Outputs.{AfterFailure};
+ghost use Rattle.guard_frames.specs.Decided.{Decided};
+ghost use Rattle.guard_frames.specs.Feeding.{Feeds};
+ghost use Rattle.guard_frames.specs.declared.link.LinkFault.TheVariants.{WriteFailed};
+
+use crate::cut::{Cut, first_cut};
+use crate::deciding::decide;
+use crate::decision::Decide;
+use crate::devices::{Failed, Sink, put_all};
+use crate::filling::complete;
+use crate::link::{Link, LinkFault};
+use crate::report::{goes, report};
+use crate::totals::Totals;
+use std::alloc::Global;
+
+impl Link {
+    ghost use Rattle.std.specs.Prelude.{◌≡◌, ◌⊎◌, true, false, ◌++◌, Err, IsErrOf};
+    ghost use Rattle.guard_frames.specs.Feeding.{Feeds};
+    ghost use Rattle.guard_frames.specs.declared.link.LinkFault.TheVariants.{Closed, WriteFailed};
+
+    /// Feeds it one more piece of its stream. Of what it holds, only the frame that an earlier piece began is put together; a frame that
+    /// lies whole in the piece is decided where it lies.
+    pub fn feed<D: Decide, O: Sink, R: Sink>(
+        &mut self,
+        alloc: Global,
+        policy: &D,
+        piece: &[u8],
+        out: &mut O,
+        reports: &mut R,
+    ) -> Result<(), LinkFault>
+        ensures open { self.old.closed ≡ false → Feeds (D.decides policy.now) self.old.totals (self.old.held.items ++ piece.now) self.new result
+            (O.taken out.old) (O.taken out.new) (R.taken reports.old) (R.taken reports.new) }
+        ensures shut { self.old.closed ≡ true → (result ≡ Err Closed) × (self.new ≡ self.old)
+            × (out.new ≡ out.old) × (reports.new ≡ reports.old) }
+        ensures failed { IsErrOf result WriteFailed → (O.has_failed out.new ≡ true) ⊎ (R.has_failed reports.new ≡ true) }
+    {
+        if self.closed {
+            return Err(LinkFault::Closed);
+        }
+        if self.held.is_empty() {
+            return feed_rest(self, alloc, policy, piece, out, reports);
+        }
+        let totals = self.totals;
+        let at = complete(&mut self.held, piece);
+        match first_cut(self.held.as_slice()) {
+            Cut::Unfinished => return Ok(()),
+            Cut::TooLong => {
+                self.held.clear();
+                self.closed = true;
+                return Err(LinkFault::FrameTooLong);
+            }
+            Cut::Frame(_) => {}
+        }
+        let after = match decide_frame(alloc, policy, self.held.as_slice(), totals, out, reports) {
+            Ok(after) => after,
+            Err(_) => {
+                self.held.clear();
+                self.closed = true;
+                return Err(LinkFault::WriteFailed);
+            }
+        };
+        self.held.clear();
+        self.totals = after;
+        feed_rest(self, alloc, policy, &piece[at..], out, reports)
+    }
+}
+
+/// Decides one whole frame, and answers the totals after it.
+fn decide_frame<D: Decide, O: Sink, R: Sink>(
+    alloc: Global,
+    policy: &D,
+    frame: &[u8],
+    totals: Totals,
+    out: &mut O,
+    reports: &mut R,
+) -> Result<Totals, Failed>
+    requires { IsFrame frame.now }
+    ensures done { IfOk result (λ after. Decided (D.decides policy.now) totals after frame.now (frame.now ∷ [])
+        (O.taken out.old) (O.taken out.new) (R.taken reports.old) (R.taken reports.new)) }
+    ensures failure { OnErr result (AfterFailure (D.decides policy.now) (number_of_next totals) frame.now
+        (O.taken out.old) (O.taken out.new) (R.taken reports.old) (R.taken reports.new)) }
+    ensures failed { OnErr result ((O.has_failed out.new ≡ true) ⊎ (R.has_failed reports.new ≡ true)) }
+{
+    if goes(policy, frame) {
+        put_all(out, frame)?;
+        return Ok(totals.with_passed(1));
+    }
+    let number = totals.next_number();
+    report(alloc, policy, number, frame, reports)?;
+    Ok(totals.with_denied())
+}
+
+/// Feeds an open link that holds nothing.
+fn feed_rest<D: Decide, O: Sink, R: Sink>(
+    link: &mut Link,
+    alloc: Global,
+    policy: &D,
+    piece: &[u8],
+    out: &mut O,
+    reports: &mut R,
+) -> Result<(), LinkFault>
+    requires nothing { link.old.held.items ≡ [] }
+    requires open { link.old.closed ≡ false }
+    ensures feeds { Feeds (D.decides policy.now) link.old.totals piece.now link.new result
+        (O.taken out.old) (O.taken out.new) (R.taken reports.old) (R.taken reports.new) }
+    ensures failed { IsErrOf result WriteFailed → (O.has_failed out.new ≡ true) ⊎ (R.has_failed reports.new ≡ true) }
+{
+    match decide(alloc, policy, piece, link.totals, out, reports) {
+        Err(_) => {
+            link.closed = true;
+            Err(LinkFault::WriteFailed)
+        }
+        Ok(whole) => match whole.next {
+            Cut::TooLong => {
+                link.closed = true;
+                Err(LinkFault::FrameTooLong)
+            }
+            Cut::Unfinished => {
+                link.totals = whole.totals;
+                hold(link, &piece[whole.end..]);
+                Ok(())
+            }
+            Cut::Frame(_) => unreachable!(),
+        },
+    }
+}
+
+/// Holds the octets of an unfinished frame.
+fn hold(link: &mut Link, rest: &[u8])
+    requires nothing { link.old.held.items ≡ [] }
+    requires unfinished { IsUnfinished rest.now }
+    ensures held { link.new.held.items ≡ rest.now }
+    ensures totals { link.new.totals ≡ link.old.totals }
+    ensures closed { link.new.closed ≡ link.old.closed }
+{
+    match link.held.extend_from_slice(rest) {
+        Ok(()) => {}
+        Err(_) => unreachable!(),
+    }
+}

@@ -1,0 +1,18 @@
+//! Laws of the definitions. The functions do nothing when they run.
+
+ghost use Rattle.std.specs.Prelude.{◌≡◌, ℕ, List, ◌++◌};
+ghost use Rattle.guard_frames.specs.Frames.{ConsistsOf};
+
+/// It doesn't matter how a stream was cut into pieces: the frames of two pieces joined are those of the first, and then those of its rest
+/// with the second behind it.
+pub fn law_any_cut()
+    ensures { (a b : List ℕ) (frames others : List (List ℕ)) (rest last : List ℕ) →
+        ConsistsOf a frames rest → ConsistsOf (rest ++ b) others last → ConsistsOf (a ++ b) (frames ++ others) last }
+{}
+
+/// Each stream has a reading as frames and a rest, and it has one.
+pub fn law_one_reading()
+    ensures exists { (stream : List ℕ) → (frames : List (List ℕ)) × (rest : List ℕ) × ConsistsOf stream frames rest }
+    ensures one { (stream : List ℕ) (frames others : List (List ℕ)) (rest last : List ℕ) →
+        ConsistsOf stream frames rest → ConsistsOf stream others last → (frames ≡ others) × (rest ≡ last) }
+{}

@@ -8,6 +8,7 @@ pub mod Reading
 pub mod Readings
 pub mod Splitting
 pub mod Headers
+pub mod HeaderLaws
 -- ---- frames that are decided one after another
 pub mod Counting
 pub mod Progress

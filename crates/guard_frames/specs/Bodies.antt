@@ -1,5 +1,5 @@
 -- The body of a frame: the names of the sender, the receiver and the message, each behind one octet of length, and then the message.
-use Rattle.std.specs.Prelude.{ℕ, Bool, ◌&&◌, ◌||◌, List, [], ◌∷◌, length, take, drop, nat_eq, nat_le, nat_lt, if◌then◌else◌, Option, Some, None}
+use Rattle.std.specs.Prelude.{◌≡◌, ℕ, Bool, true, ◌&&◌, ◌||◌, List, [], ◌∷◌, ◌++◌, length, take, drop, nat_eq, nat_le, nat_lt, if◌then◌else◌, Option, Some, None}
 use Rattle.std.specs.Char.{is_ascii_alphanumeric}
 use Rattle.std.specs.List.{list_all}
 use Rattle.guard_frames.specs.declared.body.Body.{Body}
@@ -44,3 +44,14 @@ body_in octets = do
   receiver ← name_first sender.1
   name ← name_first receiver.1
   Some (record { sender = sender.0; receiver = receiver.0; name = name.0; message = name.1 })
+
+-- a name as it stands in a header: one octet of length, and its octets
+abbrev pub named : List ℕ → List ℕ
+named name = length name ∷ name
+
+-- the octets are three names, each behind its length, and then the message
+pub record IsBody (octets : List ℕ) (b : AbstractBody) : Type 0 where
+  pub joined : octets ≡ named b.sender ++ (named b.receiver ++ (named b.name ++ b.message))
+  pub sender : is_name b.sender ≡ true
+  pub receiver : is_name b.receiver ≡ true
+  pub name : is_name b.name ≡ true

@@ -1,6 +1,7 @@
 //! Laws of the definitions. The functions do nothing when they run.
 
-ghost use Rattle.std.specs.Prelude.{◌≡◌, ℕ, List, ◌++◌};
+ghost use Rattle.std.specs.Prelude.{◌≡◌, ℕ, List, ◌++◌, Some};
+ghost use Rattle.guard_frames.specs.Bodies.{AbstractBody, IsBody, body_in};
 ghost use Rattle.guard_frames.specs.Frames.{ConsistsOf};
 
 /// It doesn't matter how a stream was cut into pieces: the frames of two pieces joined are those of the first, and then those of its rest
@@ -15,4 +16,10 @@ pub fn law_one_reading()
     ensures exists { (stream : List ℕ) → (frames : List (List ℕ)) × (rest : List ℕ) × ConsistsOf stream frames rest }
     ensures one { (stream : List ℕ) (frames others : List (List ℕ)) (rest last : List ℕ) →
         ConsistsOf stream frames rest → ConsistsOf stream others last → (frames ≡ others) × (rest ≡ last) }
+{}
+
+/// A body that is read stands there, and one that stands there is read: three names, each behind its length, and the message.
+pub fn law_one_header()
+    ensures read { (octets : List ℕ) (body : AbstractBody) → body_in octets ≡ Some body → IsBody octets body }
+    ensures only { (octets : List ℕ) (body : AbstractBody) → IsBody octets body → body_in octets ≡ Some body }
 {}

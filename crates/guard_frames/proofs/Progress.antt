@@ -45,7 +45,7 @@ ReportLines_go d n (f ∷ fs) h =
       ReportLines_go d (later n 1) fs (All_rest (λ f. goes d f ≡ true) f fs h),
     )
 
-pub pub ReportLines-append : (d : Decision) (n : ℕ) (fs gs : List (List ℕ)) (s t : List ℕ) → n < 2 ^ 64 →
+pub ReportLines-append : (d : Decision) (n : ℕ) (fs gs : List (List ℕ)) (s t : List ℕ) → n < 2 ^ 64 →
     ReportLines d n fs s → ReportLines d (later n (length fs)) gs t → ReportLines d n (fs ++ gs) (s ++ t)
 ReportLines-append d n [] gs s t fits p q =
     let e : later n 0 ≡ n = omega (arith, fits) in

@@ -14,19 +14,21 @@ bind_some : {A B : Type 0} (o : Option A) (f : A → Option B) (y : B) → (o >>
 bind_some None f y e = absurd cc
 bind_some (Some x) f y e = (x, refl, e)
 
+none_is_not : {A : Type 0} (x : A) → ◌≡◌ {A = Option A} None (Some x) → ⊥
+none_is_not x e = cc
+
 name_of : (n : ℕ) (s : List ℕ) (x : List ℕ × List ℕ) → name_of_length n s ≡ Some x → (n ∷ s ≡ named x.0 ++ x.1) × (is_name x.0 ≡ true)
 name_of n s x e =
     elim (chosen (nat_lt (length s) n) None (cond (is_name (take n s)) (Some (take n s, drop n s)) None) (Some x) e) [
-      | inl (few, e₁) ↦ absurd cc
-      | inr (enough, e₁) ↦ elim (chosen (is_name (take n s)) (Some (take n s, drop n s)) None (Some x) e₁) [
-        | inl (good, e₂) ↦
-            let le : n ≤ length s = ltb-false (length s) n enough in
+      | inl w ↦ absurd (none_is_not x w.1)
+      | inr w ↦ elim (chosen (is_name (take n s)) (Some (take n s, drop n s)) None (Some x) w.1) [
+        | inl v ↦
+            let le : n ≤ length s = ltb-false (length s) n w.0 in
             let long : length (take n s) ≡ n = omega (arith, length-take n s, le) in
             let whole : n ∷ s ≡ named (take n s) ++ drop n s =
             ap (λ k. k ∷ s) (sym long) ∙ ap (λ t. length (take n s) ∷ t) (sym (take-append-drop n s)) in
-            let is : (take n s, drop n s) ≡ x = same_Some (take n s, drop n s) x e₂ in
-            subst (λ (y : List ℕ × List ℕ). (n ∷ s ≡ named y.0 ++ y.1) × (is_name y.0 ≡ true)) is (whole, good)
-        | inr (bad, e₂) ↦ absurd cc
+            subst (λ (y : List ℕ × List ℕ). (n ∷ s ≡ named y.0 ++ y.1) × (is_name y.0 ≡ true)) (same_Some (take n s, drop n s) x v.1) (whole, v.0)
+        | inr v ↦ absurd (none_is_not x v.1)
       ]
     ]
 

@@ -41,7 +41,7 @@ ReportLines_go d n (f ∷ fs) h =
       [],
       [],
       refl,
-      record { passes = λ _. refl; stays = λ no. let both = sym e ∙ no in cc },
+      record { passes = λ _. refl; stays = λ no. let both : true ≡ false = sym e ∙ no in absurd cc },
       ReportLines_go d (later n 1) fs (All_rest (λ f. goes d f ≡ true) f fs h),
     )
 

@@ -9,7 +9,7 @@ use Rattle.guard_frames.proofs.Progress.{le_or_gt}
 use Rattle.guard_frames.proofs.Readings.{stated_length-append}
 
 -- what octets begin with
-Begins : List ℕ → Type 0
+abbrev Begins : List ℕ → Type 0
 Begins s = ((n : ℕ) × (n ≤ length s) × IsFrame (take n s)) ⊎ (IsUnfinished s ⊎ IsTooLong s)
 
 front_frame : (s : List ℕ) → 4 ≤ length s → stated_length s ≤ 1048576 → stated_length s + 4 ≤ length s → IsFrame (take (stated_length s + 4) s)
@@ -22,7 +22,6 @@ front_frame s header allowed whole =
     record { header = four; allowed = omega (arith, same, allowed); exact = omega (arith, long, same) }
 
 begins : (s : List ℕ) → Begins s
-unfolding Begins
 begins s = elim (le_or_gt 4 (length s)) [
   | inl header ↦ elim (le_or_gt (stated_length s) 1048576) [
     | inl allowed ↦ elim (le_or_gt (stated_length s + 4) (length s)) [
@@ -34,15 +33,13 @@ begins s = elim (le_or_gt 4 (length s)) [
   | inr few ↦ inr (inl (record { allowed = λ h. absurd (omega (arith, few, h)); short = λ h. absurd (omega (arith, few, h)) }))
 ]
 
-Reading : List ℕ → Type 0
+abbrev Reading : List ℕ → Type 0
 Reading s = (frames : List (List ℕ)) × (rest : List ℕ) × ConsistsOf s frames rest
 
 rest_alone : (s : List ℕ) → (IsUnfinished s ⊎ IsTooLong s) → Reading s
-unfolding Reading
 rest_alone s left = ([], s, record { whole = refl; each = All_none IsFrame; left = left })
 
 one_more : (s : List ℕ) (n : ℕ) → IsFrame (take n s) → Reading (drop n s) → Reading s
-unfolding Reading
 one_more s n frame r =
     let whole : s ≡ concat (take n s ∷ r.0) ++ r.1 =
     sym (take-append-drop n s) ∙ ap (λ x. take n s ++ x) r.2.whole ∙ sym (append_assoc (take n s) (concat r.0) r.1) in
@@ -50,15 +47,16 @@ one_more s n frame r =
 
 -- of a stream of at most k octets
 within : (k : ℕ) (s : List ℕ) → length s ≤ k → Reading s
-unfolding Begins
 within zero s h = rest_alone s (inl (record { allowed = λ four. absurd (omega (arith, four, h)); short = λ four. absurd (omega (arith, four, h)) }))
 within (suc k) s h = elim (begins s) [
-  | inl (n, le, frame) ↦
+  | inl w ↦
+      let n : ℕ = w.0 in
+      let le : n ≤ length s = w.1 in
+      let frame : IsFrame (take n s) = w.2 in
       let some : 4 ≤ n = omega (arith, frame.header, length-take n s) in
       one_more s n frame (within k (drop n s) (omega (arith, length-drop n s, some, h, le)))
   | inr left ↦ rest_alone s left
 ]
 
 pub a_reading : (s : List ℕ) → (frames : List (List ℕ)) × (rest : List ℕ) × ConsistsOf s frames rest
-unfolding Reading
 a_reading s = within (length s) s (omega arith)

@@ -9,6 +9,7 @@ pub mod Readings
 pub mod Splitting
 pub mod Headers
 pub mod HeaderLaws
+pub mod Reporting
 -- ---- frames that are decided one after another
 pub mod Counting
 pub mod Progress

@@ -14,12 +14,7 @@ pub fn is_name(octets: &[u8]) -> bool
 fn are_name_octets(octets: &[u8]) -> bool
     ensures { result ≡ list_all name_octet octets.now }
 {
-    for octet in octets {
-        if !is_name_octet(*octet) {
-            return false;
-        }
-    }
-    true
+    octets.iter().all(|octet| is_name_octet(*octet))
 }
 
 fn is_name_octet(octet: u8) -> bool

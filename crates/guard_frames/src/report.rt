@@ -65,5 +65,6 @@ fn put_both<S: Sink>(sink: &mut S, first: &[u8], second: &[u8]) -> Result<(), Fa
     ensures failed { OnErr result (S.has_failed sink.new ≡ true) }
 {
     put_all(sink, first)?;
-    put_all(sink, second)
+    put_all(sink, second)?;
+    Ok(())
 }

@@ -89,7 +89,8 @@ pub fn run<S: Source, D: Decide, O: Sink, R: Sink>(
             Ok(()) => {}
             Err(LinkFault::FrameTooLong) => return Err(RunFault::FrameTooLong),
             Err(LinkFault::WriteFailed) => return Err(RunFault::WriteFailed),
-            Err(LinkFault::Closed | LinkFault::TornFrame) => unreachable!(),
+            Err(LinkFault::Closed) => unreachable!(),
+            Err(LinkFault::TornFrame) => unreachable!(),
         }
     }
     Err(RunFault::ReadFailed)

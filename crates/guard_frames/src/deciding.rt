@@ -2,7 +2,7 @@
 
 ghost use Rattle.std.specs.Prelude.{◌≡◌, ◌<◌, ◌^◌, ◌≤◌, ◌⊎◌, true, List, ℕ, IfOk, OnErr, length, take, drop};
 ghost use Rattle.std.specs.List.{concat};
-ghost use Rattle.guard_frames.specs.Totals.{next_number as number_of_next};
+ghost use Rattle.guard_frames.specs.Totals.{next_number};
 ghost use Rattle.guard_frames.specs.Outputs.{AfterFailure};
 ghost use Rattle.guard_frames.specs.Decided.{IsDecided};
 
@@ -37,7 +37,7 @@ pub fn decide<D: Decide, O: Sink, R: Sink>(
 ) -> Result<Whole, Failed>
     ensures whole { IfOk result (λ whole. IsDecided (D.decides policy.now) totals octets.now whole
         (O.taken out.old) (O.taken out.new) (R.taken reports.old) (R.taken reports.new)) }
-    ensures failure { OnErr result (AfterFailure (D.decides policy.now) (number_of_next totals) octets.now
+    ensures failure { OnErr result (AfterFailure (D.decides policy.now) (next_number totals) octets.now
         (O.taken out.old) (O.taken out.new) (R.taken reports.old) (R.taken reports.new)) }
     ensures failed { OnErr result ((O.has_failed out.new ≡ true) ⊎ (R.has_failed reports.new ≡ true)) }
 {

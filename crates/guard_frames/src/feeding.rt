@@ -2,7 +2,7 @@
 
 ghost use Rattle.std.specs.Prelude.{◌≡◌, ◌⊎◌, true, false, [], ◌∷◌, IfOk, OnErr, IsErrOf};
 ghost use Rattle.guard_frames.specs.Frames.{IsFrame, IsUnfinished};
-ghost use Rattle.guard_frames.specs.Totals.{next_number as number_of_next};
+ghost use Rattle.guard_frames.specs.Totals.{next_number};
 ghost use Rattle.guard_frames.specs.Outputs.{AfterFailure};
 ghost use Rattle.guard_frames.specs.Decided.{Decided};
 ghost use Rattle.guard_frames.specs.Feeding.{Feeds};
@@ -82,7 +82,7 @@ fn decide_frame<D: Decide, O: Sink, R: Sink>(
     requires { IsFrame frame.now }
     ensures done { IfOk result (λ after. Decided (D.decides policy.now) totals after frame.now (frame.now ∷ [])
         (O.taken out.old) (O.taken out.new) (R.taken reports.old) (R.taken reports.new)) }
-    ensures failure { OnErr result (AfterFailure (D.decides policy.now) (number_of_next totals) frame.now
+    ensures failure { OnErr result (AfterFailure (D.decides policy.now) (next_number totals) frame.now
         (O.taken out.old) (O.taken out.new) (R.taken reports.old) (R.taken reports.new)) }
     ensures failed { OnErr result ((O.has_failed out.new ≡ true) ⊎ (R.has_failed reports.new ≡ true)) }
 {

@@ -2,7 +2,7 @@
 
 ghost use Rattle.std.specs.Prelude.{◌≡◌, ◌++◌, true, false, List, ℕ, IfOk, OnOk, OnErr, decimal};
 ghost use Rattle.std.specs.Io.KnownBytes.{Appends};
-ghost use Rattle.guard_frames.specs.Outputs.{goes as frame_goes, ReportLine};
+ghost use Rattle.guard_frames.specs.Outputs.{goes, ReportLine};
 ghost use Rattle.guard_frames.specs.Prefix.{IsProperPrefix};
 
 use crate::decision::Decide;
@@ -14,7 +14,7 @@ use std::alloc::Global;
 /// Whether the frame has its header, and its body passes.
 #[tactic(auto, unfolding(crate::specs::Outputs::goes))]
 pub fn goes<D: Decide>(policy: &D, frame: &[u8]) -> bool
-    ensures { result ≡ frame_goes (D.decides policy.now) frame.now }
+    ensures { result ≡ goes (D.decides policy.now) frame.now }
 {
     match body_of(frame) {
         Some(body) => policy.passes(&body),
@@ -30,7 +30,7 @@ pub fn report<D: Decide, R: Sink>(
     frame: &[u8],
     reports: &mut R,
 ) -> Result<(), Failed>
-    requires { frame_goes (D.decides policy.now) frame.now ≡ false }
+    requires { goes (D.decides policy.now) frame.now ≡ false }
     ensures all { OnOk result ((line : List ℕ) × ReportLine (D.decides policy.now) number frame.now line
         × Appends (R.taken reports.old) (R.taken reports.new) line) }
     ensures part { OnErr result ((line : List ℕ) × (part : List ℕ) × ReportLine (D.decides policy.now) number frame.now line

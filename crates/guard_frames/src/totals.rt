@@ -10,7 +10,7 @@ pub struct Totals {
 
 impl Totals {
     ghost use Rattle.std.specs.Prelude.{◌≡◌};
-    ghost use Rattle.guard_frames.specs.Totals.{no_frames, after_passing, after_denying, next_number as number_of_next};
+    ghost use Rattle.guard_frames.specs.Totals.{no_frames, after_passing, after_denying, next_number};
 
     /// Before the first frame.
     pub fn none() -> Totals
@@ -49,7 +49,7 @@ impl Totals {
 
     /// The number of the frame that comes next.
     pub fn next_number(self) -> u64
-        ensures { result ≡ number_of_next self }
+        ensures { result ≡ next_number self }
     {
         self.frames.saturating_add(1)
     }

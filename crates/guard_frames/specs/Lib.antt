@@ -1,6 +1,7 @@
 -- ---- streams
 pub mod Frames
 pub mod Bodies
+pub mod Rows
 -- ---- what comes of frames
 pub mod Totals
 pub mod Prefix

@@ -1,7 +1,8 @@
-use Rattle.std.proofs.Common.{◌≡◌, ◌<◌, ◌≤◌, [], ◌++◌, ◌∙◌, ap, take, length, length-take, rules, arith}
+use Rattle.std.proofs.Common.{◌≡◌, ◌<◌, ◌≤◌, ◌^◌, ℕ, [], ◌++◌, ◌∙◌, ap, inr, subst, take, length, length-take, rules, arith}
 use Rattle.std.specs.Prelude.{Err}
 use Rattle.guard_frames.specs.declared.link.LinkFault.TheVariants.{FrameTooLong, WriteFailed}
 use Rattle.guard_frames.specs.Totals.{no_frames}
+use Rattle.guard_frames.specs.Runs.{CameInPieces}
 use Rattle.guard_frames.proofs.Counting.{counts}
 use Rattle.guard_frames.proofs.Reading.{Consumes_none, Consumes_trans, Consumes_zero, is_empty_list, no_pieces, one_more_piece}
 use Rattle.guard_frames.proofs.Holding.{begins_empty, feeds_more, fed_ok, fed_too_long, fed_failed}
@@ -107,3 +108,9 @@ loop-preserved g c =
       open_still = x.1;
       so_far = (h.0 ++ p, consumed, x.0, one_more_piece c.loop.counter h.0 p h.3 some most);
     }
+
+pub returns-clause-unread : goal.returns-clause-unread
+returns-clause-unread g c = λ _.
+    let h = c.loop.invariant.so_far in
+    let all : c.loop.counter ≡ 2 ^ 40 = omega arith in
+    inr (record { read = h.0; consumed = h.1; pieces = subst (λ (k : ℕ). CameInPieces k h.0) all h.3 })

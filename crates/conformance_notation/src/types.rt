@@ -106,26 +106,32 @@ impl Words<'_> {
         }
     }
 
-    /// What follows SEQUENCE.
+    /// What follows SEQUENCE. Constraints in front of OF are read behind the type of the elements.
     #[cycle(notation)]
     fn sequence(&mut self, alloc: Global, depth: u32) -> Result<Box<Ty>, Unread> {
-        let kind = if self.take("OF") {
+        let mut in_front = *self;
+        let kind = if self.take_of() {
             Kind::SequenceOf(self.ty(alloc, depth)?)
         } else {
             Kind::Sequence(self.components(alloc, depth)?)
         };
-        tagged(alloc, 16, kind)
+        let mut ty = tagged(alloc, 16, kind)?;
+        in_front.constraints(alloc, &mut ty, depth)?;
+        Ok(ty)
     }
 
     /// What follows SET.
     #[cycle(notation)]
     fn set_type(&mut self, alloc: Global, depth: u32) -> Result<Box<Ty>, Unread> {
-        let kind = if self.take("OF") {
+        let mut in_front = *self;
+        let kind = if self.take_of() {
             Kind::SetOf(self.ty(alloc, depth)?)
         } else {
             Kind::Set(self.components(alloc, depth)?)
         };
-        tagged(alloc, 17, kind)
+        let mut ty = tagged(alloc, 17, kind)?;
+        in_front.constraints(alloc, &mut ty, depth)?;
+        Ok(ty)
     }
 
     /// Components or alternatives in braces.

@@ -1,0 +1,18 @@
+use Rattle.std.proofs.Common.{◌∙◌}
+use Rattle.guard_model.specs.TypeView.{type_view}
+use Rattle.guard_model.specs.ValueView.{value_view}
+use Rattle.guard_eval.proofs.Soundness.{sound_keeps_base, sound_within_limits}
+use Rattle.guard_eval.proofs.Calls.{member_by_walk}
+use Rattle.guard_eval.proofs.Walk.{walked}
+use Rattle.guard_eval.proofs.Paths.{whole_path}
+use Rattle.guard_eval.proofs.violation.first_violation.Goals as goal
+
+pub returns-clause-first : goal.returns-clause-first
+returns-clause-first c =
+    let t = type_view c.args.ty.now in
+    let v = value_view c.args.value.now in
+    c.failure.ensures ∙ walked t v (sound_keeps_base t c.requires.sound) c.requires.fits ∙ whole_path t v (sound_within_limits t c.requires.sound) c.requires.fits
+
+pub returns-clause-none : goal.returns-clause-none
+returns-clause-none c =
+    member_by_walk (type_view c.args.ty.now) (value_view c.args.value.now) c.failure.result (sound_keeps_base (type_view c.args.ty.now) c.requires.sound) c.requires.fits c.failure.ensures

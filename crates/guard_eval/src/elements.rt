@@ -1,0 +1,95 @@
+//! Sets of values that speak of a number, a size or characters.
+ghost use Rattle.std.specs.Prelude.{◌≡◌, ◌*◌, ◌-◌, length, pos, chars, option_map};
+ghost use Rattle.std.specs.List.{list_all};
+ghost use Rattle.guard_model.specs.ValueView.{value_view};
+ghost use Rattle.guard_eval.specs.Elements.{is_above, is_under, is_between, size_of, is_in_some, is_spelled_in};
+
+use guard_model::{Bits, Limit, Value};
+
+/// The value is an integer between the ends (X.680 51.4).
+pub fn is_between(low: &Limit, high: &Limit, value: &Value) -> bool
+    ensures { result ≡ is_between low.now high.now (value_view value.now) }
+{
+    match value {
+        Value::Int(number) => is_above(low, *number) && is_under(high, *number),
+        _ => false,
+    }
+}
+
+fn is_above(low: &Limit, number: i128) -> bool
+    ensures { result ≡ is_above low.now number }
+{
+    match low {
+        Limit::Free => true,
+        Limit::At(low) => *low <= number,
+        Limit::Past(low) => *low < number,
+    }
+}
+
+fn is_under(high: &Limit, number: i128) -> bool
+    ensures { result ≡ is_under high.now number }
+{
+    match high {
+        Limit::Free => true,
+        Limit::At(high) => number <= *high,
+        Limit::Past(high) => number < *high,
+    }
+}
+
+/// The size in bits, octets, characters or elements (X.680 51.5), for the kinds that have one.
+pub fn size_of(value: &Value) -> Option<i128>
+    ensures { result ≡ option_map pos (size_of (value_view value.now)) }
+{
+    match value {
+        Value::Bits(bits) => Some(count_bits(bits)),
+        Value::Octets(octets) => Some(octets.len() as i128),
+        Value::Chars(text) => Some(count_characters(text) as i128),
+        Value::Items(items) => Some(items.len() as i128),
+        _ => None,
+    }
+}
+
+fn count_characters(text: &str) -> usize
+    ensures { result ≡ length (chars text.now) }
+{
+    text.chars().count()
+}
+
+fn count_bits(bits: &Bits) -> i128
+    ensures { result ≡ pos (8 * length bits.now.octets.items - bits.now.unused) }
+{
+    let all = 8 * (bits.octets.len() as u128);
+    all.saturating_sub(u128::from(bits.unused)) as i128
+}
+
+/// The value is a string all of whose characters lie in one of the ranges (X.680 51.7).
+pub fn is_spelled_in(ranges: &[(u32, u32)], value: &Value) -> bool
+    ensures { result ≡ is_spelled_in ranges.now (value_view value.now) }
+{
+    match value {
+        Value::Chars(text) => are_permitted(ranges, text),
+        _ => false,
+    }
+}
+
+fn are_permitted(ranges: &[(u32, u32)], text: &str) -> bool
+    ensures { result ≡ list_all (is_in_some ranges.now) (chars text.now) }
+{
+    for character in text.chars() {
+        if !is_in_some(ranges, u32::from(character)) {
+            return false;
+        }
+    }
+    true
+}
+
+fn is_in_some(ranges: &[(u32, u32)], code: u32) -> bool
+    ensures { result ≡ is_in_some ranges.now code }
+{
+    for (first, last) in ranges {
+        if *first <= code && code <= *last {
+            return true;
+        }
+    }
+    false
+}

@@ -1,4 +1,5 @@
 -- ---- what assignments mention
+pub mod Gathering
 pub mod Fronts
 -- ---- what modules declare and export, and look-ups
 pub mod Listing

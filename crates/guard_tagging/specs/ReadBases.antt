@@ -1,0 +1,73 @@
+-- A type of each kind, as it is made from its parts.
+use Rattle.std.specs.Prelude.{ℕ, suc, ◌+◌, ◌-◌, ◌^◌, min, Bool, true, false, List, [], ◌∷◌, map, Option, Some, None, Result, Ok, Err}
+use Rattle.guard_model.specs.Answer.{◌>>=◌}
+use Rattle.guard_model.specs.Each.{each}
+use Rattle.guard_model.specs.AbstractType as type
+use Rattle.guard_model.specs.AbstractType.{AbstractType, type_of}
+use Rattle.guard_model.specs.TypeView.{components_of}
+use Rattle.guard_model.specs.declared.site.Site.{Site}
+use Rattle.guard_tagcheck.specs.Limits.{nesting_inside}
+use Rattle.guard_syntax.specs.Trees.{WrittenNamed, WrittenItem}
+use Rattle.guard_syntax.specs.declared.tree.PlainType.{PlainType}
+use Rattle.guard_syntax.specs.declared.tree.Collection.{Collection}
+use Rattle.guard_tagging.specs.declared.fault.TagFault.{TagFault}
+use Rattle.guard_tagging.specs.declared.fault.TagFault.TheVariants.{UndefinedName}
+use Rattle.guard_tagging.specs.Faults.{Placed, duplicate_number, nodes_inside}
+use Rattle.guard_tagging.specs.Named.{allowed}
+use Rattle.guard_tagging.specs.ReadItems.{read_named, read_items}
+use Rattle.guard_tagging.specs.ReadNames.{named_place, item_place}
+use Rattle.guard_tagging.specs.ReadNodes.{Node, Whole, Made, tags_of, whole_with, made_from, made_with}
+use Rattle.guard_tagging.specs.ReadParts.{PartList, check_list}
+use Rattle.guard_tagging.specs.Tagging.{is_untagged_choice}
+use Rattle.guard_tagging.specs.Types.{Meaning, universal, plain_number, plain_kind, collection_number, structure_kind, of_kind}
+
+unfoldable pub plain_type : Node → PlainType → ℕ → Result Made TagFault
+plain_type node p before = tags_of node (universal (plain_number p)) false >>= λ tags. whole_with node tags 0 before >>= λ whole. Ok (made_with whole (plain_kind p))
+
+abbrev pub differ : List Placed → Result (Unit {0}) TagFault
+differ places = allowed (duplicate_number places)
+
+abbrev pub check_named : List WrittenNamed → Result (Unit {0}) TagFault
+check_named ns = differ (map named_place ns)
+
+abbrev pub check_items : List WrittenItem → Result (Unit {0}) TagFault
+check_items items = differ (map item_place items)
+
+unfoldable pub integer_type : Node → List WrittenNamed → ℕ → Result Made TagFault
+integer_type node ns before =
+    tags_of node (universal 2) false >>= λ tags. check_named ns >>= λ _. whole_with node tags 0 before >>= λ whole.
+    each read_named ns >>= λ numbers. Ok (made_with whole (type.integer numbers))
+
+unfoldable pub enumerated_type : Node → List WrittenItem → ℕ → Result Made TagFault
+enumerated_type node items before =
+    tags_of node (universal 10) false >>= λ tags. check_items items >>= λ _. whole_with node tags 0 before >>= λ whole.
+    read_items items >>= λ numbered. Ok (made_with whole (type.enumerated numbered))
+
+unfoldable pub structure_type : Node → Collection → PartList → Result Made TagFault
+structure_type node k parts =
+    tags_of node (universal (collection_number k)) false >>= λ tags. check_list node.site parts >>= λ _. whole_with node tags parts.deepest parts.nodes >>= λ whole.
+    Ok (made_with whole (structure_kind k (components_of parts.comps)))
+
+unfoldable pub choice_type : Node → PartList → Result Made TagFault
+choice_type node parts =
+    tags_of node [] true >>= λ tags. check_list node.site parts >>= λ _. whole_with node tags (min (parts.deepest + 1) (2 ^ 64 - 1)) parts.nodes >>= λ whole.
+    Ok (made_with whole (type.choice (components_of parts.comps)))
+
+unfoldable pub of_type : Node → Collection → Made → Result Made TagFault
+of_type node k element =
+    tags_of node (universal (collection_number k)) false >>= λ tags. whole_with node tags element.nesting element.nodes >>= λ whole.
+    Ok (made_with whole (of_kind k element.ty))
+
+abbrev pub copied : Whole → AbstractType → Result Made TagFault
+copied whole (type_of tags kind cons) = Ok (made_from whole kind cons)
+
+-- a type of which only the tags are looked at before its limits
+abbrev pub referred_to : Node → AbstractType → ℕ → Result Made TagFault
+referred_to node (type_of tags kind cons) before =
+    tags_of node tags (is_untagged_choice (type_of tags kind cons)) >>= λ all.
+    whole_with node all (min (nesting_inside kind) 33) (min (before + nodes_inside kind) 100001) >>= λ whole. Ok (made_from whole kind cons)
+
+-- the name stands at this site
+unfoldable pub referred_type : Node → Site → Option Meaning → ℕ → Result Made TagFault
+referred_type node site None before = Err (UndefinedName site)
+referred_type node site (Some m) before = referred_to node m.ty before

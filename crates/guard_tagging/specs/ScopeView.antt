@@ -1,0 +1,29 @@
+-- What a scope of the code stands for.
+use Rattle.std.specs.Prelude.{Bool, List, [], ◌∷◌, map}
+use Rattle.guard_model.specs.AbstractType.{AbstractType}
+use Rattle.guard_model.specs.TypeView.{type_view}
+use Rattle.guard_names.specs.Declarations.{declarations, definition_of, origin_there}
+use Rattle.guard_names.specs.NamesView.{modules_of, order_of}
+use Rattle.guard_tagging.specs.declared.scope.Done.{Done}
+use Rattle.guard_tagging.specs.declared.scope.Known.{Known}
+use Rattle.guard_tagging.specs.declared.scope.Scope.{Scope}
+use Rattle.guard_tagging.specs.Surroundings.{known_meant}
+use Rattle.guard_tagging.specs.Types.{Meaning, Surroundings}
+
+abbrev pub meaning_view : Known → Meaning
+meaning_view k = record { ty = type_view k.ty.now; is_automatic = k.is_automatic }
+
+-- a type and what is known of its list, for as many as have both
+abbrev pub known_list : List AbstractType → List Bool → List Meaning
+known_list [] automatic = []
+known_list (t ∷ types) [] = []
+known_list (t ∷ types) (b ∷ automatic) = record { ty = t; is_automatic = b } ∷ known_list types automatic
+
+abbrev pub done_view : Done → List Meaning
+done_view d = known_list (map type_view d.types.now) d.automatic.now
+
+abbrev pub scope_view : Scope → Surroundings
+scope_view s = record {
+  tag_default = s.tag_default;
+  meaning = λ name. known_meant (order_of s.names.now) (done_view s.done) (definition_of (origin_there (declarations (modules_of s.names.now))) s.home.now name);
+}

@@ -1,0 +1,36 @@
+//! From a written type to its tags, its parts and their numbering.
+//!
+//! | question | code | definition |
+//! |---|---|---|
+//! | Which type has a definition? | `definition.rt` (`skeleton`, `skeleton_behind`) | `specs/Skeletons.antt`, `specs/Surroundings.antt` |
+//! | Which type does a written type denote? | `walk.rt`, the parts of a list in `parts.rt`, a type of each kind in `base.rt` | `specs/Types.antt`; as it is read `specs/ReadTypes.antt`, `specs/ReadParts.antt`, `specs/ReadBases.antt` |
+//! | Which fault is the first, and how do faults print? | `fault.rt` | `specs/Faults.antt` |
+//! | Which tags does a type get from those that are written? | `tags.rt` | `specs/Tagging.antt`, `specs/ReadTags.antt` |
+//! | Which lists are tagged automatically, and what may COMPONENTS OF take in? | `automatic.rt` | `specs/Types.antt`, `specs/Faults.antt` |
+//! | Which numbers do items and named numbers have? | `numbering.rt`, `number.rt` | `specs/Enumerations.antt`, `specs/Numbers.antt`, `specs/ReadItems.antt` |
+//! | Which names and numbers stand twice? | `names.rt` | `specs/Faults.antt`, `specs/ReadNames.antt` |
+//! | What is too deep or too large? | `node.rt`, of a finished type `measure.rt` | `specs/Faults.antt`, `specs/ReadNodes.antt` |
+//! | What does a name mean where a type is written? | `scope.rt` | `specs/Surroundings.antt`, `specs/ScopeView.antt` |
+//! | Which kind and universal tag has a type? | `kinds.rt` | `specs/Types.antt` |
+#![tactic(auto)]
+
+mod automatic;
+mod base;
+mod definition;
+mod fault;
+mod kinds;
+pub mod laws;
+mod made;
+mod measure;
+mod names;
+mod node;
+mod number;
+mod numbering;
+mod parts;
+mod scope;
+mod tags;
+mod walk;
+
+pub use definition::{TaggedType, skeleton, skeleton_behind};
+pub use fault::TagFault;
+pub use scope::Done;

@@ -1,0 +1,50 @@
+//! A type as it is made: what is written before its base, its components so far, and what is known of it once it keeps the limits.
+ghost use Rattle.std.specs.Prelude.{◌≡◌, ◌≤◌, length};
+
+use guard_model::{Comp, Site, Tag, Ty};
+use guard_syntax::{TagDefault, TagTree};
+
+/// What is written of a type beside its base.
+#[derive(Clone, Copy)]
+pub struct Node<'t> {
+    /// Where its first token stands.
+    pub site: Site,
+    pub tags: &'t [TagTree<'t>],
+    /// The tag default of its module.
+    pub tag_default: TagDefault,
+    /// Whether it counts as a type. The type behind COMPONENTS OF doesn't.
+    pub counts: bool,
+}
+
+/// What is known of a type that keeps the limits, beside its kind.
+#[derive(Drop)]
+pub struct Whole {
+    pub tags: Vec<Tag>,
+    pub nesting: usize,
+    /// The types up to it and with it, over all definitions.
+    pub nodes: usize,
+    ghost shallow: { nesting ≤ 32 },
+}
+
+/// A type that keeps the limits.
+#[derive(Drop)]
+pub struct Made {
+    pub ty: Ty,
+    pub nesting: usize,
+    /// The types up to it and with it, over all definitions.
+    pub nodes: usize,
+    ghost shallow: { nesting ≤ 32 },
+}
+
+/// Components so far.
+#[derive(Drop)]
+pub struct Parts {
+    /// Where each stands: its name, or the word COMPONENTS that puts it in.
+    pub sites: Vec<Site>,
+    pub comps: Vec<Comp>,
+    /// The greatest nesting of one.
+    pub deepest: usize,
+    /// The types up to their end, over all definitions.
+    pub nodes: usize,
+    ghost paired: { length sites.items ≡ length comps.items },
+}

@@ -1,0 +1,202 @@
+//! The components of a list, as they are read.
+ghost use Rattle.std.specs.Prelude.{◌≡◌, ◌≤◌, ◌<◌, ◌++◌, length, map, replicate, IfOk};
+ghost use Rattle.guard_model.specs.Answer.{Gives};
+ghost use Rattle.guard_model.specs.Components.{components_in};
+ghost use Rattle.guard_model.specs.TypeView as model;
+ghost use Rattle.guard_tagging.specs.Named.{named};
+ghost use Rattle.guard_tagging.specs.NodeViews.{made_view};
+ghost use Rattle.guard_tagging.specs.PartViews.{parts_view};
+ghost use Rattle.guard_tagging.specs.ReadParts as reading;
+
+use crate::fault::TagFault;
+use crate::made::{Made, Parts};
+use crate::names::{component_places, first_repeated, name_text};
+use guard_model::{Class, Comp, Kind, MOST_COMPONENTS, Presence, Site, Tag, Ty};
+use std::alloc::{AllocError, Global};
+
+/// No components, with so many types before them.
+pub fn no_parts(alloc: Global, before: usize) -> Parts
+    ensures { parts_view result ≡ reading.no_parts before }
+{
+    Parts {
+        sites: Vec::new(alloc),
+        comps: Vec::new(alloc),
+        deepest: 0,
+        nodes: before,
+    }
+}
+
+/// One component more. In a list that is tagged automatically its place is the number of its tag.
+pub fn with_component(
+    parts: Box<Parts>,
+    alloc: Global,
+    automatic: bool,
+    site: Site,
+    name: &[u8],
+    made: Box<Made>,
+    presence: Presence,
+) -> Result<Box<Parts>, AllocError>
+    ensures { IfOk result (λ v. parts_view v.value ≡ reading.with_component automatic (parts_view parts.value) site name.now (made_view made.value) (model.presence_view presence)) }
+{
+    let Made { ty, nesting, nodes } = Box::into_inner(made);
+    let place = parts.comps.len();
+    let added = levels_at(automatic, place, &ty);
+    let ty = tagged_at(alloc, automatic, place, ty)?;
+    let comp = comp_of(alloc, name, ty, presence)?;
+    pushed(parts, alloc, site, comp, nesting + added, nodes)
+}
+
+fn comp_of(alloc: Global, name: &[u8], ty: Ty, presence: Presence) -> Result<Comp, AllocError>
+    ensures { IfOk result (λ comp. model.component_view comp ≡ reading.named_component name.now (model.type_view ty) (model.presence_view presence)) }
+{
+    let name = name_text(alloc, name)?;
+    Ok(Comp { name, ty, presence })
+}
+
+/// The parts with this one, which is nested so deep.
+fn pushed(
+    parts: Box<Parts>,
+    alloc: Global,
+    site: Site,
+    comp: Comp,
+    nesting: usize,
+    nodes: usize,
+) -> Result<Box<Parts>, AllocError>
+    ensures { IfOk result (λ v. parts_view v.value ≡ reading.pushed (parts_view parts.value) site (model.component_view comp) nesting nodes) }
+{
+    let Parts {
+        mut sites,
+        mut comps,
+        deepest,
+        ..
+    } = Box::into_inner(parts);
+    sites.push(site)?;
+    comps.push(comp)?;
+    Ok(Box::new(
+        alloc,
+        Parts {
+            sites,
+            comps,
+            deepest: deepest.max(nesting),
+            nodes,
+        },
+    )?)
+}
+
+/// Whether the component at a place gets a tag. A longer list than is allowed is refused, and its end needs none.
+fn gets_tag(automatic: bool, place: usize) -> bool
+    ensures { result ≡ reading.gets_tag automatic place }
+{
+    automatic && place < MOST_COMPONENTS
+}
+
+/// How many levels an automatic tag adds: one where there is no tag to replace, as on a CHOICE that has none.
+fn levels_at(automatic: bool, place: usize, ty: &Ty) -> usize
+    ensures levels { result ≡ reading.levels_at automatic place (model.type_view ty.now) }
+    ensures one { result ≤ 1 }
+{
+    if gets_tag(automatic, place) && ty.tags.is_empty() {
+        1
+    } else {
+        0
+    }
+}
+
+fn tagged_at(alloc: Global, automatic: bool, place: usize, ty: Ty) -> Result<Ty, AllocError>
+    ensures { IfOk result (λ t. model.type_view t ≡ reading.tagged_at automatic place (model.type_view ty)) }
+{
+    if !gets_tag(automatic, place) {
+        return Ok(ty);
+    }
+    let Ty { tags, kind, cons } = ty;
+    let tags = with_outermost(alloc, place_tag(place), &tags)?;
+    Ok(Ty { tags, kind, cons })
+}
+
+fn place_tag(place: usize) -> Tag
+    requires { place < 64 }
+    ensures { result ≡ reading.place_tag place }
+{
+    Tag {
+        class: Class::Context,
+        number: place as u32,
+    }
+}
+
+/// The tags with this one in place of the outermost, where there is one.
+fn with_outermost(alloc: Global, tag: Tag, tags: &[Tag]) -> Result<Vec<Tag>, AllocError>
+    ensures { IfOk result (λ v. v.items ≡ reading.replace_outermost tag tags.now) }
+{
+    let mut all = Vec::new(alloc);
+    all.push(tag)?;
+    if let [_, others @ ..] = tags {
+        all.extend_from_slice(others)?;
+    }
+    Ok(all)
+}
+
+/// What COMPONENTS OF puts in at its word: the components of the SEQUENCE or SET.
+pub fn with_list(
+    parts: Box<Parts>,
+    alloc: Global,
+    site: Site,
+    made: Box<Made>,
+) -> Result<Box<Parts>, AllocError>
+    ensures { IfOk result (λ v. parts_view v.value ≡ reading.with_list (parts_view parts.value) site (made_view made.value)) }
+{
+    let Made { ty, nesting, nodes } = Box::into_inner(made);
+    let Parts {
+        sites,
+        mut comps,
+        deepest,
+        ..
+    } = Box::into_inner(parts);
+    let mut put_in = comps_in(alloc, ty.kind);
+    let sites = with_sites(sites, site, put_in.len())?;
+    comps.append(&mut put_in)?;
+    Ok(Box::new(
+        alloc,
+        Parts {
+            sites,
+            comps,
+            deepest: deepest.max(nesting.saturating_sub(1)),
+            nodes,
+        },
+    )?)
+}
+
+/// The components of a SEQUENCE or SET.
+fn comps_in(alloc: Global, kind: Kind) -> Vec<Comp>
+    ensures { map model.component_view result.items ≡ reading.listed (components_in (model.kind_view kind)) }
+{
+    match kind {
+        Kind::Sequence(comps) => comps,
+        Kind::Set(comps) => comps,
+        Kind::Choice(comps) => comps,
+        _ => Vec::new(alloc),
+    }
+}
+
+/// The sites with this one so many times more.
+fn with_sites(sites: Vec<Site>, site: Site, count: usize) -> Result<Vec<Site>, AllocError>
+    ensures { IfOk result (λ v. v.items ≡ sites.items ++ replicate count site) }
+{
+    let mut sites = sites;
+    for added in 0..count {
+        sites.push(site)?;
+    }
+    Ok(sites)
+}
+
+/// The names of a list must differ, and there may be 64 at most.
+#[tactic(auto, unfolding(crate::specs::ReadParts::check_list))]
+pub fn check_list(alloc: Global, site: Site, parts: &Parts) -> Result<(), TagFault>
+    ensures { Gives (λ u. u) named result (reading.check_list site (parts_view parts.now)) }
+{
+    let places = component_places(alloc, &parts.sites, &parts.comps)?;
+    match first_repeated(alloc, &places)? {
+        Some(name) => Err(TagFault::DuplicateName(name)),
+        None if parts.comps.len() > MOST_COMPONENTS => Err(TagFault::TooManyComponents(site)),
+        None => Ok(()),
+    }
+}

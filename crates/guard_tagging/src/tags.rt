@@ -1,0 +1,119 @@
+//! Written tags (X.680 clause 31).
+ghost use Rattle.std.specs.Prelude.{◌≡◌, [], false, map};
+ghost use Rattle.guard_model.specs.Answer.{Gives};
+ghost use Rattle.guard_syntax.specs.TypeViews.{tag_view};
+ghost use Rattle.guard_tagging.specs.Faults as faults;
+ghost use Rattle.guard_tagging.specs.Named.{named, allowed};
+ghost use Rattle.guard_tagging.specs.ReadTags.{implicit_last, read_tag, read_tags, kept};
+ghost use Rattle.guard_tagging.specs.Tagging as tagging;
+
+use crate::fault::TagFault;
+use crate::number::magnitude;
+use guard_model::{Class, GREATEST_TAG_NUMBER, Tag};
+use guard_syntax::{TagClass, TagDefault, TagMode, TagTree};
+use std::alloc::{AllocError, Global};
+
+/// No tag may be written with the word UNIVERSAL.
+pub fn check_universal(written: &[TagTree]) -> Result<(), TagFault>
+    ensures { Gives (λ u. u) named result (allowed (faults.universal_tag (map tag_view written.now))) }
+{
+    for tree in written {
+        if is_universal(tree.class) {
+            return Err(TagFault::UniversalTag(tree.site));
+        }
+    }
+    Ok(())
+}
+
+fn is_universal(class: Option<TagClass>) -> bool
+    ensures { result ≡ faults.is_universal class }
+{
+    matches!(class, Some(TagClass::Universal))
+}
+
+/// No tag directly before a CHOICE that has none may have the word IMPLICIT (X.680 31.2.9).
+pub fn check_implicit(written: &[TagTree], on_choice: bool) -> Result<(), TagFault>
+    ensures { Gives (λ u. u) named result (allowed (implicit_last on_choice (map tag_view written.now))) }
+{
+    match written.last() {
+        Some(last) if on_choice && is_implicit(last.mode) => {
+            Err(TagFault::ImplicitChoice(last.site))
+        }
+        _ => Ok(()),
+    }
+}
+
+fn is_implicit(mode: Option<TagMode>) -> bool
+    ensures { result ≡ faults.is_implicit mode }
+{
+    matches!(mode, Some(TagMode::Implicit))
+}
+
+/// The tags of a type with those that are written before it, the outermost first. An implicit tag replaces the outermost one
+/// behind it. A CHOICE without tags has none to replace, so that a tag on it is explicit.
+pub fn with_written(
+    alloc: Global,
+    written: &[TagTree],
+    default: TagDefault,
+    base: &[Tag],
+) -> Result<Vec<Tag>, TagFault>
+    ensures { Gives (λ v. v.items) named result (read_tags default false [] (map tag_view written.now) base.now) }
+{
+    let mut tags = Vec::new(alloc);
+    let mut replaced = false;
+    for tree in written {
+        let tag = tag_of(tree)?;
+        if !replaced {
+            tags.push(tag)?;
+        }
+        replaced = !is_explicit(tree.mode, default);
+    }
+    tags.extend_from_slice(kept(base, replaced))?;
+    Ok(tags)
+}
+
+/// What is left of the tags of a type behind a tag that replaces the outermost one, or doesn't.
+fn kept(base: &[Tag], replaced: bool) -> &[Tag]
+    ensures { result.now ≡ kept replaced base.now }
+{
+    match base {
+        [_, others @ ..] if replaced => others,
+        all => all,
+    }
+}
+
+/// Whether a tag is explicit on a type that has a tag.
+fn is_explicit(mode: Option<TagMode>, default: TagDefault) -> bool
+    ensures { result ≡ tagging.is_explicit mode default false }
+{
+    match mode {
+        Some(TagMode::Explicit) => true,
+        Some(TagMode::Implicit) => false,
+        None => matches!(default, TagDefault::Explicit),
+    }
+}
+
+fn tag_of(tree: &TagTree) -> Result<Tag, TagFault>
+    ensures { Gives (λ tag. tag) named result (read_tag (tag_view tree.now)) }
+{
+    let number = magnitude(tree.number);
+    if number > GREATEST_TAG_NUMBER as u128 {
+        return Err(TagFault::TagTooLarge(tree.site));
+    }
+    Ok(Tag {
+        class: class_of(tree.class),
+        number: number as u32,
+    })
+}
+
+/// The class that is written before the number.
+fn class_of(class: Option<TagClass>) -> Class
+    ensures { result ≡ tagging.class_of class }
+{
+    match class {
+        None => Class::Context,
+        Some(TagClass::Universal) => Class::Universal,
+        Some(TagClass::Application) => Class::Application,
+        Some(TagClass::Private) => Class::Private,
+    }
+}

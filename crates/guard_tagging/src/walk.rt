@@ -1,0 +1,202 @@
+//! The walk over a written type: its parts in written order, and then the whole.
+ghost use Rattle.std.specs.Prelude.{◌≡◌, map};
+ghost use Rattle.guard_model.specs.Answer.{Gives};
+ghost use Rattle.guard_syntax.specs.Trees.{structure, choice, components_of, alternatives_of};
+ghost use Rattle.guard_syntax.specs.TypeViews as written;
+ghost use Rattle.guard_tagging.specs.Named.{named};
+ghost use Rattle.guard_tagging.specs.NodeViews.{node_view, made_view};
+ghost use Rattle.guard_tagging.specs.PartViews.{parts_view};
+ghost use Rattle.guard_tagging.specs.ReadTypes as reading;
+ghost use Rattle.guard_tagging.specs.ScopeView.{scope_view};
+
+use crate::automatic::{check_taken, is_automatic, is_automatic_choice, is_automatic_list};
+use crate::base::{
+    choice_type, enumerated_type, integer_type, of_type, plain_type, referred_type, structure_type,
+};
+use crate::fault::TagFault;
+use crate::kinds::presence_of;
+use crate::made::{Made, Node, Parts};
+use crate::parts::{no_parts, with_component, with_list};
+use crate::scope::Scope;
+use guard_model::Presence;
+use guard_syntax::{AlternativeTree, BaseTree, Collection, CompForm, CompTree, TypeTree};
+use std::alloc::Global;
+
+/// The type that is written, with so many types before it. The type behind COMPONENTS OF doesn't count itself.
+#[cycle(walk)]
+#[tactic(auto, unfolding(crate::specs::ReadTypes::read_type))]
+pub fn type_of(
+    alloc: Global,
+    scope: &Scope,
+    tree: &TypeTree,
+    counts: bool,
+    before: usize,
+) -> Result<Box<Made>, TagFault>
+    ensures { Gives (λ m. made_view m.value) named result (reading.read_type (scope_view scope.now) counts before (written.type_view tree.now)) }
+{
+    let node = Node {
+        site: tree.site,
+        tags: &tree.tags,
+        tag_default: scope.tag_default,
+        counts,
+    };
+    type_with(alloc, scope, &node, &tree.base, before)
+}
+
+#[cycle(walk)]
+#[tactic(auto, unfolding(crate::specs::ReadTypes::read_base))]
+fn type_with(
+    alloc: Global,
+    scope: &Scope,
+    node: &Node,
+    base: &BaseTree,
+    before: usize,
+) -> Result<Box<Made>, TagFault>
+    ensures { Gives (λ m. made_view m.value) named result (reading.read_base (scope_view scope.now) (node_view node.now) before (written.base_view base.now)) }
+{
+    match base {
+        BaseTree::Plain(plain) => plain_type(alloc, node, *plain, before),
+        BaseTree::Integer(named) => integer_type(alloc, node, named, before),
+        BaseTree::Enumerated(items) => enumerated_type(alloc, node, items, before),
+        BaseTree::Structure(collection, comps) => {
+            structure(alloc, scope, node, *collection, comps, before)
+        }
+        BaseTree::Choice(alternatives) => choice(alloc, scope, node, alternatives, before),
+        BaseTree::Of(collection, _, element) => {
+            elements(alloc, scope, node, *collection, element, before)
+        }
+        BaseTree::Reference(name) => {
+            referred_type(alloc, node, name.site, scope.referred(name.name), before)
+        }
+    }
+}
+
+#[cycle(walk)]
+#[tactic(auto, unfolding(crate::specs::ReadTypes::read_base))]
+fn structure(
+    alloc: Global,
+    scope: &Scope,
+    node: &Node,
+    collection: Collection,
+    comps: &[CompTree],
+    before: usize,
+) -> Result<Box<Made>, TagFault>
+    ensures { Gives (λ m. made_view m.value) named result (reading.read_base (scope_view scope.now) (node_view node.now) before (structure collection (components_of (map written.component_view comps.now)))) }
+{
+    let parts = components(alloc, scope, collection, comps, before)?;
+    structure_type(alloc, node, collection, parts)
+}
+
+#[cycle(walk)]
+#[tactic(auto, unfolding(crate::specs::ReadTypes::read_base))]
+fn choice(
+    alloc: Global,
+    scope: &Scope,
+    node: &Node,
+    trees: &[AlternativeTree],
+    before: usize,
+) -> Result<Box<Made>, TagFault>
+    ensures { Gives (λ m. made_view m.value) named result (reading.read_base (scope_view scope.now) (node_view node.now) before (choice (alternatives_of (map written.alternative_view trees.now)))) }
+{
+    let parts = alternatives(alloc, scope, trees, before)?;
+    choice_type(alloc, node, parts)
+}
+
+#[cycle(walk)]
+fn elements(
+    alloc: Global,
+    scope: &Scope,
+    node: &Node,
+    collection: Collection,
+    tree: &TypeTree,
+    before: usize,
+) -> Result<Box<Made>, TagFault>
+    ensures { Gives (λ m. made_view m.value) named result (reading.read_elements (scope_view scope.now) (node_view node.now) collection before (written.type_view tree.now)) }
+{
+    let element = type_of(alloc, scope, tree, true, before)?;
+    of_type(alloc, node, collection, element)
+}
+
+#[cycle(walk)]
+fn components(
+    alloc: Global,
+    scope: &Scope,
+    collection: Collection,
+    trees: &[CompTree],
+    before: usize,
+) -> Result<Box<Parts>, TagFault>
+    ensures { Gives (λ p. parts_view p.value) named result (reading.read_list (scope_view scope.now) collection before (components_of (map written.component_view trees.now))) }
+{
+    let automatic = is_automatic_list(scope.tag_default, trees);
+    let mut parts = Box::new(alloc, no_parts(alloc, before))?;
+    for tree in trees {
+        parts = entry(alloc, scope, collection, automatic, tree, parts)?;
+    }
+    Ok(parts)
+}
+
+/// The components with those of one more entry of the list.
+#[cycle(walk)]
+fn entry(
+    alloc: Global,
+    scope: &Scope,
+    collection: Collection,
+    automatic: bool,
+    tree: &CompTree,
+    parts: Box<Parts>,
+) -> Result<Box<Parts>, TagFault>
+    ensures { Gives (λ p. parts_view p.value) named result (reading.read_component (scope_view scope.now) collection automatic (parts_view parts.value) (written.component_view tree.now)) }
+{
+    match &tree.form {
+        CompForm::Named(name, ty, presence) => {
+            let made = type_of(alloc, scope, ty, true, parts.nodes)?;
+            let presence = presence_of(presence);
+            Ok(with_component(parts, alloc, automatic, tree.site, name, made, presence)?)
+        }
+        CompForm::ComponentsOf(ty) => {
+            let made = type_of(alloc, scope, ty, false, parts.nodes)?;
+            let automatic = automatic || is_automatic(scope, &ty.base);
+            check_taken(collection, automatic, tree.site, &made.ty)?;
+            Ok(with_list(parts, alloc, tree.site, made)?)
+        }
+    }
+}
+
+#[cycle(walk)]
+fn alternatives(
+    alloc: Global,
+    scope: &Scope,
+    trees: &[AlternativeTree],
+    before: usize,
+) -> Result<Box<Parts>, TagFault>
+    ensures { Gives (λ p. parts_view p.value) named result (reading.read_choice (scope_view scope.now) before (alternatives_of (map written.alternative_view trees.now))) }
+{
+    let automatic = is_automatic_choice(scope.tag_default, trees);
+    let mut parts = Box::new(alloc, no_parts(alloc, before))?;
+    for tree in trees {
+        parts = alternative(alloc, scope, automatic, tree, parts)?;
+    }
+    Ok(parts)
+}
+
+#[cycle(walk)]
+fn alternative(
+    alloc: Global,
+    scope: &Scope,
+    automatic: bool,
+    tree: &AlternativeTree,
+    parts: Box<Parts>,
+) -> Result<Box<Parts>, TagFault>
+    ensures { Gives (λ p. parts_view p.value) named result (reading.read_one (scope_view scope.now) automatic (parts_view parts.value) (written.alternative_view tree.now)) }
+{
+    let made = type_of(alloc, scope, &tree.ty, true, parts.nodes)?;
+    Ok(with_component(
+        parts,
+        alloc,
+        automatic,
+        tree.site,
+        tree.name,
+        made,
+        Presence::Mandatory,
+    )?)
+}

@@ -1,0 +1,15 @@
+use Rattle.std.proofs.Common.{◌≡◌, ◌∷◌}
+use Rattle.guard_model.specs.TypeView.{type_view}
+use Rattle.guard_model.proofs.Components.{left}
+use Rattle.guard_tables.specs.Search.{crowded_among}
+use Rattle.guard_tables.specs.Tables.{types_view}
+use Rattle.guard_tables.proofs.nodes.+nodes.Given as goal
+
+-- none of the components so far has such a node, and the way is what it was
+abbrev pub invariant-is_crowded_among-loop-place : goal.invariant-is_crowded_among-loop-place
+invariant-is_crowded_among-loop-place l =
+    let types = type_view l.declared ∷ types_view l.rules in
+    record {
+      found : crowded_among types l.initial.way.items l.place (left l.comps l.place) ≡ crowded_among types l.initial.way.items 0 (left l.comps 0);
+      same : l.way.items ≡ l.initial.way.items;
+    }

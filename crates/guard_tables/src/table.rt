@@ -1,0 +1,105 @@
+//! Tables.
+ghost use Rattle.std.specs.Prelude.{◌≡◌, ◌&&◌, ◌∷◌, None, Some, All, map, IsTrue, IfOk, OnOk, IfErr, IfSome};
+ghost use Rattle.std.specs.Cmp.Lexicographic.{pointwise};
+ghost use Rattle.guard_model.specs.TypeView.{type_view};
+ghost use Rattle.guard_model.specs.Tags.{same_tag};
+ghost use Rattle.guard_der.specs.Sound.{is_sound};
+ghost use Rattle.guard_tables.specs.Alike.{AreConsistent};
+ghost use Rattle.guard_tables.specs.Tables.{types_view, is_match, first_mismatch, first_fault, named};
+
+use crate::fault::TableFault;
+use crate::nodes::has_crowded_node;
+use guard_model::{OutOfMemory, Tag, Ty};
+use std::alloc::Global;
+
+/// How many rules a message may have.
+const MOST_RULES: usize = 255;
+
+/// The types by which messages of one name are judged: the declared one, and one for each rule.
+#[derive(Drop)]
+pub struct Table {
+    declared: Ty,
+    rules: Vec<Ty>,
+    pub ghost consistent: { AreConsistent (type_view declared) (map type_view rules.items) },
+}
+
+impl Table {
+    ghost use Rattle.guard_tables.specs.Alike.{AreAlike};
+    ghost use Rattle.guard_tables.specs.TableView.{table_types};
+
+    /// The table of a declared type and the types of rules.
+    ///
+    /// It refuses, with the first that stands: TooManyRules for more than 255 rules; RuleTypeMismatch with the place of the first
+    /// rule whose type hasn't the tags and the base of the declared one; TooManyConditions where all types together ask more than
+    /// 256 things of a value at one node. OutOfMemory may stand in place of any answer.
+    pub fn compile(alloc: Global, declared: &Ty, rules: &[&Ty]) -> Result<Table, TableFault>
+        requires declared_sound { IsTrue (is_sound (type_view declared.now)) }
+        requires rules_sound { All (λ t. IsTrue (is_sound t)) (types_view rules.now) }
+        // A table stands for these types, the declared one first;
+        ensures types { IfOk result (λ table. table_types table ≡ type_view declared.now ∷ types_view rules.now) }
+        // there is one only where they have no fault;
+        ensures faultless { IfOk result (λ table. first_fault (type_view declared.now) (types_view rules.now) ≡ None) }
+        // and then each rule's type has the values and the encodings of the declared one, constraints aside.
+        ensures alike { IfOk result (λ table. All (AreAlike (type_view declared.now)) (types_view rules.now)) }
+        // A refusal names their first fault.
+        ensures refused { IfErr result (λ f. IfSome (named f) (λ fault. first_fault (type_view declared.now) (types_view rules.now) ≡ Some fault)) }
+    {
+        find_fault(alloc, declared, rules)?;
+        Ok(Table {
+            declared: declared.copy(alloc)?,
+            rules: copy_of_types(alloc, rules)?,
+        })
+    }
+}
+
+/// Answers the first fault of the types, if they have one.
+fn find_fault(alloc: Global, declared: &Ty, rules: &[&Ty]) -> Result<(), TableFault>
+    ensures faultless { OnOk result (first_fault (type_view declared.now) (types_view rules.now) ≡ None) }
+    ensures refused { IfErr result (λ f. IfSome (named f) (λ fault. first_fault (type_view declared.now) (types_view rules.now) ≡ Some fault)) }
+{
+    if rules.len() > MOST_RULES {
+        return Err(TableFault::TooManyRules);
+    }
+    if let Some(place) = first_mismatch(declared, rules) {
+        return Err(TableFault::RuleTypeMismatch(place));
+    }
+    if has_crowded_node(alloc, declared, rules)? {
+        return Err(TableFault::TooManyConditions);
+    }
+    Ok(())
+}
+
+/// The place of the first rule whose type isn't one for the declared type.
+fn first_mismatch(declared: &Ty, rules: &[&Ty]) -> Option<usize>
+    ensures { result ≡ first_mismatch (type_view declared.now) 0 (types_view rules.now) }
+{
+    for (place, rule) in rules.iter().enumerate() {
+        if !is_match(declared, rule) {
+            return Some(place);
+        }
+    }
+    None
+}
+
+/// Whether both types have the same tags and the same base.
+fn is_match(declared: &Ty, rule: &Ty) -> bool
+    ensures { result ≡ is_match (type_view declared.now) (type_view rule.now) }
+{
+    are_same_tags(&declared.tags, &rule.tags) && declared.same_base(rule)
+}
+
+fn are_same_tags(tags: &[Tag], others: &[Tag]) -> bool
+    ensures { result ≡ pointwise same_tag tags.now others.now }
+{
+    tags == others
+}
+
+fn copy_of_types(alloc: Global, types: &[&Ty]) -> Result<Vec<Ty>, OutOfMemory>
+    ensures { IfOk result (λ copy. map type_view copy.items ≡ types_view types.now) }
+{
+    let mut copy = Vec::with_capacity(alloc, types.len())?;
+    for ty in types {
+        copy.push(ty.copy(alloc)?)?;
+    }
+    Ok(copy)
+}

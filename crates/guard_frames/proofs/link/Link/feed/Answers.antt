@@ -1,0 +1,47 @@
+use Rattle.std.proofs.Common.{refl, drop}
+use Rattle.std.proofs.lemmas.List.{take_rest}
+use Rattle.guard_frames.specs.Frames.{IsFrame, IsUnfinished, IsTooLong}
+use Rattle.guard_frames.proofs.Holding.{held_splits, keeps_all, too_long_now, is_whole, decided_whole, failure_before, feeds_after}
+use Rattle.guard_frames.proofs.link.Link.feed.Goals as goal
+
+pub returns-in-Unfinished-clause-open : goal.returns-in-Unfinished-clause-open
+returns-in-Unfinished-clause-open g c = λ still.
+    let rest : IsUnfinished c.complete-at.new.held.items = rw c.as_slice.ensures.value at c.in-Unfinished.ensures in (
+      keeps_all _ c.args.self.now.totals c.args.self.now.held.items c.args.piece.now c.complete-at.new.held.items c.complete-at.result _ _
+          c.complete-at.ensures.held (c.complete-at.ensures.all rest) rest,
+      still,
+    )
+
+pub returns-in-TooLong-clause-open : goal.returns-in-TooLong-clause-open
+returns-in-TooLong-clause-open g c = λ still.
+    let long : IsTooLong c.complete-at.new.held.items = rw c.as_slice.ensures.value at c.in-TooLong.ensures in (
+      too_long_now _ c.args.self.now.totals c.args.self.now.held.items c.args.piece.now c.complete-at.new.held.items c.complete-at.result _ _
+          c.complete-at.ensures.held long,
+      refl,
+    )
+
+pub returns-in-Err-clause-open : goal.returns-in-Err-clause-open
+returns-in-Err-clause-open g c = λ still.
+    let d = g.D.Decide.decides c.args.policy.now in
+    let failure = rw c.as_slice-2.ensures.value at c.in-Err.ensures.failure in (
+      rw (held_splits c.args.self.now.held.items c.args.piece.now c.complete-at.new.held.items c.complete-at.result c.complete-at.ensures.held)
+          (failure_before d _ c.complete-at.new.held.items (drop c.complete-at.result c.args.piece.now) _ _ _ _ failure),
+      refl,
+    )
+
+pub returns-clause-open : goal.returns-clause-open
+returns-clause-open g c = λ still.
+    let d = g.D.Decide.decides c.args.policy.now in
+    let n = c.args.self.now.totals in
+    let w = c.in-Ok.whole in
+    let now = c.complete-at.new.held.items in
+    let at = c.complete-at.result in
+    let p = c.args.piece.now in
+    let within = rw c.as_slice.ensures.value at c.in-Frame.ensures.0 in
+    let front = rw c.as_slice.ensures.value at c.in-Frame.ensures.1 in
+    let frame : IsFrame now = is_whole now c.in-Frame.field-0 within front c.complete-at.ensures.no_more in
+    let decided = rw c.as_slice-2.ensures.value at c.in-Ok.ensures.whole in
+    let done = decided_whole d n w now _ _ _ _ frame decided in
+    let fed = rw (take_rest p at) at c.feed_rest-2.ensures.feeds in
+    rw (held_splits c.args.self.now.held.items p now at c.complete-at.ensures.held)
+    (feeds_after d n w.totals now (drop at p) decided.outcomes c.feed_rest-2.new.link c.feed_rest-2.result _ _ _ _ _ _ done fed)

@@ -1,0 +1,61 @@
+-- The body of a frame: the names of the sender, the receiver and the message, each behind one octet of length, and then the message.
+use Rattle.std.specs.Prelude.{◌≡◌, ℕ, Bool, true, ◌&&◌, ◌||◌, List, [], ◌∷◌, ◌++◌, length, take, drop, nat_eq, nat_le, nat_lt, if◌then◌else◌, Option, Some, None}
+use Rattle.std.specs.Char.{is_ascii_alphanumeric}
+use Rattle.std.specs.List.{list_all}
+use Rattle.guard_frames.specs.declared.body.Body.{Body}
+
+-- a letter, a digit, `-`, `_` or `.`
+abbrev pub is_name_octet : ℕ → Bool
+is_name_octet c = is_ascii_alphanumeric c || nat_eq c 45 || nat_eq c 95 || nat_eq c 46
+
+-- 1 to 63 of them
+abbrev pub is_name : List ℕ → Bool
+is_name octets = nat_le 1 (length octets) && nat_le (length octets) 63 && list_all is_name_octet octets
+
+pub record AbstractBody : Type 0 where
+  pub sender : List ℕ
+  pub receiver : List ℕ
+  pub name : List ℕ
+  pub message : List ℕ
+
+abbrev pub body_view : Body → AbstractBody
+body_view b = record { sender = b.sender.now; receiver = b.receiver.now; name = b.name.now; message = b.message.now }
+
+-- so many octets that are a name, and what follows them
+abbrev pub name_of_length : ℕ → List ℕ → Option (List ℕ × List ℕ)
+name_of_length n octets =
+    if nat_lt (length octets) n then None else (if is_name (take n octets) then Some (take n octets, drop n octets) else None)
+
+-- the name behind its length at the front, and what follows it
+unfoldable pub name_first : List ℕ → Option (List ℕ × List ℕ)
+name_first [] = None
+name_first (n ∷ octets) = name_of_length n octets
+
+-- what comes of the first answer, where there is one
+infixl 10 ◌>>=◌
+abbrev pub ◌>>=◌ : {A B : Type 0} → Option A → (A → Option B) → Option B
+None >>= f = None
+(Some x) >>= f = f x
+
+-- the body that the octets are; none where the three names don't stand there
+unfoldable pub body_in : List ℕ → Option AbstractBody
+body_in octets = do
+  sender ← name_first octets
+  receiver ← name_first sender.1
+  name ← name_first receiver.1
+  Some (record { sender = sender.0; receiver = receiver.0; name = name.0; message = name.1 })
+
+-- a name as it stands in a header: one octet of length, and its octets
+abbrev pub named : List ℕ → List ℕ
+named name = length name ∷ name
+
+-- what stands in a header as a name is one
+pub record HasNames (b : AbstractBody) : Type 0 where
+  pub sender : is_name b.sender ≡ true
+  pub receiver : is_name b.receiver ≡ true
+  pub name : is_name b.name ≡ true
+
+-- the octets are three names, each behind its length, and then the message
+pub record IsBody (octets : List ℕ) (b : AbstractBody) : Type 0 where
+  pub joined : octets ≡ named b.sender ++ (named b.receiver ++ (named b.name ++ b.message))
+  pub names : HasNames b

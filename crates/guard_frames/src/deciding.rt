@@ -1,0 +1,61 @@
+//! Decides the whole frames of some octets in place.
+
+ghost use Rattle.std.specs.Prelude.{◌≡◌, ◌<◌, ◌^◌, ◌≤◌, ◌⊎◌, true, List, ℕ, IfOk, OnErr, length, take, drop};
+ghost use Rattle.std.specs.List.{concat};
+ghost use Rattle.guard_frames.specs.Totals.{next_number};
+ghost use Rattle.guard_frames.specs.Outputs.{AfterFailure};
+ghost use Rattle.guard_frames.specs.Decided.{IsDecided};
+
+use crate::cut::Cut;
+use crate::decision::Decide;
+use crate::devices::{Failed, Sink, put_all};
+use crate::passing::passing_run;
+use crate::report::report;
+use crate::totals::Totals;
+use std::alloc::Global;
+
+/// How far the whole frames of some octets go.
+#[derive(Clone, Copy, Debug)]
+pub struct Whole {
+    /// how many octets they take
+    pub end: usize,
+    /// the totals after them
+    pub totals: Totals,
+    /// what comes next: no whole frame
+    pub next: Cut,
+}
+
+/// Decides the whole frames at the front of the octets, where they lie, counted on from `totals`. Frames that go and stand side by side
+/// are put in one go, and before the report of a frame behind them.
+pub fn decide<D: Decide, O: Sink, R: Sink>(
+    alloc: Global,
+    policy: &D,
+    octets: &[u8],
+    totals: Totals,
+    out: &mut O,
+    reports: &mut R,
+) -> Result<Whole, Failed>
+    ensures whole { IfOk result (λ whole. IsDecided (D.decides policy.now) totals octets.now whole
+        (O.taken out.old) (O.taken out.new) (R.taken reports.old) (R.taken reports.new)) }
+    ensures failure { OnErr result (AfterFailure (D.decides policy.now) (next_number totals) octets.now
+        (O.taken out.old) (O.taken out.new) (R.taken reports.old) (R.taken reports.new)) }
+    ensures failed { OnErr result ((O.has_failed out.new ≡ true) ⊎ (R.has_failed reports.new ≡ true)) }
+{
+    let mut end = 0;
+    let mut totals = totals;
+    loop {
+        let run = passing_run(alloc, policy, &octets[end..]);
+        let next = run.next;
+        put_all(out, &octets[end..end + run.end])?;
+        end += run.end;
+        totals = totals.with_passed(run.count);
+        let Cut::Frame(size) = next else {
+            return Ok(Whole { end, totals, next });
+        };
+        let number = totals.next_number();
+        let frame = &octets[end..end + size];
+        report(alloc, policy, number, frame, run.undecided, reports)?;
+        totals = totals.with_denied();
+        end += size;
+    }
+}

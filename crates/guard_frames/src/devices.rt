@@ -1,0 +1,73 @@
+//! What a link reads from and writes to.
+
+ghost use Rattle.std.specs.Prelude.{◌≡◌, ◌<◌, ◌≤◌, ℕ, List, Bool, true, Option, length, take, IfOk, OnOk, OnErr, IsErr};
+ghost use Rattle.std.specs.Io.KnownBytes.{Appends, Consumes, IsAtEnd};
+ghost use Rattle.guard_frames.specs.Prefix.{IsProperPrefix};
+
+use thiserror::Error;
+
+/// A device has failed, and stays so.
+#[derive(Clone, Copy, Debug, PartialEq, Eq, Error)]
+#[error("Failed")]
+pub struct Failed;
+
+/// Takes octets.
+pub trait Sink {
+    /// the octets taken so far, where the sink tells them
+    ghost taken: { Self → Option (List ℕ) };
+
+    /// whether it has failed
+    ghost has_failed: { Self → Bool };
+
+    /// Takes the first octets, at least one, or fails and takes none.
+    fn put(&mut self, octets: &[u8]) -> Result<usize, Failed>
+        requires { 0 < length octets.now }
+        ensures some { IfOk result (λ n. (0 < n) × (n ≤ length octets.now)) }
+        ensures taken { IfOk result (λ n. Appends (taken self.old) (taken self.new) (take n octets.now)) }
+        ensures none { OnErr result (Appends (taken self.old) (taken self.new) (take 0 octets.now)) }
+        ensures failed { OnErr result (has_failed self.new ≡ true) }
+        ensures stays { has_failed self.old ≡ true → IsErr result };
+
+    /// Whether it has failed.
+    fn failed(&self) -> bool
+        ensures { result ≡ has_failed self.now };
+}
+
+/// Gives octets.
+pub trait Source {
+    /// the octets that it still tells, where it tells them
+    ghost tells: { Self → Option (List ℕ) };
+
+    /// whether it has failed
+    ghost has_failed: { Self → Bool };
+
+    /// Puts its next octets at the front of the buffer, or answers 0 at their end, or fails.
+    fn take(&mut self, buffer: &mut [u8]) -> Result<usize, Failed>
+        requires { 0 < length buffer.old }
+        ensures within { IfOk result (λ n. n ≤ length buffer.old) }
+        ensures given { IfOk result (λ n. Consumes (tells self.old) (tells self.new) (take n buffer.new)) }
+        ensures end { IfOk result (λ n. n ≡ 0 → IsAtEnd (tells self.new)) }
+        ensures none { OnErr result (Consumes (tells self.old) (tells self.new) (take 0 buffer.new)) }
+        ensures failed { OnErr result (has_failed self.new ≡ true) }
+        ensures stays { has_failed self.old ≡ true → IsErr result };
+
+    /// Whether it has failed.
+    fn failed(&self) -> bool
+        ensures { result ≡ has_failed self.now };
+}
+
+/// Puts all of the octets, in as many calls as it takes.
+#[tactic(auto, using(crate::proofs::Appending::Prefix_of))]
+pub fn put_all<S: Sink>(sink: &mut S, octets: &[u8]) -> Result<(), Failed>
+    ensures all { OnOk result (Appends (S.taken sink.old) (S.taken sink.new) octets.now) }
+    ensures part { OnErr result ((part : List ℕ) × IsProperPrefix part octets.now
+        × Appends (S.taken sink.old) (S.taken sink.new) part) }
+    ensures failed { OnErr result (S.has_failed sink.new ≡ true) }
+{
+    let mut sent = 0;
+    while sent < octets.len() {
+        let more = sink.put(&octets[sent..])?;
+        sent += more;
+    }
+    Ok(())
+}

@@ -1,0 +1,116 @@
+//! Feeds pieces to a link.
+
+ghost use Rattle.std.specs.Prelude.{◌≡◌, ◌⊎◌, true, false, [], IsErrOf};
+ghost use Rattle.guard_frames.specs.Frames.{IsUnfinished};
+ghost use Rattle.guard_frames.specs.Feeding.{Feeds};
+ghost use Rattle.guard_frames.specs.declared.link.LinkFault.TheVariants.{WriteFailed};
+
+use crate::cut::{Cut, first_cut};
+use crate::deciding::decide;
+use crate::decision::Decide;
+use crate::devices::Sink;
+use crate::filling::complete;
+use crate::link::{Link, LinkFault};
+use std::alloc::Global;
+
+impl Link {
+    ghost use Rattle.std.specs.Prelude.{◌≡◌, ◌⊎◌, true, false, ◌++◌, Err, IsErrOf};
+    ghost use Rattle.guard_frames.specs.Feeding.{Feeds};
+    ghost use Rattle.guard_frames.specs.declared.link.LinkFault.TheVariants.{Closed, WriteFailed};
+
+    /// Feeds it one more piece of its stream. Of what it holds, only the frame that an earlier piece began is put together; a frame that
+    /// lies whole in the piece is decided where it lies.
+    pub fn feed<D: Decide, O: Sink, R: Sink>(
+        &mut self,
+        alloc: Global,
+        policy: &D,
+        piece: &[u8],
+        out: &mut O,
+        reports: &mut R,
+    ) -> Result<(), LinkFault>
+        ensures open { self.old.closed ≡ false → Feeds (D.decides policy.now) self.old.totals (self.old.held.items ++ piece.now) self.new result
+            (O.taken out.old) (O.taken out.new) (R.taken reports.old) (R.taken reports.new) }
+        ensures shut { self.old.closed ≡ true → (result ≡ Err Closed) × (self.new ≡ self.old)
+            × (out.new ≡ out.old) × (reports.new ≡ reports.old) }
+        ensures failed { IsErrOf result WriteFailed → (O.has_failed out.new ≡ true) ⊎ (R.has_failed reports.new ≡ true) }
+    {
+        if self.closed {
+            return Err(LinkFault::Closed);
+        }
+        if self.held.is_empty() {
+            return feed_rest(self, alloc, policy, piece, out, reports);
+        }
+        let totals = self.totals;
+        let at = complete(&mut self.held, piece);
+        match first_cut(self.held.as_slice()) {
+            Cut::Unfinished => return Ok(()),
+            Cut::TooLong => {
+                self.held.clear();
+                self.closed = true;
+                return Err(LinkFault::FrameTooLong);
+            }
+            Cut::Frame(_) => {}
+        }
+        let whole = match decide(alloc, policy, self.held.as_slice(), totals, out, reports) {
+            Ok(whole) => whole,
+            Err(_) => {
+                self.held.clear();
+                self.closed = true;
+                return Err(LinkFault::WriteFailed);
+            }
+        };
+        self.held.clear();
+        self.totals = whole.totals;
+        feed_rest(self, alloc, policy, &piece[at..], out, reports)
+    }
+}
+
+/// Feeds an open link that holds nothing.
+fn feed_rest<D: Decide, O: Sink, R: Sink>(
+    link: &mut Link,
+    alloc: Global,
+    policy: &D,
+    piece: &[u8],
+    out: &mut O,
+    reports: &mut R,
+) -> Result<(), LinkFault>
+    requires nothing { link.old.held.items ≡ [] }
+    requires open { link.old.closed ≡ false }
+    ensures feeds { Feeds (D.decides policy.now) link.old.totals piece.now link.new result
+        (O.taken out.old) (O.taken out.new) (R.taken reports.old) (R.taken reports.new) }
+    ensures failed { IsErrOf result WriteFailed → (O.has_failed out.new ≡ true) ⊎ (R.has_failed reports.new ≡ true) }
+{
+    let whole = match decide(alloc, policy, piece, link.totals, out, reports) {
+        Ok(whole) => whole,
+        Err(_) => {
+            link.closed = true;
+            return Err(LinkFault::WriteFailed);
+        }
+    };
+    link.totals = whole.totals;
+    match whole.next {
+        Cut::TooLong => {
+            link.closed = true;
+            Err(LinkFault::FrameTooLong)
+        }
+        Cut::Unfinished => {
+            hold(link, &piece[whole.end..]);
+            Ok(())
+        }
+        Cut::Frame(_) => unreachable!(),
+    }
+}
+
+/// Holds the octets of an unfinished frame.
+fn hold(link: &mut Link, rest: &[u8])
+    requires nothing { link.old.held.items ≡ [] }
+    requires unfinished { IsUnfinished rest.now }
+    ensures held { link.new.held.items ≡ rest.now }
+    ensures totals { link.new.totals ≡ link.old.totals }
+    ensures closed { link.new.closed ≡ link.old.closed }
+{
+    match link.held.extend_from_slice(rest) {
+        Ok(()) => {}
+        Err(_) => unreachable!(),
+    }
+}

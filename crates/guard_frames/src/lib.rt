@@ -1,0 +1,46 @@
+//! Frames: a stream of octets in, those of its frames that pass out, and a report line for each other one. It knows nothing of policies: what
+//! passes is decided by what implements `Decide`.
+//!
+//! | question | code | definition |
+//! |---|---|---|
+//! | What is a frame, and how is a stream cut into frames? | `cut.rt` (`first_cut`) | `specs/Frames.antt`, `specs/Cut.antt` |
+//! | What is the header of a frame, and what is a name? | `body.rt`, `header.rt`, `names.rt` | `specs/Bodies.antt` |
+//! | Who decides which bodies pass, and which frames go? | `decision.rt` (`Decide`) | `specs/Outcomes.antt` (`Decision`, `Goes`, `IsOutcome`) |
+//! | What goes out, and which line is reported of what doesn't? | `report.rt` | `specs/Outputs.antt` (`octets_out`, `ReportLines`) |
+//! | How many frames were there? | `totals.rt` (`Totals`) | `specs/Totals.antt`, `specs/Outputs.antt` (`Counts`) |
+//! | What is read from and written to, and what does a failure leave? | `devices.rt` (`Sink`, `Source`) | the clauses of the traits, `specs/Prefix.antt` |
+//! | How are a file or pipe, or a list in memory, a source or a sink? | `through.rt` (`Through`), `kept.rt` (`Kept`) | |
+//! | Which frames of some octets go side by side, and how are all of them decided where they lie? | `passing.rt`, `deciding.rt` | `specs/SideBySide.antt`, `specs/Decided.antt` |
+//! | What does a link hold, and how does the next piece complete it? | `link.rt` (`Link`), `filling.rt` | `specs/Frames.antt` (`IsUnfinished`) |
+//! | What does a piece, or the end, do to a link? | `feeding.rt` (`Link::feed`), `link.rt` (`Link::end`) | `specs/Feeding.antt` |
+//! | What does a whole run read and write, and what when a device fails? | `running.rt` (`run`) | `specs/Runs.antt` |
+//! | Does it matter how a stream was cut? Has each stream one reading? Which frames went? | `laws.rt` | `specs/Frames.antt`, `specs/Outcomes.antt` |
+#![tactic(auto)]
+
+mod body;
+mod cut;
+mod deciding;
+mod decision;
+mod devices;
+mod feeding;
+mod filling;
+mod header;
+mod kept;
+pub mod laws;
+mod link;
+mod names;
+mod passing;
+mod report;
+mod running;
+mod through;
+mod totals;
+
+pub use body::Body;
+pub use decision::Decide;
+pub use devices::{Failed, Sink, Source};
+pub use kept::Kept;
+pub use link::{Link, LinkFault};
+pub use names::is_name;
+pub use running::{RunFault, run};
+pub use through::Through;
+pub use totals::Totals;

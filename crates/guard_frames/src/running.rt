@@ -1,0 +1,97 @@
+//! Runs one stream from its source to its sinks.
+
+ghost use Rattle.std.specs.Prelude.{◌≡◌, ◌<◌, ◌≤◌, ◌⊎◌, true, [], length, take, IfOk, OnErr, IsErrOf};
+ghost use Rattle.std.specs.Io.KnownBytes.{Consumes, IsAtEnd};
+ghost use Rattle.guard_frames.specs.Runs.{Runs, ReadToLimit};
+ghost use Rattle.guard_frames.specs.declared.running.RunFault.TheVariants.{WriteFailed, ReadFailed};
+
+use crate::decision::Decide;
+use crate::devices::{Failed, Sink, Source};
+use crate::link::{Link, LinkFault};
+use crate::totals::Totals;
+use guard_model::OutOfMemory;
+use std::alloc::Global;
+use thiserror::Error;
+
+/// Why a run ended before its stream's end.
+#[derive(Clone, Copy, Debug, PartialEq, Eq, Error)]
+pub enum RunFault {
+    #[error("F1 FrameTooLong")]
+    FrameTooLong,
+    #[error("F2 WriteFailed")]
+    WriteFailed,
+    #[error("F4 TornFrame")]
+    TornFrame,
+    #[error("F5 ReadFailed")]
+    ReadFailed,
+    #[error("OutOfMemory")]
+    OutOfMemory,
+}
+
+/// Room for a piece. (A caller that sees 65,536 zeros as a list runs the checker out of memory.)
+fn new_buffer(alloc: Global) -> Result<Vec<u8>, OutOfMemory>
+    ensures { IfOk result (λ buffer. length buffer.items ≡ 65536) }
+{
+    let size = PIECE;
+    Ok(vec![in alloc; 0u8; size]?)
+}
+
+/// The longest piece that is read.
+const PIECE: usize = 65536;
+
+/// How many pieces are read at most: 2^40.
+const MOST_READS: u64 = 1_099_511_627_776;
+
+/// Reads the next octets into the front of the buffer.
+fn read_piece<S: Source>(source: &mut S, buffer: &mut Vec<u8>) -> Result<usize, Failed>
+    requires { 0 < length buffer.old.items }
+    ensures room { length buffer.new.items ≡ length buffer.old.items }
+    ensures within { IfOk result (λ n. n ≤ length buffer.new.items) }
+    ensures given { IfOk result (λ n. Consumes (S.tells source.old) (S.tells source.new) (take n buffer.new.items)) }
+    ensures end { IfOk result (λ n. n ≡ 0 → IsAtEnd (S.tells source.new)) }
+    ensures none { OnErr result (Consumes (S.tells source.old) (S.tells source.new) []) }
+    ensures failed { OnErr result (S.has_failed source.new ≡ true) }
+{
+    source.take(buffer.as_mut_slice())
+}
+
+/// Reads all that the source gives, and decides it: the frames that pass go out, in order and octet by octet as they came, and a line is
+/// reported for each other one. It answers how many there were.
+pub fn run<S: Source, D: Decide, O: Sink, R: Sink>(
+    source: &mut S,
+    alloc: Global,
+    policy: &D,
+    out: &mut O,
+    reports: &mut R,
+) -> Result<Totals, RunFault>
+    ensures runs { Runs (D.decides policy.now) (S.tells source.old) (S.tells source.new) result
+        (O.taken out.old) (O.taken out.new) (R.taken reports.old) (R.taken reports.new) }
+    ensures failed { IsErrOf result WriteFailed → (O.has_failed out.new ≡ true) ⊎ (R.has_failed reports.new ≡ true) }
+    ensures unread { IsErrOf result ReadFailed → (S.has_failed source.new ≡ true) ⊎ ReadToLimit (S.tells source.old) (S.tells source.new) }
+{
+    let Ok(mut link) = Link::new(alloc) else {
+        return Err(RunFault::OutOfMemory);
+    };
+    let Ok(mut buffer) = new_buffer(alloc) else {
+        return Err(RunFault::OutOfMemory);
+    };
+    for _ in 0..MOST_READS {
+        let Ok(count) = read_piece(source, &mut buffer) else {
+            return Err(RunFault::ReadFailed);
+        };
+        if count == 0 {
+            if link.held.is_empty() {
+                return Ok(link.totals);
+            }
+            return Err(RunFault::TornFrame);
+        }
+        match link.feed(alloc, policy, &buffer[..count], out, reports) {
+            Ok(()) => {}
+            Err(LinkFault::FrameTooLong) => return Err(RunFault::FrameTooLong),
+            Err(LinkFault::WriteFailed) => return Err(RunFault::WriteFailed),
+            Err(LinkFault::Closed) => unreachable!(),
+            Err(LinkFault::TornFrame) => unreachable!(),
+        }
+    }
+    Err(RunFault::ReadFailed)
+}

@@ -1,0 +1,85 @@
+//! Readers as sources, and writers as sinks.
+
+ghost use Rattle.std.specs.Prelude.{◌≡◌, ◌≤◌, false, length, take};
+ghost use Rattle.std.specs.Io.KnownBytes.{Appends};
+
+use crate::devices::{Failed, Sink, Source};
+use std::io::{Read, Write};
+
+/// A reader or a writer. An error of any kind is a failure, and so is a write that takes nothing of something.
+#[derive(Drop)]
+pub struct Through<T> {
+    pub inner: T,
+    pub is_broken: bool,
+}
+
+impl<T> Through<T> {
+    /// It hasn't failed yet.
+    pub fn new(inner: T) -> Through<T>
+        ensures inner { result.inner ≡ inner }
+        ensures sound { result.is_broken ≡ false }
+    {
+        Through {
+            inner,
+            is_broken: false,
+        }
+    }
+}
+
+impl<W: Write> Sink for Through<W> {
+    ghost taken = { λ sink. W.contents sink.inner };
+
+    ghost has_failed = { λ sink. sink.is_broken };
+
+    fn put(&mut self, octets: &[u8]) -> Result<usize, Failed> {
+        if self.is_broken {
+            return Err(Failed);
+        }
+        let count = write_some(&mut self.inner, octets);
+        if count == 0 {
+            self.is_broken = true;
+            return Err(Failed);
+        }
+        Ok(count)
+    }
+
+    fn failed(&self) -> bool {
+        self.is_broken
+    }
+}
+
+/// Writes the first octets, and answers how many: none where that failed.
+#[tactic(auto, using(crate::proofs::Appending::kept_takes_none))]
+fn write_some<W: Write>(writer: &mut W, octets: &[u8]) -> usize
+    ensures within { result ≤ length octets.now }
+    ensures taken { Appends (W.contents writer.old) (W.contents writer.new) (take result octets.now) }
+{
+    match writer.write(octets) {
+        Ok(count) => count,
+        Err(_) => 0,
+    }
+}
+
+impl<R: Read> Source for Through<R> {
+    ghost tells = { λ source. R.remaining source.inner };
+
+    ghost has_failed = { λ source. source.is_broken };
+
+    #[tactic(auto, using(crate::proofs::Reading::kept_gives_none))]
+    fn take(&mut self, buffer: &mut [u8]) -> Result<usize, Failed> {
+        if self.is_broken {
+            return Err(Failed);
+        }
+        match self.inner.read(buffer) {
+            Ok(count) => Ok(count),
+            Err(_) => {
+                self.is_broken = true;
+                Err(Failed)
+            }
+        }
+    }
+
+    fn failed(&self) -> bool {
+        self.is_broken
+    }
+}

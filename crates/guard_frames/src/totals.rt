@@ -1,0 +1,56 @@
+//! How many frames there were.
+
+/// How many whole frames there were, how many of them passed, and how many did not. Each number stays at the greatest of 64 bits.
+#[derive(Clone, Copy, Debug, PartialEq, Eq)]
+pub struct Totals {
+    pub frames: u64,
+    pub passed: u64,
+    pub denied: u64,
+}
+
+impl Totals {
+    ghost use Rattle.std.specs.Prelude.{◌≡◌};
+    ghost use Rattle.guard_frames.specs.Totals.{no_frames, after_passing, after_denying, next_number};
+
+    /// Before the first frame.
+    pub fn none() -> Totals
+        ensures { result ≡ no_frames }
+    {
+        Totals {
+            frames: 0,
+            passed: 0,
+            denied: 0,
+        }
+    }
+
+    /// After so many more frames that pass. (Numbers of 64 bits stay when nothing is added.)
+    #[tactic(auto, using(crate::proofs::Counting::fits_totals))]
+    pub fn with_passed(self, count: u64) -> Totals
+        ensures counted { result ≡ after_passing self count }
+        ensures fits { after_passing self 0 ≡ self }
+    {
+        Totals {
+            frames: self.frames.saturating_add(count),
+            passed: self.passed.saturating_add(count),
+            denied: self.denied,
+        }
+    }
+
+    /// After one more frame that does not.
+    pub fn with_denied(self) -> Totals
+        ensures { result ≡ after_denying self }
+    {
+        Totals {
+            frames: self.frames.saturating_add(1),
+            passed: self.passed,
+            denied: self.denied.saturating_add(1),
+        }
+    }
+
+    /// The number of the frame that comes next.
+    pub fn next_number(self) -> u64
+        ensures { result ≡ next_number self }
+    {
+        self.frames.saturating_add(1)
+    }
+}

@@ -1,5 +1,5 @@
 -- A type is refused for the first of its own faults in their order, and else has the tags that the definition puts on.
-use Rattle.std.proofs.Common.{◌≡◌, Bool, true, false, cond, ◌&&◌, ℕ, suc, ◌+◌, List, [], ◌∷◌, length, Option, Some, None, Result, Ok, Err, refl, sym, ap, ◌∙◌, nat_lt}
+use Rattle.std.proofs.Common.{◌≡◌, Bool, true, false, cond, ℕ, ◌+◌, List, [], ◌∷◌, length, Option, Some, None, Result, Ok, Err, refl, sym, ap, ◌∙◌, nat_lt}
 use Rattle.std.specs.Option.{option_or}
 use Rattle.guard_model.specs.Answer.{◌>>=◌}
 use Rattle.guard_model.specs.AbstractType.{AbstractType, AbstractKind, Constraints, type_of}
@@ -9,8 +9,8 @@ use Rattle.guard_tagging.specs.declared.fault.TagFault.{TagFault}
 use Rattle.guard_tagging.specs.declared.fault.TagFault.TheVariants.{TooDeep, SchemaTooLarge}
 use Rattle.guard_tagging.specs.Faults.{first_of, fault_where, universal_tag, implicit_choice, tag_too_large, most_nodes}
 use Rattle.guard_tagging.specs.Named.{unless, allowed}
-use Rattle.guard_tagging.specs.ReadNodes.{Node, Whole, Made, tags_of, one_where, nodes_with, whole_with, made_from}
-use Rattle.guard_tagging.specs.ReadTags.{implicit_last, read_tags}
+use Rattle.guard_tagging.specs.ReadNodes.{Node, Whole, Made, tags_of, one_where, nodes_with, whole_with}
+use Rattle.guard_tagging.specs.ReadTags.{read_tags}
 use Rattle.guard_tagging.specs.Tagging.{is_untagged_choice}
 use Rattle.guard_tagging.proofs.WrittenTags.{put_all, tags_read, implicit_is}
 

@@ -1,5 +1,5 @@
 -- A type of each kind, as it is made from its parts.
-use Rattle.std.specs.Prelude.{ℕ, suc, ◌+◌, ◌-◌, ◌^◌, min, Bool, true, false, List, [], ◌∷◌, map, Option, Some, None, Result, Ok, Err}
+use Rattle.std.specs.Prelude.{ℕ, ◌+◌, ◌-◌, ◌^◌, min, true, false, List, [], map, Option, Some, None, Result, Ok, Err}
 use Rattle.guard_model.specs.Answer.{◌>>=◌}
 use Rattle.guard_model.specs.Each.{each}
 use Rattle.guard_model.specs.AbstractType as type

@@ -1,0 +1,2 @@
+-- a definition more
+pub mod OneMore

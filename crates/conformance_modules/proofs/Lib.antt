@@ -1,0 +1,2 @@
+-- one definition more behind those that are built
+pub mod OneMore

@@ -2,7 +2,7 @@
 use crate::devices::{Pieces, Room};
 use crate::signs::Signs;
 use conformance_rows::{Layer, text_of};
-use guard_frames::{Link, LinkFault, RunFault, Totals, run};
+use guard_frames::{Kept, Link, LinkFault, RunFault, Through, Totals, run};
 use std::alloc::{AllocError, Global};
 
 /// What the rows ask.
@@ -20,6 +20,10 @@ enum Asked {
     EachReport,
     /// How many runs end with F5 where the source fails after so many octets, for each number, with the outputs of those octets.
     EachRead,
+    /// How a run ends through a reader and writers of std, and what comes out.
+    Through,
+    /// The same where the writer for frames has room for ten octets.
+    Ten,
     /// What a link answers to the stream, to one more octet, and to its end, twice.
     Link,
 }
@@ -58,21 +62,31 @@ fn ran_amply(alloc: Global, source: Pieces) -> Ending {
     ran(alloc, source, Room::ample(alloc), Room::ample(alloc))
 }
 
+/// The totals or the fault of a run, what went out, and the reports.
+fn text_of_run(
+    alloc: Global,
+    end: Result<Totals, RunFault>,
+    out: &[u8],
+    reports: &[u8],
+) -> Result<String, AllocError> {
+    let out = text_of(out);
+    let reports = text_of(reports);
+    match end {
+        Ok(totals) => {
+            let Totals {
+                frames,
+                passed,
+                denied,
+            } = totals;
+            format!(in alloc; "{frames} {passed} {denied} <{out}> <{reports}>")
+        }
+        Err(fault) => format!(in alloc; "{fault} <{out}> <{reports}>"),
+    }
+}
+
 impl Ending {
     fn text(&self, alloc: Global) -> Result<String, AllocError> {
-        let out = text_of(self.out.octets());
-        let reports = text_of(self.reports.octets());
-        match self.end {
-            Ok(totals) => {
-                let Totals {
-                    frames,
-                    passed,
-                    denied,
-                } = totals;
-                format!(in alloc; "{frames} {passed} {denied} <{out}> <{reports}>")
-            }
-            Err(fault) => format!(in alloc; "{fault} <{out}> <{reports}>"),
-        }
+        text_of_run(alloc, self.end, self.out.octets(), self.reports.octets())
     }
 
     /// It ended with this fault, the sink for frames took these octets, and what was reported begins these reports.
@@ -144,6 +158,23 @@ fn each_read(alloc: Global, stream: &[u8]) -> Result<String, AllocError> {
     format!(in alloc; "{}", stream.len())
 }
 
+fn through(alloc: Global, stream: &[u8]) -> Result<String, AllocError> {
+    let mut source = Through::new(stream);
+    let mut out = Through::new(Vec::new(alloc));
+    let mut reports = Through::new(Vec::new(alloc));
+    let end = run(&mut source, alloc, &Signs, &mut out, &mut reports);
+    text_of_run(alloc, end, &out.inner, &reports.inner)
+}
+
+fn into_ten(alloc: Global, stream: &[u8]) -> Result<String, AllocError> {
+    let mut room = [b'.'; 10];
+    let mut source = Through::new(stream);
+    let mut out = Through::new(&mut room[..]);
+    let mut reports = Kept::new(alloc);
+    let end = run(&mut source, alloc, &Signs, &mut out, &mut reports);
+    text_of_run(alloc, end, &room, reports.octets())
+}
+
 /// What a link answers to the stream, to one more octet, and to its end, twice.
 fn of_link(alloc: Global, stream: &[u8]) -> Result<String, AllocError> {
     let Ok(mut link) = Link::new(alloc) else {
@@ -189,11 +220,14 @@ impl Layer for Streams {
             Asked::EachOut => each_out(alloc, input),
             Asked::EachReport => each_report(alloc, input),
             Asked::EachRead => each_read(alloc, input),
+            Asked::Through => through(alloc, input),
+            Asked::Ten => into_ten(alloc, input),
             Asked::Link => of_link(alloc, input),
         }
     }
 
-    /// `@ask run`, `@ask each cut`, `@ask each out`, `@ask each report`, `@ask each read`, `@ask link`; `@pieces SIZE`.
+    /// `@ask run`, `@ask each cut`, `@ask each out`, `@ask each report`, `@ask each read`, `@ask through`,
+    /// `@ask ten`, `@ask link`; `@pieces SIZE`.
     fn set(&mut self, alloc: Global, name: &str, text: &[u8]) -> Result<String, AllocError> {
         self.asked = match (name, text_of(text)) {
             ("ask", "run") => Asked::Run,
@@ -201,6 +235,8 @@ impl Layer for Streams {
             ("ask", "each out") => Asked::EachOut,
             ("ask", "each report") => Asked::EachReport,
             ("ask", "each read") => Asked::EachRead,
+            ("ask", "through") => Asked::Through,
+            ("ask", "ten") => Asked::Ten,
             ("ask", "link") => Asked::Link,
             ("pieces", size) => match size.parse::<usize>() {
                 Ok(size) => Asked::Pieces(size),

@@ -38,24 +38,31 @@ impl Members {
     }
 }
 
-/// Of a value that fits a sound type: whether it is a member, and what `first_violation` says.
+/// Whether the value is a member, and what `first_violation` says of one that fits a sound type.
 fn answered(alloc: Global, ty: &Ty, value: &Value, width: u32) -> Result<String, AllocError> {
     let (Ok(is_sound), Ok(is_fitting)) = (sound(alloc, ty), fits(alloc, ty, value)) else {
         return Err(AllocError);
     };
-    match (is_sound, is_fitting) {
-        (true, true) => violated(alloc, ty, value, width),
-        (true, false) => String::from_str(alloc, "doesn't fit"),
-        (false, _) => String::from_str(alloc, "not sound"),
+    let is_member = member(ty, value);
+    match (is_sound && is_fitting, is_member) {
+        (true, _) => violated(alloc, ty, value, width, is_member),
+        (false, true) => String::from_str(alloc, "member (doesn't fit)"),
+        (false, false) => String::from_str(alloc, "no member (doesn't fit)"),
     }
 }
 
 /// What `first_violation` says beside the answer of `member`.
-fn violated(alloc: Global, ty: &Ty, value: &Value, width: u32) -> Result<String, AllocError>
+fn violated(
+    alloc: Global,
+    ty: &Ty,
+    value: &Value,
+    width: u32,
+    is_member: bool,
+) -> Result<String, AllocError>
     requires sound { IsTrue (is_sound (type_view ty.now)) }
     requires fits { IsTrue (fits (type_view ty.now) (value_view value.now)) }
 {
-    match (member(ty, value), first_violation(ty, value)) {
+    match (is_member, first_violation(ty, value)) {
         (true, None) => String::from_str(alloc, "member"),
         (false, Some(violation)) => {
             // the notation's columns count the octets from there to the end

@@ -3,6 +3,7 @@
 //! | question | file |
 //! |---|---|
 //! | what answers the rows on names | `names.rs`, and how an answer is written: `answers.rt` |
+//! | what answers the rows on written values | `values.rt` |
 //! | how the texts of a row are parted and parsed | `texts.rt` |
 //! | which large modules a word makes | `large.rt` |
 //! | how a file of rows is read and compared | the crate `conformance_rows` |
@@ -12,14 +13,17 @@ mod answers;
 mod large;
 mod names;
 mod texts;
+mod values;
 
 use anyhow::ensure;
 use conformance_rows::check_rows;
 use names::NamesRows;
+use values::ValuesRows;
 
 fn main(rt: HostRuntime) -> anyhow::Result<()> {
     let alloc = rt.alloc();
     let names = check_rows(&rt, "names.rows", &mut NamesRows::new(alloc))?;
-    ensure!(names, "a row has another answer");
+    let values = check_rows(&rt, "values.rows", &mut ValuesRows::new(alloc))?;
+    ensure!(names && values, "a row has another answer");
     Ok(())
 }

@@ -138,12 +138,11 @@ impl Words<'_> {
     ) -> Result<(), Unread> {
         let site = self.site();
         let (at, comp) = component_of(comps, self.word())?;
-        let cons = match comp {
-            Some(comp) if self.is_next("(") => {
-                let constraint = self.constraint(alloc, &comp.ty.kind, depth)?;
-                Some(Box::into_inner(constraint))
-            }
-            _ => None,
+        let cons = if self.is_next("(") {
+            let constraint = self.constraint(alloc, &comp.ty.kind, depth)?;
+            Some(Box::into_inner(constraint))
+        } else {
+            None
         };
         let word = self.presence_word();
         parts.push(Part {
@@ -259,13 +258,13 @@ fn components_of(kind: &Kind) -> &[Comp] {
     }
 }
 
-/// The component with this name, and its place. A number is a place where no component need be.
-fn component_of<'a>(comps: &'a [Comp], name: &str) -> Result<(u8, Option<&'a Comp>), Unread> {
+/// The component with this name, and its place.
+fn component_of<'a>(comps: &'a [Comp], name: &str) -> Result<(u8, &'a Comp), Unread> {
     for (place, comp) in comps.iter().enumerate() {
         if comp.name.as_str() == name {
             let place = u8::try_from(place)?;
-            return Ok((place, Some(comp)));
+            return Ok((place, comp));
         }
     }
-    Ok((name.parse::<u8>()?, None))
+    Err(Unread::Malformed)
 }

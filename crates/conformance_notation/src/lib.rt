@@ -8,7 +8,6 @@
 //! | `DEFAULT PENDING` | a default whose value isn't known yet |
 //! | `DEFAULT (BOOLEAN : TRUE)` | a default that is written as a value of another type |
 //! | `(1 \|)`, `(1 ^)` | a union and an intersection of one element |
-//! | `WITH COMPONENTS {2 PRESENT}` | a part by its place, from 0, in place of its name; there need be none |
 //! | `{a ABSENT}` | the place of a component left empty, even if it has a default |
 //! | `'A1'H UNUSED 5` | a string of bits by the octets that are kept for it, and how many of their last bits are none of its |
 //! | `'00'H` for a character string | the string by the octets of its UTF-8 |

@@ -106,32 +106,26 @@ impl Words<'_> {
         }
     }
 
-    /// What follows SEQUENCE. Constraints in front of OF are read behind the type of the elements.
+    /// What follows SEQUENCE.
     #[cycle(notation)]
     fn sequence(&mut self, alloc: Global, depth: u32) -> Result<Box<Ty>, Unread> {
-        let mut in_front = *self;
-        let kind = if self.take_of() {
+        let kind = if self.take("OF") {
             Kind::SequenceOf(self.ty(alloc, depth)?)
         } else {
             Kind::Sequence(self.components(alloc, depth)?)
         };
-        let mut ty = tagged(alloc, 16, kind)?;
-        in_front.constraints(alloc, &mut ty, depth)?;
-        Ok(ty)
+        tagged(alloc, 16, kind)
     }
 
     /// What follows SET.
     #[cycle(notation)]
     fn set_type(&mut self, alloc: Global, depth: u32) -> Result<Box<Ty>, Unread> {
-        let mut in_front = *self;
-        let kind = if self.take_of() {
+        let kind = if self.take("OF") {
             Kind::SetOf(self.ty(alloc, depth)?)
         } else {
             Kind::Set(self.components(alloc, depth)?)
         };
-        let mut ty = tagged(alloc, 17, kind)?;
-        in_front.constraints(alloc, &mut ty, depth)?;
-        Ok(ty)
+        tagged(alloc, 17, kind)
     }
 
     /// Components or alternatives in braces.

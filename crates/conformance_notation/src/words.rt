@@ -53,20 +53,6 @@ impl<'a> Words<'a> {
         }
     }
 
-    /// Takes OF, and constraints in front of it, where they stand in front, and answers whether they did.
-    pub fn take_of(&mut self) -> bool {
-        if !self.is_next("(") {
-            return self.take("OF");
-        }
-        match self.left.split_once(") OF") {
-            Some((_, left)) => {
-                self.left = left.trim_start();
-                true
-            }
-            None => false,
-        }
-    }
-
     /// Takes these characters, which must stand in front.
     pub fn expect(&mut self, mark: &str) -> Result<(), Unread> {
         if self.take(mark) {

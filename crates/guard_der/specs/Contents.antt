@@ -1,7 +1,7 @@
 -- Contents octets of the simple kinds (X.690 8.2 to 8.8, 8.19 to 8.23).
-use Rattle.std.specs.Prelude.{ℕ, ◌+◌, ◌*◌, Bool, List, [], ◌∷◌, ◌++◌, flat_map, encode_utf8_all, if◌then◌else◌}
+use Rattle.std.specs.Prelude.{ℕ, ◌+◌, ◌*◌, Bool, true, ◌&&◌, ◌||◌, List, [], ◌∷◌, ◌++◌, flat_map, nat_lt, nat_le, nat_eq, encode_utf8_all, if◌then◌else◌}
 use Rattle.guard_model.specs.declared.ty.CharKind.{CharKind}
-use Rattle.guard_model.specs.declared.ty.CharKind.TheVariants.{Utf8}
+use Rattle.guard_model.specs.declared.ty.CharKind.TheVariants.{Numeric, Printable, Ia5, Visible, Utf8}
 use Rattle.guard_der.specs.Octets.{base_128}
 
 -- FALSE is 00, TRUE is FF (8.2.2, 11.1)

@@ -8,7 +8,6 @@ pub mod Der
 pub mod Encoding
 -- ---- which values and types have one
 pub mod Fits
-pub mod ProperConstraints
 pub mod Sound
 -- ---- what is wrong with octets that are none
 pub mod Head
@@ -20,10 +19,8 @@ pub mod Views
 -- ---- what private functions compute, step by step
 pub mod Digits
 pub mod EncodingSteps
-pub mod SoundParts
 pub mod Reading
 -- ---- worked examples, which the checker computes
 pub mod Rows
 pub mod BreachRows
 pub mod SetRows
-pub mod SoundRows

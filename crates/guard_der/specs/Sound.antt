@@ -1,33 +1,51 @@
 -- Types that have encodings within this profile's limits, and whose encodings tell their values.
-use Rattle.std.specs.Prelude.{Bool, true, false, ◌&&◌, nat_le, Option, Some, None}
-use Rattle.std.specs.Option.{is_some}
+use Rattle.std.specs.Prelude.{ℕ, Bool, true, false, ◌&&◌, List, length, nat_le, Option, Some, None}
 use Rattle.guard_model.specs.AbstractType as type
-use Rattle.guard_model.specs.AbstractType.{AbstractType, AbstractKind, AbstractPresence, Components, Constraint, Constraints, Element, Parts, type_of, no_components, component}
-use Rattle.guard_model.specs.Counts.{component_count}
-use Rattle.guard_model.specs.SameType.{same_base}
+use Rattle.guard_model.specs.AbstractType.{AbstractType, AbstractKind, AbstractPresence, Components, Constraint, Constraints, Element, type_of, no_components, component}
 use Rattle.guard_tagcheck.specs.Distinct.{AbstractClash}
 use Rattle.guard_tagcheck.specs.Search.{first_clash}
 use Rattle.guard_tagcheck.specs.Limits.{nesting, is_tagged, are_low}
-use Rattle.guard_der.specs.ProperConstraints.{may_stand_in, kind_of, is_integer, has_size, type_of_size, is_string, element_of, has_parts, part_of, is_there_and}
+use Rattle.guard_der.specs.Der.{der}
+use Rattle.guard_der.specs.Fits.{fits}
+use Rattle.guard_model.specs.Counts.{component_count}
+use Rattle.guard_model.specs.AbstractValue.{AbstractValue}
+
+-- ---- constraints and defaults
+
+-- A range applies to INTEGER alone. No other constraint is taken yet.
+abbrev pub applies : AbstractKind → Element → Bool
+applies (type.integer ns) (type.range low high) = true
+applies _ _ = false
+
+abbrev pub all_apply : AbstractKind → Constraints → Bool
+all_apply kind type.no_constraints = true
+all_apply kind (type.constraint (type.at site e) rest) = applies kind e && all_apply kind rest
+
+-- this profile's limit on the encoding of a value that stands in a type
+abbrev pub is_short : Option (List ℕ) → Bool
+is_short None = false
+is_short (Some os) = nat_le (length os) 1048576
+
+-- a value of the type that may be a default
+abbrev pub fits_as_default : AbstractType → AbstractValue → Bool
+fits_as_default t d = fits t d && is_short (der t d)
 
 -- A default is a value of its component's type. None may be left pending.
 abbrev pub is_proper_presence : AbstractType → AbstractPresence → Bool
 is_proper_presence t type.mandatory = true
 is_proper_presence t type.optional = true
 is_proper_presence t type.pending = false
-is_proper_presence t (type.default d) = may_stand_in t d
+is_proper_presence t (type.default d) = fits_as_default t d
 
--- No two components that must differ share a tag: guard_tagcheck proves that there is no first clash where its `Distinct` holds,
--- and one where it doesn't.
-abbrev pub none_clash : Option AbstractClash → Bool
-none_clash None = true
-none_clash (Some clash) = false
+-- ---- all of it
+
+-- the tags and constraints of one type
+abbrev pub is_formed : AbstractType → Bool
+is_formed (type_of tags kind cons) = is_tagged tags kind && are_low tags && all_apply kind cons
 
 abbrev mutual
-  -- ---- types
-
   pub is_proper : AbstractType → Bool
-  is_proper (type_of tags kind cons) = (is_tagged tags kind && are_low tags && are_proper_constraints cons (type_of tags kind cons)) && is_proper_kind kind
+  is_proper (type_of tags kind cons) = is_formed (type_of tags kind cons) && is_proper_kind kind
 
   pub is_proper_kind : AbstractKind → Bool
   is_proper_kind (type.sequence cs) = nat_le (component_count cs) 64 && are_proper cs
@@ -41,41 +59,11 @@ abbrev mutual
   are_proper no_components = true
   are_proper (component name t presence rest) = is_proper t && is_proper_presence t presence && are_proper rest
 
-  -- ---- constraints on a type, with the clause of X.680 for each element
-
-  pub are_proper_constraints : Constraints → AbstractType → Bool
-  are_proper_constraints type.no_constraints t = true
-  are_proper_constraints (type.constraint c cs) t = is_proper_constraint c t && are_proper_constraints cs t
-
-  pub is_proper_constraint : Constraint → AbstractType → Bool
-  is_proper_constraint (type.at site e) t = is_proper_element e t
-
-  pub is_proper_element : Element → AbstractType → Bool
-  -- 51.2: a value of the type
-  is_proper_element (type.single_value v) t = may_stand_in t v
-  -- 51.3: a type of the same base that is sound, as below
-  is_proper_element (type.contained_subtype u) t = same_base u t && (is_proper u && none_clash (first_clash u) && nat_le (nesting u) 32)
-  -- 51.4
-  is_proper_element (type.range low high) t = is_integer (kind_of t)
-  -- 51.5: a constraint on INTEGER
-  is_proper_element (type.size c) t = has_size (kind_of t) && is_proper_constraint c type_of_size
-  -- 51.7
-  is_proper_element (type.permitted_alphabet ranges) t = is_string (kind_of t)
-  -- 51.8.4: a constraint on the elements' type
-  is_proper_element (type.with_component c) t = is_there_and (is_proper_constraint c) (element_of (kind_of t))
-  -- 51.8.5
-  is_proper_element (type.with_components partial ps) t = has_parts (kind_of t) && are_proper_parts ps t
-  -- 50: sets of values of the same type
-  is_proper_element (type.union cs) t = are_proper_constraints cs t
-  is_proper_element (type.intersection cs) t = are_proper_constraints cs t
-  is_proper_element (type.except c d) t = is_proper_constraint c t && is_proper_constraint d t
-  is_proper_element (type.all_except c) t = is_proper_constraint c t
-
-  -- 51.8.6: the component or alternative exists, and what is said of it is a constraint on its type
-  pub are_proper_parts : Parts → AbstractType → Bool
-  are_proper_parts type.no_parts t = true
-  are_proper_parts (type.part site i word ps) t = is_some (part_of i (kind_of t)) && are_proper_parts ps t
-  are_proper_parts (type.part_within site i c word ps) t = is_there_and (is_proper_constraint c) (part_of i (kind_of t)) && are_proper_parts ps t
+-- No two components that must differ share a tag: guard_tagcheck proves that there is no first clash where its `Distinct` holds,
+-- and one where it doesn't.
+abbrev pub none_clash : Option AbstractClash → Bool
+none_clash None = true
+none_clash (Some clash) = false
 
 -- Tags are there, low and distinct; lists of components, nesting and defaults keep their limits; constraints apply.
 abbrev pub is_sound : AbstractType → Bool

@@ -5,7 +5,7 @@
 //! |---|---|---|
 //! | What is the encoding of a value? | `encoding.rt` (`encode`) and its folder | `specs/Der.antt`, `specs/Element.antt`, `specs/Contents.antt`, `specs/Encoding.antt` |
 //! | Which values does a type have, constraints aside? | `fitting.rt` (`fits`) | `specs/Fits.antt` |
-//! | Of which types do encodings tell the values, and which constraints may they have? | `sound_types.rt` (`sound`), `sound_types/forms.rt` | `specs/Sound.antt`, `specs/ProperConstraints.antt` |
+//! | Of which types do encodings tell the values? | `sound_types.rt` (`sound`) | `specs/Sound.antt` |
 //! | Which value do octets encode, and where do they break the rules first? | `decoding.rt` (`decode`), simple kinds `contents.rt`, SET `decoding/set.rt` | `specs/Breach.antt`, `specs/Simple.antt` |
 //! | Which header stands at an offset? | `head.rt` (`header`) | `specs/Head.antt`, `specs/Header.antt` |
 //! | Which breaches are there, and what are they called? | `breach.rt` | `specs/Names.antt` |

@@ -1,48 +1,30 @@
 //! Types that have encodings within this profile's limits, and whose encodings tell their values.
-ghost use Rattle.std.specs.Prelude.{◌≡◌, ◌&&◌, map, nat_le, IfOk, IsTrue, option_map};
-ghost use Rattle.guard_model.specs.Counts.{component_count};
-ghost use Rattle.guard_model.specs.SameType.{same_base};
-ghost use Rattle.guard_model.specs.TypeView.{type_view, kind_view, component_view, components_of, presence_view, constraint_view, constraints_of, part_view, parts_of};
+ghost use Rattle.std.specs.Prelude.{◌≡◌, ◌&&◌, map, nat_le, IfOk, IsTrue};
+ghost use Rattle.guard_model.specs.TypeView.{type_view, kind_view, component_view, components_of, presence_view};
 ghost use Rattle.guard_model.specs.ValueView.{value_view};
 ghost use Rattle.guard_tagcheck.specs.Distinct.{Distinct};
-ghost use Rattle.guard_tagcheck.specs.Limits.{nesting};
+ghost use Rattle.guard_der.specs.Sound.{is_sound, is_proper, is_proper_kind, are_proper, is_proper_presence, is_short, fits_as_default};
 ghost use Rattle.guard_der.specs.Der.{der};
 ghost use Rattle.guard_der.specs.Fits.{fits};
-ghost use Rattle.guard_der.specs.ProperConstraints.{may_stand_in, is_short, kind_of, has_size, type_of_size, element_of, has_parts, part_of, is_there_and};
-ghost use Rattle.guard_der.specs.Sound.{is_sound, is_proper, is_proper_kind, are_proper, is_proper_presence, are_proper_constraints, is_proper_constraint, are_proper_parts};
-ghost use Rattle.guard_der.specs.SoundParts.{is_proper_part, is_proper_within};
+ghost use Rattle.guard_model.specs.Counts.{component_count};
 
 mod forms;
 
 use crate::encoding::{EncodeFault, encode};
 use crate::fitting::fits;
-use crate::sound_types::forms::{
-    element_of, has_parts, has_proper_tags, has_size, is_integer, is_string, part_of, type_of_size,
-};
-use guard_model::{
-    Comp, Cons, Kind, MOST_COMPONENTS, OutOfMemory, Part, Presence, Rule, Ty, Value,
-};
+use crate::sound_types::forms::is_formed;
+use guard_model::{Comp, Kind, MOST_COMPONENTS, OutOfMemory, Presence, Ty, Value};
 use guard_tagcheck::{check, is_within_limits};
 use std::alloc::Global;
 
 /// Whether the type is sound: a tag at each node but a CHOICE, numbers of tags up to 268,435,455, at most 64 components or
 /// alternatives in each list, nesting up to 32; tags that tell components and alternatives apart (X.680 25.6, 27.3, 29.3);
-/// no default that is pending, and each default a value of its type whose encoding has at most 1,048,576 octets. Each element of
-/// a constraint applies to the kind that it constrains, inside SIZE to INTEGER; single values are as defaults, contained types
-/// sound and of the same base, and parts that are named by their places exist (51.2 to 51.8). Its one refusal is want of memory.
+/// ranges on INTEGER as the only constraints; no default that is pending, and each default a value of its type whose encoding
+/// has at most 1,048,576 octets. Its one refusal is want of memory.
 pub fn sound(alloc: Global, ty: &Ty) -> Result<bool, OutOfMemory>
     ensures exact { IfOk result (λ b. b ≡ is_sound (type_view ty.now)) }
     // Of a sound type all tags that must differ do.
     ensures distinct { IfOk result (λ b. IsTrue b → Distinct (type_view ty.now)) }
-    // A type all of whose tags that must differ do is sound where the rest is as it should be.
-    ensures accepted { IfOk result (λ b. Distinct (type_view ty.now) → IsTrue (is_proper (type_view ty.now)) → IsTrue (nat_le (nesting (type_view ty.now)) 32) → IsTrue b) }
-{
-    is_sound(alloc, ty)
-}
-
-#[cycle(proper)]
-fn is_sound(alloc: Global, ty: &Ty) -> Result<bool, OutOfMemory>
-    ensures { IfOk result (λ b. b ≡ is_sound (type_view ty.now)) }
 {
     if !is_within_limits(ty) {
         return Ok(false);
@@ -57,10 +39,7 @@ fn is_sound(alloc: Global, ty: &Ty) -> Result<bool, OutOfMemory>
 fn is_proper(alloc: Global, ty: &Ty) -> Result<bool, OutOfMemory>
     ensures { IfOk result (λ b. b ≡ is_proper (type_view ty.now)) }
 {
-    if !has_proper_tags(&ty.tags, &ty.kind) {
-        return Ok(false);
-    }
-    if !are_proper_constraints(alloc, &ty.cons, ty)? {
+    if !is_formed(ty) {
         return Ok(false);
     }
     is_proper_kind(alloc, &ty.kind)
@@ -120,132 +99,13 @@ fn is_proper_presence(alloc: Global, ty: &Ty, presence: &Presence) -> Result<boo
         Presence::Mandatory => Ok(true),
         Presence::Optional => Ok(true),
         Presence::Pending => Ok(false),
-        Presence::Default(value) => may_stand_in(alloc, ty, value),
+        Presence::Default(value) => default_fits(alloc, ty, value),
     }
 }
 
-// ---- constraints on a type
-
-#[cycle(proper)]
-fn are_proper_constraints(alloc: Global, constraints: &[Cons], ty: &Ty) -> Result<bool, OutOfMemory>
-    ensures { IfOk result (λ b. b ≡ are_proper_constraints (constraints_of (map constraint_view constraints.now)) (type_view ty.now)) }
-{
-    for constraint in constraints {
-        if !is_proper_constraint(alloc, constraint, ty)? {
-            return Ok(false);
-        }
-    }
-    Ok(true)
-}
-
-/// Each element applies to the type's kind.
-#[cycle(proper)]
-fn is_proper_constraint(alloc: Global, constraint: &Cons, ty: &Ty) -> Result<bool, OutOfMemory>
-    ensures { IfOk result (λ b. b ≡ is_proper_constraint (constraint_view constraint.now) (type_view ty.now)) }
-{
-    match &constraint.rule {
-        Rule::One(value) => may_stand_in(alloc, ty, value),
-        Rule::Inside(contained) => is_proper_inside(alloc, contained, ty),
-        Rule::Range(_, _) => Ok(is_integer(ty)),
-        Rule::Size(size) => is_proper_size(alloc, size, ty),
-        Rule::Alphabet(_) => Ok(is_string(ty)),
-        Rule::Each(each) => is_proper_each(alloc, each, ty),
-        Rule::Parts(_, parts) => is_proper_list(alloc, parts, ty),
-        Rule::Any(any) => are_proper_constraints(alloc, any, ty),
-        Rule::Both(both) => are_proper_constraints(alloc, both, ty),
-        Rule::Minus(left, right) => {
-            if !is_proper_constraint(alloc, left, ty)? {
-                return Ok(false);
-            }
-            is_proper_constraint(alloc, right, ty)
-        }
-        Rule::Other(other) => is_proper_constraint(alloc, other, ty),
-    }
-}
-
-/// A contained type has the base of the type that it constrains, and is sound.
-#[cycle(proper)]
-fn is_proper_inside(alloc: Global, contained: &Ty, ty: &Ty) -> Result<bool, OutOfMemory>
-    ensures { IfOk result (λ b. b ≡ (same_base (type_view contained.now) (type_view ty.now) && is_sound (type_view contained.now))) }
-{
-    if !contained.same_base(ty) {
-        return Ok(false);
-    }
-    is_sound(alloc, contained)
-}
-
-#[cycle(proper)]
-fn is_proper_size(alloc: Global, size: &Cons, ty: &Ty) -> Result<bool, OutOfMemory>
-    ensures { IfOk result (λ b. b ≡ (has_size (kind_of (type_view ty.now)) && is_proper_constraint (constraint_view size.now) type_of_size)) }
-{
-    if !has_size(ty) {
-        return Ok(false);
-    }
-    let number = type_of_size(alloc)?;
-    is_proper_constraint(alloc, size, &number)
-}
-
-/// WITH COMPONENT.
-#[cycle(proper)]
-fn is_proper_each(alloc: Global, each: &Cons, ty: &Ty) -> Result<bool, OutOfMemory>
-    ensures { IfOk result (λ b. b ≡ is_there_and (is_proper_constraint (constraint_view each.now)) (element_of (kind_of (type_view ty.now)))) }
-{
-    match element_of(ty) {
-        Some(element) => is_proper_constraint(alloc, each, element),
-        None => Ok(false),
-    }
-}
-
-// ---- WITH COMPONENTS
-
-#[cycle(proper)]
-fn is_proper_list(alloc: Global, parts: &[Part], ty: &Ty) -> Result<bool, OutOfMemory>
-    ensures { IfOk result (λ b. b ≡ (has_parts (kind_of (type_view ty.now)) && are_proper_parts (parts_of (map part_view parts.now)) (type_view ty.now))) }
-{
-    if !has_parts(ty) {
-        return Ok(false);
-    }
-    are_proper_parts(alloc, parts, ty)
-}
-
-#[cycle(proper)]
-fn are_proper_parts(alloc: Global, parts: &[Part], ty: &Ty) -> Result<bool, OutOfMemory>
-    ensures { IfOk result (λ b. b ≡ are_proper_parts (parts_of (map part_view parts.now)) (type_view ty.now)) }
-{
-    for part in parts {
-        if !is_proper_part(alloc, part, &ty.kind)? {
-            return Ok(false);
-        }
-    }
-    Ok(true)
-}
-
-/// The component or alternative exists, and its constraint is one on its type.
-#[cycle(proper)]
-fn is_proper_part(alloc: Global, part: &Part, kind: &Kind) -> Result<bool, OutOfMemory>
-    ensures { IfOk result (λ b. b ≡ is_proper_part (part_view part.now) (kind_view kind.now)) }
-{
-    match part_of(kind, part.at) {
-        Some(ty) => is_proper_within(alloc, &part.cons, ty),
-        None => Ok(false),
-    }
-}
-
-#[cycle(proper)]
-fn is_proper_within(alloc: Global, within: &Option<Cons>, ty: &Ty) -> Result<bool, OutOfMemory>
-    ensures { IfOk result (λ b. b ≡ is_proper_within (option_map constraint_view within.now) (type_view ty.now)) }
-{
-    match within {
-        Some(constraint) => is_proper_constraint(alloc, constraint, ty),
-        None => Ok(true),
-    }
-}
-
-// ---- values that stand in a type
-
-/// The value is one of the type's, and its encoding isn't too long.
-fn may_stand_in(alloc: Global, ty: &Ty, value: &Value) -> Result<bool, OutOfMemory>
-    ensures { IfOk result (λ b. b ≡ may_stand_in (type_view ty.now) (value_view value.now)) }
+/// A default is a value of its component's type, and its encoding isn't too long.
+fn default_fits(alloc: Global, ty: &Ty, value: &Value) -> Result<bool, OutOfMemory>
+    ensures { IfOk result (λ b. b ≡ fits_as_default (type_view ty.now) (value_view value.now)) }
 {
     if !fits(alloc, ty, value)? {
         return Ok(false);

@@ -1,13 +1,9 @@
--- ---- parts of types and values, characters of texts
-pub mod AtPlace
-pub mod Characters
-pub mod PartFits
-pub mod SameFits
--- ---- what the walk finds is the violation, and a member has none
-pub mod Law
-pub mod Walk
+-- ---- what a sound type and a value that fits it say of their parts
+pub mod Proper
+pub mod Items
+pub mod Chosen
+-- ---- loops over components and fields
+pub mod AtEnd
+-- ---- violations
 pub mod Paths
-pub mod Calls
--- ---- sound types
-pub mod Bases
-pub mod Soundness
+pub mod Law

@@ -1,21 +1,45 @@
 -- Constraints as sets of values (X.680 clauses 49 to 51), and the members of a type.
-use Rattle.std.specs.Prelude.{ℕ, zero, suc, Bool, true, false, not, ◌&&◌, ◌||◌, []}
-use Rattle.std.specs.Option.{is_none}
+use Rattle.std.specs.Prelude.{ℕ, zero, suc, ℤ, Bool, true, false, ◌&&◌, int_le, int_lt}
+use Rattle.guard_model.specs.declared.ty.Limit.{Limit}
+use Rattle.guard_model.specs.declared.ty.Limit.TheVariants.{Free, At, Past}
 use Rattle.guard_model.specs.AbstractType as type
-use Rattle.guard_model.specs.AbstractType.{AbstractType, AbstractKind, Components, Constraint, Constraints, Element, Parts, type_of, no_components, component, at, no_constraints, constraint}
+use Rattle.guard_model.specs.AbstractType.{AbstractType, AbstractKind, Components, Constraint, Constraints, Element, type_of, no_components, component, at, no_constraints, constraint}
 use Rattle.guard_model.specs.AbstractValue as value
-use Rattle.guard_model.specs.AbstractValue.{AbstractValue, Fields}
-use Rattle.guard_model.specs.Components.{components_in, component_at}
-use Rattle.guard_model.specs.Same.{same}
-use Rattle.guard_der.specs.Fits.{fits_kind}
-use Rattle.guard_eval.specs.Elements.{is_between, has_size, is_spelled_in, every_item, has_each}
-use Rattle.guard_eval.specs.Presence.{element_kind, kind_at, has_parts, part_at, is_there, if_there, is_placed, first_intruder}
+use Rattle.guard_model.specs.AbstractValue.{AbstractValue, Fields, Items}
+
+-- MIN is no end, and `<` leaves the end out (X.680 51.4.2, 51.4.3)
+abbrev pub is_above : Limit → ℤ → Bool
+is_above Free z = true
+is_above (At low) z = int_le low z
+is_above (Past low) z = int_lt low z
+
+abbrev pub is_under : Limit → ℤ → Bool
+is_under Free z = true
+is_under (At high) z = int_le z high
+is_under (Past high) z = int_lt z high
+
+-- A range has the integers between its ends (X.680 51.4), and no other value. The other elements stand in no sound type yet: none
+-- has any value here.
+abbrev pub holds_element : Element → AbstractValue → Bool
+holds_element (type.range low high) (value.integer z) = is_above low z && is_under high z
+holds_element _ v = false
+
+abbrev pub holds : Constraint → AbstractValue → Bool
+holds (at site element) v = holds_element element v
+
+abbrev pub all_hold : Constraints → AbstractValue → Bool
+all_hold no_constraints v = true
+all_hold (constraint c cs) v = holds c v && all_hold cs v
+
+abbrev pub every_item : (AbstractValue → Bool) → Items → Bool
+every_item test value.no_items = true
+every_item test (value.item v vs) = test v && every_item test vs
 
 abbrev mutual
-  -- A member fits the type, and each constraint holds, there and in each part: each component that is there, the chosen alternative,
-  -- each element.
+  -- A value that fits the type is a member where each constraint holds, there and in each part: each component that is there, the
+  -- chosen alternative, each element.
   pub is_member : AbstractType → AbstractValue → Bool
-  is_member (type_of tags kind cons) v = fits_kind kind v && all_hold cons kind v && parts_are_members kind v
+  is_member (type_of tags kind cons) v = all_hold cons v && parts_are_members kind v
 
   pub parts_are_members : AbstractKind → AbstractValue → Bool
   parts_are_members (type.sequence cs) (value.fields fs) = fields_are_members cs fs
@@ -36,46 +60,3 @@ abbrev mutual
   chosen_is_member no_components i v = true
   chosen_is_member (component name t presence cs) zero v = is_member t v
   chosen_is_member (component name t presence cs) (suc i) v = chosen_is_member cs i v
-
-  -- Whether a constraint on a type of this kind has the value.
-  pub holds : Constraint → AbstractKind → AbstractValue → Bool
-  holds (at site element) kind v = holds_element element kind v
-
-  -- Each element is a set of values. One that doesn't apply to the value's kind has none.
-  pub holds_element : Element → AbstractKind → AbstractValue → Bool
-  -- 51.2: this value alone
-  holds_element (type.single_value w) kind v = same w v
-  -- 51.3: the members of the contained type
-  holds_element (type.contained_subtype t) kind v = is_member t v
-  -- 51.4: the integers between the ends
-  holds_element (type.range low high) kind v = is_between low high v
-  -- 51.5: those whose size is among the integers that the constraint has
-  holds_element (type.size c) kind v = has_size (holds c (type.integer [])) v
-  -- 51.7: those all of whose characters are permitted
-  holds_element (type.permitted_alphabet ranges) kind v = is_spelled_in ranges v
-  -- 51.8.4: those each of whose elements the constraint has
-  holds_element (type.with_component c) kind v = has_each (holds c (element_kind kind)) v
-  -- 51.8.5: those of which all is so that is said of listed parts and, by a full list, of the others
-  holds_element (type.with_components partial ps) kind v = has_parts v && parts_hold ps partial kind v && is_none (first_intruder partial kind ps v)
-  -- 50: sets as in arithmetic
-  holds_element (type.union cs) kind v = some_hold cs kind v
-  holds_element (type.intersection cs) kind v = all_hold cs kind v
-  holds_element (type.except c d) kind v = holds c kind v && not (holds d kind v)
-  holds_element (type.all_except c) kind v = not (holds c kind v)
-
-  pub all_hold : Constraints → AbstractKind → AbstractValue → Bool
-  all_hold no_constraints kind v = true
-  all_hold (constraint c cs) kind v = holds c kind v && all_hold cs kind v
-
-  pub some_hold : Constraints → AbstractKind → AbstractValue → Bool
-  some_hold no_constraints kind v = false
-  some_hold (constraint c cs) kind v = holds c kind v || some_hold cs kind v
-
-  -- a word speaks of presence, a constraint of the value that is there (51.8.6 to 51.8.9)
-  pub parts_hold : Parts → Bool → AbstractKind → AbstractValue → Bool
-  parts_hold type.no_parts partial kind v = true
-  parts_hold (type.part site i word ps) partial kind v =
-      is_placed partial (component_at i (components_in kind)) word (is_there i v) && parts_hold ps partial kind v
-  parts_hold (type.part_within site i c word ps) partial kind v =
-      (is_placed partial (component_at i (components_in kind)) word (is_there i v) && if_there (holds c (kind_at i kind)) (part_at i v))
-      && parts_hold ps partial kind v

@@ -96,7 +96,7 @@ no_high_end = refl
 below_low_end : is_member (ranged (between_at 9 (At (pos 7)) Free)) (whole 6) ≡ false
 below_low_end = refl
 
--- ---- the simple kinds without constraints
+-- ---- the simple kinds have no constraints yet
 
 truth : violation (plain 1 type.boolean) (value.boolean true) ≡ None
 truth = refl

@@ -2,20 +2,16 @@
 //!
 //! | question | code | definition |
 //! |---|---|---|
-//! | Which values are of a number, a size, of some characters? | `elements.rt` | `specs/Elements.antt` |
-//! | What does WITH COMPONENTS say of a part's presence? | `presence.rt` | `specs/Presence.antt` |
-//! | Which values does a constraint allow, and which are members of a type? | `members.rt` (`holds`, `member`) | `specs/Member.antt` |
+//! | Which values does a constraint allow? | `constraint.rt` | `specs/Member.antt` |
+//! | Which values are members of a type, with all its parts? | `members.rt` (`member`) | `specs/Member.antt` |
 //! | Which constraint is failed first, and in which part? | `violation.rt` (`first_violation`) | `specs/Violations.antt` |
-//! | How are all of these found in one walk? | `search.rt` | `specs/Failures.antt` |
 //! | What holds for every type and value? | `laws.rt` | `specs/Violations.antt` |
 #![tactic(auto)]
 
-mod elements;
+mod constraint;
 pub mod laws;
 mod members;
-mod presence;
-mod search;
 mod violation;
 
-pub use members::{holds, member};
+pub use members::member;
 pub use violation::{Violation, first_violation};

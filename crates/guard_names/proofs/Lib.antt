@@ -1,5 +1,4 @@
 -- ---- what assignments mention
-pub mod Gathering
 pub mod Fronts
 -- ---- what modules declare and export, and look-ups
 pub mod Listing

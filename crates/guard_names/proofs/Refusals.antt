@@ -1,16 +1,13 @@
 -- The faults of names in their order: what a refusal names, and what there isn't where nothing is refused.
-use Rattle.std.proofs.Common.{◌≡◌, ℕ, ◌≤◌, Bool, true, false, List, Option, Some, None, option_map, Result, Ok, Err, is_some, IfSome, if◌then◌else◌, length, map, refl, sym, ◌∙◌, ap, subst, arith}
-use Rattle.std.specs.Prelude.{nat_lt}
+use Rattle.std.proofs.Common.{◌≡◌, Bool, true, false, List, Option, Some, None, option_map, Result, Ok, Err, is_some, IfSome, if◌then◌else◌, refl, sym, ◌∙◌, ap, arith}
 use Rattle.std.specs.Option.{option_or}
 use Rattle.std.proofs.lemmas.Option.{same_Some}
-use Rattle.std.proofs.lemmas.List.{length-map}
-use Rattle.std.proofs.lemmas.Bool.Decides.{nat_tests}
 use Rattle.guard_model.specs.declared.site.Site.{Site}
 use Rattle.guard_model.specs.Answer.{◌>>=◌, Refuses}
 use Rattle.guard_syntax.specs.Trees.{WrittenModule}
 use Rattle.guard_names.specs.declared.fault.NameFault.{NameFault}
 use Rattle.guard_names.specs.declared.fault.NameFault.TheVariants.{Duplicate, Undefined, NoModule, NotExported, ImportNotDefined, Recursive, TooManyModules, OutOfMemory}
-use Rattle.guard_names.specs.Faults.{most_modules, too_many, duplicate, no_module, not_defined, not_exported, undefined, fault_of_names, IsFirstFault, named}
+use Rattle.guard_names.specs.Faults.{too_many, duplicate, no_module, not_defined, not_exported, undefined, fault_of_names, IsFirstFault, named}
 use Rattle.guard_names.specs.Reading.{refused_at, check_names}
 
 -- it is refused with this fault, where there is one
@@ -29,12 +26,6 @@ steps_are None None (Some s) d e = refl
 steps_are None None None (Some s) e = refl
 steps_are None None None None (Some s) = refl
 steps_are None None None None None = refl
-
-few : (n : ℕ) → n ≤ most_modules → nat_lt most_modules n ≡ false
-few n h = grind (arith, nat_tests)
-
-pub few_enough : {X : Type 0} (view : X → WrittenModule) (xs : List X) → length xs ≤ most_modules → too_many (map view xs) ≡ false
-few_enough view xs h = few (length (map view xs)) (subst (λ n. n ≤ most_modules) (sym (length-map xs view)) h)
 
 -- where the modules aren't too many, the steps refuse with the first fault
 pub check_is_fault : (ms : List WrittenModule) → too_many ms ≡ false → check_names ms ≡ refused_with (fault_of_names ms)

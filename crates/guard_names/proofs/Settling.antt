@@ -15,7 +15,6 @@ use Rattle.std.proofs.lemmas.List.Folds.{list_any_at, list_any-append}
 use Rattle.std.proofs.lemmas.Bool.Decides.{eqb_tells}
 use Rattle.std.proofs.lemmas.List.Sums.{sum_by-cons, sum_by-set}
 use Rattle.std.proofs.lemmas.List.Sorted.{sum_by_pushed, sum_by_popped}
-use Rattle.std.proofs.lemmas.Grind.{get_or_default_zero}
 use Rattle.guard_names.specs.declared.order.Waiting.{Waiting}
 use Rattle.guard_names.specs.Order.{is_listed, IsNext, Follow}
 use Rattle.guard_names.specs.Queues.{once_at, used_by, AreInside, IsMet, IsMetBefore, IsWaitingFor, IsReleased, AreFlags, Stands, times_in, times_waiting}
@@ -67,13 +66,6 @@ listed_at xs i h = list_any_at (nat_eq (get_or xs i 0)) xs i 0 h (eq-eqb (get_or
 module _ (us : List (List ℕ)) (flags : List Bool) (listed : List ℕ) (inside : AreInside us) (f : AreFlags us flags listed) (number : ℕ) (used : List ℕ) (used_is : used ≡ used_by us number) where
   pub used_inside : (u : ℕ) → IsTrue (is_listed used u) → u < length us
   used_inside u h = inside number u (subst (λ x. is_listed x u ≡ true) used_is h)
-
-  -- the row of the one that is used at a place
-  pub row_of : {X : Type 0} (rows : List X) (found : List ℕ) (place u : ℕ) → length rows ≡ length us → used ≡ found → place < length used → u ≡ get_or found place u
-      → (u ≡ get_or used place 0) × (u < length rows)
-  row_of rows found place u size same below is =
-      let u_is : u ≡ get_or used place 0 = is ∙ ap (λ x. get_or x place u) (sym same) ∙ get_or_default_zero used place u below in
-      (u_is, subst (λ n. u < n) (sym size) (subst (λ x. x < length us) (sym u_is) (used_inside (get_or used place 0) (listed_at used place below))))
 
   flag_tells : (i : ℕ) (b : Bool) → i < length used → get_or flags (get_or used i 0) false ≡ b → is_listed listed (get_or used i 0) ≡ b
   flag_tells i b h e = sym (f.says (get_or used i 0) (used_inside (get_or used i 0) (listed_at used i h))) ∙ e
@@ -233,6 +225,3 @@ left_same a b b' n m h e = omega arith
 
 pub left_one_less : (a a' b : ℕ) (ws : List Waiting) (i : ℕ) → a' ≡ a + 1 → a + length (drop i ws) ≡ b → i < length ws → a' + length (drop (i + 1) ws) ≡ b
 left_one_less a a' b ws i e h below = let d = length-drop i ws in let d' = length-drop (i + 1) ws in omega (arith, d, d', e, h, below)
-
-pub none_left : (a b n m : ℕ) → a + n ≡ b + m → n ≡ 0 → a ≡ b + m
-none_left a b n m h e = omega arith

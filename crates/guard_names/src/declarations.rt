@@ -53,40 +53,41 @@ pub fn declarations<'a>(
 /// Adds those of a module whose first assignment makes this definition, and answers the number of the next one.
 fn add_module<'a>(
     alloc: Global,
-    tree: &Module<'a>,
+    module: &Module<'a>,
     first: Id,
     into: &mut Vec<Declaration<'a>>,
 ) -> Result<Id, AllocError>
     requires { first ≤ vec_len into.old }
-    ensures added { OnOk result (map declaration_view into.new.items ≡ map declaration_view into.old.items ++ declared.module_declarations first (module_view tree.now)) }
-    ensures next { IfOk result (λ next. next ≡ first + length (module_view tree.now).assignments) }
+    ensures added { OnOk result (map declaration_view into.new.items ≡ map declaration_view into.old.items ++ declared.module_declarations first (module_view module.now)) }
+    ensures next { IfOk result (λ next. next ≡ first + length (module_view module.now).assignments) }
     ensures few { IfOk result (λ next. next ≤ vec_len into.new) }
 {
     into.push(Declaration {
         scope: None,
-        name: tree.name,
-        site: tree.site,
+        name: module.name,
+        site: module.site,
         origin: Origin::Module,
     })?;
-    add_imports(tree.name, written_imports(tree), into)?;
-    add_assigned(alloc, tree, first, into)
+    add_imports(module.name, written_imports(module), into)?;
+    let exports = Exports::of(alloc, &module.exports)?;
+    add_assignments(module, &exports, first, into)
 }
 
 /// The imports of a module, one for each module that is named behind FROM.
-pub fn written_imports<'m, 'a>(tree: &'m Module<'a>) -> &'m [ImportTree<'a>]
-    ensures { map import_view result.now ≡ declared.written_imports (module_view tree.now).imports }
+pub fn written_imports<'m, 'a>(module: &'m Module<'a>) -> &'m [ImportTree<'a>]
+    ensures { map import_view result.now ≡ declared.written_imports (module_view module.now).imports }
 {
-    match &tree.imports {
+    match &module.imports {
         None => &[],
         Some(imports) => imports,
     }
 }
 
 /// The names that a module lists as exported.
-pub fn listed_exports<'m, 'a>(tree: &'m Module<'a>) -> &'m [SymbolTree<'a>]
-    ensures { map symbol_view result.now ≡ declared.listed_exports (module_view tree.now).exports }
+pub fn listed_exports<'m, 'a>(module: &'m Module<'a>) -> &'m [SymbolTree<'a>]
+    ensures { map symbol_view result.now ≡ declared.listed_exports (module_view module.now).exports }
 {
-    match &tree.exports {
+    match &module.exports {
         None => &[],
         Some(ExportsTree::All) => &[],
         Some(ExportsTree::Symbols(symbols)) => symbols,
@@ -127,38 +128,22 @@ fn add_symbols<'a>(
     Ok(())
 }
 
-/// Adds those of the assignments of a module.
-fn add_assigned<'a>(
-    alloc: Global,
-    tree: &Module<'a>,
-    first: Id,
-    into: &mut Vec<Declaration<'a>>,
-) -> Result<Id, AllocError>
-    requires { first ≤ vec_len into.old }
-    ensures added { OnOk result (map declaration_view into.new.items ≡ map declaration_view into.old.items ++ declared.assigned_declarations (module_view tree.now) first (map assignment_view tree.now.assignments.items)) }
-    ensures next { IfOk result (λ next. next ≡ first + length (module_view tree.now).assignments) }
-    ensures few { IfOk result (λ next. next ≤ vec_len into.new) }
-{
-    let exports = Exports::of(alloc, &tree.exports)?;
-    add_assignments(tree, &exports, first, into)
-}
-
 fn add_assignments<'a>(
-    tree: &Module<'a>,
+    module: &Module<'a>,
     exports: &Exports<'a>,
     first: Id,
     into: &mut Vec<Declaration<'a>>,
 ) -> Result<Id, AllocError>
     requires few { first ≤ vec_len into.old }
-    requires exports { (name : List ℕ) → has_name exports.now name ≡ declared.lists_name (perhaps_exports_view tree.now.exports) name }
-    ensures added { OnOk result (map declaration_view into.new.items ≡ map declaration_view into.old.items ++ declared.assigned_declarations (module_view tree.now) first (map assignment_view tree.now.assignments.items)) }
-    ensures next { IfOk result (λ next. next ≡ first + length (module_view tree.now).assignments) }
+    requires exports { (name : List ℕ) → has_name exports.now name ≡ declared.lists_name (perhaps_exports_view module.now.exports) name }
+    ensures added { OnOk result (map declaration_view into.new.items ≡ map declaration_view into.old.items ++ declared.assigned_declarations (module_view module.now) first (map assignment_view module.now.assignments.items)) }
+    ensures next { IfOk result (λ next. next ≡ first + length (module_view module.now).assignments) }
     ensures few { IfOk result (λ next. next ≤ vec_len into.new) }
 {
     let mut id = first;
-    for assignment in &tree.assignments {
+    for assignment in &module.assignments {
         into.push(Declaration {
-            scope: Some(tree.name),
+            scope: Some(module.name),
             name: assignment.name,
             site: assignment.site,
             origin: Origin::Assignment(id, exports.has(assignment.name)),

@@ -69,6 +69,7 @@ fn add_base<'a>(base: &BaseTree<'a>, into: &mut Vec<Mention<'a>>) -> Result<(), 
 }
 
 #[cycle(types)]
+#[tactic(auto, using(crate::proofs::Fronts::in_components_before))]
 fn add_components<'a>(comps: &[CompTree<'a>], into: &mut Vec<Mention<'a>>) -> Result<(), AllocError>
     ensures { OnOk result (map mention_view into.new.items ≡ map mention_view into.old.items ++ mentions.in_components (components_of (map component_view comps.now))) }
 {

@@ -1,7 +1,7 @@
 //! What the names in a list of modules mean.
 ghost use Rattle.std.specs.Prelude.{◌≡◌, ◌↔◌, ℕ, ◌<◌, List, map, length, option_map, slice_get, slice_index_or, is_some, false, IsTrue, IfOk, IfErr, IfSome, Option, Some, None};
 ghost use Rattle.std.proofs.Props.{props};
-ghost use Rattle.guard_names.specs.Declarations.{Definition, definitions, declarations, definition_of, origin_there};
+ghost use Rattle.guard_names.specs.Declarations.{Definition, definitions};
 ghost use Rattle.guard_names.specs.Faults.{fault_of_names};
 ghost use Rattle.guard_names.specs.Meanings.{Means, Uses};
 ghost use Rattle.guard_names.specs.Order.{IsOrder, IsRecursive, is_listed};
@@ -64,14 +64,6 @@ impl<'m, 'a> Names<'m, 'a> {
         ensures home { IfSome result (λ id. (d : Definition) × (slice_get (definitions (modules_of self.now)) id ≡ Some d) × (d.assignment.name ≡ name.now)) }
     {
         self.meanings.find(module_name.as_bytes(), name.as_bytes())
-    }
-
-    /// The same of names as they stand in trees, which are octets.
-    pub fn meaning(&self, module_name: &[u8], name: &[u8]) -> Option<Id>
-        ensures meant { (number : ℕ) → (result ≡ Some number) ↔ Means (modules_of self.now) module_name.now name.now number }
-        ensures computed { result ≡ definition_of (origin_there (declarations (modules_of self.now))) module_name.now name.now }
-    {
-        self.meanings.find(module_name, name)
     }
 
     /// All definitions, each behind those that it uses: again and again the first one in module and text order of those that may

@@ -1,12 +1,11 @@
 //! The order in which definitions stand behind all that they use.
 ghost use Rattle.std.specs.Prelude.{◌≡◌, ℕ, ◌+◌, ◌<◌, ◌≤◌, ◌++◌, ◌∷◌, [], false, true, length, map, slice_index_or, replicate, IfOk, OnOk, IfSome, IfNone, IsTrue};
 ghost use Rattle.std.specs.Bool.{OnTrue, OnFalse};
-ghost use Rattle.std.specs.List.{All};
 ghost use Rattle.std.specs.BinaryHeap.{IsHeap, heap_items};
 ghost use Rattle.std.specs.Ordering.{nat_cmp};
 ghost use Rattle.std.proofs.Props.{props};
 ghost use Rattle.guard_names.specs.Order.{IsOrder, IsRecursive, is_listed};
-ghost use Rattle.guard_names.specs.Queues.{AreInside, UsesIn, IsReleased, Stands, once_at, times_waiting};
+ghost use Rattle.guard_names.specs.Queues.{AreInside, UsesIn, IsReleased, Stands, once_at};
 
 use crate::declarations::Id;
 use std::alloc::{AllocError, Global};
@@ -96,21 +95,7 @@ impl Queue {
         self.order.push(next)?;
         self.listed[next] = true;
         let released = mem::replace(&mut self.waiting[next], Vec::new(alloc));
-        self.settle_all(uses, &released)
-    }
-
-    /// Lets those go on that waited for one that is listed now.
-    fn settle_all(&mut self, uses: &[Vec<Id>], released: &[Waiting]) -> Result<(), AllocError>
-        requires inside { AreInside (map (λ v. v.items) uses.now) }
-        requires released { All (IsReleased (map (λ v. v.items) uses.now) self.old.order.items) released.now }
-        requires sized { IsSized (map (λ v. v.items) uses.now) self.old }
-        requires stands { StandsIn (map (λ v. v.items) uses.now) self.old (times_waiting released.now) }
-        ensures order { OnOk result (self.new.order.items ≡ self.old.order.items) }
-        ensures sized { OnOk result (IsSized (map (λ v. v.items) uses.now) self.new) }
-        ensures stands { OnOk result (StandsIn (map (λ v. v.items) uses.now) self.new (λ _. 0)) }
-        ensures left { OnOk result (left_in self.new ≡ left_in self.old + length released.now) }
-    {
-        for waiting in released {
+        for waiting in &released {
             self.settle(uses, *waiting)?;
         }
         Ok(())

@@ -1,20 +1,19 @@
 //! Whether the names in a list of modules have a fault, and what they mean where they have none.
-ghost use Rattle.std.specs.Prelude.{◌≡◌, ℕ, ◌<◌, List, map, length, option_map, slice_get, IfOk, IfErr, IfSome, Option, Some, None};
+ghost use Rattle.std.specs.Prelude.{◌≡◌, ℕ, ◌<◌, List, map, length, option_map, slice_get, IfOk, IfErr, IfSome, Some, None};
 ghost use Rattle.std.specs.List.{flat_map};
 ghost use Rattle.guard_model.specs.Answer.{Gives};
 ghost use Rattle.guard_names.specs.declared.fault.NameFault.TheVariants as fault;
-ghost use Rattle.guard_names.specs.Declarations.{definitions, definition_of, origin_there};
-ghost use Rattle.guard_names.specs.DeclarationViews.{declaration_view};
-ghost use Rattle.guard_names.specs.Faults.{AreFaultless, IsFirstFault, IsRecursiveAt, named, first_found, undefined_in, fault_of_names};
+ghost use Rattle.guard_names.specs.Declarations.{definitions};
+ghost use Rattle.guard_names.specs.Faults.{AreFaultless, IsFirstFault, IsRecursiveAt, named, fault_of_names};
 ghost use Rattle.guard_names.specs.Meanings.{Uses};
 ghost use Rattle.guard_names.specs.NamesView.{modules_of};
 ghost use Rattle.guard_names.specs.Order.{IsRecursive};
 ghost use Rattle.guard_names.specs.Reading as reading;
-ghost use Rattle.guard_names.specs.TableViews.{origin_in, meaning_in};
+ghost use Rattle.guard_names.specs.TableViews.{meaning_in};
 ghost use Rattle.guard_syntax.specs.ModuleViews.{module_view};
 
 use crate::checks::check_imports;
-use crate::declarations::{Declaration, Id, declarations};
+use crate::declarations::{Id, declarations};
 use crate::fault::NameFault;
 use crate::meanings::Meanings;
 use crate::names::{Names, home_of};
@@ -41,25 +40,8 @@ pub fn resolve<'m, 'a>(alloc: Global, modules: &'m [Module<'a>]) -> Result<Names
         return Err(NameFault::TooManyModules);
     }
     let (meanings, uses) = meanings_and_uses(alloc, modules)?;
-    by_uses(alloc, modules, meanings, &uses)
-}
-
-/// The same by what the names mean and what each definition uses. Of the faults, a definition that uses itself is left.
-fn by_uses<'m, 'a>(
-    alloc: Global,
-    modules: &'m [Module<'a>],
-    meanings: Meanings<'a>,
-    uses: &[Vec<Id>],
-) -> Result<Names<'m, 'a>, NameFault>
-    requires named { fault_of_names (map module_view modules.now) ≡ None }
-    requires meant { (home name : List ℕ) → meaning_in meanings home name ≡ reading.numbers_of (map module_view modules.now) home name }
-    requires used { map (λ v. v.items) uses.now ≡ reading.uses_of_all (map module_view modules.now) }
-    ensures faultless { IfOk result (λ _. AreFaultless (map module_view modules.now)) }
-    ensures modules { IfOk result (λ names. modules_of names ≡ map module_view modules.now) }
-    ensures refused { IfErr result (λ f. IfSome (named f) (IsFirstFault (map module_view modules.now))) }
-{
-    check_recursion(alloc, modules, uses)?;
-    Ok(Names::of(alloc, modules, meanings, uses)?)
+    check_recursion(alloc, modules, &uses)?;
+    Ok(Names::of(alloc, modules, meanings, &uses)?)
 }
 
 /// What the declared names mean, and which definitions each definition uses.
@@ -74,23 +56,8 @@ fn meanings_and_uses<'a>(
     let declared = declarations(alloc, modules)?;
     let table = Table::of(alloc, &declared)?;
     check_imports(modules, &declared, &table)?;
-    by_table(alloc, modules, &declared, &table)
-}
-
-/// The same by where the declared names come from. Of the faults of names, one that is undefined is left.
-fn by_table<'a>(
-    alloc: Global,
-    modules: &[Module<'a>],
-    declared: &[Declaration<'a>],
-    table: &Table<'a>,
-) -> Result<(Meanings<'a>, Vec<Vec<Id>>), NameFault>
-    requires { (scope : Option (List ℕ)) (name : List ℕ) → origin_in table.now scope name ≡ origin_there (map declaration_view declared.now) scope name }
-    ensures meant { IfOk result (λ p. (home name : List ℕ) → meaning_in p.0 home name ≡ definition_of (origin_in table.now) home name) }
-    ensures used { IfOk result (λ p. reading.listed_uses p.1 ≡ flat_map (reading.used_in_module (definition_of (origin_in table.now))) (map module_view modules.now)) }
-    ensures refused { Gives reading.nothing named result (reading.refused_at fault.Undefined (first_found (undefined_in (origin_in table.now) (definition_of (origin_in table.now))) (map module_view modules.now))) }
-{
-    let meanings = Meanings::of(alloc, declared, table)?;
-    let uses = uses(alloc, modules, table, &meanings)?;
+    let meanings = Meanings::of(alloc, &declared, &table)?;
+    let uses = uses(alloc, modules, &table, &meanings)?;
     Ok((meanings, uses))
 }
 

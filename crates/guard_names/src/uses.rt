@@ -55,15 +55,15 @@ fn check_exports<'a>(
 
 fn add_uses<'a>(
     alloc: Global,
-    tree: &Module<'a>,
+    module: &Module<'a>,
     meanings: &Meanings<'a>,
     into: &mut Vec<Vec<Id>>,
 ) -> Result<(), NameFault>
-    ensures found { OnOk result (listed_uses into.new ≡ listed_uses into.old ++ used_in_module (meaning_in meanings.now) (module_view tree.now)) }
-    ensures refused { Gives nothing faults.named result (refused_at fault.Undefined (faults.first_found (faults.undefined_mention_in (meaning_in meanings.now) tree.now.name.now) (map assignment_view tree.now.assignments.items))) }
+    ensures found { OnOk result (listed_uses into.new ≡ listed_uses into.old ++ used_in_module (meaning_in meanings.now) (module_view module.now)) }
+    ensures refused { Gives nothing faults.named result (refused_at fault.Undefined (faults.first_found (faults.undefined_mention_in (meaning_in meanings.now) module.now.name.now) (map assignment_view module.now.assignments.items))) }
 {
-    for assignment in &tree.assignments {
-        let used = uses_of(alloc, tree.name, assignment, meanings)?;
+    for assignment in &module.assignments {
+        let used = uses_of(alloc, module.name, assignment, meanings)?;
         into.push(used)?;
     }
     Ok(())

@@ -1,8 +1,6 @@
 -- The reason is to pass exactly where the message goes.
 use Rattle.std.proofs.Common.{◌≡◌, ℕ, List, [], ◌∷◌, Bool, true, false, ◌&&◌, not, cond, Option, Some, None, refl, ap, sym, ◌∙◌, inl, inr}
-use Rattle.std.specs.Prelude.{IsTrue}
 use Rattle.std.specs.List.{list_all}
-use Rattle.guard_der.specs.Fits.{fits}
 use Rattle.guard_model.specs.AbstractType.{AbstractType}
 use Rattle.guard_model.specs.AbstractValue.{AbstractValue}
 use Rattle.guard_eval.specs.Member.{is_member}
@@ -57,20 +55,20 @@ record Passes (t : AbstractType) (rules : List NumberedRule) (v : AbstractValue)
   is_allowed : some_allows rules v ≡ true
   is_undenied : none_denies rules v ≡ true
 
-judged_pass : (t : AbstractType) (rules : List NumberedRule) (v : AbstractValue) → IsTrue (fits t v) → judged t rules v ≡ pass → Passes t rules v
+judged_pass : (t : AbstractType) (rules : List NumberedRule) (v : AbstractValue) → judged t rules v ≡ pass → Passes t rules v
 unfolding is_no_number
-judged_pass t rules v fitting e =
+judged_pass t rules v e =
     let a = inside (violation t v) (by_rules rules v) e in
     let b = undenied (first_denying rules v) (by_allowing rules v) a.1 in
     record {
-      is_inside = sym (type_clear t v fitting) ∙ ap is_clear a.0;
+      is_inside = sym (type_clear t v) ∙ ap is_clear a.0;
       is_allowed = allowed (some_allows rules v) (some_allowing rules) (shortfalls rules v) b.1;
       is_undenied = none_denies-first rules v ∙ ap is_no_number b.0;
     }
 
-passes_judged : (t : AbstractType) (rules : List NumberedRule) (v : AbstractValue) → IsTrue (fits t v) → Passes t rules v → judged t rules v ≡ pass
-passes_judged t rules v fitting p =
-    let a : violation t v ≡ None = none_of (violation t v) (type_clear t v fitting ∙ p.is_inside) in
+passes_judged : (t : AbstractType) (rules : List NumberedRule) (v : AbstractValue) → Passes t rules v → judged t rules v ≡ pass
+passes_judged t rules v p =
+    let a : violation t v ≡ None = none_of (violation t v) (type_clear t v ∙ p.is_inside) in
     let b : first_denying rules v ≡ None = no_number_of (first_denying rules v) (sym (none_denies-first rules v) ∙ p.is_undenied) in
     ap (λ x. elim x [ Some w ↦ outside_type w | None ↦ by_rules rules v ]) a
     ∙ ap (λ x. elim x [ Some i ↦ denied_by i | None ↦ by_allowing rules v ]) b
@@ -80,12 +78,12 @@ pub passes_from_goes : (p : AbstractPolicy) (route : AbstractRoute) (octets : Li
 unfolding none_denies
 passes_from_goes p route octets (t, v, declared, fitting, encoded, is_in, some, none) =
     let q : Passes t (rules_of p route) v = record { is_inside = is_in; is_allowed = some; is_undenied = none } in
-    inr (t, declared, inr (v, fitting, encoded, sym (passes_judged t (rules_of p route) v fitting q)))
+    inr (t, declared, inr (v, fitting, encoded, sym (passes_judged t (rules_of p route) v q)))
 
 pub goes_from_passes : (p : AbstractPolicy) (route : AbstractRoute) (octets : List ℕ) → IsReason p route octets pass → Goes p route octets
 unfolding none_denies
 goes_from_passes p route octets (inl x) = absurd (let e = x.1 in cc)
 goes_from_passes p route octets (inr (t, declared, inl (b, broken, e))) = absurd cc
 goes_from_passes p route octets (inr (t, declared, inr (v, fitting, encoded, e))) =
-    let q = judged_pass t (rules_of p route) v fitting (sym e) in
+    let q = judged_pass t (rules_of p route) v (sym e) in
     (t, v, declared, fitting, encoded, q.is_inside, q.is_allowed, q.is_undenied)

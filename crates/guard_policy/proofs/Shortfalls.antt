@@ -1,8 +1,6 @@
 -- The allowing rules that fall short, gathered one by one.
 use Rattle.std.proofs.Common.{◌≡◌, ℕ, ◌+◌, ◌++◌, List, [], ◌∷◌, Bool, true, false, ◌||◌, ◌&&◌, cond, Some, None, refl, ap, sym, ◌∙◌, append_assoc, subst, inl, inr}
-use Rattle.std.specs.Prelude.{IsTrue}
 use Rattle.std.specs.List.{list_any}
-use Rattle.guard_der.specs.Fits.{fits}
 use Rattle.std.proofs.lemmas.List.{append-nil}
 use Rattle.guard_model.specs.AbstractValue.{AbstractValue}
 use Rattle.guard_eval.specs.Member.{is_member}
@@ -63,9 +61,9 @@ shortfalls-more r rs v w e h =
     ap (λ x. elim x [ None ↦ shortfalls rs v | Some u ↦ cond (is_allowing r.rule) ((r.number, u) ∷ shortfalls rs v) (shortfalls rs v) ]) h ∙ rw e refl
 
 pub falls_short : (all : List NumberedRule) (r : NumberedRule) (rs : List NumberedRule) (v : AbstractValue) (found : List (ℕ × AbstractViolation)) (w : AbstractViolation)
-    → is_allowing r.rule ≡ true → IsTrue (fits r.rule.ty v) → violation r.rule.ty v ≡ Some w → Gathered all (r ∷ rs) v found → Gathered all rs v (found ++ (r.number, w) ∷ [])
-falls_short all r rs v found w e fitting h g =
-    let outside : is_member r.rule.ty v ≡ false = sym (type_clear r.rule.ty v fitting) ∙ ap is_clear h in
+    → is_allowing r.rule ≡ true → violation r.rule.ty v ≡ Some w → Gathered all (r ∷ rs) v found → Gathered all rs v (found ++ (r.number, w) ∷ [])
+falls_short all r rs v found w e h g =
+    let outside : is_member r.rule.ty v ≡ false = sym (type_clear r.rule.ty v) ∙ ap is_clear h in
     record {
       allowed = subst (λ b. ((b && false) || some_allows rs v) ≡ some_allows all v) e (subst (λ b. ((is_allowing r.rule && b) || some_allows rs v) ≡ some_allows all v) outside g.allowed);
       found_all = append_assoc found ((r.number, w) ∷ []) (shortfalls rs v) ∙ ap (λ (s : List (ℕ × AbstractViolation)). found ++ s) (sym (shortfalls-more r rs v w e h)) ∙ g.found_all;
@@ -74,9 +72,9 @@ falls_short all r rs v found w e fitting h g =
     }
 
 pub passes : (all : List NumberedRule) (r : NumberedRule) (rs : List NumberedRule) (v : AbstractValue) (found : List (ℕ × AbstractViolation))
-    → is_allowing r.rule ≡ true → IsTrue (fits r.rule.ty v) → violation r.rule.ty v ≡ None → Gathered all (r ∷ rs) v found → by_allowing all v ≡ pass
-passes all r rs v found e fitting h g =
-    let inside : is_member r.rule.ty v ≡ true = sym (type_clear r.rule.ty v fitting) ∙ ap is_clear h in
+    → is_allowing r.rule ≡ true → violation r.rule.ty v ≡ None → Gathered all (r ∷ rs) v found → by_allowing all v ≡ pass
+passes all r rs v found e h g =
+    let inside : is_member r.rule.ty v ≡ true = sym (type_clear r.rule.ty v) ∙ ap is_clear h in
     let some : some_allows all v ≡ true = sym g.allowed ∙ ap (λ b. (b && is_member r.rule.ty v) || some_allows rs v) e ∙ ap (λ b. b || some_allows rs v) inside in
     rw some refl
 
@@ -107,20 +105,20 @@ goes_on_past all route v found rules rest i r is e g =
 
 -- the loop keeps a shortfall
 pub goes_on_with : (all : List NumberedRule) (route : AbstractRoute) (v : AbstractValue) (found : List (ℕ × AbstractViolation)) (rules rest : List AbstractRule) (i : ℕ) (r : AbstractRule) (w : AbstractViolation)
-    → rules ≡ r ∷ rest → (speaks_of route r && is_allowing r) ≡ true → IsTrue (fits r.ty v) → violation r.ty v ≡ Some w
+    → rules ≡ r ∷ rest → (speaks_of route r && is_allowing r) ≡ true → violation r.ty v ≡ Some w
     → Gathered all (speaking route i rules) v found → Gathered all (speaking route (i + 1) rest) v (found ++ (i, w) ∷ [])
-goes_on_with all route v found rules rest i r w is e fitting h g =
+goes_on_with all route v found rules rest i r w is e h g =
     let q = and_parts (speaks_of route r) (is_allowing r) e in
     let here : Gathered all (speaking route i (r ∷ rest)) v found = subst (λ (rs : List AbstractRule). Gathered all (speaking route i rs) v found) is g in
-    falls_short all (record { number = i; rule = r }) (speaking route (i + 1) rest) v found w q.1 fitting h
+    falls_short all (record { number = i; rule = r }) (speaking route (i + 1) rest) v found w q.1 h
     (subst (λ (rs : List NumberedRule). Gathered all rs v found) (speaking-there route i r rest q.0) here)
 
 -- the loop ends at a rule that allows
 pub ends_with : (all : List NumberedRule) (route : AbstractRoute) (v : AbstractValue) (found : List (ℕ × AbstractViolation)) (rules rest : List AbstractRule) (i : ℕ) (r : AbstractRule)
-    → rules ≡ r ∷ rest → (speaks_of route r && is_allowing r) ≡ true → IsTrue (fits r.ty v) → violation r.ty v ≡ None
+    → rules ≡ r ∷ rest → (speaks_of route r && is_allowing r) ≡ true → violation r.ty v ≡ None
     → Gathered all (speaking route i rules) v found → by_allowing all v ≡ pass
-ends_with all route v found rules rest i r is e fitting h g =
+ends_with all route v found rules rest i r is e h g =
     let q = and_parts (speaks_of route r) (is_allowing r) e in
     let here : Gathered all (speaking route i (r ∷ rest)) v found = subst (λ (rs : List AbstractRule). Gathered all (speaking route i rs) v found) is g in
-    passes all (record { number = i; rule = r }) (speaking route (i + 1) rest) v found q.1 fitting h
+    passes all (record { number = i; rule = r }) (speaking route (i + 1) rest) v found q.1 h
     (subst (λ (rs : List NumberedRule). Gathered all rs v found) (speaking-there route i r rest q.0) here)

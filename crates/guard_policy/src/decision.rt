@@ -40,7 +40,6 @@ pub fn judge(
 
 /// The number of the first rule of the route that denies the value.
 fn first_denying_rule(rules: &[Rule], route: &Route, value: &Value) -> Option<usize>
-    requires { AreApplicable (route_view route.now) (value_view value.now) (map rule_view rules.now) }
     ensures { result ≡ first_denying (speaking (route_view route.now) 0 (map rule_view rules.now)) (value_view value.now) }
 {
     for (number, rule) in rules.iter().enumerate() {
@@ -78,8 +77,6 @@ fn judge_by_allowing(
 }
 
 fn rule_denies(rule: &Rule, value: &Value) -> bool
-    requires sound { IsTrue (is_sound (type_view rule.now.ty)) }
-    requires fits { IsTrue (fits (type_view rule.now.ty) (value_view value.now)) }
     ensures { result ≡ denies (rule_view rule.now) (value_view value.now) }
 {
     rule.effect == Effect::Deny && member(&rule.ty, value)

@@ -10,7 +10,6 @@ use Rattle.std.proofs.lemmas.List.Elements.{All-from_recursion}
 use Rattle.std.proofs.lemmas.List.{append-nil}
 use Rattle.std.proofs.lemmas.Map.Keys.{IsDistinct-push}
 use Rattle.guard_model.specs.declared.site.Site.{Site}
-use Rattle.guard_model.specs.declared.tag.Tag.{Tag as ModelTag}
 use Rattle.guard_tagcheck.specs.Limits.{nesting, is_formed, keeps_limits, parts_keep_limits, components_keep_limits, is_within_limits}
 use Rattle.guard_tagcheck.specs.Search.{first_clash}
 use Rattle.guard_tagcheck.specs.Distinct.{AbstractClash}
@@ -19,7 +18,7 @@ use Rattle.guard_model.specs.AbstractType.{Components}
 use Rattle.guard_syntax.specs.declared.tree.PlainType.{PlainType}
 use Rattle.guard_syntax.specs.declared.tree.PlainType.TheVariants as plain_type
 use Rattle.guard_syntax.specs.declared.tree.Collection.TheVariants as collection
-use Rattle.guard_der.specs.Sound.{is_proper, is_proper_presence, are_proper, are_proper_constraints, none_clash, is_sound}
+use Rattle.guard_der.specs.Sound.{is_proper, is_proper_presence, are_proper, all_apply, none_clash, is_sound}
 use Rattle.guard_schema.specs.Basic.{BasicRange, BasicType, type_node, BasicBase, plain, integer, structure, choice, of_type, BasicComponents, no_components, component, BasicAssignment}
 use Rattle.guard_schema.specs.Faults.{Tag, Clash, Cons}
 use Rattle.guard_schema.specs.declared.tagging.TagFault.{TagFault}
@@ -116,9 +115,9 @@ mutual
 pub within : (before : ℕ) (t : BasicType) → tag_fault before t ≡ None → is_within_limits (denoted t) ≡ true
 within before t e = let h = limits_kept before t e in and_from _ _ h.0 (le-leb (nesting (denoted t)) 32 h.1)
 
-all_ranges : (tags : List ModelTag) (cons : type.Constraints) (rs : List BasicRange) → are_proper_constraints (denoted_ranges rs) (type.type_of tags (type.integer []) cons) ≡ true
-all_ranges tags cons [] = refl
-all_ranges tags cons (r ∷ rs) = all_ranges tags cons rs
+all_ranges : (rs : List BasicRange) → all_apply (type.integer []) (denoted_ranges rs) ≡ true
+all_ranges [] = refl
+all_ranges (r ∷ rs) = all_ranges rs
 
 presence_proper : (t : type.AbstractType) (optional : Bool) → is_proper_presence t (presence_of optional) ≡ true
 presence_proper t true = refl
@@ -130,7 +129,7 @@ keeping a b c e f = let p = and_parts a b e in and_from a c p.0 (f p.1)
 mutual
   proper : (t : BasicType) → keeps_limits (denoted t) ≡ true → is_proper (denoted t) ≡ true
   proper (type_node site (plain p)) limits = proper_plain p
-  proper (type_node site (integer rs)) limits = and_from _ _ (all_ranges _ _ rs) refl
+  proper (type_node site (integer rs)) limits = and_from _ _ (all_ranges rs) refl
   proper (type_node site (structure collection.Sequence cs)) limits =
       keeping (leb (component_count (denoted_components cs)) 64) (components_keep_limits (denoted_components cs)) (are_proper (denoted_components cs)) limits (λ kept. proper_each cs kept)
   proper (type_node site (structure collection.Set cs)) limits =

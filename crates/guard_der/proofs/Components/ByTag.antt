@@ -1,6 +1,6 @@
 -- Components that are read lawfully, one by one and by their tags.
 use Rattle.std.proofs.Common.{◌≡◌, ℕ, zero, suc, ◌+◌, ◌<◌, ◌≤◌, Bool, true, false, cond, [], ◌∷◌, Some, refl, sym, ap, subst, ◌∙◌, arith, inl, inr}
-use Rattle.std.specs.Prelude.{◌||◌, max}
+use Rattle.std.specs.Prelude.{◌||◌, not, max}
 use Rattle.std.proofs.Math.Nat.{le-max_left, le-max_right}
 use Rattle.std.proofs.lemmas.Bool.{cond-true, cond-false, and_parts, or_parts, or_from, false≢true, not-true}
 use Rattle.guard_model.specs.declared.tag.Tag.{Tag}

@@ -1,8 +1,11 @@
 -- An element at the front of octets.
-use Rattle.std.proofs.Common.{◌≡◌, ℕ, ◌+◌, ◌<◌, ◌^◌, Bool, true, false, ltb, List, ◌++◌, length, take, drop, Some, None, Ok, refl, sym, ap, ◌∙◌, append_assoc, arith, inl, inr}
-use Rattle.std.proofs.lemmas.Bool.{cond-true, lt-ltb, ltb-true, false≢true, true≢false}
+use Rattle.std.proofs.Common.{◌≡◌, ℕ, ◌+◌, ◌<◌, ◌^◌, Bool, true, false, ltb, eqb, List, ◌++◌, length, take, drop, Some, None, Ok, refl, sym, ap, ◌∙◌, append_assoc, arith, inl, inr}
+use Rattle.std.proofs.lemmas.Bool.{cond-true, lt-ltb, ltb-true, eqb-true, eq-eqb, and_parts, and_from, false≢true, true≢false}
 use Rattle.std.specs.Prelude.{◌≢◌}
 use Rattle.std.proofs.lemmas.List.{length-append, length-take, take_at, drop_at, take-append-drop}
+use Rattle.guard_model.specs.Tags.{class_rank, same_tag}
+use Rattle.guard_model.specs.declared.tag.Class.{Class}
+use Rattle.guard_model.specs.declared.tag.Class.TheVariants.{Universal, Application, Context, Private}
 use Rattle.guard_model.specs.declared.tag.Tag.{Tag}
 use Rattle.guard_der.specs.Element.{identifier_octets, length_octets, element}
 use Rattle.guard_der.specs.Head.{Head, head_of}

@@ -2,7 +2,7 @@
 use Rattle.std.proofs.Common.{◌≡◌, ℕ, suc, ◌+◌, Bool, true, false, cond, eqb, List, [], ◌∷◌, length, Option, Some, None, Result, Ok, Err, refl, sym, ap, ◌∙◌, inl, inr, arith}
 use Rattle.std.specs.Prelude.{◌⊎◌}
 use Rattle.std.proofs.lemmas.Bool.{ne_eqb}
-use Rattle.guard_model.specs.Answer.{◌>>=◌}
+use Rattle.guard_model.specs.Answer.{◌>>=◌, Refuses}
 use Rattle.guard_model.specs.declared.site.Step.{Step}
 use Rattle.guard_model.specs.declared.tag.Tag.{Tag}
 use Rattle.guard_der.specs.declared.breach.Code.{Code}

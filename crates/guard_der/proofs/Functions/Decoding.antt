@@ -1,6 +1,6 @@
 -- What the steps of decoding give.
 use Rattle.std.proofs.Common.{◌≡◌, ℕ, zero, suc, ◌+◌, ◌-◌, ◌<◌, ◌≤◌, Bool, true, false, cond, eqb, List, [], ◌∷◌, length, take, drop, get_or, map, Option, Some, None, Result, Ok, Err, refl, sym, ap, subst, ◌∙◌, arith}
-use Rattle.std.specs.Prelude.{◌&&◌, nat_le, max, option_map}
+use Rattle.std.specs.Prelude.{◌&&◌, not, nat_le, max, option_map}
 use Rattle.std.proofs.lemmas.Bool.{and_parts, and_from, cond-true, cond-false, eqb-true, leb-true}
 use Rattle.std.proofs.lemmas.List.{length-take, length-drop, length-map, take_all}
 use Rattle.std.proofs.Math.Nat.{le-max_left, le-max_right}
@@ -18,12 +18,18 @@ use Rattle.guard_model.specs.declared.ty.Comp.{Comp}
 use Rattle.guard_model.specs.declared.ty.Kind.TheViews.{out-Ty, out-Comp}
 use Rattle.guard_tagcheck.specs.FirstTags.{begins_with}
 use Rattle.guard_tagcheck.specs.Limits.{nesting, nesting_inside, deepest, is_tagged, are_low}
+use Rattle.guard_model.specs.ValueView.{value_view, value_step}
+use Rattle.guard_model.specs.declared.value.Value.{Value}
+use Rattle.guard_model.specs.declared.value.Value.TheFolds.{fold-roll-Value}
+use Rattle.guard_model.specs.declared.value.Value.TheVariants as values
+use Rattle.guard_model.specs.declared.value.Value.TheVariants.{rolls-Chosen}
+use Rattle.guard_model.specs.declared.value.Value.TheOpen.{Value-F}
 use Rattle.guard_model.specs.declared.ty.Kind.{Kind, Sequence, Choice}
-use Rattle.std.specs.Global.{Vec}
+use Rattle.std.specs.Global.{Vec, Box}
 use Rattle.guard_der.specs.declared.breach.Code.TheVariants as code
 use Rattle.guard_der.specs.Head.{Head, head_of}
 use Rattle.guard_der.specs.Der.{is_constructed, is_left_out}
-use Rattle.guard_der.specs.Sound.{is_proper, is_proper_kind, are_proper, is_proper_presence, are_proper_constraints}
+use Rattle.guard_der.specs.Sound.{is_proper, is_proper_kind, are_proper, is_proper_presence, all_apply}
 use Rattle.guard_der.specs.Breach.{AbstractBreach, one_with, below}
 use Rattle.guard_der.specs.Reading.{Reader, due_at, element_at, untagged_at, contents_at, part_at, chosen_at, alone_at, tags_at, framed, message_of, component_at, sent_at, not_sent, missing_at, inside, fault, located, same_form}
 use Rattle.guard_der.proofs.Elements.Steps.{due_ok}
@@ -47,8 +53,8 @@ due_room wanted at os h digits e = head_room os h digits (due_ok wanted at os h 
 
 parts_of_type : (t : AbstractType) (tags : List Tag) (kind : AbstractKind) (cons : Constraints) → t ≡ type_of tags kind cons → is_proper t ≡ true → ((is_tagged tags kind && are_low tags) ≡ true) × (is_proper_kind kind ≡ true)
 parts_of_type t tags kind cons is e =
-    let p = and_parts ((is_tagged tags kind && are_low tags) && are_proper_constraints cons (type_of tags kind cons)) (is_proper_kind kind) (rw is at e) in
-    ((and_parts (is_tagged tags kind && are_low tags) (are_proper_constraints cons (type_of tags kind cons)) p.0).0, p.1)
+    let p = and_parts ((is_tagged tags kind && are_low tags) && all_apply kind cons) (is_proper_kind kind) (rw is at e) in
+    ((and_parts (is_tagged tags kind && are_low tags) (all_apply kind cons) p.0).0, p.1)
 
 pub view_proper : (ty : Ty) → is_proper (type_view ty) ≡ true → is_proper (whole (out-Ty ty).tags.items (kind_view (out-Ty ty).kind)) ≡ true
 view_proper ty proper =

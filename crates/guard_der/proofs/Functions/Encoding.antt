@@ -4,9 +4,10 @@ use Rattle.std.specs.Prelude.{IsTrue, string_bytes}
 use Rattle.std.specs.Global.{Vec, Box}
 use Rattle.guard_model.specs.Answer.{Refuses}
 use Rattle.guard_model.specs.AbstractType.{AbstractType, AbstractPresence, Components, component}
-use Rattle.guard_model.specs.AbstractValue.{AbstractValue, fields_of}
+use Rattle.guard_model.specs.AbstractValue as value
+use Rattle.guard_model.specs.AbstractValue.{AbstractValue, Fields, fields_of}
 use Rattle.guard_model.specs.TypeView.{OneComponent, type_view, kind_view, component_view, components_of, presence_view}
-use Rattle.guard_model.specs.ValueView.{value_view, field_view, fields_view, items_view}
+use Rattle.guard_model.specs.ValueView.{value_view, value_step, field_view, fields_view, items_view}
 use Rattle.guard_model.specs.declared.tag.Tag.{Tag}
 use Rattle.guard_model.specs.declared.ty.Ty.{Ty}
 use Rattle.guard_model.specs.declared.ty.Comp.{Comp}
@@ -18,6 +19,8 @@ use Rattle.guard_model.specs.declared.ty.Kind.{Kind, Sequence, Set, SequenceOf, 
 use Rattle.guard_model.specs.declared.value.Value.{Value}
 use Rattle.guard_model.specs.declared.value.Value.TheVariants as variant
 use Rattle.guard_model.specs.declared.value.Value.TheVariants.{rolls-Items}
+use Rattle.guard_model.specs.declared.value.Value.TheFolds.{fold-roll-Value}
+use Rattle.guard_model.specs.declared.value.Value.TheOpen.{Value-F}
 use Rattle.guard_model.proofs.ValueViews.{value_view_fields, value_view_items}
 use Rattle.guard_der.specs.Der.{Part, der, contents_octets, parts_of, part_unless, is_left_out, outermost, item_encodings, ◌>>=◌}
 use Rattle.guard_der.specs.Fits.{fits_kind, fits_fields, fits_field}

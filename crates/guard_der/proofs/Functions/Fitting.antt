@@ -2,10 +2,10 @@
 use Rattle.std.proofs.Common.{◌≡◌, ℕ, suc, ◌+◌, ◌<◌, ◌≤◌, Bool, true, false, List, [], ◌∷◌, length, drop, get_or, map, Option, Some, None, refl, sym, ap, ◌∙◌, arith}
 use Rattle.std.specs.Prelude.{◌&&◌, string_bytes}
 use Rattle.std.specs.Global.{Vec, Box}
-use Rattle.std.proofs.lemmas.Bool.{le-leb, lt-leb}
+use Rattle.std.proofs.lemmas.Bool.{le-leb, lt-leb, false≢true}
 use Rattle.std.proofs.lemmas.List.{drop_all, length-map}
 use Rattle.guard_model.specs.AbstractType.{AbstractType, AbstractPresence, Components, component}
-use Rattle.guard_model.specs.AbstractValue.{AbstractValue, fields_of}
+use Rattle.guard_model.specs.AbstractValue.{AbstractValue, fields_of, items_of}
 use Rattle.guard_model.specs.TypeView.{OneComponent, type_view, kind_view, component_view, components_of, presence_view}
 use Rattle.guard_model.specs.ValueView.{value_view, field_view, fields_view, items_view}
 use Rattle.guard_model.specs.declared.ty.Ty.{Ty}

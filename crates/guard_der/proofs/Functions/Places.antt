@@ -1,9 +1,19 @@
 -- What a type stands for, one level at a time, and components one after the other.
-use Rattle.std.proofs.Common.{◌≡◌, ℕ, zero, suc, ◌<◌, ◌≤◌, List, [], ◌∷◌, length, get_or, ap, ◌∙◌, map, arith}
-use Rattle.guard_model.specs.AbstractType.{AbstractType, AbstractPresence, Components, no_components, component}
-use Rattle.guard_model.specs.TypeView.{OneComponent, type_view, component_view, components_of}
-use Rattle.guard_model.specs.declared.ty.Kind.TheViews.{out-Comp}
+use Rattle.std.proofs.Common.{◌≡◌, ℕ, zero, suc, ◌+◌, ◌<◌, ◌≤◌, List, [], ◌∷◌, length, drop, get_or, sym, ap, ◌∙◌, map, add-one, arith}
+use Rattle.std.proofs.Math.Seq.{drop-cons}
+use Rattle.std.proofs.lemmas.List.{drop_all}
+use Rattle.std.specs.Global.{Vec, Box}
+use Rattle.std.specs.Prelude.{string_bytes}
+use Rattle.guard_model.specs.AbstractType as type
+use Rattle.guard_model.specs.AbstractType.{AbstractType, AbstractKind, AbstractPresence, Components, no_components, component, Constraint, Element, type_of}
+use Rattle.guard_model.specs.TypeView.{OneComponent, OnePart, type_view, kind_view, component_view, constraints_of, components_of, constraint_view, presence_view, kind_step, rule_step, comp_step, cons_step, part_step, ty_step}
+use Rattle.guard_model.specs.declared.ty.Kind.TheFolds.{fold_out-Ty, fold_out-Comp, fold-roll-Kind}
+use Rattle.guard_model.specs.declared.ty.Kind.TheViews.{out-Ty, out-Comp}
+use Rattle.guard_model.specs.declared.ty.Kind.TheVariants.{rolls-Sequence, rolls-Set, rolls-Choice, rolls-SequenceOf, rolls-SetOf}
+use Rattle.guard_model.specs.declared.ty.Kind.TheOpen.{Kind-F}
+use Rattle.guard_model.specs.declared.ty.Ty.{Ty}
 use Rattle.guard_model.specs.declared.ty.Comp.{Comp}
+use Rattle.guard_model.specs.declared.ty.Kind.{Sequence, Set, Choice, SequenceOf, SetOf}
 use Rattle.guard_model.proofs.TypeViews.{component_view_is}
 
 -- ---- what is found at a place

@@ -7,7 +7,7 @@ use Rattle.guard_model.specs.Answer.{◌>>=◌, Refuses}
 use Rattle.guard_model.specs.AbstractType.{AbstractType, AbstractPresence, Components, no_components, component}
 use Rattle.guard_model.specs.AbstractValue as value
 use Rattle.guard_model.specs.AbstractValue.{AbstractValue, Fields, fields_of}
-use Rattle.guard_model.specs.TypeView.{type_view, presence_view}
+use Rattle.guard_model.specs.TypeView.{component_view, components_of, type_view, presence_view}
 use Rattle.guard_model.specs.ValueView.{value_view, field_view, fields_view}
 use Rattle.guard_model.specs.declared.value.Value.{Value}
 use Rattle.guard_model.specs.declared.ty.Comp.{Comp}

@@ -1,6 +1,6 @@
 -- A sound type keeps the limits that the check of tags asks for, and that check finds no clash in it.
-use Rattle.std.proofs.Common.{◌≡◌, Bool, true, false, Option, Some, None, Result, Ok, Err, refl, sym, ap, ◌∙◌, IsTrue}
-use Rattle.std.specs.Prelude.{◌&&◌, nat_le, IfOk}
+use Rattle.std.proofs.Common.{◌≡◌, Bool, true, false, Option, Some, None, refl, sym, ap}
+use Rattle.std.specs.Prelude.{◌&&◌, nat_le}
 use Rattle.std.proofs.lemmas.Bool.{and_parts, and_from, false≢true}
 use Rattle.guard_model.specs.AbstractType as type
 use Rattle.guard_model.specs.AbstractType.{AbstractType, AbstractKind, Components, type_of, no_components, component}
@@ -9,15 +9,15 @@ use Rattle.guard_tagcheck.specs.Distinct.{Distinct, IsClash, AbstractClash}
 use Rattle.guard_tagcheck.specs.Search.{first_clash}
 use Rattle.guard_tagcheck.proofs.Clashes.{type_none, type_some}
 use Rattle.guard_tagcheck.proofs.OneClash.{not_distinct}
-use Rattle.guard_der.specs.Sound.{is_sound, is_proper, is_proper_kind, are_proper, is_proper_presence, are_proper_constraints, none_clash}
+use Rattle.guard_der.specs.Sound.{is_sound, is_proper, is_proper_kind, are_proper, is_proper_presence, all_apply, none_clash}
 use Rattle.guard_model.specs.Counts.{component_count}
 use Rattle.guard_model.specs.Components.{components_in}
 
 mutual
   proper_limits : (t : AbstractType) → is_proper t ≡ true → keeps_limits t ≡ true
   proper_limits (type_of tags kind cons) e =
-      let p = and_parts (is_tagged tags kind && are_low tags && are_proper_constraints cons (type_of tags kind cons)) (is_proper_kind kind) e in
-      let q = and_parts (is_tagged tags kind && are_low tags) (are_proper_constraints cons (type_of tags kind cons)) p.0 in
+      let p = and_parts (is_tagged tags kind && are_low tags && all_apply kind cons) (is_proper_kind kind) e in
+      let q = and_parts (is_tagged tags kind && are_low tags) (all_apply kind cons) p.0 in
       let r = and_parts (is_tagged tags kind) (are_low tags) q.0 in
       let k = kind_limits kind p.1 in
       and_from (is_formed tags kind) (every_part (λ tags kind. is_formed tags kind) kind) (and_from (is_tagged tags kind) (nat_le (component_count (components_in kind)) 64) r.0 k.0) k.1
@@ -80,30 +80,3 @@ by_both false keeps apart shallow e f = refl
 
 pub distinct_within : (t : AbstractType) → is_within_limits t ≡ true → Distinct t → is_proper t ≡ is_sound t
 distinct_within t within distinct = by_both (is_proper t) (keeps_limits t) (none_clash (first_clash t)) (nat_le (nesting t) 32) (apart_none t (first_clash t) refl distinct) within
-
--- ---- what is told of the tags
-
-all_apart : (t : AbstractType) (found : Option AbstractClash) → first_clash t ≡ found → none_clash found ≡ true → Distinct t
-all_apart t None e none = type_none t e
-all_apart t (Some c) e none = absurd (false≢true none)
-
-sound_distinct : (t : AbstractType) → is_sound t ≡ true → Distinct t
-sound_distinct t e =
-    let p = and_parts (is_proper t && none_clash (first_clash t)) (nat_le (nesting t) 32) e in
-    all_apart t (first_clash t) refl (and_parts (is_proper t) (none_clash (first_clash t)) p.0).1
-
-pub told_distinct : {E : Type 0} (t : AbstractType) (r : Result Bool E) → IfOk r (λ b. b ≡ is_sound t) → IfOk r (λ b. IsTrue b → Distinct t)
-told_distinct t (Ok b) e = λ h. sound_distinct t (sym e ∙ h)
-told_distinct t (Err f) e = tt
-
-distinct_sound : (t : AbstractType) → Distinct t → is_proper t ≡ true → nat_le (nesting t) 32 ≡ true → is_sound t ≡ true
-distinct_sound t distinct proper shallow =
-    and_from (is_proper t && none_clash (first_clash t)) (nat_le (nesting t) 32) (and_from (is_proper t) (none_clash (first_clash t)) proper (apart_none t (first_clash t) refl distinct)) shallow
-
-pub told_accepted : {E : Type 0} (t : AbstractType) (r : Result Bool E) → IfOk r (λ b. b ≡ is_sound t)
-    → IfOk r (λ b. Distinct t → IsTrue (is_proper t) → IsTrue (nat_le (nesting t) 32) → IsTrue b)
-told_accepted t (Ok b) e = λ distinct proper shallow. e ∙ distinct_sound t distinct proper shallow
-told_accepted t (Err f) e = tt
-
-pub sound_proper : (t : AbstractType) → is_sound t ≡ true → is_proper t ≡ true
-sound_proper t e = (and_parts (is_proper t) (none_clash (first_clash t)) (and_parts (is_proper t && none_clash (first_clash t)) (nat_le (nesting t) 32) e).0).0

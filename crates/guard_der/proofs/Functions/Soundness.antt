@@ -1,13 +1,14 @@
 -- The tests of a list of components, and of a default.
-use Rattle.std.proofs.Common.{◌≡◌, ℕ, ◌<◌, ◌≤◌, Bool, true, false, cond, List, length, map, Option, Some, None, Result, Ok, Err, refl, sym, ap, arith}
+use Rattle.std.proofs.Common.{◌≡◌, ℕ, suc, ◌<◌, ◌≤◌, Bool, true, false, cond, List, [], ◌∷◌, length, map, Option, Some, None, Result, Ok, Err, refl, sym, ap, ◌∙◌, arith}
 use Rattle.std.specs.Prelude.{◌&&◌, nat_le}
 use Rattle.std.proofs.lemmas.Bool.{le-leb, lt-leb}
-use Rattle.guard_model.specs.TypeView.{component_view, components_of}
+use Rattle.std.proofs.lemmas.List.{length-map}
+use Rattle.guard_model.specs.TypeView.{OneComponent, component_view, components_of}
 use Rattle.guard_model.specs.declared.ty.Comp.{Comp}
 use Rattle.guard_der.specs.declared.encoding.EncodeFault.{EncodeFault}
 use Rattle.guard_der.specs.declared.encoding.EncodeFault.TheVariants.{TooLong}
 use Rattle.guard_der.specs.Encoding.{limited}
-use Rattle.guard_der.specs.ProperConstraints.{is_short}
+use Rattle.guard_der.specs.Sound.{is_short}
 use Rattle.guard_model.specs.Counts.{component_count}
 use Rattle.guard_model.proofs.Components.{component_count_view}
 

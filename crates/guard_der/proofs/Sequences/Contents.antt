@@ -14,8 +14,7 @@ use Rattle.guard_der.specs.declared.breach.Code.TheVariants as code
 use Rattle.guard_der.specs.Head.{head_of}
 use Rattle.guard_der.specs.Der.{Part, der, outermost, parts_of, parts_joined, contents_octets, is_left_out, part_unless}
 use Rattle.guard_der.specs.Fits.{fits, fits_fields, may_be_absent}
-use Rattle.guard_der.specs.ProperConstraints.{is_short}
-use Rattle.guard_der.specs.Sound.{is_proper, is_proper_presence, are_proper}
+use Rattle.guard_der.specs.Sound.{is_proper, is_proper_presence, are_proper, is_short}
 use Rattle.guard_der.proofs.Components.DistinctTags.{differ, differs_from_next, optional_differ}
 use Rattle.guard_der.specs.Breach.{AbstractBreach, first_components, other_components, last_is_sent, here}
 use Rattle.guard_der.specs.Reading.{element_at, fields_at, end_at, component_at, not_sent, field_before, due_at}

@@ -11,8 +11,7 @@ use Rattle.guard_model.specs.AbstractValue.{AbstractValue, Fields}
 use Rattle.guard_model.proofs.Sameness.{equal_values, same_itself}
 use Rattle.guard_der.specs.Der.{Part, der, outermost, outermost_alternative, alternative_octets, parts_of, is_left_out, part_unless}
 use Rattle.guard_der.specs.Fits.{fits, fits_fields, fits_alternative, may_be_absent}
-use Rattle.guard_der.specs.ProperConstraints.{is_short}
-use Rattle.guard_der.specs.Sound.{is_proper, is_proper_presence, are_proper}
+use Rattle.guard_der.specs.Sound.{is_proper, is_proper_presence, are_proper, is_short}
 use Rattle.guard_der.specs.Breach.{AbstractBreach, fits_partly, is_sent, missing}
 use Rattle.guard_der.specs.Reading.{all_absent, is_filled, fill, presence_at, settled, completed, not_sent, missing_at, field_before}
 use Rattle.guard_der.proofs.Elements.Steps.{bind, option_parts}

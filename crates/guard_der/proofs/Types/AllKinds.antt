@@ -10,7 +10,7 @@ use Rattle.guard_tagcheck.specs.FirstTags.{one_begins_with}
 use Rattle.guard_tagcheck.specs.Limits.{nesting_inside, deepest, is_tagged, are_low}
 use Rattle.guard_der.specs.Der.{contents_octets, outermost_inside, is_constructed}
 use Rattle.guard_der.specs.Fits.{fits_kind}
-use Rattle.guard_der.specs.Sound.{is_proper, is_proper_kind, are_proper, is_proper_presence, are_proper_constraints}
+use Rattle.guard_der.specs.Sound.{is_proper, is_proper_kind, are_proper, is_proper_presence, all_apply}
 use Rattle.guard_der.proofs.Components.DistinctTags.{all_differ, no_pair, no_optional_pair, list_clash, part_clash}
 use Rattle.guard_tagcheck.specs.Search.{first_clash, clash_of_kind, clash_inside}
 use Rattle.guard_der.specs.Breach.{FaultInContents, FaultUntagged, FaultInChosen, FaultInPart}
@@ -62,13 +62,13 @@ mutual
 
   pub type_lawful : (t : AbstractType) → is_proper t ≡ true → first_clash t ≡ None → LawfulType t
   type_lawful (type_of (t ∷ ts) kind cons) e none =
-      let p = and_parts (is_tagged (t ∷ ts) kind && are_low (t ∷ ts) && are_proper_constraints cons (type_of (t ∷ ts) kind cons)) (is_proper_kind kind) e in
-      let q = and_parts (is_tagged (t ∷ ts) kind && are_low (t ∷ ts)) (are_proper_constraints cons (type_of (t ∷ ts) kind cons)) p.0 in
+      let p = and_parts (is_tagged (t ∷ ts) kind && are_low (t ∷ ts) && all_apply kind cons) (is_proper_kind kind) e in
+      let q = and_parts (is_tagged (t ∷ ts) kind && are_low (t ∷ ts)) (all_apply kind cons) p.0 in
       let r = and_parts (is_tagged (t ∷ ts) kind) (are_low (t ∷ ts)) q.0 in
       tagged_type t ts kind cons r.1 (kind_lawful kind p.1 none)
   type_lawful (type_of [] kind cons) e none =
-      let p = and_parts (is_tagged [] kind && are_low [] && are_proper_constraints cons (type_of [] kind cons)) (is_proper_kind kind) e in
-      let q = and_parts (is_tagged [] kind && are_low []) (are_proper_constraints cons (type_of [] kind cons)) p.0 in
+      let p = and_parts (is_tagged [] kind && are_low [] && all_apply kind cons) (is_proper_kind kind) e in
+      let q = and_parts (is_tagged [] kind && are_low []) (all_apply kind cons) p.0 in
       let r = and_parts (is_tagged [] kind) (are_low []) q.0 in
       untagged_lawful kind cons r.0 p.1 none
 

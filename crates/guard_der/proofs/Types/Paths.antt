@@ -15,7 +15,7 @@ use Rattle.guard_tagcheck.specs.Limits.{nesting, nesting_inside, deepest, is_tag
 use Rattle.guard_der.specs.declared.breach.Code.TheVariants as code
 use Rattle.guard_der.specs.Head.{Head}
 use Rattle.guard_der.specs.Der.{is_constructed}
-use Rattle.guard_der.specs.Sound.{is_proper, is_proper_kind, are_proper, is_proper_presence, are_proper_constraints}
+use Rattle.guard_der.specs.Sound.{is_proper, is_proper_kind, are_proper, is_proper_presence, all_apply}
 use Rattle.guard_der.specs.Breach.{AbstractBreach, one_with}
 use Rattle.guard_der.specs.Reading.{Reader, Body, due_at, element_at, untagged_at, contents_at, fields_at, part_at, end_at, component_at, chosen_at, items_at, item_alone, alone_at, tags_at, framed, ended, field_before, inside, fault, same_form, all_absent, set_at}
 use Rattle.guard_der.proofs.Elements.Steps.{due_path, inside_err}
@@ -108,11 +108,11 @@ mutual
 
   pub type_shallow : (t : AbstractType) → is_proper t ≡ true → Shallow (element_at t) (nesting t)
   type_shallow (type_of (t ∷ ts) kind cons) e at h os b read =
-      let p = and_parts (is_tagged (t ∷ ts) kind && are_low (t ∷ ts) && are_proper_constraints cons (type_of (t ∷ ts) kind cons)) (is_proper_kind kind) e in
+      let p = and_parts (is_tagged (t ∷ ts) kind && are_low (t ∷ ts) && all_apply kind cons) (is_proper_kind kind) e in
       tags_shallow t ts (is_constructed kind) (contents_at kind) (untagged_at kind) (nesting_inside kind) (kind_shallow kind p.1) at h os b read
   type_shallow (type_of [] kind cons) e at h os b read =
-      let p = and_parts (is_tagged [] kind && are_low [] && are_proper_constraints cons (type_of [] kind cons)) (is_proper_kind kind) e in
-      let q = and_parts (is_tagged [] kind && are_low []) (are_proper_constraints cons (type_of [] kind cons)) p.0 in
+      let p = and_parts (is_tagged [] kind && are_low [] && all_apply kind cons) (is_proper_kind kind) e in
+      let q = and_parts (is_tagged [] kind && are_low []) (all_apply kind cons) p.0 in
       let r = and_parts (is_tagged [] kind) (are_low []) q.0 in
       omega (arith, untagged_shallow kind r.0 p.1 at h os b read)
 

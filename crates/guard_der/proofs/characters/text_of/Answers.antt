@@ -1,4 +1,6 @@
-use Rattle.std.proofs.Common.{◌∙◌, sym}
+use Rattle.std.proofs.Common.{◌∙◌, sym, ap}
+use Rattle.std.specs.Str.{chars}
+use Rattle.guard_der.specs.Fits.{fits_characters}
 use Rattle.guard_der.proofs.Simple.Texts.{is_read, is_not_read, not_spelled}
 use Rattle.guard_der.proofs.characters.text_of.Goals as goal
 

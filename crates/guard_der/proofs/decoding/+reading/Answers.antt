@@ -11,6 +11,7 @@ use Rattle.guard_tagcheck.specs.FirstTags.{begins_with}
 use Rattle.guard_tagcheck.specs.Limits.{deepest}
 use Rattle.guard_der.specs.declared.breach.Code.TheVariants as code
 use Rattle.guard_der.specs.Head.{head_of}
+use Rattle.guard_der.specs.Der.{is_left_out as left_out}
 use Rattle.guard_der.specs.Breach.{below}
 use Rattle.guard_der.specs.Reading.{element_at, part_at, fields_at, contents_at, missing_at, fault, same_form}
 use Rattle.guard_der.specs.Views.{head_view, breach_of}

@@ -1,21 +1,8 @@
-use Rattle.std.proofs.Common.{◌≡◌, ◌∙◌, sym, subst, Bool, map}
-use Rattle.std.specs.Prelude.{IfOk}
-use Rattle.guard_model.specs.TypeView.{type_view, component_view, components_of}
+use Rattle.std.proofs.Common.{map, sym}
+use Rattle.guard_model.specs.TypeView.{component_view, components_of}
 use Rattle.guard_der.specs.Sound.{are_proper}
 use Rattle.guard_der.proofs.Functions.Soundness.{many_components, few_components}
-use Rattle.guard_der.proofs.Functions.SoundTypes.{outside_limits, has_clash, distinct_within}
 use Rattle.guard_der.proofs.sound_types.+proper.Goals as goal
-
-pub is_sound-returns-then-not-is_within_limits : goal.is_sound-returns-then-not-is_within_limits
-is_sound-returns-then-not-is_within_limits t c = outside_limits (type_view c.args.ty.now) (sym c.is_within_limits.ensures ∙ c.if-not-is_within_limits.true)
-
-pub is_sound-returns-in-Ok : goal.is_sound-returns-in-Ok
-is_sound-returns-in-Ok t c =
-    let same = distinct_within (type_view c.args.ty.now) (sym c.is_within_limits.ensures ∙ c.if-not-is_within_limits.false) c.in-Ok.ensures.distinct in
-    subst (λ (s : Bool). IfOk c.is_proper.result (λ b. b ≡ s)) same c.is_proper.ensures
-
-pub is_sound-returns-in-Err : goal.is_sound-returns-in-Err
-is_sound-returns-in-Err t c = has_clash (type_view c.args.ty.now) _ c.in-Err.ensures.clash
 
 pub list_is_proper-returns-then-comps-gt-MOST_COMPONENTS : goal.list_is_proper-returns-then-comps-gt-MOST_COMPONENTS
 list_is_proper-returns-then-comps-gt-MOST_COMPONENTS t c = many_components c.args.comps.now _ c.if-comps-gt-MOST_COMPONENTS.true

@@ -25,10 +25,7 @@ returns-in-None c = sym (ends_with (speaking (route_view c.args.route.now) 0 (ma
     (map shortfall_view c.loop-number.shortfalls.items) (map rule_view (drop c.loop-number.number c.args.rules.now)) (map rule_view (drop (c.loop-number.number + 1) c.args.rules.now))
     c.loop-number.number (rule_view c.index-rules-number.result)
     (left_is c.args.rules.now c.loop-number.number c.index-rules-number.result c.loop-number-test.true c.index-rules-number.is)
-    (sym c.rule_may_allow.ensures ∙ c.if-rule_may_allow.true)
-    ((applicable_at (route_view c.args.route.now) (value_view c.args.value.now) c.args.rules.now c.loop-number.number c.index-rules-number.result c.loop-number-test.true c.index-rules-number.is c.requires).1
-    (and_parts (speaks_of (route_view c.args.route.now) (rule_view c.index-rules-number.result)) (is_allowing (rule_view c.index-rules-number.result)) (sym c.rule_may_allow.ensures ∙ c.if-rule_may_allow.true)).0)
-    (sym c.in-None.ensures.first) c.loop-number.invariant)
+    (sym c.rule_may_allow.ensures ∙ c.if-rule_may_allow.true) (sym c.in-None.ensures) c.loop-number.invariant)
 
 pub loop-number-preserved : goal.loop-number-preserved
 loop-number-preserved c =
@@ -43,10 +40,7 @@ loop-number-preserved c =
       | then-rule_may_allow+in-Some+in_ok-push-in-Some w ↦
           rw (w.shortfalls-is, w.in_ok-push-in-Some.ensures.items, map_push shortfall_view c.loop-number.shortfalls.items)
           (goes_on_with all route v (map shortfall_view c.loop-number.shortfalls.items) left rest c.loop-number.number here (violation_view w.in-Some.violation) begins
-          (sym c.rule_may_allow.ensures ∙ w.if-rule_may_allow.true)
-          ((applicable_at route v c.args.rules.now c.loop-number.number c.index-rules-number.result c.loop-number-test.true c.index-rules-number.is c.requires).1
-          (and_parts (speaks_of route here) (is_allowing here) (sym c.rule_may_allow.ensures ∙ w.if-rule_may_allow.true)).0)
-          (sym w.in-Some.ensures.first) c.loop-number.invariant)
+          (sym c.rule_may_allow.ensures ∙ w.if-rule_may_allow.true) (sym w.in-Some.ensures) c.loop-number.invariant)
       | else-rule_may_allow w ↦
           rw w.shortfalls-is
           (goes_on_past all route v (map shortfall_view c.loop-number.shortfalls.items) left rest c.loop-number.number here begins

@@ -15,7 +15,7 @@ abbrev pub decreases-constraint : goal.decreases-constraint
 decreases-constraint l = 8 * l.depth
 
 abbrev pub decreases-constraints : goal.decreases-constraints
-decreases-constraints l = 8 * l.depth + 1
+decreases-constraints l = 8 * l.depth + 7
 
 abbrev pub decreases-element : goal.decreases-element
 decreases-element l = 8 * l.depth + 5

@@ -1,10 +1,6 @@
-use Rattle.std.proofs.Common.{◌≡◌, ◌+◌, ◌<◌, false, [], map, length, sym, ◌∙◌, ap, subst, arith, heap_items}
-use Rattle.std.specs.Prelude.{replicate}
-use Rattle.std.proofs.lemmas.List.{length-map, length-replicate}
-use Rattle.guard_names.specs.Order.{Follow}
-use Rattle.guard_names.specs.Queues.{UsesIn, AreFlags, Stands}
-use Rattle.guard_names.specs.QueueViews.{times_ready}
-use Rattle.guard_names.proofs.Settling.{from_on, one_settled, all_settled, no_flags, none_settled}
+use Rattle.std.proofs.Common.{◌≡◌, ◌+◌, ◌<◌, map, length, sym, ◌∙◌, arith}
+use Rattle.std.proofs.lemmas.List.{length-map}
+use Rattle.guard_names.proofs.Settling.{from_on, one_settled}
 use Rattle.guard_names.proofs.Queueing.{same_underway}
 use Rattle.guard_names.proofs.order.Queue.new.Goals as goal
 
@@ -19,32 +15,4 @@ loop-number-preserved c =
       stands = c.in_ok-settle.ensures.stands (from_on (c.loop-number.number + 1) (length us))
           (record { number = below; met = λ i h. absurd (omega (arith, h)) })
           (same_underway us _ _ _ _ c.loop-number.invariant.stands _ (λ k. sym (one_settled c.loop-number.number (length us) k below)));
-    }
-
-pub loop-number-init : goal.loop-number-init
-loop-number-init c =
-    let us = map (λ v. v.items) c.args.uses.now in
-    let count : length us ≡ length c.args.uses.now = length-map c.args.uses.now (λ v. v.items) in
-    let flags_are = c.in_ok-vec.ensures.items_if_clones_equal (λ y h. h) ∙ ap (λ n. replicate n false) (sym count) in
-    let rows_are = c.in_ok-empty_lists.ensures ∙ ap (λ n. replicate n []) (sym count) in
-    record {
-      order = c.new.ensures.items;
-      sized = record {
-        flags = subst (AreFlags us c.in_ok-vec.field-0.items) (sym c.new.ensures.items) (no_flags us c.in_ok-vec.field-0.items flags_are);
-        waiting = sym (length-map c.in_ok-empty_lists.field-0.items (λ v. v.items)) ∙ ap length rows_are ∙ length-replicate (length us) [];
-      };
-      stands = subst (λ x. Stands us x (times_ready (heap_items c.new-2.result)) (map (λ v. v.items) c.in_ok-empty_lists.field-0.items) (from_on 0 (length us))) (sym c.new.ensures.items)
-          (none_settled us _ _ rows_are (λ k. ap (λ x. times_ready x k) c.new-2.ensures.items));
-    }
-
-pub returns : goal.returns
-returns c =
-    let us = map (λ v. v.items) c.args.uses.now in
-    let count : length us ≡ length c.args.uses.now = length-map c.args.uses.now (λ v. v.items) in
-    let inv = c.loop-number.invariant in
-    let at_end : length us ≡ c.loop-number.number = omega (arith, count) in
-    record {
-      sized = inv.sized;
-      stands = same_underway us _ _ _ _ inv.stands (λ _. 0) (λ k. sym (subst (λ n. from_on n (length us) k ≡ 0) at_end (all_settled (length us) k)));
-      follow = subst (Follow (length us) (UsesIn us) []) (sym inv.order) tt;
     }

@@ -10,6 +10,6 @@ mod Components
 mod Sequences
 mod Sets
 mod Lists
-mod Types
+pub mod Types
 -- ---- the code
 mod Functions

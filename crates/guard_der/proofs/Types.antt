@@ -3,3 +3,4 @@ pub mod Choice
 pub mod AllKinds
 pub mod Paths
 pub mod Messages
+pub mod BareTypes

@@ -1,0 +1,18 @@
+-- ---- what single values say
+pub mod Numbers
+pub mod Strings
+pub mod ObjectIdentifiers
+pub mod Meanings
+pub mod Simple
+-- ---- values in braces
+pub mod Places
+pub mod Arrangement
+-- ---- which value a tree denotes, and why one denotes none
+pub mod Denotes
+pub mod Faults
+-- ---- what private contracts cite
+pub mod Visible
+pub mod Views
+pub mod Reading
+-- ---- worked examples
+pub mod Rows

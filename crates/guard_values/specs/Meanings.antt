@@ -1,0 +1,42 @@
+-- What lower-case names say: names of the type's own list, and visible names.
+use Rattle.std.specs.Prelude.{ℕ, ℤ, List, [], ◌∷◌, Option, Some, None, if◌then◌else◌, bytes_eq, IsTrue, IfSome}
+use Rattle.guard_model.specs.AbstractType as type
+use Rattle.guard_model.specs.AbstractType.{AbstractType, AbstractKind, NamedNumber, type_of}
+use Rattle.guard_model.specs.AbstractValue as value
+use Rattle.guard_model.specs.AbstractValue.{AbstractValue}
+use Rattle.guard_der.specs.Fits.{fits}
+
+-- ---- a type's own list
+
+-- the number with this name
+abbrev pub number_named : List ℕ → List NamedNumber → Option ℤ
+number_named name [] = None
+number_named name (n ∷ ns) = if bytes_eq name n.name then Some n.number else number_named name ns
+
+-- A named number of an INTEGER (X.680 clause 19), or an item of an ENUMERATED (clause 20). Other kinds have no list.
+abbrev pub own_number : AbstractKind → List ℕ → Option ℤ
+own_number (type.integer ns) name = number_named name ns
+own_number (type.enumerated ns) name = number_named name ns
+own_number _ name = None
+
+abbrev pub value_of_number : AbstractKind → ℤ → AbstractValue
+value_of_number (type.enumerated ns) z = value.enumerated z
+value_of_number _ z = value.integer z
+
+-- ---- visible names
+
+-- a value that is assigned, with the type that governs it (X.680 16.2)
+pub record Governed : Type 0 where
+  pub ty : AbstractType
+  pub value : AbstractValue
+
+-- what each visible lower-case name stands for
+abbrev pub Meaning : Type 0
+Meaning = List ℕ → Option Governed
+
+-- each is a value of its type
+abbrev pub AreFitting : Meaning → Type 0
+AreFitting meaning = (name : List ℕ) → IfSome (meaning name) (λ g. IsTrue (fits g.ty g.value))
+
+abbrev pub kind_of : AbstractType → AbstractKind
+kind_of (type_of tags kind cons) = kind

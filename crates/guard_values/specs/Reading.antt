@@ -1,0 +1,191 @@
+-- What the code reads, step by step: a value, or the first fault.
+use Rattle.std.specs.Prelude.{ℕ, suc, ℤ, Bool, true, false, ◌&&◌, List, [], ◌∷◌, nat_lt, Option, Some, None, Result, Ok, Err, if◌then◌else◌}
+use Rattle.guard_model.specs.Answer.{◌>>=◌}
+use Rattle.guard_model.specs.declared.site.Site.{Site}
+use Rattle.guard_model.specs.AbstractType as type
+use Rattle.guard_model.specs.AbstractType.{AbstractType, AbstractKind, AbstractPresence, Components, component}
+use Rattle.guard_model.specs.AbstractValue as value
+use Rattle.guard_model.specs.AbstractValue.{AbstractValue, Fields, items_of}
+use Rattle.guard_der.specs.Der.{der}
+use Rattle.guard_der.specs.ProperConstraints.{is_short}
+use Rattle.guard_der.specs.Reading.{all_absent, is_filled, fill, field_before}
+use Rattle.guard_syntax.specs.declared.tree.StringKind.{StringKind}
+use Rattle.guard_syntax.specs.declared.tree.StringKind.TheVariants as string
+use Rattle.guard_syntax.specs.Trees as written
+use Rattle.guard_syntax.specs.Trees.{WrittenNumber, WrittenArc, WrittenValue, WrittenValueForm, WrittenEntries, value_node, no_entries, entry}
+use Rattle.guard_values.specs.declared.fault.ValueFault.{ValueFault}
+use Rattle.guard_values.specs.declared.fault.ValueFault.TheVariants.{WrongNotation, UnknownName, MissingComponent, RepeatedComponent, OutOfOrder, BadCharacter, BadObjectId, TooLarge}
+use Rattle.guard_values.specs.ObjectIdentifiers.{arc_number, arc_numbers, is_large, too_large_arc, are_arcs}
+use Rattle.guard_values.specs.Meanings.{Governed, Meaning, own_number, kind_of}
+use Rattle.guard_values.specs.Simple.{boolean_value, null_value, integer_value, text_value, numbered_value, visible_value}
+use Rattle.guard_values.specs.Places.{Located, located}
+use Rattle.guard_values.specs.Arrangement.{arranged}
+use Rattle.guard_values.specs.Denotes.{are_few}
+use Rattle.guard_values.specs.Faults.{are_too_few_arcs}
+
+abbrev pub Read : Type 0 → Type 0
+Read A = Result A ValueFault
+
+abbrev pub answered : {A : Type 0} → ValueFault → Option A → Read A
+answered f None = Err f
+answered f (Some v) = Ok v
+
+-- ---- without a value inside
+
+abbrev pub read_integer : Site → AbstractKind → WrittenNumber → Read AbstractValue
+read_integer site (type.integer ns) n = answered (TooLarge n.site) (integer_value (type.integer ns) n)
+read_integer site _ n = Err (WrongNotation site)
+
+abbrev pub string_fault : Site → AbstractKind → StringKind → ValueFault
+string_fault site (type.characters k) string.Characters = BadCharacter site
+string_fault site _ _ = WrongNotation site
+
+abbrev pub read_text : Site → AbstractKind → StringKind → List ℕ → Read AbstractValue
+read_text site kind k spelling = answered (string_fault site kind k) (text_value kind k spelling)
+
+-- one arc
+abbrev pub read_arc : WrittenArc → Read ℕ
+read_arc a = if is_large (arc_number a) then Err (TooLarge a.site) else Ok (arc_number a)
+
+-- unless an arc is too large
+abbrev pub unless_large : Option Site → Read (Unit {0})
+unless_large None = Ok tt
+unless_large (Some s) = Err (TooLarge s)
+
+abbrev pub limited_arcs : Site → Option Site → List ℕ → Read AbstractValue
+limited_arcs site (Some large) arcs = Err (TooLarge large)
+limited_arcs site None arcs = if are_arcs arcs then Ok (value.object_identifier arcs) else Err (BadObjectId site)
+
+abbrev pub read_arcs : Site → AbstractKind → List WrittenArc → Read AbstractValue
+read_arcs site type.object_identifier arcs = limited_arcs site (too_large_arc arcs) (arc_numbers arcs)
+read_arcs site _ arcs = Err (WrongNotation site)
+
+abbrev pub read_visible : Site → AbstractType → Option Governed → Read AbstractValue
+read_visible site t None = Err (UnknownName site)
+read_visible site t (Some g) = answered (WrongNotation site) (visible_value t (Some g))
+
+abbrev pub read_named : Site → AbstractType → Option ℤ → Option Governed → Read AbstractValue
+read_named site t (Some z) visible = answered (TooLarge site) (numbered_value (kind_of t) z)
+read_named site t None visible = read_visible site t visible
+
+abbrev pub read_reference : Meaning → AbstractType → Site → List ℕ → Read AbstractValue
+read_reference m t site name = read_named site t (own_number (kind_of t) name) (m name)
+
+-- ---- components
+
+-- where a value goes: each place takes one, and in a SEQUENCE none before the next one
+abbrev pub placed : Bool → ℕ → Fields → Site → Option Located → Read Located
+placed ordered next fs site None = Err (UnknownName site)
+placed ordered next fs site (Some l) =
+    if is_filled l.place fs then Err (RepeatedComponent site)
+    else (if ordered && nat_lt l.place next then Err (OutOfOrder site) else Ok l)
+
+-- where an entry's value goes
+abbrev pub place_at : Bool → Components → ℕ → Fields → Site → Option (List ℕ) → Read Located
+place_at ordered cs next fs site None = Err (WrongNotation site)
+place_at ordered cs next fs site (Some name) = placed ordered next fs site (located name cs)
+
+-- an entry: its place, and its value
+abbrev pub entry_at : Bool → Components → ℕ → Fields → Site → Option (List ℕ) → (AbstractType → Read AbstractValue) → Read (ℕ × AbstractValue)
+entry_at ordered cs next fs site name value = place_at ordered cs next fs site name >>= λ l. value l.ty >>= λ v. Ok (l.place, v)
+
+-- what a component is behind the last entry
+abbrev pub settled : Site → AbstractPresence → Option AbstractValue → Read (Option AbstractValue)
+settled site presence (Some v) = Ok (Some v)
+settled site type.optional None = Ok None
+settled site (type.default d) None = Ok (Some d)
+settled site _ None = Err (MissingComponent site)
+
+unfoldable pub completed : Site → Components → Fields → Read Fields
+completed site (component name t presence rest) (value.present v fs) = settled site presence (Some v) >>= λ f. completed site rest fs >>= λ gs. Ok (field_before f gs)
+completed site (component name t presence rest) (value.absent fs) = settled site presence None >>= λ f. completed site rest fs >>= λ gs. Ok (field_before f gs)
+completed site _ _ = Ok value.no_fields
+
+-- ---- elements
+
+abbrev pub limited : Site → AbstractType → AbstractValue → Read AbstractValue
+limited site t v = if is_short (der t v) then Ok v else Err (TooLarge site)
+
+abbrev pub few : Site → List AbstractValue → Read (List AbstractValue)
+few site vs = if are_few vs then Ok vs else Err (TooLarge site)
+
+-- ---- forms with values inside, given how those are read
+
+abbrev pub alternative : Site → AbstractKind → List ℕ → Read Located
+alternative site (type.choice cs) name = answered (UnknownName site) (located name cs)
+alternative site _ name = Err (WrongNotation site)
+
+abbrev pub read_chosen : Site → AbstractKind → List ℕ → (AbstractType → Read AbstractValue) → Read AbstractValue
+read_chosen site kind name read = alternative site kind name >>= λ l. read l.ty >>= λ v. Ok (value.chosen l.place v)
+
+abbrev pub read_fields : Site → Components → Read Fields → Read AbstractValue
+read_fields site cs entries = entries >>= λ given. completed site cs given >>= λ fs. Ok (value.fields fs)
+
+-- the elements of a SEQUENCE OF, and of a SET OF
+abbrev pub listed : Site → List AbstractValue → Read AbstractValue
+listed site vs = few site vs >>= λ ws. Ok (value.items (items_of ws))
+
+abbrev pub listed_set : Site → AbstractType → List AbstractValue → Read AbstractValue
+listed_set site t vs = few site vs >>= λ ws. Ok (value.items (items_of (arranged t ws)))
+
+abbrev pub read_braces : Site → AbstractKind → WrittenEntries → (Bool → Components → Read Fields) → (Bool → AbstractType → Read (List AbstractValue)) → Read AbstractValue
+read_braces site (type.sequence cs) es entries elements = read_fields site cs (entries true cs)
+read_braces site (type.set cs) es entries elements = read_fields site cs (entries false cs)
+read_braces site (type.sequence_of t) es entries elements = elements false t >>= λ vs. listed site vs
+read_braces site (type.set_of t) es entries elements = elements true t >>= λ vs. listed_set site t vs
+read_braces site type.object_identifier es entries elements = if are_too_few_arcs es then Err (BadObjectId site) else Err (WrongNotation site)
+read_braces site _ es entries elements = Err (WrongNotation site)
+
+abbrev pub perhaps_limited : Bool → Site → AbstractType → AbstractValue → Read AbstractValue
+perhaps_limited true site t v = limited site t v
+perhaps_limited false site t v = Ok v
+
+abbrev pub site_of : WrittenValue → Site
+site_of (value_node site form) = site
+
+-- an entry of an OF type, given what its value is read as; of a SET OF with its limit
+abbrev pub element_at : Bool → AbstractType → Site → Option (List ℕ) → Site → Read AbstractValue → Read AbstractValue
+element_at short t site (Some name) place value = Err (WrongNotation site)
+element_at short t site None place value = value >>= λ v. perhaps_limited short place t v
+
+unfoldable mutual
+  pub read : Meaning → AbstractType → WrittenValue → Read AbstractValue
+  read m t (value_node site form) = read_form m t site form
+
+  pub read_form : Meaning → AbstractType → Site → WrittenValueForm → Read AbstractValue
+  read_form m t site (written.boolean b) = answered (WrongNotation site) (boolean_value (kind_of t) b)
+  read_form m t site written.null = answered (WrongNotation site) (null_value (kind_of t))
+  read_form m t site (written.integer n) = read_integer site (kind_of t) n
+  read_form m t site (written.text k spelling) = read_text site (kind_of t) k spelling
+  read_form m t site (written.reference name) = read_reference m t site name
+  read_form m t site (written.chosen name tree) = read_chosen site (kind_of t) name (λ u. read m u tree)
+  read_form m t site (written.list es) =
+      read_braces site (kind_of t) es (λ ordered cs. read_entries m ordered cs 0 (all_absent cs) es) (λ short u. read_elements m short u es)
+  read_form m t site (written.arcs arcs) = read_arcs site (kind_of t) arcs
+
+  -- into the fields for the components, from `next` on where they are ordered
+  pub read_entries : Meaning → Bool → Components → ℕ → Fields → WrittenEntries → Read Fields
+  read_entries m ordered cs next fs no_entries = Ok fs
+  read_entries m ordered cs next fs (entry site name tree rest) =
+      entry_at ordered cs next fs site name (λ u. read m u tree) >>= λ x. read_entries m ordered cs (suc x.0) (fill x.0 x.1 fs) rest
+
+  -- in turn
+  pub read_elements : Meaning → Bool → AbstractType → WrittenEntries → Read (List AbstractValue)
+  read_elements m short t no_entries = Ok []
+  read_elements m short t (entry site name tree rest) =
+      element_at short t site name (site_of tree) (read m t tree) >>= λ v. read_elements m short t rest >>= λ more. Ok (v ∷ more)
+
+-- ---- what single calls read
+
+abbrev pub read_items : Meaning → Site → AbstractType → WrittenEntries → Read AbstractValue
+read_items m site t es = read_elements m false t es >>= λ vs. listed site vs
+
+abbrev pub read_set_items : Meaning → Site → AbstractType → WrittenEntries → Read AbstractValue
+read_set_items m site t es = read_elements m true t es >>= λ vs. listed_set site t vs
+
+abbrev pub read_list : Meaning → Site → AbstractKind → WrittenEntries → Read AbstractValue
+read_list m site kind es = read_braces site kind es (λ ordered cs. read_entries m ordered cs 0 (all_absent cs) es) (λ short u. read_elements m short u es)
+
+-- a whole written value
+abbrev pub read_whole : Meaning → AbstractType → WrittenValue → Read AbstractValue
+read_whole m t tree = read m t tree >>= λ v. limited (site_of tree) t v

@@ -1,0 +1,76 @@
+-- What the code's results and arguments stand for.
+use Rattle.std.specs.Prelude.{ℕ, List, [], Option, Some, None, slice_get, IsTrue, IfSome}
+use Rattle.std.specs.Borrow.{Bor}
+use Rattle.guard_model.specs.TypeView.{type_view}
+use Rattle.guard_model.specs.ValueView.{value_view}
+use Rattle.guard_model.specs.declared.ty.Ty.{Ty}
+use Rattle.guard_model.specs.declared.value.Value.{Value}
+use Rattle.guard_values.specs.declared.fault.ValueFault.{ValueFault}
+use Rattle.guard_values.specs.declared.fault.ValueFault.TheVariants as fault
+use Rattle.guard_values.specs.declared.scope.Known.{Known}
+use Rattle.guard_values.specs.declared.scope.Scope.{Scope}
+use Rattle.guard_values.specs.declared.scope.VisibleValue.{VisibleValue}
+use Rattle.guard_values.specs.Meanings.{Governed, Meaning}
+use Rattle.guard_values.specs.Visible.{visible_definition, placed_definition}
+use Rattle.guard_names.specs.declared.names.Names.{Names}
+use Rattle.guard_names.specs.Declarations.{Definition, definitions}
+use Rattle.guard_names.specs.NamesView.{modules_of, order_of}
+use Rattle.guard_der.specs.Fits.{fits}
+use Rattle.guard_values.specs.declared.arrangement.Encoded.{Encoded}
+use Rattle.guard_values.specs.Places.{Located}
+use Rattle.guard_values.specs.Arrangement.{EncodedValue}
+
+-- the fault that a refusal names, where memory didn't run out
+abbrev pub named : ValueFault → Option ValueFault
+named fault.OutOfMemory = None
+named f = Some f
+
+abbrev pub visible_view : VisibleValue → Governed
+visible_view v = record { ty = type_view v.ty.now; value = value_view v.value.now }
+
+abbrev pub located_view : ℕ × Bor Ty → Located
+located_view x = record { place = x.0; ty = type_view x.1.now }
+
+abbrev pub encoded_view : Encoded → EncodedValue
+encoded_view e = record { octets = e.octets.items; value = value_view e.value }
+
+-- ---- what visible names mean
+
+-- a value and its type, where both are known
+abbrev pub known_pair : Option Ty → Option (Option Value) → Option Governed
+known_pair (Some t) (Some (Some v)) = Some (record { ty = type_view t; value = value_view v })
+known_pair _ _ = None
+
+abbrev pub known_at : Known → ℕ → Option Governed
+known_at known place = known_pair (slice_get known.types.items place) (slice_get known.values.items place)
+
+-- of the definition at this place in the order
+abbrev pub known_definition : Known → Option ℕ → Option Governed
+known_definition known None = None
+known_definition known (Some place) = known_at known place
+
+-- the definition that the scope's name means
+abbrev pub definition_of : Scope → List ℕ → Option ℕ
+definition_of scope name = visible_definition (modules_of scope.names.now) scope.home.now name
+
+abbrev pub place_of : Scope → List ℕ → Option ℕ
+place_of scope name = placed_definition (order_of scope.names.now) (definition_of scope name)
+
+abbrev pub meaning_of : Scope → Meaning
+meaning_of scope name = known_definition scope.known.now (place_of scope name)
+
+-- ---- for a definition
+
+-- the name of the module in which it stands
+abbrev pub home_name : Option Definition → List ℕ
+home_name None = []
+home_name (Some d) = d.home.name
+
+-- what names mean in the module of this definition
+abbrev pub visible_from : Names → Known → ℕ → Meaning
+visible_from names known id name =
+    known_definition known (placed_definition (order_of names) (visible_definition (modules_of names) (home_name (slice_get (definitions (modules_of names)) id)) name))
+
+-- each known value is one of its governor's
+abbrev pub AreKnownFitting : Known → Type 0
+AreKnownFitting known = (place : ℕ) → IfSome (known_at known place) (λ g. IsTrue (fits g.ty g.value))

@@ -1,0 +1,94 @@
+//! Elements of OF types: their number, their order and their encodings.
+ghost use Rattle.std.specs.Prelude.{◌≡◌, [], ◌∷◌, map, IsTrue, IfOk, Some, if◌then◌else◌};
+ghost use Rattle.guard_model.specs.Answer.{Gives};
+ghost use Rattle.guard_model.specs.TypeView.{type_view};
+ghost use Rattle.guard_model.specs.ValueView.{value_view};
+ghost use Rattle.guard_der.specs.Der.{der};
+ghost use Rattle.guard_der.specs.Fits.{fits};
+ghost use Rattle.guard_syntax.specs.Trees.{entries_of};
+ghost use Rattle.guard_syntax.specs.Views as trees;
+ghost use Rattle.guard_values.specs.Arrangement.{AreEncodings, encoded_value};
+ghost use Rattle.guard_values.specs.Faults.{are_too_few_arcs};
+ghost use Rattle.guard_values.specs.Reading as reading;
+ghost use Rattle.guard_values.specs.Reading.{limited};
+ghost use Rattle.guard_values.specs.Views.{named, encoded_view};
+
+use crate::arrangement::{Encoded, arranged};
+use crate::fault::ValueFault;
+use guard_der::{EncodeFault, encode};
+use guard_model::{Site, Ty, Value};
+use guard_syntax::{EntryTree, ValueForm};
+use std::alloc::Global;
+
+/// The most elements of a value of an OF type.
+const MOST_ITEMS: usize = 4_294_967_295;
+
+/// A value of a SEQUENCE OF.
+pub fn listed(site: Site, elements: Vec<Value>) -> Result<Value, ValueFault>
+    ensures { Gives value_view named result (reading.listed site (map value_view elements.items)) }
+{
+    if elements.len() > MOST_ITEMS {
+        return Err(ValueFault::TooLarge(site));
+    }
+    Ok(Value::Items(elements))
+}
+
+/// A value of a SET OF: its elements as their encodings ascend.
+pub fn listed_set(
+    alloc: Global,
+    site: Site,
+    ty: &Ty,
+    elements: Vec<Encoded>,
+) -> Result<Value, ValueFault>
+    requires { AreEncodings (type_view ty.now) (map encoded_view elements.items) }
+    ensures { Gives value_view named result (reading.listed_set site (type_view ty.now) (map encoded_value (map encoded_view elements.items))) }
+{
+    if elements.len() > MOST_ITEMS {
+        return Err(ValueFault::TooLarge(site));
+    }
+    Ok(Value::Items(arranged(alloc, elements)?))
+}
+
+/// The value that stands there with its encoding, of at most 1,048,576 octets.
+pub fn encoded(alloc: Global, ty: &Ty, site: Site, value: Value) -> Result<Encoded, ValueFault>
+    requires { IsTrue (fits (type_view ty.now) (value_view value)) }
+    ensures encoding { IfOk result (λ e. der (type_view ty.now) (value_view e.value) ≡ Some e.octets.items) }
+    ensures given { Gives (λ e. value_view e.value) named result (limited site (type_view ty.now) (value_view value)) }
+{
+    match encode(alloc, ty, &value) {
+        Ok(octets) => Ok(Encoded { octets, value }),
+        Err(EncodeFault::TooLong) => Err(ValueFault::TooLarge(site)),
+        Err(EncodeFault::OutOfMemory) => Err(ValueFault::OutOfMemory),
+    }
+}
+
+/// Nothing, or one number without a minus sign, looks like an object identifier with too few arcs.
+pub fn object_identifier_fault(site: Site, entries: &[EntryTree]) -> ValueFault
+    ensures { result ≡ (if are_too_few_arcs (entries_of (map trees.entry_view entries.now)) then ValueFault.BadObjectId site else ValueFault.WrongNotation site) }
+{
+    if are_too_few_arcs(entries) {
+        ValueFault::BadObjectId(site)
+    } else {
+        ValueFault::WrongNotation(site)
+    }
+}
+
+fn are_too_few_arcs(entries: &[EntryTree]) -> bool
+    ensures { result ≡ are_too_few_arcs (entries_of (map trees.entry_view entries.now)) }
+{
+    match entries {
+        [] => true,
+        [entry] => is_arc(entry),
+        _ => false,
+    }
+}
+
+/// A number without a minus sign, and without a name before it.
+fn is_arc(entry: &EntryTree) -> bool
+    ensures { result ≡ are_too_few_arcs (entries_of (trees.entry_view entry.now ∷ [])) }
+{
+    match &entry.value.form {
+        ValueForm::Integer(number) => entry.name.is_none() && !number.minus,
+        _ => false,
+    }
+}

@@ -1,0 +1,40 @@
+//! Laws of written values, over the definitions alone. Each is carried by a function that does nothing when it runs.
+ghost use Rattle.std.specs.Prelude.{◌≡◌, ◌↔◌, ℕ, List, Some, IsTrue};
+ghost use Rattle.std.specs.List.Sorted.{IsPermutation};
+ghost use Rattle.guard_model.specs.declared.site.Site.{Site};
+ghost use Rattle.guard_model.specs.declared.tag.Tag.{Tag};
+ghost use Rattle.guard_model.specs.AbstractType.{Constraints, type_of, set_of};
+ghost use Rattle.guard_model.specs.AbstractValue.{AbstractValue};
+ghost use Rattle.guard_model.specs.TypeView.{type_view};
+ghost use Rattle.guard_der.specs.Sound.{is_sound};
+ghost use Rattle.guard_names.specs.Meanings.{Means};
+ghost use Rattle.guard_names.specs.NamesView.{modules_of};
+ghost use Rattle.guard_syntax.specs.Trees.{WrittenEntry, value_node, list, entries_of};
+ghost use Rattle.guard_syntax.specs.Views as trees;
+ghost use Rattle.guard_values.specs.Denotes.{Denotes};
+ghost use Rattle.guard_values.specs.Visible.{visible_definition};
+ghost use Rattle.guard_values.specs.Views.{visible_from, AreKnownFitting};
+
+use crate::scope::Known;
+use guard_model::Ty;
+use guard_names::{Id, Names};
+use guard_syntax::ValueTree;
+
+/// A tree denotes one value at most.
+pub fn law_one_value(names: &Names, known: &Known, id: Id, ty: &Ty, tree: &ValueTree)
+    ensures { (v w : AbstractValue) → Denotes (visible_from names.now known.now id) (type_view ty.now) (trees.value_view tree.now) v → Denotes (visible_from names.now known.now id) (type_view ty.now) (trees.value_view tree.now) w → v ≡ w }
+{}
+
+/// The elements of a SET OF may be written in any order: the value is the same.
+pub fn law_any_order(names: &Names, known: &Known, id: Id, element: &Ty)
+    requires sound { IsTrue (is_sound (type_view element.now)) }
+    requires fitting { AreKnownFitting known.now }
+    ensures { (es others : List WrittenEntry) (tags : List Tag) (cons : Constraints) (site : Site) (v : AbstractValue) → IsPermutation es others
+        → Denotes (visible_from names.now known.now id) (type_of tags (set_of (type_view element.now)) cons) (value_node site (list (entries_of es))) v
+        → Denotes (visible_from names.now known.now id) (type_of tags (set_of (type_view element.now)) cons) (value_node site (list (entries_of others))) v }
+{}
+
+/// A name stands for the definition that it means (X.680 13.1).
+pub fn law_visible(names: &Names, home: &[u8], name: &[u8])
+    ensures { (number : ℕ) → (visible_definition (modules_of names.now) home.now name.now ≡ Some number) ↔ Means (modules_of names.now) home.now name.now number }
+{}

@@ -1,0 +1,31 @@
+//! Written values: which value a tree of the notation denotes under its type (X.680 clause 17), or the first fault.
+//!
+//! | question | code | definition |
+//! |---|---|---|
+//! | Which value does a tree denote, and why none? | `values.rt` (`value`), `fault.rt` | `specs/Denotes.antt`, `specs/Faults.antt` |
+//! | What do visible names mean? | `scope.rt` (`Known`, `Scope`) | `specs/Visible.antt`, `specs/Views.antt` |
+//! | How are trees read by their types? | `written.rt` | `specs/Reading.antt` |
+//! | What do forms without a value inside say? | `simple.rt`, `numbers.rt`, `strings.rt` (`quoted`), `object_identifiers.rt`, `names.rt` | `specs/Simple.antt` |
+//! | For which component is an entry, and what are those without one? | `components.rt` | `specs/Places.antt` |
+//! | How many elements may there be, and in which order does a SET OF have them? | `elements.rt`, `arrangement.rt` | `specs/Arrangement.antt` |
+//! | Is there one value, in whatever order a SET OF is written? | `laws.rt` | `specs/Denotes.antt` |
+#![tactic(auto)]
+
+mod arrangement;
+mod components;
+mod elements;
+mod fault;
+pub mod laws;
+mod names;
+mod numbers;
+mod object_identifiers;
+mod scope;
+mod simple;
+mod strings;
+mod values;
+mod written;
+
+pub use fault::ValueFault;
+pub use scope::{Known, Scope, VisibleValue};
+pub use strings::quoted;
+pub use values::{home, value};

@@ -1,0 +1,90 @@
+//! What names say: those of a type's own list, and visible ones.
+ghost use Rattle.std.specs.Prelude.{◌≡◌, map, option_map};
+ghost use Rattle.guard_model.specs.Answer.{Gives};
+ghost use Rattle.guard_model.specs.TypeView.{type_view, kind_view, named_view};
+ghost use Rattle.guard_model.specs.ValueView.{value_view};
+ghost use Rattle.guard_der.specs.Fits.{fits_128_bits};
+ghost use Rattle.guard_values.specs.Meanings as meanings;
+ghost use Rattle.guard_values.specs.Simple.{numbered_value};
+ghost use Rattle.guard_values.specs.Reading.{read_reference, read_visible, answered};
+ghost use Rattle.guard_values.specs.Views.{named, visible_view, meaning_of};
+
+use crate::fault::ValueFault;
+use crate::scope::{Scope, VisibleValue};
+use guard_model::{Kind, Named, Site, Ty, Value};
+use std::alloc::Global;
+
+/// The value of a name. A name of the type's own list comes before a visible one.
+pub fn reference(
+    alloc: Global,
+    scope: Scope,
+    ty: &Ty,
+    site: Site,
+    name: &[u8],
+) -> Result<Value, ValueFault>
+    ensures { Gives value_view named result (read_reference (meaning_of scope.entry) (type_view ty.now) site name.now) }
+{
+    match own_number(&ty.kind, name) {
+        Some(number) => numbered(&ty.kind, site, number),
+        None => visible(alloc, ty, site, scope.meaning(name)),
+    }
+}
+
+/// The number with this name in the type's own list.
+fn own_number(kind: &Kind, name: &[u8]) -> Option<i128>
+    ensures { result ≡ meanings.own_number (kind_view kind.now) name.now }
+{
+    match kind {
+        Kind::Int(numbers) => number_named(name, numbers),
+        Kind::Enumerated(items) => number_named(name, items),
+        _ => None,
+    }
+}
+
+fn number_named(name: &[u8], numbers: &[Named]) -> Option<i128>
+    ensures { result ≡ meanings.number_named name.now (map named_view numbers.now) }
+{
+    for number in numbers {
+        if name == number.name.as_bytes() {
+            return Some(number.number);
+        }
+    }
+    None
+}
+
+/// The value of a named number or item. Each number of this type is within the limits.
+fn numbered(kind: &Kind, site: Site, number: i128) -> Result<Value, ValueFault>
+    ensures { Gives value_view named result (answered (ValueFault.TooLarge site) (numbered_value (kind_view kind.now) number)) }
+{
+    if !is_in_range(number) {
+        return Err(ValueFault::TooLarge(site));
+    }
+    match kind {
+        Kind::Enumerated(_) => Ok(Value::Enumerated(number)),
+        _ => Ok(Value::Int(number)),
+    }
+}
+
+fn is_in_range(number: i128) -> bool
+    ensures { result ≡ fits_128_bits number }
+{
+    number >= i128::MIN
+}
+
+/// A visible value, where its type has the same base.
+fn visible(
+    alloc: Global,
+    ty: &Ty,
+    site: Site,
+    visible: Option<VisibleValue>,
+) -> Result<Value, ValueFault>
+    ensures { Gives value_view named result (read_visible site (type_view ty.now) (option_map visible_view visible.entry)) }
+{
+    let Some(visible) = visible else {
+        return Err(ValueFault::UnknownName(site));
+    };
+    if !ty.same_base(visible.ty) {
+        return Err(ValueFault::WrongNotation(site));
+    }
+    Ok(visible.value.copy(alloc)?)
+}

@@ -1,0 +1,170 @@
+//! Values without a value inside.
+ghost use Rattle.std.specs.Prelude.{◌≡◌, ◌&&◌, map, chars, if◌then◌else◌, Some, None, option_map, string_bytes};
+ghost use Rattle.guard_model.specs.Answer.{Gives};
+ghost use Rattle.guard_model.specs.TypeView.{kind_view};
+ghost use Rattle.guard_model.specs.ValueView.{value_view};
+ghost use Rattle.guard_der.specs.Fits.{fits_characters, all_characters};
+ghost use Rattle.guard_syntax.specs.Views.{number_view, arc_view};
+ghost use Rattle.guard_values.specs.Simple.{boolean_value, null_value, bits_value, hexadecimal_bits_value, characters_value};
+ghost use Rattle.guard_values.specs.Strings as written;
+ghost use Rattle.std.specs.Str.{is_utf8};
+ghost use Rattle.guard_values.specs.Reading.{answered, read_integer, read_text, read_arcs};
+ghost use Rattle.guard_values.specs.Views.{named};
+ghost use Rattle.guard_model.specs.AbstractValue.{octet_string};
+
+use crate::fault::ValueFault;
+use crate::numbers;
+use crate::object_identifiers::object_identifier;
+use crate::strings::{
+    binary_digits, hexadecimal_digits, octets_of_bits, octets_of_hexadecimal, quoted,
+};
+use guard_model::{Bits, CharKind, Kind, Site, Value};
+use guard_syntax::{ArcTree, NumberTree, StringKind};
+use std::alloc::Global;
+
+/// TRUE or FALSE.
+pub fn boolean(kind: &Kind, site: Site, truth: bool) -> Result<Value, ValueFault>
+    ensures { Gives value_view named result (answered (ValueFault.WrongNotation site) (boolean_value (kind_view kind.now) truth)) }
+{
+    match kind {
+        Kind::Bool => Ok(Value::Bool(truth)),
+        _ => Err(ValueFault::WrongNotation(site)),
+    }
+}
+
+/// NULL.
+pub fn null(kind: &Kind, site: Site) -> Result<Value, ValueFault>
+    ensures { Gives value_view named result (answered (ValueFault.WrongNotation site) (null_value (kind_view kind.now))) }
+{
+    match kind {
+        Kind::Null => Ok(Value::Null),
+        _ => Err(ValueFault::WrongNotation(site)),
+    }
+}
+
+/// A number.
+pub fn integer(kind: &Kind, site: Site, number: &NumberTree) -> Result<Value, ValueFault>
+    ensures { Gives value_view named result (read_integer site (kind_view kind.now) (number_view number.now)) }
+{
+    match kind {
+        Kind::Int(_) => match numbers::integer(number) {
+            Some(value) => Ok(Value::Int(value)),
+            None => Err(ValueFault::TooLarge(number.site)),
+        },
+        _ => Err(ValueFault::WrongNotation(site)),
+    }
+}
+
+/// Arcs.
+pub fn arcs(alloc: Global, kind: &Kind, site: Site, arcs: &[ArcTree]) -> Result<Value, ValueFault>
+    ensures { Gives value_view named result (read_arcs site (kind_view kind.now) (map arc_view arcs.now)) }
+{
+    match kind {
+        Kind::Oid => object_identifier(alloc, site, arcs),
+        _ => Err(ValueFault::WrongNotation(site)),
+    }
+}
+
+/// A string.
+pub fn text(
+    alloc: Global,
+    kind: &Kind,
+    site: Site,
+    string: StringKind,
+    spelling: &[u8],
+) -> Result<Value, ValueFault>
+    ensures { Gives value_view named result (read_text site (kind_view kind.now) string spelling.now) }
+{
+    match (kind, string) {
+        (Kind::Bits, StringKind::Bits) => bits(alloc, spelling),
+        (Kind::Bits, StringKind::Hexadecimal) => hexadecimal_bits(alloc, spelling),
+        (Kind::Octets, StringKind::Bits) => octets(alloc, spelling),
+        (Kind::Octets, StringKind::Hexadecimal) => hexadecimal_octets(alloc, spelling),
+        (Kind::Chars(kind), StringKind::Characters) => characters(alloc, *kind, site, spelling),
+        _ => Err(ValueFault::WrongNotation(site)),
+    }
+}
+
+fn bits(alloc: Global, spelling: &[u8]) -> Result<Value, ValueFault>
+    ensures { Gives value_view named result (Ok (bits_value (written.binary_digits spelling.now))) }
+{
+    let bits = binary_digits(alloc, spelling)?;
+    let octets = octets_of_bits(alloc, &bits)?;
+    let unused = ((8 - bits.len() % 8) % 8) as u8;
+    Ok(Value::Bits(Bits { octets, unused }))
+}
+
+fn hexadecimal_bits(alloc: Global, spelling: &[u8]) -> Result<Value, ValueFault>
+    ensures { Gives value_view named result (Ok (hexadecimal_bits_value (written.hexadecimal_digits spelling.now))) }
+{
+    let digits = hexadecimal_digits(alloc, spelling)?;
+    let octets = octets_of_hexadecimal(alloc, &digits)?;
+    let unused = (4 * (digits.len() % 2)) as u8;
+    Ok(Value::Bits(Bits { octets, unused }))
+}
+
+fn octets(alloc: Global, spelling: &[u8]) -> Result<Value, ValueFault>
+    ensures { Gives value_view named result (Ok (octet_string (written.octets_of_bits (written.binary_digits spelling.now)))) }
+{
+    let bits = binary_digits(alloc, spelling)?;
+    Ok(Value::Octets(octets_of_bits(alloc, &bits)?))
+}
+
+fn hexadecimal_octets(alloc: Global, spelling: &[u8]) -> Result<Value, ValueFault>
+    ensures { Gives value_view named result (Ok (octet_string (written.octets_of_hexadecimal (written.hexadecimal_digits spelling.now)))) }
+{
+    let digits = hexadecimal_digits(alloc, spelling)?;
+    Ok(Value::Octets(octets_of_hexadecimal(alloc, &digits)?))
+}
+
+/// A string in double quotes, of characters of the kind's alphabet.
+fn characters(
+    alloc: Global,
+    kind: CharKind,
+    site: Site,
+    spelling: &[u8],
+) -> Result<Value, ValueFault>
+    ensures { Gives value_view named result (answered (ValueFault.BadCharacter site) (characters_value kind (written.quoted spelling.now))) }
+{
+    match text_of(kind, quoted(alloc, spelling)?) {
+        Some(text) => Ok(Value::Chars(text)),
+        None => Err(ValueFault::BadCharacter(site)),
+    }
+}
+
+/// The text that octets spell, where all its characters are of the kind's alphabet.
+fn text_of(kind: CharKind, octets: Vec<u8>) -> Option<String>
+    ensures { option_map string_bytes result ≡ (if is_utf8 octets.items && fits_characters kind (chars octets.items) then Some octets.items else None) }
+{
+    let Ok(text) = String::from_utf8(octets) else {
+        return None;
+    };
+    if characters_fit(kind, &text) {
+        Some(text)
+    } else {
+        None
+    }
+}
+
+fn characters_fit(kind: CharKind, text: &str) -> bool
+    ensures { result ≡ fits_characters kind (chars text.now) }
+{
+    match kind {
+        CharKind::Numeric => are_characters(kind, text),
+        CharKind::Printable => are_characters(kind, text),
+        CharKind::Ia5 => are_characters(kind, text),
+        CharKind::Visible => are_characters(kind, text),
+        CharKind::Utf8 => true,
+    }
+}
+
+fn are_characters(kind: CharKind, text: &str) -> bool
+    ensures { result ≡ all_characters kind (chars text.now) }
+{
+    for character in text.chars() {
+        if !kind.has(u32::from(character)) {
+            return false;
+        }
+    }
+    true
+}

@@ -1,0 +1,153 @@
+//! What strings of bits and hexadecimal digits say (X.680 clauses 22 and 23), and those in double quotes.
+ghost use Rattle.std.specs.Prelude.{◌≡◌, ◌∷◌, [], ◌^◌, ◌<◌, ◌≤◌, ◌*◌, ◌+◌, ◌-◌, length, drop, slice_index, All, IfOk};
+ghost use Rattle.guard_values.specs.Strings as written;
+ghost use Rattle.guard_values.specs.Strings.{filled, packed, octets_of_bits, octets_of_hexadecimal, quoted, up_to_quote};
+
+use std::alloc::{AllocError, Global};
+
+/// The bits of a string of bits, in written order.
+pub fn binary_digits(alloc: Global, spelling: &[u8]) -> Result<Vec<u8>, AllocError>
+    ensures digits { IfOk result (λ v. v.items ≡ written.binary_digits spelling.now) }
+    ensures small { IfOk result (λ v. All (λ d. d < 2) v.items) }
+{
+    let mut digits = Vec::new(alloc);
+    for octet in spelling {
+        if is_binary_digit(*octet) {
+            digits.push(digit_value(*octet))?;
+        }
+    }
+    Ok(digits)
+}
+
+/// The digits of a hexadecimal string, in written order.
+pub fn hexadecimal_digits(alloc: Global, spelling: &[u8]) -> Result<Vec<u8>, AllocError>
+    ensures digits { IfOk result (λ v. v.items ≡ written.hexadecimal_digits spelling.now) }
+    ensures small { IfOk result (λ v. All (λ d. d < 16) v.items) }
+{
+    let mut digits = Vec::new(alloc);
+    for octet in spelling {
+        if is_hexadecimal_digit(*octet) {
+            let digit = digit_value(*octet);
+            digits.push(digit)?;
+        }
+    }
+    Ok(digits)
+}
+
+fn is_binary_digit(octet: u8) -> bool
+    ensures { result ≡ written.is_binary_digit octet }
+{
+    octet == b'0' || octet == b'1'
+}
+
+fn is_hexadecimal_digit(octet: u8) -> bool
+    ensures { result ≡ written.is_hexadecimal_digit octet }
+{
+    octet.is_ascii_digit() || (b'A' <= octet && octet <= b'F')
+}
+
+fn digit_value(octet: u8) -> u8
+    ensures { result ≡ written.digit_value octet }
+{
+    if octet <= b'9' {
+        octet.saturating_sub(b'0')
+    } else {
+        octet - 55
+    }
+}
+
+/// Eight bits to an octet, the first one the highest. The last octet is filled with zero bits.
+pub fn octets_of_bits(alloc: Global, bits: &[u8]) -> Result<Vec<u8>, AllocError>
+    requires { All (λ d. d < 2) bits.now }
+    ensures { IfOk result (λ v. v.items ≡ octets_of_bits bits.now) }
+{
+    packed(alloc, 2, 8, bits)
+}
+
+/// Two digits to an octet, the first one the higher. A last one alone is followed by a zero digit.
+pub fn octets_of_hexadecimal(alloc: Global, digits: &[u8]) -> Result<Vec<u8>, AllocError>
+    requires { All (λ d. d < 16) digits.now }
+    ensures { IfOk result (λ v. v.items ≡ octets_of_hexadecimal digits.now) }
+{
+    packed(alloc, 16, 2, digits)
+}
+
+/// The fewest octets with so many places each for all digits to this base.
+fn packed(alloc: Global, base: u32, places: usize, digits: &[u8]) -> Result<Vec<u8>, AllocError>
+    requires base { 1 ≤ base }
+    requires places { 1 ≤ places }
+    requires octet { base ^ places ≡ 256 }
+    requires small { All (λ d. d < base) digits.now }
+    ensures { IfOk result (λ v. v.items ≡ packed base places (length digits.now) digits.now) }
+{
+    let mut octets = Vec::new(alloc);
+    let mut rest = digits;
+    while !rest.is_empty() {
+        octets.push(filled(base, places, rest))?;
+        rest = behind(rest, places);
+    }
+    Ok(octets)
+}
+
+/// The number of so many digits. Where digits are missing behind the last, they are zeros.
+fn filled(base: u32, places: usize, digits: &[u8]) -> u8
+    requires base { 1 ≤ base }
+    requires octet { base ^ places ≡ 256 }
+    requires small { All (λ d. d < base) digits.now }
+    ensures { result ≡ filled base places digits.now }
+{
+    let mut number = 0u32;
+    for place in 0..places {
+        number = number * base + u32::from(digit_at(digits, place));
+    }
+    number as u8
+}
+
+fn digit_at(digits: &[u8], place: usize) -> u8
+    ensures { result ≡ slice_index digits.now place }
+{
+    if place < digits.len() {
+        digits[place]
+    } else {
+        0
+    }
+}
+
+/// Those behind so many.
+fn behind(octets: &[u8], count: usize) -> &[u8]
+    ensures { result.now ≡ drop count octets.now }
+{
+    &octets[count.min(octets.len())..]
+}
+
+/// What is quoted in a string in double quotes: a quote inside is written twice.
+pub fn quoted(alloc: Global, spelling: &[u8]) -> Result<Vec<u8>, AllocError>
+    ensures { IfOk result (λ v. v.items ≡ quoted spelling.now) }
+{
+    let mut octets = Vec::new(alloc);
+    let mut rest = behind(spelling, 1);
+    while rest.len() >= 2 {
+        let taken = octets_taken(rest);
+        if taken == 0 {
+            return Ok(octets);
+        }
+        octets.push(rest[0])?;
+        rest = behind(rest, taken);
+    }
+    Ok(octets)
+}
+
+/// How many octets the first one inside a string takes: two where it is a quote, and none where that closes the string.
+fn octets_taken(rest: &[u8]) -> usize
+    requires { 2 ≤ length rest.now }
+    ensures closed { result ≡ 0 → up_to_quote rest.now ≡ [] }
+    ensures goes_on { 1 ≤ result → up_to_quote rest.now ≡ slice_index rest.now 0 ∷ up_to_quote (drop result rest.now) }
+{
+    if rest[0] != b'"' {
+        1
+    } else if rest[1] == b'"' {
+        2
+    } else {
+        0
+    }
+}

@@ -1,0 +1,58 @@
+//! The value that a tree of the notation denotes under its type (X.680 clause 17).
+ghost use Rattle.std.specs.Prelude.{◌≡◌, slice_get, IsTrue, IfOk, IfErr, IfSome};
+ghost use Rattle.guard_model.specs.Answer.{Gives};
+ghost use Rattle.guard_model.specs.AbstractValue.{AbstractValue};
+ghost use Rattle.guard_model.specs.TypeView.{type_view};
+ghost use Rattle.guard_model.specs.ValueView.{value_view};
+ghost use Rattle.guard_der.specs.Fits.{fits};
+ghost use Rattle.guard_der.specs.Sound.{is_sound};
+ghost use Rattle.guard_names.specs.Declarations.{definitions};
+ghost use Rattle.guard_names.specs.NamesView.{modules_of};
+ghost use Rattle.guard_syntax.specs.Views as trees;
+ghost use Rattle.guard_values.specs.Denotes.{Denotes};
+ghost use Rattle.guard_values.specs.Faults.{Stands};
+ghost use Rattle.guard_values.specs.Reading.{read_whole};
+ghost use Rattle.guard_values.specs.Views.{named, visible_from, home_name, AreKnownFitting};
+
+use crate::fault::ValueFault;
+use crate::scope::{Known, Scope};
+use crate::written::whole;
+use guard_model::{Ty, Value};
+use guard_names::{Id, Names};
+use guard_syntax::ValueTree;
+use std::alloc::Global;
+
+/// The value that a tree denotes under a type, where it stands in this definition; or a fault whose condition stands at its site. The type is
+/// sound, and each known value is one of its governor's.
+pub fn value(
+    alloc: Global,
+    names: &Names,
+    known: &Known,
+    id: Id,
+    ty: &Ty,
+    tree: &ValueTree,
+) -> Result<Value, ValueFault>
+    requires sound { IsTrue (is_sound (type_view ty.now)) }
+    requires fitting { AreKnownFitting known.now }
+    // The value is the one denoted.
+    ensures denoted { IfOk result (λ v. Denotes (visible_from names.now known.now id) (type_view ty.now) (trees.value_view tree.now) (value_view v)) }
+    ensures fits { IfOk result (λ v. IsTrue (fits (type_view ty.now) (value_view v))) }
+    // A fault that is named stands, and then nothing is denoted.
+    ensures stands { IfErr result (λ e. IfSome (named e) (λ f. Stands (visible_from names.now known.now id) (type_view ty.now) (trees.value_view tree.now) f)) }
+    ensures none { IfErr result (λ e. IfSome (named e) (λ f. (v : AbstractValue) → Denotes (visible_from names.now known.now id) (type_view ty.now) (trees.value_view tree.now) v → ⊥)) }
+    // The same step by step, for what reads values inside: the fault is the first one that is met.
+    ensures read { Gives value_view named result (read_whole (visible_from names.now known.now id) (type_view ty.now) (trees.value_view tree.now)) }
+{
+    let home = home(names, id);
+    whole(alloc, Scope { names, known, home }, tree, ty)
+}
+
+/// The name of the module in which a definition stands.
+pub fn home<'s>(names: &'s Names, id: Id) -> &'s [u8]
+    ensures { result.now ≡ home_name (slice_get (definitions (modules_of names.now)) id) }
+{
+    match names.home(id) {
+        Some((module_tree, _)) => module_tree.name,
+        None => &[],
+    }
+}

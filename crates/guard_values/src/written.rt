@@ -1,0 +1,282 @@
+//! Written values, read by their type.
+ghost use Rattle.std.specs.Prelude.{◌≡◌, ◌<◌, length, map, IsTrue, IfOk, Some, true, false};
+ghost use Rattle.guard_model.specs.Answer.{Gives};
+ghost use Rattle.guard_model.specs.TypeView.{type_view, kind_view, component_view, components_of};
+ghost use Rattle.guard_model.specs.ValueView.{value_view, fields_view};
+ghost use Rattle.guard_der.specs.Der.{der};
+ghost use Rattle.guard_der.specs.Sound.{is_proper, is_proper_kind, are_proper};
+ghost use Rattle.guard_der.specs.Reading.{all_absent};
+ghost use Rattle.guard_syntax.specs.Trees.{entries_of};
+ghost use Rattle.guard_syntax.specs.Views as trees;
+ghost use Rattle.guard_values.specs.Meanings.{AreFitting};
+ghost use Rattle.guard_values.specs.Arrangement.{AreEncodings, encoded_value};
+ghost use Rattle.guard_values.specs.Reading as reading;
+ghost use Rattle.guard_values.specs.Reading.{read_form, read_chosen, read_list, read_items, read_set_items, read_fields, read_entries, read_elements, entry_at, element_at, read_whole};
+ghost use Rattle.guard_values.specs.Views.{named, encoded_view, meaning_of};
+
+use crate::arrangement::Encoded;
+use crate::components::{absent_fields, alternative, completed, place_of, put};
+use crate::elements::{encoded, listed, listed_set, object_identifier_fault};
+use crate::fault::ValueFault;
+use crate::names::reference;
+use crate::scope::Scope;
+use crate::simple::{arcs, boolean, integer, null, text};
+use guard_model::{Comp, Kind, Site, Ty, Value};
+use guard_syntax::{EntryTree, ValueForm, ValueTree};
+use std::alloc::Global;
+
+/// The value that the tree denotes under the type, with an encoding of at most 1,048,576 octets; or the first fault.
+pub fn whole(alloc: Global, scope: Scope, tree: &ValueTree, ty: &Ty) -> Result<Value, ValueFault>
+    requires proper { IsTrue (is_proper (type_view ty.now)) }
+    requires fitting { AreFitting (meaning_of scope) }
+    ensures { Gives value_view named result (read_whole (meaning_of scope.entry) (type_view ty.now) (trees.value_view tree.now)) }
+{
+    let value = read(alloc, scope, tree, ty)?;
+    let encoded = encoded(alloc, ty, tree.site, value)?;
+    Ok(encoded.value)
+}
+
+/// The value, its own encoding aside.
+#[cycle(values)]
+#[tactic(auto, unfolding(crate::specs::Reading::read))]
+fn read(alloc: Global, scope: Scope, tree: &ValueTree, ty: &Ty) -> Result<Value, ValueFault>
+    requires proper { IsTrue (is_proper (type_view ty.now)) }
+    requires fitting { AreFitting (meaning_of scope) }
+    ensures { Gives value_view named result (reading.read (meaning_of scope.entry) (type_view ty.now) (trees.value_view tree.now)) }
+{
+    form(alloc, scope, &tree.form, tree.site, ty)
+}
+
+#[cycle(values)]
+#[tactic(auto, unfolding(crate::specs::Reading::read))]
+fn form(
+    alloc: Global,
+    scope: Scope,
+    form: &ValueForm,
+    site: Site,
+    ty: &Ty,
+) -> Result<Value, ValueFault>
+    requires proper { IsTrue (is_proper (type_view ty.now)) }
+    requires fitting { AreFitting (meaning_of scope) }
+    ensures { Gives value_view named result (read_form (meaning_of scope.entry) (type_view ty.now) site (trees.value_form_view form.now)) }
+{
+    match form {
+        ValueForm::Boolean(truth) => boolean(&ty.kind, site, *truth),
+        ValueForm::Null => null(&ty.kind, site),
+        ValueForm::Integer(number) => integer(&ty.kind, site, number),
+        ValueForm::Text(string, spelling) => text(alloc, &ty.kind, site, *string, spelling),
+        ValueForm::Reference(name) => reference(alloc, scope, ty, site, name),
+        ValueForm::Chosen(name, tree) => chosen(alloc, scope, tree, name, site, &ty.kind),
+        ValueForm::List(entries) => braces(alloc, scope, entries, site, &ty.kind),
+        ValueForm::Arcs(all) => arcs(alloc, &ty.kind, site, all),
+    }
+}
+
+/// A chosen alternative.
+#[cycle(values)]
+fn chosen(
+    alloc: Global,
+    scope: Scope,
+    tree: &ValueTree,
+    name: &[u8],
+    site: Site,
+    kind: &Kind,
+) -> Result<Value, ValueFault>
+    requires proper { IsTrue (is_proper_kind (kind_view kind.now)) }
+    requires fitting { AreFitting (meaning_of scope) }
+    ensures { Gives value_view named result (read_chosen site (kind_view kind.now) name.now (λ u. reading.read (meaning_of scope.entry) u (trees.value_view tree.now))) }
+{
+    let (place, ty) = alternative(kind, site, name)?;
+    let value = read(alloc, scope, tree, ty)?;
+    Ok(Value::Chosen(place, Box::new(alloc, value)?))
+}
+
+/// Entries in braces.
+#[cycle(values)]
+fn braces(
+    alloc: Global,
+    scope: Scope,
+    entries: &[EntryTree],
+    site: Site,
+    kind: &Kind,
+) -> Result<Value, ValueFault>
+    requires proper { IsTrue (is_proper_kind (kind_view kind.now)) }
+    requires fitting { AreFitting (meaning_of scope) }
+    ensures { Gives value_view named result (read_list (meaning_of scope.entry) site (kind_view kind.now) (entries_of (map trees.entry_view entries.now))) }
+{
+    match kind {
+        Kind::Sequence(comps) => fields(alloc, scope, entries, site, true, comps),
+        Kind::Set(comps) => fields(alloc, scope, entries, site, false, comps),
+        Kind::SequenceOf(ty) => items(alloc, scope, entries, site, ty),
+        Kind::SetOf(ty) => set_items(alloc, scope, entries, site, ty),
+        Kind::Oid => Err(object_identifier_fault(site, entries)),
+        _ => Err(ValueFault::WrongNotation(site)),
+    }
+}
+
+/// A SEQUENCE, whose components are ordered, or a SET.
+#[cycle(values)]
+fn fields(
+    alloc: Global,
+    scope: Scope,
+    entries: &[EntryTree],
+    site: Site,
+    ordered: bool,
+    comps: &[Comp],
+) -> Result<Value, ValueFault>
+    requires proper { IsTrue (are_proper (components_of (map component_view comps.now))) }
+    requires fitting { AreFitting (meaning_of scope) }
+    ensures { Gives value_view named result (read_fields site (components_of (map component_view comps.now)) (read_entries (meaning_of scope.entry) ordered (components_of (map component_view comps.now)) 0 (all_absent (components_of (map component_view comps.now))) (entries_of (map trees.entry_view entries.now)))) }
+{
+    let given = entry_fields(alloc, scope, entries, ordered, comps)?;
+    let fields = completed(alloc, site, comps, given)?;
+    Ok(Value::Fields(fields))
+}
+
+#[cycle(values)]
+fn entry_fields(
+    alloc: Global,
+    scope: Scope,
+    entries: &[EntryTree],
+    ordered: bool,
+    comps: &[Comp],
+) -> Result<Vec<Option<Value>>, ValueFault>
+    requires proper { IsTrue (are_proper (components_of (map component_view comps.now))) }
+    requires fitting { AreFitting (meaning_of scope) }
+    ensures count { IfOk result (λ v. length v.items ≡ length comps.now) }
+    ensures given { Gives (λ v. fields_view v.items) named result (read_entries (meaning_of scope.entry) ordered (components_of (map component_view comps.now)) 0 (all_absent (components_of (map component_view comps.now))) (entries_of (map trees.entry_view entries.now))) }
+{
+    let mut fields = absent_fields(alloc, comps)?;
+    let mut next = 0;
+    for entry in entries {
+        let (place, value) = entry_value(alloc, scope, entry, ordered, comps, next, &fields)?;
+        put(&mut fields, place, Some(value));
+        next = place + 1;
+    }
+    Ok(fields)
+}
+
+/// The place of an entry, and its value.
+#[cycle(values)]
+fn entry_value(
+    alloc: Global,
+    scope: Scope,
+    entry: &EntryTree,
+    ordered: bool,
+    comps: &[Comp],
+    next: usize,
+    fields: &[Option<Value>],
+) -> Result<(usize, Value), ValueFault>
+    requires proper { IsTrue (are_proper (components_of (map component_view comps.now))) }
+    requires fitting { AreFitting (meaning_of scope) }
+    requires count { length fields.now ≡ length comps.now }
+    ensures within { IfOk result (λ x. x.0 < length comps.now) }
+    ensures given { Gives (λ x. (x.0, value_view x.1)) named result (entry_at ordered (components_of (map component_view comps.now)) next (fields_view fields.now) (trees.entry_view entry.now).site (trees.entry_view entry.now).name (λ u. reading.read (meaning_of scope.entry) u (trees.entry_view entry.now).value)) }
+{
+    let (place, ty) = place_of(ordered, comps, next, fields, entry.site, entry.name)?;
+    let value = read(alloc, scope, &entry.value, ty)?;
+    Ok((place, value))
+}
+
+/// A SEQUENCE OF.
+#[cycle(values)]
+fn items(
+    alloc: Global,
+    scope: Scope,
+    entries: &[EntryTree],
+    site: Site,
+    ty: &Ty,
+) -> Result<Value, ValueFault>
+    requires proper { IsTrue (is_proper (type_view ty.now)) }
+    requires fitting { AreFitting (meaning_of scope) }
+    ensures { Gives value_view named result (read_items (meaning_of scope.entry) site (type_view ty.now) (entries_of (map trees.entry_view entries.now))) }
+{
+    let elements = elements(alloc, scope, entries, ty)?;
+    listed(site, elements)
+}
+
+#[cycle(values)]
+fn elements(
+    alloc: Global,
+    scope: Scope,
+    entries: &[EntryTree],
+    ty: &Ty,
+) -> Result<Vec<Value>, ValueFault>
+    requires proper { IsTrue (is_proper (type_view ty.now)) }
+    requires fitting { AreFitting (meaning_of scope) }
+    ensures { Gives (λ v. map value_view v.items) named result (read_elements (meaning_of scope.entry) false (type_view ty.now) (entries_of (map trees.entry_view entries.now))) }
+{
+    let mut elements = Vec::with_capacity(alloc, entries.len())?;
+    for entry in entries {
+        let value = element(alloc, scope, entry, ty)?;
+        elements.push(value)?;
+    }
+    Ok(elements)
+}
+
+/// A SET OF.
+#[cycle(values)]
+fn set_items(
+    alloc: Global,
+    scope: Scope,
+    entries: &[EntryTree],
+    site: Site,
+    ty: &Ty,
+) -> Result<Value, ValueFault>
+    requires proper { IsTrue (is_proper (type_view ty.now)) }
+    requires fitting { AreFitting (meaning_of scope) }
+    ensures { Gives value_view named result (read_set_items (meaning_of scope.entry) site (type_view ty.now) (entries_of (map trees.entry_view entries.now))) }
+{
+    let elements = encoded_elements(alloc, scope, entries, ty)?;
+    listed_set(alloc, site, ty, elements)
+}
+
+#[cycle(values)]
+fn encoded_elements(
+    alloc: Global,
+    scope: Scope,
+    entries: &[EntryTree],
+    ty: &Ty,
+) -> Result<Vec<Encoded>, ValueFault>
+    requires proper { IsTrue (is_proper (type_view ty.now)) }
+    requires fitting { AreFitting (meaning_of scope) }
+    ensures encodings { IfOk result (λ v. AreEncodings (type_view ty.now) (map encoded_view v.items)) }
+    ensures given { Gives (λ v. map encoded_value (map encoded_view v.items)) named result (read_elements (meaning_of scope.entry) true (type_view ty.now) (entries_of (map trees.entry_view entries.now))) }
+{
+    let mut elements = Vec::with_capacity(alloc, entries.len())?;
+    for entry in entries {
+        let element = encoded_element(alloc, scope, entry, ty)?;
+        elements.push(element)?;
+    }
+    Ok(elements)
+}
+
+/// An element of a SET OF, with its encoding.
+#[cycle(values)]
+fn encoded_element(
+    alloc: Global,
+    scope: Scope,
+    entry: &EntryTree,
+    ty: &Ty,
+) -> Result<Encoded, ValueFault>
+    requires proper { IsTrue (is_proper (type_view ty.now)) }
+    requires fitting { AreFitting (meaning_of scope) }
+    ensures encoding { IfOk result (λ e. der (type_view ty.now) (value_view e.value) ≡ Some e.octets.items) }
+    ensures given { Gives (λ e. value_view e.value) named result (element_at true (type_view ty.now) (trees.entry_view entry.now).site (trees.entry_view entry.now).name (reading.site_of (trees.entry_view entry.now).value) (reading.read (meaning_of scope.entry) (type_view ty.now) (trees.entry_view entry.now).value)) }
+{
+    let value = element(alloc, scope, entry, ty)?;
+    encoded(alloc, ty, entry.value.site, value)
+}
+
+/// An entry of an OF type has no name.
+#[cycle(values)]
+fn element(alloc: Global, scope: Scope, entry: &EntryTree, ty: &Ty) -> Result<Value, ValueFault>
+    requires proper { IsTrue (is_proper (type_view ty.now)) }
+    requires fitting { AreFitting (meaning_of scope) }
+    ensures { Gives value_view named result (element_at false (type_view ty.now) (trees.entry_view entry.now).site (trees.entry_view entry.now).name (reading.site_of (trees.entry_view entry.now).value) (reading.read (meaning_of scope.entry) (type_view ty.now) (trees.entry_view entry.now).value)) }
+{
+    if entry.name.is_some() {
+        return Err(ValueFault::WrongNotation(entry.site));
+    }
+    read(alloc, scope, &entry.value, ty)
+}

@@ -1,0 +1,150 @@
+-- The names of types in a definition mean definitions that stand before it in the order, so that they are known when it is built.
+use Rattle.std.proofs.Common.{◌≡◌, ℕ, zero, suc, ◌+◌, ◌≤◌, Bool, true, false, cond, not, ◌&&◌, ◌||◌, List, [], ◌∷◌, ◌++◌, length, map, take, Option, Some, None, option_map, is_some, slice_get, nat_eq, Contains, refl, sym, ◌∙◌, subst, arith, eqb-true, eq-eqb, append_assoc}
+use Rattle.std.specs.Option.{option_or}
+use Rattle.std.proofs.lemmas.List.{append-nil, length-append}
+use Rattle.std.proofs.lemmas.Option.{same_Some, slice_get_within}
+use Rattle.guard_model.specs.AbstractType.{AbstractType}
+use Rattle.guard_syntax.specs.Trees.{WrittenAssignment, WrittenModule}
+use Rattle.guard_names.specs.declared.fault.NameFault.TheVariants.{Duplicate, Undefined, NoModule, NotExported, ImportNotDefined, TooManyModules}
+use Rattle.guard_names.specs.Declarations.{Definition, definitions, declarations, definition_of, origin_there, Origins, Numbers}
+use Rattle.guard_names.specs.Faults.{first_where, first_found, too_many, duplicate, no_module, not_defined, not_exported, is_type, is_undefined_mention, undefined_export_in, undefined_mention_in, undefined_in, undefined, fault_of_names}
+use Rattle.guard_names.specs.Meanings.{Uses}
+use Rattle.guard_names.specs.Mentions.{Mention, mentions, in_type, in_perhaps_value}
+use Rattle.guard_names.specs.Order.{is_listed, Follow, IsOrder}
+use Rattle.guard_names.proofs.SameUses.{are_means}
+use Rattle.guard_tagging.specs.Surroundings.{known_of, known_meant, meaning_at, known_behind, known_from}
+use Rattle.guard_tagging.specs.Skeletons.{surroundings_of}
+use Rattle.guard_tagging.specs.Types.{Meaning}
+use Rattle.guard_tagging.proofs.Numbered.{AreMeant}
+
+-- ---- a name of a type that means nothing would be a fault of names
+
+neither : {A : Type 0} (a b : Option A) → option_or a b ≡ None → (a ≡ None) × (b ≡ None)
+neither None b h = (refl, h)
+neither (Some x) b h = absurd cc
+
+no_site : {A B : Type 0} (f : A → B) (o : Option A) → option_map f o ≡ None → o ≡ None
+no_site f None h = refl
+no_site f (Some a) h = absurd cc
+
+undefined_none : (ms : List WrittenModule) → fault_of_names ms ≡ None → undefined ms ≡ None
+undefined_none ms h =
+    let a = neither (cond (too_many ms) (Some TooManyModules) None) _ h in
+    let b = neither (option_map Duplicate (duplicate ms)) _ a.1 in
+    let c = neither (option_map NoModule (no_module ms)) _ b.1 in
+    let d = neither (option_map ImportNotDefined (not_defined ms)) _ c.1 in
+    let e = neither (option_map NotExported (not_exported ms)) (option_map Undefined (undefined ms)) d.1 in
+    no_site Undefined (undefined ms) e.1
+
+module _ (numbers : Numbers) where
+  abbrev Defined : Definition → Type 0
+  Defined d = undefined_mention_in numbers d.home.name d.assignment ≡ None
+
+  assigned_defined : (m : WrittenModule) (assignments : List WrittenAssignment) (rest : List Definition) → first_found (undefined_mention_in numbers m.name) assignments ≡ None
+      → ((i : ℕ) (d : Definition) → slice_get rest i ≡ Some d → Defined d)
+      → (i : ℕ) (d : Definition) → slice_get (map (λ a. record { home = m; assignment = a }) assignments ++ rest) i ≡ Some d → Defined d
+  assigned_defined m [] rest s others i d h = others i d h
+  assigned_defined m (a ∷ assignments) rest s others zero d h =
+      subst (λ (x : Definition). undefined_mention_in numbers x.home.name x.assignment ≡ None) (same_Some _ d h) (neither (undefined_mention_in numbers m.name a) (first_found (undefined_mention_in numbers m.name) assignments) s).0
+  assigned_defined m (a ∷ assignments) rest s others (suc i) d h =
+      assigned_defined m assignments rest (neither (undefined_mention_in numbers m.name a) (first_found (undefined_mention_in numbers m.name) assignments) s).1 others i d h
+
+  module _ (origins : Origins) where
+    all_defined : (ms : List WrittenModule) → first_found (undefined_in origins numbers) ms ≡ None → (i : ℕ) (d : Definition) → slice_get (definitions ms) i ≡ Some d → Defined d
+    all_defined [] s i d h = absurd cc
+    all_defined (m ∷ ms) s i d h =
+        let n = neither (undefined_in origins numbers m) (first_found (undefined_in origins numbers) ms) s in
+        assigned_defined m m.assignments (definitions ms) (neither (undefined_export_in origins m) (first_found (undefined_mention_in numbers m.name) m.assignments) n.0).1 (all_defined ms n.1) i d h
+
+  -- each name of a type has a number
+  abbrev HasNumber : List ℕ → Mention → Type 0
+  HasNumber home x = is_type x.kind ≡ true → (number : ℕ) × (numbers home x.name ≡ Some number)
+
+  numbered_here : (kind : Bool) (o : Option ℕ) → (kind && not (is_some o)) ≡ false → kind ≡ true → (number : ℕ) × (o ≡ Some number)
+  numbered_here true None h e = absurd cc
+  numbered_here true (Some n) h e = (n, refl)
+  numbered_here false o h e = absurd cc
+
+  passed : {A : Type 0} (wrong : Bool) (a : A) (rest : Option A) → cond wrong (Some a) rest ≡ None → (wrong ≡ false) × (rest ≡ None)
+  passed true a rest h = absurd cc
+  passed false a rest h = (refl, h)
+
+  have_numbers : (home : List ℕ) (xs : List Mention) → first_where (is_undefined_mention numbers home) (λ x. x.site) xs ≡ None → (x : Mention) → Contains xs x → HasNumber home x
+  have_numbers home [] h x is = absurd (omega (arith, is.1))
+  have_numbers home (y ∷ xs) h x (zero, l, e) =
+      subst (λ (z : Mention). HasNumber home z) e (numbered_here (is_type y.kind) (numbers home y.name) (passed (is_undefined_mention numbers home y) y.site (first_where (is_undefined_mention numbers home) (λ z. z.site) xs) h).0)
+  have_numbers home (y ∷ xs) h x (suc k, l, e) =
+      have_numbers home xs (passed (is_undefined_mention numbers home y) y.site (first_where (is_undefined_mention numbers home) (λ z. z.site) xs) h).1 x (k, omega (arith, l), e)
+
+-- ---- what is used stands before
+
+module _ (count : ℕ) (uses : ℕ → ℕ → Type 0) where
+  listed_before : (listed rest : List ℕ) → Follow count uses listed rest → (place id used : ℕ) → slice_get rest place ≡ Some id → uses id used → is_listed (listed ++ take place rest) used ≡ true
+  listed_before listed [] f place id used h u = absurd cc
+  listed_before listed (x ∷ rest) f zero id used h u =
+      subst (λ (xs : List ℕ). is_listed xs used ≡ true) (sym (append-nil listed)) (f.0.ready.met used (subst (λ (y : ℕ). uses y used) (sym (same_Some x id h)) u))
+  listed_before listed (x ∷ rest) f (suc place) id used h u =
+      subst (λ (xs : List ℕ). is_listed xs used ≡ true) (append_assoc listed (x ∷ []) (take place rest)) (listed_before (listed ++ x ∷ []) rest f.1 place id used h u)
+
+same_other_way : (a b : ℕ) → nat_eq a b ≡ true → nat_eq b a ≡ true
+same_other_way a b h = eq-eqb b a (sym (eqb-true a b h))
+
+known_listed : (order : List ℕ) (known : List Meaning) (place number : ℕ) → place ≤ length known → is_listed (take place order) number ≡ true → is_some (known_of order known number) ≡ true
+known_listed [] known zero number l h = absurd cc
+known_listed [] known (suc place) number l h = absurd cc
+known_listed (n ∷ order) known zero number l h = absurd cc
+known_listed (n ∷ order) [] (suc place) number l h = absurd (omega (arith, l))
+known_listed (n ∷ order) (m ∷ known) (suc place) number l h = by (nat_eq n number) refl (known_listed order known place number (omega (arith, l)))
+  where
+    later : (a b : Bool) → (a || b) ≡ true → (a ≡ true → ⊥) → b ≡ true
+    later true b e ne = absurd (ne refl)
+    later false b e ne = e
+
+    false_true : false ≡ true → ⊥
+    false_true e = cc
+
+    by : (b : Bool) → nat_eq n number ≡ b → (is_listed (take place order) number ≡ true → is_some (known_of order known number) ≡ true) → is_some (cond b (Some m) (known_of order known number)) ≡ true
+    by true e rest = refl
+    by false e rest = rest (later (nat_eq number n) (is_listed (take place order) number) h (λ s. false_true (sym e ∙ same_other_way number n s)))
+
+-- ---- as much is known as is built
+
+module _ (ms : List WrittenModule) (order : List ℕ) where
+  as_many_behind : (known : List Meaning) (rest : List ℕ) (types : List AbstractType) → length types ≤ length rest → length (known_behind ms order known rest types) ≡ length known + length types
+  as_many_behind known [] [] l = omega arith
+  as_many_behind known [] (t ∷ types) l = absurd (omega (arith, l))
+  as_many_behind known (n ∷ rest) [] l = omega arith
+  as_many_behind known (n ∷ rest) (t ∷ types) l =
+      let more = as_many_behind (known ++ meaning_at ms order known n t ∷ []) rest types (omega (arith, l)) in omega (arith, more, length-append known (meaning_at ms order known n t ∷ []))
+
+  known_as_many : (types : List AbstractType) → length types ≤ length order → length (known_from ms order types) ≡ length types
+  known_as_many types l = let e = as_many_behind [] order types l in omega (arith, e)
+
+-- ---- so each name of a type is known
+
+module _ (ms : List WrittenModule) (none : fault_of_names ms ≡ None) (order : List ℕ) (ordered : IsOrder (length (definitions ms)) (Uses ms) order) (types : List AbstractType) (id : ℕ)
+    (next : slice_get order (length types) ≡ Some id) (d : Definition) (is : slice_get (definitions ms) id ≡ Some d) where
+  abbrev numbers : Numbers
+  numbers = definition_of (origin_there (declarations ms))
+
+  known : (number : ℕ) → Uses ms id number → is_some (known_of order (known_from ms order types) number) ≡ true
+  known number u =
+      let within = slice_get_within order (length types) id next in
+      let many = known_as_many ms order types (omega (arith, within)) in
+      known_listed order (known_from ms order types) (length types) number (omega (arith, many)) (listed_before (length (definitions ms)) (Uses ms) [] order ordered.follow (length types) id number next u)
+
+  meant : (x : Mention) → Contains (mentions d.assignment) x → is_type x.kind ≡ true → is_some ((surroundings_of ms order types d).meaning x.name) ≡ true
+  meant x here kind =
+      let n = have_numbers numbers d.home.name (mentions d.assignment) (all_defined numbers (origin_there (declarations ms)) ms (undefined_none ms none) id d is) x here kind in
+      subst (λ (o : Option ℕ). is_some (known_meant order (known_from ms order types) o) ≡ true) (sym n.1) (known n.0 (d, is, x, here, are_means ms none d.home.name x.name n.0 n.1))
+
+  all_meant : (xs : List Mention) → ((x : Mention) → Contains xs x → is_type x.kind ≡ true → is_some ((surroundings_of ms order types d).meaning x.name) ≡ true) → AreMeant (surroundings_of ms order types d) xs
+  all_meant [] h = tt
+  all_meant (x ∷ xs) h = (h x (zero, omega arith, refl), all_meant xs (λ y c. h y (suc c.0, omega (arith, c.1), c.2)))
+
+  front_meant : (xs ys : List Mention) → AreMeant (surroundings_of ms order types d) (xs ++ ys) → AreMeant (surroundings_of ms order types d) xs
+  front_meant [] ys h = tt
+  front_meant (x ∷ xs) ys h = (h.0, front_meant xs ys h.1)
+
+  pub type_meant : AreMeant (surroundings_of ms order types d) (in_type d.assignment.ty)
+  type_meant = front_meant (in_type d.assignment.ty) (in_perhaps_value d.assignment.value) (all_meant (mentions d.assignment) meant)

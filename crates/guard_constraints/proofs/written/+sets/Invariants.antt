@@ -1,0 +1,24 @@
+use Rattle.std.proofs.Common.{◌≡◌, drop, map}
+use Rattle.guard_model.specs.Each.{each}
+use Rattle.guard_model.specs.TypeView.{type_view, constraint_view, part_view}
+use Rattle.guard_model.proofs.Loops.{with_front}
+use Rattle.guard_syntax.specs.SetViews as views
+use Rattle.guard_der.specs.ProperConstraints.{kind_of}
+use Rattle.guard_constraints.specs.Reading.{behind, joined_intersections, joined_differences, read_part}
+use Rattle.guard_constraints.specs.Views.{visible_in}
+use Rattle.guard_constraints.proofs.written.+sets.Given as goal
+
+abbrev pub invariant-united-loop-other : goal.invariant-united-loop-other
+invariant-united-loop-other l =
+    with_front (map constraint_view l.all.items) (joined_intersections (visible_in l.context) (type_view l.ty) (map views.joined_intersection_view (drop l.other-index l.others)))
+    ≡ behind (constraint_view l.fn.first) (joined_intersections (visible_in l.context) (type_view l.ty) (map views.joined_intersection_view l.others))
+
+abbrev pub invariant-met-loop-other : goal.invariant-met-loop-other
+invariant-met-loop-other l =
+    with_front (map constraint_view l.all.items) (joined_differences (visible_in l.context) (type_view l.ty) (map views.joined_difference_view (drop l.other-index l.others)))
+    ≡ behind (constraint_view l.fn.first) (joined_differences (visible_in l.context) (type_view l.ty) (map views.joined_difference_view l.others))
+
+abbrev pub invariant-each_part-loop-one : goal.invariant-each_part-loop-one
+invariant-each_part-loop-one l =
+    with_front (map part_view l.parts.items) (each (read_part (visible_in l.context) (kind_of (type_view l.ty))) (map views.part_view (drop l.one-index l.listed)))
+    ≡ each (read_part (visible_in l.context) (kind_of (type_view l.ty))) (map views.part_view l.listed)

@@ -1,0 +1,30 @@
+use Rattle.guard_model.specs.TypeView.{type_view}
+use Rattle.guard_syntax.specs.SetViews as views
+use Rattle.guard_constraints.specs.Views.{visible_at}
+use Rattle.guard_constraints.proofs.Answered.{gives_denoted, gives_proper, gives_faultless, gives_first, gives_none}
+use Rattle.guard_constraints.proofs.Values.{visible_fit, visible_sound}
+use Rattle.guard_constraints.proofs.written.constraint.Goals as goal
+
+pub returns-clause-denoted : goal.returns-clause-denoted
+returns-clause-denoted c =
+    gives_denoted (visible_at c.args.names.now c.args.known.now c.args.id) (type_view c.args.ty.now) (views.constraint_view c.args.tree.now)
+    (visible_fit c.args.names.now c.args.known.now c.args.id c.requires.fitting) c.requires.sound c.on_type.result c.on_type.ensures
+
+pub returns-clause-proper : goal.returns-clause-proper
+returns-clause-proper c =
+    gives_proper (visible_at c.args.names.now c.args.known.now c.args.id) (type_view c.args.ty.now) (views.constraint_view c.args.tree.now)
+    (visible_fit c.args.names.now c.args.known.now c.args.id c.requires.fitting) c.requires.sound (visible_sound c.args.names.now c.args.known.now c.args.id c.requires.known) c.on_type.result c.on_type.ensures
+
+pub returns-clause-faultless : goal.returns-clause-faultless
+returns-clause-faultless c =
+    gives_faultless (visible_at c.args.names.now c.args.known.now c.args.id) (type_view c.args.ty.now) (views.constraint_view c.args.tree.now)
+    (visible_fit c.args.names.now c.args.known.now c.args.id c.requires.fitting) c.requires.sound c.on_type.result c.on_type.ensures
+
+pub returns-clause-first : goal.returns-clause-first
+returns-clause-first c =
+    gives_first (visible_at c.args.names.now c.args.known.now c.args.id) (type_view c.args.ty.now) (views.constraint_view c.args.tree.now)
+    (visible_fit c.args.names.now c.args.known.now c.args.id c.requires.fitting) c.requires.sound c.on_type.result c.on_type.ensures
+
+pub returns-clause-none : goal.returns-clause-none
+returns-clause-none c =
+    gives_none (visible_at c.args.names.now c.args.known.now c.args.id) (type_view c.args.ty.now) (views.constraint_view c.args.tree.now) c.on_type.result c.on_type.ensures

@@ -1,0 +1,87 @@
+-- What the code's results and arguments stand for.
+use Rattle.std.specs.Prelude.{ℕ, List, Option, Some, None, slice_get, IsTrue, IfSome}
+use Rattle.std.specs.Option.{option_map}
+use Rattle.std.specs.Borrow.{Bor}
+use Rattle.guard_model.specs.AbstractType.{AbstractType}
+use Rattle.guard_model.specs.TypeView.{type_view, component_view}
+use Rattle.guard_model.specs.declared.ty.Comp.{Comp}
+use Rattle.guard_model.specs.declared.ty.Ty.{Ty}
+use Rattle.guard_syntax.specs.SetViews.{part_view}
+use Rattle.guard_syntax.specs.declared.tree.ComponentConsTree.{ComponentConsTree}
+use Rattle.guard_values.specs.declared.fault.ValueFault.{ValueFault}
+use Rattle.guard_values.specs.declared.fault.ValueFault.TheVariants as value_fault
+use Rattle.guard_values.specs.declared.scope.Known.{Known}
+use Rattle.guard_values.specs.Visible.{visible_definition, placed_definition}
+use Rattle.guard_values.specs.Views.{home_name, visible_from}
+use Rattle.guard_names.specs.declared.names.Names.{Names}
+use Rattle.guard_names.specs.Declarations.{definitions}
+use Rattle.guard_names.specs.NamesView.{modules_of, order_of}
+use Rattle.guard_der.specs.Sound.{is_sound}
+use Rattle.guard_constraints.specs.declared.context.Context.{Context}
+use Rattle.guard_constraints.specs.declared.fault.ConsFault.{ConsFault}
+use Rattle.guard_constraints.specs.declared.fault.ConsFault.TheVariants as fault
+use Rattle.guard_constraints.specs.declared.alphabets.End.{End}
+use Rattle.guard_constraints.specs.declared.alphabets.End.TheVariants as code
+use Rattle.guard_constraints.specs.declared.alphabets.Item.{Item}
+use Rattle.guard_constraints.specs.declared.alphabets.Item.TheVariants as item
+use Rattle.guard_constraints.specs.Visible.{Visible}
+use Rattle.guard_constraints.specs.PermittedAlphabets.{CodeEnd, open_end, character, AlphabetItem, all_of, between}
+use Rattle.guard_constraints.specs.ListedParts.{PartHead, head_of, Placed}
+
+-- ---- faults
+
+-- the fault that a refusal names, where memory didn't run out
+abbrev pub named : ConsFault → Option ConsFault
+named fault.OutOfMemory = None
+named f = Some f
+
+-- a value's fault as one of the constraint
+abbrev pub fault_with : ValueFault → ConsFault
+fault_with value_fault.OutOfMemory = fault.OutOfMemory
+fault_with f = fault.Value f
+
+-- ---- names
+
+abbrev pub type_at : Known → ℕ → Option AbstractType
+type_at known place = option_map type_view (slice_get known.types.items place)
+
+-- of the definition at this place in the order
+abbrev pub placed_type : Known → Option ℕ → Option AbstractType
+placed_type known None = None
+placed_type known (Some place) = type_at known place
+
+-- what upper-case names mean in the module of this definition
+abbrev pub types_from : Names → Known → ℕ → List ℕ → Option AbstractType
+types_from names known id name =
+    placed_type known (placed_definition (order_of names) (visible_definition (modules_of names) (home_name (slice_get (definitions (modules_of names)) id)) name))
+
+abbrev pub visible_at : Names → Known → ℕ → Visible
+visible_at names known id = record { values = visible_from names known id; types = types_from names known id }
+
+abbrev pub visible_in : Context → Visible
+visible_in context = visible_at context.names.now context.known.now context.id
+
+-- each known type is sound
+abbrev pub AreKnownSound : Known → Type 0
+AreKnownSound known = (place : ℕ) → IfSome (type_at known place) (λ t. IsTrue (is_sound t))
+
+-- ---- what stands inside FROM
+
+abbrev pub code_view : End → CodeEnd
+code_view code.Open = open_end
+code_view (code.Character site c) = character site c
+
+abbrev pub item_view : Item → AlphabetItem
+item_view (item.All site codes) = all_of (record { site = site; codes = codes.items })
+item_view (item.Between low high) = between (code_view low) (code_view high)
+
+-- ---- parts of WITH COMPONENTS
+
+abbrev pub head_view : ComponentConsTree → PartHead
+head_view p = head_of (part_view p)
+
+abbrev pub placed_view : ℕ × Bor Comp → Placed
+placed_view x = record { place = x.0; one = component_view x.1.now }
+
+abbrev pub located_view : ℕ × Bor Ty → ℕ × AbstractType
+located_view x = (x.0, type_view x.1.now)

@@ -1,0 +1,206 @@
+//! What WITH COMPONENTS lists (X.680 51.8.5 to 51.8.9), the constraints in it aside.
+ghost use Rattle.std.specs.Prelude.{◌≡◌, ◌<◌, [], length, map, option_map, IsTrue, IfOk, IfSome};
+ghost use Rattle.guard_model.specs.Answer.{Gives};
+ghost use Rattle.guard_model.specs.TypeView.{type_view, kind_view, component_view, components_of, presence_view};
+ghost use Rattle.guard_der.specs.Fits.{may_be_absent};
+ghost use Rattle.guard_der.specs.ProperConstraints.{kind_of};
+ghost use Rattle.guard_der.specs.Sound.{is_sound};
+ghost use Rattle.guard_constraints.specs.ListedParts as listing;
+ghost use Rattle.guard_constraints.specs.PartFaults.{part_fault};
+ghost use Rattle.guard_constraints.specs.Reading as reading;
+ghost use Rattle.guard_constraints.specs.Views.{named, head_view, placed_view, located_view};
+
+use crate::fault::ConsFault;
+use crate::kinds::{components_in, has_parts, is_choice};
+use guard_model::{Comp, Kind, Presence, Site, Ty, Word};
+use guard_syntax::{ComponentConsTree, PresenceWord};
+
+/// The first component or alternative with this name: its place, and itself.
+fn component_named<'a>(name: &[u8], comps: &'a [Comp]) -> Option<(usize, &'a Comp)>
+    ensures found { option_map placed_view result ≡ listing.component_named name.now (components_of (map component_view comps.now)) }
+    ensures within { IfSome result (λ x. x.0 < length comps.now) }
+{
+    for index in 0..comps.len() {
+        if name == comps[index].name.as_bytes() {
+            return Some((index, &comps[index]));
+        }
+    }
+    None
+}
+
+/// The presence word, where there is one.
+pub fn word_of(presence: Option<PresenceWord>) -> Option<Word>
+    ensures { result ≡ option_map listing.word_of presence }
+{
+    match presence? {
+        PresenceWord::Present => Some(Word::Present),
+        PresenceWord::Absent => Some(Word::Absent),
+        PresenceWord::Optional => Some(Word::Optional),
+    }
+}
+
+/// Where a part's name leads in a type: its place, and the type there.
+pub fn located<'a>(name: &[u8], ty: &'a Ty, site: Site) -> Result<(u8, &'a Ty), ConsFault>
+    requires { IsTrue (is_sound (type_view ty.now)) }
+    ensures sound { IfOk result (λ x. IsTrue (is_sound (type_view x.1.now))) }
+    ensures given { Gives located_view named result (reading.located site (kind_of (type_view ty.now)) name.now) }
+{
+    match component_named(name, components_in(&ty.kind)) {
+        Some((place, comp)) => Ok((place as u8, &comp.ty)),
+        None => Err(ConsFault::UnknownComponent(site)),
+    }
+}
+
+/// The type has parts, and none of those that are listed has a fault of its own.
+pub fn check_parts(parts: &[ComponentConsTree], ty: &Ty, site: Site) -> Result<(), ConsFault>
+    ensures { Gives (λ u. tt) named result (reading.checked (type_view ty.now) site (map head_view parts.now)) }
+{
+    if !has_parts(&ty.kind) {
+        return Err(ConsFault::NotApplicable(site));
+    }
+    check_each(&ty.kind, parts)
+}
+
+/// All are looked through for one fault before the next.
+fn check_each(kind: &Kind, parts: &[ComponentConsTree]) -> Result<(), ConsFault>
+    ensures { Gives (λ u. tt) named result (reading.unless_fault (part_fault (kind_view kind.now) (map head_view parts.now))) }
+{
+    if let Some(site) = first_bad_word(kind, parts) {
+        return Err(ConsFault::PresenceWord(site));
+    }
+    if let Some(site) = first_unknown(kind, parts) {
+        return Err(ConsFault::UnknownComponent(site));
+    }
+    if let Some(site) = first_repeated(parts) {
+        return Err(ConsFault::RepeatedComponent(site));
+    }
+    match second_present(is_choice(kind), parts) {
+        Some(site) => Err(ConsFault::TwoPresent(site)),
+        None => Ok(()),
+    }
+}
+
+// ---- presence words
+
+/// The first part with a word that can't speak of its component or alternative.
+fn first_bad_word(kind: &Kind, parts: &[ComponentConsTree]) -> Option<Site>
+    ensures { result ≡ listing.first_where (listing.has_bad_word (kind_view kind.now)) (map head_view parts.now) }
+{
+    for part in parts {
+        if has_bad_word(kind, part) {
+            return Some(part.site);
+        }
+    }
+    None
+}
+
+fn has_bad_word(kind: &Kind, part: &ComponentConsTree) -> bool
+    ensures { result ≡ listing.has_bad_word (kind_view kind.now) (head_view part.now) }
+{
+    match component_named(part.name, components_in(kind)) {
+        Some((_, comp)) => !may_say(is_choice(kind), &comp.presence, part.presence),
+        None => false,
+    }
+}
+
+/// Over a SEQUENCE or SET a word speaks of an OPTIONAL component; an alternative is PRESENT or ABSENT.
+fn may_say(choice: bool, presence: &Presence, word: Option<PresenceWord>) -> bool
+    ensures { result ≡ listing.may_say choice (presence_view presence.now) word }
+{
+    match word {
+        None => true,
+        Some(PresenceWord::Optional) => !choice && may_be_absent(presence),
+        Some(_) => choice || may_be_absent(presence),
+    }
+}
+
+fn may_be_absent(presence: &Presence) -> bool
+    ensures { result ≡ may_be_absent (presence_view presence.now) }
+{
+    match presence {
+        Presence::Optional => true,
+        _ => false,
+    }
+}
+
+// ---- names
+
+/// The first part that names no component or alternative.
+fn first_unknown(kind: &Kind, parts: &[ComponentConsTree]) -> Option<Site>
+    ensures { result ≡ listing.first_where (listing.is_unknown (kind_view kind.now)) (map head_view parts.now) }
+{
+    for part in parts {
+        if component_named(part.name, components_in(kind)).is_none() {
+            return Some(part.site);
+        }
+    }
+    None
+}
+
+/// The first part with the name of one before it.
+fn first_repeated(parts: &[ComponentConsTree]) -> Option<Site>
+    ensures { result ≡ listing.first_repeated [] (map head_view parts.now) }
+{
+    for index in 0..parts.len() {
+        if is_among(parts[index].name, &parts[..index]) {
+            return Some(parts[index].site);
+        }
+    }
+    None
+}
+
+fn is_among(name: &[u8], parts: &[ComponentConsTree]) -> bool
+    ensures { result ≡ listing.is_among name.now (map head_view parts.now) }
+{
+    for part in parts {
+        if name == part.name {
+            return true;
+        }
+    }
+    false
+}
+
+// ---- two that are PRESENT
+
+/// Over a CHOICE the second part that is PRESENT.
+fn second_present(choice: bool, parts: &[ComponentConsTree]) -> Option<Site>
+    ensures { result ≡ listing.second_present choice (map head_view parts.now) }
+{
+    if choice {
+        first_present(behind_present(parts))
+    } else {
+        None
+    }
+}
+
+fn first_present(parts: &[ComponentConsTree]) -> Option<Site>
+    ensures { result ≡ listing.first_where listing.is_present (map head_view parts.now) }
+{
+    for part in parts {
+        if is_present(part) {
+            return Some(part.site);
+        }
+    }
+    None
+}
+
+/// The parts behind the first that is PRESENT.
+fn behind_present<'a, 't>(parts: &'a [ComponentConsTree<'t>]) -> &'a [ComponentConsTree<'t>]
+    ensures { map head_view result.now ≡ listing.behind_first listing.is_present (map head_view parts.now) }
+{
+    for index in 0..parts.len() {
+        if is_present(&parts[index]) {
+            return &parts[index + 1..];
+        }
+    }
+    &[]
+}
+
+fn is_present(part: &ComponentConsTree) -> bool
+    ensures { result ≡ listing.is_present (head_view part.now) }
+{
+    match part.presence {
+        Some(PresenceWord::Present) => true,
+        _ => false,
+    }
+}

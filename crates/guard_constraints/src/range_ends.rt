@@ -1,0 +1,120 @@
+//! Ranges of integers (X.680 51.4).
+ghost use Rattle.std.specs.Prelude.{◌≡◌, IsTrue};
+ghost use Rattle.guard_model.specs.Answer.{Gives};
+ghost use Rattle.guard_model.specs.TypeView.{type_view, constraint_view};
+ghost use Rattle.guard_model.specs.ValueView as values;
+ghost use Rattle.guard_der.specs.Sound.{is_sound};
+ghost use Rattle.guard_syntax.specs.Views as trees;
+ghost use Rattle.guard_syntax.specs.SetViews.{end_view, end_or_view, range_view};
+ghost use Rattle.guard_values.specs.Views.{visible_from, AreKnownFitting};
+ghost use Rattle.guard_constraints.specs.RangeEnds as ends;
+ghost use Rattle.guard_constraints.specs.Reading.{read_range, read_limit, read_end, integer_in};
+ghost use Rattle.guard_constraints.specs.Views.{named};
+
+use crate::context::Context;
+use crate::fault::ConsFault;
+use crate::kinds::is_integer;
+use guard_model::{Cons, Limit, Rule, Site, Ty, Value};
+use guard_syntax::{EndForm, EndTree, RangeTree, StringKind, ValueForm, ValueTree};
+use guard_values::{ValueFault, value};
+use std::alloc::Global;
+
+/// The integers between two ends.
+pub fn range(
+    alloc: Global,
+    context: Context,
+    tree: &RangeTree,
+    site: Site,
+    ty: &Ty,
+) -> Result<Cons, ConsFault>
+    requires sound { IsTrue (is_sound (type_view ty.now)) }
+    requires fitting { AreKnownFitting context.known.now }
+    ensures { Gives constraint_view named result (read_range (visible_from context.entry.names.now context.entry.known.now context.entry.id) (type_view ty.now) site (range_view tree.now)) }
+{
+    if !is_integer(&ty.kind) {
+        return Err(ConsFault::NotApplicable(site));
+    }
+    if !has_proper_ends(tree) {
+        return Err(ConsFault::ExclusiveLimit(site));
+    }
+    let low = limit(alloc, context, &tree.low, tree.above_low, ty)?;
+    let high = limit(alloc, context, &tree.high, tree.below_high, ty)?;
+    Ok(Cons {
+        site,
+        rule: Rule::Range(low, high),
+    })
+}
+
+/// `<` stands at neither MIN nor MAX.
+fn has_proper_ends(tree: &RangeTree) -> bool
+    ensures { result ≡ ends.has_proper_ends (range_view tree.now) }
+{
+    let leaves_min_out = tree.above_low && tree.low.is_none();
+    let leaves_max_out = tree.below_high && tree.high.is_none();
+    !leaves_min_out && !leaves_max_out
+}
+
+/// What an end limits: where `<` stands at it, it is outside.
+fn limit(
+    alloc: Global,
+    context: Context,
+    end: &Option<EndTree>,
+    outside: bool,
+    ty: &Ty,
+) -> Result<Limit, ConsFault>
+    requires sound { IsTrue (is_sound (type_view ty.now)) }
+    requires fitting { AreKnownFitting context.known.now }
+    ensures { Gives (λ l. l) named result (read_limit (visible_from context.entry.names.now context.entry.known.now context.entry.id) (type_view ty.now) outside (end_or_view end.now)) }
+{
+    let Some(end) = end else {
+        return Ok(Limit::Free);
+    };
+    let number = number_at(alloc, context, end, ty)?;
+    if outside {
+        Ok(Limit::Past(number))
+    } else {
+        Ok(Limit::At(number))
+    }
+}
+
+/// The integer that an end is.
+fn number_at(alloc: Global, context: Context, end: &EndTree, ty: &Ty) -> Result<i128, ConsFault>
+    requires sound { IsTrue (is_sound (type_view ty.now)) }
+    requires fitting { AreKnownFitting context.known.now }
+    ensures { Gives (λ n. n) named result (read_end (visible_from context.entry.names.now context.entry.known.now context.entry.id) (type_view ty.now) (end_view end.now)) }
+{
+    let number = value(
+        alloc,
+        context.names,
+        context.known,
+        context.id,
+        ty,
+        &value_of_end(end),
+    )?;
+    integer_in(end.site, &number)
+}
+
+/// The integer that a value of INTEGER is.
+fn integer_in(site: Site, value: &Value) -> Result<i128, ConsFault>
+    ensures { Gives (λ n. n) named result (integer_in site (values.value_view value.now)) }
+{
+    match value {
+        Value::Int(number) => Ok(*number),
+        _ => Err(ConsFault::Value(ValueFault::WrongNotation(site))),
+    }
+}
+
+/// An end as the tree of a value.
+fn value_of_end<'a>(end: &EndTree<'a>) -> ValueTree<'a>
+    ensures { trees.value_view result ≡ ends.value_of_end (end_view end.now) }
+{
+    let form = match end.form {
+        EndForm::Integer(number) => ValueForm::Integer(number),
+        EndForm::Reference(name) => ValueForm::Reference(name),
+        EndForm::Characters(spelling) => ValueForm::Text(StringKind::Characters, spelling),
+    };
+    ValueTree {
+        site: end.site,
+        form,
+    }
+}

@@ -1,0 +1,404 @@
+//! The constraint that a tree of the notation denotes on a type (X.680 49 to 51).
+ghost use Rattle.std.specs.Prelude.{◌≡◌, map, IsTrue, IfOk, IfErr, IfSome, None, Some, option_map};
+ghost use Rattle.guard_model.specs.Answer.{Gives};
+ghost use Rattle.guard_model.specs.AbstractType as abstract;
+ghost use Rattle.guard_model.specs.AbstractType.{Constraint};
+ghost use Rattle.guard_model.specs.Each.{each};
+ghost use Rattle.guard_model.specs.TypeView.{type_view, constraint_view, part_view};
+ghost use Rattle.guard_der.specs.Sound.{is_sound, is_proper_constraint};
+ghost use Rattle.guard_syntax.specs.Trees as trees;
+ghost use Rattle.guard_syntax.specs.SetViews as views;
+ghost use Rattle.guard_syntax.specs.Views as values;
+ghost use Rattle.guard_der.specs.ProperConstraints.{kind_of};
+ghost use Rattle.guard_values.specs.Views.{AreKnownFitting};
+ghost use Rattle.guard_constraints.specs.Denotes.{Denotes};
+ghost use Rattle.guard_constraints.specs.Faults.{fault_of};
+ghost use Rattle.guard_constraints.specs.Reading as reading;
+ghost use Rattle.guard_constraints.specs.Views.{named, visible_at, visible_in, AreKnownSound};
+
+use crate::alphabets::alphabet;
+use crate::contained_types::contained;
+use crate::context::Context;
+use crate::fault::ConsFault;
+use crate::kinds::{element_type, size_type};
+use crate::listed_parts::{check_parts, located, word_of};
+use crate::range_ends::range;
+use guard_model::{Cons, Part, Rule, Site, Ty};
+use guard_names::{Id, Names};
+use guard_syntax::{
+    ComponentConsTree, ConsTree, DifferenceTree, ElementForm, ElementTree, IntersectionTree,
+    JoinedDifference, JoinedIntersection, SetForm, SetTree, ValueTree,
+};
+use guard_values::{Known, value};
+use std::alloc::{AllocError, Global};
+
+/// The constraint that a tree denotes on a type, where it stands in this definition; or the first fault. The type and each known type
+/// are sound, and each known value is one of its governor's.
+pub fn constraint(
+    alloc: Global,
+    names: &Names,
+    known: &Known,
+    id: Id,
+    ty: &Ty,
+    tree: &ConsTree,
+) -> Result<Cons, ConsFault>
+    requires sound { IsTrue (is_sound (type_view ty.now)) }
+    requires fitting { AreKnownFitting known.now }
+    requires known { AreKnownSound known.now }
+    // The constraint is the one denoted, with the sites of its nodes, and it may stand on the type.
+    ensures denoted { IfOk result (λ c. Denotes (visible_at names.now known.now id) (type_view ty.now) (views.constraint_view tree.now) (constraint_view c)) }
+    ensures proper { IfOk result (λ c. IsTrue (is_proper_constraint (constraint_view c) (type_view ty.now))) }
+    ensures faultless { IfOk result (λ c. fault_of (visible_at names.now known.now id) (type_view ty.now) (views.constraint_view tree.now) ≡ None) }
+    // A fault that is named is the first, and then nothing is denoted.
+    ensures first { IfErr result (λ e. IfSome (named e) (λ f. fault_of (visible_at names.now known.now id) (type_view ty.now) (views.constraint_view tree.now) ≡ Some f)) }
+    ensures none { IfErr result (λ e. IfSome (named e) (λ f. (c : Constraint) → Denotes (visible_at names.now known.now id) (type_view ty.now) (views.constraint_view tree.now) c → ⊥)) }
+{
+    on_type(alloc, Context { names, known, id }, tree, ty)
+}
+
+/// A set in parentheses.
+#[cycle(sets)]
+#[tactic(auto, unfolding(crate::specs::Reading::read))]
+fn on_type(alloc: Global, context: Context, tree: &ConsTree, ty: &Ty) -> Result<Cons, ConsFault>
+    requires sound { IsTrue (is_sound (type_view ty.now)) }
+    requires fitting { AreKnownFitting context.known.now }
+    ensures { Gives constraint_view named result (reading.read (visible_in context.entry) (type_view ty.now) (views.constraint_view tree.now)) }
+{
+    set(alloc, context, &tree.set, ty)
+}
+
+#[cycle(sets)]
+#[tactic(auto, unfolding(crate::specs::Reading::read))]
+fn set(alloc: Global, context: Context, tree: &SetTree, ty: &Ty) -> Result<Cons, ConsFault>
+    requires sound { IsTrue (is_sound (type_view ty.now)) }
+    requires fitting { AreKnownFitting context.known.now }
+    ensures { Gives constraint_view named result (reading.read_set (visible_in context.entry) (type_view ty.now) (views.set_view tree.now)) }
+{
+    match &tree.form {
+        SetForm::AllExcept(other) => {
+            let other = element(alloc, context, other, ty)?;
+            Ok(all_except(alloc, tree.site, other)?)
+        }
+        SetForm::Union(first, others) => {
+            let first = intersection(alloc, context, first, ty)?;
+            union(alloc, context, others, first, tree.site, ty)
+        }
+    }
+}
+
+// ---- unions, intersections and differences (50.1)
+
+fn all_except(alloc: Global, site: Site, other: Cons) -> Result<Cons, AllocError>
+    ensures { IfOk result (λ c. constraint_view c ≡ abstract.at site (abstract.all_except (constraint_view other))) }
+{
+    let other = Box::new(alloc, other)?;
+    Ok(Cons {
+        site,
+        rule: Rule::Other(other),
+    })
+}
+
+/// The first intersection with those joined to it. Alone it is itself.
+#[cycle(sets)]
+fn union(
+    alloc: Global,
+    context: Context,
+    others: &[JoinedIntersection],
+    first: Cons,
+    site: Site,
+    ty: &Ty,
+) -> Result<Cons, ConsFault>
+    requires sound { IsTrue (is_sound (type_view ty.now)) }
+    requires fitting { AreKnownFitting context.known.now }
+    ensures { Gives constraint_view named result (reading.read_union site (constraint_view first) (reading.joined_intersections (visible_in context.entry) (type_view ty.now) (map views.joined_intersection_view others.now))) }
+{
+    if others.is_empty() {
+        return Ok(first);
+    }
+    let all = united(alloc, context, others, first, ty)?;
+    Ok(Cons {
+        site,
+        rule: Rule::Any(all),
+    })
+}
+
+/// The first intersection of a union and those joined to it.
+#[cycle(sets)]
+fn united(
+    alloc: Global,
+    context: Context,
+    others: &[JoinedIntersection],
+    first: Cons,
+    ty: &Ty,
+) -> Result<Vec<Cons>, ConsFault>
+    requires sound { IsTrue (is_sound (type_view ty.now)) }
+    requires fitting { AreKnownFitting context.known.now }
+    ensures { Gives (λ v. map constraint_view v.items) named result (reading.behind (constraint_view first) (reading.joined_intersections (visible_in context.entry) (type_view ty.now) (map views.joined_intersection_view others.now))) }
+{
+    let mut all = Vec::new(alloc);
+    all.push(first)?;
+    for other in others {
+        all.push(intersection(alloc, context, &other.part, ty)?)?;
+    }
+    Ok(all)
+}
+
+#[cycle(sets)]
+#[tactic(auto, unfolding(crate::specs::Reading::read))]
+fn intersection(
+    alloc: Global,
+    context: Context,
+    tree: &IntersectionTree,
+    ty: &Ty,
+) -> Result<Cons, ConsFault>
+    requires sound { IsTrue (is_sound (type_view ty.now)) }
+    requires fitting { AreKnownFitting context.known.now }
+    ensures { Gives constraint_view named result (reading.read_intersection (visible_in context.entry) (type_view ty.now) (views.intersection_view tree.now)) }
+{
+    let first = difference(alloc, context, &tree.first, ty)?;
+    meeting(alloc, context, &tree.others, first, tree.site, ty)
+}
+
+/// The first difference with those joined to it. Alone it is itself.
+#[cycle(sets)]
+fn meeting(
+    alloc: Global,
+    context: Context,
+    others: &[JoinedDifference],
+    first: Cons,
+    site: Site,
+    ty: &Ty,
+) -> Result<Cons, ConsFault>
+    requires sound { IsTrue (is_sound (type_view ty.now)) }
+    requires fitting { AreKnownFitting context.known.now }
+    ensures { Gives constraint_view named result (reading.read_meeting site (constraint_view first) (reading.joined_differences (visible_in context.entry) (type_view ty.now) (map views.joined_difference_view others.now))) }
+{
+    if others.is_empty() {
+        return Ok(first);
+    }
+    let all = met(alloc, context, others, first, ty)?;
+    Ok(Cons {
+        site,
+        rule: Rule::Both(all),
+    })
+}
+
+/// The first difference of an intersection and those joined to it.
+#[cycle(sets)]
+fn met(
+    alloc: Global,
+    context: Context,
+    others: &[JoinedDifference],
+    first: Cons,
+    ty: &Ty,
+) -> Result<Vec<Cons>, ConsFault>
+    requires sound { IsTrue (is_sound (type_view ty.now)) }
+    requires fitting { AreKnownFitting context.known.now }
+    ensures { Gives (λ v. map constraint_view v.items) named result (reading.behind (constraint_view first) (reading.joined_differences (visible_in context.entry) (type_view ty.now) (map views.joined_difference_view others.now))) }
+{
+    let mut all = Vec::new(alloc);
+    all.push(first)?;
+    for other in others {
+        all.push(difference(alloc, context, &other.part, ty)?)?;
+    }
+    Ok(all)
+}
+
+/// An element, perhaps without what another one has.
+#[cycle(sets)]
+#[tactic(auto, unfolding(crate::specs::Reading::read))]
+fn difference(
+    alloc: Global,
+    context: Context,
+    tree: &DifferenceTree,
+    ty: &Ty,
+) -> Result<Cons, ConsFault>
+    requires sound { IsTrue (is_sound (type_view ty.now)) }
+    requires fitting { AreKnownFitting context.known.now }
+    ensures { Gives constraint_view named result (reading.read_difference (visible_in context.entry) (type_view ty.now) (views.difference_view tree.now)) }
+{
+    let all = element(alloc, context, &tree.element, ty)?;
+    match &tree.except {
+        None => Ok(all),
+        Some(less) => {
+            let less = element(alloc, context, less, ty)?;
+            Ok(except(alloc, tree.site, all, less)?)
+        }
+    }
+}
+
+fn except(alloc: Global, site: Site, all: Cons, less: Cons) -> Result<Cons, AllocError>
+    ensures { IfOk result (λ c. constraint_view c ≡ abstract.at site (abstract.except (constraint_view all) (constraint_view less))) }
+{
+    let all = Box::new(alloc, all)?;
+    let less = Box::new(alloc, less)?;
+    Ok(Cons {
+        site,
+        rule: Rule::Minus(all, less),
+    })
+}
+
+// ---- elements (51)
+
+#[cycle(sets)]
+#[tactic(auto, unfolding(crate::specs::Reading::read))]
+fn element(alloc: Global, context: Context, tree: &ElementTree, ty: &Ty) -> Result<Cons, ConsFault>
+    requires sound { IsTrue (is_sound (type_view ty.now)) }
+    requires fitting { AreKnownFitting context.known.now }
+    ensures { Gives constraint_view named result (reading.read_element (visible_in context.entry) (type_view ty.now) (views.element_view tree.now)) }
+{
+    let site = tree.site;
+    match &tree.form {
+        ElementForm::Parentheses(inner) => set(alloc, context, inner, ty),
+        ElementForm::Value(tree) => single_value(alloc, context, tree, site, ty),
+        ElementForm::Contained(_, name) => contained(alloc, context, name.name, site, ty),
+        ElementForm::Range(tree) => range(alloc, context, tree, site, ty),
+        ElementForm::Size(inner) => size(alloc, context, inner, site, ty),
+        ElementForm::From(inner) => alphabet(alloc, inner, site, ty),
+        ElementForm::WithComponent(inner) => each(alloc, context, inner, site, ty),
+        ElementForm::WithComponents(partial, listed) => {
+            parts(alloc, context, listed, *partial, site, ty)
+        }
+    }
+}
+
+/// This value alone (51.2).
+#[tactic(auto, unfolding(crate::specs::Reading::read))]
+fn single_value(
+    alloc: Global,
+    context: Context,
+    tree: &ValueTree,
+    site: Site,
+    ty: &Ty,
+) -> Result<Cons, ConsFault>
+    requires sound { IsTrue (is_sound (type_view ty.now)) }
+    requires fitting { AreKnownFitting context.known.now }
+    ensures { Gives constraint_view named result (reading.read_element_form (visible_in context.entry) (type_view ty.now) site (trees.value (values.value_view tree.now))) }
+{
+    let single = value(alloc, context.names, context.known, context.id, ty, tree)?;
+    Ok(Cons {
+        site,
+        rule: Rule::One(single),
+    })
+}
+
+/// A constraint on the size, which is an INTEGER (51.5).
+#[cycle(sets)]
+#[tactic(auto, unfolding(crate::specs::Reading::read))]
+fn size(
+    alloc: Global,
+    context: Context,
+    inner: &ConsTree,
+    site: Site,
+    ty: &Ty,
+) -> Result<Cons, ConsFault>
+    requires sound { IsTrue (is_sound (type_view ty.now)) }
+    requires fitting { AreKnownFitting context.known.now }
+    ensures { Gives constraint_view named result (reading.read_element_form (visible_in context.entry) (type_view ty.now) site (trees.size (views.constraint_view inner.now))) }
+{
+    let number = size_type(alloc, ty, site)?;
+    let size = Box::new(alloc, on_type(alloc, context, inner, &number)?)?;
+    Ok(Cons {
+        site,
+        rule: Rule::Size(size),
+    })
+}
+
+/// A constraint on each element (51.8.4).
+#[cycle(sets)]
+#[tactic(auto, unfolding(crate::specs::Reading::read))]
+fn each(
+    alloc: Global,
+    context: Context,
+    inner: &ConsTree,
+    site: Site,
+    ty: &Ty,
+) -> Result<Cons, ConsFault>
+    requires sound { IsTrue (is_sound (type_view ty.now)) }
+    requires fitting { AreKnownFitting context.known.now }
+    ensures { Gives constraint_view named result (reading.read_element_form (visible_in context.entry) (type_view ty.now) site (trees.with_component (views.constraint_view inner.now))) }
+{
+    let element = element_type(ty, site)?;
+    let each = Box::new(alloc, on_type(alloc, context, inner, element)?)?;
+    Ok(Cons {
+        site,
+        rule: Rule::Each(each),
+    })
+}
+
+// ---- WITH COMPONENTS (51.8.5)
+
+/// What is said of components or alternatives.
+#[cycle(sets)]
+#[tactic(auto, unfolding(crate::specs::Reading::read))]
+fn parts(
+    alloc: Global,
+    context: Context,
+    listed: &[ComponentConsTree],
+    partial: bool,
+    site: Site,
+    ty: &Ty,
+) -> Result<Cons, ConsFault>
+    requires sound { IsTrue (is_sound (type_view ty.now)) }
+    requires fitting { AreKnownFitting context.known.now }
+    ensures { Gives constraint_view named result (reading.read_element_form (visible_in context.entry) (type_view ty.now) site (trees.with_components partial (trees.parts_of (map views.part_view listed.now)))) }
+{
+    check_parts(listed, ty, site)?;
+    let parts = each_part(alloc, context, listed, ty)?;
+    Ok(Cons {
+        site,
+        rule: Rule::Parts(partial, parts),
+    })
+}
+
+#[cycle(sets)]
+fn each_part(
+    alloc: Global,
+    context: Context,
+    listed: &[ComponentConsTree],
+    ty: &Ty,
+) -> Result<Vec<Part>, ConsFault>
+    requires sound { IsTrue (is_sound (type_view ty.now)) }
+    requires fitting { AreKnownFitting context.known.now }
+    ensures { Gives (λ v. map part_view v.items) named result (each (reading.read_part (visible_in context.entry) (kind_of (type_view ty.now))) (map views.part_view listed.now)) }
+{
+    let mut parts = Vec::with_capacity(alloc, listed.len())?;
+    for one in listed {
+        parts.push(part(alloc, context, one, ty)?)?;
+    }
+    Ok(parts)
+}
+
+/// One part, at the place of its component or alternative.
+#[cycle(sets)]
+#[tactic(auto, unfolding(crate::specs::Reading::read))]
+fn part(
+    alloc: Global,
+    context: Context,
+    tree: &ComponentConsTree,
+    ty: &Ty,
+) -> Result<Part, ConsFault>
+    requires sound { IsTrue (is_sound (type_view ty.now)) }
+    requires fitting { AreKnownFitting context.known.now }
+    ensures { Gives part_view named result (reading.read_part (visible_in context.entry) (kind_of (type_view ty.now)) (views.part_view tree.now)) }
+{
+    let (place, inside) = located(tree.name, ty, tree.site)?;
+    match &tree.cons {
+        None => Ok(part_at(tree, place, None)),
+        Some(inner) => {
+            let cons = on_type(alloc, context, inner, inside)?;
+            Ok(part_at(tree, place, Some(cons)))
+        }
+    }
+}
+
+fn part_at(tree: &ComponentConsTree, place: u8, cons: Option<Cons>) -> Part
+    ensures { part_view result ≡ reading.one_part (views.part_view tree.now) place (option_map constraint_view cons) }
+{
+    Part {
+        site: tree.site,
+        at: place,
+        cons,
+        word: word_of(tree.presence),
+    }
+}

@@ -1,0 +1,39 @@
+//! Policies from their texts.
+ghost use Rattle.std.specs.Prelude.{◌≡◌, IfOk, IfErr, IfSome};
+ghost use Rattle.guard_policy.specs.Loads.{Loads, IsRefused};
+ghost use Rattle.guard_policy.specs.PolicyFaults.{named};
+
+use super::document::{Top, document, top_of};
+use super::fault::PolicyFault;
+use super::messages::messages_of;
+use super::policy::Policy;
+use super::rules::rules_of;
+use super::tables::check_tables;
+use super::types::{Types, module_names};
+use std::alloc::Global;
+
+impl Policy {
+    ghost use Rattle.guard_policy.specs.Policies.{AbstractPolicy};
+    ghost use Rattle.guard_policy.specs.PolicyView.{policy_view};
+
+    /// The policy of a text, over the types of a schema.
+    ///
+    /// A refusal names the first fault: Q1, then those of the top, of each message, of each rule, and of each message's table. OutOfMemory may
+    /// stand in place of any answer.
+    pub fn load<S: Types>(alloc: Global, text: &[u8], schema: &S) -> Result<Policy, PolicyFault>
+        // What is answered is what the text says,
+        ensures loads { IfOk result (λ p. Loads text.now (S.types schema.now) (policy_view p)) }
+        // and what it says is answered.
+        ensures only { (p : AbstractPolicy) → Loads text.now (S.types schema.now) p → IfOk result (λ q. policy_view q ≡ p) }
+        // A refusal names the first fault.
+        ensures refused { IfErr result (λ f. IfSome (named f) (IsRefused text.now (S.types schema.now))) }
+    {
+        let top = document(alloc, text)?;
+        let listed = top_of(alloc, &top)?;
+        let messages = messages_of(alloc, schema, &listed.messages)?;
+        let rules = rules_of(alloc, schema, &messages, &listed.rules)?;
+        check_tables(alloc, &messages, &rules)?;
+        let modules = module_names(alloc, schema)?;
+        Ok(Policy::new(messages, rules, modules))
+    }
+}

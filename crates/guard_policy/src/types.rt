@@ -1,0 +1,75 @@
+//! What a policy stands on: the types of a schema and the names of its modules.
+ghost use Rattle.std.specs.Prelude.{◌≡◌, ◌≤◌, None, Some, map, option_map, length, string_bytes, IfOk, IfErr, IfSome, IsTrue};
+ghost use Rattle.guard_der.specs.Sound.{is_sound};
+ghost use Rattle.guard_model.specs.TypeView.{type_view};
+ghost use Rattle.toml.specs.View.{table_view};
+ghost use Rattle.guard_policy.specs.Entries.{AbstractTypes, module_at, type_in};
+ghost use Rattle.guard_policy.specs.PolicyFaults.{named, no_such_type};
+
+use super::document::text_of;
+use super::entry::{Entry, Key};
+use super::fault::PolicyFault;
+use guard_model::Ty;
+use std::alloc::{AllocError, Global};
+use toml::Table;
+
+/// How many modules there may be.
+const MOST_MODULES: u32 = 64;
+
+/// Types by the names of their modules and their own, and modules by the places of their texts.
+pub trait Types {
+    // what it says of names
+    ghost types: { Self → AbstractTypes };
+
+    // it has 64 modules at most
+    ghost few: { (s : Self) → length (types s).modules ≤ 64 };
+
+    /// The type of this name in the module of this name. It is sound.
+    fn ty(&self, module_name: &str, name: &str) -> Option<&Ty>
+        ensures sound { IfSome result (λ ty. IsTrue (is_sound (type_view ty.now))) }
+        ensures named { option_map (λ ty. type_view ty.now) result ≡ (types self.now).types module_name.now name.now };
+
+    /// The name of the module at this place of the list of texts, from 1.
+    fn module(&self, text: u32) -> Option<&str>
+        ensures { option_map (λ name. name.now) result ≡ module_at (types self.now).modules text };
+}
+
+/// A copy of the type that the entry names.
+pub(crate) fn type_named<S: Types>(
+    alloc: Global,
+    schema: &S,
+    entry: Entry,
+    table: &Table,
+) -> Result<Ty, PolicyFault>
+    ensures found { IfOk result (λ ty. type_in (S.types schema.now) (table_view table.now) ≡ Some (type_view ty)) }
+    ensures sound { IfOk result (λ ty. IsTrue (is_sound (type_view ty))) }
+    ensures missing { IfErr result (λ f. IfSome (named f) (λ fault. (type_in (S.types schema.now) (table_view table.now) ≡ None) × (fault ≡ no_such_type entry))) }
+{
+    match schema.ty(text_of(table, Key::Module), text_of(table, Key::TypeName)) {
+        Some(ty) => Ok(ty.copy(alloc)?),
+        None => Err(PolicyFault::NoSuchType(entry)),
+    }
+}
+
+/// The names of the modules, in order.
+pub(crate) fn module_names<S: Types>(alloc: Global, schema: &S) -> Result<Vec<String>, AllocError>
+    ensures { IfOk result (λ names. map string_bytes names.items ≡ (S.types schema.now).modules) }
+{
+    let mut names = Vec::new(alloc);
+    for place in 0..MOST_MODULES {
+        if let Some(name) = module_name(alloc, schema, place + 1)? {
+            names.push(name)?;
+        }
+    }
+    Ok(names)
+}
+
+/// A copy of the name of the module at this place, from 1.
+fn module_name<S: Types>(alloc: Global, schema: &S, text: u32) -> Result<Option<String>, AllocError>
+    ensures { IfOk result (λ name. option_map string_bytes name ≡ module_at (S.types schema.now).modules text) }
+{
+    match schema.module(text) {
+        Some(name) => Ok(Some(String::from_str(alloc, name)?)),
+        None => Ok(None),
+    }
+}

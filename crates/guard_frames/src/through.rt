@@ -10,14 +10,17 @@ use std::io::{Read, Write};
 #[derive(Drop)]
 pub struct Through<T> {
     pub inner: T,
-    pub is_broken: bool,
+    is_broken: bool,
 }
 
 impl<T> Through<T> {
+    ghost use Rattle.std.specs.Prelude.{◌≡◌, false};
+    ghost use Rattle.guard_frames.specs.ThroughView.{through_failed};
+
     /// It hasn't failed yet.
     pub fn new(inner: T) -> Through<T>
         ensures inner { result.inner ≡ inner }
-        ensures sound { result.is_broken ≡ false }
+        ensures sound { through_failed result ≡ false }
     {
         Through {
             inner,
@@ -27,9 +30,11 @@ impl<T> Through<T> {
 }
 
 impl<W: Write> Sink for Through<W> {
+    ghost use Rattle.guard_frames.specs.ThroughView.{through_failed};
+
     ghost taken = { λ sink. W.contents sink.inner };
 
-    ghost has_failed = { λ sink. sink.is_broken };
+    ghost has_failed = { λ sink. through_failed sink };
 
     fn put(&mut self, octets: &[u8]) -> Result<usize, Failed> {
         if self.is_broken {
@@ -61,9 +66,11 @@ fn write_some<W: Write>(writer: &mut W, octets: &[u8]) -> usize
 }
 
 impl<R: Read> Source for Through<R> {
+    ghost use Rattle.guard_frames.specs.ThroughView.{through_failed};
+
     ghost tells = { λ source. R.remaining source.inner };
 
-    ghost has_failed = { λ source. source.is_broken };
+    ghost has_failed = { λ source. through_failed source };
 
     #[tactic(auto, using(crate::proofs::Reading::kept_gives_none))]
     fn take(&mut self, buffer: &mut [u8]) -> Result<usize, Failed> {

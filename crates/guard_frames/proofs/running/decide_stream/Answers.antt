@@ -2,19 +2,20 @@ use Rattle.std.proofs.Common.{◌≡◌, ◌<◌, ◌≤◌, ◌^◌, ℕ, [], �
 use Rattle.std.specs.Prelude.{Err}
 use Rattle.guard_frames.specs.declared.link.LinkFault.TheVariants.{FrameTooLong, WriteFailed}
 use Rattle.guard_frames.specs.Totals.{no_frames}
+use Rattle.guard_frames.specs.LinkView.{AbstractLink, link_view}
 use Rattle.guard_frames.specs.Runs.{CameInPieces}
 use Rattle.guard_frames.proofs.Counting.{counts}
 use Rattle.guard_frames.proofs.Reading.{Consumes_none, Consumes_trans, Consumes_zero, is_empty_list, no_pieces, one_more_piece}
 use Rattle.guard_frames.proofs.Holding.{begins_empty, feeds_more, fed_ok, fed_too_long, fed_failed}
-use Rattle.guard_frames.proofs.running.run.Goals as goal
+use Rattle.guard_frames.proofs.running.decide_stream.Goals as goal
 
 pub loop-init : goal.loop-init
 loop-init g c =
     let start = begins_empty (g.D.Decide.decides c.args.policy.now) no_frames (g.O.Sink.taken c.args.out.now) (g.R.Sink.taken c.args.reports.now) in
     record {
       room = c.in-Ok-new_buffer.ensures;
-      open_still = c.in-Ok.ensures.open;
-      so_far = ([], Consumes_none (g.S.Source.tells c.args.source.now), rw (c.in-Ok.ensures.empty, c.in-Ok.ensures.none) start, no_pieces);
+      open_still = ap (λ (l : AbstractLink). l.closed) c.in-Ok.ensures;
+      so_far = ([], Consumes_none (g.S.Source.tells c.args.source.now), rw (ap (λ (l : AbstractLink). l.held) c.in-Ok.ensures, ap (λ (l : AbstractLink). l.totals) c.in-Ok.ensures) start, no_pieces);
     }
 
 pub returns-then-is_empty-clause-runs : goal.returns-then-is_empty-clause-runs
@@ -61,12 +62,12 @@ returns-in-Err-FrameTooLong-clause-runs g c =
     let o₁ = g.O.Sink.taken c.feed.new.out in
     let r = g.R.Sink.taken c.args.reports.now in
     let r₁ = g.R.Sink.taken c.feed.new.reports in
-    let fed = feeds_more d no_frames c.loop.link.totals h.0 c.loop.link.held.items p c.feed.new.self c.feed.result
+    let fed = feeds_more d no_frames c.loop.link.totals h.0 c.loop.link.held.items p (link_view c.feed.new.self) c.feed.result
     o (g.O.Sink.taken c.loop.out) o₁ r (g.R.Sink.taken c.loop.reports) r₁ h.2 (c.feed.ensures.open c.loop.invariant.open_still) in
     let given = rw (← c.deref.ensures.value) at c.in-Ok-read_piece.ensures.given in
     let consumed = Consumes_trans _ _ _ h.0 p h.1 given in
     let is : c.feed.result ≡ Err FrameTooLong = cc in
-    let x = fed_too_long d no_frames (h.0 ++ p) c.feed.new.self c.feed.result o o₁ r r₁ is fed in
+    let x = fed_too_long d no_frames (h.0 ++ p) (link_view c.feed.new.self) c.feed.result o o₁ r r₁ is fed in
     record { read = h.0 ++ p; consumed = consumed; outcomes = x.outcomes; rest = x.rest; split = x.split; passed = x.passed; last = x.too_long }
 
 pub returns-in-Err-WriteFailed-clause-runs : goal.returns-in-Err-WriteFailed-clause-runs
@@ -78,12 +79,12 @@ returns-in-Err-WriteFailed-clause-runs g c =
     let o₁ = g.O.Sink.taken c.feed.new.out in
     let r = g.R.Sink.taken c.args.reports.now in
     let r₁ = g.R.Sink.taken c.feed.new.reports in
-    let fed = feeds_more d no_frames c.loop.link.totals h.0 c.loop.link.held.items p c.feed.new.self c.feed.result
+    let fed = feeds_more d no_frames c.loop.link.totals h.0 c.loop.link.held.items p (link_view c.feed.new.self) c.feed.result
     o (g.O.Sink.taken c.loop.out) o₁ r (g.R.Sink.taken c.loop.reports) r₁ h.2 (c.feed.ensures.open c.loop.invariant.open_still) in
     let given = rw (← c.deref.ensures.value) at c.in-Ok-read_piece.ensures.given in
     let consumed = Consumes_trans _ _ _ h.0 p h.1 given in
     let is : c.feed.result ≡ Err WriteFailed = cc in
-    record { read = h.0 ++ p; consumed = consumed; outputs = fed_failed d no_frames (h.0 ++ p) c.feed.new.self c.feed.result o o₁ r r₁ is fed }
+    record { read = h.0 ++ p; consumed = consumed; outputs = fed_failed d no_frames (h.0 ++ p) (link_view c.feed.new.self) c.feed.result o o₁ r r₁ is fed }
 
 pub loop-preserved : goal.loop-preserved
 loop-preserved g c =
@@ -94,7 +95,7 @@ loop-preserved g c =
     let o₁ = g.O.Sink.taken c.feed.new.out in
     let r = g.R.Sink.taken c.args.reports.now in
     let r₁ = g.R.Sink.taken c.feed.new.reports in
-    let fed = feeds_more d no_frames c.loop.link.totals h.0 c.loop.link.held.items p c.feed.new.self c.feed.result
+    let fed = feeds_more d no_frames c.loop.link.totals h.0 c.loop.link.held.items p (link_view c.feed.new.self) c.feed.result
     o (g.O.Sink.taken c.loop.out) o₁ r (g.R.Sink.taken c.loop.reports) r₁ h.2 (c.feed.ensures.open c.loop.invariant.open_still) in
     let given = rw (← c.deref.ensures.value) at c.in-Ok-read_piece.ensures.given in
     let consumed = Consumes_trans _ _ _ h.0 p h.1 given in
@@ -102,7 +103,7 @@ loop-preserved g c =
     let long = length-take c.in-Ok-read_piece.count c.deref.result.now in
     let some : 0 < length p = omega (arith, long, size, c.in-Ok-read_piece.ensures.within) in
     let most : length p ≤ 65536 = omega (arith, long, size) in
-    let x = fed_ok d no_frames (h.0 ++ p) c.feed.new.self c.feed.result o o₁ r r₁ _ c.in-Ok-feed.is fed in
+    let x = fed_ok d no_frames (h.0 ++ p) (link_view c.feed.new.self) c.feed.result o o₁ r r₁ _ c.in-Ok-feed.is fed in
     record {
       room = c.in-Ok-read_piece.ensures.room ∙ c.loop.invariant.room;
       open_still = x.1;

@@ -3,7 +3,7 @@ use Rattle.std.specs.Io.KnownBytes.{Consumes}
 use Rattle.guard_frames.specs.Totals.{no_frames}
 use Rattle.guard_frames.specs.Feeding.{TakesAll}
 use Rattle.guard_frames.specs.Runs.{CameInPieces}
-use Rattle.guard_frames.proofs.running.run.Given as goal
+use Rattle.guard_frames.proofs.running.decide_stream.Given as goal
 
 abbrev pub invariant-loop : goal.invariant-loop
 invariant-loop g l = record {

@@ -1,0 +1,18 @@
+-- What contracts see of a link.
+use Rattle.std.specs.Prelude.{ℕ, Bool, false, List, []}
+use Rattle.guard_frames.specs.declared.totals.Totals.{Totals}
+use Rattle.guard_frames.specs.declared.link.Link.{Link}
+use Rattle.guard_frames.specs.Totals.{no_frames}
+
+-- the octets of the frame that has begun and isn't whole yet, how many frames there were, and whether it takes no more
+pub record AbstractLink : Type 0 where
+  pub held : List ℕ
+  pub totals : Totals
+  pub closed : Bool
+
+abbrev pub link_view : Link → AbstractLink
+link_view l = record { held = l.held.items; totals = l.totals; closed = l.closed }
+
+-- open, with nothing held, before the first frame
+abbrev pub new_link : AbstractLink
+new_link = record { held = []; totals = no_frames; closed = false }

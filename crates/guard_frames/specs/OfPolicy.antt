@@ -1,0 +1,20 @@
+-- What a policy decides of the body of a frame.
+use Rattle.std.specs.Prelude.{◌≡◌, true}
+use Rattle.guard_policy.specs.Policies.{AbstractPolicy, AbstractRoute}
+use Rattle.guard_policy.specs.Verdicts.{AbstractVerdict}
+use Rattle.guard_policy.specs.Decisions.{Goes, IsReason}
+use Rattle.guard_report.specs.Lines.{line_octets}
+use Rattle.guard_frames.specs.Bodies.{AbstractBody}
+use Rattle.guard_frames.specs.Outcomes.{Decision}
+
+-- sender and receiver are taken as given
+abbrev pub route_of : AbstractBody → AbstractRoute
+route_of b = record { from = b.sender; to = b.receiver; message = b.name }
+
+-- A body passes where its message goes on its route. The report of another one is the line of its reason.
+abbrev pub decision_of : AbstractPolicy → Decision
+decision_of p = record {
+  Passes = λ b. Goes p (route_of b) b.message;
+  Reports = λ n b text. (w : AbstractVerdict) × IsReason p (route_of b) b.message w × (text ≡ line_octets p (route_of b) n w);
+  takes_memory = true;
+}

@@ -1,0 +1,42 @@
+//! A policy decides which bodies pass: those whose message goes.
+
+ghost use Rattle.std.specs.Prelude.{◌≡◌};
+ghost use Rattle.guard_policy.specs.PolicyView.{policy_view, route_view};
+ghost use Rattle.guard_frames.specs.Bodies.{body_view};
+ghost use Rattle.guard_frames.specs.OfPolicy.{route_of, decision_of};
+
+use crate::body::Body;
+use crate::decision::Decide;
+use guard_model::OutOfMemory;
+use guard_policy::{Policy, Route, Verdict};
+use guard_report::line;
+use std::alloc::Global;
+
+impl Decide for Policy {
+    ghost decides = { λ policy. decision_of (policy_view policy) };
+
+    fn passes(&self, alloc: Global, body: &Body) -> Result<bool, OutOfMemory> {
+        match self.verdict(alloc, &route_of(body), body.message) {
+            Ok(Verdict::Pass) => Ok(true),
+            Ok(_) => Ok(false),
+            Err(_) => Err(OutOfMemory),
+        }
+    }
+
+    fn line(&self, alloc: Global, number: u64, body: &Body) -> Result<Vec<u8>, OutOfMemory> {
+        let route = route_of(body);
+        let verdict = self.verdict(alloc, &route, body.message)?;
+        line(alloc, number, &route, &verdict, self)
+    }
+}
+
+/// Who sends what to whom, by the header.
+fn route_of<'a>(body: &Body<'a>) -> Route<'a>
+    ensures { route_view result ≡ route_of (body_view body.now) }
+{
+    Route {
+        from: body.sender,
+        to: body.receiver,
+        message: body.name,
+    }
+}

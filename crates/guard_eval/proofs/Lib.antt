@@ -2,7 +2,6 @@
 pub mod AtPlace
 pub mod Characters
 pub mod PartFits
-pub mod SameFits
 -- ---- what the walk finds is the violation, and a member has none
 pub mod Law
 pub mod Walk

@@ -1,5 +1,5 @@
 -- What the walk finds is the violation, with a path as far as the code's numbers go, where contained types keep the base and the value fits.
-use Rattle.std.proofs.Common.{◌≡◌, refl, ap, ◌∙◌, ℕ, zero, suc, ℤ, pos, Bool, true, false, not, ◌&&◌, ◌||◌, List, [], ◌∷◌, map, take, Option, Some, None, IsTrue, option_map}
+use Rattle.std.proofs.Common.{◌≡◌, refl, sym, ap, ◌∙◌, ℕ, zero, suc, ℤ, pos, Bool, true, false, not, ◌&&◌, ◌||◌, List, [], ◌∷◌, map, take, Option, Some, None, IsTrue, option_map}
 use Rattle.std.specs.Option.{option_or, is_none, is_some}
 use Rattle.std.proofs.lemmas.Bool.{and_parts}
 use Rattle.guard_model.specs.declared.site.Site.{Site}
@@ -12,6 +12,8 @@ use Rattle.guard_model.specs.AbstractValue as value
 use Rattle.guard_model.specs.AbstractValue.{AbstractValue, Fields, Items}
 use Rattle.guard_model.specs.Components.{components_in, component_at}
 use Rattle.guard_model.specs.TypeView.{OneComponent}
+use Rattle.guard_model.specs.SameBase.{bare_kind}
+use Rattle.guard_der.proofs.Types.BareTypes.{kind_bare}
 use Rattle.guard_der.specs.Fits.{fits, fits_kind, fits_fields, fits_alternative, every_fits, are_few, fits_items, fits_128_bits, may_be_absent}
 use Rattle.guard_eval.specs.Elements.{size_of, some_passes}
 use Rattle.guard_eval.specs.Presence.{element_kind, kind_at, has_parts, part_at, is_there, is_placed, first_intruder}
@@ -20,8 +22,14 @@ use Rattle.guard_eval.specs.Violations.{AbstractViolation, below, unless, first_
 use Rattle.guard_eval.proofs.Bases.{KeepsBase, PartsKeepBase, ComponentsKeepBase, AllKeepBase, ConstraintKeepsBase, ListedKeepBase}
 use Rattle.guard_eval.specs.Failures.{near, under, failure_among, failure_in_items, placing_failure, failure_in_part, intruder_failure, failure, failure_inside, failure_from, failure_of_chosen, first_failure, some_allows, failure_by, first_part_failure}
 use Rattle.guard_eval.proofs.Law.{constraint_clear, type_clear}
-use Rattle.guard_eval.proofs.SameFits.{same_fits}
 use Rattle.guard_eval.proofs.PartFits.{fits_at}
+
+-- ---- kinds of the same base
+
+same_fits : (a b : AbstractKind) (v : AbstractValue) → bare_kind a ≡ bare_kind b → fits_kind a v ≡ fits_kind b v
+same_fits a b v e = sym (kind_bare a v) ∙ ap (λ k. fits_kind k v) e ∙ kind_bare b v
+
+-- ---- the walk
 
 -- as far as the code's numbers go
 abbrev pub cut : AbstractViolation → AbstractViolation

@@ -16,11 +16,11 @@ use Rattle.guard_model.proofs.Options.{option_or_none}
 use Rattle.guard_model.proofs.SameTypes.{same_base-Decides}
 use Rattle.guard_model.proofs.Tags.{equal_tags, same_tag_itself}
 use Rattle.guard_der.specs.Der.{der}
+use Rattle.guard_der.proofs.Types.BareTypes.{same_base_fits, der_by_base}
 use Rattle.guard_tables.specs.Alike.{AreAlike}
 use Rattle.guard_tables.specs.Conditions.{has_crowded_node}
 use Rattle.guard_tables.specs.declared.fault.TableFault.TheVariants.{RuleTypeMismatch, TooManyRules}
 use Rattle.guard_tables.specs.Tables.{is_match, first_mismatch, first_fault, crowding, most_rules}
-use Rattle.guard_tables.proofs.BareTypes.{fits_by_base, der_by_base}
 
 -- ---- of types that match
 
@@ -32,7 +32,7 @@ alike (type_of tags kind cons) (type_of others kind_too cons_too) match v =
     let p = and_parts (pointwise same_tag tags others) (same_base (type_of tags kind cons) (type_of others kind_too cons_too)) match in
     let tags_same : tags ≡ others = (pointwise_decides tag_Decides tags others).0 p.0 in
     let base : HasSameBase (type_of tags kind cons) (type_of others kind_too cons_too) = (same_base-Decides (type_of tags kind cons) (type_of others kind_too cons_too)).0 p.1 in (
-      fits_by_base (type_of tags kind cons) (type_of others kind_too cons_too) base v,
+      same_base_fits (type_of tags kind cons) (type_of others kind_too cons_too) v p.1,
       der_by_base tags kind kind_too cons cons_too base v ∙ ap (λ ts. der (type_of ts kind_too cons_too) v) tags_same,
     )
 

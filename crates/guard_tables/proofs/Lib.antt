@@ -3,5 +3,4 @@ pub mod Counts
 -- ---- a search through all nodes
 pub mod AllNodes
 -- ---- what same tags and bases come to
-pub mod BareTypes
 pub mod Faultless

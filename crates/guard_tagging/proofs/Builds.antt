@@ -1,10 +1,11 @@
 -- What is known of the definitions that are built, one after the other in their order.
-use Rattle.std.proofs.Common.{◌≡◌, ℕ, zero, suc, ◌+◌, ◌<◌, ◌≤◌, Bool, true, false, cond, List, [], ◌∷◌, ◌++◌, length, drop, get_or, Option, Some, None, slice_get, nat_eq, refl, sym, ◌∙◌, ap, arith}
-use Rattle.std.specs.Prelude.{IfSome}
+use Rattle.std.proofs.Common.{◌≡◌, ℕ, zero, suc, ◌+◌, ◌<◌, ◌≤◌, Bool, true, false, cond, List, [], ◌∷◌, ◌++◌, length, map, drop, get_or, Option, Some, None, option_map, slice_get, nat_eq, refl, sym, ◌∙◌, ap, subst, arith}
+use Rattle.std.specs.Prelude.{IfSome, All}
+use Rattle.std.proofs.Math.Seq.{drop-cons}
 use Rattle.std.proofs.lemmas.Option.{same_Some, slice_get-get_or}
 use Rattle.guard_model.specs.AbstractType.{AbstractType, type_of, null, no_constraints}
 use Rattle.guard_syntax.specs.Trees.{WrittenModule}
-use Rattle.guard_names.specs.Declarations.{definitions, declarations, definition_of, origin_there}
+use Rattle.guard_names.specs.Declarations.{Definition, definitions, declarations, definition_of, origin_there}
 use Rattle.guard_tagcheck.specs.Limits.{is_within_limits}
 use Rattle.guard_tagging.specs.Faults.{nodes}
 use Rattle.guard_tagging.specs.ScopeView.{known_list}

@@ -23,7 +23,4 @@ pub mod SpelledTokens
 -- ---- what names mean, and the definitions that are built
 pub mod Scopes
 pub mod Builds
--- ---- faults have numbers where names mean something
-pub mod Numbered
-pub mod KnownNames
 pub mod Skeletons

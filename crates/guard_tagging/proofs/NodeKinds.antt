@@ -1,5 +1,5 @@
 -- Types without components: what is read is what the definition says, or the first fault of the type.
-use Rattle.std.proofs.Common.{◌≡◌, Bool, true, false, cond, ℕ, ◌+◌, ◌<◌, ◌≤◌, List, [], ◌∷◌, length, map, Option, Some, None, Result, Ok, Err, refl, sym, ap, ◌∙◌, arith, nat_lt, ◌⊎◌, inl, inr}
+use Rattle.std.proofs.Common.{◌≡◌, Bool, true, cond, ℕ, ◌+◌, ◌<◌, ◌≤◌, List, [], ◌∷◌, length, map, Option, Some, None, Result, Ok, Err, refl, sym, ap, ◌∙◌, arith, nat_lt, ◌⊎◌, inl, inr}
 use Rattle.std.specs.Prelude.{min}
 use Rattle.std.proofs.lemmas.Bool.{cases_lt, lt-ltb}
 use Rattle.guard_model.specs.Answer.{◌>>=◌}
@@ -22,14 +22,13 @@ use Rattle.guard_tagging.specs.Enumerations.{numbered, named_number}
 use Rattle.guard_tagging.specs.Named.{unless, allowed}
 use Rattle.guard_tagging.specs.ReadBases as make
 use Rattle.guard_tagging.specs.ReadItems.{read_named, read_items}
-use Rattle.guard_tagging.specs.ReadNames as reading
 use Rattle.guard_tagging.specs.ReadNodes.{Node, Whole, Made, one_where, tags_of, nodes_with, whole_with, made_from, made_with}
 use Rattle.guard_tagging.specs.Spelled.{AreNamed, AreItems}
 use Rattle.guard_tagging.specs.Tagging.{is_untagged_choice, with_tags}
 use Rattle.guard_tagging.specs.Types.{Surroundings, denoted, denoted_base, universal, plain_number, plain_kind, collection_number, of_kind}
 use Rattle.guard_tagging.proofs.WrittenNumbers.{named_places_are, item_places_are, named_read, items_are}
 use Rattle.guard_tagging.proofs.WrittenTags.{put_all, with_tags_is}
-use Rattle.guard_tagging.proofs.Wholes.{node_fault, whole_made, node_made, whole_then}
+use Rattle.guard_tagging.proofs.Wholes.{node_fault, whole_made, node_made}
 
 abbrev pub node_at : Surroundings → Site → List WrittenTag → Bool → Node
 node_at around site tags counts = record { site = site; tags = tags; tag_default = around.tag_default; counts = counts }
@@ -100,13 +99,12 @@ plain_is around site tags p cons counts before deep many =
 pub integer_is : (around : Surroundings) (site : Site) (tags : List WrittenTag) (ns : List WrittenNamed) (cons : List WrittenConstraint) (counts : Bool) (before : ℕ) → AreNamed ns
     → make.integer_type (node_at around site tags counts) ns before
     ≡ unless (own_fault around (before + counted counts (denoted around (type_node site tags (numbers ns) cons))) (type_node site tags (numbers ns) cons)) (made_of counts before (denoted around (type_node site tags (numbers ns) cons)))
-unfolding make.integer_type make.numbered_whole
+unfolding make.integer_type
 integer_is around site tags ns cons counts before spelled =
     let kind = type.integer (map named_number ns) in
     let list = duplicate_number (map faults.named_place ns) in
     let large = number_too_large (map faults.named_place ns) in
-    whole_then (node_at around site tags counts) (universal 2) false (make.differ (map reading.named_place ns)) 0 before (λ whole. each read_named ns >>= λ all. Ok (made_with whole (type.integer all)))
-    ∙ node_made (node_at around site tags counts) (universal 2) kind no_constraints list large 0 before (make.differ (map reading.named_place ns)) (λ whole. each read_named ns >>= λ all. Ok (made_with whole (type.integer all)))
+    node_made (node_at around site tags counts) (universal 2) kind no_constraints list large 0 before (make.check_named ns) (λ whole. each read_named ns >>= λ all. Ok (made_with whole (type.integer all)))
     (made_with (whole_made (node_at around site tags counts) (universal 2) kind no_constraints list large 0 before) kind)
     (ap (λ (ps : List Placed). allowed (duplicate_number ps)) (named_places_are ns spelled))
     (then_made (each read_named ns) large (map named_number ns) (λ all. made_with (whole_made (node_at around site tags counts) (universal 2) kind no_constraints list large 0 before) (type.integer all)) (named_read ns spelled))
@@ -115,13 +113,12 @@ integer_is around site tags ns cons counts before spelled =
 pub enumerated_is : (around : Surroundings) (site : Site) (tags : List WrittenTag) (items : List WrittenItem) (cons : List WrittenConstraint) (counts : Bool) (before : ℕ) → AreItems items
     → make.enumerated_type (node_at around site tags counts) items before
     ≡ unless (own_fault around (before + counted counts (denoted around (type_node site tags (enumerated items) cons))) (type_node site tags (enumerated items) cons)) (made_of counts before (denoted around (type_node site tags (enumerated items) cons)))
-unfolding make.enumerated_type make.numbered_whole
+unfolding make.enumerated_type
 enumerated_is around site tags items cons counts before spelled =
     let kind = type.enumerated (numbered items) in
     let list = duplicate_number (map faults.item_place items) in
     let large = number_too_large (map faults.item_place items) in
-    whole_then (node_at around site tags counts) (universal 10) false (make.differ (map reading.item_place items)) 0 before (λ whole. read_items items >>= λ all. Ok (made_with whole (type.enumerated all)))
-    ∙ node_made (node_at around site tags counts) (universal 10) kind no_constraints list large 0 before (make.differ (map reading.item_place items)) (λ whole. read_items items >>= λ all. Ok (made_with whole (type.enumerated all)))
+    node_made (node_at around site tags counts) (universal 10) kind no_constraints list large 0 before (make.check_items items) (λ whole. read_items items >>= λ all. Ok (made_with whole (type.enumerated all)))
     (made_with (whole_made (node_at around site tags counts) (universal 10) kind no_constraints list large 0 before) kind)
     (ap (λ (ps : List Placed). allowed (duplicate_number ps)) (item_places_are items spelled))
     (then_made (read_items items) large (numbered items) (λ all. made_with (whole_made (node_at around site tags counts) (universal 10) kind no_constraints list large 0 before) (type.enumerated all)) (items_are items spelled))

@@ -17,7 +17,7 @@ use Rattle.guard_syntax.specs.declared.tree.TagMode.{TagMode}
 use Rattle.guard_syntax.specs.declared.tree.TagMode.TheVariants as mode
 use Rattle.guard_syntax.specs.Trees.{WrittenType, WrittenBase, WrittenTag, WrittenComponents, WrittenItem, type_node, plain, numbers, enumerated, structure, choice, of_type, named_type, component, components_from, no_components, alternative, no_alternatives, mandatory}
 use Rattle.guard_tagging.specs.declared.fault.TagFault.TheVariants as fault
-use Rattle.guard_tagging.specs.Types.{Surroundings, denoted}
+use Rattle.guard_tagging.specs.Types.{Meaning, Surroundings, denoted}
 use Rattle.guard_tagging.specs.Enumerations.{numbered}
 use Rattle.guard_tagging.specs.Faults.{first_fault}
 

@@ -6,7 +6,7 @@ use Rattle.guard_model.specs.TypeView.{type_view}
 use Rattle.guard_model.specs.declared.ty.Ty.{Ty}
 use Rattle.guard_tagging.specs.declared.scope.Known.{Known}
 use Rattle.guard_tagging.specs.ScopeView.{meaning_view, known_list}
-use Rattle.guard_tagging.specs.Surroundings.{known_of}
+use Rattle.guard_tagging.specs.Surroundings.{known_of, known_meant}
 use Rattle.guard_tagging.specs.Types.{Meaning}
 
 -- ---- a type and its flag, at one place

@@ -1,6 +1,6 @@
 -- Where tokens are spelled as their kinds say, the names of a module that is written with them are texts, and its numbers have 128 bits at most.
-use Rattle.std.proofs.Common.{◌≡◌, ⊎_elim, ℕ, nat_le, zero, suc, ◌<◌, ◌^◌, eqb-true, Bool, true, false, ◌&&◌, ◌||◌, List, [], ◌∷◌, Option, Some, None, sym, subst, arith}
-use Rattle.std.specs.Prelude.{IsUtf8, All, IfSome}
+use Rattle.std.proofs.Common.{◌≡◌, ⊎_elim, ℕ, nat_le, zero, suc, ◌<◌, ◌^◌, eqb-true, Bool, true, false, ◌&&◌, ◌||◌, List, [], ◌∷◌, map, length, get_or, Option, Some, None, refl, sym, ◌∙◌, ap, subst, arith}
+use Rattle.std.specs.Prelude.{IsUtf8, slice_range, All, IfSome}
 use Rattle.std.specs.Char.{is_ascii_alphabetic, is_ascii_alphanumeric}
 use Rattle.std.specs.Int.{is_in_range}
 use Rattle.std.proofs.lemmas.Bool.{and_parts, or_cases, leb-true}
@@ -9,16 +9,18 @@ use Rattle.std.proofs.lemmas.Str.Ascii.{IsAscii-from_all}
 use Rattle.guard_lexer.specs.declared.token.Token.{Token}
 use Rattle.guard_lexer.specs.declared.token.TokenKind.{TokenKind}
 use Rattle.guard_lexer.specs.declared.token.TokenKind.TheVariants as kind
-use Rattle.guard_lexer.specs.declared.token.Mark.TheVariants.{RightBrace, RightBracket, RightParenthesis, LessThan, Minus, RangeSeparator, Semicolon, Assignment}
-use Rattle.guard_lexer.specs.declared.token.Reserved.TheVariants.{Begin, Definitions, End, Except, From, Includes, Max, Min, Of, Size}
+use Rattle.guard_lexer.specs.declared.token.Mark.TheVariants.{Comma, LeftBrace, LeftBracket, LeftParenthesis, RightBrace, RightBracket, RightParenthesis, LessThan, Minus, RangeSeparator, Semicolon, Assignment}
+use Rattle.guard_lexer.specs.declared.token.Reserved.TheVariants.{Begin, Components, Definitions, End, Except, From, Includes, Max, Min, Of, Size}
 use Rattle.guard_lexer.specs.Octets.{begins, is_letter_or_digit, is_hyphen}
 use Rattle.guard_lexer.specs.Items.{is_word, are_of_word, is_of_word, number_value}
 use Rattle.guard_lexer.specs.Spans as spans
 use Rattle.guard_lexer.specs.Spans.{IsSpan, AreSpans}
+use Rattle.guard_syntax.specs.declared.tree.PlainType.{PlainType}
 use Rattle.guard_syntax.specs.declared.tree.PlainType.TheVariants as plain_type
 use Rattle.guard_syntax.specs.Lexemes.{Lexeme, word, mark, upper_name, lower_name, number, character_string, bit_string, hexadecimal_string, unsupported, lexeme_of, octets_of, lexemes_of}
+use Rattle.guard_syntax.specs.Parses.{IsWritten}
 use Rattle.guard_syntax.specs.TokensOf.{each_then, comma_before, parted_then, perhaps_then, if_there_then, number_then, arc_form_then, arc_then, entry_name_then, entries_comma, value_then, value_form_then, entries_then, end_form_then, end_or_then, range_then, presence_word_then, partial_then, parts_comma, set_then, set_form_then, united_then, intersection_then, met_then, difference_then, element_then, element_form_then, constraint_then, parts_then, class_then, mode_then, tag_then, parenthesised_then, named_then, item_then, numbers_then, plain_then, of_constraint_then, presence_then, components_comma, alternatives_comma, type_then, base_then, components_then, alternatives_then, identifier_part_then, identifier_then, tag_default_then, symbol_then, exports_then, import_then, imports_then, assigned_then, assignment_then, tokens_of}
-use Rattle.guard_syntax.specs.Trees.{WrittenNumber, WrittenValue, value_node, boolean, null, integer, text, reference, chosen, list, arcs, no_entries, entry, end_integer, end_reference, end_characters, set_node, all_except, union, none_united, united, intersection, none_met, met, element_alone, element_except, element_node, parentheses, value, contained, range, size, from, with_component, with_components, constraint, no_parts, part, part_in, WrittenNamed, WrittenItem, mandatory, optional, default, WrittenType, type_node, WrittenBase, plain, numbers, enumerated, structure, choice, of_type, named_type, WrittenComponents, no_components, component, components_from, WrittenAlternatives, no_alternatives, alternative, bare_name, arc_part, all_exported, exported, WrittenAssignment, WrittenModule}
+use Rattle.guard_syntax.specs.Trees.{WrittenNumber, WrittenArc, WrittenValue, value_node, WrittenValueForm, boolean, null, integer, text, reference, chosen, list, arcs, WrittenEntries, no_entries, entry, WrittenEndForm, end_integer, end_reference, end_characters, WrittenEnd, WrittenRange, WrittenSet, set_node, WrittenSetForm, all_except, union, WrittenUnited, none_united, united, WrittenIntersection, intersection, WrittenMet, none_met, met, WrittenDifference, element_alone, element_except, WrittenElement, element_node, WrittenElementForm, parentheses, value, contained, range, size, from, with_component, with_components, WrittenConstraint, constraint, WrittenParts, no_parts, part, part_in, WrittenTag, WrittenNamed, WrittenItem, WrittenOfConstraint, WrittenPresence, mandatory, optional, default, WrittenType, type_node, WrittenBase, plain, numbers, enumerated, structure, choice, of_type, named_type, WrittenComponents, no_components, component, components_from, WrittenAlternatives, no_alternatives, alternative, WrittenIdentifierPart, bare_name, arc_part, WrittenSymbol, WrittenExports, all_exported, exported, WrittenImport, WrittenAssignment, WrittenModule}
 use Rattle.guard_tagging.specs.Spelled.{IsShort, AreNamed, AreItems, IsSpelled, IsSpelledInside, AreSpelled, AreSpelledOthers, AreAssigned, IsSpelledModule, SpelledByTokens}
 
 -- ---- lexemes

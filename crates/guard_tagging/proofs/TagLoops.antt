@@ -1,7 +1,7 @@
 -- Written tags one after another, as a loop reads them.
-use Rattle.std.proofs.Common.{◌≡◌, Bool, false, not, ℕ, ◌+◌, ◌<◌, ◌≤◌, List, ◌++◌, map, length, get_or, drop, Option, Some, None, Result, Ok, Err, refl, sym, ◌∙◌}
+use Rattle.std.proofs.Common.{◌≡◌, Bool, true, false, not, ℕ, ◌+◌, ◌<◌, ◌≤◌, List, [], ◌∷◌, ◌++◌, map, length, get_or, drop, Option, Some, None, Result, Ok, Err, refl, sym, ap, ◌∙◌}
 use Rattle.std.proofs.lemmas.List.{at_drop_more, at_drop_all}
-use Rattle.guard_model.specs.Answer.{Refuses}
+use Rattle.guard_model.specs.Answer.{◌>>=◌, Refuses}
 use Rattle.guard_model.specs.declared.tag.Tag.{Tag}
 use Rattle.guard_syntax.specs.TypeViews.{tag_view}
 use Rattle.guard_syntax.specs.declared.tree.TagTree.{TagTree}

@@ -1,5 +1,5 @@
 -- A type is refused for the first of its own faults in their order, and else has the tags that the definition puts on.
-use Rattle.std.proofs.Common.{◌≡◌, Bool, true, false, cond, ℕ, ◌+◌, List, [], ◌∷◌, length, Option, Some, None, Result, Ok, Err, refl, sym, ap, ◌∙◌, nat_lt}
+use Rattle.std.proofs.Common.{◌≡◌, Bool, true, false, cond, ◌&&◌, ℕ, suc, ◌+◌, List, [], ◌∷◌, length, Option, Some, None, Result, Ok, Err, refl, sym, ap, ◌∙◌, nat_lt}
 use Rattle.std.specs.Option.{option_or}
 use Rattle.guard_model.specs.Answer.{◌>>=◌}
 use Rattle.guard_model.specs.AbstractType.{AbstractType, AbstractKind, Constraints, type_of}
@@ -9,8 +9,8 @@ use Rattle.guard_tagging.specs.declared.fault.TagFault.{TagFault}
 use Rattle.guard_tagging.specs.declared.fault.TagFault.TheVariants.{TooDeep, SchemaTooLarge}
 use Rattle.guard_tagging.specs.Faults.{first_of, fault_where, universal_tag, implicit_choice, tag_too_large, most_nodes}
 use Rattle.guard_tagging.specs.Named.{unless, allowed}
-use Rattle.guard_tagging.specs.ReadNodes.{Node, Whole, Made, tags_of, one_where, nodes_with, whole_with}
-use Rattle.guard_tagging.specs.ReadTags.{read_tags}
+use Rattle.guard_tagging.specs.ReadNodes.{Node, Whole, Made, tags_of, one_where, nodes_with, whole_with, made_from}
+use Rattle.guard_tagging.specs.ReadTags.{implicit_last, read_tags}
 use Rattle.guard_tagging.specs.Tagging.{is_untagged_choice}
 use Rattle.guard_tagging.proofs.WrittenTags.{put_all, tags_read, implicit_is}
 
@@ -23,10 +23,6 @@ then_unless (Some f) x next g y e = refl
 pub then_allowed : {B : Type 0} (f : Option TagFault) (next : Unit {0} → Result B TagFault) (g : Option TagFault) (y : B) → next tt ≡ unless g y → (allowed f >>= next) ≡ unless (option_or f g) y
 then_allowed None next g y e = e
 then_allowed (Some f) next g y e = refl
-
-then_after : {A B C : Type 0} (r : Result A TagFault) (f : A → Result B TagFault) (g : B → Result C TagFault) → ((r >>= f) >>= g) ≡ (r >>= λ x. f x >>= g)
-then_after (Ok x) f g = refl
-then_after (Err e) f g = refl
 
 pub or_assoc : {A : Type 0} (a b c : Option A) → option_or (option_or a b) c ≡ option_or a (option_or b c)
 or_assoc None b c = refl
@@ -109,10 +105,3 @@ module _ (node : Node) (base : List Tag) (kind : AbstractKind) (cons : Constrain
       (ap (λ (r : Result Whole TagFault). r >>= last) (limits_are node all inside before) ∙ then_unless (limits_fault node (length all + inside) nodes) whole_made last numbers made ended))
       ∙ ap (λ (f : Option TagFault). unless f made) (flat (universal_tag node.tags) (implicit_choice node.tag_default t node.tags) (tag_too_large node.tags) list
       (fault_where (nat_lt deepest_nesting (length all + inside)) (TooDeep node.site)) (fault_where (nat_lt most_nodes nodes) (SchemaTooLarge node.site)) numbers)
-
--- the last step, behind the others as one
-pub whole_then : (node : Node) (base : List Tag) (on_choice : Bool) (check : Result (Unit {0}) TagFault) (inside before : ℕ) (last : Whole → Result Made TagFault)
-    → ((tags_of node base on_choice >>= λ tags. check >>= λ _. whole_with node tags inside before) >>= last) ≡ (tags_of node base on_choice >>= λ tags. check >>= λ _. whole_with node tags inside before >>= last)
-whole_then node base on_choice check inside before last =
-    then_after (tags_of node base on_choice) (λ tags. check >>= λ _. whole_with node tags inside before) last
-    ∙ (λ i. tags_of node base on_choice >>= λ tags. then_after check (λ _. whole_with node tags inside before) last i)

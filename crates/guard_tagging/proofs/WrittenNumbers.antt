@@ -1,5 +1,5 @@
 -- Named numbers and items as they are read are those of the definition, or the first number that is too large is refused.
-use Rattle.std.proofs.Common.{◌≡◌, Bool, true, false, cond, not, ℕ, suc, ◌^◌, ◌-◌, List, [], ◌∷◌, ◌++◌, length, map, Option, Some, None, Result, Ok, refl, sym, ap, ◌∙◌, append_assoc, arith}
+use Rattle.std.proofs.Common.{◌≡◌, Bool, true, false, cond, not, ℕ, suc, ◌+◌, ◌<◌, ◌^◌, ◌-◌, List, [], ◌∷◌, ◌++◌, length, map, Option, Some, None, Result, Ok, Err, refl, sym, ap, ◌∙◌, append_assoc, arith}
 use Rattle.std.specs.Prelude.{ℤ, pos, min, IfSome, IsUtf8, option_map}
 use Rattle.std.specs.Option.{option_or}
 use Rattle.std.proofs.lemmas.List.{append-nil}
@@ -17,9 +17,10 @@ use Rattle.guard_tagging.specs.Faults as faults
 use Rattle.guard_tagging.specs.Faults.{Placed, fault_where, number_too_large}
 use Rattle.guard_tagging.specs.Named.{unless}
 use Rattle.guard_tagging.specs.Numbers.{signed, number_of, is_number}
-use Rattle.guard_tagging.specs.ReadItems.{number_result, read_at, numbered_name, read_named, own_number, option_list, read_written, read_number, read_numbered, read_items}
+use Rattle.guard_tagging.specs.ReadItems.{number_result, read_at, numbered_name, read_named, own_number, read_own, option_list, read_written, read_number, read_item, read_numbered, read_items}
 use Rattle.guard_tagging.specs.ReadNames as reading
 use Rattle.guard_tagging.specs.ReadNames.{text_octets, near_number}
+use Rattle.guard_tagging.specs.ReadNumbers.{read_integer}
 use Rattle.guard_tagging.specs.Spelled.{IsShort, AreNamed, AreItems}
 
 pub text_is : (name : List ℕ) → IsUtf8 name → text_octets name ≡ name

@@ -1,21 +1,24 @@
 -- The tags of a type as they are read are those that the definition puts on.
-use Rattle.std.proofs.Common.{◌≡◌, Bool, true, false, cond, not, ◌&&◌, suc, ◌-◌, List, [], ◌∷◌, ◌++◌, length, Option, Some, None, Result, Ok, Err, refl, sym, ap, ◌∙◌, append_assoc, arith, nat_lt}
+use Rattle.std.proofs.Common.{◌≡◌, Bool, true, false, cond, not, ◌&&◌, ◌||◌, ℕ, suc, ◌+◌, ◌-◌, List, [], ◌∷◌, ◌++◌, length, Option, Some, None, Result, Ok, Err, refl, sym, ap, ◌∙◌, append_assoc, arith, nat_lt}
 use Rattle.std.specs.Option.{option_or}
 use Rattle.std.specs.List.{slice_get}
 use Rattle.guard_model.specs.Answer.{◌>>=◌}
 use Rattle.guard_model.specs.declared.tag.Tag.{Tag}
-use Rattle.guard_model.specs.AbstractType.{AbstractKind, Constraints, type_of}
+use Rattle.guard_model.specs.AbstractType as type
+use Rattle.guard_model.specs.AbstractType.{AbstractType, AbstractKind, Constraints, type_of}
 use Rattle.guard_model.specs.Limits.{greatest_tag_number}
 use Rattle.guard_lexer.specs.Items.{number_value}
 use Rattle.guard_syntax.specs.Trees.{WrittenTag}
 use Rattle.guard_syntax.specs.declared.tree.TagDefault.{TagDefault}
+use Rattle.guard_syntax.specs.declared.tree.TagDefault.TheVariants as by_default
 use Rattle.guard_syntax.specs.declared.tree.TagMode.{TagMode}
+use Rattle.guard_syntax.specs.declared.tree.TagMode.TheVariants as mode
 use Rattle.guard_tagging.specs.declared.fault.TagFault.{TagFault}
 use Rattle.guard_tagging.specs.declared.fault.TagFault.TheVariants.{ImplicitChoice, TagTooLarge}
 use Rattle.guard_tagging.specs.Tagging.{tag_of, is_untagged_choice, is_explicit, put_tag, with_tag, with_tags}
 use Rattle.guard_tagging.specs.Faults.{fault_where, is_implicit, implicit_choice, tag_too_large}
 use Rattle.guard_tagging.specs.Named.{unless}
-use Rattle.guard_tagging.specs.ReadTags.{implicit_at, implicit_last, read_tags, kept, unless_replaced}
+use Rattle.guard_tagging.specs.ReadTags.{implicit_at, implicit_last, read_tag, read_tags, kept, unless_replaced}
 
 -- ---- a tag on a list of tags
 

@@ -1,6 +1,6 @@
 -- What is wrong with a written type. Its parts come before the whole, in written order; of several faults at one place the first is named, in the
 -- order of their numbers.
-use Rattle.std.specs.Prelude.{ℕ, suc, ◌+◌, Bool, true, false, not, ◌&&◌, ◌||◌, List, [], ◌∷◌, ◌++◌, map, Option, Some, None, nat_lt, nat_eq, ℤ, option_map, is_some, bytes_eq, if◌then◌else◌}
+use Rattle.std.specs.Prelude.{ℕ, suc, ◌+◌, Bool, true, false, not, ◌&&◌, ◌||◌, List, [], ◌∷◌, ◌++◌, map, length, Option, Some, None, nat_lt, nat_eq, ℤ, option_map, is_some, bytes_eq, if◌then◌else◌}
 use Rattle.std.specs.List.{list_any}
 use Rattle.std.specs.Option.{option_or}
 use Rattle.std.specs.Ordering.{int_eq}
@@ -10,6 +10,7 @@ use Rattle.guard_model.specs.Tags.{class_rank}
 use Rattle.guard_tagcheck.specs.Limits.{nesting}
 use Rattle.guard_model.specs.AbstractType as type
 use Rattle.guard_model.specs.AbstractType.{AbstractType, AbstractKind, Components, NamedNumber, type_of}
+use Rattle.guard_model.specs.Components.{components_in}
 use Rattle.guard_model.specs.Counts.{component_count}
 use Rattle.guard_model.specs.Limits.{most_components, deepest_nesting, greatest_tag_number}
 use Rattle.guard_lexer.specs.Items.{number_value}
@@ -20,12 +21,12 @@ use Rattle.guard_syntax.specs.declared.tree.TagClass.TheVariants as word
 use Rattle.guard_syntax.specs.declared.tree.TagDefault.{TagDefault}
 use Rattle.guard_syntax.specs.declared.tree.TagMode.{TagMode}
 use Rattle.guard_syntax.specs.declared.tree.TagMode.TheVariants as mode
-use Rattle.guard_syntax.specs.Trees.{WrittenTag, WrittenNamed, WrittenItem, WrittenType, type_node, WrittenBase, numbers, enumerated, structure, choice, of_type, named_type, WrittenComponents, no_components, component, components_from, WrittenAlternatives, no_alternatives, alternative}
+use Rattle.guard_syntax.specs.Trees.{WrittenTag, WrittenNamed, WrittenItem, WrittenNumber, WrittenType, type_node, WrittenBase, plain, numbers, enumerated, structure, choice, of_type, named_type, WrittenComponents, no_components, component, components_from, WrittenAlternatives, no_alternatives, alternative}
 use Rattle.guard_tagging.specs.declared.fault.TagFault.{TagFault}
 use Rattle.guard_tagging.specs.declared.fault.TagFault.TheVariants.{UniversalTag, ImplicitChoice, TagTooLarge, ComponentsOfKind, ComponentsOfAutomatic, ComponentsOfTagged, DuplicateName, DuplicateNumber, TooManyComponents, TooDeep, SchemaTooLarge, NumberTooLarge, UndefinedName}
 use Rattle.guard_tagging.specs.Numbers.{number_of, is_number}
 use Rattle.guard_tagging.specs.Tagging.{is_untagged_choice, with_tags}
-use Rattle.guard_tagging.specs.Types.{Surroundings, denoted, denoted_base, denoted_components, denoted_alternatives, parts_of, is_automatic, is_automatic_list}
+use Rattle.guard_tagging.specs.Types.{Surroundings, denoted, denoted_base, denoted_components, denoted_alternatives, parts_of, begins_with_tag, is_automatic, is_automatic_list}
 
 -- the first of these that is there
 abbrev pub first_of : List (Option TagFault) → Option TagFault

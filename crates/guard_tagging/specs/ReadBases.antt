@@ -1,5 +1,5 @@
 -- A type of each kind, as it is made from its parts.
-use Rattle.std.specs.Prelude.{ℕ, ◌+◌, ◌-◌, ◌^◌, min, true, false, List, [], map, Option, Some, None, Result, Ok, Err}
+use Rattle.std.specs.Prelude.{ℕ, suc, ◌+◌, ◌-◌, ◌^◌, min, Bool, true, false, List, [], ◌∷◌, map, Option, Some, None, Result, Ok, Err}
 use Rattle.guard_model.specs.Answer.{◌>>=◌}
 use Rattle.guard_model.specs.Each.{each}
 use Rattle.guard_model.specs.AbstractType as type
@@ -24,21 +24,24 @@ use Rattle.guard_tagging.specs.Types.{Meaning, universal, plain_number, plain_ki
 unfoldable pub plain_type : Node → PlainType → ℕ → Result Made TagFault
 plain_type node p before = tags_of node (universal (plain_number p)) false >>= λ tags. whole_with node tags 0 before >>= λ whole. Ok (made_with whole (plain_kind p))
 
--- named numbers, or items, at these places
 abbrev pub differ : List Placed → Result (Unit {0}) TagFault
 differ places = allowed (duplicate_number places)
 
--- what a type with this universal tag has beside them
-unfoldable pub numbered_whole : Node → ℕ → List Placed → ℕ → Result Whole TagFault
-numbered_whole node number places before = tags_of node (universal number) false >>= λ tags. differ places >>= λ _. whole_with node tags 0 before
+abbrev pub check_named : List WrittenNamed → Result (Unit {0}) TagFault
+check_named ns = differ (map named_place ns)
+
+abbrev pub check_items : List WrittenItem → Result (Unit {0}) TagFault
+check_items items = differ (map item_place items)
 
 unfoldable pub integer_type : Node → List WrittenNamed → ℕ → Result Made TagFault
 integer_type node ns before =
-    numbered_whole node 2 (map named_place ns) before >>= λ whole. each read_named ns >>= λ numbers. Ok (made_with whole (type.integer numbers))
+    tags_of node (universal 2) false >>= λ tags. check_named ns >>= λ _. whole_with node tags 0 before >>= λ whole.
+    each read_named ns >>= λ numbers. Ok (made_with whole (type.integer numbers))
 
 unfoldable pub enumerated_type : Node → List WrittenItem → ℕ → Result Made TagFault
 enumerated_type node items before =
-    numbered_whole node 10 (map item_place items) before >>= λ whole. read_items items >>= λ numbered. Ok (made_with whole (type.enumerated numbered))
+    tags_of node (universal 10) false >>= λ tags. check_items items >>= λ _. whole_with node tags 0 before >>= λ whole.
+    read_items items >>= λ numbered. Ok (made_with whole (type.enumerated numbered))
 
 unfoldable pub structure_type : Node → Collection → PartList → Result Made TagFault
 structure_type node k parts =

@@ -1,5 +1,5 @@
 -- What all types have in common, as it is read.
-use Rattle.std.specs.Prelude.{ℕ, ◌+◌, Bool, true, false, List, [], length, Result, Ok, Err, nat_lt, if◌then◌else◌}
+use Rattle.std.specs.Prelude.{ℕ, zero, suc, ◌+◌, Bool, true, false, List, [], length, Result, Ok, Err, nat_lt, if◌then◌else◌}
 use Rattle.guard_model.specs.Answer.{◌>>=◌}
 use Rattle.guard_model.specs.AbstractType.{AbstractType, AbstractKind, Constraints, type_of, no_constraints}
 use Rattle.guard_model.specs.declared.site.Site.{Site}

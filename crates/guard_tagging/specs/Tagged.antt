@@ -1,5 +1,5 @@
 -- What stands for a written type: the type that it denotes where nothing is wrong with it, else its first fault.
-use Rattle.std.specs.Prelude.{◌≡◌, ℕ, List, Some, None, IfSome, true}
+use Rattle.std.specs.Prelude.{◌≡◌, ℕ, List, Option, Some, None, IfSome, true}
 use Rattle.guard_model.specs.AbstractType.{AbstractType}
 use Rattle.guard_tagcheck.specs.Limits.{is_within_limits}
 use Rattle.guard_syntax.specs.Trees.{WrittenType}

@@ -1,5 +1,5 @@
 -- Which tags a type has (X.680 clauses 8 and 31).
-use Rattle.std.specs.Prelude.{ℕ, suc, Bool, true, false, List, [], ◌∷◌, Option, Some, None}
+use Rattle.std.specs.Prelude.{ℕ, suc, ◌+◌, Bool, true, false, List, [], ◌∷◌, Option, Some, None}
 use Rattle.guard_model.specs.declared.tag.Class.{Class}
 use Rattle.guard_model.specs.declared.tag.Class.TheVariants as class
 use Rattle.guard_model.specs.declared.tag.Tag.{Tag}

@@ -1,6 +1,6 @@
 -- The type that a written type denotes: its tags, its parts and their numbering (X.680 clauses 17 to 31). It has no constraints of its own
 -- yet, and its defaults aren't known yet; a type that is referred to keeps what it has.
-use Rattle.std.specs.Prelude.{ℕ, Bool, true, false, not, ◌&&◌, ◌||◌, List, [], ◌∷◌, map, Option, Some, None}
+use Rattle.std.specs.Prelude.{ℕ, suc, ◌+◌, Bool, true, false, not, ◌&&◌, ◌||◌, List, [], ◌∷◌, map, Option, Some, None}
 use Rattle.guard_model.specs.declared.tag.Class.TheVariants.{Universal}
 use Rattle.guard_model.specs.declared.tag.Tag.{Tag}
 use Rattle.guard_model.specs.declared.ty.CharKind.TheVariants as kind
@@ -13,7 +13,7 @@ use Rattle.guard_syntax.specs.declared.tree.Collection.{Collection}
 use Rattle.guard_syntax.specs.declared.tree.Collection.TheVariants as collection
 use Rattle.guard_syntax.specs.declared.tree.TagDefault.{TagDefault}
 use Rattle.guard_syntax.specs.declared.tree.TagDefault.TheVariants as by_default
-use Rattle.guard_syntax.specs.Trees.{WrittenPresence, mandatory, optional, default, WrittenType, type_node, WrittenBase, plain, numbers, enumerated, structure, choice, of_type, named_type, WrittenComponents, no_components, component, components_from, WrittenAlternatives, no_alternatives, alternative}
+use Rattle.guard_syntax.specs.Trees.{WrittenTag, WrittenPresence, mandatory, optional, default, WrittenType, type_node, WrittenBase, plain, numbers, enumerated, structure, choice, of_type, named_type, WrittenComponents, no_components, component, components_from, WrittenAlternatives, no_alternatives, alternative}
 use Rattle.guard_tagging.specs.Tagging.{with_tags, with_automatic_tags}
 use Rattle.guard_tagging.specs.Enumerations.{numbered, named_number}
 

@@ -9,7 +9,6 @@ ghost use Rattle.guard_tagging.specs.PartViews.{parts_view};
 ghost use Rattle.guard_tagging.specs.ReadBases as reading;
 ghost use Rattle.guard_tagging.specs.Tagging as tagging;
 ghost use Rattle.guard_tagging.specs.ScopeView.{meaning_view};
-ghost use Rattle.guard_tagging.specs.Views.{place_view};
 
 use crate::fault::TagFault;
 use crate::kinds::{
@@ -17,7 +16,7 @@ use crate::kinds::{
 };
 use crate::made::{Made, Node, Parts, Whole};
 use crate::measure::{nesting_inside, nodes_inside};
-use crate::names::{Placed, first_repeated, item_places, named_places};
+use crate::names::{first_repeated, item_places, named_places};
 use crate::node::{new_type, tags_of, whole_with};
 use crate::numbering::{items, named_numbers};
 use crate::parts::check_list;
@@ -51,10 +50,22 @@ pub fn integer_type(
 ) -> Result<Box<Made>, TagFault>
     ensures { Gives (λ m. made_view m.value) named result (reading.integer_type (node_view node.now) (map written.named_view trees.now) before) }
 {
-    let places = named_places(alloc, trees)?;
-    let whole = numbered_whole(alloc, node, 2, &places, before)?;
+    let tags = tags_of(alloc, node, &[universal(2)], false)?;
+    check_named(alloc, trees)?;
+    let whole = whole_with(node, tags, 0, before)?;
     let numbers = named_numbers(alloc, trees)?;
     Ok(new_type(alloc, whole, Kind::Int(numbers))?)
+}
+
+/// Named numbers must differ in their names and numbers (X.680 19.5, 19.6).
+fn check_named(alloc: Global, trees: &[NamedTree]) -> Result<(), TagFault>
+    ensures { Gives (λ u. u) named result (reading.check_named (map written.named_view trees.now)) }
+{
+    let places = named_places(alloc, trees)?;
+    match first_repeated(alloc, &places)? {
+        Some(site) => Err(TagFault::DuplicateNumber(site)),
+        None => Ok(()),
+    }
 }
 
 /// ENUMERATED with its items.
@@ -67,33 +78,19 @@ pub fn enumerated_type(
 ) -> Result<Box<Made>, TagFault>
     ensures { Gives (λ m. made_view m.value) named result (reading.enumerated_type (node_view node.now) (map written.item_view trees.now) before) }
 {
-    let places = item_places(alloc, trees)?;
-    let whole = numbered_whole(alloc, node, 10, &places, before)?;
+    let tags = tags_of(alloc, node, &[universal(10)], false)?;
+    check_items(alloc, trees)?;
+    let whole = whole_with(node, tags, 0, before)?;
     let numbered = items(alloc, trees)?;
     Ok(new_type(alloc, whole, Kind::Enumerated(numbered))?)
 }
 
-/// What a type with this universal tag has beside its named numbers or items, which stand at these places.
-#[tactic(auto, unfolding(crate::specs::ReadBases::numbered_whole))]
-fn numbered_whole(
-    alloc: Global,
-    node: &Node,
-    tag_number: u32,
-    places: &[Placed],
-    before: usize,
-) -> Result<Whole, TagFault>
-    ensures { Gives whole_view named result (reading.numbered_whole (node_view node.now) tag_number (map place_view places.now) before) }
+/// Items must differ in their names and in the numbers that are written (X.680 20.4, 20.5).
+fn check_items(alloc: Global, trees: &[ItemTree]) -> Result<(), TagFault>
+    ensures { Gives (λ u. u) named result (reading.check_items (map written.item_view trees.now)) }
 {
-    let tags = tags_of(alloc, node, &[universal(tag_number)], false)?;
-    check_differ(alloc, places)?;
-    whole_with(node, tags, 0, before)
-}
-
-/// Named numbers, and items, must differ in their names and in the numbers that are written (X.680 19.5, 19.6, 20.4, 20.5).
-fn check_differ(alloc: Global, places: &[Placed]) -> Result<(), TagFault>
-    ensures { Gives (λ u. u) named result (reading.differ (map place_view places.now)) }
-{
-    match first_repeated(alloc, places)? {
+    let places = item_places(alloc, trees)?;
+    match first_repeated(alloc, &places)? {
         Some(site) => Err(TagFault::DuplicateNumber(site)),
         None => Ok(()),
     }

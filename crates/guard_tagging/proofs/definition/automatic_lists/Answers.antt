@@ -1,4 +1,4 @@
-use Rattle.std.proofs.Common.{◌≡◌, ◌+◌, ◌<◌, ◌≤◌, [], ◌∷◌, length, map, drop, get_or, slice_get, ap, ◌∙◌, arith}
+use Rattle.std.proofs.Common.{◌≡◌, ◌+◌, ◌<◌, ◌≤◌, [], ◌∷◌, ◌++◌, length, map, drop, get_or, slice_get, ap, ◌∙◌, arith}
 use Rattle.guard_names.specs.Declarations.{definitions}
 use Rattle.std.proofs.lemmas.List.{length-map, length-append}
 use Rattle.guard_model.specs.TypeView.{type_view}

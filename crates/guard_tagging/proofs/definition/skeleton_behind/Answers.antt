@@ -1,37 +1,27 @@
-use Rattle.std.proofs.Common.{◌≡◌, ◌+◌, ◌≤◌, ℕ, List, Option, true, IfSome, length, map, slice_get, Some, Ok, sym, ap, subst, ◌∙◌}
-use Rattle.std.proofs.lemmas.List.{length-map}
+use Rattle.std.proofs.Common.{◌≡◌, true, IfErr, IfSome, length, map, slice_get, Some, Ok, sym, ap, subst, ◌∙◌}
 use Rattle.std.proofs.lemmas.Result.{err_from_is_err_and}
-use Rattle.guard_model.specs.AbstractType.{AbstractType}
 use Rattle.guard_model.specs.Answer.{Refuses}
 use Rattle.guard_model.specs.TypeView.{type_view}
 use Rattle.guard_syntax.specs.ModuleViews.{module_view, assignment_view}
-use Rattle.guard_syntax.specs.Trees.{WrittenModule}
 use Rattle.guard_syntax.specs.TypeViews as written
 use Rattle.guard_syntax.specs.declared.tree.TypeTree.{TypeTree}
 use Rattle.guard_names.specs.Declarations.{Definition, definitions}
-use Rattle.guard_names.specs.Faults.{fault_of_names}
 use Rattle.guard_names.specs.Meanings.{Uses}
 use Rattle.guard_names.specs.NamesView.{modules_of, order_of}
 use Rattle.guard_names.proofs.Placing.{listed_there, order_below}
-use Rattle.guard_names.proofs.Refusals.{none_is}
 use Rattle.guard_tagcheck.specs.Limits.{is_within_limits}
-use Rattle.guard_tagging.specs.declared.fault.TagFault.{TagFault}
 use Rattle.guard_tagging.specs.declared.made.Made.{Made}
-use Rattle.guard_tagging.specs.Faults.{nodes, most_nodes}
-use Rattle.guard_tagging.specs.Named.{named, is_numbered}
+use Rattle.guard_tagging.specs.Named.{named}
 use Rattle.guard_tagging.specs.NodeViews.{made_view}
 use Rattle.guard_tagging.specs.ReadTypes.{read_type}
-use Rattle.guard_tagging.specs.ScopeView.{scope_view}
-use Rattle.guard_tagging.specs.Skeletons.{surroundings_of, IsTypeOf, IsFaultOf}
+use Rattle.guard_tagging.specs.ScopeView.{scope_view, done_view}
+use Rattle.guard_tagging.specs.Skeletons.{surroundings_of, IsFaultOf}
 use Rattle.guard_tagging.specs.Spelled.{IsSpelled}
 use Rattle.guard_tagging.specs.Surroundings.{surroundings}
 use Rattle.guard_tagging.specs.Tagged.{KeepLimits}
-use Rattle.guard_tagging.specs.Types.{Surroundings}
 use Rattle.guard_tagging.proofs.Builds.{no_such, known_kept}
-use Rattle.guard_tagging.proofs.KnownNames.{type_meant}
-use Rattle.guard_tagging.proofs.Skeletons.{all_spelled, all_kept, tagged_so, counted_so, few_so, within_so, refused_so, numbered_so}
+use Rattle.guard_tagging.proofs.Skeletons.{all_spelled, all_kept, tagged_so, counted_so, few_so, within_so, refused_so}
 use Rattle.guard_tagging.proofs.definition.skeleton_behind.Goals as goal
-use Rattle.guard_tagging.proofs.definition.skeleton_behind.Goals.{After-deref}
 
 pub unreachable-requires : goal.unreachable-requires
 unreachable-requires c =
@@ -40,84 +30,80 @@ unreachable-requires c =
     no_such (definitions ms) c.args.id
     (order_below (length (definitions ms)) (Uses ms) order c.args.names.now.ordered c.args.id (listed_there order (length c.args.done.now.types.now) c.args.id c.requires.next)) c.in_default.ensures
 
--- ---- the definition, and where its type is written
-
-module _ (c : After-deref) where
-  abbrev ms : List WrittenModule
-  ms = modules_of c.args.names.now
-
-  abbrev order : List ℕ
-  order = order_of c.args.names.now
-
-  abbrev types : List AbstractType
-  types = map type_view c.args.done.now.types.now
-
-  abbrev before : ℕ
-  before = c.args.done.now.nodes
-
-  abbrev d : Definition
-  d = record { home = module_view c.in-Some.home.now; assignment = assignment_view c.in-Some.assignment.now }
-
-  abbrev around : Surroundings
-  around = scope_view c.scope_in-scope.result
-
-  is : Some d ≡ slice_get (definitions ms) c.args.id
-  is = c.in-Some.ensures
-
-  same : around ≡ surroundings_of ms order types d
-  same = c.scope_in-scope.ensures ∙ ap (λ known. surroundings ms order known d.home) c.requires.known
-
-  spelled : IsSpelled d.assignment.ty
-  spelled = all_spelled ms c.requires.spelled c.args.id d (sym is)
-
-  tree : c.deref.result.now ≡ c.in-Some.assignment.now.ty.value
-  tree = cc (c.deref.ensures)
-
-  -- the fault that the walk met
-  refusal : (f : Option TagFault) → Refuses f (read_type around true before (written.type_view c.deref.result.now)) → IfSome f (IsFaultOf ms order types c.args.id) × IfSome f (λ g. is_numbered g ≡ true)
-  refusal f met =
-      let many : length types ≡ length c.args.done.now.types.now = length-map c.args.done.now.types.now type_view in
-      let next : slice_get order (length types) ≡ Some c.args.id = ap (slice_get order) many ∙ c.requires.next in
-      let meant = type_meant ms (none_is (fault_of_names ms) c.args.names.now.faultless) order c.args.names.now.ordered types c.args.id next d (sym is) in
-      let read = subst (λ (t : TypeTree). Refuses f (read_type around true before (written.type_view t))) tree met in (
-        refused_so ms order types c.args.id d is around same before c.requires.counted spelled f read,
-        numbered_so ms order types c.args.id d is around same before c.requires.counted spelled meant f read,
-      )
-
-  -- the type that it made
-  answer : (m : Made) → read_type around true before (written.type_view c.deref.result.now) ≡ Ok (made_view m)
-      → IsTypeOf ms order types c.args.id (type_view m.ty) × (is_within_limits (type_view m.ty) ≡ true) × (m.nodes ≡ before + nodes (type_view m.ty)) × (m.nodes ≤ most_nodes)
-  answer m read =
-      let made : read_type around true before d.assignment.ty ≡ Ok (made_view m) = ap (λ (t : TypeTree). read_type around true before (written.type_view t)) (sym tree) ∙ read in
-      let kept : KeepLimits around =
-      subst KeepLimits (sym c.scope_in-scope.ensures) (known_kept types c.args.done.now.automatic.now (all_kept c.args.done.now.types.now c.requires.limits) ms order d.home) in (
-        tagged_so ms order types c.args.id d is around same before c.requires.counted spelled (made_view m) made,
-        within_so ms order types c.args.id d is around same before c.requires.counted spelled (made_view m) made kept,
-        counted_so ms order types c.args.id d is around same before c.requires.counted spelled (made_view m) made,
-        few_so ms order types c.args.id d is around same before c.requires.counted spelled (made_view m) made,
-      )
-
 pub returns-in_err-made-clause-refused : goal.returns-in_err-made-clause-refused
 returns-in_err-made-clause-refused c =
+    let ms = modules_of c.args.names.now in
+    let order = order_of c.args.names.now in
+    let types = map type_view c.args.done.now.types.now in
+    let d : Definition = record { home = module_view c.in-Some.home.now; assignment = assignment_view c.in-Some.assignment.now } in
+    let is : Some d ≡ slice_get (definitions ms) c.args.id = c.in-Some.ensures in
+    let around = scope_view c.scope_in-scope.result in
+    let same : around ≡ surroundings_of ms order types d = c.scope_in-scope.ensures ∙ ap (λ known. surroundings ms order known d.home) c.requires.known in
+    let spelled : IsSpelled d.assignment.ty = all_spelled ms c.requires.spelled c.args.id d (sym is) in
+    let tree : c.deref.result.now ≡ c.in-Some.assignment.now.ty.value = cc (c.deref.ensures) in
     let p = err_from_is_err_and c.from_residual.result c.from_residual.ensures.1 in
-    rw (p.1, p.2) (refusal (goal.at.returns-in_err-made-clause-refused c).After-deref (named c.in_err-made.field-0.0) c.in_err-made.ensures).0
-
-pub returns-in_err-made-clause-numbered : goal.returns-in_err-made-clause-numbered
-returns-in_err-made-clause-numbered c =
-    let p = err_from_is_err_and c.from_residual.result c.from_residual.ensures.1 in
-    rw (p.1, p.2) (refusal (goal.at.returns-in_err-made-clause-numbered c).After-deref (named c.in_err-made.field-0.0) c.in_err-made.ensures).1
-
-read_so : (c : goal.After-into_inner-ty) → read_type (scope_view c.scope_in-scope.result) true c.args.done.now.nodes (written.type_view c.deref.result.now) ≡ Ok (made_view c.into_inner-ty.result)
-read_so c = c.in_ok-made.ensures ∙ ap (λ (m : Made). Ok (made_view m)) (sym c.into_inner-ty.ensures)
+    rw (p.1, p.2)
+    (refused_so ms order types c.args.id d is around same c.args.done.now.nodes c.requires.counted spelled (named c.in_err-made.field-0.0)
+    (subst (λ (t : TypeTree). Refuses (named c.in_err-made.field-0.0) (read_type around true c.args.done.now.nodes (written.type_view t))) tree c.in_err-made.ensures))
 
 pub returns-clause-tagged : goal.returns-clause-tagged
-returns-clause-tagged c = (answer (goal.at.returns-clause-tagged c).After-deref c.into_inner-ty.result (read_so c)).0
+returns-clause-tagged c =
+    let ms = modules_of c.args.names.now in
+    let order = order_of c.args.names.now in
+    let types = map type_view c.args.done.now.types.now in
+    let d : Definition = record { home = module_view c.in-Some.home.now; assignment = assignment_view c.in-Some.assignment.now } in
+    let is : Some d ≡ slice_get (definitions ms) c.args.id = c.in-Some.ensures in
+    let around = scope_view c.scope_in-scope.result in
+    let same : around ≡ surroundings_of ms order types d = c.scope_in-scope.ensures ∙ ap (λ known. surroundings ms order known d.home) c.requires.known in
+    let spelled : IsSpelled d.assignment.ty = all_spelled ms c.requires.spelled c.args.id d (sym is) in
+    let tree : c.deref.result.now ≡ c.in-Some.assignment.now.ty.value = cc (c.deref.ensures) in
+    let made : read_type around true c.args.done.now.nodes d.assignment.ty ≡ Ok (made_view c.into_inner-ty.result) =
+    ap (λ (t : TypeTree). read_type around true c.args.done.now.nodes (written.type_view t)) (sym tree) ∙ c.in_ok-made.ensures ∙ ap (λ (m : Made). Ok (made_view m)) (sym c.into_inner-ty.ensures) in
+    tagged_so ms order types c.args.id d is around same c.args.done.now.nodes c.requires.counted spelled (made_view c.into_inner-ty.result) made
 
 pub returns-clause-limits : goal.returns-clause-limits
-returns-clause-limits c = (answer (goal.at.returns-clause-limits c).After-deref c.into_inner-ty.result (read_so c)).1
+returns-clause-limits c =
+    let ms = modules_of c.args.names.now in
+    let order = order_of c.args.names.now in
+    let types = map type_view c.args.done.now.types.now in
+    let d : Definition = record { home = module_view c.in-Some.home.now; assignment = assignment_view c.in-Some.assignment.now } in
+    let is : Some d ≡ slice_get (definitions ms) c.args.id = c.in-Some.ensures in
+    let around = scope_view c.scope_in-scope.result in
+    let same : around ≡ surroundings_of ms order types d = c.scope_in-scope.ensures ∙ ap (λ known. surroundings ms order known d.home) c.requires.known in
+    let spelled : IsSpelled d.assignment.ty = all_spelled ms c.requires.spelled c.args.id d (sym is) in
+    let tree : c.deref.result.now ≡ c.in-Some.assignment.now.ty.value = cc (c.deref.ensures) in
+    let made : read_type around true c.args.done.now.nodes d.assignment.ty ≡ Ok (made_view c.into_inner-ty.result) =
+    ap (λ (t : TypeTree). read_type around true c.args.done.now.nodes (written.type_view t)) (sym tree) ∙ c.in_ok-made.ensures ∙ ap (λ (m : Made). Ok (made_view m)) (sym c.into_inner-ty.ensures) in
+    let kept : KeepLimits around =
+    subst KeepLimits (sym c.scope_in-scope.ensures) (known_kept types c.args.done.now.automatic.now (all_kept c.args.done.now.types.now c.requires.limits) ms order d.home) in
+    within_so ms order types c.args.id d is around same c.args.done.now.nodes c.requires.counted spelled (made_view c.into_inner-ty.result) made kept
 
 pub returns-clause-counted : goal.returns-clause-counted
-returns-clause-counted c = (answer (goal.at.returns-clause-counted c).After-deref c.into_inner-ty.result (read_so c)).2
+returns-clause-counted c =
+    let ms = modules_of c.args.names.now in
+    let order = order_of c.args.names.now in
+    let types = map type_view c.args.done.now.types.now in
+    let d : Definition = record { home = module_view c.in-Some.home.now; assignment = assignment_view c.in-Some.assignment.now } in
+    let is : Some d ≡ slice_get (definitions ms) c.args.id = c.in-Some.ensures in
+    let around = scope_view c.scope_in-scope.result in
+    let same : around ≡ surroundings_of ms order types d = c.scope_in-scope.ensures ∙ ap (λ known. surroundings ms order known d.home) c.requires.known in
+    let spelled : IsSpelled d.assignment.ty = all_spelled ms c.requires.spelled c.args.id d (sym is) in
+    let tree : c.deref.result.now ≡ c.in-Some.assignment.now.ty.value = cc (c.deref.ensures) in
+    let made : read_type around true c.args.done.now.nodes d.assignment.ty ≡ Ok (made_view c.into_inner-ty.result) =
+    ap (λ (t : TypeTree). read_type around true c.args.done.now.nodes (written.type_view t)) (sym tree) ∙ c.in_ok-made.ensures ∙ ap (λ (m : Made). Ok (made_view m)) (sym c.into_inner-ty.ensures) in
+    counted_so ms order types c.args.id d is around same c.args.done.now.nodes c.requires.counted spelled (made_view c.into_inner-ty.result) made
 
 pub returns-clause-few : goal.returns-clause-few
-returns-clause-few c = (answer (goal.at.returns-clause-few c).After-deref c.into_inner-ty.result (read_so c)).3
+returns-clause-few c =
+    let ms = modules_of c.args.names.now in
+    let order = order_of c.args.names.now in
+    let types = map type_view c.args.done.now.types.now in
+    let d : Definition = record { home = module_view c.in-Some.home.now; assignment = assignment_view c.in-Some.assignment.now } in
+    let is : Some d ≡ slice_get (definitions ms) c.args.id = c.in-Some.ensures in
+    let around = scope_view c.scope_in-scope.result in
+    let same : around ≡ surroundings_of ms order types d = c.scope_in-scope.ensures ∙ ap (λ known. surroundings ms order known d.home) c.requires.known in
+    let spelled : IsSpelled d.assignment.ty = all_spelled ms c.requires.spelled c.args.id d (sym is) in
+    let tree : c.deref.result.now ≡ c.in-Some.assignment.now.ty.value = cc (c.deref.ensures) in
+    let made : read_type around true c.args.done.now.nodes d.assignment.ty ≡ Ok (made_view c.into_inner-ty.result) =
+    ap (λ (t : TypeTree). read_type around true c.args.done.now.nodes (written.type_view t)) (sym tree) ∙ c.in_ok-made.ensures ∙ ap (λ (m : Made). Ok (made_view m)) (sym c.into_inner-ty.ensures) in
+    few_so ms order types c.args.id d is around same c.args.done.now.nodes c.requires.counted spelled (made_view c.into_inner-ty.result) made

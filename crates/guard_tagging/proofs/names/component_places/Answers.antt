@@ -1,4 +1,4 @@
-use Rattle.std.proofs.Common.{sym, arith, ◌<◌, length}
+use Rattle.std.proofs.Common.{◌≡◌, ◌∙◌, ap, map, sym, arith, ◌<◌, length}
 use Rattle.std.proofs.lemmas.List.{map_push}
 use Rattle.guard_tagging.specs.Views.{place_view}
 use Rattle.guard_tagging.proofs.Places.{one_place}

@@ -1,5 +1,7 @@
-use Rattle.std.proofs.Common.{◌≡◌, ◌∙◌, not, ap, sym, map, [], inl, inr, Some, false, ◌⊎◌}
+use Rattle.std.proofs.Common.{◌≡◌, ◌∙◌, not, ap, sym, refl, map, [], inl, inr, Some, Bool, true, false, ◌⊎◌}
 use Rattle.std.specs.Prelude.{bytes_eq}
+use Rattle.std.specs.Ordering.{is_eq, nat_cmp}
+use Rattle.std.specs.Cmp.Lexicographic.{slice_cmp}
 use Rattle.guard_tagging.specs.Faults.{repeated, same_number}
 use Rattle.guard_tagging.specs.ReadNames.{signed_key}
 use Rattle.guard_tagging.specs.Views.{place_view}

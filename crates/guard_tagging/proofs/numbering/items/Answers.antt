@@ -1,3 +1,4 @@
+use Rattle.std.proofs.Common.{◌≡◌}
 use Rattle.guard_tagging.proofs.ItemLoops.{items_read}
 use Rattle.guard_tagging.proofs.numbering.items.Goals as goal
 

@@ -1,5 +1,6 @@
-use Rattle.std.proofs.Common.{◌≡◌, false, [], map, refl}
+use Rattle.std.proofs.Common.{◌≡◌, true, false, not, [], List, map, ◌++◌, ◌∷◌, refl, sym, ap, ◌∙◌}
 use Rattle.std.proofs.lemmas.Result.{err_from_is_err_and}
+use Rattle.guard_model.specs.declared.tag.Tag.{Tag}
 use Rattle.guard_syntax.specs.TypeViews.{tag_view}
 use Rattle.guard_tagging.specs.Named.{named}
 use Rattle.guard_tagging.specs.ReadTags.{read_tags, unless_replaced}

@@ -1,4 +1,4 @@
-use Rattle.std.proofs.Common.{map}
+use Rattle.std.proofs.Common.{◌≡◌, map}
 use Rattle.std.proofs.lemmas.Result.{err_from_is_err_and}
 use Rattle.guard_syntax.specs.Trees.{components_of, alternatives_of}
 use Rattle.guard_syntax.specs.TypeViews as written

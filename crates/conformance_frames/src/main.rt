@@ -3,13 +3,12 @@
 //! | question | file |
 //! |---|---|
 //! | what answers the rows | `streams.rt` |
-//! | which messages pass there | `signs.rt` (`Signs`), `policies.rt` |
+//! | which messages pass there | `signs.rt` (`Signs`) |
 //! | which source gives the stream, and which sinks take the outputs | `devices.rt` (`Pieces`, `Room`) |
 //! | how a file of rows is read and compared | the crate `conformance_rows` |
 #![tactic(auto)]
 
 mod devices;
-mod policies;
 mod signs;
 mod streams;
 

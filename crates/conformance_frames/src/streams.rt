@@ -1,11 +1,8 @@
 //! What comes of streams of frames.
 use crate::devices::{Pieces, Room};
-use crate::policies::{Written, policy_of};
 use crate::signs::Signs;
-use conformance_notation::read;
 use conformance_rows::{Layer, text_of};
-use guard_frames::{Kept, Link, LinkFault, RunFault, Through, Totals, decide_stream, run};
-use guard_policy::Policy;
+use guard_frames::{Link, LinkFault, RunFault, Totals, run};
 use std::alloc::{AllocError, Global};
 
 /// What the rows ask.
@@ -23,71 +20,19 @@ enum Asked {
     EachReport,
     /// How many runs end with F5 where the source fails after so many octets, for each number, with the outputs of those octets.
     EachRead,
-    /// How a run ends through a reader and writers of std, and what comes out.
-    Through,
-    /// The same where the writer for frames has room for ten octets.
-    Ten,
     /// What a link answers to the stream, to one more octet, and to its end, twice.
     Link,
 }
 
-#[derive(Drop)]
+#[derive(Clone, Copy)]
 pub struct Streams {
     asked: Asked,
-    /// The name of the message that a policy declares, and its type.
-    message: Option<(String, String)>,
-    /// The policy that decides; where there is none, signs do.
-    policy: Option<Policy>,
 }
 
 impl Streams {
     pub fn new() -> Streams {
-        Streams {
-            asked: Asked::Run,
-            message: None,
-            policy: None,
-        }
+        Streams { asked: Asked::Run }
     }
-
-    /// `NAME TYPE`
-    fn declare(&mut self, alloc: Global, text: &str) -> Result<String, AllocError> {
-        let (name, ty) = cut(text);
-        self.message = Some((String::from_str(alloc, name)?, String::from_str(alloc, ty)?));
-        String::from_str(alloc, "ok")
-    }
-
-    /// `NAME FROM TO MODULE`, and the constraints that the declared type gets.
-    fn rule(&mut self, alloc: Global, text: &str) -> Result<String, AllocError> {
-        let Some((message, declared)) = &self.message else {
-            return String::from_str(alloc, "no message");
-        };
-        let (rule, rest) = cut(text);
-        let (from, rest) = cut(rest);
-        let (to, rest) = cut(rest);
-        let (module, constraints) = cut(rest);
-        let written = Written {
-            module,
-            message: message.as_str(),
-            declared: declared.as_str(),
-            rule,
-            from,
-            to,
-            constraints,
-        };
-        match read(policy_of(alloc, &written))? {
-            Some(Some(policy)) => {
-                self.policy = Some(policy);
-                String::from_str(alloc, "ok")
-            }
-            Some(None) => String::from_str(alloc, "no sound type"),
-            None => String::from_str(alloc, "no type"),
-        }
-    }
-}
-
-/// The first word, and what follows it.
-fn cut(text: &str) -> (&str, &str) {
-    text.split_once(' ').unwrap_or((text, ""))
 }
 
 /// What a run ended with, and what its sinks took.
@@ -98,62 +43,36 @@ struct Ending {
     reports: Room,
 }
 
-fn ran(alloc: Global, by: Option<&Policy>, source: Pieces, out: Room, reports: Room) -> Ending {
+fn ran(alloc: Global, source: Pieces, out: Room, reports: Room) -> Ending {
     let mut ran = Ending {
         end: Err(RunFault::OutOfMemory),
         out,
         reports,
     };
     let mut source = source;
-    let (out, reports) = (&mut ran.out, &mut ran.reports);
-    ran.end = match by {
-        Some(policy) => run(alloc, &mut source, out, reports, policy),
-        None => decide_stream(alloc, &mut source, out, reports, &Signs),
-    };
+    ran.end = run(&mut source, alloc, &Signs, &mut ran.out, &mut ran.reports);
     ran
 }
 
-fn ran_amply(alloc: Global, by: Option<&Policy>, source: Pieces) -> Ending {
-    ran(alloc, by, source, Room::ample(alloc), Room::ample(alloc))
-}
-
-/// The totals or the fault of a run, what went out, and the reports.
-fn text_of_run(
-    alloc: Global,
-    end: Result<Totals, RunFault>,
-    out: &[u8],
-    reports: &[u8],
-) -> Result<String, AllocError> {
-    let out = shown(alloc, out)?;
-    let reports = shown(alloc, reports)?;
-    match end {
-        Ok(totals) => {
-            let Totals {
-                frames,
-                passed,
-                denied,
-            } = totals;
-            format!(in alloc; "{frames} {passed} {denied} <{out}> <{reports}>")
-        }
-        Err(fault) => format!(in alloc; "{fault} <{out}> <{reports}>"),
-    }
-}
-
-/// The octets as a text, or in hexadecimal where they are none.
-fn shown(alloc: Global, octets: &[u8]) -> Result<String, AllocError> {
-    if let Ok(text) = str::from_utf8(octets) {
-        return String::from_str(alloc, text);
-    }
-    let mut digits = String::new(alloc);
-    for octet in octets {
-        digits.push_str(&format!(in alloc; "{octet:02X}")?)?;
-    }
-    Ok(digits)
+fn ran_amply(alloc: Global, source: Pieces) -> Ending {
+    ran(alloc, source, Room::ample(alloc), Room::ample(alloc))
 }
 
 impl Ending {
     fn text(&self, alloc: Global) -> Result<String, AllocError> {
-        text_of_run(alloc, self.end, self.out.octets(), self.reports.octets())
+        let out = text_of(self.out.octets());
+        let reports = text_of(self.reports.octets());
+        match self.end {
+            Ok(totals) => {
+                let Totals {
+                    frames,
+                    passed,
+                    denied,
+                } = totals;
+                format!(in alloc; "{frames} {passed} {denied} <{out}> <{reports}>")
+            }
+            Err(fault) => format!(in alloc; "{fault} <{out}> <{reports}>"),
+        }
     }
 
     /// It ended with this fault, the sink for frames took these octets, and what was reported begins these reports.
@@ -165,10 +84,10 @@ impl Ending {
 }
 
 /// The text of a run, or where a run on the stream in two pieces has another one.
-fn each_cut(alloc: Global, by: Option<&Policy>, stream: &[u8]) -> Result<String, AllocError> {
-    let whole = ran_amply(alloc, by, Pieces::whole(stream)).text(alloc)?;
+fn each_cut(alloc: Global, stream: &[u8]) -> Result<String, AllocError> {
+    let whole = ran_amply(alloc, Pieces::whole(stream)).text(alloc)?;
     for first in 1..stream.len() {
-        let cut = ran_amply(alloc, by, Pieces::cut(stream, first, usize::MAX)).text(alloc)?;
+        let cut = ran_amply(alloc, Pieces::cut(stream, first, usize::MAX)).text(alloc)?;
         if cut.as_str() != whole.as_str() {
             return format!(in alloc; "cut after {first}: {cut}");
         }
@@ -176,12 +95,12 @@ fn each_cut(alloc: Global, by: Option<&Policy>, stream: &[u8]) -> Result<String,
     Ok(whole)
 }
 
-fn each_out(alloc: Global, by: Option<&Policy>, stream: &[u8]) -> Result<String, AllocError> {
-    let whole = ran_amply(alloc, by, Pieces::whole(stream));
+fn each_out(alloc: Global, stream: &[u8]) -> Result<String, AllocError> {
+    let whole = ran_amply(alloc, Pieces::whole(stream));
     let out = whole.out.octets();
     for room in 0..out.len() {
         let full = Room::new(alloc, usize::MAX, room);
-        let cut = ran(alloc, by, Pieces::whole(stream), full, Room::ample(alloc));
+        let cut = ran(alloc, Pieces::whole(stream), full, Room::ample(alloc));
         if !cut.took(RunFault::WriteFailed, &out[..room], whole.reports.octets()) {
             return format!(in alloc; "room for {room}: {}", cut.text(alloc)?);
         }
@@ -189,12 +108,12 @@ fn each_out(alloc: Global, by: Option<&Policy>, stream: &[u8]) -> Result<String,
     format!(in alloc; "{}", out.len())
 }
 
-fn each_report(alloc: Global, by: Option<&Policy>, stream: &[u8]) -> Result<String, AllocError> {
-    let whole = ran_amply(alloc, by, Pieces::whole(stream));
+fn each_report(alloc: Global, stream: &[u8]) -> Result<String, AllocError> {
+    let whole = ran_amply(alloc, Pieces::whole(stream));
     let reports = whole.reports.octets();
     for room in 0..reports.len() {
         let full = Room::new(alloc, usize::MAX, room);
-        let cut = ran(alloc, by, Pieces::whole(stream), Room::ample(alloc), full);
+        let cut = ran(alloc, Pieces::whole(stream), Room::ample(alloc), full);
         let out = cut.out.octets();
         let begins = whole.out.octets().starts_with(out);
         if !begins
@@ -207,10 +126,10 @@ fn each_report(alloc: Global, by: Option<&Policy>, stream: &[u8]) -> Result<Stri
     format!(in alloc; "{}", reports.len())
 }
 
-fn each_read(alloc: Global, by: Option<&Policy>, stream: &[u8]) -> Result<String, AllocError> {
+fn each_read(alloc: Global, stream: &[u8]) -> Result<String, AllocError> {
     for read in 0..=stream.len() {
-        let cut = ran_amply(alloc, by, Pieces::failing(stream, read));
-        let whole = ran_amply(alloc, by, Pieces::whole(&stream[..read]));
+        let cut = ran_amply(alloc, Pieces::failing(stream, read));
+        let whole = ran_amply(alloc, Pieces::whole(&stream[..read]));
         let same = cut.reports.octets() == whole.reports.octets();
         if !same
             || !cut.took(
@@ -223,23 +142,6 @@ fn each_read(alloc: Global, by: Option<&Policy>, stream: &[u8]) -> Result<String
         }
     }
     format!(in alloc; "{}", stream.len())
-}
-
-fn through(alloc: Global, stream: &[u8]) -> Result<String, AllocError> {
-    let mut source = Through::new(stream);
-    let mut out = Through::new(Vec::new(alloc));
-    let mut reports = Through::new(Vec::new(alloc));
-    let end = decide_stream(alloc, &mut source, &mut out, &mut reports, &Signs);
-    text_of_run(alloc, end, &out.inner, &reports.inner)
-}
-
-fn into_ten(alloc: Global, stream: &[u8]) -> Result<String, AllocError> {
-    let mut room = [b'.'; 10];
-    let mut source = Through::new(stream);
-    let mut out = Through::new(&mut room[..]);
-    let mut reports = Kept::new(alloc);
-    let end = decide_stream(alloc, &mut source, &mut out, &mut reports, &Signs);
-    text_of_run(alloc, end, &room, reports.octets())
 }
 
 /// What a link answers to the stream, to one more octet, and to its end, twice.
@@ -275,41 +177,30 @@ fn add_answer(text: &mut String, answer: Result<(), LinkFault>) -> Result<(), Al
 
 impl Layer for Streams {
     fn answer(&mut self, alloc: Global, input: &[u8]) -> Result<String, AllocError> {
-        let by = self.policy.as_ref();
         match self.asked {
-            Asked::Run => ran_amply(alloc, by, Pieces::whole(input)).text(alloc),
+            Asked::Run => ran_amply(alloc, Pieces::whole(input)).text(alloc),
             Asked::Pieces(size) => {
                 let source = Pieces::cut(input, size, size);
                 let out = Room::new(alloc, size, usize::MAX);
                 let reports = Room::new(alloc, size, usize::MAX);
-                ran(alloc, by, source, out, reports).text(alloc)
+                ran(alloc, source, out, reports).text(alloc)
             }
-            Asked::EachCut => each_cut(alloc, by, input),
-            Asked::EachOut => each_out(alloc, by, input),
-            Asked::EachReport => each_report(alloc, by, input),
-            Asked::EachRead => each_read(alloc, by, input),
-            Asked::Through => through(alloc, input),
-            Asked::Ten => into_ten(alloc, input),
+            Asked::EachCut => each_cut(alloc, input),
+            Asked::EachOut => each_out(alloc, input),
+            Asked::EachReport => each_report(alloc, input),
+            Asked::EachRead => each_read(alloc, input),
             Asked::Link => of_link(alloc, input),
         }
     }
 
-    /// `@ask run`, `@ask each cut`, `@ask each out`, `@ask each report`, `@ask each read`, `@ask through`,
-    /// `@ask ten`, `@ask link`; `@pieces SIZE`. A policy decides the rows behind `@message` and `@rule`.
+    /// `@ask run`, `@ask each cut`, `@ask each out`, `@ask each report`, `@ask each read`, `@ask link`; `@pieces SIZE`.
     fn set(&mut self, alloc: Global, name: &str, text: &[u8]) -> Result<String, AllocError> {
-        match name {
-            "message" => return self.declare(alloc, text_of(text)),
-            "rule" => return self.rule(alloc, text_of(text)),
-            _ => {}
-        }
         self.asked = match (name, text_of(text)) {
             ("ask", "run") => Asked::Run,
             ("ask", "each cut") => Asked::EachCut,
             ("ask", "each out") => Asked::EachOut,
             ("ask", "each report") => Asked::EachReport,
             ("ask", "each read") => Asked::EachRead,
-            ("ask", "through") => Asked::Through,
-            ("ask", "ten") => Asked::Ten,
             ("ask", "link") => Asked::Link,
             ("pieces", size) => match size.parse::<usize>() {
                 Ok(size) => Asked::Pieces(size),

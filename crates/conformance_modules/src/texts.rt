@@ -1,11 +1,6 @@
 //! The module texts of a row, parted by `====`, and the modules that they are read as.
-ghost use Rattle.std.specs.Prelude.{All, IfOk};
-ghost use Rattle.guard_syntax.specs.ModuleViews.{module_view};
-ghost use Rattle.guard_tagging.specs.Spelled.{IsSpelledModule};
-
 use guard_lexer::{LexFault, tokens};
 use guard_syntax::{Module, SyntaxFault, parse};
-use guard_tagging::laws::law_spelled;
 use std::alloc::{AllocError, AllocFailed, Global};
 use thiserror::Error;
 
@@ -27,9 +22,7 @@ impl From<AllocFailed<Module<'_>>> for TextsFault {
 }
 
 /// The modules of the texts that stand in one, each behind `====` and a blank or line end but the first.
-pub fn modules<'a>(alloc: Global, texts: &'a str) -> Result<Vec<Module<'a>>, TextsFault>
-    ensures { IfOk result (λ v. All (λ m. IsSpelledModule (module_view m)) v.items) }
-{
+pub fn modules<'a>(alloc: Global, texts: &'a str) -> Result<Vec<Module<'a>>, TextsFault> {
     let mut modules = Vec::new(alloc);
     let mut place = 1_u32;
     for text in texts.split("====") {
@@ -46,10 +39,7 @@ fn without_first_blank(text: &str) -> &str {
     text.strip_prefix('\n').unwrap_or(text)
 }
 
-fn module<'a>(alloc: Global, place: u32, text: &'a [u8]) -> Result<Module<'a>, TextsFault>
-    ensures { IfOk result (λ m. IsSpelledModule (module_view m)) }
-{
+fn module<'a>(alloc: Global, place: u32, text: &'a [u8]) -> Result<Module<'a>, TextsFault> {
     let found = tokens(alloc, place, text)?;
-    law_spelled(text, &found);
     Ok(parse(alloc, place, text, &found)?)
 }

@@ -3,22 +3,3 @@ mod Gaps
 mod Overlaps
 mod Sets
 mod Searching
--- ---- constraint trees: what is read is what is denoted, and its fault the first
-mod SoundParts
-mod Agreement
-mod Elements
-mod Inner
-mod Trees
-mod Said
-mod OneConstraint
-mod Values
-mod Proper
-mod Answered
--- ---- steps of the code
-mod Refused
-mod Find
-mod Repeats
-mod TypeParts
-mod Shapes
-mod Joins
-mod Forms

@@ -1,31 +1,10 @@
-//! Constraints: which constraint a tree of the notation denotes on its type (X.680 49 to 51), or the first fault; and the sets of
-//! integers that tables are made of.
+//! Constraints: so far the sets of integers that they speak of.
 //!
-//! | question | file |
-//! |---|---|
-//! | what does `constraint` promise | `written.rt`, `specs/Denotes.antt`, `specs/Faults.antt`; that a tree denotes one constraint at most, and then has no fault: `laws.rt` |
-//! | which element applies to which kind | `specs/Applies.antt`, `kinds.rt` |
-//! | what is a fault, and how does it print | `fault.rt`; which one comes first: `specs/Faults.antt`, in WITH COMPONENTS `specs/PartFaults.antt` |
-//! | how are ends of ranges read | `range_ends.rt`, `specs/RangeEnds.antt` |
-//! | what may stand inside FROM | `alphabets.rt`, `specs/PermittedAlphabets.antt` |
-//! | what may WITH COMPONENTS list | `listed_parts.rt`, `specs/ListedParts.antt` |
-//! | what do names stand for | `context.rt`, `specs/Visible.antt`; contained types: `contained_types.rt` |
-//! | what does the code compute, step by step | `specs/Reading.antt` |
-//! | which integers does a set hold | `int_set.rt`, `specs/IntSets.antt`; lists of ranges, their gaps and their common parts: `ranges.rt` |
+//! - Which integers a set holds, and the calls that make sets: `int_set`.
+//! - Lists of ranges, their gaps and their common parts: `ranges`.
 #![tactic(auto)]
 
-mod alphabets;
-mod contained_types;
-mod context;
-mod fault;
 mod int_set;
-mod kinds;
-pub mod laws;
-mod listed_parts;
-mod range_ends;
 mod ranges;
-mod written;
 
-pub use fault::ConsFault;
 pub use int_set::IntSet;
-pub use written::constraint;

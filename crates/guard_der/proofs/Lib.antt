@@ -10,6 +10,6 @@ mod Components
 mod Sequences
 mod Sets
 mod Lists
-pub mod Types
+mod Types
 -- ---- the code
 mod Functions

@@ -3,4 +3,3 @@ pub mod Choice
 pub mod AllKinds
 pub mod Paths
 pub mod Messages
-pub mod BareTypes

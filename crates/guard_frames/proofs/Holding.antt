@@ -14,7 +14,7 @@ use Rattle.guard_frames.specs.Outcomes.{Decision, Outcome, frames_of}
 use Rattle.guard_frames.specs.Outputs.{AfterFailure}
 use Rattle.guard_frames.specs.Decided.{Decided, IsDecided}
 use Rattle.guard_frames.specs.Feeding.{TakesAll, TakesUntilTooLong, Feeds}
-use Rattle.guard_frames.specs.LinkView.{AbstractLink}
+use Rattle.guard_frames.specs.declared.link.Link.{Link}
 use Rattle.guard_frames.specs.declared.link.LinkFault.{LinkFault}
 use Rattle.guard_frames.specs.declared.link.LinkFault.TheVariants.{FrameTooLong, WriteFailed, Closed, TornFrame}
 use Rattle.guard_frames.proofs.Elements.{All_none, All_more}
@@ -124,10 +124,10 @@ failure_before d n s t o o₁ r r₁ x =
     }
 
 -- frames were decided, and what follows them fed to a link that holds nothing of them
-pub feeds_after : (d : Decision) (n m : Totals) (s t : List ℕ) (os : List Outcome) (new : AbstractLink) (result : Result (Unit {0}) LinkFault) (o o₁ o₂ r r₁ r₂ : Option (List ℕ)) →
+pub feeds_after : (d : Decision) (n m : Totals) (s t : List ℕ) (os : List Outcome) (new : Link) (result : Result (Unit {0}) LinkFault) (o o₁ o₂ r r₁ r₂ : Option (List ℕ)) →
     Decided d n m s os o o₁ r r₁ → Feeds d m t new result o₁ o₂ r₁ r₂ → Feeds d n (s ++ t) new result o o₂ r r₂
 feeds_after d n m s t os new (Ok done) o o₁ o₂ r r₁ r₂ x y =
-    (all_after d n m s t new.totals new.held os o o₁ o₂ r r₁ r₂ x y.0, y.1)
+    (all_after d n m s t new.totals new.held.items os o o₁ o₂ r r₁ r₂ x y.0, y.1)
 feeds_after d n m s t os new (Err FrameTooLong) o o₁ o₂ r r₁ r₂ x y = (too_long_after d n m s t new.totals os o o₁ o₂ r r₁ r₂ x y.0, y.1)
 feeds_after d n m s t os new (Err WriteFailed) o o₁ o₂ r r₁ r₂ x y = (failure_after d n m s t os o o₁ o₂ r r₁ r₂ x y.0, y.1)
 feeds_after d n m s t os new (Err Closed) o o₁ o₂ r r₁ r₂ x y = absurd y
@@ -138,7 +138,7 @@ pub decided_of : (d : Decision) (n m : Totals) (s held : List ℕ) (o o₁ r r�
 decided_of d n m s held o o₁ r r₁ x = record { whole = refl; each = x.split.each; passed = x.passed; totals = x.totals }
 
 -- a link that holds the rest of what it was fed is fed one more piece
-pub feeds_more : (d : Decision) (n m : Totals) (s held piece : List ℕ) (new : AbstractLink) (result : Result (Unit {0}) LinkFault) (o o₁ o₂ r r₁ r₂ : Option (List ℕ)) →
+pub feeds_more : (d : Decision) (n m : Totals) (s held piece : List ℕ) (new : Link) (result : Result (Unit {0}) LinkFault) (o o₁ o₂ r r₁ r₂ : Option (List ℕ)) →
     TakesAll d n s m held o o₁ r r₁ → Feeds d m (held ++ piece) new result o₁ o₂ r₁ r₂ → Feeds d n (s ++ piece) new result o o₂ r r₂
 feeds_more d n m s held piece new result o o₁ o₂ r r₁ r₂ x y =
     let e : concat (frames_of x.outcomes) ++ (held ++ piece) ≡ s ++ piece = sym (append_assoc (concat (frames_of x.outcomes)) held piece) ∙ ap (λ z. z ++ piece) (sym x.split.whole) in
@@ -149,14 +149,14 @@ pub begins_empty : (d : Decision) (n : Totals) (o r : Option (List ℕ)) → Tak
 begins_empty d n o r = keeps_all d n [] [] [] 0 o r refl refl (record { allowed = λ h. absurd (omega (arith, h)); short = λ h. absurd (omega (arith, h)) })
 
 -- what it has fed, at each answer
-pub fed_ok : (d : Decision) (n : Totals) (s : List ℕ) (new : AbstractLink) (result : Result (Unit {0}) LinkFault) (o o₁ r r₁ : Option (List ℕ)) (x : Unit {0}) →
-    result ≡ Ok x → Feeds d n s new result o o₁ r r₁ → TakesAll d n s new.totals new.held o o₁ r r₁ × (new.closed ≡ false)
+pub fed_ok : (d : Decision) (n : Totals) (s : List ℕ) (new : Link) (result : Result (Unit {0}) LinkFault) (o o₁ r r₁ : Option (List ℕ)) (x : Unit {0}) →
+    result ≡ Ok x → Feeds d n s new result o o₁ r r₁ → TakesAll d n s new.totals new.held.items o o₁ r r₁ × (new.closed ≡ false)
 fed_ok d n s new result o o₁ r r₁ x is h = subst (λ (e : Result (Unit {0}) LinkFault). Feeds d n s new e o o₁ r r₁) is h
 
-pub fed_too_long : (d : Decision) (n : Totals) (s : List ℕ) (new : AbstractLink) (result : Result (Unit {0}) LinkFault) (o o₁ r r₁ : Option (List ℕ)) →
+pub fed_too_long : (d : Decision) (n : Totals) (s : List ℕ) (new : Link) (result : Result (Unit {0}) LinkFault) (o o₁ r r₁ : Option (List ℕ)) →
     result ≡ Err FrameTooLong → Feeds d n s new result o o₁ r r₁ → TakesUntilTooLong d n s new.totals o o₁ r r₁
 fed_too_long d n s new result o o₁ r r₁ is h = (subst (λ (e : Result (Unit {0}) LinkFault). Feeds d n s new e o o₁ r r₁) is h).0
 
-pub fed_failed : (d : Decision) (n : Totals) (s : List ℕ) (new : AbstractLink) (result : Result (Unit {0}) LinkFault) (o o₁ r r₁ : Option (List ℕ)) →
+pub fed_failed : (d : Decision) (n : Totals) (s : List ℕ) (new : Link) (result : Result (Unit {0}) LinkFault) (o o₁ r r₁ : Option (List ℕ)) →
     result ≡ Err WriteFailed → Feeds d n s new result o o₁ r r₁ → AfterFailure d (next_number n) s o o₁ r r₁
 fed_failed d n s new result o o₁ r r₁ is h = (subst (λ (e : Result (Unit {0}) LinkFault). Feeds d n s new e o o₁ r r₁) is h).0

@@ -17,5 +17,3 @@ pub mod Progress
 pub mod Steps
 pub mod Composing
 pub mod Holding
--- ---- under a policy
-pub mod UnderPolicy

@@ -1,5 +1,5 @@
 -- What each step of the loop over some octets adds, in the terms of the loop's reads.
-use Rattle.std.proofs.Common.{◌≡◌, ◌≤◌, ℕ, ◌+◌, ◌-◌, List, [], ◌∷◌, ◌++◌, ◌∙◌, ap, sym, refl, subst, inl, inr, take, drop, length, Bool, length-drop, arith}
+use Rattle.std.proofs.Common.{◌≡◌, ◌≤◌, ℕ, ◌+◌, ◌-◌, List, [], ◌∷◌, ◌++◌, ◌∙◌, ap, sym, refl, subst, take, drop, length, Bool, length-drop, arith}
 use Rattle.std.specs.Prelude.{Option, Result, OnErr, Ok, Err}
 use Rattle.std.specs.Io.KnownBytes.{Appends}
 use Rattle.std.proofs.lemmas.List.{take_rest, take-append-drop, drop-drop}
@@ -12,7 +12,7 @@ use Rattle.guard_frames.specs.declared.totals.Totals.{Totals}
 use Rattle.guard_frames.specs.Totals.{after_passing, after_denying, next_number}
 use Rattle.guard_frames.specs.Outcomes.{Decision, Outcome, that_stayed, Stays}
 use Rattle.guard_frames.specs.Outputs.{ReportLine, AfterFailure}
-use Rattle.guard_frames.specs.Decided.{Decided, AllGo, PutInPart}
+use Rattle.guard_frames.specs.Decided.{Decided, AllGo}
 use Rattle.guard_frames.specs.declared.cut.Cut.{Cut}
 use Rattle.guard_frames.specs.declared.cut.Cut.TheVariants.{Frame, Unfinished, TooLong}
 use Rattle.guard_frames.specs.declared.passing.Passing.{Passing}
@@ -93,17 +93,3 @@ stop_stay d first m n k s line part os undecided o o₁ r r₁ r₂ h frame stay
     subst (λ (x : List ℕ). AfterFailure d (next_number first) x o o₁ r r₂) (sym (splits_at n k s))
     (BreaksOff_stay d first m (take n s) (take k (drop n s)) line part (drop k (drop n s)) os undecided o o₁ r r₁ r₂ h frame stays
     (told_of d (next_number m) n k s line told) inside put)
-
--- a sink failed at the frames that go from n on, or at the line of the frame behind them
-pub stop_either : (d : Decision) (first m passed : Totals) (n k : ℕ) (s : List ℕ) (os : List Outcome) (p : Passing) (undecided : Bool) (o o₁ o₂ r r₁ r₂ : Option (List ℕ)) →
-    after_passing m 0 ≡ m → passed ≡ after_passing m p.count → Decided d first m (take n s) os o o₁ r r₁ → RunAt d n s p →
-    IsFrame (take k (drop (n + p.end) s)) → Stays d undecided (take k (drop (n + p.end) s)) →
-    PutInPart d (next_number passed) (take (n + p.end - n) (drop n s)) (take (n + p.end + k - (n + p.end)) (drop (n + p.end) s)) o₁ o₂ r₁ r₂ →
-    AfterFailure d (next_number first) s o o₂ r r₂
-stop_either d first m passed n k s os p undecided o o₁ o₂ r r₁ r₂ fits counted h run frame stays (inl (part, inside, put, same)) =
-    subst (λ (x : Option (List ℕ)). AfterFailure d (next_number first) s o o₂ r x) (sym same) (stop_go d first m n s part os p o o₁ o₂ r r₁ h run inside put)
-stop_either d first m passed n k s os p undecided o o₁ o₂ r r₁ r₂ fits counted h run frame stays (inr (put, line, part, told, inside, reported)) =
-    let go = step_go d first m n s os p o o₁ o₂ r r₁ fits h run put in
-    let go₁ : Decided d first passed (take (n + p.end) s) (os ++ all_went run.frames) o o₂ r r₁ =
-    subst (λ (t : Totals). Decided d first t (take (n + p.end) s) (os ++ all_went run.frames) o o₂ r r₁) (sym counted) go in
-    stop_stay d first passed (n + p.end) k s line part (os ++ all_went run.frames) undecided o o₂ r r₁ r₂ go₁ frame stays told inside reported

@@ -1,7 +1,7 @@
 -- What one piece does to a link and its two sinks.
 use Rattle.std.specs.Prelude.{◌≡◌, ℕ, true, false, List, Option, Result, Ok, Err}
 use Rattle.guard_frames.specs.declared.totals.Totals.{Totals}
-use Rattle.guard_frames.specs.LinkView.{AbstractLink}
+use Rattle.guard_frames.specs.declared.link.Link.{Link}
 use Rattle.guard_frames.specs.declared.link.LinkFault.{LinkFault}
 use Rattle.guard_frames.specs.declared.link.LinkFault.TheVariants.{FrameTooLong, WriteFailed, Closed, TornFrame}
 use Rattle.guard_frames.specs.Frames.{IsUnfinished, IsTooLong, ConsistsOf}
@@ -27,8 +27,8 @@ pub record TakesUntilTooLong (d : Decision) (n : Totals) (stream : List ℕ) (m 
   pub totals : m ≡ counted n outcomes
 
 -- what an open link does with a stream that it has come to, by its answer; n are the totals before the stream
-abbrev pub Feeds : Decision → Totals → List ℕ → AbstractLink → Result (Unit {0}) LinkFault → Option (List ℕ) → Option (List ℕ) → Option (List ℕ) → Option (List ℕ) → Type 0
-Feeds d n stream new (Ok done) o o₁ r r₁ = TakesAll d n stream new.totals new.held o o₁ r r₁ × (new.closed ≡ false)
+abbrev pub Feeds : Decision → Totals → List ℕ → Link → Result (Unit {0}) LinkFault → Option (List ℕ) → Option (List ℕ) → Option (List ℕ) → Option (List ℕ) → Type 0
+Feeds d n stream new (Ok done) o o₁ r r₁ = TakesAll d n stream new.totals new.held.items o o₁ r r₁ × (new.closed ≡ false)
 Feeds d n stream new (Err FrameTooLong) o o₁ r r₁ = TakesUntilTooLong d n stream new.totals o o₁ r r₁ × (new.closed ≡ true)
 Feeds d n stream new (Err WriteFailed) o o₁ r r₁ = AfterFailure d (next_number n) stream o o₁ r r₁ × (new.closed ≡ true)
 Feeds d n stream new (Err Closed) o o₁ r r₁ = ⊥

@@ -8,14 +8,8 @@ pub mod Prefix
 pub mod Outcomes
 pub mod Outputs
 -- ---- what the calls do
-pub mod ThroughView
-pub mod KeptView
-pub mod LinkView
 pub mod Feeding
 pub mod Runs
--- ---- under a policy
-pub mod OfPolicy
-pub mod Guarding
 -- ---- what the parts of the code do
 pub mod Cut
 pub mod SideBySide

@@ -2,7 +2,6 @@
 
 ghost use Rattle.std.specs.Prelude.{◌≡◌, ◌⊎◌, true, false, [], IsErrOf};
 ghost use Rattle.guard_frames.specs.Frames.{IsUnfinished};
-ghost use Rattle.guard_frames.specs.LinkView.{link_view};
 ghost use Rattle.guard_frames.specs.Feeding.{Feeds};
 ghost use Rattle.guard_frames.specs.declared.link.LinkFault.TheVariants.{WriteFailed};
 
@@ -16,7 +15,6 @@ use std::alloc::Global;
 
 impl Link {
     ghost use Rattle.std.specs.Prelude.{◌≡◌, ◌⊎◌, true, false, ◌++◌, Err, IsErrOf};
-    ghost use Rattle.guard_frames.specs.LinkView.{link_view};
     ghost use Rattle.guard_frames.specs.Feeding.{Feeds};
     ghost use Rattle.guard_frames.specs.declared.link.LinkFault.TheVariants.{Closed, WriteFailed};
 
@@ -30,10 +28,9 @@ impl Link {
         out: &mut O,
         reports: &mut R,
     ) -> Result<(), LinkFault>
-        ensures open { (link_view self.old).closed ≡ false → Feeds (D.decides policy.now) (link_view self.old).totals
-            ((link_view self.old).held ++ piece.now) (link_view self.new) result
+        ensures open { self.old.closed ≡ false → Feeds (D.decides policy.now) self.old.totals (self.old.held.items ++ piece.now) self.new result
             (O.taken out.old) (O.taken out.new) (R.taken reports.old) (R.taken reports.new) }
-        ensures shut { (link_view self.old).closed ≡ true → (result ≡ Err Closed) × (self.new ≡ self.old)
+        ensures shut { self.old.closed ≡ true → (result ≡ Err Closed) × (self.new ≡ self.old)
             × (out.new ≡ out.old) × (reports.new ≡ reports.old) }
         ensures failed { IsErrOf result WriteFailed → (O.has_failed out.new ≡ true) ⊎ (R.has_failed reports.new ≡ true) }
     {
@@ -79,7 +76,7 @@ fn feed_rest<D: Decide, O: Sink, R: Sink>(
 ) -> Result<(), LinkFault>
     requires nothing { link.old.held.items ≡ [] }
     requires open { link.old.closed ≡ false }
-    ensures feeds { Feeds (D.decides policy.now) link.old.totals piece.now (link_view link.new) result
+    ensures feeds { Feeds (D.decides policy.now) link.old.totals piece.now link.new result
         (O.taken out.old) (O.taken out.new) (R.taken reports.old) (R.taken reports.new) }
     ensures failed { IsErrOf result WriteFailed → (O.has_failed out.new ≡ true) ⊎ (R.has_failed reports.new ≡ true) }
 {

@@ -6,18 +6,17 @@ use std::alloc::Global;
 /// Keeps what it takes. Want of memory is its only failure.
 #[derive(Drop)]
 pub struct Kept {
-    kept: Vec<u8>,
-    is_broken: bool,
+    pub kept: Vec<u8>,
+    pub is_broken: bool,
 }
 
 impl Kept {
     ghost use Rattle.std.specs.Prelude.{◌≡◌, [], false};
-    ghost use Rattle.guard_frames.specs.KeptView.{kept_octets, kept_failed};
 
     /// A sink that has taken nothing.
     pub fn new(alloc: Global) -> Kept
-        ensures empty { kept_octets result ≡ [] }
-        ensures sound { kept_failed result ≡ false }
+        ensures empty { result.kept.items ≡ [] }
+        ensures sound { result.is_broken ≡ false }
     {
         Kept {
             kept: Vec::new(alloc),
@@ -27,15 +26,15 @@ impl Kept {
 
     /// All that it has taken, from when it was made or last emptied.
     pub fn octets(&self) -> &[u8]
-        ensures { result.now ≡ kept_octets self.now }
+        ensures { result.now ≡ self.now.kept.items }
     {
         self.kept.as_slice()
     }
 
     /// Drops what it took. A failure stays.
     pub fn empty(&mut self)
-        ensures empty { kept_octets self.new ≡ [] }
-        ensures same { kept_failed self.new ≡ kept_failed self.old }
+        ensures empty { self.new.kept.items ≡ [] }
+        ensures same { self.new.is_broken ≡ self.old.is_broken }
     {
         self.kept.clear();
     }
@@ -43,11 +42,10 @@ impl Kept {
 
 impl Sink for Kept {
     ghost use Rattle.std.specs.Prelude.{Some};
-    ghost use Rattle.guard_frames.specs.KeptView.{kept_octets, kept_failed};
 
-    ghost taken = { λ sink. Some (kept_octets sink) };
+    ghost taken = { λ sink. Some sink.kept.items };
 
-    ghost has_failed = { λ sink. kept_failed sink };
+    ghost has_failed = { λ sink. sink.is_broken };
 
     fn put(&mut self, octets: &[u8]) -> Result<usize, Failed> {
         if self.is_broken {

@@ -1,5 +1,5 @@
-//! Frames: a stream of octets in, those of its frames that pass out, and a report line for each other one. What passes is decided by what
-//! implements `Decide`, as a policy does.
+//! Frames: a stream of octets in, those of its frames that pass out, and a report line for each other one. It knows nothing of policies: what
+//! passes is decided by what implements `Decide`.
 //!
 //! | question | code | definition |
 //! |---|---|---|
@@ -11,11 +11,10 @@
 //! | What is read from and written to, and what does a failure leave? | `devices.rt` (`Sink`, `Source`) | the clauses of the traits, `specs/Prefix.antt` |
 //! | How are a file or pipe, or a list in memory, a source or a sink? | `through.rt` (`Through`), `kept.rt` (`Kept`) | |
 //! | Which frames of some octets go side by side, and how are all of them decided where they lie? | `passing.rt`, `deciding.rt` | `specs/SideBySide.antt`, `specs/Decided.antt` |
-//! | What does a link hold, and how does the next piece complete it? | `link.rt` (`Link`), `filling.rt` | `specs/LinkView.antt`, `specs/Frames.antt` (`IsUnfinished`) |
+//! | What does a link hold, and how does the next piece complete it? | `link.rt` (`Link`), `filling.rt` | `specs/Frames.antt` (`IsUnfinished`) |
 //! | What does a piece, or the end, do to a link? | `feeding.rt` (`Link::feed`), `link.rt` (`Link::end`) | `specs/Feeding.antt` |
-//! | What does a whole run read and write, and what when a device fails? | `running.rt` (`decide_stream`) | `specs/Runs.antt` |
-//! | How does a policy decide, and what comes of a stream under it? | `policies.rt`, `guarding.rt` (`run`) | `specs/OfPolicy.antt`, `specs/Guarding.antt` |
-//! | Does it matter how a stream was cut? Has each stream one reading? Which frames went? | `laws.rt` | `specs/Frames.antt`, `specs/Outcomes.antt`, `specs/Guarding.antt` |
+//! | What does a whole run read and write, and what when a device fails? | `running.rt` (`run`) | `specs/Runs.antt` |
+//! | Does it matter how a stream was cut? Has each stream one reading? Which frames went? | `laws.rt` | `specs/Frames.antt`, `specs/Outcomes.antt` |
 #![tactic(auto)]
 
 mod body;
@@ -25,14 +24,12 @@ mod decision;
 mod devices;
 mod feeding;
 mod filling;
-mod guarding;
 mod header;
 mod kept;
 pub mod laws;
 mod link;
 mod names;
 mod passing;
-mod policies;
 mod report;
 mod running;
 mod through;
@@ -41,10 +38,9 @@ mod totals;
 pub use body::Body;
 pub use decision::Decide;
 pub use devices::{Failed, Sink, Source};
-pub use guarding::run;
 pub use kept::Kept;
 pub use link::{Link, LinkFault};
 pub use names::is_name;
-pub use running::{RunFault, decide_stream};
+pub use running::{RunFault, run};
 pub use through::Through;
 pub use totals::Totals;

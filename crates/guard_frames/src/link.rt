@@ -26,21 +26,23 @@ pub enum LinkFault {
 /// reserved once.
 #[derive(Drop)]
 pub struct Link {
-    pub(crate) held: Vec<u8>,
-    pub(crate) totals: Totals,
-    pub(crate) closed: bool,
-    pub(crate) ghost room: { 1048580 ≤ vec_capacity held },
-    pub(crate) ghost unfinished: { IsUnfinished held.items },
+    pub held: Vec<u8>,
+    pub totals: Totals,
+    pub closed: bool,
+    pub ghost room: { 1048580 ≤ vec_capacity held },
+    pub ghost unfinished: { IsUnfinished held.items },
 }
 
 impl Link {
     ghost use Rattle.std.specs.Prelude.{◌≡◌, ◌<◌, [], true, false, length, IfOk, Ok, Err};
-    ghost use Rattle.guard_frames.specs.LinkView.{link_view, new_link};
+    ghost use Rattle.guard_frames.specs.Totals.{no_frames};
     ghost use Rattle.guard_frames.specs.declared.link.LinkFault.TheVariants.{Closed, TornFrame};
 
     /// An open link that holds nothing; its frames are numbered from 1.
     pub fn new(alloc: Global) -> Result<Link, OutOfMemory>
-        ensures { IfOk result (λ link. link_view link ≡ new_link) }
+        ensures empty { IfOk result (λ link. link.held.items ≡ []) }
+        ensures none { IfOk result (λ link. link.totals ≡ no_frames) }
+        ensures open { IfOk result (λ link. link.closed ≡ false) }
     {
         let held = Vec::with_capacity(alloc, LONGEST_FRAME)?;
         Ok(Link {
@@ -52,11 +54,11 @@ impl Link {
 
     /// The end of its stream. Whatever it answers, the link is closed then.
     pub fn end(&mut self) -> Result<(), LinkFault>
-        ensures torn { (link_view self.old).closed ≡ false → 0 < length (link_view self.old).held → result ≡ Err TornFrame }
-        ensures whole { (link_view self.old).closed ≡ false → (link_view self.old).held ≡ [] → result ≡ Ok tt }
-        ensures shut { (link_view self.old).closed ≡ true → (result ≡ Err Closed) × (self.new ≡ self.old) }
-        ensures closes { (link_view self.new).closed ≡ true }
-        ensures totals { (link_view self.new).totals ≡ (link_view self.old).totals }
+        ensures torn { self.old.closed ≡ false → 0 < length self.old.held.items → result ≡ Err TornFrame }
+        ensures whole { self.old.closed ≡ false → self.old.held.items ≡ [] → result ≡ Ok tt }
+        ensures shut { self.old.closed ≡ true → (result ≡ Err Closed) × (self.new ≡ self.old) }
+        ensures closes { self.new.closed ≡ true }
+        ensures totals { self.new.totals ≡ self.old.totals }
     {
         if self.closed {
             return Err(LinkFault::Closed);

@@ -57,12 +57,12 @@ fn read_piece<S: Source>(source: &mut S, buffer: &mut Vec<u8>) -> Result<usize, 
 
 /// Reads all that the source gives, and decides it: the frames that pass go out, in order and octet by octet as they came, and a line is
 /// reported for each other one. It answers how many there were.
-pub fn decide_stream<S: Source, D: Decide, O: Sink, R: Sink>(
-    alloc: Global,
+pub fn run<S: Source, D: Decide, O: Sink, R: Sink>(
     source: &mut S,
+    alloc: Global,
+    policy: &D,
     out: &mut O,
     reports: &mut R,
-    policy: &D,
 ) -> Result<Totals, RunFault>
     ensures runs { Runs (D.decides policy.now) (S.tells source.old) (S.tells source.new) result
         (O.taken out.old) (O.taken out.new) (R.taken reports.old) (R.taken reports.new) }

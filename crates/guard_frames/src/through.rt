@@ -10,17 +10,14 @@ use std::io::{Read, Write};
 #[derive(Drop)]
 pub struct Through<T> {
     pub inner: T,
-    is_broken: bool,
+    pub is_broken: bool,
 }
 
 impl<T> Through<T> {
-    ghost use Rattle.std.specs.Prelude.{◌≡◌, false};
-    ghost use Rattle.guard_frames.specs.ThroughView.{through_failed};
-
     /// It hasn't failed yet.
     pub fn new(inner: T) -> Through<T>
         ensures inner { result.inner ≡ inner }
-        ensures sound { through_failed result ≡ false }
+        ensures sound { result.is_broken ≡ false }
     {
         Through {
             inner,
@@ -30,11 +27,9 @@ impl<T> Through<T> {
 }
 
 impl<W: Write> Sink for Through<W> {
-    ghost use Rattle.guard_frames.specs.ThroughView.{through_failed};
-
     ghost taken = { λ sink. W.contents sink.inner };
 
-    ghost has_failed = { λ sink. through_failed sink };
+    ghost has_failed = { λ sink. sink.is_broken };
 
     fn put(&mut self, octets: &[u8]) -> Result<usize, Failed> {
         if self.is_broken {
@@ -66,11 +61,9 @@ fn write_some<W: Write>(writer: &mut W, octets: &[u8]) -> usize
 }
 
 impl<R: Read> Source for Through<R> {
-    ghost use Rattle.guard_frames.specs.ThroughView.{through_failed};
-
     ghost tells = { λ source. R.remaining source.inner };
 
-    ghost has_failed = { λ source. through_failed source };
+    ghost has_failed = { λ source. source.is_broken };
 
     #[tactic(auto, using(crate::proofs::Reading::kept_gives_none))]
     fn take(&mut self, buffer: &mut [u8]) -> Result<usize, Failed> {

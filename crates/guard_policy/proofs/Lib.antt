@@ -4,10 +4,3 @@ pub mod Shortfalls
 -- ---- the verdict
 pub mod Goes
 pub mod Reasons
-pub mod OneReason
--- ---- the text of a policy
-pub mod Gathered
-pub mod EntriesRead
-pub mod ModuleNames
-pub mod Consistent
-pub mod Loading

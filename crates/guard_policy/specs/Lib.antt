@@ -1,18 +1,6 @@
 -- ---- policies
 pub mod Policies
 pub mod PolicyView
-pub mod Names
 -- ---- verdicts
 pub mod Verdicts
 pub mod Decisions
--- ---- the text of a policy
-pub mod Documents
-pub mod Entries
-pub mod PolicyFaults
-pub mod EntryFaults
-pub mod Loads
--- ---- what private contracts cite
-pub mod Answers
--- ---- worked examples
-pub mod Rows
-pub mod LoadRows

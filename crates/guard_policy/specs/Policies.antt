@@ -1,5 +1,5 @@
 -- Policies as the definitions see them.
-use Rattle.std.specs.Prelude.{◌≡◌, ℕ, ◌-◌, nat_eq, List, [], ◌∷◌, All, map, option_map, slice_get, string_bytes, Option, Some, None, IsTrue, if◌then◌else◌}
+use Rattle.std.specs.Prelude.{◌≡◌, ℕ, ◌-◌, nat_eq, List, [], ◌∷◌, All, option_map, slice_get, string_bytes, Option, Some, None, IsTrue, if◌then◌else◌}
 use Rattle.std.specs.Str.{bytes_eq}
 use Rattle.guard_model.specs.AbstractType.{AbstractType}
 use Rattle.guard_model.specs.AbstractValue.{AbstractValue}
@@ -38,12 +38,6 @@ message_view m = record { name = string_bytes m.name; ty = type_view m.ty }
 
 abbrev pub rule_view : Rule → AbstractRule
 rule_view r = record { name = string_bytes r.name; effect = r.effect; from = string_bytes r.from; to = string_bytes r.to; message = string_bytes r.message; ty = type_view r.ty }
-
-abbrev pub message_names : List AbstractMessage → List (List ℕ)
-message_names messages = map (λ m. m.name) messages
-
-abbrev pub rule_names : List AbstractRule → List (List ℕ)
-rule_names rules = map (λ r. r.name) rules
 
 -- the declared type of the first message of this name
 abbrev pub declared_among : List AbstractMessage → List ℕ → Option AbstractType

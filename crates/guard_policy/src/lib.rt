@@ -6,34 +6,13 @@
 //! | Who sends what to whom? | `route.rt` | `specs/Policies.antt`, `specs/PolicyView.antt` |
 //! | Which verdicts are there? | `verdict.rt` | `specs/Verdicts.antt` |
 //! | Which verdict stands, and when does a message go? | `policy.rt` (`verdict`), `decision.rt` | `specs/Decisions.antt` |
-//! | What holds of every message? | `laws.rt` | `specs/Decisions.antt` |
-//! | Which octets are names? | `route.rt` (`Route::is_plain`) | `specs/Names.antt` |
-//! | What stands in the text of a policy? | `document.rt`, `entry.rt` | `specs/Documents.antt` |
-//! | What may be wrong with it? | `fault.rt` | `specs/PolicyFaults.antt` |
-//! | Which files of modules does it list? | `files.rt` (`module_files`) | `specs/Loads.antt` |
-//! | What does a policy stand on? | `types.rt` (`Types`) | `specs/Entries.antt` |
-//! | Which policy does the text say, and why is another text none? | `load.rt` (`Policy::load`), `messages.rt`, `rules.rt`, `tables.rt` | `specs/Loads.antt`, `specs/Entries.antt`, `specs/EntryFaults.antt` |
 #![tactic(auto)]
 
 mod decision;
-mod document;
-mod entry;
-mod fault;
-mod files;
-pub mod laws;
-mod load;
-mod messages;
 mod policy;
 mod route;
-mod rules;
-mod tables;
-mod types;
 mod verdict;
 
-pub use entry::{Entry, Key};
-pub use fault::PolicyFault;
-pub use files::module_files;
 pub use policy::{Effect, Message, Policy, Rule};
 pub use route::Route;
-pub use types::Types;
 pub use verdict::Verdict;

@@ -1,11 +1,4 @@
 //! Who sends what to whom.
-ghost use Rattle.std.specs.Prelude.{◌≡◌};
-ghost use Rattle.std.specs.List.{list_all};
-ghost use Rattle.guard_policy.specs.PolicyView.{route_view};
-ghost use Rattle.guard_policy.specs.Names.{is_name, is_name_octet, is_plain};
-
-/// The most octets of a name.
-const LONGEST_NAME: usize = 63;
 
 /// The sender, the receiver and the name of the message, as a frame gives them. They are taken as given.
 #[derive(Clone, Copy)]
@@ -13,32 +6,4 @@ pub struct Route<'a> {
     pub from: &'a [u8],
     pub to: &'a [u8],
     pub message: &'a [u8],
-}
-
-impl<'a> Route<'a> {
-    /// Whether all three are names.
-    pub fn is_plain(&self) -> bool
-        ensures { result ≡ is_plain (route_view self.now) }
-    {
-        is_name(self.from) && is_name(self.to) && is_name(self.message)
-    }
-}
-
-/// Whether the octets are a name: 1 to 63 letters, digits, `-`, `_` and `.`.
-pub(crate) fn is_name(octets: &[u8]) -> bool
-    ensures { result ≡ is_name octets.now }
-{
-    1 <= octets.len() && octets.len() <= LONGEST_NAME && are_name_octets(octets)
-}
-
-fn are_name_octets(octets: &[u8]) -> bool
-    ensures { result ≡ list_all is_name_octet octets.now }
-{
-    octets.iter().all(|octet| is_name_octet(*octet))
-}
-
-fn is_name_octet(octet: u8) -> bool
-    ensures { result ≡ is_name_octet octet }
-{
-    octet.is_ascii_alphanumeric() || octet == b'-' || octet == b'_' || octet == b'.'
 }

@@ -73,15 +73,14 @@ abbrev pub listed : Components → List OneComponent
 listed type.no_components = []
 listed (type.component name t presence cs) = record { name = name; ty = t; presence = presence } ∷ listed cs
 
+-- all these at one site
+abbrev pub appended : PartList → Site → List OneComponent → ℕ → ℕ → PartList
+appended parts site comps nesting nodes =
+    record { sites = parts.sites ++ replicate (length comps) site; comps = parts.comps ++ comps; deepest = max parts.deepest nesting; nodes = nodes }
+
 -- those of a SEQUENCE or SET that COMPONENTS OF takes in: they are nested one level less than it
 abbrev pub with_list : PartList → Site → Made → PartList
-with_list parts site made =
-    record {
-      sites = parts.sites ++ replicate (length (listed (parts_of made.ty))) site;
-      comps = parts.comps ++ listed (parts_of made.ty);
-      deepest = max parts.deepest (made.nesting - 1);
-      nodes = made.nodes;
-    }
+with_list parts site made = appended parts site (listed (parts_of made.ty)) (made.nesting - 1) made.nodes
 
 -- ---- the names of a list and how long it is
 

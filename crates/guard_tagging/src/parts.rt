@@ -145,13 +145,28 @@ pub fn with_list(
     ensures { IfOk result (λ v. parts_view v.value ≡ reading.with_list (parts_view parts.value) site (made_view made.value)) }
 {
     let Made { ty, nesting, nodes } = Box::into_inner(made);
+    let put_in = comps_in(alloc, ty.kind);
+    appended(parts, alloc, site, put_in, nesting.saturating_sub(1), nodes)
+}
+
+/// The parts with all these at one site, of which the deepest is nested so deep.
+fn appended(
+    parts: Box<Parts>,
+    alloc: Global,
+    site: Site,
+    put_in: Vec<Comp>,
+    nesting: usize,
+    nodes: usize,
+) -> Result<Box<Parts>, AllocError>
+    ensures { IfOk result (λ v. parts_view v.value ≡ reading.appended (parts_view parts.value) site (map model.component_view put_in.items) nesting nodes) }
+{
     let Parts {
         sites,
         mut comps,
         deepest,
         ..
     } = Box::into_inner(parts);
-    let mut put_in = comps_in(alloc, ty.kind);
+    let mut put_in = put_in;
     let sites = with_sites(sites, site, put_in.len())?;
     comps.append(&mut put_in)?;
     Ok(Box::new(
@@ -159,7 +174,7 @@ pub fn with_list(
         Parts {
             sites,
             comps,
-            deepest: deepest.max(nesting.saturating_sub(1)),
+            deepest: deepest.max(nesting),
             nodes,
         },
     )?)

@@ -1,7 +1,6 @@
 use Rattle.std.proofs.Common.{refl, drop}
 use Rattle.std.proofs.lemmas.List.{take_rest}
 use Rattle.guard_frames.specs.Frames.{IsFrame, IsUnfinished, IsTooLong}
-use Rattle.guard_frames.specs.LinkView.{link_view}
 use Rattle.guard_frames.proofs.Holding.{held_splits, keeps_all, too_long_now, is_whole, decided_whole, failure_before, feeds_after}
 use Rattle.guard_frames.proofs.link.Link.feed.Goals as goal
 
@@ -45,4 +44,4 @@ returns-clause-open g c = λ still.
     let done = decided_whole d n w now _ _ _ _ frame decided in
     let fed = rw (take_rest p at) at c.feed_rest-2.ensures.feeds in
     rw (held_splits c.args.self.now.held.items p now at c.complete-at.ensures.held)
-    (feeds_after d n w.totals now (drop at p) decided.outcomes (link_view c.feed_rest-2.new.link) c.feed_rest-2.result _ _ _ _ _ _ done fed)
+    (feeds_after d n w.totals now (drop at p) decided.outcomes c.feed_rest-2.new.link c.feed_rest-2.result _ _ _ _ _ _ done fed)

@@ -1,6 +1,0 @@
-use Rattle.guard_constraints.proofs.OneConstraint.{no_fault}
-use Rattle.guard_constraints.proofs.Values.{values_said, values_agree}
-use Rattle.guard_constraints.proofs.laws.law_no_fault.Goals as goal
-
-pub returns : goal.returns
-returns c = λ names t tree x fit sound h. no_fault names t tree x (values_said names.values) (values_agree names.values fit) sound h

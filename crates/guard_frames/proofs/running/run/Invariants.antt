@@ -1,0 +1,16 @@
+use Rattle.std.proofs.Common.{◌≡◌, ℕ, false, List, length}
+use Rattle.std.specs.Io.KnownBytes.{Consumes}
+use Rattle.guard_frames.specs.Totals.{no_frames}
+use Rattle.guard_frames.specs.Feeding.{TakesAll}
+use Rattle.guard_frames.specs.Runs.{CameInPieces}
+use Rattle.guard_frames.proofs.running.run.Given as goal
+
+abbrev pub invariant-loop : goal.invariant-loop
+invariant-loop g l = record {
+  room : length l.buffer.items ≡ 65536;
+  open_still : l.link.closed ≡ false;
+  so_far : (read : List ℕ) × Consumes (g.S.Source.tells l.initial.source) (g.S.Source.tells l.source) read
+      × TakesAll (g.D.Decide.decides l.policy) no_frames read l.link.totals l.link.held.items
+      (g.O.Sink.taken l.initial.out) (g.O.Sink.taken l.out) (g.R.Sink.taken l.initial.reports) (g.R.Sink.taken l.reports)
+      × CameInPieces l.counter read;
+}

@@ -17,5 +17,9 @@ pub mod Progress
 pub mod Steps
 pub mod Composing
 pub mod Holding
--- ---- under a policy
-pub mod UnderPolicy
+-- ---- laws
+pub mod WentExactly
+-- ---- texts
+pub mod FewModules
+pub mod OnePolicy
+pub mod UnderTexts

@@ -1,3 +1,7 @@
-pub mod Consistent
-pub mod Refusals
 pub mod Lines
+pub mod Folders
+pub mod ReadingTexts
+pub mod Refusals
+pub mod Streams
+pub mod Meetings
+pub mod VerdictsFound

@@ -1,5 +1,5 @@
 //! Written tags (X.680 clause 31).
-ghost use Rattle.std.specs.Prelude.{◌≡◌, IfOk, is_some, map};
+ghost use Rattle.std.specs.Prelude.{◌≡◌, IfOk, false, is_some, map};
 ghost use Rattle.guard_model.specs.Answer.{Gives};
 ghost use Rattle.guard_syntax.specs.TypeViews.{tag_view};
 ghost use Rattle.guard_tagging.specs.Faults as faults;

@@ -87,10 +87,10 @@ IsFirst written n k = (n ≤ k) × ((is_among written (pos k) ≡ false) × ((m 
 here_free : (written : List ℤ) (tries n : ℕ) → is_among written (pos n) ≡ false → IsFirst written n (free_from written tries n)
 here_free written tries n e =
     let here : n ≤ n = omega arith in
-    subst (λ (k : ℕ). IsFirst written n k) (sym (free_now written tries n e)) (here, (e, λ m le lt. absurd (omega (arith, le, lt))))
+    subst (λ (k : ℕ). IsFirst written n k) (sym (free_now written tries n e)) (here, (e, (λ m le lt. absurd (omega (arith, le, lt)))))
 
 one_before : (written : List ℤ) (n k : ℕ) → is_among written (pos n) ≡ true → IsFirst written (suc n) k → IsFirst written n k
-one_before written n k e first = (omega (arith, first.0), (first.1.0, λ m le lt. by m le lt (cases_lt n m)))
+one_before written n k e first = (omega (arith, first.0), (first.1.0, (λ m le lt. by m le lt (cases_lt n m))))
   where
     by : (m : ℕ) → n ≤ m → m < k → (n < m) ⊎ (m ≤ n) → is_among written (pos m) ≡ true
     by m le lt (inl past) = first.1.1 m (omega (arith, past)) lt
@@ -140,7 +140,7 @@ module _ (written : List ℤ) (tries : ℕ) (few : length written ≤ tries) whe
   Step next taken own = HasNumber taken own (given_number written tries next own) × Taken (next_number written tries next own) (given_number written tries next own ∷ taken)
 
   with_number : (next : ℕ) (taken : List ℤ) (n : WrittenNumber) → Taken next taken → is_among written (number_of n) ≡ true → Step next taken (Some n)
-  with_number next taken n state there = (refl, ((λ q h. or_right (int_eq q (number_of n)) (is_among taken q) (state.0 q h)), ((λ m lt. or_right (int_eq (pos m) (number_of n)) (is_among taken (pos m)) (state.1.0 m lt)), λ m le h. by m le (int_eq (pos m) (number_of n)) refl h)))
+  with_number next taken n state there = (refl, ((λ q h. or_right (int_eq q (number_of n)) (is_among taken q) (state.0 q h)), ((λ m lt. or_right (int_eq (pos m) (number_of n)) (is_among taken (pos m)) (state.1.0 m lt)), (λ m le h. by m le (int_eq (pos m) (number_of n)) refl h))))
     where
       by : (m : ℕ) → next ≤ m → (hit : Bool) → int_eq (pos m) (number_of n) ≡ hit → (hit || is_among taken (pos m)) ≡ true → is_among written (pos m) ≡ true
       by m le true is h = subst (λ (z : ℤ). is_among written z ≡ true) (sym ((Decides-int_eq (pos m) (number_of n)).0 is)) there
@@ -148,7 +148,7 @@ module _ (written : List ℤ) (tries : ℕ) (few : length written ≤ tries) whe
 
   without_number : (next : ℕ) (taken : List ℤ) → Taken next taken → Step next taken None
   without_number next taken state =
-      ((free_from written tries next, refl, not_taken (is_among taken (pos (free_from written tries next))) refl, λ m lt. below m lt (cases_lt m next)), ((λ q h. or_right (int_eq q (pos (free_from written tries next))) (is_among taken q) (state.0 q h)), ((λ m lt. up_to m lt (cases_lt m (free_from written tries next))), λ m le h. above m le (int_eq (pos m) (pos (free_from written tries next))) refl h)))
+      ((free_from written tries next, refl, not_taken (is_among taken (pos (free_from written tries next))) refl, (λ m lt. below m lt (cases_lt m next))), ((λ q h. or_right (int_eq q (pos (free_from written tries next))) (is_among taken q) (state.0 q h)), ((λ m lt. up_to m lt (cases_lt m (free_from written tries next))), (λ m le h. above m le (int_eq (pos m) (pos (free_from written tries next))) refl h))))
     where
       is_first : IsFirst written next (free_from written tries next)
       is_first = first_free written tries next (omega (arith, no_more next written, few))
@@ -199,4 +199,4 @@ as_many (i ∷ items) = one_longer i.number (written_numbers items) (length item
 
 pub items_numbered : (items : List WrittenItem) → AreNumbered (written_numbers items) items (numbered items)
 items_numbered items =
-    all_numbered (written_numbers items) (length items) (as_many items) items 0 (written_numbers items) ((λ q h. h), ((λ m lt. absurd (omega (arith, lt))), λ m le h. h)) (λ q h. h)
+    all_numbered (written_numbers items) (length items) (as_many items) items 0 (written_numbers items) ((λ q h. h), ((λ m lt. absurd (omega (arith, lt))), (λ m le h. h))) (λ q h. h)

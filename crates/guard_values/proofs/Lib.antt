@@ -17,6 +17,8 @@ pub mod AgainFields
 pub mod Again
 -- ---- what is read is what a tree says
 pub mod Said
+-- ---- faults
+pub mod Told
 pub mod Standing
 -- ---- what a tree says fits
 pub mod FitsBits

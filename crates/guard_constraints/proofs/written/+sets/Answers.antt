@@ -1,8 +1,7 @@
-use Rattle.std.proofs.Common.{◌≡◌, ◌+◌, rules, List, map, drop, refl, sym, ap, ◌∙◌, subst}
+use Rattle.std.proofs.Common.{◌≡◌, rules, map, refl, sym, ◌∙◌}
 use Rattle.std.proofs.lemmas.Result.{err_from_is_err_and}
-use Rattle.guard_model.specs.AbstractType.{Constraint}
 use Rattle.guard_model.specs.Each.{each}
-use Rattle.guard_model.specs.TypeView.{OnePart, type_view, constraint_view, part_view}
+use Rattle.guard_model.specs.TypeView.{type_view, constraint_view, part_view}
 use Rattle.guard_model.proofs.Loops.{stops_at, ends_there}
 use Rattle.guard_der.specs.ProperConstraints.{kind_of}
 use Rattle.guard_syntax.specs.Trees.{WrittenJoinedIntersection, WrittenJoinedDifference}

@@ -1,0 +1,4 @@
+pub mod Lines
+pub mod ReadingTexts
+pub mod Refusals
+pub mod Streams

@@ -1,0 +1,8 @@
+//! What is answered to a request that reads no stream.
+
+/// What goes to standard output, and the status with which the program ends.
+#[derive(Drop)]
+pub struct Answer {
+    pub out: Vec<u8>,
+    pub status: u8,
+}

@@ -1,0 +1,36 @@
+//! Where the texts of policies and modules come from.
+ghost use Rattle.std.specs.Prelude.{◌≡◌, Option, Some, None, List, ℕ, IfOk, IfErr};
+ghost use Rattle.derguard.specs.Files.{Told, HasText, HasNone};
+ghost use Rattle.derguard.specs.declared.files.FilesFault.TheVariants.{CannotRead};
+
+use std::alloc::AllocError;
+use thiserror::Error;
+
+/// Why there is no text at a path.
+#[derive(Clone, Copy, Debug, PartialEq, Eq, Error)]
+pub enum FilesFault {
+    #[error("CannotRead")]
+    CannotRead,
+    #[error("OutOfMemory")]
+    OutOfMemory,
+}
+
+impl From<AllocError> for FilesFault {
+    ghost from_gives = { λ _ e. e ≡ FilesFault.OutOfMemory };
+
+    fn from(_e: AllocError) -> FilesFault {
+        FilesFault::OutOfMemory
+    }
+}
+
+/// Files by their paths.
+pub trait Files {
+    // what can be read at each path, where that is told: of a disk it isn't
+    ghost told: { Self → Told };
+
+    /// The text at this path. OutOfMemory may stand in place of any answer. Reading changes nothing.
+    fn read(&mut self, path: &str) -> Result<Vec<u8>, FilesFault>
+        ensures text { IfOk result (λ text. HasText (told self.old) path.now text.items) }
+        ensures nothing { IfErr result (λ f. f ≡ CannotRead → HasNone (told self.old) path.now) }
+        ensures same { told self.new ≡ told self.old };
+}

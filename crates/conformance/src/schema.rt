@@ -36,7 +36,7 @@ impl Schemas {
 
     fn built(&self, alloc: Global, input: &[u8]) -> Result<String, AllocError> {
         let text = self.around.text(alloc, input)?;
-        match Schema::build(alloc, &text) {
+        match Schema::build(alloc, &[text.as_slice()]) {
             Ok(schema) => match &self.asked {
                 Asked::TypeOf(name) => named(alloc, &schema, "M", name),
                 _ => String::from_str(alloc, "ok"),
@@ -46,7 +46,7 @@ impl Schemas {
     }
 
     fn keep(&mut self, alloc: Global, text: &[u8]) -> Result<String, AllocError> {
-        match Schema::build(alloc, text) {
+        match Schema::build(alloc, &[text]) {
             Ok(schema) => self.kept = Some(schema),
             Err(fault) => return format!(in alloc; "{fault}"),
         }

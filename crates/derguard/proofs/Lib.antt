@@ -1,3 +1,4 @@
-pub mod Consistent
-pub mod Refusals
 pub mod Lines
+pub mod ReadingTexts
+pub mod Refusals
+pub mod Streams

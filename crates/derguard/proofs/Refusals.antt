@@ -1,19 +1,57 @@
--- What keeps a schema from being built keeps the first run from printing.
-use Rattle.std.proofs.Common.{ℕ, List, [], ◌∷◌, IfSome}
-use Rattle.guard_schema.specs.declared.fault.SchemaFault.{SchemaFault}
-use Rattle.guard_schema.specs.declared.fault.SchemaFault.TheVariants as schema
-use Rattle.guard_schema.specs.Faults.{named}
-use Rattle.guard_schema.specs.Accepts.{IsRefused}
-use Rattle.derguard.specs.FirstFaults.{IsFirstFault, schema_fault}
+-- What a call refuses is why there is no policy at the path.
+use Rattle.std.proofs.Common.{◌≡◌, ◌⊎◌, ℕ, List, Option, Some, None, inl, inr, refl, MatchOption}
+use Rattle.std.specs.Prelude.{IfSome}
+use Rattle.guard_policy.specs.declared.fault.PolicyFault.{PolicyFault}
+use Rattle.guard_policy.specs.Loads.{ListsFiles, ListsNoFiles}
+use Rattle.guard_policy.specs.PolicyFaults as policy
+use Rattle.guard_frames.specs.declared.texts.TextsFault.{TextsFault}
+use Rattle.guard_frames.specs.declared.texts.TextsFault.TheVariants as texts
+use Rattle.guard_frames.specs.Texts.{SayNone}
+use Rattle.derguard.specs.declared.fault.Fault.{Fault}
+use Rattle.derguard.specs.declared.fault.Fault.TheVariants.{BadHex, CannotRead, Schema, Policy, Run, NoMemory}
+use Rattle.derguard.specs.Faults.{StandsForPolicy, of_texts}
+use Rattle.derguard.specs.Files.{Told, HasText}
+use Rattle.derguard.specs.Reading.{folder, AreTexts, AreMissing, SayNothing, IsNoPolicyAt}
+use Rattle.derguard.specs.Texts.{IsUnread, AreUnread}
 
-pub schema_refused : (text : List ℕ) (f : SchemaFault) → IfSome (named f) (IsRefused (text ∷ [])) → IsFirstFault text (schema_fault f)
-schema_refused text schema.OutOfMemory h = tt
-schema_refused text (schema.Lex f) h = h
-schema_refused text (schema.Syntax f) h = h
-schema_refused text (schema.Name f) h = h
-schema_refused text (schema.Tag f) h = h
-schema_refused text (schema.Clash site c) h = h
-schema_refused text (schema.Cons f) h = h
-schema_refused text (schema.Value f) h = h
-schema_refused text (schema.DefaultOutside site) h = h
-schema_refused text (schema.TooLarge site) h = h
+module _ (told : Told) (path : List ℕ) where
+  -- the policy's file
+  pub policy_unread : (f : Fault) → IsUnread told path f → IsNoPolicyAt told path f
+  policy_unread (CannotRead file) h = inl (inl h)
+  policy_unread NoMemory h = inr (inr refl)
+  policy_unread BadHex h = absurd h
+  policy_unread (Schema f) h = absurd h
+  policy_unread (Policy f) h = absurd h
+  policy_unread (Run f) h = absurd h
+
+  module _ (text : List ℕ) (has : HasText told path text) where
+    by_top : (p : PolicyFault) (f : Fault) (named : Option policy.AbstractFault) → policy.named p ≡ named → MatchOption named (f ≡ NoMemory) (λ _. f ≡ Policy p)
+        → IfSome named (ListsNoFiles text) → IsNoPolicyAt told path f
+    by_top p f None e is h = inr (inr is)
+    by_top p f (Some fault) e is h = rw is (inl (text, has, rw e h))
+
+    -- its top
+    pub lists_none : (p : PolicyFault) (f : Fault) → StandsForPolicy p f → IfSome (policy.named p) (ListsNoFiles text) → IsNoPolicyAt told path f
+    lists_none p f is h = by_top p f (policy.named p) refl is h
+
+    -- the files of its modules
+    pub modules_unread : (files : List (List ℕ)) → ListsFiles text files → (f : Fault) → AreUnread told (folder path) files f → IsNoPolicyAt told path f
+    modules_unread files listed (CannotRead file) h = inl (inr (text, files, has, listed, h))
+    modules_unread files listed NoMemory h = inr (inr refl)
+    modules_unread files listed BadHex h = absurd h
+    modules_unread files listed (Schema f) h = absurd h
+    modules_unread files listed (Policy f) h = absurd h
+    modules_unread files listed (Run f) h = absurd h
+
+-- what the texts say
+pub say_nothing : (modules : List (List ℕ)) (text : List ℕ) (f : TextsFault) → SayNone modules text f → SayNothing modules text (of_texts f) ⊎ (of_texts f ≡ NoMemory)
+say_nothing modules text (texts.Schema f) h = inl h
+say_nothing modules text (texts.Policy f) h = inl h
+say_nothing modules text (texts.Run f) h = absurd h
+say_nothing modules text texts.OutOfMemory h = inr refl
+
+pub none_said : (told : Told) (path text : List ℕ) (modules : List (List ℕ)) → AreTexts told path text modules → (f : TextsFault) → SayNone modules text f → IsNoPolicyAt told path (of_texts f)
+none_said told path text modules are f h = elim (say_nothing modules text f h) [
+  | inl none ↦ inr (inl (text, modules, are, none))
+  | inr e ↦ inr (inr e)
+]

@@ -1,6 +1,15 @@
--- ---- the policy that is built in
-pub mod BuiltIn
--- ---- what the first run prints, or why it prints nothing
-pub mod FirstRun
+-- ---- what is asked, and the texts that it needs
+pub mod Files
+pub mod Faults
+pub mod Requests
+pub mod Reading
+-- ---- what is answered
 pub mod Printing
-pub mod FirstFaults
+pub mod FirstRun
+pub mod Answers
+-- ---- what goes to the outputs, and the status
+pub mod Devices
+pub mod Writing
+pub mod Meeting
+-- ---- what the parts of the code do
+pub mod Texts

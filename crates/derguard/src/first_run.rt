@@ -1,72 +1,37 @@
 //! Four messages, decided by the policy that is built in.
-ghost use Rattle.std.specs.Prelude.{◌≡◌, ◌++◌, codes, IfOk, IfErr, OnOk};
+ghost use Rattle.std.specs.Prelude.{IfOk, IfErr, OnOk};
 ghost use Rattle.guard_policy.specs.PolicyView.{policy_view};
+ghost use Rattle.derguard.specs.Answers.{answer_view, IsFirst, IsNoFirst};
 ghost use Rattle.derguard.specs.Printing.{AreLines, AppendsLine};
-ghost use Rattle.derguard.specs.FirstRun.{first_text, sent, first_messages};
-ghost use Rattle.derguard.specs.FirstFaults.{Prints, IsFirstFault};
+ghost use Rattle.derguard.specs.FirstRun.{sent, first_messages};
 
-use crate::built_in::built_in;
+use crate::answer::Answer;
+use crate::fault::Fault;
+use guard_frames::load_texts;
 use guard_model::OutOfMemory;
 use guard_policy::{Policy, Route};
 use guard_report::verdict_text;
-use guard_schema::{Schema, SchemaFault};
 use std::alloc::Global;
-use thiserror::Error;
 
 /// The module that is built in.
-const FIRST: &str =
+const MODULE: &str =
     "First DEFINITIONS EXPLICIT TAGS ::= BEGIN\nLevel ::= INTEGER (0..100)\nLow ::= INTEGER (0..9)\nPing ::= SEQUENCE { level INTEGER (0..100), urgent BOOLEAN }\nEND\n";
 
-/// Why the first run has no lines.
-#[derive(Debug, Drop, Error)]
-pub enum FirstFault {
-    /// The built-in module makes no schema.
-    #[error("{0}")]
-    Schema(SchemaFault),
-    /// It lacks a type that the built-in policy wants.
-    #[error("NoType")]
-    NoType,
-    #[error("OutOfMemory")]
-    OutOfMemory,
-}
+/// The policy that is built in.
+const POLICY: &str =
+    "modules = [\"first.asn1\"]\n[[message]]\nname = \"level\"\nmodule = \"First\"\ntype = \"Level\"\n[[message]]\nname = \"ping\"\nmodule = \"First\"\ntype = \"Ping\"\n[[rule]]\nname = \"low\"\neffect = \"allow\"\nfrom = \"a\"\nto = \"b\"\nmessage = \"level\"\nmodule = \"First\"\ntype = \"Low\"\n[[rule]]\nname = \"ping\"\neffect = \"allow\"\nfrom = \"a\"\nto = \"b\"\nmessage = \"ping\"\nmodule = \"First\"\ntype = \"Ping\"\n";
 
-impl From<SchemaFault> for FirstFault {
-    ghost use Rattle.std.specs.Prelude.{◌≡◌};
-    ghost use Rattle.derguard.specs.FirstFaults.{schema_fault};
-
-    ghost from_gives = { λ f e. e ≡ schema_fault f };
-
-    fn from(fault: SchemaFault) -> FirstFault {
-        match fault {
-            SchemaFault::OutOfMemory => FirstFault::OutOfMemory,
-            fault => FirstFault::Schema(fault),
-        }
-    }
-}
-
-impl From<OutOfMemory> for FirstFault {
-    ghost use Rattle.derguard.specs.declared.first_run.FirstFault.TheVariants as fault;
-
-    ghost from_gives = { λ _ e. e ≡ fault.OutOfMemory };
-
-    fn from(_e: OutOfMemory) -> FirstFault {
-        FirstFault::OutOfMemory
-    }
-}
-
-/// The lines that are printed for the four messages, by the policy that is built in.
+/// The lines for the four messages, with status 0.
 ///
-/// It refuses with Schema where the built-in module makes no schema, and with NoType where it lacks a type. OutOfMemory
-/// may stand in place of any answer.
-pub fn first_run(alloc: Global) -> Result<Vec<u8>, FirstFault>
-    ensures printed { IfOk result (λ out. Prints first_text out.items) }
-    ensures refused { IfErr result (IsFirstFault first_text) }
+/// It refuses with Schema or Policy where the texts that are built in have a fault, which the run without words shows that they haven't. NoMemory may
+/// stand in place of any answer.
+pub fn first_run(alloc: Global) -> Result<Answer, Fault>
+    ensures first { IfOk result (λ a. IsFirst (answer_view a)) }
+    ensures none { IfErr result IsNoFirst }
 {
-    let schema = Schema::build(alloc, &[FIRST.as_bytes()])?;
-    let Some(policy) = built_in(alloc, &schema)? else {
-        return Err(FirstFault::NoType);
-    };
-    Ok(decide_first(alloc, &policy)?)
+    let policy = load_texts(alloc, &[MODULE.as_bytes()], POLICY.as_bytes())?;
+    let out = decide_first(alloc, &policy)?;
+    Ok(Answer { out, status: 0 })
 }
 
 /// A line for each of the four messages, with the text of its verdict.

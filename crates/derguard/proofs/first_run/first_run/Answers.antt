@@ -1,19 +1,27 @@
-use Rattle.guard_policy.specs.PolicyView.{policy_view}
-use Rattle.guard_schema.specs.Views.{schema_view}
+use Rattle.std.proofs.Common.{[], ◌∷◌, refl}
 use Rattle.std.proofs.lemmas.Result.{err_from_is_err_and}
-use Rattle.derguard.specs.FirstRun.{first_text}
-use Rattle.derguard.proofs.Refusals.{schema_refused}
+use Rattle.guard_policy.specs.PolicyView.{policy_view}
+use Rattle.derguard.specs.FirstRun.{first_module, first_policy}
+use Rattle.derguard.proofs.Refusals.{say_nothing}
 use Rattle.derguard.proofs.first_run.first_run.Goals as goal
 
-pub returns-in_default-clause-refused : goal.returns-in_default-clause-refused
-returns-in_default-clause-refused c =
-    (schema_view c.in_ok-schema.schema, rw c.as_bytes.ensures.value at c.in_ok-schema.ensures.accepted, rw c.in_default.is at c.in_ok-policy.ensures.policy)
+pub returns-clause-first : goal.returns-clause-first
+returns-clause-first c = (
+  (
+    policy_view c.in_ok-policy.policy,
+    rw (c.as_bytes.ensures.value, c.as_bytes-2.ensures.value) at c.in_ok-policy.ensures.said,
+    c.in_ok-out.ensures,
+  ),
+  refl,
+)
 
-pub returns-clause-printed : goal.returns-clause-printed
-returns-clause-printed c =
-    (schema_view c.in_ok-schema.schema, policy_view c.in-Some.policy, rw c.as_bytes.ensures.value at c.in_ok-schema.ensures.accepted, rw c.in-Some.is at c.in_ok-policy.ensures.policy, c.in_ok-decide_first.ensures)
+pub returns-in_err-policy-clause-none : goal.returns-in_err-policy-clause-none
+returns-in_err-policy-clause-none c =
+    let e = err_from_is_err_and c.from_residual-in_err-policy.result c.from_residual-in_err-policy.ensures.1 in
+    rw (e.1, e.2) (say_nothing (first_module ∷ []) first_policy c.in_err-policy.field-0.0
+    (rw (c.as_bytes.ensures.value, c.as_bytes-2.ensures.value) at c.in_err-policy.ensures.refused))
 
-pub returns-in_err-schema-clause-refused : goal.returns-in_err-schema-clause-refused
-returns-in_err-schema-clause-refused c =
-    let p = err_from_is_err_and c.from_residual.result c.from_residual.ensures.1 in
-    rw (p.1, p.2) (schema_refused first_text c.in_err-schema.field-0.0 (rw c.as_bytes.ensures.value at c.in_err-schema.ensures.refused))
+pub returns-in_err-out-clause-none : goal.returns-in_err-out-clause-none
+returns-in_err-out-clause-none c =
+    let e = err_from_is_err_and c.from_residual-in_err-out.result c.from_residual-in_err-out.ensures.1 in
+    rw (e.1, e.2) tt

@@ -1,9 +1,9 @@
 //! The program over any files, source and sinks.
 ghost use Rattle.std.specs.Prelude.{◌≡◌, ◌≤◌, length, IfOk, IfErr};
 ghost use Rattle.derguard.specs.Requests.{request_view, first};
-ghost use Rattle.derguard.specs.Answers.{fault_status};
+ghost use Rattle.derguard.specs.Devices.{device};
 ghost use Rattle.derguard.specs.Writing.{Writes, Tells};
-ghost use Rattle.derguard.specs.Meeting.{Meets, Programs, ShowsWords};
+ghost use Rattle.derguard.specs.Meeting.{Meets, Programs, Shows};
 
 use crate::answer::Answer;
 use crate::checking::check;
@@ -34,11 +34,11 @@ pub fn program<F: Files, S: Source, O: Sink, E: Sink>(
     out: &mut O,
     err: &mut E,
 ) -> u8
-    ensures all { Programs (F.told files.old) (S.tells input.old) (S.tells input.new) (S.has_failed input.new) (O.taken out.old) (O.taken out.new) (O.has_failed out.new)
-        (E.taken err.old) (E.taken err.new) (E.has_failed err.new) result }
+    ensures all { Programs (F.told files.old) (device (S.tells input.old) (S.tells input.new) (S.has_failed input.new))
+        (device (O.taken out.old) (O.taken out.new) (O.has_failed out.new)) (device (E.taken err.old) (E.taken err.new) (E.has_failed err.new)) result }
     // Without words behind the program's name it decides the messages that are built in.
-    ensures alone { length words.now ≤ 1 → Meets (F.told files.old) first (S.tells input.old) (S.tells input.new) (S.has_failed input.new) (O.taken out.old) (O.taken out.new) (O.has_failed out.new)
-        (E.taken err.old) (E.taken err.new) (E.has_failed err.new) result }
+    ensures alone { length words.now ≤ 1 → Meets (F.told files.old) first (device (S.tells input.old) (S.tells input.new) (S.has_failed input.new))
+        (device (O.taken out.old) (O.taken out.new) (O.has_failed out.new)) (device (E.taken err.old) (E.taken err.new) (E.has_failed err.new)) result }
 {
     if words.len() <= 1 {
         return meet(alloc, &Request::First, files, input, out, err);
@@ -58,8 +58,8 @@ pub fn meet<F: Files, S: Source, O: Sink, E: Sink>(
     out: &mut O,
     err: &mut E,
 ) -> u8
-    ensures { Meets (F.told files.old) (request_view request.now) (S.tells input.old) (S.tells input.new) (S.has_failed input.new) (O.taken out.old) (O.taken out.new) (O.has_failed out.new)
-        (E.taken err.old) (E.taken err.new) (E.has_failed err.new) result }
+    ensures { Meets (F.told files.old) (request_view request.now) (device (S.tells input.old) (S.tells input.new) (S.has_failed input.new))
+        (device (O.taken out.old) (O.taken out.new) (O.has_failed out.new)) (device (E.taken err.old) (E.taken err.new) (E.has_failed err.new)) result }
 {
     match request {
         Request::First => give(alloc, first_run(alloc), out, err),
@@ -76,9 +76,9 @@ fn give<O: Sink, E: Sink>(
     out: &mut O,
     err: &mut E,
 ) -> u8
-    ensures written { IfOk found (λ a. Writes a.out.items a.status (O.taken out.old) (O.taken out.new) (O.has_failed out.new)
-        (E.taken err.old) (E.taken err.new) (E.has_failed err.new) result) }
-    ensures told { IfErr found (λ f. (O.taken out.new ≡ O.taken out.old) × Tells (fault_status f) (E.taken err.old) (E.taken err.new) (E.has_failed err.new) result) }
+    ensures written { IfOk found (λ a. Writes a.out.items a.status (device (O.taken out.old) (O.taken out.new) (O.has_failed out.new))
+        (device (E.taken err.old) (E.taken err.new) (E.has_failed err.new)) result) }
+    ensures told { IfErr found (λ f. (O.taken out.new ≡ O.taken out.old) × Tells f (device (E.taken err.old) (E.taken err.new) (E.has_failed err.new)) result) }
 {
     match found {
         Ok(answer) => write(&answer.out, answer.status, out, err),
@@ -88,7 +88,8 @@ fn give<O: Sink, E: Sink>(
 
 /// Shows what `clap` says of the words: help on standard output, with status 0, and what is wrong with them on standard error, with status 2.
 fn show<O: Sink, E: Sink>(alloc: Global, said: &Error, out: &mut O, err: &mut E) -> u8
-    ensures { ShowsWords (O.taken out.old) (O.taken out.new) (O.has_failed out.new) (E.taken err.old) (E.taken err.new) (E.has_failed err.new) result }
+    ensures { Shows (device (O.taken out.old) (O.taken out.new) (O.has_failed out.new))
+        (device (E.taken err.old) (E.taken err.new) (E.has_failed err.new)) result }
 {
     if said.kind() == ErrorKind::OutOfMemory {
         return tell_no_memory(err);
@@ -97,7 +98,7 @@ fn show<O: Sink, E: Sink>(alloc: Global, said: &Error, out: &mut O, err: &mut E)
         return tell_no_memory(err);
     };
     if said.use_stderr() {
-        tell_text(alloc, &text.trim_end(), 2, err)
+        tell_text(alloc, text.trim_end(), 2, err)
     } else {
         write(text.as_bytes(), 0, out, err)
     }

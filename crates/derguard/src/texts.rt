@@ -1,7 +1,7 @@
 //! The texts of a policy and of its modules.
 ghost use Rattle.std.specs.Prelude.{◌≡◌, ◌++◌, map, string_bytes, IfOk, IfErr};
-ghost use Rattle.derguard.specs.Files.{HasText, HasNone};
-ghost use Rattle.derguard.specs.Reading.{folder, HaveTexts, FirstMissing, AreTexts, AreMissing};
+ghost use Rattle.derguard.specs.Files.{HasText};
+ghost use Rattle.derguard.specs.Reading.{folder, HaveTexts, AreTexts, IsNoPolicyAt};
 ghost use Rattle.derguard.specs.Texts.{IsUnread, AreUnread};
 
 use crate::fault::Fault;
@@ -22,7 +22,7 @@ impl Texts {
     /// It refuses with CannotRead by the path at which nothing can be read, and with Policy where the policy's text lists no modules (Q1 to Q3 of its top).
     pub fn read<F: Files>(alloc: Global, path: &str, files: &mut F) -> Result<Texts, Fault>
         ensures read { IfOk result (λ texts. AreTexts (F.told files.old) path.now texts.policy.items (map (λ text. text.items) texts.modules.items)) }
-        ensures missing { IfErr result (AreMissing (F.told files.old) path.now) }
+        ensures missing { IfErr result (IsNoPolicyAt (F.told files.old) path.now) }
         ensures same { F.told files.new ≡ F.told files.old }
     {
         let policy = read(alloc, path, files)?;

@@ -1,14 +1,14 @@
--- What is answered to a request, to be written to standard output, and the status; or the fault that stands.
+-- What is answered to a request that reads no stream: what goes to standard output, and the status; or the fault that stands.
 use Rattle.std.specs.Prelude.{◌≡◌, ◌⊎◌, ℕ, List, [], ◌∷◌, ◌++◌, codes, decimal, length, Ok, Err}
 use Rattle.hex.specs.Hex.{decode_of}
 use Rattle.hex.specs.declared.error.FromHexError.{FromHexError}
 use Rattle.guard_policy.specs.Policies.{AbstractPolicy, AbstractRoute}
-use Rattle.guard_policy.specs.Verdicts.{AbstractVerdict, pass, unknown_message, undecodable, outside_type, denied_by, not_allowed, no_rule}
+use Rattle.guard_policy.specs.Verdicts.{AbstractVerdict, pass}
 use Rattle.guard_policy.specs.Decisions.{IsReason}
 use Rattle.guard_report.specs.Text.{verdict_octets}
 use Rattle.derguard.specs.declared.answer.Answer.{Answer}
 use Rattle.derguard.specs.declared.fault.Fault.{Fault}
-use Rattle.derguard.specs.declared.fault.Fault.TheVariants.{BadHex, CannotRead, Schema, Policy, Run, NoMemory}
+use Rattle.derguard.specs.declared.fault.Fault.TheVariants.{BadHex, NoMemory}
 use Rattle.derguard.specs.Files.{Told}
 use Rattle.derguard.specs.FirstRun.{first_module, first_policy, IsFirstRun}
 use Rattle.derguard.specs.Reading.{IsPolicyAt, IsNoPolicyAt, SayNothing}
@@ -21,22 +21,14 @@ pub record AbstractAnswer : Type 0 where
 abbrev pub answer_view : Answer → AbstractAnswer
 answer_view a = record { out = a.out.items; status = a.status }
 
--- 2: digits, a file, a policy or modules are bad; 3: a stream or a device failed, or memory ran out
-abbrev pub fault_status : Fault → ℕ
-fault_status BadHex = 2
-fault_status (CannotRead file) = 2
-fault_status (Schema f) = 2
-fault_status (Policy f) = 2
-fault_status (Run f) = 3
-fault_status NoMemory = 3
-
 -- ---- the messages that are built in
 
 abbrev pub IsFirst : AbstractAnswer → Type 0
 IsFirst a = IsFirstRun a.out × (a.status ≡ 0)
 
+-- The texts that are built in say no policy, which the run without words disproves; or memory ran out.
 abbrev pub IsNoFirst : Fault → Type 0
-IsNoFirst f = SayNothing (first_module ∷ []) first_policy f
+IsNoFirst f = SayNothing (first_module ∷ []) first_policy f ⊎ (f ≡ NoMemory)
 
 -- ---- check
 
@@ -51,12 +43,7 @@ IsChecked told path a = (p : AbstractPolicy) × IsPolicyAt told path p × (a.out
 -- 0 where the message passes
 abbrev pub verdict_status : AbstractVerdict → ℕ
 verdict_status pass = 0
-verdict_status unknown_message = 1
-verdict_status (undecodable b) = 1
-verdict_status (outside_type w) = 1
-verdict_status (denied_by i) = 1
-verdict_status (not_allowed rules) = 1
-verdict_status no_rule = 1
+verdict_status _ = 1
 
 -- the text of the reason and a line feed
 abbrev pub IsVerdict : AbstractPolicy → AbstractRoute → List ℕ → AbstractAnswer → Type 0

@@ -5,6 +5,7 @@ use crate::files::{Files, FilesFault};
 use crate::program::program;
 use guard_frames::{Kept, Through};
 use std::alloc::Global;
+use std::process::Abort;
 
 const ORDERS: &str =
     "Orders DEFINITIONS AUTOMATIC TAGS ::= BEGIN\nOrder ::= SEQUENCE {\n  id INTEGER (0..99999),\n  kind ENUMERATED {buy, sell},\n  qty INTEGER DEFAULT 1,\n  note UTF8String (SIZE (0..20)) OPTIONAL,\n  lines SEQUENCE OF INTEGER }\nSmall ::= Order (WITH COMPONENTS {..., qty (1..10)})\nEND\n";
@@ -20,7 +21,10 @@ const FILES: [(&str, &str); 9] = [
     ("there/orders.asn1", ORDERS),
     ("alone/orders.toml", POLICY),
     ("none.toml", "="),
-    ("bad.toml", "modules = [\"bad.asn1\", \"orders.asn1\"]\ncolour = 1"),
+    (
+        "bad.toml",
+        "modules = [\"bad.asn1\", \"orders.asn1\"]\ncolour = 1",
+    ),
     ("module.toml", "modules = [\"orders.asn1\", \"bad.asn1\"]"),
     ("bad.asn1", "M DEFINITIONS ::= BEGIN\nA ::= B\nEND\n"),
 ];
@@ -38,6 +42,7 @@ const BOTH: &[u8] =
 static RUN: [&str; 3] = ["derguard", "run", "orders.toml"];
 
 /// Files in memory.
+#[derive(Drop)]
 struct Shelf {
     alloc: Global,
 }
@@ -56,6 +61,7 @@ impl Files for Shelf {
 }
 
 /// Words behind the program's name, what comes in, what goes out, what is told, and the status.
+#[derive(Drop)]
 struct Row<'a> {
     words: &'a [&'a str],
     input: &'a [u8],
@@ -86,8 +92,7 @@ fn streamed<'a>(input: &'a [u8], out: &'a [u8], err: &'a str, status: u8) -> Row
     }
 }
 
-fn try_row(rt: &HostRuntime, row: &Row) {
-    let alloc = rt.alloc();
+fn try_row(rt: &impl Abort, alloc: Global, row: &Row) {
     let mut out = Kept::new(alloc);
     let mut err = Kept::new(alloc);
     let mut input = Through::new(row.input);
@@ -125,7 +130,12 @@ fn first_and_check(rt: HostRuntime) {
             "derguard: cannot read nowhere.toml\n",
             2,
         ),
-        asked(&["derguard", "check", "none.toml"], "", "derguard: Q1 Toml\n", 2),
+        asked(
+            &["derguard", "check", "none.toml"],
+            "",
+            "derguard: Q1 Toml\n",
+            2,
+        ),
         // The top comes before the modules, and they come before the rest.
         asked(
             &["derguard", "check", "bad.toml"],
@@ -140,7 +150,7 @@ fn first_and_check(rt: HostRuntime) {
             2,
         ),
     ] {
-        try_row(&rt, &row);
+        try_row(&rt, rt.alloc(), &row);
     }
 }
 
@@ -175,9 +185,19 @@ fn decide(rt: HostRuntime) {
         ("orders.toml", "30B", "", "derguard: bad hex\n", 2),
         // Digits come before the policy.
         ("nowhere.toml", "3G", "", "derguard: bad hex\n", 2),
-        ("nowhere.toml", "30", "", "derguard: cannot read nowhere.toml\n", 2),
+        (
+            "nowhere.toml",
+            "30",
+            "",
+            "derguard: cannot read nowhere.toml\n",
+            2,
+        ),
     ] {
-        try_row(&rt, &asked(&decide_words(policy, hex), out, err, status));
+        try_row(
+            &rt,
+            rt.alloc(),
+            &asked(&decide_words(policy, hex), out, err, status),
+        );
     }
 }
 
@@ -194,7 +214,7 @@ fn run(rt: HostRuntime) {
         streamed(b"\x00\x00\x00", b"", "derguard: F4 TornFrame\n", 3),
         streamed(b"\x00\x10\x00\x01", b"", "derguard: F1 FrameTooLong\n", 3),
     ] {
-        try_row(&rt, &row);
+        try_row(&rt, rt.alloc(), &row);
     }
 }
 

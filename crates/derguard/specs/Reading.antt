@@ -7,7 +7,7 @@ use Rattle.guard_policy.specs.PolicyFaults as policy
 use Rattle.guard_frames.specs.Texts.{SayPolicy, SayNone}
 use Rattle.guard_frames.specs.declared.texts.TextsFault.TheVariants as texts
 use Rattle.derguard.specs.declared.fault.Fault.{Fault}
-use Rattle.derguard.specs.declared.fault.Fault.TheVariants.{BadHex, CannotRead, Schema, Policy, Run, NoMemory}
+use Rattle.derguard.specs.declared.fault.Fault.TheVariants.{CannotRead, Schema, Policy, NoMemory}
 use Rattle.derguard.specs.Files.{Told, HasText, HasNone}
 
 -- the path up to and with its last `/`, which is 47
@@ -39,26 +39,21 @@ module _ (told : Told) where
       (HasNone told path × (string_bytes file ≡ path))
       ⊎ ((text : List ℕ) × (files : List (List ℕ)) × HasText told path text × ListsFiles text files × FirstMissing (folder path) files (string_bytes file))
   AreMissing path (Policy f) = (text : List ℕ) × HasText told path text × IsSomeAnd (policy.named f) (ListsNoFiles text)
-  AreMissing path BadHex = ⊥
-  AreMissing path (Schema f) = ⊥
-  AreMissing path (Run f) = ⊥
-  AreMissing path NoMemory = Unit {0}
+  AreMissing path _ = ⊥
 
   -- the texts of the policy at the path say it
   abbrev pub IsPolicyAt : List ℕ → AbstractPolicy → Type 0
   IsPolicyAt path p = (text : List ℕ) × (modules : List (List ℕ)) × AreTexts path text modules × SayPolicy modules text p
 
--- Why these texts say no policy. Want of memory says nothing of them.
+-- why these texts say no policy
 abbrev pub SayNothing : List (List ℕ) → List ℕ → Fault → Type 0
 SayNothing modules text (Schema f) = SayNone modules text (texts.Schema f)
 SayNothing modules text (Policy f) = SayNone modules text (texts.Policy f)
-SayNothing modules text BadHex = ⊥
-SayNothing modules text (CannotRead file) = ⊥
-SayNothing modules text (Run f) = ⊥
-SayNothing modules text NoMemory = Unit {0}
+SayNothing modules text _ = ⊥
 
--- why there is no policy at the path: its texts are missing, or say none
+-- Why there is no policy at the path: its texts are missing, or say none. Want of memory says nothing of either.
 abbrev pub IsNoPolicyAt : Told → List ℕ → Fault → Type 0
 IsNoPolicyAt told path f =
     AreMissing told path f
     ⊎ ((text : List ℕ) × (modules : List (List ℕ)) × AreTexts told path text modules × SayNothing modules text f)
+    ⊎ (f ≡ NoMemory)

@@ -29,5 +29,5 @@ returns-in_err-load_texts-clause-none g c =
       map (λ text. text.items) c.in_ok-texts.texts.modules.items,
       c.in_ok-texts.ensures.read,
       say_nothing (map (λ text. text.items) c.in_ok-texts.texts.modules.items) c.in_ok-texts.texts.policy.items c.in_err-load_texts.field-0.0
-      (rw (c.deref.ensures.value, c.deref-2.ensures.value, c.in_ok-modules.ensures) at c.in_err-load_texts.ensures.refused),
+          (rw (c.deref.ensures.value, c.deref-2.ensures.value, c.in_ok-modules.ensures) at c.in_err-load_texts.ensures.refused),
     ))

@@ -1,9 +1,7 @@
 //! Guards the stream that comes in.
-ghost use Rattle.std.specs.Prelude.{◌≡◌, ◌⊎◌, true, IsErrOf};
-ghost use Rattle.guard_frames.specs.Runs.{ReadToLimit};
-ghost use Rattle.guard_frames.specs.declared.running.RunFault.TheVariants.{WriteFailed, ReadFailed};
-ghost use Rattle.derguard.specs.Meeting.{GuardsAt, GuardsStream, totals_status};
-ghost use Rattle.derguard.specs.declared.fault.Fault.TheVariants.{Run};
+ghost use Rattle.std.specs.Prelude.{◌≡◌, IfErr};
+ghost use Rattle.derguard.specs.Devices.{device};
+ghost use Rattle.derguard.specs.Meeting.{GuardsAt, GuardsStream, IsDeviceFault, totals_status};
 
 use crate::fault::Fault;
 use crate::files::Files;
@@ -22,8 +20,8 @@ pub fn run<F: Files, S: Source, O: Sink, E: Sink>(
     out: &mut O,
     err: &mut E,
 ) -> u8
-    ensures { GuardsStream (F.told files.old) path.now (S.tells input.old) (S.tells input.new) (S.has_failed input.new) (O.taken out.old) (O.taken out.new) (O.has_failed out.new)
-        (E.taken err.old) (E.taken err.new) (E.has_failed err.new) result }
+    ensures { GuardsStream (F.told files.old) path.now (device (S.tells input.old) (S.tells input.new) (S.has_failed input.new))
+        (device (O.taken out.old) (O.taken out.new) (O.has_failed out.new)) (device (E.taken err.old) (E.taken err.new) (E.has_failed err.new)) result }
 {
     match guard(alloc, path, files, input, out, err) {
         Ok(totals) => status_of(totals),
@@ -42,10 +40,10 @@ fn guard<F: Files, S: Source, O: Sink, E: Sink>(
     out: &mut O,
     reports: &mut E,
 ) -> Result<Totals, Fault>
-    ensures guards { GuardsAt (F.told files.old) path.now (S.tells input.old) (S.tells input.new) result
-        (O.taken out.old) (O.taken out.new) (E.taken reports.old) (E.taken reports.new) }
-    ensures failed { IsErrOf result (Run WriteFailed) → (O.has_failed out.new ≡ true) ⊎ (E.has_failed reports.new ≡ true) }
-    ensures unread { IsErrOf result (Run ReadFailed) → (S.has_failed input.new ≡ true) ⊎ ReadToLimit (S.tells input.old) (S.tells input.new) }
+    ensures guards { GuardsAt (F.told files.old) path.now (device (S.tells input.old) (S.tells input.new) (S.has_failed input.new))
+        (device (O.taken out.old) (O.taken out.new) (O.has_failed out.new)) (device (E.taken reports.old) (E.taken reports.new) (E.has_failed reports.new)) result }
+    ensures devices { IfErr result (λ f. IsDeviceFault f (device (S.tells input.old) (S.tells input.new) (S.has_failed input.new))
+        (device (O.taken out.old) (O.taken out.new) (O.has_failed out.new)) (device (E.taken reports.old) (E.taken reports.new) (E.has_failed reports.new))) }
 {
     let texts = Texts::read(alloc, path, files)?;
     let modules = texts.module_slices(alloc)?;

@@ -1,7 +1,6 @@
 //! Why a request isn't met. Each fault is told behind `derguard: `.
-ghost use Rattle.std.specs.Prelude.{◌≡◌};
-ghost use Rattle.derguard.specs.Answers.{fault_status};
-ghost use Rattle.derguard.specs.Faults.{of_policy, of_texts};
+ghost use Rattle.std.specs.Prelude.{◌≡◌, IfOk, string_bytes};
+ghost use Rattle.derguard.specs.Faults.{fault_status, IsText, StandsForPolicy, of_texts};
 ghost use Rattle.derguard.specs.declared.fault.Fault.TheVariants as fault;
 
 use guard_frames::{RunFault, TextsFault};
@@ -9,27 +8,20 @@ use guard_model::OutOfMemory;
 use guard_policy::PolicyFault;
 use guard_schema::SchemaFault;
 use std::alloc::{AllocError, AllocFailed};
-use thiserror::Error;
 
-/// Why a request isn't met. A fault of a layer prints as itself. NoMemory may stand in place of any answer, and no other variant stands for it.
-#[derive(Debug, Drop, Error)]
+/// Why a request isn't met. NoMemory may stand in place of any answer, and no other variant stands for it.
+#[derive(Debug, Drop)]
 pub enum Fault {
     /// The hexadecimal digits write no octets.
-    #[error("bad hex")]
     BadHex,
     /// The file at this path can't be read.
-    #[error("cannot read {0}")]
     CannotRead(String),
     /// The modules' first fault.
-    #[error("{0}")]
     Schema(SchemaFault),
     /// The policy's first fault.
-    #[error("{0}")]
     Policy(PolicyFault),
     /// Why the stream wasn't guarded to its end.
-    #[error("{0}")]
     Run(RunFault),
-    #[error("no-memory")]
     NoMemory,
 }
 
@@ -41,6 +33,20 @@ impl Fault {
         match self {
             Fault::BadHex | Fault::CannotRead(_) | Fault::Schema(_) | Fault::Policy(_) => 2,
             Fault::Run(_) | Fault::NoMemory => 3,
+        }
+    }
+
+    /// What is told of it. A fault of a layer prints as itself.
+    pub fn text(&self, alloc: Global) -> Result<String, AllocError>
+        ensures { IfOk result (λ text. IsText self.now (string_bytes text)) }
+    {
+        match self {
+            Fault::BadHex => String::from_str(alloc, "bad hex"),
+            Fault::CannotRead(path) => format!(in alloc; "cannot read {path}"),
+            Fault::Schema(fault) => format!(in alloc; "{fault}"),
+            Fault::Policy(fault) => format!(in alloc; "{fault}"),
+            Fault::Run(fault) => format!(in alloc; "{fault}"),
+            Fault::NoMemory => String::from_str(alloc, "no-memory"),
         }
     }
 }
@@ -70,7 +76,7 @@ impl<T: Drop> From<AllocFailed<T>> for Fault {
 }
 
 impl From<PolicyFault> for Fault {
-    ghost from_gives = { λ f e. e ≡ of_policy f };
+    ghost from_gives = { λ f e. StandsForPolicy f e };
 
     fn from(fault: PolicyFault) -> Fault {
         match fault {

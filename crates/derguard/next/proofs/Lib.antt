@@ -1,4 +1,0 @@
-pub mod Lines
-pub mod ReadingTexts
-pub mod Refusals
-pub mod Streams

@@ -1,0 +1,62 @@
+-- What comes of a stream under texts, said of the path at which they stand.
+use Rattle.std.proofs.Common.{◌≡◌, ◌⊎◌, ℕ, true, List, Ok, Err, inl, inr, refl}
+use Rattle.guard_frames.specs.declared.totals.Totals.{Totals}
+use Rattle.guard_frames.specs.declared.texts.TextsFault.{TextsFault}
+use Rattle.guard_frames.specs.declared.texts.TextsFault.TheVariants as texts
+use Rattle.guard_frames.specs.RunsTexts.{RunsTexts}
+use Rattle.guard_frames.specs.Runs.{ReadToLimit}
+use Rattle.guard_frames.specs.declared.running.RunFault.TheVariants.{FrameTooLong, WriteFailed, TornFrame, ReadFailed, OutOfMemory}
+use Rattle.derguard.specs.declared.fault.Fault.{Fault}
+use Rattle.derguard.specs.declared.fault.Fault.TheVariants.{BadHex, CannotRead, Schema, Policy, Run, NoMemory}
+use Rattle.derguard.specs.Devices.{Device, IsUntouched}
+use Rattle.derguard.specs.Faults.{of_texts}
+use Rattle.derguard.specs.Files.{Told}
+use Rattle.derguard.specs.Reading.{AreTexts, IsNoPolicyAt}
+use Rattle.derguard.specs.Meeting.{GuardsAt, IsDeviceFault}
+
+module _ (told : Told) (path : List ℕ) (input out reports : Device) where
+  module _ (text : List ℕ) (modules : List (List ℕ)) (are : AreTexts told path text modules) where
+    pub guarded : (totals : Totals) → RunsTexts modules text input.before input.after (Ok totals) out.before out.after reports.before reports.after
+        → GuardsAt told path input out reports (Ok totals)
+    guarded totals (p, said, runs) = (p, (text, modules, are, said), runs)
+
+    pub stopped : (f : TextsFault) → RunsTexts modules text input.before input.after (Err f) out.before out.after reports.before reports.after
+        → GuardsAt told path input out reports (Err (of_texts f))
+    stopped (texts.Run f) (p, said, runs) = (p, (text, modules, are, said), runs)
+    stopped (texts.Schema f) (none, same) = (inr (inl (text, modules, are, none)), same.0, same.1, same.2)
+    stopped (texts.Policy f) (none, same) = (inr (inl (text, modules, are, none)), same.0, same.1, same.2)
+    stopped texts.OutOfMemory same = (inr (inr refl), same.0, same.1, same.2)
+
+  -- without the policy nothing is read
+  pub unguarded : (f : Fault) → IsNoPolicyAt told path f → IsUntouched input → IsUntouched out → IsUntouched reports → GuardsAt told path input out reports (Err f)
+  unguarded (Run f) (inl h) i o r = absurd h
+  unguarded (Run f) (inr (inl (text, modules, are, h))) i o r = absurd h
+  unguarded (Run f) (inr (inr e)) i o r = absurd cc
+  unguarded BadHex h i o r = (h, i, o, r)
+  unguarded (CannotRead file) h i o r = (h, i, o, r)
+  unguarded (Schema f) h i o r = (h, i, o, r)
+  unguarded (Policy f) h i o r = (h, i, o, r)
+  unguarded NoMemory h i o r = (h, i, o, r)
+
+  -- and no device is to blame
+  pub no_device : (f : Fault) → IsNoPolicyAt told path f → IsDeviceFault f input out reports
+  no_device (Run f) (inl h) = absurd h
+  no_device (Run f) (inr (inl (text, modules, are, h))) = absurd h
+  no_device (Run f) (inr (inr e)) = absurd cc
+  no_device BadHex h = tt
+  no_device (CannotRead file) h = tt
+  no_device (Schema f) h = tt
+  no_device (Policy f) h = tt
+  no_device NoMemory h = tt
+
+-- a fault of a device comes only where one failed
+pub device_fault : (input out reports : Device) (f : TextsFault) → (f ≡ texts.Run WriteFailed → (out.failed ≡ true) ⊎ (reports.failed ≡ true))
+    → (f ≡ texts.Run ReadFailed → (input.failed ≡ true) ⊎ ReadToLimit input.before input.after) → IsDeviceFault (of_texts f) input out reports
+device_fault input out reports (texts.Run WriteFailed) wrote read = wrote refl
+device_fault input out reports (texts.Run ReadFailed) wrote read = read refl
+device_fault input out reports (texts.Run FrameTooLong) wrote read = tt
+device_fault input out reports (texts.Run TornFrame) wrote read = tt
+device_fault input out reports (texts.Run OutOfMemory) wrote read = tt
+device_fault input out reports (texts.Schema f) wrote read = tt
+device_fault input out reports (texts.Policy f) wrote read = tt
+device_fault input out reports texts.OutOfMemory wrote read = tt

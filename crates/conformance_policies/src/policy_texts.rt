@@ -1,6 +1,5 @@
 //! `module_files` and `Policy::load`: what the text of a policy says over modules, else its first fault.
-use crate::around::Around;
-use conformance_rows::{Layer, text_of};
+use conformance_rows::{Around, Layer, text_of};
 use guard_frames::Modules;
 use guard_policy::{Policy, PolicyFault, module_files};
 use std::alloc::{AllocError, Global};

@@ -30,7 +30,11 @@ impl TextRuns {
 fn end_text(alloc: Global, end: &Result<Totals, TextsFault>) -> Result<String, AllocError> {
     match end {
         Ok(totals) => {
-            let Totals { frames, passed, denied } = *totals;
+            let Totals {
+                frames,
+                passed,
+                denied,
+            } = *totals;
             format!(in alloc; "{frames} {passed} {denied}")
         }
         Err(TextsFault::OutOfMemory) => Err(AllocError),
@@ -52,7 +56,14 @@ impl Layer for TextRuns {
         let mut source = Through::new(input);
         let mut out = Kept::new(alloc);
         let mut reports = Kept::new(alloc);
-        let end = run_texts(alloc, &modules, &self.policy, &mut source, &mut out, &mut reports);
+        let end = run_texts(
+            alloc,
+            &modules,
+            &self.policy,
+            &mut source,
+            &mut out,
+            &mut reports,
+        );
         let unread = source.inner.len();
         let mut text = end_text(alloc, &end)?;
         write!(text, "; unread {unread} <")?;

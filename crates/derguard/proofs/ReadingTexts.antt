@@ -1,6 +1,7 @@
 -- Files that are read one after another.
-use Rattle.std.proofs.Common.{◌≡◌, ℕ, List, [], ◌∷◌, ◌++◌, refl, sym, subst, inl, inr, append_assoc}
+use Rattle.std.proofs.Common.{◌≡◌, ℕ, ◌+◌, ◌<◌, ◌≤◌, List, [], ◌∷◌, ◌++◌, map, length, drop, get_or, refl, sym, subst, inl, inr, append_assoc, String, Global, string_bytes}
 use Rattle.std.proofs.lemmas.List.{append-nil}
+use Rattle.guard_policy.proofs.EntriesRead.{left_is}
 use Rattle.derguard.specs.Files.{Told, HasText, HasNone}
 use Rattle.derguard.specs.Reading.{HaveTexts, FirstMissing}
 
@@ -25,3 +26,22 @@ read_all told beside all done so_far = subst (λ (ts : List (List ℕ)). HaveTex
 pub missing_here : (told : Told) (beside : List ℕ) (all left done : List (List ℕ)) (name : List ℕ) → HasNone told (beside ++ name)
     → ReadSoFar told beside all (name ∷ left) done → FirstMissing told beside all (beside ++ name)
 missing_here told beside all left done name none so_far = so_far.lack (beside ++ name) (inl (none, refl))
+
+-- ---- as the loop reads them
+
+-- one more file is read, of the name at the place where the loop stands
+pub read_next : (told : Told) (beside : List ℕ) (listed : List (String Global)) (i : ℕ) (name : String Global) (path text : List ℕ) (done : List (List ℕ))
+    → i < length listed → name ≡ get_or listed i name → path ≡ beside ++ string_bytes name → HasText told path text
+    → ReadSoFar told beside (map string_bytes listed) (map string_bytes (drop i listed)) done
+    → ReadSoFar told beside (map string_bytes listed) (map string_bytes (drop (i + 1) listed)) (done ++ text ∷ [])
+read_next told beside listed i name path text done lt is at has so_far =
+    read_one told beside (map string_bytes listed) (map string_bytes (drop (i + 1) listed)) done (string_bytes name) text
+    (subst (λ (p : List ℕ). HasText told p text) at has)
+    (subst (λ (left : List (List ℕ)). ReadSoFar told beside (map string_bytes listed) left done) (left_is string_bytes listed i name lt is) so_far)
+
+-- the loop stands behind them all
+pub read_whole : (told : Told) (beside : List ℕ) (listed : List (String Global)) (i : ℕ) (done : List (List ℕ)) → length listed ≤ i
+    → ReadSoFar told beside (map string_bytes listed) (map string_bytes (drop i listed)) done → HaveTexts told beside (map string_bytes listed) done
+read_whole told beside listed i done past so_far =
+    read_all told beside (map string_bytes listed) done
+    (subst (λ (left : List (String Global)). ReadSoFar told beside (map string_bytes listed) (map string_bytes left) done) (drop-all listed i past) so_far)

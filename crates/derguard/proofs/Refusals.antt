@@ -12,11 +12,11 @@ use Rattle.derguard.specs.declared.fault.Fault.TheVariants.{BadHex, CannotRead, 
 use Rattle.derguard.specs.Faults.{StandsForPolicy, of_texts}
 use Rattle.derguard.specs.Files.{Told, HasText}
 use Rattle.derguard.specs.Reading.{folder, AreTexts, AreMissing, SayNothing, IsNoPolicyAt}
-use Rattle.derguard.specs.Texts.{IsUnread, AreUnread}
+use Rattle.derguard.specs.Texts.{CannotBeRead, CannotAllBeRead}
 
 module _ (told : Told) (path : List ℕ) where
   -- the policy's file
-  pub policy_unread : (f : Fault) → IsUnread told path f → IsNoPolicyAt told path f
+  pub policy_unread : (f : Fault) → CannotBeRead told path f → IsNoPolicyAt told path f
   policy_unread (CannotRead file) h = inl (inl h)
   policy_unread NoMemory h = inr (inr refl)
   policy_unread BadHex h = absurd h
@@ -35,7 +35,7 @@ module _ (told : Told) (path : List ℕ) where
     lists_none p f is h = by_top p f (policy.named p) refl is h
 
     -- the files of its modules
-    pub modules_unread : (files : List (List ℕ)) → ListsFiles text files → (f : Fault) → AreUnread told (folder path) files f → IsNoPolicyAt told path f
+    pub modules_unread : (files : List (List ℕ)) → ListsFiles text files → (f : Fault) → CannotAllBeRead told (folder path) files f → IsNoPolicyAt told path f
     modules_unread files listed (CannotRead file) h = inl (inr (text, files, has, listed, h))
     modules_unread files listed NoMemory h = inr (inr refl)
     modules_unread files listed BadHex h = absurd h

@@ -12,13 +12,13 @@ use Rattle.derguard.specs.Faults.{fault_status}
 use Rattle.derguard.specs.Requests.{AbstractRequest, first, check, decide, run}
 use Rattle.derguard.specs.Reading.{IsPolicyAt, IsNoPolicyAt}
 use Rattle.derguard.specs.Answers.{AbstractAnswer, IsFirst, IsNoFirst, IsChecked, IsDecided, IsUndecided}
-use Rattle.derguard.specs.Devices.{Device, IsUntouched}
+use Rattle.derguard.specs.Devices.{Input, Device, IsUnread, IsUntouched}
 use Rattle.derguard.specs.Writing.{Writes, Tells, TellsText}
 
 -- Such an answer is written, or such a fault is told; nothing is read.
-abbrev pub Answers : (AbstractAnswer → Type 0) → (Fault → Type 0) → Device → Device → Device → ℕ → Type 0
+abbrev pub Answers : (AbstractAnswer → Type 0) → (Fault → Type 0) → Input → Device → Device → ℕ → Type 0
 Answers IsAnswer IsFault input out err status =
-    IsUntouched input
+    IsUnread input
     × (((a : AbstractAnswer) × IsAnswer a × Writes a.out a.status out err status)
     ⊎ ((f : Fault) × IsFault f × IsUntouched out × Tells f err status))
 
@@ -27,19 +27,19 @@ abbrev pub totals_status : Totals → ℕ
 totals_status t = if nat_eq t.denied 0 then 0 else 1
 
 -- What comes of a stream under the policy at the path, by the answer. Where there is none, nothing is read, sent or reported.
-abbrev pub GuardsAt : Told → List ℕ → Device → Device → Device → Result Totals Fault → Type 0
+abbrev pub GuardsAt : Told → List ℕ → Input → Device → Device → Result Totals Fault → Type 0
 GuardsAt told path input out reports (Ok totals) =
     (p : AbstractPolicy) × IsPolicyAt told path p
     × Runs (decision_of p) input.before input.after (Ok totals) out.before out.after reports.before reports.after
 GuardsAt told path input out reports (Err (Run f)) =
     (p : AbstractPolicy) × IsPolicyAt told path p
     × Runs (decision_of p) input.before input.after (Err f) out.before out.after reports.before reports.after
-GuardsAt told path input out reports (Err f) = IsNoPolicyAt told path f × IsUntouched input × IsUntouched out × IsUntouched reports
+GuardsAt told path input out reports (Err f) = IsNoPolicyAt told path f × IsUnread input × IsUntouched out × IsUntouched reports
 
--- The run ended so only because a device failed, or after 2^40 reads.
-abbrev pub IsDeviceFault : Fault → Device → Device → Device → Type 0
+-- The run ended so only because a device failed, or the source was asked 2^40 times.
+abbrev pub IsDeviceFault : Fault → Input → Device → Device → Type 0
 IsDeviceFault (Run WriteFailed) input out reports = (out.failed ≡ true) ⊎ (reports.failed ≡ true)
-IsDeviceFault (Run ReadFailed) input out reports = (input.failed ≡ true) ⊎ ReadToLimit input.before input.after
+IsDeviceFault (Run ReadFailed) input out reports = (input.failed ≡ true) ⊎ ReadToLimit input.asked_before input.asked_after input.before input.after
 IsDeviceFault _ input out reports = Unit {0}
 
 -- The fault is told behind what standard error took so far; or that had failed, nothing more is told, and the status is 3.
@@ -48,14 +48,14 @@ TellsBehind reported f err status =
     ((err.failed ≡ true) × (err.after ≡ reported) × (status ≡ 3)) ⊎ Tells f (record err { before = reported }) status
 
 -- The stream is guarded to its end, with its reports on standard error, and the status is that of its totals; or there is a fault, which is told behind them.
-abbrev pub GuardsStream : Told → List ℕ → Device → Device → Device → ℕ → Type 0
+abbrev pub GuardsStream : Told → List ℕ → Input → Device → Device → ℕ → Type 0
 GuardsStream told path input out err status =
     ((totals : Totals) × GuardsAt told path input out err (Ok totals) × (status ≡ totals_status totals))
     ⊎ ((f : Fault) × (reported : Option (List ℕ)) × GuardsAt told path input out (record err { after = reported }) (Err f)
     × IsDeviceFault f input out err × TellsBehind reported f err status)
 
 -- what is read, written and told, and the status, by the request
-abbrev pub Meets : Told → AbstractRequest → Device → Device → Device → ℕ → Type 0
+abbrev pub Meets : Told → AbstractRequest → Input → Device → Device → ℕ → Type 0
 Meets told first = Answers IsFirst IsNoFirst
 Meets told (check path) = Answers (IsChecked told path) (IsNoPolicyAt told path)
 Meets told (decide path route digits) = Answers (IsDecided told path route digits) (IsUndecided told path digits)
@@ -67,6 +67,6 @@ Shows out err status =
     ((text : List ℕ) × Writes text 0 out err status) ⊎ ((text : List ℕ) × IsUntouched out × TellsText text 2 err status)
 
 -- The words are a request, and it is met; or nothing is read, and what is wrong with them is said. Which words are which request is shown by tests.
-abbrev pub Programs : Told → Device → Device → Device → ℕ → Type 0
+abbrev pub Programs : Told → Input → Device → Device → ℕ → Type 0
 Programs told input out err status =
-    ((request : AbstractRequest) × Meets told request input out err status) ⊎ (IsUntouched input × Shows out err status)
+    ((request : AbstractRequest) × Meets told request input out err status) ⊎ (IsUnread input × Shows out err status)

@@ -12,9 +12,9 @@ NamesFile IsPath NoMemory = Unit {0}
 NamesFile IsPath _ = ⊥
 
 -- nothing can be read at the path, and it is named; or memory ran out
-abbrev pub IsUnread : Told → List ℕ → Fault → Type 0
-IsUnread told path = NamesFile (λ file. HasNone told path × (file ≡ path))
+abbrev pub CannotBeRead : Told → List ℕ → Fault → Type 0
+CannotBeRead told path = NamesFile (λ file. HasNone told path × (file ≡ path))
 
 -- nothing can be read at the first of these names in a folder at which that is so, and its path is named; or memory ran out
-abbrev pub AreUnread : Told → List ℕ → List (List ℕ) → Fault → Type 0
-AreUnread told beside names = NamesFile (FirstMissing told beside names)
+abbrev pub CannotAllBeRead : Told → List ℕ → List (List ℕ) → Fault → Type 0
+CannotAllBeRead told beside names = NamesFile (FirstMissing told beside names)

@@ -7,7 +7,7 @@ use guard_frames::{RunFault, TextsFault};
 use guard_model::OutOfMemory;
 use guard_policy::PolicyFault;
 use guard_schema::SchemaFault;
-use std::alloc::{AllocError, AllocFailed};
+use std::alloc::{AllocError, AllocFailed, Global};
 
 /// Why a request isn't met. NoMemory may stand in place of any answer, and no other variant stands for it.
 #[derive(Debug, Drop)]

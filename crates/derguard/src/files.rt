@@ -1,7 +1,7 @@
 //! Where the texts of policies and modules come from.
 ghost use Rattle.std.specs.Prelude.{◌≡◌, Option, Some, None, List, ℕ, IfOk, IfErr};
 ghost use Rattle.derguard.specs.Files.{Told, HasText, HasNone};
-ghost use Rattle.derguard.specs.declared.files.FilesFault.TheVariants.{CannotRead};
+ghost use Rattle.derguard.specs.declared.files.FilesFault.TheVariants.{CannotRead, OutOfMemory as NoMemory};
 
 use std::alloc::AllocError;
 use thiserror::Error;
@@ -16,7 +16,7 @@ pub enum FilesFault {
 }
 
 impl From<AllocError> for FilesFault {
-    ghost from_gives = { λ _ e. e ≡ FilesFault.OutOfMemory };
+    ghost from_gives = { λ _ e. e ≡ NoMemory };
 
     fn from(_e: AllocError) -> FilesFault {
         FilesFault::OutOfMemory

@@ -1,6 +1,6 @@
 //! Guards the stream that comes in.
 ghost use Rattle.std.specs.Prelude.{◌≡◌, IfErr};
-ghost use Rattle.derguard.specs.Devices.{device};
+ghost use Rattle.derguard.specs.Devices.{input_of, device};
 ghost use Rattle.derguard.specs.Meeting.{GuardsAt, GuardsStream, IsDeviceFault, totals_status};
 
 use crate::fault::Fault;
@@ -20,7 +20,7 @@ pub fn run<F: Files, S: Source, O: Sink, E: Sink>(
     out: &mut O,
     err: &mut E,
 ) -> u8
-    ensures { GuardsStream (F.told files.old) path.now (device (S.tells input.old) (S.tells input.new) (S.has_failed input.new))
+    ensures { GuardsStream (F.told files.old) path.now (input_of (S.tells input.old) (S.tells input.new) (S.takes input.old) (S.takes input.new) (S.has_failed input.new))
         (device (O.taken out.old) (O.taken out.new) (O.has_failed out.new)) (device (E.taken err.old) (E.taken err.new) (E.has_failed err.new)) result }
 {
     match guard(alloc, path, files, input, out, err) {
@@ -40,9 +40,9 @@ fn guard<F: Files, S: Source, O: Sink, E: Sink>(
     out: &mut O,
     reports: &mut E,
 ) -> Result<Totals, Fault>
-    ensures guards { GuardsAt (F.told files.old) path.now (device (S.tells input.old) (S.tells input.new) (S.has_failed input.new))
+    ensures guards { GuardsAt (F.told files.old) path.now (input_of (S.tells input.old) (S.tells input.new) (S.takes input.old) (S.takes input.new) (S.has_failed input.new))
         (device (O.taken out.old) (O.taken out.new) (O.has_failed out.new)) (device (E.taken reports.old) (E.taken reports.new) (E.has_failed reports.new)) result }
-    ensures devices { IfErr result (λ f. IsDeviceFault f (device (S.tells input.old) (S.tells input.new) (S.has_failed input.new))
+    ensures devices { IfErr result (λ f. IsDeviceFault f (input_of (S.tells input.old) (S.tells input.new) (S.takes input.old) (S.takes input.new) (S.has_failed input.new))
         (device (O.taken out.old) (O.taken out.new) (O.has_failed out.new)) (device (E.taken reports.old) (E.taken reports.new) (E.has_failed reports.new))) }
 {
     let texts = Texts::read(alloc, path, files)?;

@@ -1,7 +1,7 @@
 //! The program over any files, source and sinks.
 ghost use Rattle.std.specs.Prelude.{◌≡◌, ◌≤◌, length, IfOk, IfErr};
 ghost use Rattle.derguard.specs.Requests.{request_view, first};
-ghost use Rattle.derguard.specs.Devices.{device};
+ghost use Rattle.derguard.specs.Devices.{input_of, device};
 ghost use Rattle.derguard.specs.Writing.{Writes, Tells};
 ghost use Rattle.derguard.specs.Meeting.{Meets, Programs, Shows};
 
@@ -34,10 +34,10 @@ pub fn program<F: Files, S: Source, O: Sink, E: Sink>(
     out: &mut O,
     err: &mut E,
 ) -> u8
-    ensures all { Programs (F.told files.old) (device (S.tells input.old) (S.tells input.new) (S.has_failed input.new))
+    ensures all { Programs (F.told files.old) (input_of (S.tells input.old) (S.tells input.new) (S.takes input.old) (S.takes input.new) (S.has_failed input.new))
         (device (O.taken out.old) (O.taken out.new) (O.has_failed out.new)) (device (E.taken err.old) (E.taken err.new) (E.has_failed err.new)) result }
     // Without words behind the program's name it decides the messages that are built in.
-    ensures alone { length words.now ≤ 1 → Meets (F.told files.old) first (device (S.tells input.old) (S.tells input.new) (S.has_failed input.new))
+    ensures alone { length words.now ≤ 1 → Meets (F.told files.old) first (input_of (S.tells input.old) (S.tells input.new) (S.takes input.old) (S.takes input.new) (S.has_failed input.new))
         (device (O.taken out.old) (O.taken out.new) (O.has_failed out.new)) (device (E.taken err.old) (E.taken err.new) (E.has_failed err.new)) result }
 {
     if words.len() <= 1 {
@@ -58,7 +58,7 @@ pub fn meet<F: Files, S: Source, O: Sink, E: Sink>(
     out: &mut O,
     err: &mut E,
 ) -> u8
-    ensures { Meets (F.told files.old) (request_view request.now) (device (S.tells input.old) (S.tells input.new) (S.has_failed input.new))
+    ensures { Meets (F.told files.old) (request_view request.now) (input_of (S.tells input.old) (S.tells input.new) (S.takes input.old) (S.takes input.new) (S.has_failed input.new))
         (device (O.taken out.old) (O.taken out.new) (O.has_failed out.new)) (device (E.taken err.old) (E.taken err.new) (E.has_failed err.new)) result }
 {
     match request {

@@ -2,7 +2,7 @@
 ghost use Rattle.std.specs.Prelude.{◌≡◌, ◌++◌, map, string_bytes, IfOk, IfErr};
 ghost use Rattle.derguard.specs.Files.{HasText};
 ghost use Rattle.derguard.specs.Reading.{folder, HaveTexts, AreTexts, IsNoPolicyAt};
-ghost use Rattle.derguard.specs.Texts.{IsUnread, AreUnread};
+ghost use Rattle.derguard.specs.Texts.{CannotBeRead, CannotAllBeRead};
 
 use crate::fault::Fault;
 use crate::files::{Files, FilesFault};
@@ -51,7 +51,7 @@ fn read_modules<F: Files>(
     files: &mut F,
 ) -> Result<Vec<Vec<u8>>, Fault>
     ensures read { IfOk result (λ texts. HaveTexts (F.told files.old) (folder path.now) (map string_bytes listed.now) (map (λ text. text.items) texts.items)) }
-    ensures missing { IfErr result (AreUnread (F.told files.old) (folder path.now) (map string_bytes listed.now)) }
+    ensures missing { IfErr result (CannotAllBeRead (F.told files.old) (folder path.now) (map string_bytes listed.now)) }
     ensures same { F.told files.new ≡ F.told files.old }
 {
     let mut texts = Vec::with_capacity(alloc, listed.len())?;
@@ -66,7 +66,7 @@ fn read_modules<F: Files>(
 /// The text at a path. What can't be read is named.
 fn read<F: Files>(alloc: Global, path: &str, files: &mut F) -> Result<Vec<u8>, Fault>
     ensures text { IfOk result (λ text. HasText (F.told files.old) path.now text.items) }
-    ensures missing { IfErr result (IsUnread (F.told files.old) path.now) }
+    ensures missing { IfErr result (CannotBeRead (F.told files.old) path.now) }
     ensures same { F.told files.new ≡ F.told files.old }
 {
     match files.read(path) {
@@ -80,11 +80,8 @@ fn read<F: Files>(alloc: Global, path: &str, files: &mut F) -> Result<Vec<u8>, F
 fn beside(alloc: Global, path: &str, name: &str) -> Result<String, AllocError>
     ensures { IfOk result (λ place. string_bytes place ≡ folder path.now ++ name.now) }
 {
-    let mut place = String::new(alloc);
-    if let Some((folder, _)) = path.rsplit_once('/') {
-        place.push_str(folder)?;
-        place.push_str("/")?;
+    match path.rsplit_once('/') {
+        Some((folder, _)) => format!(in alloc; "{folder}/{name}"),
+        None => String::from_str(alloc, name),
     }
-    place.push_str(name)?;
-    Ok(place)
 }

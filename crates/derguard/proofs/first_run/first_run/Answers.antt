@@ -1,4 +1,4 @@
-use Rattle.std.proofs.Common.{[], ◌∷◌, refl}
+use Rattle.std.proofs.Common.{[], ◌∷◌, inr, refl}
 use Rattle.std.proofs.lemmas.Result.{err_from_is_err_and}
 use Rattle.guard_policy.specs.PolicyView.{policy_view}
 use Rattle.derguard.specs.FirstRun.{first_module, first_policy}
@@ -17,11 +17,11 @@ returns-clause-first c = (
 
 pub returns-in_err-policy-clause-none : goal.returns-in_err-policy-clause-none
 returns-in_err-policy-clause-none c =
-    let e = err_from_is_err_and c.from_residual-in_err-policy.result c.from_residual-in_err-policy.ensures.1 in
+    let e = err_from_is_err_and c.from_residual.result c.from_residual.ensures.1 in
     rw (e.1, e.2) (say_nothing (first_module ∷ []) first_policy c.in_err-policy.field-0.0
     (rw (c.as_bytes.ensures.value, c.as_bytes-2.ensures.value) at c.in_err-policy.ensures.refused))
 
 pub returns-in_err-out-clause-none : goal.returns-in_err-out-clause-none
 returns-in_err-out-clause-none c =
     let e = err_from_is_err_and c.from_residual-in_err-out.result c.from_residual-in_err-out.ensures.1 in
-    rw (e.1, e.2) tt
+    rw (e.1, e.2) (inr refl)

@@ -1,0 +1,13 @@
+use Rattle.std.proofs.Common.{[], ◌∷◌, append_assoc, arith}
+use Rattle.std.proofs.Paths.Parts.{rsplit_once_char}
+use Rattle.derguard.proofs.texts.beside.Goals as goal
+
+pub returns-in-Some : goal.returns-in-Some
+returns-in-Some c =
+    let split = rsplit_once_char 47 c.args.path.now _ c.rsplit_once.ensures.cases (omega arith) in
+    rw (← split, c.in-Some.is) ?
+
+pub returns-in-None : goal.returns-in-None
+returns-in-None c =
+    let split = rsplit_once_char 47 c.args.path.now _ c.rsplit_once.ensures.cases (omega arith) in
+    rw (← split, c.in-None.is) c.from_str.ensures.ok

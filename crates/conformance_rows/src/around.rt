@@ -1,6 +1,7 @@
 //! What stands round each text of a group of rows.
 use std::alloc::{AllocError, Global};
 
+/// What stands round each text.
 #[derive(Drop)]
 pub struct Around {
     before: Vec<u8>,
@@ -8,6 +9,7 @@ pub struct Around {
 }
 
 impl Around {
+    /// Nothing.
     pub fn new(alloc: Global) -> Around {
         Around {
             before: Vec::new(alloc),

@@ -31,7 +31,7 @@ ReadsValue names t tree (Err _) = ⊥
 abbrev pub site_of : WrittenValue → Site
 site_of (value_node site form) = site
 
--- the value of a DEFAULT or of a value assignment: a member of its type (S2)
+-- what a DEFAULT says, or an assignment of a value: a member of its type (S2)
 abbrev pub ReadsMember : Visible → AbstractType → WrittenValue → Outcome AbstractValue → Type 0
 ReadsMember names t tree =
     Then (ReadsValue names t tree) (λ v.

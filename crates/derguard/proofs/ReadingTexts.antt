@@ -1,6 +1,7 @@
 -- Files that are read one after another.
-use Rattle.std.proofs.Common.{◌≡◌, ℕ, ◌+◌, ◌<◌, ◌≤◌, List, [], ◌∷◌, ◌++◌, map, length, drop, get_or, refl, sym, subst, inl, inr, append_assoc, String, Global, string_bytes}
-use Rattle.std.proofs.lemmas.List.{append-nil}
+use Rattle.std.proofs.Common.{◌≡◌, ℕ, ◌+◌, ◌<◌, ◌≤◌, List, [], ◌∷◌, ◌++◌, map, length, drop, get_or, refl, sym, subst, inl, inr, append_assoc, String, string_bytes}
+use Rattle.std.proofs.lemmas.List.{append-nil, drop_all}
+use Rattle.std.specs.declared.alloc.Global.{Global}
 use Rattle.guard_policy.proofs.EntriesRead.{left_is}
 use Rattle.derguard.specs.Files.{Told, HasText, HasNone}
 use Rattle.derguard.specs.Reading.{HaveTexts, FirstMissing}
@@ -44,4 +45,4 @@ pub read_whole : (told : Told) (beside : List ℕ) (listed : List (String Global
     → ReadSoFar told beside (map string_bytes listed) (map string_bytes (drop i listed)) done → HaveTexts told beside (map string_bytes listed) done
 read_whole told beside listed i done past so_far =
     read_all told beside (map string_bytes listed) done
-    (subst (λ (left : List (String Global)). ReadSoFar told beside (map string_bytes listed) (map string_bytes left) done) (drop-all listed i past) so_far)
+    (subst (λ (left : List (String Global)). ReadSoFar told beside (map string_bytes listed) (map string_bytes left) done) (drop_all i listed past) so_far)

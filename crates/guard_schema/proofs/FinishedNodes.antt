@@ -13,22 +13,22 @@ use Rattle.guard_schema.specs.Finishing.{Filling, listed, moved, put_in, with_co
 
 -- ---- of lists
 
-total : List OneComponent → ℕ
+abbrev total : List OneComponent → ℕ
 total [] = 0
 total (c ∷ cs) = nodes c.ty + total cs
 
-whole : Filling → ℕ
+abbrev whole : Filling → ℕ
 whole f = total f.done + total f.left
 
 plus : (a b c d : ℕ) → b ≡ c + d → a + b ≡ (a + c) + d
 plus a b c d e = omega (arith, e)
 
 total_append : (xs ys : List OneComponent) → total (xs ++ ys) ≡ total xs + total ys
-total_append [] ys = refl
+total_append [] ys = omega arith
 total_append (x ∷ xs) ys = plus (nodes x.ty) (total (xs ++ ys)) (total xs) (total ys) (total_append xs ys)
 
 total_taken : (n : ℕ) (xs : List OneComponent) → total (take n xs) + total (drop n xs) ≡ total xs
-total_taken zero xs = refl
+total_taken zero xs = omega arith
 total_taken (suc n) [] = refl
 total_taken (suc n) (x ∷ xs) = again (nodes x.ty) (total (take n xs)) (total (drop n xs)) (total xs) (total_taken n xs)
   where
@@ -57,7 +57,7 @@ further a b c l m = omega (arith, l, m)
 one_up : (a b c : ℕ) → a ≡ suc b → b ≤ c → a ≤ suc c
 one_up a b c e l = omega (arith, e, l)
 
-within : (a b c d : ℕ) → a ≡ b → b + c ≤ d → a ≤ d
+within : (a b c d : ℕ) → a ≡ b → b + c ≤ 0 + d → a ≤ d
 within a b c d e l = omega (arith, e, l)
 
 step : (w more so_far o n b l : ℕ) → w ≡ more + l → more ≡ so_far + (o + 0) → o ≡ n → n ≤ b → w ≤ so_far + (b + l)

@@ -1,5 +1,6 @@
 -- Types that are finished step by step.
 use Rattle.std.proofs.Common.{◌≡◌, ℕ, List, [], map, length, Option, Some, None, Result, Ok, Err, inl, inr, refl, sym, ap, subst, ◌∙◌}
+use Rattle.std.specs.Global.{Box}
 use Rattle.std.specs.Prelude.{string_bytes}
 use Rattle.guard_model.proofs.Components.{component_count_view}
 use Rattle.guard_model.proofs.Results.{same_Ok}
@@ -11,22 +12,34 @@ use Rattle.guard_model.specs.TypeView.{OneComponent, type_view, kind_view, compo
 use Rattle.guard_model.specs.TypeView as model
 use Rattle.guard_model.specs.declared.site.Site.{Site}
 use Rattle.guard_model.specs.declared.ty.Comp.{Comp}
+use Rattle.guard_model.specs.declared.ty.Kind.{Kind}
 use Rattle.guard_model.specs.declared.ty.Kind.TheViews.{out-Ty, out-Comp}
 use Rattle.guard_model.specs.declared.ty.Ty.{Ty}
 use Rattle.guard_syntax.specs.SetViews as sets
-use Rattle.guard_syntax.specs.Trees.{WrittenConstraint, WrittenPresence, WrittenTag, WrittenType, type_node, WrittenBase, WrittenComponentForm, WrittenComponent, WrittenAlternative}
+use Rattle.guard_syntax.specs.Trees.{WrittenConstraint, WrittenPresence, WrittenTag, WrittenType, type_node, WrittenBase, of_type, WrittenComponentForm, components_of_type, WrittenComponent, WrittenAlternative}
 use Rattle.guard_syntax.specs.TypeViews as written
 use Rattle.guard_syntax.specs.TypeViews.{base_step, component_form_step, alternative_step, component_step, type_step}
-use Rattle.guard_syntax.specs.declared.tree.BaseTree.TheFolds.{fold_out-TypeTree}
-use Rattle.guard_syntax.specs.declared.tree.BaseTree.TheViews.{out-TypeTree}
+use Rattle.guard_syntax.specs.declared.tree.BaseTree.{BaseTree}
+use Rattle.guard_syntax.specs.declared.tree.BaseTree.TheFolds.{fold_out-TypeTree, fold_out-CompTree, fold-roll-BaseTree, fold-roll-CompForm}
+use Rattle.guard_syntax.specs.declared.tree.BaseTree.TheOpen.{BaseTree-F, CompForm-F}
+use Rattle.guard_syntax.specs.declared.tree.BaseTree.TheVariants as base_form
+use Rattle.guard_syntax.specs.declared.tree.BaseTree.TheVariants.{rolls-Of}
+use Rattle.guard_syntax.specs.declared.tree.BaseTree.TheViews.{out-TypeTree, out-CompTree}
+use Rattle.guard_syntax.specs.declared.tree.Collection.{Collection}
+use Rattle.guard_syntax.specs.declared.tree.CompForm.TheVariants as component_form
+use Rattle.guard_syntax.specs.declared.tree.CompForm.TheVariants.{rolls-ComponentsOf}
+use Rattle.guard_syntax.specs.declared.tree.CompTree.{CompTree}
+use Rattle.guard_syntax.specs.declared.tree.OfConsTree.{OfConsTree}
 use Rattle.guard_syntax.specs.declared.tree.TypeTree.{TypeTree}
 use Rattle.guard_tagging.specs.Types.{parts_of}
 use Rattle.guard_constraints.specs.Visible.{Visible}
 use Rattle.guard_schema.specs.declared.fault.SchemaFault.{SchemaFault}
 use Rattle.guard_schema.specs.Outcomes.{RefusesBy, Answers}
 use Rattle.guard_schema.specs.Faults.{AbstractFault, Outcome, named}
-use Rattle.guard_schema.specs.Finishing.{Filling, listed, constraint_before, site_of_type, ConstrainsBefore, Constrains, ConstrainsWritten, Finishes, FinishesKind, FinishesParts, FinishesComponent, FinishesPresence, FillsAll, FillsOne}
+use Rattle.guard_schema.specs.Finishing.{Filling, listed, constraint_before, site_of_type, ConstrainsBefore, Constrains, ConstrainsWritten, Finishes, FinishesKind, FinishesElement, FinishesParts, FinishesComponent, FinishesPresence, FillsAll, FillsOne, FillsFromBase, FillsEntry}
 use Rattle.guard_schema.proofs.Lists.{listed_of}
+use Rattle.guard_schema.specs.declared.finishing.Filling as code
+use Rattle.guard_schema.specs.Views.{filling_view}
 use Rattle.guard_schema.proofs.Outcomes.{next_answers}
 
 -- ---- one level of a written type
@@ -98,6 +111,34 @@ module _ (names : Visible) (base : WrittenBase) (bare : Ty) where
   pub kind_finished : (k : AbstractKind) → FinishesKind names base (kind_view (out-Ty bare).kind) (Ok k)
       → (u : AbstractType) → u ≡ type_of (out-Ty bare).tags.items k (constraints_of (map model.constraint_view (out-Ty bare).cons.items)) → FinishesParts names base (type_view bare) (Ok u)
   kind_finished k h u e = subst (λ (t : AbstractType). FinishesParts names base t (Ok u)) (sym (type_view_is bare)) (inl (k, h, ap Ok e))
+
+-- ---- the type of its elements
+
+of_is : (k : Collection) (c : Option OfConsTree) (element : Box TypeTree) → written.base_view (base_form.Of k c element) ≡ of_type k (written.of_constraint_view c) (written.type_view element.value)
+of_is k c element =
+    ap written.base_view (sym (rolls-Of k c element)) ∙ fold-roll-BaseTree WrittenBase WrittenComponentForm WrittenAlternative WrittenComponent WrittenType base_step component_form_step alternative_step component_step type_step (BaseTree-F.Of k c element)
+
+pub element_finished : (names : Visible) (base : BaseTree) (k : Collection) (c : Option OfConsTree) (element : Box TypeTree) → base ≡ base_form.Of k c element → (inside : TypeTree) → inside ≡ element.value
+    → (kind : AbstractKind) (result : Result Kind SchemaFault) → Answers kind_view named result (FinishesElement (Finishes names (written.type_view inside)) kind) → Answers kind_view named result (FinishesKind names (written.base_view base) kind)
+element_finished names base k c element is inside same kind result h =
+    subst (λ (b : WrittenBase). Answers kind_view named result (FinishesKind names b kind)) (sym (ap written.base_view is ∙ of_is k c element))
+    (subst (λ (t : TypeTree). Answers kind_view named result (FinishesElement (Finishes names (written.type_view t)) kind)) same h)
+
+-- ---- what COMPONENTS OF takes in
+
+from_is : (element : Box TypeTree) → written.component_form_view (component_form.ComponentsOf element) ≡ components_of_type (written.type_view element.value)
+from_is element =
+    ap written.component_form_view (sym (rolls-ComponentsOf element)) ∙ fold-roll-CompForm WrittenBase WrittenComponentForm WrittenAlternative WrittenComponent WrittenType base_step component_form_step alternative_step component_step type_step (CompForm-F.ComponentsOf element)
+
+component_is : (tree : CompTree) → written.component_view tree ≡ record { site = (out-CompTree tree).site; form = written.component_form_view (out-CompTree tree).form }
+component_is tree = fold_out-CompTree WrittenBase WrittenComponentForm WrittenAlternative WrittenComponent WrittenType base_step component_form_step alternative_step component_step type_step tree
+
+pub taken_in : (names : Visible) (tree : CompTree) (element : Box TypeTree) → (out-CompTree tree).form ≡ component_form.ComponentsOf element → (inside : TypeTree) → inside ≡ element.value
+    → (f : Filling) (result : Result code.Filling SchemaFault) → Answers filling_view named result (FillsFromBase names (written.base_view (out-TypeTree inside).base) f) → Answers filling_view named result (FillsEntry names (written.component_view tree).form f)
+taken_in names tree element is inside same f result h =
+    let form : (written.component_view tree).form ≡ components_of_type (written.type_view inside) =
+    ap (λ (c : WrittenComponent). c.form) (component_is tree) ∙ ap written.component_form_view is ∙ from_is element ∙ ap (λ (t : TypeTree). components_of_type (written.type_view t)) (sym same) in
+    subst (λ (w : WrittenComponentForm). Answers filling_view named result (FillsEntry names w f)) (sym (form ∙ ap components_of_type (type_is inside))) h
 
 -- ---- its list of components
 

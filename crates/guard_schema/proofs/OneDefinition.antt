@@ -7,7 +7,7 @@ use Rattle.guard_model.specs.AbstractType.{AbstractType}
 use Rattle.guard_model.specs.AbstractValue.{AbstractValue}
 use Rattle.guard_model.specs.TypeView.{type_view}
 use Rattle.guard_model.specs.declared.site.Site.{Site}
-use Rattle.guard_model.proofs.Results.{same_Ok}
+use Rattle.guard_model.proofs.Results.{same_Ok, same_Err}
 use Rattle.guard_tagcheck.specs.Limits.{is_within_limits}
 use Rattle.guard_eval.proofs.Soundness.{sound_within_limits}
 use Rattle.guard_model.specs.declared.ty.Ty.{Ty}
@@ -129,8 +129,8 @@ module _ (p : Progress) (id : ℕ) (d : Definition) (is : Some d ≡ slice_get (
 
   by_tags : (f : AbstractFault) → TagsApart (known_view p) id d.assignment.site (Err f) → BuildsNumber (known_view p) id (Err f)
   by_tags f (inl (bare, tagged, inl (u, apart, e))) = absurd cc
-  by_tags f (inl (bare, tagged, inr (g, clash, e))) = (d, sym is, inl (bare, tagged_so (Ok bare) tagged, inr (g, clash, e)))
-  by_tags f (inr (g, tagged, e)) = (d, sym is, inr (g, tagged_so (Err g) tagged, e))
+  by_tags f (inl (bare, tagged, inr (g, clash, e))) = (d, sym is, inl (bare, tagged_so (Ok bare) tagged, inr (g, clash, ap Err (same_Err f g e))))
+  by_tags f (inr (g, tagged, e)) = (d, sym is, inr (g, tagged_so (Err g) tagged, ap Err (same_Err f g e)))
 
   pub built_refused : (fault : Option AbstractFault) → RefusesBy fault (TagsApart (known_view p) id d.assignment.site) → RefusesBy fault (BuildsNumber (known_view p) id)
   built_refused None h = tt

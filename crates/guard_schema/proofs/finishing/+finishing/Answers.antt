@@ -7,7 +7,7 @@ use Rattle.guard_schema.specs.Faults.{named}
 use Rattle.guard_schema.specs.Finishing.{Finishes, Fills, FillsOthers, site_of_type}
 use Rattle.guard_schema.specs.Views.{visible_of, filling_view}
 use Rattle.guard_schema.proofs.Filling.{next_component, component_stops, no_component, next_alternative, alternative_stops, no_alternative}
-use Rattle.guard_schema.proofs.FinishedTypes.{parts_refused, parts_finished, kind_refused, kind_finished, filling_refused, all_filled, one_refused, component_refused, component_finished}
+use Rattle.guard_schema.proofs.FinishedTypes.{parts_refused, parts_finished, kind_refused, kind_finished, element_finished, taken_in, filling_refused, all_filled, one_refused, component_refused, component_finished}
 use Rattle.guard_schema.proofs.Moves.{next_filled, nothing_filled}
 use Rattle.guard_schema.proofs.finishing.+finishing.Goals as goal
 
@@ -29,6 +29,10 @@ with_parts-returns-in_err-inside t c =
 pub with_parts-returns : goal.with_parts-returns
 with_parts-returns t c =
     kind_finished (visible_of c.args.scope) (written.base_view c.args.base.now) c.args.bare (kind_view c.in_ok-inside.inside) c.in_ok-inside.ensures (type_view c.whole.result) c.whole.ensures
+
+pub finished_kind-returns-in-Of : goal.finished_kind-returns-in-Of
+finished_kind-returns-in-Of t c =
+    element_finished (visible_of c.args.scope) c.args.base.now c.in-Of.field-0 c.in-Of.field-1 c.in-Of.element c.in-Of.is c.deref-in-Of.result.now c.deref-in-Of.ensures (kind_view c.args.kind) c.elements.result c.elements.ensures
 
 pub boxed-returns-in_err-element : goal.boxed-returns-in_err-element
 boxed-returns-in_err-element t c =
@@ -85,6 +89,10 @@ fill_others-loop-tree-preserved t c = next_alternative (visible_of c.args.scope)
 
 pub fill_others-returns : goal.fill_others-returns
 fill_others-returns t c = no_alternative (visible_of c.args.scope) c.args.trees.now (filling_view c.args.filling) c.loop-tree.tree-index (filling_view c.loop-tree.so_far) c.loop-tree-test.false c.loop-tree.invariant
+
+pub fill_entry-returns-in-ComponentsOf : goal.fill_entry-returns-in-ComponentsOf
+fill_entry-returns-in-ComponentsOf t c =
+    taken_in (visible_of c.args.scope) c.args.tree.now c.in-ComponentsOf.ty c.in-ComponentsOf.is c.deref-in-ComponentsOf.result.now c.deref-in-ComponentsOf.ensures (filling_view c.args.filling) c.fill_from.result c.fill_from.ensures
 
 -- ---- one component
 

@@ -1,6 +1,5 @@
 //! `guard_syntax`: how many assignments a module has, where the parts of a set stand, or the module's fault.
-use crate::around::Around;
-use conformance_rows::{Layer, text_of};
+use conformance_rows::{Around, Layer, text_of};
 use guard_lexer::tokens;
 use guard_syntax::{ElementForm, Module, SetForm, SyntaxFault, parse};
 use std::alloc::{AllocError, Global};

@@ -40,7 +40,7 @@ impl Verdicts {
 
     /// Makes the schema of a text and begins a policy over it.
     fn begin(&mut self, alloc: Global, text: &[u8]) -> Result<String, AllocError> {
-        match Schema::build(alloc, text) {
+        match Schema::build(alloc, &[text]) {
             Ok(schema) => {
                 self.modules = modules_of(alloc, schema.module(1).unwrap_or(""))?;
                 self.schema = Some(schema);

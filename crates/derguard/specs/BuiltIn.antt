@@ -4,7 +4,7 @@ use Rattle.guard_model.specs.AbstractType as type
 use Rattle.guard_model.specs.AbstractType.{AbstractType, AbstractKind, type_of}
 use Rattle.guard_policy.specs.declared.policy.Effect.TheVariants.{Allow}
 use Rattle.guard_policy.specs.Policies.{AbstractPolicy, AbstractMessage, AbstractRule}
-use Rattle.guard_schema.specs.Schemas.{AbstractSchema, type_named, module_named}
+use Rattle.guard_schema.specs.Schemas.{AbstractSchema, module_named}
 
 abbrev pub is_integer_kind : AbstractKind → Bool
 is_integer_kind (type.integer ns) = true
@@ -27,7 +27,7 @@ abbrev pub built_in_policy : AbstractType → AbstractType → AbstractType → 
 built_in_policy level low ping modules = record { messages = built_in_messages level ping; rules = built_in_rules low ping; modules = modules }
 
 abbrev pub first_type : AbstractSchema → List ℕ → Option AbstractType
-first_type s name = type_named s (codes "First") name
+first_type s name = s.types (codes "First") name
 
 -- The policy is the one that is built in, over the types Level, Low and Ping of module First. The first two are INTEGERs.
 abbrev pub IsBuiltIn : AbstractSchema → AbstractPolicy → Type 0

@@ -6,7 +6,7 @@ ghost use Rattle.guard_policy.specs.Policies.{message_view, rule_view};
 ghost use Rattle.guard_policy.specs.PolicyView.{policy_view};
 ghost use Rattle.derguard.specs.BuiltIn.{is_integer_type, rule_from_a_to_b, built_in_policy, IsBuiltIn, HasNoBuiltIn};
 ghost use Rattle.guard_schema.specs.Schemas.{module_named};
-ghost use Rattle.guard_schema.specs.SchemaView.{schema_view};
+ghost use Rattle.guard_schema.specs.Views.{schema_view};
 
 use guard_model::{Kind, OutOfMemory, Ty};
 use guard_policy::{Effect, Message, Policy, Rule};

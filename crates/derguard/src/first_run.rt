@@ -62,7 +62,7 @@ pub fn first_run(alloc: Global) -> Result<Vec<u8>, FirstFault>
     ensures printed { IfOk result (λ out. Prints first_text out.items) }
     ensures refused { IfErr result (IsFirstFault first_text) }
 {
-    let schema = Schema::build(alloc, FIRST.as_bytes())?;
+    let schema = Schema::build(alloc, &[FIRST.as_bytes()])?;
     let Some(policy) = built_in(alloc, &schema)? else {
         return Err(FirstFault::NoType);
     };

@@ -1,99 +1,31 @@
--- The entries of a component list one by one.
-use Rattle.std.proofs.Common.{◌≡◌, Bool, false, ◌≤◌, ap, arith, map, length, List, [], ◌∷◌, Option, Some, None, Result, Ok, Err, refl, sym, ◌∙◌}
-use Rattle.guard_model.specs.Answer.{◌>>=◌, Refuses}
-use Rattle.guard_model.specs.declared.site.Site.{Site}
-use Rattle.guard_syntax.specs.Trees.{WrittenComponentForm, named, components_of_type, WrittenComponents, WrittenComponent, component_before, components_of, structure, choice, WrittenAlternative, alternatives_of, WrittenIntersection, WrittenDifference, united_of, met_of}
-use Rattle.guard_syntax.specs.declared.tree.JoinedIntersection.{JoinedIntersection}
-use Rattle.guard_syntax.specs.declared.tree.JoinedDifference.{JoinedDifference}
-use Rattle.guard_syntax.specs.SetViews.{joined_intersection_view, joined_difference_view}
-use Rattle.guard_syntax.specs.declared.tree.Collection.{Collection}
-use Rattle.guard_schema.specs.Basic as basic
-use Rattle.guard_schema.specs.Basic.{BasicType, BasicBase, BasicComponent}
-use Rattle.std.specs.Global.{Vec}
-use Rattle.guard_schema.specs.declared.basic.BasicComp.{BasicComp}
-use Rattle.guard_schema.specs.declared.basic.BasicBase.TheVariants as code
-use Rattle.guard_schema.specs.declared.basic.BasicBase.TheOpen.{BasicBase-F}
-use Rattle.guard_schema.specs.declared.basic.BasicBase.TheFolds.{fold-BasicComp, fold_out-BasicComp, fold-roll-BasicBase}
-use Rattle.guard_schema.specs.Views as view
-use Rattle.guard_schema.specs.Views.{base_step, component_step, type_step, base_view}
-use Rattle.guard_schema.specs.Forms.{ends_of_difference_alone, ends_of_intersection_alone, is_optional, basic_type, basic_base, basic_components, basic_alternatives}
-use Rattle.guard_schema.specs.Reading.{basic_entry, basic_component, basic_alternative}
-use Rattle.guard_model.specs.Each.{each}
+-- Lists of what is written, one entry after another as a loop reads them: whatever the entries that are left make of what there is so far, all make of
+-- what there was first.
+use Rattle.std.proofs.Common.{◌≡◌, ℕ, ◌+◌, ◌<◌, ◌≤◌, List, [], ◌∷◌, map, length, get_or, drop, Option, Some, None, Result, Ok, Err, refl, sym, ap, subst, ◌∙◌, inl, inr}
+use Rattle.std.proofs.lemmas.List.{at_drop_more, at_drop_all}
+use Rattle.guard_schema.specs.Outcomes.{Is, Then, RefusesBy}
 
--- whether a component is optional, its type, and the others
-in_order : {A B : Type 0} (must : Result Bool Site) (ty : Result A Site) (make : Bool → A → B) (others : Result (List B) Site)
-    → (must >>= λ o. ty >>= λ t. others >>= λ parts. Ok (make o t ∷ parts)) ≡ ((must >>= λ o. ty >>= λ t. Ok (make o t)) >>= λ one. others >>= λ more. Ok (one ∷ more))
-in_order (Err f) ty make others = refl
-in_order (Ok o) (Err f) make others = refl
-in_order (Ok o) (Ok t) make others = refl
+-- `Steps` is what a list of trees makes of a state, as `read` sees the trees; `One` what one tree does; `final` what is answered in the end.
+module _ {T W S R F : Type 0} (read : List T → W) (Steps : W → S → Result R F → Type 0) (One : T → S → Result S F → Type 0) (final : S → R)
+    (none : (s : S) → Steps (read []) s (Ok (final s))) (more : (t : T) (ts : List T) (s : S) (answer : Result R F) → Then (One t s) (Steps (read ts)) answer → Steps (read (t ∷ ts)) s answer)
+    (trees : List T) (start : S) where
+  -- the invariant
+  abbrev pub SoFar : ℕ → S → Type 0
+  SoFar i s = (answer : Result R F) → Steps (read (drop i trees)) s answer → Steps (read trees) start answer
 
-one_entry : (site : Site) (form : WrittenComponentForm) (others : WrittenComponents)
-    → basic_components (component_before site form others) ≡ (basic_entry site form >>= λ one. basic_components others >>= λ more. Ok (one ∷ more))
-unfolding basic_components
-one_entry site (named name ty presence) others = in_order (is_optional site presence) (basic_type ty) (λ o t. record { site = site; name = name; ty = t; optional = o }) (basic_components others)
-one_entry site (components_of_type ty) others = refl
+  pub first : SoFar 0 start
+  first answer h = h
 
-pub entries_are : (cs : List WrittenComponent) → basic_components (components_of cs) ≡ each basic_component cs
-unfolding basic_components each
-entries_are [] = refl
-entries_are (c ∷ cs) =
-    one_entry c.site c.form (components_of cs)
-    ∙ ap (λ (rest : Result (List BasicComponent) Site). basic_entry c.site c.form >>= λ one. rest >>= λ more. Ok (one ∷ more)) (entries_are cs)
+  split : (i : ℕ) (t : T) → i < length trees → t ≡ get_or trees i t → drop i trees ≡ t ∷ drop (i + 1) trees
+  split i t lt is = at_drop_more (λ ts. ts) trees i t lt ∙ ap (λ x. x ∷ drop (i + 1) trees) (sym is)
 
-module _ (site : Site) (k : Collection) (cs : List WrittenComponent) where
-  pub structure_stops : (f : Option Site) → Refuses f (each basic_component cs) → Refuses f (basic_base site (structure k (components_of cs)))
-  unfolding basic_base
-  structure_stops None h = tt
-  structure_stops (Some f) h = let all : basic_base site (structure k (components_of cs)) ≡ Err f = rw (entries_are cs, h) refl in all
+  pub next : (i : ℕ) (s : S) (t : T) → i < length trees → t ≡ get_or trees i t → SoFar i s → (u : S) → One t s (Ok u) → SoFar (i + 1) u
+  next i s t lt is so_far u one answer h =
+      so_far answer (subst (λ ts. Steps (read ts) s answer) (sym (split i t lt is)) (more t (drop (i + 1) trees) s answer (inl (u, one, h))))
 
-  pub structure_made : (parts : List BasicComponent) → each basic_component cs ≡ Ok parts → basic_base site (structure k (components_of cs)) ≡ Ok (basic.structure k (basic.components_of parts))
-  unfolding basic_base
-  structure_made parts h = rw (entries_are cs, h) refl
+  pub stops : (i : ℕ) (s : S) (t : T) → i < length trees → t ≡ get_or trees i t → SoFar i s → (fault : Option F) → RefusesBy fault (One t s) → RefusesBy fault (Steps (read trees) start)
+  stops i s t lt is so_far None one = tt
+  stops i s t lt is so_far (Some f) one =
+      so_far (Err f) (subst (λ ts. Steps (read ts) s (Err f)) (sym (split i t lt is)) (more t (drop (i + 1) trees) s (Err f) (inr (f, one, refl))))
 
--- ---- alternatives
-
-in_turn : {A B : Type 0} (ty : Result A Site) (make : A → B) (others : Result (List B) Site)
-    → (ty >>= λ t. others >>= λ parts. Ok (make t ∷ parts)) ≡ ((ty >>= λ t. Ok (make t)) >>= λ one. others >>= λ more. Ok (one ∷ more))
-in_turn (Err f) make others = refl
-in_turn (Ok t) make others = refl
-
-alternatives_are : (cs : List WrittenAlternative) → basic_alternatives (alternatives_of cs) ≡ each basic_alternative cs
-unfolding basic_alternatives each
-alternatives_are [] = refl
-alternatives_are (c ∷ cs) =
-    in_turn (basic_type c.ty) (λ t. record { site = c.site; name = c.name; ty = t; optional = false }) (basic_alternatives (alternatives_of cs))
-    ∙ ap (λ (rest : Result (List BasicComponent) Site). basic_alternative c >>= λ one. rest >>= λ more. Ok (one ∷ more)) (alternatives_are cs)
-
-module _ (site : Site) (cs : List WrittenAlternative) where
-  pub choice_stops : (f : Option Site) → Refuses f (each basic_alternative cs) → Refuses f (basic_base site (choice (alternatives_of cs)))
-  unfolding basic_base
-  choice_stops None h = tt
-  choice_stops (Some f) h = let all : basic_base site (choice (alternatives_of cs)) ≡ Err f = rw (alternatives_are cs, h) refl in all
-
-  pub choice_made : (parts : List BasicComponent) → each basic_alternative cs ≡ Ok parts → basic_base site (choice (alternatives_of cs)) ≡ Ok (basic.choice (basic.components_of parts))
-  unfolding basic_base
-  choice_made parts h = rw (alternatives_are cs, h) refl
-
--- where others are joined there is no range alone
-pub several_united : (i : WrittenIntersection) (js : List JoinedIntersection) → 1 ≤ length js → None ≡ ends_of_intersection_alone i (united_of (map joined_intersection_view js))
-several_united i [] h = absurd (omega arith)
-several_united i (j ∷ js) h = refl
-
-pub several_met : (d : WrittenDifference) (js : List JoinedDifference) → 1 ≤ length js → None ≡ ends_of_difference_alone d (met_of (map joined_difference_view js))
-several_met d [] h = absurd (omega arith)
-several_met d (j ∷ js) h = refl
-
--- one level of a basic tree
-each_component : (cs : List BasicComp) → map (fold-BasicComp BasicBase BasicComponent BasicType base_step component_step type_step) cs ≡ map view.component_view cs
-each_component [] = refl
-each_component (c ∷ cs) = λ i. fold_out-BasicComp BasicBase BasicComponent BasicType base_step component_step type_step c i ∷ each_component cs i
-
-pub base_of_structure : (k : Collection) (cs : Vec BasicComp) → base_view (code.Structure k cs) ≡ basic.structure k (basic.components_of (map view.component_view cs.items))
-base_of_structure k cs =
-    ap base_view (sym (code.rolls-Structure k cs)) ∙ fold-roll-BasicBase BasicBase BasicComponent BasicType base_step component_step type_step (BasicBase-F.Structure k cs)
-    ∙ ap (λ (parts : List BasicComponent). basic.structure k (basic.components_of parts)) (each_component cs.items)
-
-pub base_of_choice : (cs : Vec BasicComp) → base_view (code.Choice cs) ≡ basic.choice (basic.components_of (map view.component_view cs.items))
-base_of_choice cs =
-    ap base_view (sym (code.rolls-Choice cs)) ∙ fold-roll-BasicBase BasicBase BasicComponent BasicType base_step component_step type_step (BasicBase-F.Choice cs)
-    ∙ ap (λ (parts : List BasicComponent). basic.choice (basic.components_of parts)) (each_component cs.items)
+  pub ends : (i : ℕ) (s : S) → length trees ≤ i → SoFar i s → Steps (read trees) start (Ok (final s))
+  ends i s le so_far = so_far (Ok (final s)) (subst (λ ts. Steps (read ts) s (Ok (final s))) (sym (at_drop_all (λ ts. ts) trees i le)) (none s))

@@ -1,18 +1,24 @@
--- ---- parts of trees, one after another
-pub mod Numbers
-pub mod BasicLists
+-- Lemmas, in reading order.
+pub mod Outcomes
 pub mod Entries
-pub mod ListKinds
-pub mod Loops
-pub mod SeenNames
--- ---- names are texts
-pub mod TextNames
--- ---- what the steps of the code give
-pub mod Bare
-pub mod Readings
--- ---- types without fault are sound
-pub mod Sound
-pub mod SoundAt
--- ---- what a build answers
-pub mod Steps
-pub mod Accepted
+-- ---- there is one schema at most
+pub mod Decided
+pub mod OneSchema
+pub mod Lexed
+pub mod ReadTexts
+-- ---- what is built
+pub mod Lists
+pub mod NodeCounts
+pub mod Moves
+pub mod FinishedTypes
+pub mod OneMore
+pub mod Filling
+pub mod Known
+pub mod Read
+pub mod FinishedNodes
+pub mod OneDefinition
+pub mod AllDefinitions
+-- ---- the schema
+pub mod ModuleNames
+pub mod ByName
+pub mod Whole

@@ -1,61 +1,37 @@
--- Which texts make which schema, and why a text makes none.
-use Rattle.std.specs.Prelude.{◌≡◌, ◌⊎◌, ℕ, List, Some, None, Ok, Err}
-use Rattle.guard_lexer.specs.declared.token.Token.{Token}
-use Rattle.guard_lexer.specs.declared.fault.LexFault.TheVariants as lex
-use Rattle.guard_lexer.specs.Lexing.{Lexes, FirstFault}
-use Rattle.guard_syntax.specs.declared.fault.SyntaxFault.{SyntaxFault}
-use Rattle.guard_syntax.specs.declared.fault.SyntaxFault.TheVariants.{Unexpected, Unsupported, TooDeep, OutOfMemory}
-use Rattle.guard_model.specs.declared.site.Site.{Site}
+-- What it is for texts to denote a schema, and why they denote none. This is the page to read first.
+use Rattle.std.specs.Prelude.{◌≡◌, ℕ, List, [], length, Ok, Err}
 use Rattle.guard_syntax.specs.Trees.{WrittenModule}
-use Rattle.guard_syntax.specs.Lexemes.{lexemes_of, sites_of}
-use Rattle.guard_syntax.specs.Parses.{IsWritten, HasSites}
-use Rattle.guard_syntax.specs.Faults.{NamesToken}
-use Rattle.guard_schema.specs.Schemas.{AbstractSchema, denoted_schema}
-use Rattle.guard_schema.specs.Basic.{BasicModule}
-use Rattle.guard_schema.specs.Forms.{basic_module}
-use Rattle.guard_schema.specs.Faults.{AbstractFault, Lex, Syntax, Name, Tag, Clash, Cons, IsModuleFault}
+use Rattle.guard_names.specs.Declarations.{definitions}
+use Rattle.guard_names.specs.Meanings.{Uses}
+use Rattle.guard_names.specs.Order.{IsOrder}
+use Rattle.guard_names.specs.Faults.{AreFaultless, IsFirstFault}
+use Rattle.guard_schema.specs.Outcomes.{Is, Then, IsDecided}
+use Rattle.guard_schema.specs.Faults.{AbstractFault, Name, Outcome}
+use Rattle.guard_schema.specs.Texts.{ReadsTexts, CountsTexts}
+use Rattle.guard_schema.specs.Known.{none_known}
+use Rattle.guard_schema.specs.Building.{BuildsAll}
+use Rattle.guard_schema.specs.Schemas.{AbstractSchema, schema_of}
 
--- the one text of a schema is the first of its list
-abbrev pub place : ℕ
-place = 1
+-- The names in modules have no fault, and this is the order in which each definition stands behind all that it uses; or this is their first fault.
+abbrev pub OrdersNames : List WrittenModule → Outcome (List ℕ) → Type 0
+OrdersNames ms (Ok order) = AreFaultless ms × IsOrder (length (definitions ms)) (Uses ms) order
+OrdersNames ms (Err (Name f)) = IsFirstFault ms f
+OrdersNames ms (Err _) = ⊥
 
--- the text is cut into these tokens, and they write this tree
-pub record IsModuleText (text : List ℕ) (tokens : List Token) (tree : WrittenModule) : Type 0 where
-  pub lexes : Lexes place text tokens
-  pub written : IsWritten tree (lexemes_of text tokens)
-  pub sites : HasSites tree (sites_of tokens)
+-- What texts denote, or their first fault, in the order of looking: how many texts there are; each text in turn, its tokens and its tree; the names of
+-- all modules; and each definition behind those that it uses. The types get their names in the end.
+abbrev pub Denotes : List (List ℕ) → Outcome AbstractSchema → Type 0
+Denotes texts =
+    Then (CountsTexts texts) (λ _.
+    Then (ReadsTexts [] texts) (λ modules.
+    Then (OrdersNames modules) (λ order.
+    Then (BuildsAll (none_known modules order) order) (λ built.
+    Is (schema_of (record { modules = modules; order = order; built = built }))))))
 
--- the text is a module in which no form is left out, and this is its basic tree
-abbrev pub IsBasicText : List ℕ → BasicModule → Type 0
-IsBasicText text m = (tokens : List Token) × (tree : WrittenModule) × IsModuleText text tokens tree × (basic_module tokens tree ≡ Ok m)
+-- The texts denote the schema.
+abbrev pub Accepts : List (List ℕ) → AbstractSchema → Type 0
+Accepts texts schema = Denotes texts (Ok schema)
 
--- The text is a module without fault, and the schema is what it denotes.
-abbrev pub Accepts : List ℕ → AbstractSchema → Type 0
-Accepts text schema = (m : BasicModule) × IsBasicText text m × IsModuleFault m None × (schema ≡ denoted_schema m)
-
--- the text is a module in which no form is left out, and this is its first fault
-abbrev pub HasFault : List ℕ → AbstractFault → Type 0
-HasFault text fault = (m : BasicModule) × IsBasicText text m × IsModuleFault m (Some fault)
-
--- the text is cut into tokens that write no tree, and this fault names one of them, or the end of the text
-abbrev pub WritesNothing : List ℕ → SyntaxFault → Type 0
-WritesNothing text fault =
-    (tokens : List Token) × Lexes place text tokens × ((m : WrittenModule) → IsWritten m (lexemes_of text tokens) → ⊥) × NamesToken place text tokens fault
-
--- the text is a module, and there stands the first token of the first form of it that is left out
-abbrev pub LeavesOut : List ℕ → Site → Type 0
-LeavesOut text site = (tokens : List Token) × (tree : WrittenModule) × IsModuleText text tokens tree × (basic_module tokens tree ≡ Err site)
-
--- The text makes no schema for this reason: its first fault as a text; that no tree is written with its tokens, or, as P1, that
--- a form of its tree is left out; or its first fault as a module. Want of memory is no fault of a text.
-abbrev pub IsRefused : List ℕ → AbstractFault → Type 0
-IsRefused text (Lex lex.OutOfMemory) = ⊥
-IsRefused text (Lex f) = FirstFault place text f
-IsRefused text (Syntax (Unexpected site)) = WritesNothing text (Unexpected site) ⊎ LeavesOut text site
-IsRefused text (Syntax (Unsupported spelling site)) = WritesNothing text (Unsupported spelling site)
-IsRefused text (Syntax (TooDeep site)) = WritesNothing text (TooDeep site)
-IsRefused text (Syntax OutOfMemory) = ⊥
-IsRefused text (Name f) = HasFault text (Name f)
-IsRefused text (Tag f) = HasFault text (Tag f)
-IsRefused text (Clash site c) = HasFault text (Clash site c)
-IsRefused text (Cons f) = HasFault text (Cons f)
+-- The texts denote no schema, and this is their first fault. Of the parser's faults, and of several in one value, it is one whose condition stands.
+abbrev pub IsRefused : List (List ℕ) → AbstractFault → Type 0
+IsRefused texts fault = Denotes texts (Err fault)

@@ -1,17 +1,15 @@
--- ---- schemas, and which texts make them
+-- Definitions, in reading order: `Accepts` is the page to read first, and stands on all the others.
+pub mod Outcomes
+pub mod Faults
+pub mod Texts
+pub mod Known
+pub mod Readings
+pub mod Finishing
+pub mod Counting
+pub mod Building
 pub mod Schemas
 pub mod Accepts
--- ---- from the tree of a module to the types that it denotes
-pub mod Forms
-pub mod Basic
-pub mod Types
--- ---- faults
-pub mod Faults
-pub mod Names
-pub mod Tagging
-pub mod Constraints
--- ---- what those of the code stand for
-pub mod SchemaView
+-- what the values of the code stand for
+pub mod Pairs
+pub mod Entries
 pub mod Views
--- ---- the steps of the code
-pub mod Reading

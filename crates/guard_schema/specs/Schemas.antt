@@ -1,38 +1,46 @@
 -- Schemas as the definitions see them.
-use Rattle.std.specs.Prelude.{ℕ, zero, suc, List, [], ◌∷◌, All, map, IsTrue, Option, Some, None, bytes_eq, slice_get, if◌then◌else◌}
-use Rattle.std.specs.List.{list_any, IsDistinct}
+use Rattle.std.specs.Prelude.{ℕ, zero, suc, Bool, ◌&&◌, List, [], ◌∷◌, map, Option, Some, None, option_map, bytes_eq, slice_get, if◌then◌else◌}
 use Rattle.guard_model.specs.AbstractType.{AbstractType}
-use Rattle.guard_der.specs.Sound.{is_sound}
-use Rattle.guard_schema.specs.Basic.{BasicAssignment, BasicModule}
-use Rattle.guard_schema.specs.Types.{denoted}
+use Rattle.guard_model.specs.AbstractValue.{AbstractValue}
+use Rattle.guard_names.specs.Declarations.{Definition, definitions}
+use Rattle.guard_values.specs.Visible.{placed_definition}
+use Rattle.guard_schema.specs.Known.{Built, Known, built_at}
 
--- the names of the modules in order, and the types with their names
+-- The names of the modules in the order of their texts, and the type of each name to which the module of a name assigns one. A name that a module
+-- imports is one of the module that assigns it.
 pub record AbstractSchema : Type 0 where
   pub modules : List (List ℕ)
-  pub types : List (List ℕ × AbstractType)
+  pub types : List ℕ → List ℕ → Option AbstractType
 
--- each type is sound, and no name stands twice
-pub record AreDefinitions (types : List (List ℕ × AbstractType)) : Type 0 where
-  pub sound : All (λ d. IsTrue (is_sound d.1)) types
-  pub distinct : IsDistinct bytes_eq (map (λ d. d.0) types)
+-- ---- definitions by their names, of which no two have the same two where names have no fault (N1)
 
--- the type of this name
-abbrev pub type_among : List (List ℕ × AbstractType) → List ℕ → Option AbstractType
-type_among [] name = None
-type_among (d ∷ ds) name = if bytes_eq d.0 name then Some d.1 else type_among ds name
+-- whether this one stands in the module of a name and assigns this name
+abbrev pub assigns : List ℕ → List ℕ → Definition → Bool
+assigns home name d = bytes_eq home d.home.name && bytes_eq name d.assignment.name
 
--- The type of this name in the module of this name. For now a schema has one module, to which all its types belong.
-abbrev pub type_named : AbstractSchema → List ℕ → List ℕ → Option AbstractType
-type_named s module_name name = if list_any (bytes_eq module_name) s.modules then type_among s.types name else None
+-- the number of the first that does
+abbrev pub number_assigned : List ℕ → List ℕ → List Definition → Option ℕ
+number_assigned home name [] = None
+number_assigned home name (d ∷ ds) = if assigns home name d then Some 0 else option_map suc (number_assigned home name ds)
+
+-- ---- types by these names
+
+-- a value assignment gives no type a name
+abbrev pub type_unless : AbstractType → Option AbstractValue → Option AbstractType
+type_unless t None = Some t
+type_unless t (Some v) = None
+
+abbrev pub assigned_type : Option Built → Option AbstractType
+assigned_type None = None
+assigned_type (Some b) = type_unless b.ty b.value
+
+abbrev pub schema_of : Known → AbstractSchema
+schema_of k = record {
+  modules = map (λ m. m.name) k.modules;
+  types = λ home name. assigned_type (built_at k.built (placed_definition k.order (number_assigned home name (definitions k.modules))));
+}
 
 -- the name of the module at this place of the list of texts, from 1
 abbrev pub module_named : AbstractSchema → ℕ → Option (List ℕ)
 module_named s zero = None
 module_named s (suc text) = slice_get s.modules text
-
-abbrev pub denoted_definition : BasicAssignment → List ℕ × AbstractType
-denoted_definition a = (a.name, denoted a.ty)
-
--- a module's name, and what is assigned in it, in written order
-abbrev pub denoted_schema : BasicModule → AbstractSchema
-denoted_schema m = record { modules = m.name ∷ []; types = map denoted_definition m.assignments }

@@ -1,62 +1,66 @@
--- What the basic trees of the code and the parts of a schema stand for.
-use Rattle.std.specs.Prelude.{ℕ, List, map, string_bytes}
-use Rattle.guard_model.specs.AbstractType.{AbstractType}
-use Rattle.guard_model.specs.TypeView as model
-use Rattle.guard_syntax.specs.declared.tree.NumberTree.{NumberTree}
-use Rattle.guard_syntax.specs.Trees.{WrittenNumber}
-use Rattle.guard_syntax.specs.Views.{number_view}
-use Rattle.guard_schema.specs.declared.basic.BasicRange as code_range
-use Rattle.guard_schema.specs.declared.basic.BasicBase as code_base
-use Rattle.guard_schema.specs.declared.basic.BasicBase.TheFolds.{fold-BasicBase, fold-BasicType}
-use Rattle.guard_schema.specs.declared.basic.BasicBase.TheOpen.{BasicBase-F, BasicComp-F, BasicType-F}
-use Rattle.guard_schema.specs.declared.basic.BasicType as code_type
-use Rattle.guard_schema.specs.declared.basic.BasicComp as code_component
-use Rattle.guard_schema.specs.declared.basic.BasicAssignment as code_assignment
-use Rattle.guard_schema.specs.declared.basic.BasicModule as code_module
-use Rattle.guard_schema.specs.declared.build.Definition.{Definition}
-use Rattle.guard_schema.specs.declared.names.PlacedName as code
-use Rattle.guard_schema.specs.Basic.{BasicRange, BasicType, type_node, BasicBase, plain, integer, structure, choice, of_type, BasicComponent, components_of, BasicAssignment, BasicModule}
-use Rattle.guard_schema.specs.Names.{PlacedName}
+-- What the code's values stand for.
+use Rattle.std.specs.Prelude.{◌≡◌, ℕ, List, [], ◌∷◌, map, All, IsTrue, IfSome, string_bytes, Option, Some, None, option_map, option_and_then, bytes_eq, slice_get}
+use Rattle.guard_model.specs.TypeView.{type_view, component_view}
+use Rattle.guard_model.specs.ValueView.{value_view}
+use Rattle.guard_model.specs.declared.ty.Ty.{Ty}
+use Rattle.guard_model.specs.declared.value.Value.{Value}
+use Rattle.guard_syntax.specs.Trees.{WrittenOfConstraint}
+use Rattle.guard_syntax.specs.SetViews.{constraint_view}
+use Rattle.guard_syntax.specs.declared.tree.OfConsTree.{OfConsTree}
+use Rattle.guard_names.specs.Declarations.{definitions}
+use Rattle.guard_names.specs.NamesView.{modules_of, order_of}
+use Rattle.guard_values.specs.Views.{home_name}
+use Rattle.guard_constraints.specs.Visible.{Visible}
+use Rattle.guard_schema.specs.declared.progress.Progress.{Progress}
+use Rattle.guard_schema.specs.declared.progress.Definition as code_definition
+use Rattle.guard_schema.specs.declared.schema.Schema.{Schema}
+use Rattle.guard_schema.specs.declared.naming.NamedDefinition.{NamedDefinition}
+use Rattle.guard_schema.specs.declared.scope.Scope.{Scope}
+use Rattle.guard_schema.specs.declared.finishing.Filling as code_filling
+use Rattle.guard_schema.specs.Known.{Built, Known, visible}
+use Rattle.guard_schema.specs.Pairs.{built_view, paired}
+use Rattle.guard_schema.specs.Finishing.{Filling}
+use Rattle.guard_values.specs.Visible.{placed_definition}
+use Rattle.guard_schema.specs.Entries.{Entry, place_named, unvalued}
+use Rattle.guard_schema.specs.Schemas.{AbstractSchema}
 
-abbrev pub range_view : code_range.BasicRange → BasicRange
-range_view r = record { site = r.site; low = number_view r.low; high = number_view r.high }
+-- ---- what is built
 
--- the low and the high end of a range
-abbrev pub ends_view : NumberTree × NumberTree → WrittenNumber × WrittenNumber
-ends_view ends = (number_view ends.0, number_view ends.1)
+abbrev pub definition_view : code_definition.Definition → Built
+definition_view d = built_view d.ty d.value
 
--- one level of each, with the types inside already seen
-abbrev pub base_step : BasicBase-F BasicBase BasicComponent BasicType → BasicBase
-base_step (BasicBase-F.Plain p) = plain p
-base_step (BasicBase-F.Integer rs) = integer (map range_view rs.items)
-base_step (BasicBase-F.Structure k cs) = structure k (components_of cs.items)
-base_step (BasicBase-F.Choice cs) = choice (components_of cs.items)
-base_step (BasicBase-F.Of k t) = of_type k t.value
+abbrev pub built_in : Progress → List Built
+built_in p = paired p.known.types.items p.known.values.items
 
-abbrev pub component_step : BasicComp-F BasicBase BasicComponent BasicType → BasicComponent
-component_step c = record { site = c.site; name = c.name.now; ty = c.ty; optional = c.optional }
+abbrev pub known_view : Progress → Known
+known_view p = record { modules = modules_of p.names.now; order = order_of p.names.now; built = built_in p }
 
-abbrev pub type_step : BasicType-F BasicBase BasicComponent BasicType → BasicType
-type_step t = type_node t.site t.base
+-- ---- where something is written
 
-abbrev pub type_view : code_type.BasicType → BasicType
-type_view = fold-BasicType BasicBase BasicComponent BasicType base_step component_step type_step
+abbrev pub visible_of : Scope → Visible
+visible_of s = visible (known_view s.progress.now) (home_name (slice_get (definitions (modules_of s.progress.now.names.now)) s.id))
 
-abbrev pub base_view : code_base.BasicBase → BasicBase
-base_view = fold-BasicBase BasicBase BasicComponent BasicType base_step component_step type_step
+abbrev pub filling_view : code_filling.Filling → Filling
+filling_view f = record { done = map component_view f.done.items; left = map component_view f.left.items }
 
-abbrev pub component_view : code_component.BasicComp → BasicComponent
-component_view c = record { site = c.site; name = c.name.now; ty = type_view c.ty; optional = c.optional }
+abbrev pub before_view : OfConsTree → WrittenOfConstraint
+before_view c = record { site = c.site; size = c.size; constraint = constraint_view c.cons.value }
 
-abbrev pub assignment_view : code_assignment.BasicAssignment → BasicAssignment
-assignment_view a = record { site = a.site; name = a.name.now; ty = type_view a.ty }
+-- ---- the schema: its types by the names of definitions
 
-abbrev pub module_view : code_module.BasicModule → BasicModule
-module_view m = record { name = m.name.now; assignments = map assignment_view m.assignments.items }
+abbrev pub entry_view : NamedDefinition → Entry
+entry_view n = record { home = n.home.items; name = n.name.items; place = n.place }
 
-abbrev pub placed_name_view : code.PlacedName → PlacedName
-placed_name_view n = record { site = n.site; name = n.octets.now }
+abbrev pub unvalued_at : List (Option Value) → Option ℕ → Option ℕ
+unvalued_at values None = None
+unvalued_at values (Some place) = unvalued place (slice_get values place)
 
--- a name and its type
-abbrev pub definition_view : Definition → List ℕ × AbstractType
-definition_view d = (string_bytes d.name, model.type_view d.ty)
+-- the place of the definition of this number, where it assigns a type
+abbrev pub type_place : List ℕ → List (Option Value) → ℕ → Option ℕ
+type_place order values number = unvalued_at values (placed_definition order (Some number))
+
+abbrev pub schema_view : Schema → AbstractSchema
+schema_view s = record {
+  modules = map string_bytes s.modules.items;
+  types = λ home name. option_map type_view (option_and_then (slice_get s.types.items) (place_named home name (map entry_view s.definitions.items)));
+}

@@ -1,49 +1,160 @@
-//! Constraints that are written in module texts.
-ghost use Rattle.std.specs.Prelude.{◌≡◌, map, IfOk};
-ghost use Rattle.guard_model.specs.Answer.{Gives};
-ghost use Rattle.guard_model.specs.TypeView as model;
+//! The constraints that are written at a type, put behind those that it has.
+ghost use Rattle.std.specs.Prelude.{◌≡◌, map, IsTrue, IfOk};
+ghost use Rattle.guard_der.specs.ProperConstraints.{type_of_size};
+ghost use Rattle.guard_der.specs.Sound.{is_sound};
+ghost use Rattle.guard_model.specs.AbstractType.{type_of};
+ghost use Rattle.guard_model.specs.TypeView.{type_view, kind_view, constraint_view, constraints_of};
+ghost use Rattle.guard_syntax.specs.SetViews as sets;
+ghost use Rattle.guard_syntax.specs.TypeViews as written;
 ghost use Rattle.guard_schema.specs.Faults.{named};
-ghost use Rattle.guard_schema.specs.Reading.{read_range, read_ranges};
-ghost use Rattle.guard_schema.specs.Views.{range_view};
+ghost use Rattle.guard_schema.specs.Finishing.{with_constraint, AddsOne, Adds, Constrains, Sizes, ConstrainsBefore, ConstrainsByOne, ConstrainsWritten, constraint_before};
+ghost use Rattle.guard_schema.specs.Outcomes.{Answers};
+ghost use Rattle.guard_schema.specs.Views.{visible_of, before_view};
 
-use crate::basic::BasicRange;
 use crate::fault::SchemaFault;
-use crate::values::{ValueFault, integer};
-use guard_model::{Cons, Limit, Rule};
-use std::alloc::Global;
-use thiserror::Error;
+use crate::readings::{check_sound, constraint_written};
+use crate::scope::Scope;
+use guard_model::{Class, Cons, Kind, OutOfMemory, Rule, Site, Tag, Ty};
+use guard_syntax::{BaseTree, ConsTree, OfConsTree, TypeTree};
+use std::alloc::{AllocError, Global};
 
-/// Why a text is no constraint of its type.
-#[derive(Clone, Copy, Debug, Error)]
-pub enum ConsFault {
-    /// A value in the constraint is at fault.
-    #[error("C9 Value {0}")]
-    Value(ValueFault),
+/// The type that is written so, with the constraint before OF and those behind it.
+pub fn with_written(
+    alloc: Global,
+    scope: Scope,
+    tree: &TypeTree,
+    ty: Ty,
+) -> Result<Ty, SchemaFault>
+    ensures { Answers type_view named result (ConstrainsWritten (visible_of scope.entry) (written.type_view tree.now) (type_view ty)) }
+{
+    let before = constrained_before(alloc, scope, tree.site, &tree.base, ty)?;
+    constrained(alloc, scope, tree.site, &tree.cons, before)
 }
 
-/// The constraints that are written behind a type, in written order.
-pub fn constraints(alloc: Global, ranges: &[BasicRange]) -> Result<Vec<Cons>, SchemaFault>
-    ensures { Gives (λ v. map model.constraint_view v.items) named result (read_ranges (map range_view ranges.now)) }
+/// The type that is written there, with the constraints behind it.
+#[tactic(auto, unfolding(crate::specs::Finishing::Constrains))]
+fn constrained(
+    alloc: Global,
+    scope: Scope,
+    site: Site,
+    trees: &[ConsTree],
+    ty: Ty,
+) -> Result<Ty, SchemaFault>
+    ensures { Answers type_view named result (Constrains (visible_of scope.entry) site (map sets.constraint_view trees.now) (type_view ty)) }
 {
-    let mut constraints = Vec::with_capacity(alloc, ranges.len())?;
-    for range in ranges {
-        match constraint(range) {
-            Ok(constraint) => constraints.push(constraint)?,
-            Err(fault) => return Err(SchemaFault::Cons(fault)),
-        }
+    if trees.is_empty() {
+        return Ok(ty);
     }
-    Ok(constraints)
+    check_sound(alloc, site, &ty)?;
+    with_constraints(alloc, scope, trees, ty)
 }
 
-/// A range. Its site is that of its first token.
-#[tactic(auto, unfolding(crate::specs::Reading::read_range))]
-fn constraint(range: &BasicRange) -> Result<Cons, ConsFault>
-    ensures { Gives model.constraint_view Some result (read_range (range_view range.now)) }
+/// The type with these constraints, each on the type with those before it.
+fn with_constraints(
+    alloc: Global,
+    scope: Scope,
+    trees: &[ConsTree],
+    ty: Ty,
+) -> Result<Ty, SchemaFault>
+    requires sound { IsTrue (is_sound (type_view ty)) }
+    ensures { Answers type_view named result (Adds (visible_of scope.entry) (map sets.constraint_view trees.now) (type_view ty)) }
 {
-    let low = integer(&range.low).map_err(ConsFault::Value)?;
-    let high = integer(&range.high).map_err(ConsFault::Value)?;
-    Ok(Cons {
-        site: range.site,
-        rule: Rule::Range(Limit::At(low), Limit::At(high)),
+    let mut constrained = ty;
+    for tree in trees {
+        constrained = with_constraint(alloc, scope, tree, constrained)?;
+    }
+    Ok(constrained)
+}
+
+/// The type with one constraint more.
+fn with_constraint(alloc: Global, scope: Scope, tree: &ConsTree, ty: Ty) -> Result<Ty, SchemaFault>
+    requires sound { IsTrue (is_sound (type_view ty)) }
+    ensures added { Answers type_view named result (AddsOne (visible_of scope.entry) (sets.constraint_view tree.now) (type_view ty)) }
+    ensures sound { IfOk result (λ t. IsTrue (is_sound (type_view t))) }
+{
+    let cons = constraint_written(alloc, scope, &ty, tree)?;
+    Ok(with(ty, cons)?)
+}
+
+/// The type with this constraint behind those that it has.
+fn with(ty: Ty, cons: Cons) -> Result<Ty, AllocError>
+    ensures { IfOk result (λ t. type_view t ≡ with_constraint (type_view ty) (constraint_view cons)) }
+{
+    let Ty {
+        tags,
+        kind,
+        cons: mut all,
+    } = ty;
+    all.push(cons)?;
+    Ok(whole(tags, kind, all))
+}
+
+/// The type of these tags, this kind and these constraints.
+pub fn whole(tags: Vec<Tag>, kind: Kind, cons: Vec<Cons>) -> Ty
+    ensures { type_view result ≡ type_of tags.items (kind_view kind) (constraints_of (map constraint_view cons.items)) }
+{
+    Ty { tags, kind, cons }
+}
+
+// ---- before OF
+
+/// The type that is written there, with the constraint before OF where there is one.
+fn constrained_before(
+    alloc: Global,
+    scope: Scope,
+    site: Site,
+    base: &BaseTree,
+    ty: Ty,
+) -> Result<Ty, SchemaFault>
+    ensures { Answers type_view named result (ConstrainsBefore (visible_of scope.entry) site (constraint_before (written.base_view base.now)) (type_view ty)) }
+{
+    match base {
+        BaseTree::Of(_, Some(before), _) => by_one(alloc, scope, site, before, ty),
+        _ => Ok(ty),
+    }
+}
+
+fn by_one(
+    alloc: Global,
+    scope: Scope,
+    site: Site,
+    before: &OfConsTree,
+    ty: Ty,
+) -> Result<Ty, SchemaFault>
+    ensures { Answers type_view named result (ConstrainsByOne (visible_of scope.entry) site (before_view before.now) before.now.size (type_view ty)) }
+{
+    if before.size {
+        return sized(alloc, scope, before, ty);
+    }
+    check_sound(alloc, site, &ty)?;
+    with_constraint(alloc, scope, &before.cons, ty)
+}
+
+/// SIZE and a constraint before OF: it is one of sizes, that is on INTEGER.
+fn sized(alloc: Global, scope: Scope, before: &OfConsTree, ty: Ty) -> Result<Ty, SchemaFault>
+    ensures { Answers type_view named result (Sizes (visible_of scope.entry) (before_view before.now) (type_view ty)) }
+{
+    let number = integer(alloc)?;
+    let size = constraint_written(alloc, scope, &number, &before.cons)?;
+    let cons = Cons {
+        site: before.site,
+        rule: Rule::Size(Box::new(alloc, size)?),
+    };
+    Ok(with(ty, cons)?)
+}
+
+/// INTEGER, of which a size is a value.
+fn integer(alloc: Global) -> Result<Ty, OutOfMemory>
+    ensures { IfOk result (λ t. type_view t ≡ type_of_size) }
+{
+    let mut tags = Vec::new(alloc);
+    tags.push(Tag {
+        class: Class::Universal,
+        number: 2,
+    })?;
+    Ok(Ty {
+        tags,
+        kind: Kind::Int(Vec::new(alloc)),
+        cons: Vec::new(alloc),
     })
 }

@@ -1,20 +1,20 @@
-//! Why texts make no schema.
-ghost use Rattle.std.specs.Prelude.{◌≡◌};
-ghost use Rattle.guard_schema.specs.declared.fault.SchemaFault.TheVariants.{OutOfMemory};
-ghost use Rattle.guard_schema.specs.declared.fault.FormFault.TheVariants as form;
+//! Why texts denote no schema.
+ghost use Rattle.std.specs.Prelude.{◌≡◌, option_map, None};
+ghost use Rattle.guard_schema.specs.Faults.{named, Lex, Syntax, Name, Tag, Cons, Value};
 
-use crate::constraints::ConsFault;
-use crate::names::NameFault;
-use crate::tagging::TagFault;
+use guard_constraints::ConsFault;
 use guard_lexer::LexFault;
-use guard_model::Site;
+use guard_model::{OutOfMemory, Site};
+use guard_names::NameFault;
 use guard_syntax::SyntaxFault;
 use guard_tagcheck::Clash;
+use guard_tagging::TagFault;
+use guard_values::ValueFault;
 use std::alloc::{AllocError, AllocFailed};
 use thiserror::Error;
 
-/// Why a text makes no schema. `Schema::build` says in which order faults are looked for. Each prints as the fault that it
-/// wraps; OutOfMemory may stand in place of any answer, and is never wrapped.
+/// Why texts denote no schema. `Schema::build` says in which order faults are looked for. A fault of a layer prints as itself. OutOfMemory may stand
+/// in place of any answer, and no other variant stands for it.
 #[derive(Debug, Drop, Error)]
 pub enum SchemaFault {
     #[error("{0}")]
@@ -30,15 +30,23 @@ pub enum SchemaFault {
     Clash(Site, Clash),
     #[error("{0}")]
     Cons(ConsFault),
+    #[error("{0}")]
+    Value(ValueFault),
+    /// The default or the assigned value that stands there is no member of its type.
+    #[error("S2 DefaultOutside {0}")]
+    DefaultOutside(Site),
+    /// With the definition of the name there, constraints, values and contained types are more than 100,000.
+    #[error("S3 TooLarge {0}")]
+    TooLarge(Site),
     #[error("OutOfMemory")]
     OutOfMemory,
 }
 
+// What a conversion gives is said by what the fault names, not case by case: want of memory of a layer is want of memory here.
 impl From<LexFault> for SchemaFault {
-    ghost use Rattle.std.specs.Prelude.{◌≡◌};
-    ghost use Rattle.guard_schema.specs.Faults.{lex_fault};
+    ghost use Rattle.guard_lexer.specs.Lexing.{fault_named};
 
-    ghost from_gives = { λ f e. e ≡ lex_fault f };
+    ghost from_gives = { λ f e. named e ≡ option_map Lex (fault_named f) };
 
     fn from(fault: LexFault) -> SchemaFault {
         match fault {
@@ -49,10 +57,9 @@ impl From<LexFault> for SchemaFault {
 }
 
 impl From<SyntaxFault> for SchemaFault {
-    ghost use Rattle.std.specs.Prelude.{◌≡◌};
-    ghost use Rattle.guard_schema.specs.Faults.{syntax_fault};
+    ghost use Rattle.guard_syntax.specs.Faults.{fault_of};
 
-    ghost from_gives = { λ f e. e ≡ syntax_fault f };
+    ghost from_gives = { λ f e. named e ≡ option_map Syntax (fault_of f) };
 
     fn from(fault: SyntaxFault) -> SchemaFault {
         match fault {
@@ -62,46 +69,68 @@ impl From<SyntaxFault> for SchemaFault {
     }
 }
 
-/// Why a tree has no basic tree.
-#[derive(Drop)]
-pub enum FormFault {
-    /// The first form that is left out, at its first token.
-    LeftOut(Site),
-    OutOfMemory,
-}
+impl From<NameFault> for SchemaFault {
+    ghost use Rattle.guard_names.specs.Faults as names;
 
-impl From<FormFault> for SchemaFault {
-    ghost use Rattle.std.specs.Prelude.{◌≡◌};
-    ghost use Rattle.guard_schema.specs.Faults.{form_fault};
+    ghost from_gives = { λ f e. named e ≡ option_map Name (names.named f) };
 
-    ghost from_gives = { λ f e. e ≡ form_fault f };
-
-    fn from(fault: FormFault) -> SchemaFault {
+    fn from(fault: NameFault) -> SchemaFault {
         match fault {
-            FormFault::LeftOut(site) => SchemaFault::Syntax(SyntaxFault::Unexpected(site)),
-            FormFault::OutOfMemory => SchemaFault::OutOfMemory,
+            NameFault::OutOfMemory => SchemaFault::OutOfMemory,
+            fault => SchemaFault::Name(fault),
         }
     }
 }
 
-impl From<AllocError> for FormFault {
-    ghost from_gives = { λ _ e. e ≡ form.OutOfMemory };
+impl From<TagFault> for SchemaFault {
+    ghost use Rattle.guard_tagging.specs.Named as tagging;
 
-    fn from(_e: AllocError) -> FormFault {
-        FormFault::OutOfMemory
+    ghost from_gives = { λ f e. named e ≡ option_map Tag (tagging.named f) };
+
+    fn from(fault: TagFault) -> SchemaFault {
+        match fault {
+            TagFault::OutOfMemory => SchemaFault::OutOfMemory,
+            fault => SchemaFault::Tag(fault),
+        }
     }
 }
 
-impl<T: Drop> From<AllocFailed<T>> for FormFault {
-    ghost from_gives = { λ _ e. e ≡ form.OutOfMemory };
+impl From<ConsFault> for SchemaFault {
+    ghost use Rattle.guard_constraints.specs.Views as constraints;
 
-    fn from(_e: AllocFailed<T>) -> FormFault {
-        FormFault::OutOfMemory
+    ghost from_gives = { λ f e. named e ≡ option_map Cons (constraints.named f) };
+
+    fn from(fault: ConsFault) -> SchemaFault {
+        match fault {
+            ConsFault::OutOfMemory => SchemaFault::OutOfMemory,
+            fault => SchemaFault::Cons(fault),
+        }
+    }
+}
+
+impl From<ValueFault> for SchemaFault {
+    ghost use Rattle.guard_values.specs.Views as values;
+
+    ghost from_gives = { λ f e. named e ≡ option_map Value (values.named f) };
+
+    fn from(fault: ValueFault) -> SchemaFault {
+        match fault {
+            ValueFault::OutOfMemory => SchemaFault::OutOfMemory,
+            fault => SchemaFault::Value(fault),
+        }
+    }
+}
+
+impl From<OutOfMemory> for SchemaFault {
+    ghost from_gives = { λ _ e. named e ≡ None };
+
+    fn from(_e: OutOfMemory) -> SchemaFault {
+        SchemaFault::OutOfMemory
     }
 }
 
 impl From<AllocError> for SchemaFault {
-    ghost from_gives = { λ _ e. e ≡ OutOfMemory };
+    ghost from_gives = { λ _ e. named e ≡ None };
 
     fn from(_e: AllocError) -> SchemaFault {
         SchemaFault::OutOfMemory
@@ -109,7 +138,7 @@ impl From<AllocError> for SchemaFault {
 }
 
 impl<T: Drop> From<AllocFailed<T>> for SchemaFault {
-    ghost from_gives = { λ _ e. e ≡ OutOfMemory };
+    ghost from_gives = { λ _ e. named e ≡ None };
 
     fn from(_e: AllocFailed<T>) -> SchemaFault {
         SchemaFault::OutOfMemory

@@ -1,33 +1,31 @@
-//! Schemas: from the text of a module to the types that it assigns, or to the first fault of the text.
+//! Schemas: from the texts of modules to sound types by their names, or to the first fault of the texts.
 //!
 //! | question | code | definition |
 //! |---|---|---|
-//! | Which texts make which schema, and why do others make none? | `schema.rt` (`Schema::build`) | `specs/Accepts.antt`, `specs/Schemas.antt`, `specs/SchemaView.antt` |
-//! | Which faults are there, and which comes first? | `fault.rt` | `specs/Faults.antt` |
-//! | Which forms of the grammar have a meaning? | `forms.rt`, before the assignments `header.rt`, in constraints `ranges.rt` | `specs/Forms.antt` |
-//! | What is left of a tree of such forms? | `basic.rt` | `specs/Basic.antt`, `specs/Views.antt` |
-//! | Which type does a form denote? | `build.rt`, its kind and tags `kinds.rt` | `specs/Types.antt` |
-//! | Which name stands twice? | `names.rt` | `specs/Names.antt` |
-//! | Which types are too large, too deep or too long? | `tagging.rt` | `specs/Tagging.antt` |
-//! | Which numbers in constraints are too large? | `constraints.rt`, `values.rt` | `specs/Constraints.antt` |
+//! | Which texts denote which schema, and which types has it? | `schema.rt` (`Schema`) | `specs/Accepts.antt`, `specs/Schemas.antt` |
+//! | Which faults are there, and which comes first? | `fault.rt` | `specs/Faults.antt`, `specs/Accepts.antt` (`Denotes`), `specs/Outcomes.antt` |
+//! | Which module is a text? | `texts.rt` | `specs/Texts.antt` |
+//! | What is known where a definition is built? | `progress.rt`, where something is written `scope.rt` | `specs/Known.antt`, `specs/Views.antt` |
+//! | What does a definition denote, each in turn? | `definitions.rt` | `specs/Building.antt` |
+//! | Which constraints and defaults are filled into a type? | `finishing.rt`, `constraints.rt` | `specs/Finishing.antt` |
+//! | What are a written value and a written constraint? | `readings.rt` | `specs/Readings.antt` |
+//! | How much may a schema hold? | `counting.rt` | `specs/Counting.antt` |
+//! | Is there one schema, or one fault? | `laws.rt` | `specs/Accepts.antt` |
 #![tactic(auto)]
 
-mod basic;
-mod build;
 mod constraints;
+mod counting;
+mod definitions;
 mod fault;
-mod forms;
-mod header;
-mod kinds;
+mod finishing;
+pub mod laws;
 mod names;
-mod ranges;
+mod naming;
+mod progress;
+mod readings;
 mod schema;
-mod tagging;
-mod values;
+mod scope;
+mod texts;
 
-pub use constraints::ConsFault;
 pub use fault::SchemaFault;
-pub use names::NameFault;
 pub use schema::Schema;
-pub use tagging::TagFault;
-pub use values::ValueFault;

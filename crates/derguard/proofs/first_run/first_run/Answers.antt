@@ -1,5 +1,5 @@
 use Rattle.guard_policy.specs.PolicyView.{policy_view}
-use Rattle.guard_schema.specs.SchemaView.{schema_view}
+use Rattle.guard_schema.specs.Views.{schema_view}
 use Rattle.std.proofs.lemmas.Result.{err_from_is_err_and}
 use Rattle.derguard.specs.FirstRun.{first_text}
 use Rattle.derguard.proofs.Refusals.{schema_refused}

@@ -1,0 +1,76 @@
+-- What definitions denote, each in turn behind all that it uses, or the first fault.
+use Rattle.std.specs.Prelude.{◌≡◌, ℕ, ◌+◌, List, [], ◌∷◌, Option, Some, None, Ok, Err, nat_le, slice_get}
+use Rattle.guard_model.specs.declared.site.Site.{Site}
+use Rattle.guard_model.specs.AbstractType.{AbstractType}
+use Rattle.guard_model.specs.AbstractValue.{AbstractValue}
+use Rattle.guard_tagcheck.specs.Distinct.{Distinct, IsClash}
+use Rattle.guard_syntax.specs.Trees.{WrittenValue, WrittenType, WrittenAssignment}
+use Rattle.guard_names.specs.Declarations.{Definition, definitions}
+use Rattle.guard_tagging.specs.Types.{Surroundings}
+use Rattle.guard_tagging.specs.Surroundings.{nodes_of_all}
+use Rattle.guard_tagging.specs.Tagged.{IsTagged, IsFirstFault}
+use Rattle.guard_tagging.specs.Named as tagging
+use Rattle.guard_constraints.specs.Visible.{Visible}
+use Rattle.guard_schema.specs.Outcomes.{Is, Passes, Then}
+use Rattle.guard_schema.specs.Faults.{AbstractFault, Tag, Clash, TooLarge, Outcome, IsNamed}
+use Rattle.guard_schema.specs.Known.{Built, Known, with_built, types_of, visible, around}
+use Rattle.guard_schema.specs.Readings.{IsSoundAt, ReadsMember}
+use Rattle.guard_schema.specs.Finishing.{Finishes, site_of_type}
+use Rattle.guard_schema.specs.Counting.{held_by, all_held, most_held}
+
+-- G1 to G12: its tags, its parts and their numbering, with so many types before it
+abbrev pub HasTags : Surroundings → ℕ → WrittenType → Outcome AbstractType → Type 0
+HasTags surroundings before tree (Ok bare) = IsTagged surroundings before tree bare
+HasTags surroundings before tree (Err (Tag f)) = IsNamed tagging.named f × IsFirstFault surroundings before tree f
+HasTags surroundings before tree (Err _) = ⊥
+
+-- S1: tags tell its components and alternatives apart
+abbrev pub TellsApart : Site → AbstractType → Outcome (Unit {0}) → Type 0
+TellsApart site t (Ok _) = Distinct t
+TellsApart site t (Err (Clash s clash)) = (s ≡ site) × IsClash t clash
+TellsApart site t (Err _) = ⊥
+
+-- the value of a value assignment; a type assignment has none
+abbrev pub Assigns : Visible → AbstractType → Option WrittenValue → Outcome (Option AbstractValue) → Type 0
+Assigns names t None = Is None
+Assigns names t (Some tree) = Then (ReadsMember names t tree) (λ v. Is (Some v))
+
+-- S3: what it holds, with so much held before it
+abbrev pub KeepsLimit : ℕ → Site → Built → Outcome (Unit {0}) → Type 0
+KeepsLimit before site b = Passes (nat_le (before + held_by b) most_held) (TooLarge site)
+
+-- a definition of this finished type: that is sound, its value, and that it holds little enough
+abbrev pub HasValue : Known → Visible → WrittenAssignment → AbstractType → Outcome Built → Type 0
+HasValue k names a t =
+    Then (IsSoundAt (site_of_type a.ty) t) (λ _.
+    Then (Assigns names t a.value) (λ v.
+    Then (KeepsLimit (all_held k.built) a.site (record { ty = t; value = v })) (λ _.
+    Is (record { ty = t; value = v }))))
+
+-- A definition, where this is known: its tags and parts, whether tags tell the parts apart, constraints and defaults, its value, the limit.
+abbrev pub Builds : Known → Definition → Outcome Built → Type 0
+Builds k d =
+    Then (HasTags (around k d) (nodes_of_all (types_of k.built)) d.assignment.ty) (λ bare.
+    Then (TellsApart d.assignment.site bare) (λ _.
+    Then (Finishes (visible k d.home.name) d.assignment.ty bare) (λ t.
+    HasValue k (visible k d.home.name) d.assignment t)))
+
+-- the tags and parts of the definition of this number, which tags tell apart; its name stands at the site
+abbrev pub TagsNumber : Known → ℕ → Outcome AbstractType → Type 0
+TagsNumber k number answer = (d : Definition) × (slice_get (definitions k.modules) number ≡ Some d) × HasTags (around k d) (nodes_of_all (types_of k.built)) d.assignment.ty answer
+
+abbrev pub TagsApart : Known → ℕ → Site → Outcome AbstractType → Type 0
+TagsApart k number site = Then (TagsNumber k number) (λ bare. Then (TellsApart site bare) (λ _. Is bare))
+
+-- a definition of these tags and parts
+abbrev pub Completes : Known → Visible → WrittenAssignment → AbstractType → Outcome Built → Type 0
+Completes k names a bare = Then (Finishes names a.ty bare) (λ t. HasValue k names a t)
+
+-- the definition of this number
+abbrev pub BuildsNumber : Known → ℕ → Outcome Built → Type 0
+BuildsNumber k number answer = (d : Definition) × (slice_get (definitions k.modules) number ≡ Some d) × Builds k d answer
+
+-- the definitions of these numbers, each where those before it are known
+abbrev pub BuildsAll : Known → List ℕ → Outcome (List Built) → Type 0
+BuildsAll k [] = Is k.built
+BuildsAll k (number ∷ numbers) = Then (BuildsNumber k number) (λ b. BuildsAll (with_built k b) numbers)

@@ -1,0 +1,44 @@
+-- What a written value and a written constraint are, or their first fault.
+use Rattle.std.specs.Prelude.{◌≡◌, Some, Ok, Err, IsTrue}
+use Rattle.guard_model.specs.declared.site.Site.{Site}
+use Rattle.guard_model.specs.AbstractType.{AbstractType, Constraint}
+use Rattle.guard_model.specs.AbstractValue.{AbstractValue}
+use Rattle.guard_der.specs.Sound.{is_sound}
+use Rattle.guard_eval.specs.Member.{is_member}
+use Rattle.guard_syntax.specs.Trees.{WrittenValue, value_node, WrittenConstraint}
+use Rattle.guard_values.specs.declared.fault.ValueFault.TheVariants as value_fault
+use Rattle.guard_values.specs.Denotes as values
+use Rattle.guard_values.specs.Faults.{Stands}
+use Rattle.guard_values.specs.Views as value_views
+use Rattle.guard_constraints.specs.Visible.{Visible}
+use Rattle.guard_constraints.specs.Denotes as constraints
+use Rattle.guard_constraints.specs.Faults.{fault_of}
+use Rattle.guard_constraints.specs.Views as constraint_views
+use Rattle.guard_schema.specs.Outcomes.{Is, Passes, Then}
+use Rattle.guard_schema.specs.Faults.{AbstractFault, Value, Cons, DefaultOutside, Outcome, IsNamed}
+
+-- The type that is written there is sound. Only a value can keep it from that: one that stands alone in a constraint of a type that is
+-- referred to, and whose encoding is longer than may be under the tags before the reference (V8).
+abbrev pub IsSoundAt : Site → AbstractType → Outcome (Unit {0}) → Type 0
+IsSoundAt site t = Passes (is_sound t) (Value (value_fault.TooLarge site))
+
+-- the value that a tree denotes, or a fault whose condition stands in it, where it denotes none
+abbrev pub ReadsValue : Visible → AbstractType → WrittenValue → Outcome AbstractValue → Type 0
+ReadsValue names t tree (Ok v) = values.Denotes names.values t tree v
+ReadsValue names t tree (Err (Value f)) = IsNamed value_views.named f × Stands names.values t tree f × ((v : AbstractValue) → ¬ (values.Denotes names.values t tree v))
+ReadsValue names t tree (Err _) = ⊥
+
+abbrev pub site_of : WrittenValue → Site
+site_of (value_node site form) = site
+
+-- what a DEFAULT says, or an assignment of a value: a member of its type (S2)
+abbrev pub ReadsMember : Visible → AbstractType → WrittenValue → Outcome AbstractValue → Type 0
+ReadsMember names t tree =
+    Then (ReadsValue names t tree) (λ v.
+    Then (Passes (is_member t v) (DefaultOutside (site_of tree))) (λ _. Is v))
+
+-- the constraint that a tree denotes on a type, or its first fault
+abbrev pub ReadsConstraint : Visible → AbstractType → WrittenConstraint → Outcome Constraint → Type 0
+ReadsConstraint names t tree (Ok c) = constraints.Denotes names t tree c
+ReadsConstraint names t tree (Err (Cons f)) = IsNamed constraint_views.named f × (fault_of names t tree ≡ Some f) × ((c : Constraint) → ¬ (constraints.Denotes names t tree c))
+ReadsConstraint names t tree (Err _) = ⊥

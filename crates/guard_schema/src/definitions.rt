@@ -1,0 +1,190 @@
+//! What definitions denote, each in turn.
+ghost use Rattle.std.specs.Prelude.{All, ◌≡◌, ◌+◌, ◌≤◌, length, map, nat_le, option_map, slice_get, Some, IsTrue, IfOk, IfSome};
+ghost use Rattle.guard_der.specs.Fits.{fits};
+ghost use Rattle.guard_der.specs.Sound.{is_sound};
+ghost use Rattle.guard_model.specs.TypeView.{type_view};
+ghost use Rattle.guard_model.specs.ValueView.{value_view};
+ghost use Rattle.guard_names.specs.Declarations.{definitions};
+ghost use Rattle.guard_names.specs.NamesView.{modules_of, order_of};
+ghost use Rattle.guard_syntax.specs.ModuleViews.{perhaps_value_view, assignment_view};
+ghost use Rattle.guard_tagcheck.specs.Limits.{is_within_limits};
+ghost use Rattle.guard_tagging.specs.Faults as tagging;
+ghost use Rattle.guard_tagging.specs.ScopeView.{known_list};
+ghost use Rattle.guard_tagging.specs.Spelled.{IsSpelledModule};
+ghost use Rattle.guard_tagging.specs.Surroundings.{known_from, is_automatic_definition};
+ghost use Rattle.guard_schema.specs.Building.{BuildsNumber, BuildsAll, TagsApart, Completes, HasValue, TellsApart, Assigns, KeepsLimit};
+ghost use Rattle.guard_schema.specs.Counting.{held_by, most_held};
+ghost use Rattle.guard_schema.specs.Faults.{named};
+ghost use Rattle.guard_schema.specs.Known.{none_known};
+ghost use Rattle.guard_schema.specs.Outcomes.{Answers};
+ghost use Rattle.guard_schema.specs.Pairs.{built_view};
+ghost use Rattle.guard_schema.specs.Views.{built_in, definition_view, known_view, visible_of};
+
+use crate::counting::{held_by, type_nodes};
+use crate::fault::SchemaFault;
+use crate::finishing::finished;
+use crate::progress::{Definition, Progress};
+use crate::readings::{check_sound, member_written};
+use crate::scope::Scope;
+use guard_model::{Site, Ty, Value};
+use guard_names::{Id, Names};
+use guard_syntax::{Assignment, ValueTree};
+use guard_tagging::{TaggedType, skeleton_behind};
+use std::alloc::Global;
+
+/// Constraints, values and contained types over all definitions.
+const MOST_HELD: usize = 100_000;
+
+/// What all definitions denote, in their order.
+pub fn all_built<'m, 'a>(
+    alloc: Global,
+    names: &'m Names<'m, 'a>,
+) -> Result<Progress<'m, 'a>, SchemaFault>
+    requires spelled { All IsSpelledModule (modules_of names.now) }
+    ensures built { Answers built_in named result (BuildsAll (none_known (modules_of names.now) (order_of names.now)) (order_of names.now)) }
+    ensures names { IfOk result (λ p. p.names.now ≡ names.now) }
+{
+    let order = names.order();
+    let mut progress = Progress::with_room(alloc, names, order.len())?;
+    for id in order {
+        let definition = built(alloc, &progress, *id)?;
+        let more = progress.with(definition)?;
+        progress = more;
+    }
+    Ok(progress)
+}
+
+/// What a definition denotes, where all that it uses is built: it is the next one in the order.
+fn built(alloc: Global, progress: &Progress, id: Id) -> Result<Definition, SchemaFault>
+    requires next { slice_get (order_of progress.now.names.now) (length progress.now.known.types.items) ≡ Some id }
+    requires spelled { All IsSpelledModule (modules_of progress.now.names.now) }
+    requires flags { known_list (map type_view progress.now.known.types.items) progress.now.automatic.items ≡ known_from (modules_of progress.now.names.now) (order_of progress.now.names.now) (map type_view progress.now.known.types.items) }
+    ensures built { Answers definition_view named result (BuildsNumber (known_view progress.now) id) }
+    ensures sound { IfOk result (λ d. IsTrue (is_sound (definition_view d).ty)) }
+    ensures fits { IfOk result (λ d. IfSome (definition_view d).value (λ v. IsTrue (fits (definition_view d).ty v))) }
+    ensures nodes { IfOk result (λ d. (d.nodes ≡ progress.now.nodes + tagging.nodes (definition_view d).ty) × (d.nodes ≤ tagging.most_nodes)) }
+    ensures held { IfOk result (λ d. (d.held ≡ progress.now.held + held_by (definition_view d)) × (d.held ≤ most_held)) }
+    ensures automatic { IfOk result (λ d. d.is_automatic ≡ is_automatic_definition (modules_of progress.now.names.now) (order_of progress.now.names.now) (known_from (modules_of progress.now.names.now) (order_of progress.now.names.now) (map type_view progress.now.known.types.items)) (slice_get (definitions (modules_of progress.now.names.now)) id)) }
+{
+    let Some((_, assignment)) = progress.names.home(id) else {
+        unreachable!()
+    };
+    let tagged = tagged_apart(alloc, progress, id, assignment.site)?;
+    completed(alloc, Scope { progress, id }, assignment, tagged)
+}
+
+/// The type of the definition with its tags and parts, which tags tell apart. Its name stands at the site.
+fn tagged_apart(
+    alloc: Global,
+    progress: &Progress,
+    id: Id,
+    site: Site,
+) -> Result<TaggedType, SchemaFault>
+    requires next { slice_get (order_of progress.now.names.now) (length progress.now.known.types.items) ≡ Some id }
+    requires spelled { All IsSpelledModule (modules_of progress.now.names.now) }
+    requires flags { known_list (map type_view progress.now.known.types.items) progress.now.automatic.items ≡ known_from (modules_of progress.now.names.now) (order_of progress.now.names.now) (map type_view progress.now.known.types.items) }
+    ensures tagged { Answers (λ s. type_view s.ty) named result (TagsApart (known_view progress.now) id site) }
+    ensures counted { IfOk result (λ s. progress.now.nodes + tagging.nodes (type_view s.ty) ≤ tagging.most_nodes) }
+    ensures automatic { IfOk result (λ s. s.is_automatic ≡ is_automatic_definition (modules_of progress.now.names.now) (order_of progress.now.names.now) (known_from (modules_of progress.now.names.now) (order_of progress.now.names.now) (map type_view progress.now.known.types.items)) (slice_get (definitions (modules_of progress.now.names.now)) id)) }
+{
+    let tagged = skeleton_behind(alloc, progress.names, &progress.done(), id)?;
+    check_tags(site, &tagged.ty)?;
+    Ok(tagged)
+}
+
+/// The definition of this type, which has no constraints and defaults yet. The types that it is made of are counted in the finished one.
+fn completed(
+    alloc: Global,
+    scope: Scope,
+    assignment: &Assignment,
+    tagged: TaggedType,
+) -> Result<Definition, SchemaFault>
+    requires counted { scope.progress.now.nodes + tagging.nodes (type_view tagged.ty) ≤ tagging.most_nodes }
+    ensures built { Answers definition_view named result (Completes (known_view scope.entry.progress.now) (visible_of scope.entry) (assignment_view assignment.now) (type_view tagged.ty)) }
+    ensures sound { IfOk result (λ d. IsTrue (is_sound (definition_view d).ty)) }
+    ensures fits { IfOk result (λ d. IfSome (definition_view d).value (λ v. IsTrue (fits (definition_view d).ty v))) }
+    ensures nodes { IfOk result (λ d. (d.nodes ≡ scope.entry.progress.now.nodes + tagging.nodes (definition_view d).ty) × (d.nodes ≤ tagging.most_nodes)) }
+    ensures held { IfOk result (λ d. (d.held ≡ scope.entry.progress.now.held + held_by (definition_view d)) × (d.held ≤ most_held)) }
+    ensures automatic { IfOk result (λ d. d.is_automatic ≡ tagged.is_automatic) }
+{
+    let TaggedType {
+        ty: bare,
+        is_automatic,
+        ..
+    } = tagged;
+    let ty = finished(alloc, scope, &assignment.ty, bare)?;
+    let found = valued(alloc, scope, assignment, &ty)?;
+    let nodes = type_nodes(scope.progress.nodes, &ty);
+    let (value, held) = found;
+    Ok(Definition {
+        ty,
+        value,
+        is_automatic,
+        nodes,
+        held,
+    })
+}
+
+/// Tags must tell components and alternatives apart.
+fn check_tags(site: Site, ty: &Ty) -> Result<(), SchemaFault>
+    requires { IsTrue (is_within_limits (type_view ty.now)) }
+    ensures { Answers (λ u. u) named result (TellsApart site (type_view ty.now)) }
+{
+    match guard_tagcheck::check(ty) {
+        Ok(()) => Ok(()),
+        Err(clash) => Err(SchemaFault::Clash(site, clash)),
+    }
+}
+
+/// The value of a definition of this finished type, and how much is held with it.
+fn valued(
+    alloc: Global,
+    scope: Scope,
+    assignment: &Assignment,
+    ty: &Ty,
+) -> Result<(Option<Value>, usize), SchemaFault>
+    ensures built { Answers (λ r. built_view ty.now r.0) named result (HasValue (known_view scope.entry.progress.now) (visible_of scope.entry) (assignment_view assignment.now) (type_view ty.now)) }
+    ensures sound { IfOk result (λ _. IsTrue (is_sound (type_view ty.now))) }
+    ensures fits { IfOk result (λ r. IfSome r.0 (λ v. IsTrue (fits (type_view ty.now) (value_view v)))) }
+    ensures held { IfOk result (λ r. (r.1 ≡ scope.entry.progress.now.held + held_by (built_view ty.now r.0)) × (r.1 ≤ most_held)) }
+{
+    check_sound(alloc, assignment.ty.site, ty)?;
+    let value = assigned(alloc, scope, ty, &assignment.value)?;
+    let held = within_limit(scope.progress.held, assignment.site, ty, &value)?;
+    Ok((value, held))
+}
+
+/// The value of a value assignment.
+fn assigned(
+    alloc: Global,
+    scope: Scope,
+    ty: &Ty,
+    value: &Option<ValueTree>,
+) -> Result<Option<Value>, SchemaFault>
+    requires sound { IsTrue (is_sound (type_view ty.now)) }
+    ensures read { Answers (option_map value_view) named result (Assigns (visible_of scope.entry) (type_view ty.now) (perhaps_value_view value.now)) }
+    ensures fits { IfOk result (λ o. IfSome o (λ v. IsTrue (fits (type_view ty.now) (value_view v)))) }
+{
+    match value {
+        None => Ok(None),
+        Some(tree) => Ok(Some(member_written(alloc, scope, ty, tree)?)),
+    }
+}
+
+/// How much is held with the definition of the name there, with so much before it. Its name is blamed for what is too much.
+fn within_limit(
+    before: usize,
+    site: Site,
+    ty: &Ty,
+    value: &Option<Value>,
+) -> Result<usize, SchemaFault>
+    requires { before ≤ most_held }
+    ensures limit { Answers (λ _. tt) named result (KeepsLimit before site (built_view ty.now value.now)) }
+    ensures held { IfOk result (λ held. (held ≡ before + held_by (built_view ty.now value.now)) × (held ≤ most_held)) }
+{
+    let held = held_by(before, ty, value);
+    if held > MOST_HELD {
+        return Err(SchemaFault::TooLarge(site));
+    }
+    Ok(held)
+}

@@ -1,0 +1,391 @@
+//! The constraints and defaults that are written in a type, filled into the type that its tags and parts make.
+//!
+//! The type is taken by value and handed back: nothing is copied. A list of components moves once into a list of its own length.
+ghost use Rattle.std.specs.Prelude.{◌≡◌, [], map, IfOk, option_map, string_bytes};
+ghost use Rattle.guard_model.specs.Components.{components_in};
+ghost use Rattle.guard_model.specs.Counts.{component_count};
+ghost use Rattle.guard_model.specs.TypeView as model;
+ghost use Rattle.guard_model.specs.TypeView.{type_view, kind_view, component_view, presence_view};
+ghost use Rattle.guard_syntax.specs.Trees.{components_of, alternatives_of};
+ghost use Rattle.guard_syntax.specs.TypeViews as written;
+ghost use Rattle.guard_tagging.specs.Types.{parts_of};
+ghost use Rattle.guard_schema.specs.Faults.{named};
+ghost use Rattle.guard_schema.specs.Finishing as finishing;
+ghost use Rattle.guard_schema.specs.Outcomes.{Answers, Is};
+ghost use Rattle.guard_schema.specs.Views.{visible_of, filling_view};
+
+use crate::constraints::{whole, with_written};
+use crate::fault::SchemaFault;
+use crate::readings::{check_sound, member_written};
+use crate::scope::Scope;
+use guard_model::{Comp, Kind, Presence, Site, Ty};
+use guard_syntax::{AlternativeTree, BaseTree, CompForm, CompTree, PresenceTree, TypeTree};
+use std::alloc::{AllocError, AllocFailed, Global};
+use std::collections::VecDeque;
+
+/// A list of components: those that are finished, and those that are left.
+#[derive(Drop)]
+pub struct Filling {
+    pub done: Vec<Comp>,
+    pub left: VecDeque<Comp>,
+}
+
+/// The finished type.
+#[cycle(finishing)]
+pub fn finished(alloc: Global, scope: Scope, tree: &TypeTree, bare: Ty) -> Result<Ty, SchemaFault>
+    ensures { Answers type_view named result (finishing.Finishes (visible_of scope.entry) (written.type_view tree.now) (type_view bare)) }
+{
+    let filled = with_parts(alloc, scope, &tree.base, bare)?;
+    with_written(alloc, scope, tree, filled)
+}
+
+/// The type with its parts finished.
+#[cycle(finishing)]
+fn with_parts(alloc: Global, scope: Scope, base: &BaseTree, bare: Ty) -> Result<Ty, SchemaFault>
+    ensures { Answers type_view named result (finishing.FinishesParts (visible_of scope.entry) (written.base_view base.now) (type_view bare)) }
+{
+    let Ty { tags, kind, cons } = bare;
+    let inside = finished_kind(alloc, scope, base, kind)?;
+    Ok(whole(tags, inside, cons))
+}
+
+#[cycle(finishing)]
+fn finished_kind(
+    alloc: Global,
+    scope: Scope,
+    base: &BaseTree,
+    kind: Kind,
+) -> Result<Kind, SchemaFault>
+    ensures { Answers kind_view named result (finishing.FinishesKind (visible_of scope.entry) (written.base_view base.now) (kind_view kind)) }
+{
+    match base {
+        BaseTree::Structure(_, trees) => list(alloc, scope, trees, kind),
+        BaseTree::Choice(trees) => choice(alloc, scope, trees, kind),
+        BaseTree::Of(_, _, element) => elements(alloc, scope, element, kind),
+        _ => Ok(kind),
+    }
+}
+
+/// A SEQUENCE or SET.
+#[cycle(finishing)]
+fn list(alloc: Global, scope: Scope, trees: &[CompTree], kind: Kind) -> Result<Kind, SchemaFault>
+    ensures { Answers kind_view named result (finishing.FinishesList (finishing.Fills (visible_of scope.entry) (components_of (map written.component_view trees.now))) (kind_view kind)) }
+{
+    match kind {
+        Kind::Sequence(bare) => Ok(Kind::Sequence(components(alloc, scope, trees, bare)?)),
+        Kind::Set(bare) => Ok(Kind::Set(components(alloc, scope, trees, bare)?)),
+        kind => Ok(kind),
+    }
+}
+
+#[cycle(finishing)]
+fn choice(
+    alloc: Global,
+    scope: Scope,
+    trees: &[AlternativeTree],
+    kind: Kind,
+) -> Result<Kind, SchemaFault>
+    ensures { Answers kind_view named result (finishing.FinishesChoice (finishing.FillsOthers (visible_of scope.entry) (alternatives_of (map written.alternative_view trees.now))) (kind_view kind)) }
+{
+    match kind {
+        Kind::Choice(bare) => Ok(Kind::Choice(alternatives(alloc, scope, trees, bare)?)),
+        kind => Ok(kind),
+    }
+}
+
+/// SEQUENCE OF or SET OF.
+#[cycle(finishing)]
+fn elements(alloc: Global, scope: Scope, tree: &TypeTree, kind: Kind) -> Result<Kind, SchemaFault>
+    ensures { Answers kind_view named result (finishing.FinishesElement (finishing.Finishes (visible_of scope.entry) (written.type_view tree.now)) (kind_view kind)) }
+{
+    match kind {
+        Kind::SequenceOf(bare) => Ok(Kind::SequenceOf(boxed(alloc, scope, tree, bare)?)),
+        Kind::SetOf(bare) => Ok(Kind::SetOf(boxed(alloc, scope, tree, bare)?)),
+        kind => Ok(kind),
+    }
+}
+
+#[cycle(finishing)]
+fn boxed(
+    alloc: Global,
+    scope: Scope,
+    tree: &TypeTree,
+    bare: Box<Ty>,
+) -> Result<Box<Ty>, SchemaFault>
+    ensures { Answers (λ b. type_view b.value) named result (finishing.Finishes (visible_of scope.entry) (written.type_view tree.now) (type_view bare.value)) }
+{
+    let element = finished(alloc, scope, tree, Box::into_inner(bare))?;
+    Ok(Box::new(alloc, element)?)
+}
+
+// ---- lists of components and alternatives
+
+#[cycle(finishing)]
+fn components(
+    alloc: Global,
+    scope: Scope,
+    trees: &[CompTree],
+    bare: Vec<Comp>,
+) -> Result<Vec<Comp>, SchemaFault>
+    ensures { Answers (λ v. map component_view v.items) named result (finishing.FillsAll (finishing.Fills (visible_of scope.entry) (components_of (map written.component_view trees.now))) (finishing.listed (model.components_of (map component_view bare.items)))) }
+{
+    let start = unfilled(alloc, bare)?;
+    let filling = fill(alloc, scope, trees, start)?;
+    Ok(filling.done)
+}
+
+#[cycle(finishing)]
+fn alternatives(
+    alloc: Global,
+    scope: Scope,
+    trees: &[AlternativeTree],
+    bare: Vec<Comp>,
+) -> Result<Vec<Comp>, SchemaFault>
+    ensures { Answers (λ v. map component_view v.items) named result (finishing.FillsAll (finishing.FillsOthers (visible_of scope.entry) (alternatives_of (map written.alternative_view trees.now))) (finishing.listed (model.components_of (map component_view bare.items)))) }
+{
+    let start = unfilled(alloc, bare)?;
+    let filling = fill_others(alloc, scope, trees, start)?;
+    Ok(filling.done)
+}
+
+/// None of these is finished yet.
+fn unfilled(alloc: Global, bare: Vec<Comp>) -> Result<Filling, AllocError>
+    ensures { IfOk result (λ f. filling_view f ≡ record { done = []; left = map component_view bare.items }) }
+{
+    Ok(Filling {
+        done: Vec::with_capacity(alloc, bare.len())?,
+        left: VecDeque::from_vec(bare),
+    })
+}
+
+/// Each of the components that are written, in turn.
+#[cycle(finishing)]
+fn fill(
+    alloc: Global,
+    scope: Scope,
+    trees: &[CompTree],
+    filling: Filling,
+) -> Result<Filling, SchemaFault>
+    ensures { Answers filling_view named result (finishing.Fills (visible_of scope.entry) (components_of (map written.component_view trees.now)) (filling_view filling)) }
+{
+    let mut so_far = filling;
+    for tree in trees {
+        so_far = fill_entry(alloc, scope, tree, so_far)?;
+    }
+    Ok(so_far)
+}
+
+#[cycle(finishing)]
+fn fill_entry(
+    alloc: Global,
+    scope: Scope,
+    tree: &CompTree,
+    filling: Filling,
+) -> Result<Filling, SchemaFault>
+    ensures { Answers filling_view named result (finishing.FillsEntry (visible_of scope.entry) (written.component_view tree.now).form (filling_view filling)) }
+{
+    match &tree.form {
+        CompForm::Named(_, ty, presence) => fill_next(alloc, scope, ty, presence, filling),
+        CompForm::ComponentsOf(ty) => fill_from(alloc, scope, &ty.base, filling),
+    }
+}
+
+/// The alternatives that are written, in turn.
+#[cycle(finishing)]
+fn fill_others(
+    alloc: Global,
+    scope: Scope,
+    trees: &[AlternativeTree],
+    filling: Filling,
+) -> Result<Filling, SchemaFault>
+    ensures { Answers filling_view named result (finishing.FillsOthers (visible_of scope.entry) (alternatives_of (map written.alternative_view trees.now)) (filling_view filling)) }
+{
+    let mut so_far = filling;
+    for tree in trees {
+        so_far = fill_alternative(alloc, scope, tree, so_far)?;
+    }
+    Ok(so_far)
+}
+
+#[cycle(finishing)]
+fn fill_alternative(
+    alloc: Global,
+    scope: Scope,
+    tree: &AlternativeTree,
+    filling: Filling,
+) -> Result<Filling, SchemaFault>
+    ensures { Answers filling_view named result (finishing.FillsAlternative (visible_of scope.entry) (written.alternative_view tree.now) (filling_view filling)) }
+{
+    fill_next(alloc, scope, &tree.ty, &PresenceTree::Mandatory, filling)
+}
+
+/// The next component or alternative.
+#[cycle(finishing)]
+fn fill_next(
+    alloc: Global,
+    scope: Scope,
+    tree: &TypeTree,
+    presence: &PresenceTree,
+    filling: Filling,
+) -> Result<Filling, SchemaFault>
+    ensures { Answers filling_view named result (finishing.FillsNext (visible_of scope.entry) (finishing.site_of_type (written.type_view tree.now)) (finishing.Finishes (visible_of scope.entry) (written.type_view tree.now)) (written.presence_view presence.now) (filling_view filling).done (filling_view filling).left) }
+{
+    let mut filling = filling;
+    match filling.left.pop_front() {
+        Some(bare) => fill_one(alloc, scope, tree, presence, bare, filling),
+        None => Ok(filling),
+    }
+}
+
+/// This one, behind those that are finished.
+#[cycle(finishing)]
+fn fill_one(
+    alloc: Global,
+    scope: Scope,
+    tree: &TypeTree,
+    presence: &PresenceTree,
+    bare: Comp,
+    filling: Filling,
+) -> Result<Filling, SchemaFault>
+    ensures { Answers filling_view named result (finishing.FillsOne (visible_of scope.entry) (finishing.site_of_type (written.type_view tree.now)) (finishing.Finishes (visible_of scope.entry) (written.type_view tree.now)) (written.presence_view presence.now) (component_view bare) (filling_view filling)) }
+{
+    let comp = finished_component(alloc, scope, tree, presence, bare)?;
+    Ok(with_done(comp, filling)?)
+}
+
+/// One more that is finished.
+fn with_done(comp: Comp, filling: Filling) -> Result<Filling, AllocFailed<Comp>>
+    ensures { IfOk result (λ f. filling_view f ≡ finishing.with_done (component_view comp) (filling_view filling)) }
+{
+    let Filling { mut done, left } = filling;
+    done.push(comp)?;
+    Ok(Filling { done, left })
+}
+
+/// Its type's constraints, and then its default.
+#[cycle(finishing)]
+fn finished_component(
+    alloc: Global,
+    scope: Scope,
+    tree: &TypeTree,
+    presence: &PresenceTree,
+    bare: Comp,
+) -> Result<Comp, SchemaFault>
+    ensures { Answers component_view named result (finishing.FinishesComponent (visible_of scope.entry) (finishing.site_of_type (written.type_view tree.now)) (finishing.Finishes (visible_of scope.entry) (written.type_view tree.now)) (written.presence_view presence.now) (component_view bare)) }
+{
+    let Comp { name, ty, .. } = bare;
+    let filled = finished(alloc, scope, tree, ty)?;
+    with_presence(alloc, scope, tree.site, presence, name, filled)
+}
+
+/// The component of this name and this type, which is written there.
+fn with_presence(
+    alloc: Global,
+    scope: Scope,
+    site: Site,
+    presence: &PresenceTree,
+    name: String,
+    ty: Ty,
+) -> Result<Comp, SchemaFault>
+    ensures { Answers component_view named result (finishing.FinishesPresence (visible_of scope.entry) site (written.presence_view presence.now) (string_bytes name) (type_view ty)) }
+{
+    let presence = presence_of(alloc, scope, site, &ty, presence)?;
+    Ok(Comp { name, ty, presence })
+}
+
+/// Whether a component may be left out, of the type that is written there.
+fn presence_of(
+    alloc: Global,
+    scope: Scope,
+    site: Site,
+    ty: &Ty,
+    presence: &PresenceTree,
+) -> Result<Presence, SchemaFault>
+    ensures { Answers presence_view named result (finishing.FillsPresence (visible_of scope.entry) site (type_view ty.now) (written.presence_view presence.now)) }
+{
+    match presence {
+        PresenceTree::Mandatory => Ok(Presence::Mandatory),
+        PresenceTree::Optional => Ok(Presence::Optional),
+        PresenceTree::Default(tree) => {
+            check_sound(alloc, site, ty)?;
+            Ok(Presence::Default(member_written(alloc, scope, ty, tree)?))
+        }
+    }
+}
+
+// ---- COMPONENTS OF
+
+/// What COMPONENTS OF takes in: a list that is written behind it is finished, one that is referred to is so already.
+#[cycle(finishing)]
+fn fill_from(
+    alloc: Global,
+    scope: Scope,
+    base: &BaseTree,
+    filling: Filling,
+) -> Result<Filling, SchemaFault>
+    ensures { Answers filling_view named result (finishing.FillsFromBase (visible_of scope.entry) (written.base_view base.now) (filling_view filling)) }
+{
+    match base {
+        BaseTree::Structure(_, trees) => fill(alloc, scope, trees, filling),
+        BaseTree::Reference(name) => passed(scope, name.name, filling),
+        _ => Ok(filling),
+    }
+}
+
+/// Those of the type of this name need nothing.
+fn passed(scope: Scope, name: &[u8], filling: Filling) -> Result<Filling, SchemaFault>
+    ensures { Answers filling_view named result (Is (finishing.moved (finishing.put_in ((visible_of scope.entry).types name.now)) (filling_view filling))) }
+{
+    let count = put_in(scope.type_named(name));
+    Ok(moved(filling, count)?)
+}
+
+/// How many components COMPONENTS OF the type puts in.
+fn put_in(ty: Option<&Ty>) -> usize
+    ensures { result ≡ finishing.put_in (option_map (λ t. type_view t.now) ty.entry) }
+{
+    match ty {
+        None => 0,
+        Some(ty) => part_count(ty),
+    }
+}
+
+fn part_count(ty: &Ty) -> usize
+    ensures { result ≡ component_count (parts_of (type_view ty.now)) }
+{
+    parts_in(&ty.kind).len()
+}
+
+/// The components of a SEQUENCE or SET, or the alternatives of a CHOICE.
+fn parts_in(kind: &Kind) -> &[Comp]
+    ensures { model.components_of (map component_view result.now) ≡ components_in (kind_view kind.now) }
+{
+    match kind {
+        Kind::Sequence(comps) => comps,
+        Kind::Set(comps) => comps,
+        Kind::Choice(comps) => comps,
+        _ => &[],
+    }
+}
+
+/// So many of those that are left need nothing.
+fn moved(filling: Filling, count: usize) -> Result<Filling, AllocFailed<Comp>>
+    ensures { IfOk result (λ f. filling_view f ≡ finishing.moved count (filling_view filling)) }
+{
+    let mut so_far = filling;
+    for _ in 0..count {
+        so_far = moved_one(so_far)?;
+    }
+    Ok(so_far)
+}
+
+/// The next one, where one is left.
+fn moved_one(filling: Filling) -> Result<Filling, AllocFailed<Comp>>
+    ensures { IfOk result (λ f. filling_view f ≡ finishing.moved 1 (filling_view filling)) }
+{
+    let mut filling = filling;
+    match filling.left.pop_front() {
+        Some(comp) => with_done(comp, filling),
+        None => Ok(filling),
+    }
+}

@@ -1,0 +1,121 @@
+//! What is built so far, definition by definition in their order.
+ghost use Rattle.std.specs.Prelude.{◌≡◌, ◌≤◌, ◌+◌, ◌++◌, ◌∷◌, [], All, IsTrue, IfSome, length, map, IfOk};
+ghost use Rattle.std.proofs.Props.{props};
+ghost use Rattle.guard_der.specs.Fits.{fits};
+ghost use Rattle.guard_der.specs.Sound.{is_sound};
+ghost use Rattle.guard_model.specs.TypeView.{type_view};
+ghost use Rattle.guard_tagging.specs.Surroundings.{nodes_of_all};
+ghost use Rattle.guard_tagging.specs.Faults as tagging;
+ghost use Rattle.guard_schema.specs.Counting.{all_held, held_by, most_held};
+ghost use Rattle.guard_schema.specs.Pairs.{paired};
+
+use guard_model::{Ty, Value};
+use guard_names::Names;
+use guard_tagging::Done;
+use guard_values::Known;
+use std::alloc::{AllocError, Global};
+
+/// What is built of one definition.
+#[derive(Drop)]
+pub struct Definition {
+    /// Its type, or the governor of its value.
+    pub ty: Ty,
+    /// The value of a value assignment.
+    pub value: Option<Value>,
+    /// Whether its list of components or alternatives was tagged automatically, where it has one.
+    pub is_automatic: bool,
+    /// The types that it and the definitions before it are made of.
+    pub nodes: usize,
+    /// The constraints, values and contained types that it and the definitions before it hold.
+    pub held: usize,
+}
+
+/// What is built of the first definitions in their order, side by side.
+#[derive(Drop)]
+pub struct Progress<'m, 'a> {
+    pub names: &'m Names<'m, 'a>,
+    pub known: Known,
+    pub automatic: Vec<bool>,
+    pub nodes: usize,
+    pub held: usize,
+    pub ghost even: { length known.values.items ≡ length known.types.items },
+    pub ghost counted: { nodes ≡ nodes_of_all (map type_view known.types.items) },
+    pub ghost few: { nodes ≤ tagging.most_nodes },
+    pub ghost holding: { held ≡ all_held (paired known.types.items known.values.items) },
+    pub ghost little: { held ≤ most_held },
+    pub ghost sound: { All (λ t. IsTrue (is_sound (type_view t))) known.types.items } by { Prim.hlevel props },
+    pub ghost fitting: { All (λ b. IfSome b.value (λ v. IsTrue (fits b.ty v))) (paired known.types.items known.values.items) } by { Prim.hlevel props },
+}
+
+impl<'m, 'a> Progress<'m, 'a> {
+    ghost use Rattle.guard_schema.specs.Views.{built_in, definition_view};
+
+    /// Nothing yet, with room for so many definitions.
+    pub fn with_room(
+        alloc: Global,
+        names: &'m Names<'m, 'a>,
+        count: usize,
+    ) -> Result<Progress<'m, 'a>, AllocError>
+        ensures names { IfOk result (λ p. p.names.now ≡ names.now) }
+        ensures none { IfOk result (λ p. (built_in p ≡ []) × (p.known.types.items ≡ []) × (p.automatic.items ≡ [])) }
+    {
+        let types = Vec::with_capacity(alloc, count)?;
+        let values = Vec::with_capacity(alloc, count)?;
+        let automatic = Vec::with_capacity(alloc, count)?;
+        Ok(Progress {
+            names,
+            known: Known { types, values },
+            automatic,
+            nodes: 0,
+            held: 0,
+        })
+    }
+
+    /// The same for tags.
+    pub fn done(&self) -> Done<'_>
+        ensures types { result.types.now ≡ self.now.known.types.items }
+        ensures flags { result.automatic.now ≡ self.now.automatic.items }
+        ensures nodes { result.nodes ≡ self.now.nodes }
+    {
+        Done {
+            types: &self.known.types,
+            automatic: &self.automatic,
+            nodes: self.nodes,
+        }
+    }
+
+    /// With the next definition in the order. It is taken and handed back by value, since one list longer than the others would break what holds of it.
+    pub fn with(self, definition: Definition) -> Result<Progress<'m, 'a>, AllocError>
+        requires sound { IsTrue (is_sound (definition_view definition).ty) }
+        requires fits { IfSome (definition_view definition).value (λ v. IsTrue (fits (definition_view definition).ty v)) }
+        requires nodes { definition.nodes ≡ self.nodes + tagging.nodes (definition_view definition).ty }
+        requires few { definition.nodes ≤ tagging.most_nodes }
+        requires held { definition.held ≡ self.held + held_by (definition_view definition) }
+        requires little { definition.held ≤ most_held }
+        ensures names { IfOk result (λ p. p.names.now ≡ self.entry.names.now) }
+        ensures types { IfOk result (λ p. p.known.types.items ≡ self.entry.known.types.items ++ definition.ty ∷ []) }
+        ensures flags { IfOk result (λ p. p.automatic.items ≡ self.entry.automatic.items ++ definition.is_automatic ∷ []) }
+        ensures more { IfOk result (λ p. built_in p ≡ built_in self.entry ++ definition_view definition ∷ []) }
+    {
+        let Progress {
+            names,
+            known,
+            mut automatic,
+            ..
+        } = self;
+        let Known {
+            mut types,
+            mut values,
+        } = known;
+        types.push(definition.ty)?;
+        values.push(definition.value)?;
+        automatic.push(definition.is_automatic)?;
+        Ok(Progress {
+            names,
+            known: Known { types, values },
+            automatic,
+            nodes: definition.nodes,
+            held: definition.held,
+        })
+    }
+}

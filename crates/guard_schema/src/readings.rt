@@ -1,0 +1,83 @@
+//! What a written value and a written constraint are.
+ghost use Rattle.std.specs.Prelude.{◌≡◌, IsTrue, IfOk};
+ghost use Rattle.guard_der.specs.Fits.{fits};
+ghost use Rattle.guard_der.specs.Sound.{is_sound, is_proper_constraint};
+ghost use Rattle.guard_model.specs.TypeView.{type_view, constraint_view};
+ghost use Rattle.guard_model.specs.ValueView.{value_view};
+ghost use Rattle.guard_syntax.specs.SetViews as sets;
+ghost use Rattle.guard_syntax.specs.Views as values;
+ghost use Rattle.guard_schema.specs.Faults.{named};
+ghost use Rattle.guard_schema.specs.Outcomes.{Answers};
+ghost use Rattle.guard_schema.specs.Readings.{IsSoundAt, ReadsValue, ReadsMember, ReadsConstraint};
+ghost use Rattle.guard_schema.specs.Views.{visible_of};
+
+use crate::fault::SchemaFault;
+use crate::scope::Scope;
+use guard_constraints::constraint;
+use guard_der::sound;
+use guard_eval::member;
+use guard_model::{Cons, Site, Ty, Value};
+use guard_syntax::{ConsTree, ValueTree};
+use guard_values::{ValueFault, value};
+use std::alloc::Global;
+
+/// The type that is written there must be sound. Only a single value in a constraint of a type that is referred to can keep it from that: under the tags
+/// before the reference its encoding may be longer than 1,048,576 octets (`ValueFault::TooLarge`).
+pub fn check_sound(alloc: Global, site: Site, ty: &Ty) -> Result<(), SchemaFault>
+    ensures answers { Answers (λ u. u) named result (IsSoundAt site (type_view ty.now)) }
+    ensures sound { IfOk result (λ _. IsTrue (is_sound (type_view ty.now))) }
+{
+    if sound(alloc, ty)? {
+        Ok(())
+    } else {
+        Err(SchemaFault::Value(ValueFault::TooLarge(site)))
+    }
+}
+
+/// The value that is written, a member of its type: of a DEFAULT, or of a value assignment.
+pub fn member_written(
+    alloc: Global,
+    scope: Scope,
+    ty: &Ty,
+    tree: &ValueTree,
+) -> Result<Value, SchemaFault>
+    requires sound { IsTrue (is_sound (type_view ty.now)) }
+    ensures read { Answers value_view named result (ReadsMember (visible_of scope.entry) (type_view ty.now) (values.value_view tree.now)) }
+    ensures fits { IfOk result (λ v. IsTrue (fits (type_view ty.now) (value_view v))) }
+{
+    let value = value_written(alloc, scope, ty, tree)?;
+    if member(ty, &value) {
+        Ok(value)
+    } else {
+        Err(SchemaFault::DefaultOutside(tree.site))
+    }
+}
+
+fn value_written(
+    alloc: Global,
+    scope: Scope,
+    ty: &Ty,
+    tree: &ValueTree,
+) -> Result<Value, SchemaFault>
+    requires sound { IsTrue (is_sound (type_view ty.now)) }
+    ensures read { Answers value_view named result (ReadsValue (visible_of scope.entry) (type_view ty.now) (values.value_view tree.now)) }
+    ensures fits { IfOk result (λ v. IsTrue (fits (type_view ty.now) (value_view v))) }
+{
+    let progress = scope.progress;
+    Ok(value(alloc, progress.names, &progress.known, scope.id, ty, tree)?)
+}
+
+/// The constraint that is written on a type.
+pub fn constraint_written(
+    alloc: Global,
+    scope: Scope,
+    ty: &Ty,
+    tree: &ConsTree,
+) -> Result<Cons, SchemaFault>
+    requires sound { IsTrue (is_sound (type_view ty.now)) }
+    ensures read { Answers constraint_view named result (ReadsConstraint (visible_of scope.entry) (type_view ty.now) (sets.constraint_view tree.now)) }
+    ensures proper { IfOk result (λ c. IsTrue (is_proper_constraint (constraint_view c) (type_view ty.now))) }
+{
+    let progress = scope.progress;
+    Ok(constraint(alloc, progress.names, &progress.known, scope.id, ty, tree)?)
+}

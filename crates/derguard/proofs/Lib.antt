@@ -1,6 +1,7 @@
 pub mod Lines
+pub mod Folders
 pub mod ReadingTexts
 pub mod Refusals
 pub mod Streams
 pub mod Meetings
-pub mod Deciding
+pub mod VerdictsFound

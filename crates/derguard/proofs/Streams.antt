@@ -1,5 +1,5 @@
 -- What comes of a stream under texts, said of the path at which they stand.
-use Rattle.std.proofs.Common.{◌≡◌, ◌⊎◌, ℕ, Bool, true, false, List, Option, Ok, Err, inl, inr, refl}
+use Rattle.std.proofs.Common.{◌≡◌, ◌⊎◌, ℕ, Bool, true, false, List, Option, Ok, Err, inl, inr, refl, subst}
 use Rattle.guard_frames.specs.declared.totals.Totals.{Totals}
 use Rattle.guard_frames.specs.declared.texts.TextsFault.{TextsFault}
 use Rattle.guard_frames.specs.declared.texts.TextsFault.TheVariants as texts
@@ -26,6 +26,15 @@ module _ (told : Told) (path : List ℕ) (input : Input) (out reports : Device) 
     stopped (texts.Schema f) (none, same) unasked = (inr (inl (text, modules, are, none)), (same.0, unasked tt), same.1, same.2)
     stopped (texts.Policy f) (none, same) unasked = (inr (inl (text, modules, are, none)), (same.0, unasked tt), same.1, same.2)
     stopped texts.OutOfMemory same unasked = (inr (inr refl), (same.0, unasked tt), same.1, same.2)
+
+    -- by texts that are these
+    pub stopped_at : (text₁ : List ℕ) (modules₁ : List (List ℕ)) → text₁ ≡ text → modules₁ ≡ modules → (f : TextsFault)
+        → RunsTexts modules₁ text₁ input.before input.after (Err f) out.before out.after reports.before reports.after
+        → (IsNoRun f → input.asked_after ≡ input.asked_before) → GuardsAt told path input out reports (Err (of_texts f))
+    stopped_at text₁ modules₁ same_text same_modules f runs =
+        stopped f
+        (subst (λ (t : List ℕ). RunsTexts modules t input.before input.after (Err f) out.before out.after reports.before reports.after) same_text
+        (subst (λ (ms : List (List ℕ)). RunsTexts ms text₁ input.before input.after (Err f) out.before out.after reports.before reports.after) same_modules runs))
 
   -- without the policy nothing is read
   pub unguarded : (f : Fault) → IsNoPolicyAt told path f → IsUnread input → IsUntouched out → IsUntouched reports → GuardsAt told path input out reports (Err f)

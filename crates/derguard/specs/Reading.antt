@@ -1,6 +1,6 @@
 -- The texts that a policy at a path needs, what they say, and why they can't be had or say nothing.
-use Rattle.std.specs.Prelude.{◌≡◌, ◌⊎◌, ℕ, List, [], ◌∷◌, ◌++◌, Option, Some, None, string_bytes, IsSomeAnd}
-use Rattle.std.specs.Path.{slash, rsplit_once}
+use Rattle.std.specs.Prelude.{◌≡◌, ◌⊎◌, ℕ, nat_eq, List, [], ◌∷◌, ◌++◌, string_bytes, IsSomeAnd, if◌then◌else◌}
+use Rattle.std.specs.List.{list_any}
 use Rattle.guard_policy.specs.Policies.{AbstractPolicy}
 use Rattle.guard_policy.specs.Loads.{ListsFiles, ListsNoFiles}
 use Rattle.guard_policy.specs.PolicyFaults as policy
@@ -10,14 +10,10 @@ use Rattle.derguard.specs.declared.fault.Fault.{Fault}
 use Rattle.derguard.specs.declared.fault.Fault.TheVariants.{CannotRead, Schema, Policy, NoMemory}
 use Rattle.derguard.specs.Files.{Told, HasText, HasNone}
 
--- what stands in front of the last `/` of a path, and that; nothing where there is none
-abbrev pub folder_before : Option (List ℕ × List ℕ) → List ℕ
-folder_before None = []
-folder_before (Some split) = split.0 ++ slash ∷ []
-
--- the path up to and with its last `/`
+-- the path up to and with its last `/`, which is 47; nothing where it has none
 abbrev pub folder : List ℕ → List ℕ
-folder path = folder_before (rsplit_once slash path)
+folder [] = []
+folder (o ∷ path) = if list_any (nat_eq 47) (o ∷ path) then o ∷ folder path else []
 
 module _ (told : Told) where
   -- the texts at these names in a folder, in order

@@ -1,6 +1,6 @@
 use Rattle.guard_policy.specs.PolicyView.{policy_view}
 use Rattle.derguard.specs.Answers.{answer_view}
-use Rattle.derguard.proofs.Deciding.{decided}
+use Rattle.derguard.proofs.VerdictsFound.{decided}
 use Rattle.derguard.proofs.deciding.decide.Goals as goal
 
 pub returns-clause-decided : goal.returns-clause-decided

@@ -148,7 +148,7 @@ fn text_of_run(
 }
 
 /// The octets as a text, or in hexadecimal where they are none.
-fn shown(alloc: Global, octets: &[u8]) -> Result<String, AllocError> {
+pub fn shown(alloc: Global, octets: &[u8]) -> Result<String, AllocError> {
     if let Ok(text) = str::from_utf8(octets) {
         return String::from_str(alloc, text);
     }

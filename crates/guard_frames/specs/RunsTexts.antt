@@ -5,7 +5,6 @@ use Rattle.guard_frames.specs.declared.totals.Totals.{Totals}
 use Rattle.guard_frames.specs.declared.texts.TextsFault.{TextsFault}
 use Rattle.guard_frames.specs.declared.texts.TextsFault.TheVariants.{Schema, Policy, Run, OutOfMemory}
 use Rattle.guard_frames.specs.OfPolicy.{decision_of}
-use Rattle.guard_frames.specs.Guarding.{Guards}
 use Rattle.guard_frames.specs.Runs.{Runs}
 use Rattle.guard_frames.specs.Texts.{SayPolicy, SayNone}
 
@@ -13,9 +12,16 @@ use Rattle.guard_frames.specs.Texts.{SayPolicy, SayNone}
 abbrev pub AreUntouched : Option (List ℕ) → Option (List ℕ) → Option (List ℕ) → Option (List ℕ) → Option (List ℕ) → Option (List ℕ) → Type 0
 AreUntouched s s₁ o o₁ r r₁ = (s₁ ≡ s) × (o₁ ≡ o) × (r₁ ≡ r)
 
+-- the answer is no fault of a run that began
+abbrev pub IsNoRun : TextsFault → Type 0
+IsNoRun (Schema f) = Unit {0}
+IsNoRun (Policy f) = Unit {0}
+IsNoRun (Run f) = ⊥
+IsNoRun OutOfMemory = Unit {0}
+
 -- What comes of the stream under this policy, by the answer: no fault but one of the run.
 abbrev pub RunsUnder : AbstractPolicy → Option (List ℕ) → Option (List ℕ) → Result Totals TextsFault → Option (List ℕ) → Option (List ℕ) → Option (List ℕ) → Option (List ℕ) → Type 0
-RunsUnder p s s₁ (Ok totals) o o₁ r r₁ = Guards p s s₁ o o₁ r r₁ totals
+RunsUnder p s s₁ (Ok totals) o o₁ r r₁ = Runs (decision_of p) s s₁ (Ok totals) o o₁ r r₁
 RunsUnder p s s₁ (Err (Run f)) o o₁ r r₁ = Runs (decision_of p) s s₁ (Err f) o o₁ r r₁
 RunsUnder p s s₁ (Err (Schema f)) o o₁ r r₁ = ⊥
 RunsUnder p s s₁ (Err (Policy f)) o o₁ r r₁ = ⊥

@@ -6,7 +6,7 @@ ghost use Rattle.guard_policy.specs.Policies.{AbstractPolicy};
 ghost use Rattle.guard_policy.specs.PolicyView.{policy_view};
 ghost use Rattle.guard_frames.specs.Runs.{ReadToLimit};
 ghost use Rattle.guard_frames.specs.Texts.{SayPolicy, SayNone, named, of_schema, of_policy, of_run};
-ghost use Rattle.guard_frames.specs.RunsTexts.{RunsTexts, RunsUnder};
+ghost use Rattle.guard_frames.specs.RunsTexts.{RunsTexts, RunsUnder, IsNoRun};
 ghost use Rattle.guard_frames.specs.declared.running.RunFault.TheVariants.{WriteFailed, ReadFailed};
 ghost use Rattle.guard_frames.specs.declared.texts.TextsFault.TheVariants.{Run};
 
@@ -101,7 +101,10 @@ pub fn run_texts<S: Source, O: Sink, R: Sink>(
     ensures only { (p : AbstractPolicy) → SayPolicy (map (λ t. t.now) modules.now) text.now p → RunsUnder p (S.tells source.old) (S.tells source.new) result
         (O.taken out.old) (O.taken out.new) (R.taken reports.old) (R.taken reports.new) }
     ensures failed { IsErrOf result (Run WriteFailed) → (O.has_failed out.new ≡ true) ⊎ (R.has_failed reports.new ≡ true) }
-    ensures unread { IsErrOf result (Run ReadFailed) → (S.has_failed source.new ≡ true) ⊎ ReadToLimit (S.tells source.old) (S.tells source.new) }
+    ensures unread { IsErrOf result (Run ReadFailed) → (S.has_failed source.new ≡ true)
+        ⊎ ReadToLimit (S.takes source.old) (S.takes source.new) (S.tells source.old) (S.tells source.new) }
+    // Where the texts say none, and where there is no memory to begin, nothing is done.
+    ensures untouched { IfErr result (λ f. IsNoRun f → (source.new ≡ source.old) × (out.new ≡ out.old) × (reports.new ≡ reports.old)) }
 {
     let policy = load_texts(alloc, modules, text)?;
     Ok(run(alloc, source, out, reports, &policy)?)

@@ -1,6 +1,6 @@
 -- What comes of a stream under a policy, said of the texts that say it.
 use Rattle.std.proofs.Common.{◌≡◌, ℕ, List, Option, Result, Ok, Err, refl, sym, subst}
-use Rattle.std.specs.Prelude.{IfOk}
+use Rattle.std.specs.Prelude.{IsErrOf}
 use Rattle.guard_model.specs.Answer.{Refuses}
 use Rattle.guard_model.proofs.Results.{same_Ok}
 use Rattle.guard_policy.specs.Policies.{AbstractPolicy}
@@ -10,10 +10,17 @@ use Rattle.guard_frames.specs.declared.running.RunFault.TheVariants as run_fault
 use Rattle.guard_frames.specs.declared.texts.TextsFault.{TextsFault}
 use Rattle.guard_frames.specs.declared.texts.TextsFault.TheVariants.{Schema, Policy, Run, OutOfMemory}
 use Rattle.guard_frames.specs.OfPolicy.{decision_of}
-use Rattle.guard_frames.specs.Guarding.{Guards}
 use Rattle.guard_frames.specs.Runs.{Runs}
 use Rattle.guard_frames.specs.Texts.{SayPolicy, SayNone, named, of_run}
 use Rattle.guard_frames.specs.RunsTexts.{AreUntouched, RunsUnder, RunsTexts}
+
+-- a fault of the source is one of the run
+pub read_failed : (f : RunFault) (X : Type 0) → (IsErrOf {T = Totals} (Err f) run_fault.ReadFailed → X) → IsErrOf {T = Totals} (Err (of_run f)) (Run run_fault.ReadFailed) → X
+read_failed run_fault.ReadFailed X h e = h refl
+read_failed run_fault.OutOfMemory X h e = absurd cc
+read_failed run_fault.FrameTooLong X h e = absurd cc
+read_failed run_fault.WriteFailed X h e = absurd cc
+read_failed run_fault.TornFrame X h e = absurd cc
 
 module _ (s s₁ o o₁ r r₁ : Option (List ℕ)) where
   -- ---- the run ended with a fault

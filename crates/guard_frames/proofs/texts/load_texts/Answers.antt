@@ -14,12 +14,12 @@ returns-clause-only c = λ p said.
 
 pub returns-in_err-types-clause-refused : goal.returns-in_err-types-clause-refused
 returns-in_err-types-clause-refused c =
-    let e = err_from_is_err_and c.from_residual-in_err-types.result c.from_residual-in_err-types.ensures.1 in
+    let e = err_from_is_err_and c.from_residual.result c.from_residual.ensures.1 in
     rw (e.1, e.2) (schema_refused (map (λ t. t.now) c.args.modules.now) c.args.text.now c.in_err-types.field-0.0 c.in_err-types.ensures.refused)
 
 pub returns-in_err-types-clause-only : goal.returns-in_err-types-clause-only
 returns-in_err-types-clause-only c =
-    let e = err_from_is_err_and c.from_residual-in_err-types.result c.from_residual-in_err-types.ensures.1 in
+    let e = err_from_is_err_and c.from_residual.result c.from_residual.ensures.1 in
     rw (e.1, e.2) (λ p said. schema_there said.0 p c.in_err-types.field-0.0 (c.in_err-types.ensures.only said.0 said.1))
 
 pub returns-in_err-load-clause-refused : goal.returns-in_err-load-clause-refused

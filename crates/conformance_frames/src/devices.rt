@@ -1,9 +1,10 @@
 //! Sources and sinks in memory that fail when they are told to. Their failures are what is tried: of the octets they tell nothing to the
 //! prover, and what was taken is compared when they run.
-ghost use Rattle.std.specs.Prelude.{None};
+ghost use Rattle.std.specs.Prelude.{None, ◌^◌, ◌-◌};
 
 use guard_frames::{Failed, Kept, Sink, Source};
 use std::alloc::Global;
+use std::io::{Error, ErrorKind, Read, Result as IoResult, Write};
 
 /// Gives octets in pieces, and fails after so many of them.
 #[derive(Clone, Copy)]
@@ -45,10 +46,17 @@ impl<'a> Pieces<'a> {
             is_broken: false,
         }
     }
+
+    /// The octets that it hasn't given.
+    pub fn left(&self) -> &'a [u8] {
+        self.rest
+    }
 }
 
 impl Source for Pieces<'_> {
     ghost tells = { λ _. None };
+
+    ghost takes = { λ _. 2 ^ 64 - 1 };
 
     ghost has_failed = { λ source. source.is_broken };
 
@@ -116,5 +124,31 @@ impl Sink for Room {
 
     fn failed(&self) -> bool {
         self.is_broken
+    }
+}
+
+/// A reader of std that gives octets and then an error where their end would be, and a writer that takes none.
+#[derive(Drop)]
+pub struct Breaking<'a>(pub &'a [u8]);
+
+impl Read for Breaking<'_> {
+    fn read(&mut self, buffer: &mut [u8]) -> IoResult<usize> {
+        if self.0.is_empty() {
+            return Err(Error::from(ErrorKind::Interrupted));
+        }
+        let count = buffer.len().min(self.0.len());
+        buffer[..count].copy_from_slice(&self.0[..count]);
+        self.0 = &self.0[count..];
+        Ok(count)
+    }
+}
+
+impl Write for Breaking<'_> {
+    fn write(&mut self, _octets: &[u8]) -> IoResult<usize> {
+        Err(Error::from(ErrorKind::Interrupted))
+    }
+
+    fn flush(&mut self) -> IoResult<()> {
+        Ok(())
     }
 }

@@ -3,7 +3,7 @@ ghost use Rattle.std.specs.Prelude.{◌≡◌, true, IfOk};
 ghost use Rattle.guard_frames.specs.Bodies.{body_view};
 ghost use Rattle.conformance_frames.specs.Signs.{begins_with, is_marked, denied_line};
 
-use guard_frames::{Body, Decide};
+use guard_frames::{Body, Decide, Ruling};
 use guard_model::OutOfMemory;
 use itoa::Buffer;
 use std::alloc::Global;
@@ -19,15 +19,14 @@ impl Decide for Signs {
       takes_memory = true;
     } };
 
-    fn passes(&self, _alloc: Global, body: &Body) -> Result<bool, OutOfMemory> {
+    fn decide(&self, alloc: Global, number: u64, body: &Body) -> Result<Ruling, OutOfMemory> {
         if begins_with(b'?', body.message) {
             return Err(OutOfMemory);
         }
-        Ok(begins_with(b'+', body.message))
-    }
-
-    fn line(&self, alloc: Global, number: u64, body: &Body) -> Result<Vec<u8>, OutOfMemory> {
-        denied_line(alloc, number, body)
+        if begins_with(b'+', body.message) {
+            return Ok(Ruling::Pass);
+        }
+        Ok(Ruling::Stop(denied_line(alloc, number, body)?))
     }
 }
 

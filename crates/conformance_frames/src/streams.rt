@@ -1,10 +1,12 @@
 //! What comes of streams of frames.
-use crate::devices::{Pieces, Room};
+use crate::devices::{Breaking, Pieces, Room};
 use crate::policies::{Written, policy_of};
 use crate::signs::Signs;
 use conformance_notation::read;
 use conformance_rows::{Layer, text_of};
-use guard_frames::{Kept, Link, LinkFault, RunFault, Through, Totals, decide_stream, run};
+use guard_frames::{
+    Kept, Link, LinkFault, RunFault, Sink, Source, Through, Totals, decide_stream, run,
+};
 use guard_policy::Policy;
 use std::alloc::{AllocError, Global};
 
@@ -17,18 +19,24 @@ enum Asked {
     Pieces(usize),
     /// The same of a run on each stream in two pieces, or where two of them differ.
     EachCut,
-    /// How many runs end with F2 where the sink for frames fails after so many octets as it should, for each number.
+    /// How many runs end with F2 where the sink for frames fails after so many octets, for each number, with what the first frames report.
     EachOut,
-    /// The same of the sink for reports.
+    /// The same where the sink for reports fails, with what the first frames put.
     EachReport,
     /// How many runs end with F5 where the source fails after so many octets, for each number, with the outputs of those octets.
     EachRead,
     /// How a run ends through a reader and writers of std, and what comes out.
     Through,
-    /// The same where the writer for frames has room for ten octets.
+    /// The same where the writer for frames has room for ten octets, and whether the source and the sinks have failed.
     Ten,
+    /// How a run ends, and how many octets it leaves unread.
+    Left,
+    /// How runs end where a reader or a writer of std answers an error.
+    Errors,
     /// What a link answers to the stream, to one more octet, and to its end, twice.
     Link,
+    /// What a sink in memory holds when it took the octets, and when it was emptied.
+    Kept,
 }
 
 #[derive(Drop)]
@@ -156,12 +164,48 @@ impl Ending {
         text_of_run(alloc, self.end, self.out.octets(), self.reports.octets())
     }
 
-    /// It ended with this fault, the sink for frames took these octets, and what was reported begins these reports.
+    /// It ended with this fault, and its sinks took these octets.
     fn took(&self, fault: RunFault, out: &[u8], reports: &[u8]) -> bool {
-        self.end == Err(fault)
-            && self.out.octets() == out
-            && reports.starts_with(self.reports.octets())
+        self.end == Err(fault) && self.out.octets() == out && self.reports.octets() == reports
     }
+}
+
+/// What comes of the first frames of the stream, for each number of them.
+fn of_first_frames(
+    alloc: Global,
+    by: Option<&Policy>,
+    stream: &[u8],
+) -> Result<Vec<Ending>, AllocError> {
+    let mut endings = Vec::new(alloc);
+    for end in 0..=stream.len() {
+        let ending = ran_amply(alloc, by, Pieces::whole(&stream[..end]));
+        if ending.end.is_ok() {
+            endings.push(ending)?;
+        }
+    }
+    Ok(endings)
+}
+
+/// What the frames report that put no more than so many octets, as many of them as there are.
+fn reports_before(endings: &[Ending], room: usize) -> &[u8] {
+    let mut reports: &[u8] = b"";
+    for ending in endings {
+        if ending.out.octets().len() <= room {
+            reports = ending.reports.octets();
+        }
+    }
+    reports
+}
+
+/// What the frames put that report no more than so many octets, as many of them as there are.
+fn out_before(endings: &[Ending], room: usize) -> &[u8] {
+    let mut out: &[u8] = b"";
+    for ending in endings {
+        if ending.reports.octets().len() <= room {
+            out = ending.out.octets();
+        }
+    }
+    out
 }
 
 /// The text of a run, or where a run on the stream in two pieces has another one.
@@ -178,11 +222,13 @@ fn each_cut(alloc: Global, by: Option<&Policy>, stream: &[u8]) -> Result<String,
 
 fn each_out(alloc: Global, by: Option<&Policy>, stream: &[u8]) -> Result<String, AllocError> {
     let whole = ran_amply(alloc, by, Pieces::whole(stream));
+    let first = of_first_frames(alloc, by, stream)?;
     let out = whole.out.octets();
     for room in 0..out.len() {
         let full = Room::new(alloc, usize::MAX, room);
         let cut = ran(alloc, by, Pieces::whole(stream), full, Room::ample(alloc));
-        if !cut.took(RunFault::WriteFailed, &out[..room], whole.reports.octets()) {
+        let reports = reports_before(&first, room);
+        if !cut.took(RunFault::WriteFailed, &out[..room], reports) {
             return format!(in alloc; "room for {room}: {}", cut.text(alloc)?);
         }
     }
@@ -191,16 +237,13 @@ fn each_out(alloc: Global, by: Option<&Policy>, stream: &[u8]) -> Result<String,
 
 fn each_report(alloc: Global, by: Option<&Policy>, stream: &[u8]) -> Result<String, AllocError> {
     let whole = ran_amply(alloc, by, Pieces::whole(stream));
+    let first = of_first_frames(alloc, by, stream)?;
     let reports = whole.reports.octets();
     for room in 0..reports.len() {
         let full = Room::new(alloc, usize::MAX, room);
         let cut = ran(alloc, by, Pieces::whole(stream), Room::ample(alloc), full);
-        let out = cut.out.octets();
-        let begins = whole.out.octets().starts_with(out);
-        if !begins
-            || !cut.took(RunFault::WriteFailed, out, &reports[..room])
-            || cut.reports.octets().len() != room
-        {
+        let out = out_before(&first, room);
+        if !cut.took(RunFault::WriteFailed, out, &reports[..room]) {
             return format!(in alloc; "room for {room}: {}", cut.text(alloc)?);
         }
     }
@@ -211,14 +254,11 @@ fn each_read(alloc: Global, by: Option<&Policy>, stream: &[u8]) -> Result<String
     for read in 0..=stream.len() {
         let cut = ran_amply(alloc, by, Pieces::failing(stream, read));
         let whole = ran_amply(alloc, by, Pieces::whole(&stream[..read]));
-        let same = cut.reports.octets() == whole.reports.octets();
-        if !same
-            || !cut.took(
-                RunFault::ReadFailed,
-                whole.out.octets(),
-                whole.reports.octets(),
-            )
-        {
+        if !cut.took(
+            RunFault::ReadFailed,
+            whole.out.octets(),
+            whole.reports.octets(),
+        ) {
             return format!(in alloc; "{read} octets: {}", cut.text(alloc)?);
         }
     }
@@ -233,13 +273,63 @@ fn through(alloc: Global, stream: &[u8]) -> Result<String, AllocError> {
     text_of_run(alloc, end, &out.inner, &reports.inner)
 }
 
+/// How a run ends, what the writer with room for ten octets holds, what is reported, and whether the source and the sinks have failed.
 fn into_ten(alloc: Global, stream: &[u8]) -> Result<String, AllocError> {
     let mut room = [b'.'; 10];
     let mut source = Through::new(stream);
     let mut out = Through::new(&mut room[..]);
     let mut reports = Kept::new(alloc);
     let end = decide_stream(alloc, &mut source, &mut out, &mut reports, &Signs);
-    text_of_run(alloc, end, &room, reports.octets())
+    let failed = (source.failed(), out.failed(), reports.failed());
+    let text = text_of_run(alloc, end, &room, reports.octets())?;
+    format!(in alloc; "{text} {} {} {}", failed.0, failed.1, failed.2)
+}
+
+/// How a run ends, and how many octets it leaves in its source.
+fn left(alloc: Global, stream: &[u8]) -> Result<String, AllocError> {
+    let mut source = Pieces::whole(stream);
+    let mut out = Room::ample(alloc);
+    let mut reports = Room::ample(alloc);
+    let end = decide_stream(alloc, &mut source, &mut out, &mut reports, &Signs);
+    let text = text_of_run(alloc, end, out.octets(), reports.octets())?;
+    format!(in alloc; "{text} {}", source.left().len())
+}
+
+/// How a run ends whose reader ends with an error, and one whose writer for frames answers one, and whether the source and the sinks have failed.
+fn errors(alloc: Global, stream: &[u8]) -> Result<String, AllocError> {
+    let mut source = Through::new(Breaking(stream));
+    let mut out = Through::new(Vec::new(alloc));
+    let mut reports = Kept::new(alloc);
+    let end = decide_stream(alloc, &mut source, &mut out, &mut reports, &Signs);
+    let failed = (source.failed(), out.failed(), reports.failed());
+    let read = text_of_run(alloc, end, &out.inner, reports.octets())?;
+    let read = format!(in alloc; "{read} {} {} {}", failed.0, failed.1, failed.2)?;
+    let mut source = Through::new(stream);
+    let mut out = Through::new(Breaking(b""));
+    let mut reports = Kept::new(alloc);
+    let end = decide_stream(alloc, &mut source, &mut out, &mut reports, &Signs);
+    let failed = (source.failed(), out.failed(), reports.failed());
+    let written = text_of_run(alloc, end, b"", reports.octets())?;
+    format!(in alloc; "{read}, {written} {} {} {}", failed.0, failed.1, failed.2)
+}
+
+/// What a sink in memory holds after the octets, after it was emptied, and after the octets twice; and whether it has failed.
+fn kept(alloc: Global, octets: &[u8]) -> Result<String, AllocError> {
+    let mut sink = Kept::new(alloc);
+    let mut text = String::new(alloc);
+    for times in 0..3 {
+        for _ in 0..times {
+            if sink.put(octets).is_err() {
+                return String::from_str(alloc, "failed");
+            }
+        }
+        let held = shown(alloc, sink.octets())?;
+        text.push_str(&format!(in alloc; "<{held}> ")?)?;
+        sink.empty();
+        let held = shown(alloc, sink.octets())?;
+        text.push_str(&format!(in alloc; "<{held}> ")?)?;
+    }
+    format!(in alloc; "{text}{}", sink.failed())
 }
 
 /// What a link answers to the stream, to one more octet, and to its end, twice.
@@ -291,11 +381,14 @@ impl Layer for Streams {
             Asked::Through => through(alloc, input),
             Asked::Ten => into_ten(alloc, input),
             Asked::Link => of_link(alloc, input),
+            Asked::Left => left(alloc, input),
+            Asked::Errors => errors(alloc, input),
+            Asked::Kept => kept(alloc, input),
         }
     }
 
     /// `@ask run`, `@ask each cut`, `@ask each out`, `@ask each report`, `@ask each read`, `@ask through`,
-    /// `@ask ten`, `@ask link`; `@pieces SIZE`. A policy decides the rows behind `@message` and `@rule`.
+    /// `@ask ten`, `@ask left`, `@ask errors`, `@ask link`, `@ask kept`; `@pieces SIZE`. A policy decides the rows behind `@message` and `@rule`.
     fn set(&mut self, alloc: Global, name: &str, text: &[u8]) -> Result<String, AllocError> {
         match name {
             "message" => return self.declare(alloc, text_of(text)),
@@ -311,6 +404,9 @@ impl Layer for Streams {
             ("ask", "through") => Asked::Through,
             ("ask", "ten") => Asked::Ten,
             ("ask", "link") => Asked::Link,
+            ("ask", "left") => Asked::Left,
+            ("ask", "errors") => Asked::Errors,
+            ("ask", "kept") => Asked::Kept,
             ("pieces", size) => match size.parse::<usize>() {
                 Ok(size) => Asked::Pieces(size),
                 Err(_) => return String::from_str(alloc, "no size"),

@@ -6,28 +6,27 @@ use Rattle.std.proofs.lemmas.List.{take-append-drop}
 use Rattle.std.proofs.lemmas.List.Elements.{All-append}
 use Rattle.std.proofs.lemmas.List.Folds.{concat-append}
 use Rattle.guard_frames.specs.Frames.{IsFrame, IsTooLong, ConsistsOf}
-use Rattle.guard_frames.specs.Cut.{IsRestCut}
+use Rattle.guard_frames.specs.Cut.{IsRest}
 use Rattle.guard_frames.specs.declared.totals.Totals.{Totals}
-use Rattle.guard_frames.specs.Totals.{later, next_number}
-use Rattle.guard_frames.specs.Outcomes.{Decision, Outcome, frames_of, IsOutcome}
-use Rattle.guard_frames.specs.Outputs.{octets_out, ReportLines, InPart, counted, BothTook, AfterFailure}
+use Rattle.guard_frames.specs.Totals.{later, next_number, counted}
+use Rattle.guard_frames.specs.Outcomes.{Decision, Outcome, frames_of}
+use Rattle.guard_frames.specs.Guarding.{text_out, AllAdd, InPart, BothTook, AfterFailure}
 use Rattle.guard_frames.specs.Decided.{Decided, IsDecided}
 use Rattle.guard_frames.specs.Feeding.{TakesAll, TakesUntilTooLong}
 use Rattle.guard_frames.specs.declared.deciding.Whole.{Whole}
-use Rattle.guard_frames.specs.declared.cut.Cut.TheVariants.{Unfinished, TooLong}
+use Rattle.guard_frames.specs.declared.cut.Rest.TheVariants.{Unfinished, TooLong}
 use Rattle.guard_frames.proofs.Appending.{Appends_trans, Appends_is}
 use Rattle.guard_frames.proofs.Counting.{later_later, counted-append}
-use Rattle.guard_frames.proofs.Went.{frames_of-append, octets_out-append}
-use Rattle.guard_frames.proofs.Progress.{ReportLines-append, number_after}
+use Rattle.guard_frames.proofs.Went.{frames_of-append, text_out-append}
+use Rattle.guard_frames.proofs.Progress.{AllAdd-append, number_after}
 
 pub BothTook-append : (d : Decision) (n : ℕ) (os ps : List Outcome) (o o₁ o₂ r r₁ r₂ : Option (List ℕ)) → n < 2 ^ 64 →
     BothTook d n os o o₁ r r₁ → BothTook d (later n (length os)) ps o₁ o₂ r₁ r₂ → BothTook d n (os ++ ps) o o₂ r r₂
 BothTook-append d n os ps o o₁ o₂ r r₁ r₂ fits x y = record {
-  right = All-append (IsOutcome d) os ps x.right y.right;
-  sent = Appends_is o o₂ (octets_out os ++ octets_out ps) (octets_out (os ++ ps)) (sym (octets_out-append os ps))
-      (Appends_trans o o₁ o₂ (octets_out os) (octets_out ps) x.sent y.sent);
+  sent = Appends_is o o₂ (text_out os ++ text_out ps) (text_out (os ++ ps)) (sym (text_out-append os ps))
+      (Appends_trans o o₁ o₂ (text_out os) (text_out ps) x.sent y.sent);
   text = x.text ++ y.text;
-  lines = ReportLines-append d n os ps x.text y.text fits x.lines y.lines;
+  lines = AllAdd-append d n os ps x.text y.text fits x.lines y.lines;
   reported = Appends_trans r r₁ r₂ x.text y.text x.reported y.reported;
 }
 
@@ -82,13 +81,13 @@ failure_after d n m s t os o o₁ o₂ r r₁ r₂ x y =
     let z = y.stopped in
     let k : ℕ = next_number n in
     let after = number_after d n m s os o o₁ r r₁ x in
-    let lines : ReportLines d (later k (length os)) z.first z.text = subst (λ (j : ℕ). ReportLines d j z.first z.text) after z.lines in
+    let lines : AllAdd d (later k (length os)) z.first z.text = subst (λ (j : ℕ). AllAdd d j z.first z.text) after z.lines in
     let number : later (next_number m) (length z.first) ≡ later k (length (os ++ z.first)) =
     ap (λ j. later j (length z.first)) after ∙ rw (length-append os z.first) (later_later k (length os) (length z.first)) in
     record {
-      sent = octets_out os ++ y.sent;
+      sent = text_out os ++ y.sent;
       reported = x.passed.text ++ y.reported;
-      out = Appends_trans o o₁ o₂ (octets_out os) y.sent x.passed.sent y.out;
+      out = Appends_trans o o₁ o₂ (text_out os) y.sent x.passed.sent y.out;
       reports = Appends_trans r r₁ r₂ x.passed.text y.reported x.passed.reported y.reports;
       stopped = record {
         first = os ++ z.first;
@@ -97,21 +96,20 @@ failure_after d n m s t os o o₁ o₂ r r₁ r₂ x y =
         begins = joined_after os z.first s t (z.next ++ z.more) x.whole z.begins;
         each = each_after os z.first x.each z.each;
         frame = z.frame;
-        right = All-append (IsOutcome d) os z.first x.passed.right z.right;
         text = x.passed.text ++ z.text;
-        lines = ReportLines-append d k os z.first x.passed.text z.text (omega arith) x.passed.lines lines;
+        lines = AllAdd-append d k os z.first x.passed.text z.text (omega arith) x.passed.lines lines;
         part = z.part;
         told = z.told;
         last = subst (λ (j : ℕ). InPart d j z.next z.part z.told) number z.last;
-        out = ap (λ a. octets_out os ++ a) z.out ∙ sym (append_assoc (octets_out os) (octets_out z.first) z.part)
-            ∙ ap (λ a. a ++ z.part) (sym (octets_out-append os z.first));
+        out = ap (λ a. text_out os ++ a) z.out ∙ sym (append_assoc (text_out os) (text_out z.first) z.part)
+            ∙ ap (λ a. a ++ z.part) (sym (text_out-append os z.first));
         reports = ap (λ a. x.passed.text ++ a) z.reports ∙ sym (append_assoc x.passed.text z.text z.told);
       };
     }
 
 -- what `decide` says, as a feed
 pub all_of : (d : Decision) (n : Totals) (end : ℕ) (totals : Totals) (s : List ℕ) (o o₁ r r₁ : Option (List ℕ)) →
-    (x : IsDecided d n s (record { end = end; totals = totals; next = Unfinished }) o o₁ r r₁) → TakesAll d n s totals (drop end s) o o₁ r r₁
+    (x : IsDecided d n s (record { end = end; totals = totals; rest = Unfinished }) o o₁ r r₁) → TakesAll d n s totals (drop end s) o o₁ r r₁
 all_of d n end totals s o o₁ r r₁ x = record {
   outcomes = x.outcomes;
   split = record { whole = sym (take-append-drop end s) ∙ ap (λ z. z ++ drop end s) x.decided.whole; each = x.decided.each; left = inl x.next };
@@ -121,9 +119,9 @@ all_of d n end totals s o o₁ r r₁ x = record {
 }
 
 pub too_long_of : (d : Decision) (n : Totals) (w : Whole) (s : List ℕ) (o o₁ r r₁ : Option (List ℕ)) →
-    IsDecided d n s w o o₁ r r₁ → w.next ≡ TooLong → TakesUntilTooLong d n s w.totals o o₁ r r₁
+    IsDecided d n s w o o₁ r r₁ → w.rest ≡ TooLong → TakesUntilTooLong d n s w.totals o o₁ r r₁
 too_long_of d n w s o o₁ r r₁ x is =
-    let long : IsTooLong (drop w.end s) = subst (IsRestCut (drop w.end s)) is x.next in
+    let long : IsTooLong (drop w.end s) = subst (IsRest (drop w.end s)) is x.next in
     record {
       outcomes = x.outcomes;
       rest = drop w.end s;

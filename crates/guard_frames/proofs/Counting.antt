@@ -1,41 +1,19 @@
 -- The totals, as frames are decided one after another.
-use Rattle.std.proofs.Common.{◌≡◌, ◌<◌, ℕ, ◌+◌, ◌^◌, suc, List, [], ◌∷◌, ◌++◌, ◌∙◌, ap, sym, refl, length, Bool, true, false, cond, arith}
+use Rattle.std.proofs.Common.{◌≡◌, ◌<◌, ℕ, ◌+◌, ◌^◌, List, [], ◌∷◌, ◌++◌, ◌∙◌, ap, refl, length, Bool, true, false, cond, arith}
 use Rattle.std.specs.List.{filter}
 use Rattle.guard_frames.specs.declared.totals.Totals.{Totals}
-use Rattle.guard_frames.specs.Totals.{later, no_frames, after_passing, after_denying, next_number}
+use Rattle.guard_frames.specs.Totals.{later, no_frames, after_passing, after_denying, next_number, counted_one, counted}
 use Rattle.guard_frames.specs.Outcomes.{Outcome}
-use Rattle.guard_frames.specs.Outputs.{counted_one, counted, Counts}
-use Rattle.guard_frames.proofs.Went.{all_went}
+use Rattle.guard_frames.specs.Guarding.{Counts}
 
 pub later_later : (n j k : ℕ) → later (later n j) k ≡ later n (j + k)
 later_later n j k = omega arith
-
-make : ℕ → ℕ → ℕ → Totals
-make x y z = record { frames = x; passed = y; denied = z }
-
-pub same_totals : (x y z u v w : ℕ) → x ≡ u → y ≡ v → z ≡ w →
-    ◌≡◌ {A = Totals} (record { frames = x; passed = y; denied = z }) (record { frames = u; passed = v; denied = w })
-unfolding make
-same_totals x y z u v w p q r = ap (λ a. make a y z) p ∙ ap (λ a. make u a z) q ∙ ap (λ a. make u v a) r
-
--- numbers of 64 bits stay when nothing is added
-pub fits_totals : (t : Totals) → t.frames < 2 ^ 64 → t.passed < 2 ^ 64 → after_passing t 0 ≡ t
-fits_totals t p q = same_totals (later t.frames 0) (later t.passed 0) t.denied t.frames t.passed t.denied (omega (arith, p)) (omega (arith, q)) refl
-
-passing_more : (t : Totals) (k : ℕ) → after_passing (after_passing t 1) k ≡ after_passing t (suc k)
-passing_more t k =
-    same_totals (later (later t.frames 1) k) (later (later t.passed 1) k) t.denied (later t.frames (suc k)) (later t.passed (suc k)) t.denied
-    (omega arith) (omega arith) refl
 
 pub counted-append : (t : Totals) (os ps : List Outcome) → counted (counted t os) ps ≡ counted t (os ++ ps)
 counted-append t [] ps = refl
 counted-append t (o ∷ os) ps = counted-append (counted_one t o) os ps
 
-pub counted_went : (t : Totals) (fs : List (List ℕ)) → after_passing t 0 ≡ t → counted t (all_went fs) ≡ after_passing t (length fs)
-counted_went t [] fits = sym fits
-counted_went t (f ∷ fs) fits = counted_went (after_passing t 1) fs (passing_more t 0) ∙ passing_more t (length fs)
-
-one_numbered : (b : Bool) (t : Totals) → next_number (cond b (after_passing t 1) (after_denying t)) ≡ later (next_number t) 1
+one_numbered : (b : Bool) (t : Totals) → next_number (cond b (after_passing t) (after_denying t)) ≡ later (next_number t) 1
 one_numbered true t = refl
 one_numbered false t = refl
 
@@ -53,8 +31,8 @@ frames_counted : (t : Totals) (os : List Outcome) → t.frames < 2 ^ 64 → (cou
 frames_counted t [] fits = omega (arith, fits)
 frames_counted t (o ∷ os) fits =
     let last : later (later t.frames 1) (length os) ≡ later t.frames (length (o ∷ os)) = omega arith in
-    elim o.went as (λ b. (counted (cond b (after_passing t 1) (after_denying t)) os).frames ≡ later t.frames (length (o ∷ os))) [
-      | true ↦ frames_counted (after_passing t 1) os (omega arith) ∙ last
+    elim o.went as (λ b. (counted (cond b (after_passing t) (after_denying t)) os).frames ≡ later t.frames (length (o ∷ os))) [
+      | true ↦ frames_counted (after_passing t) os (omega arith) ∙ last
       | false ↦ frames_counted (after_denying t) os (omega arith) ∙ last
     ]
 
@@ -64,8 +42,8 @@ passed_counted t [] fits = omega (arith, fits)
 passed_counted t (o ∷ os) fits =
     let going : List Outcome = filter (λ (o : Outcome). o.went) os in
     let last : later (later t.passed 1) (length going) ≡ later t.passed (length (o ∷ going)) = omega arith in
-    elim o.went as (λ b. (counted (cond b (after_passing t 1) (after_denying t)) os).passed ≡ later t.passed (length (cond b (o ∷ going) going))) [
-      | true ↦ passed_counted (after_passing t 1) os (omega arith) ∙ last
+    elim o.went as (λ b. (counted (cond b (after_passing t) (after_denying t)) os).passed ≡ later t.passed (length (cond b (o ∷ going) going))) [
+      | true ↦ passed_counted (after_passing t) os (omega arith) ∙ last
       | false ↦ passed_counted (after_denying t) os fits
     ]
 
@@ -75,9 +53,9 @@ denied_counted t [] fits = omega (arith, fits)
 denied_counted t (o ∷ os) fits =
     let staying : List Outcome = filter (λ (o : Outcome). cond o.went false true) os in
     let last : later (later t.denied 1) (length staying) ≡ later t.denied (length (o ∷ staying)) = omega arith in
-    elim o.went as (λ b. (counted (cond b (after_passing t 1) (after_denying t)) os).denied
+    elim o.went as (λ b. (counted (cond b (after_passing t) (after_denying t)) os).denied
     ≡ later t.denied (length (cond (cond b false true) (o ∷ staying) staying))) [
-      | true ↦ denied_counted (after_passing t 1) os fits
+      | true ↦ denied_counted (after_passing t) os fits
       | false ↦ denied_counted (after_denying t) os (omega arith) ∙ last
     ]
 

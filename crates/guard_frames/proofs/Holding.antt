@@ -1,25 +1,26 @@
 -- A frame that came in several pieces.
-use Rattle.std.proofs.Common.{◌≡◌, ◌≤◌, ◌⊎◌, ℕ, ◌+◌, List, [], ◌∷◌, ◌++◌, ◌∙◌, ap, sym, refl, subst, take, drop, length, false, inl, inr, append_assoc, length-append, length-take, arith}
+use Rattle.std.proofs.Common.{◌≡◌, ◌<◌, ◌≤◌, ◌⊎◌, ℕ, ◌+◌, List, [], ◌∷◌, ◌++◌, ◌∙◌, ap, sym, refl, subst, take, drop, length, false, inl, inr, append_assoc, length-append, length-take, arith}
 use Rattle.std.specs.Prelude.{Option, Result, Ok, Err}
 use Rattle.std.specs.List.{concat}
 use Rattle.std.proofs.lemmas.List.{take-append-drop, take_all, append-nil}
 use Rattle.guard_frames.specs.Frames.{stated_length, IsFrame, IsUnfinished, IsTooLong, ConsistsOf}
-use Rattle.guard_frames.specs.Cut.{IsRestCut}
-use Rattle.guard_frames.specs.declared.cut.Cut.{Cut}
-use Rattle.guard_frames.specs.declared.cut.Cut.TheVariants.{Frame, Unfinished, TooLong}
+use Rattle.guard_frames.specs.Cut.{IsRest}
+use Rattle.guard_frames.specs.declared.cut.Rest.{Rest}
+use Rattle.guard_frames.specs.declared.cut.Rest.TheVariants.{Unfinished, TooLong}
 use Rattle.guard_frames.specs.declared.deciding.Whole.{Whole}
 use Rattle.guard_frames.specs.declared.totals.Totals.{Totals}
 use Rattle.guard_frames.specs.Totals.{next_number}
 use Rattle.guard_frames.specs.Outcomes.{Decision, Outcome, frames_of}
-use Rattle.guard_frames.specs.Outputs.{AfterFailure}
+use Rattle.guard_frames.specs.Guarding.{AfterFailure}
 use Rattle.guard_frames.specs.Decided.{Decided, IsDecided}
 use Rattle.guard_frames.specs.Feeding.{TakesAll, TakesUntilTooLong, Feeds}
 use Rattle.guard_frames.specs.LinkView.{AbstractLink}
 use Rattle.guard_frames.specs.declared.link.LinkFault.{LinkFault}
 use Rattle.guard_frames.specs.declared.link.LinkFault.TheVariants.{FrameTooLong, WriteFailed, Closed, TornFrame}
-use Rattle.guard_frames.proofs.Elements.{All_none, All_more}
-use Rattle.guard_frames.proofs.Progress.{Decided_none}
-use Rattle.guard_frames.proofs.Readings.{stated_length-append, too_long-append, one_split}
+use Rattle.guard_frames.proofs.Elements.{All_none, All_first, All_more}
+use Rattle.guard_frames.proofs.Progress.{le_or_gt, Decided_none}
+use Rattle.guard_frames.proofs.Readings.{stated_length-append, too_long-append, any_cut, one_split}
+use Rattle.guard_frames.proofs.Splitting.{a_reading}
 use Rattle.guard_frames.proofs.Composing.{all_after, too_long_after, failure_after}
 
 -- the octets held now and what is left of the piece
@@ -75,8 +76,7 @@ is_whole now k within frame no_more =
     let most : length now ≤ stated_length now + 4 = no_more header allowed in
     record { header = header; allowed = allowed; exact = omega (arith, most, same, frame.exact, front, within) }
 
-left_of : (s : List ℕ) (cut : Cut) → IsRestCut s cut → IsUnfinished s ⊎ IsTooLong s
-left_of s (Frame n) h = absurd h
+left_of : (s : List ℕ) (rest : Rest) → IsRest s rest → IsUnfinished s ⊎ IsTooLong s
 left_of s Unfinished h = inl h
 left_of s TooLong h = inr h
 
@@ -87,7 +87,7 @@ decided_whole d n w s o o₁ r r₁ frame x =
     let front = x.decided.whole in
     let split : s ≡ take w.end s ++ drop w.end s = sym (take-append-drop w.end s) in
     let read : ConsistsOf s (frames_of x.outcomes) (drop w.end s) =
-    record { whole = split ∙ ap (λ z. z ++ drop w.end s) front; each = x.decided.each; left = left_of (drop w.end s) w.next x.next } in
+    record { whole = split ∙ ap (λ z. z ++ drop w.end s) front; each = x.decided.each; left = left_of (drop w.end s) w.rest x.next } in
     let alone : ConsistsOf s (s ∷ []) [] = record {
       whole = sym (append-nil (s ++ []) ∙ append-nil s);
       each = All_more IsFrame [] s (All_none IsFrame) frame;
@@ -112,7 +112,6 @@ failure_before d n s t o o₁ r r₁ x =
         begins = rw z.begins (simp append_assoc);
         each = z.each;
         frame = z.frame;
-        right = z.right;
         text = z.text;
         lines = z.lines;
         part = z.part;
@@ -160,3 +159,39 @@ fed_too_long d n s new result o o₁ r r₁ is h = (subst (λ (e : Result (Unit 
 pub fed_failed : (d : Decision) (n : Totals) (s : List ℕ) (new : AbstractLink) (result : Result (Unit {0}) LinkFault) (o o₁ r r₁ : Option (List ℕ)) →
     result ≡ Err WriteFailed → Feeds d n s new result o o₁ r r₁ → AfterFailure d (next_number n) s o o₁ r r₁
 fed_failed d n s new result o o₁ r r₁ is h = (subst (λ (e : Result (Unit {0}) LinkFault). Feeds d n s new e o o₁ r r₁) is h).0
+
+-- ---- a length that no frame may have is found as soon as it is there
+
+-- behind octets that are less than a frame, it begins within three octets of the piece
+soon : (held piece rest : List ℕ) (fs : List (List ℕ)) → IsUnfinished held → ConsistsOf (held ++ piece) fs rest → IsTooLong rest → length rest < 4 + length piece
+soon held piece rest [] h x long =
+    let whole : held ++ piece ≡ rest = x.whole in
+    let size : length held + length piece ≡ length rest = sym (length-append held piece) ∙ ap length whole in
+    elim (le_or_gt 4 (length held)) [
+      | inl four ↦
+          let same : stated_length rest ≡ stated_length held = ap stated_length (sym whole) ∙ stated_length-append held piece four in
+          absurd (omega (arith, same, h.allowed four, long.beyond))
+      | inr few ↦ omega (arith, size, few)
+    ]
+soon held piece rest (f ∷ fs) h x long =
+    let frame : IsFrame f = All_first IsFrame f fs x.each in
+    let whole : held ++ piece ≡ f ++ (concat fs ++ rest) = x.whole ∙ append_assoc f (concat fs) rest in
+    let size : length held + length piece ≡ length f + (length (concat fs) + length rest) =
+    sym (length-append held piece) ∙ ap length whole ∙ length-append f (concat fs ++ rest) ∙ ap (λ k. length f + k) (length-append (concat fs) rest) in
+    elim (le_or_gt 4 (length held)) [
+      | inl four ↦
+          let same : stated_length held ≡ stated_length f =
+          sym (stated_length-append held piece four) ∙ ap stated_length whole ∙ stated_length-append f (concat fs ++ rest) frame.header in
+          omega (arith, size, same, h.short four, frame.exact)
+      | inr few ↦ omega (arith, size, few, frame.header)
+    ]
+
+-- so it is after a piece more of a stream whose rest was less than a frame
+pub found_soon : (s held piece rest : List ℕ) (fs gs : List (List ℕ)) → ConsistsOf s fs held → IsUnfinished held →
+    ConsistsOf (s ++ piece) gs rest → IsTooLong rest → length rest < 4 + length piece
+found_soon s held piece rest fs gs x h y long =
+    let z = a_reading (held ++ piece) in
+    let same : rest ≡ z.1 = (one_split (s ++ piece) gs (fs ++ z.0) rest z.1 y (any_cut s piece fs z.0 held z.1 x z.2)).1 in
+    let there : IsTooLong z.1 = subst IsTooLong same long in
+    let at : length z.1 < 4 + length piece = soon held piece z.1 z.0 h z.2 there in
+    omega (arith, at, ap length same)

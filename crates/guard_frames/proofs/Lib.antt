@@ -17,5 +17,5 @@ pub mod Progress
 pub mod Steps
 pub mod Composing
 pub mod Holding
--- ---- under a policy
-pub mod UnderPolicy
+-- ---- laws
+pub mod WentExactly

@@ -1,15 +1,13 @@
 -- What it means that whole frames were decided.
-use Rattle.std.specs.Prelude.{◌≡◌, ◌≤◌, ◌⊎◌, ℕ, Option, List, length, take, drop}
+use Rattle.std.specs.Prelude.{◌≡◌, ◌≤◌, ℕ, Option, List, length, take, drop}
 use Rattle.std.specs.List.{concat, All}
-use Rattle.std.specs.Io.KnownBytes.{Appends}
 use Rattle.guard_frames.specs.declared.totals.Totals.{Totals}
 use Rattle.guard_frames.specs.declared.deciding.Whole.{Whole}
 use Rattle.guard_frames.specs.Frames.{IsFrame}
-use Rattle.guard_frames.specs.Totals.{next_number}
-use Rattle.guard_frames.specs.Outcomes.{Decision, Goes, Outcome, that_stayed, frames_of}
-use Rattle.guard_frames.specs.Outputs.{counted, ReportLine, BothTook}
-use Rattle.guard_frames.specs.Prefix.{IsProperPrefix}
-use Rattle.guard_frames.specs.Cut.{IsRestCut}
+use Rattle.guard_frames.specs.Totals.{next_number, counted}
+use Rattle.guard_frames.specs.Outcomes.{Decision, Goes, Outcome, frames_of}
+use Rattle.guard_frames.specs.Guarding.{BothTook}
+use Rattle.guard_frames.specs.Cut.{IsRest}
 
 -- these octets are whole frames, decided in order; n and m are the totals before and after them
 pub record Decided (d : Decision) (n m : Totals) (octets : List ℕ) (outcomes : List Outcome)
@@ -31,11 +29,4 @@ pub record IsDecided (d : Decision) (n : Totals) (octets : List ℕ) (whole : Wh
   pub within : whole.end ≤ length octets
   pub outcomes : List Outcome
   pub decided : Decided d n whole.totals (take whole.end octets) outcomes out_old out_new reports_old reports_new
-  pub next : IsRestCut (drop whole.end octets) whole.next
-
--- A sink failed: the frames that go are out in part and nothing is reported, or they are out and the line of the frame behind them in part.
-abbrev pub PutInPart : Decision → ℕ → List ℕ → List ℕ → Option (List ℕ) → Option (List ℕ) → Option (List ℕ) → Option (List ℕ) → Type 0
-PutInPart d n frames frame out_old out_new reports_old reports_new =
-    ((part : List ℕ) × IsProperPrefix part frames × Appends out_old out_new part × (reports_new ≡ reports_old))
-    ⊎ (Appends out_old out_new frames × (line : List ℕ) × (part : List ℕ) × ReportLine d n (that_stayed frame) line
-    × IsProperPrefix part line × Appends reports_old reports_new part)
+  pub next : IsRest (drop whole.end octets) whole.rest

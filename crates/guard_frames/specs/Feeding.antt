@@ -5,9 +5,9 @@ use Rattle.guard_frames.specs.LinkView.{AbstractLink}
 use Rattle.guard_frames.specs.declared.link.LinkFault.{LinkFault}
 use Rattle.guard_frames.specs.declared.link.LinkFault.TheVariants.{FrameTooLong, WriteFailed, Closed, TornFrame}
 use Rattle.guard_frames.specs.Frames.{IsUnfinished, IsTooLong, ConsistsOf}
-use Rattle.guard_frames.specs.Totals.{next_number}
+use Rattle.guard_frames.specs.Totals.{next_number, counted}
 use Rattle.guard_frames.specs.Outcomes.{Decision, Outcome, frames_of}
-use Rattle.guard_frames.specs.Outputs.{counted, BothTook, AfterFailure}
+use Rattle.guard_frames.specs.Guarding.{BothTook, AfterFailure}
 
 -- the frames of the stream were decided, and the rest is less than a frame; n and m are the totals before and after
 pub record TakesAll (d : Decision) (n : Totals) (stream : List ℕ) (m : Totals) (held : List ℕ) (out_old out_new reports_old reports_new : Option (List ℕ)) : Type 0 where

@@ -1,67 +1,102 @@
--- What a policy makes of a stream of frames.
-use Rattle.std.specs.Prelude.{◌≡◌, ◌⊎◌, ℕ, true, false, List, [], ◌∷◌, ◌++◌, drop, Option, codes, decimal}
-use Rattle.std.specs.List.{concat, All}
-use Rattle.std.specs.Io.KnownBytes.{Appends, Consumes, IsAtEnd}
-use Rattle.guard_policy.specs.Policies.{AbstractPolicy}
-use Rattle.guard_policy.specs.Verdicts.{AbstractVerdict}
-use Rattle.guard_policy.specs.Decisions.{Goes, IsReason}
-use Rattle.guard_report.specs.Lines.{line_octets}
+-- What comes of frames: what goes out, and what is reported. This is the page to read first.
+use Rattle.std.specs.Prelude.{◌≡◌, ◌⊎◌, ℕ, true, false, List, [], ◌∷◌, ◌++◌, drop, length, if◌then◌else◌, Option, codes, decimal}
+use Rattle.std.specs.List.{concat, All, filter}
+use Rattle.std.specs.Io.KnownBytes.{Appends}
 use Rattle.guard_frames.specs.declared.totals.Totals.{Totals}
 use Rattle.guard_frames.specs.Frames.{IsFrame}
 use Rattle.guard_frames.specs.Bodies.{AbstractBody, IsBody}
 use Rattle.guard_frames.specs.Totals.{later}
-use Rattle.guard_frames.specs.Outcomes.{Outcome, frames_of}
-use Rattle.guard_frames.specs.Outputs.{octets_out, Counts}
-use Rattle.guard_frames.specs.OfPolicy.{route_of}
+use Rattle.guard_frames.specs.Outcomes.{Decision, Goes, Outcome, that_stayed, frames_of}
+use Rattle.guard_frames.specs.Prefix.{IsProperPrefix}
 
--- It went out, and its message goes on its route: it encodes a value that some rule of the route allows and none denies.
-pub record WentOut (p : AbstractPolicy) (o : Outcome) (text : List ℕ) : Type 0 where
-  pub body : AbstractBody
-  pub is : IsBody (drop 4 o.frame) body
+-- ---- what goes out
+
+-- the frames that went, joined
+abbrev pub text_out : List Outcome → List ℕ
+text_out outcomes = concat (frames_of (filter (λ o. o.went) outcomes))
+
+-- ---- what is reported: a frame and the line that it adds, in four cases
+
+-- It went out: it is three names and a message, and passes. Nothing is said of it.
+pub record WentOut (d : Decision) (o : Outcome) (line : List ℕ) : Type 0 where
   pub went : o.went ≡ true
-  pub goes : Goes p (route_of body) body.message
-  pub line : text ≡ []
+  pub goes : Goes d o.frame
+  pub text : line ≡ []
 
--- It stayed, and its message doesn't go: its line has the reason.
-pub record StayedBack (p : AbstractPolicy) (n : ℕ) (o : Outcome) (text : List ℕ) : Type 0 where
+-- It stayed, since it doesn't pass: its line has the reason.
+pub record StayedBack (d : Decision) (n : ℕ) (o : Outcome) (line : List ℕ) : Type 0 where
+  pub stayed : o.went ≡ false
   pub body : AbstractBody
   pub is : IsBody (drop 4 o.frame) body
-  pub stayed : o.went ≡ false
-  pub stops : Goes p (route_of body) body.message → ⊥
-  pub reason : AbstractVerdict
-  pub stands : IsReason p (route_of body) body.message reason
-  pub line : text ≡ line_octets p (route_of body) n reason
+  pub stops : d.Passes body → ⊥
+  pub text : d.Reports n body line
 
 -- It stayed, since it isn't three names and a message.
-pub record HadNoHeader (n : ℕ) (o : Outcome) (text : List ℕ) : Type 0 where
-  pub none : (body : AbstractBody) → IsBody (drop 4 o.frame) body → ⊥
+pub record HadNoHeader (n : ℕ) (o : Outcome) (line : List ℕ) : Type 0 where
   pub stayed : o.went ≡ false
-  pub line : text ≡ decimal n ++ codes " bad-header\n"
+  pub none : (body : AbstractBody) → IsBody (drop 4 o.frame) body → ⊥
+  pub text : line ≡ decimal n ++ codes " bad-header\n"
 
--- It stayed, since there was no memory to decide it or to write its line.
-pub record HadNoMemory (n : ℕ) (o : Outcome) (text : List ℕ) : Type 0 where
+-- It stayed, since there was no memory to write its line; or to decide it, where that takes memory.
+pub record HadNoMemory (d : Decision) (n : ℕ) (o : Outcome) (line : List ℕ) : Type 0 where
+  pub stayed : o.went ≡ false
   pub body : AbstractBody
   pub is : IsBody (drop 4 o.frame) body
-  pub stayed : o.went ≡ false
-  pub line : text ≡ decimal n ++ codes " no-memory\n"
+  pub wanting : (d.Passes body → ⊥) ⊎ (d.takes_memory ≡ true)
+  pub text : line ≡ decimal n ++ codes " no-memory\n"
 
--- what the frame of number n adds to the reports
-abbrev pub Adds : AbstractPolicy → ℕ → Outcome → List ℕ → Type 0
-Adds p n o line = WentOut p o line ⊎ StayedBack p n o line ⊎ HadNoHeader n o line ⊎ HadNoMemory n o line
+-- the line that the frame of number n adds to the reports
+abbrev pub Adds : Decision → ℕ → Outcome → List ℕ → Type 0
+Adds d n o line = WentOut d o line ⊎ StayedBack d n o line ⊎ HadNoHeader n o line ⊎ HadNoMemory d n o line
 
--- what frames numbered on from n add, in order
-abbrev pub AllAdd : AbstractPolicy → ℕ → List Outcome → List ℕ → Type 0
-AllAdd p n [] text = text ≡ []
-AllAdd p n (o ∷ outcomes) text = (line : List ℕ) × (lines : List ℕ) × (text ≡ line ++ lines) × Adds p n o line × AllAdd p (later n 1) outcomes lines
+-- the lines that frames numbered on from n add, in order
+abbrev pub AllAdd : Decision → ℕ → List Outcome → List ℕ → Type 0
+AllAdd d n [] text = text ≡ []
+AllAdd d n (o ∷ outcomes) text = (line : List ℕ) × (lines : List ℕ) × (text ≡ line ++ lines) × Adds d n o line × AllAdd d (later n 1) outcomes lines
 
--- The source gave a stream of frames and its end. What went out is those that went, joined. What is reported is what they add, numbered from 1.
-pub record Guards (p : AbstractPolicy) (source_old source_new out_old out_new reports_old reports_new : Option (List ℕ)) (totals : Totals) : Type 0 where
-  pub outcomes : List Outcome
-  pub frames : All IsFrame (frames_of outcomes)
-  pub read : Consumes source_old source_new (concat (frames_of outcomes))
-  pub end : IsAtEnd source_new
-  pub sent : Appends out_old out_new (octets_out outcomes)
+-- ---- both sinks
+
+-- they took what these frames, numbered on from n, add
+pub record BothTook (d : Decision) (n : ℕ) (outcomes : List Outcome) (out_old out_new reports_old reports_new : Option (List ℕ)) : Type 0 where
+  pub sent : Appends out_old out_new (text_out outcomes)
   pub text : List ℕ
-  pub lines : AllAdd p 1 outcomes text
+  pub lines : AllAdd d n outcomes text
   pub reported : Appends reports_old reports_new text
-  pub counts : Counts outcomes totals
+
+-- how many frames there are, how many of them went, and how many stayed
+pub record Counts (outcomes : List Outcome) (t : Totals) : Type 0 where
+  pub all : t.frames ≡ later 0 (length outcomes)
+  pub went : t.passed ≡ later 0 (length (filter (λ o. o.went) outcomes))
+  pub stayed : t.denied ≡ later 0 (length (filter (λ o. if o.went then false else true) outcomes))
+
+-- ---- where a sink failed
+
+-- What the next frame, of number n, adds in part: a proper prefix of itself, where it goes, or of its line, where it stays.
+abbrev pub InPart : Decision → ℕ → List ℕ → List ℕ → List ℕ → Type 0
+InPart d n next sent reported =
+    (Goes d next × IsProperPrefix sent next × (reported ≡ []))
+    ⊎ ((line : List ℕ) × Adds d n (that_stayed next) line × IsProperPrefix reported line × (sent ≡ []))
+
+-- The stream begins with the first frames, numbered on from n, and then the next one. The first ones are out and reported, and the next one in part.
+pub record BreaksOff (d : Decision) (n : ℕ) (stream sent reported : List ℕ) : Type 0 where
+  pub first : List Outcome
+  pub next : List ℕ
+  pub more : List ℕ
+  pub begins : stream ≡ concat (frames_of first) ++ (next ++ more)
+  pub each : All IsFrame (frames_of first)
+  pub frame : IsFrame next
+  pub text : List ℕ
+  pub lines : AllAdd d n first text
+  pub part : List ℕ
+  pub told : List ℕ
+  pub last : InPart d (later n (length first)) next part told
+  pub out : sent ≡ text_out first ++ part
+  pub reports : reported ≡ text ++ told
+
+-- both sinks took what the stream's frames add up to a failure
+pub record AfterFailure (d : Decision) (n : ℕ) (stream : List ℕ) (out_old out_new reports_old reports_new : Option (List ℕ)) : Type 0 where
+  pub sent : List ℕ
+  pub reported : List ℕ
+  pub out : Appends out_old out_new sent
+  pub reports : Appends reports_old reports_new reported
+  pub stopped : BreaksOff d n stream sent reported

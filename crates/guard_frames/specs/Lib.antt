@@ -3,10 +3,10 @@ pub mod Frames
 pub mod Bodies
 pub mod Rows
 -- ---- what comes of frames
+pub mod Outcomes
 pub mod Totals
 pub mod Prefix
-pub mod Outcomes
-pub mod Outputs
+pub mod Guarding
 -- ---- what the calls do
 pub mod ThroughView
 pub mod KeptView
@@ -15,8 +15,8 @@ pub mod Feeding
 pub mod Runs
 -- ---- under a policy
 pub mod OfPolicy
-pub mod Guarding
 -- ---- what the parts of the code do
 pub mod Cut
+pub mod Rulings
 pub mod SideBySide
 pub mod Decided

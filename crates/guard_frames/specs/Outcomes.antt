@@ -1,5 +1,5 @@
 -- What becomes of each frame of a stream.
-use Rattle.std.specs.Prelude.{◌≡◌, ◌⊎◌, ℕ, Bool, true, false, List, drop, map}
+use Rattle.std.specs.Prelude.{ℕ, Bool, true, false, List, [], ◌∷◌, drop, map}
 use Rattle.guard_frames.specs.Bodies.{AbstractBody, IsBody}
 
 -- What is decided of a body: whether it passes, and the report line, with the frame's number, of one that doesn't. Deciding may take memory.
@@ -25,15 +25,9 @@ that_went f = record { frame = f; went = true }
 abbrev pub that_stayed : List ℕ → Outcome
 that_stayed f = record { frame = f; went = false }
 
+abbrev pub all_went : List (List ℕ) → List Outcome
+all_went [] = []
+all_went (f ∷ fs) = that_went f ∷ all_went fs
+
 abbrev pub frames_of : List Outcome → List (List ℕ)
 frames_of outcomes = map (λ o. o.frame) outcomes
-
--- A frame that went is one that goes. One that goes stayed only where deciding takes memory: there was none then.
-pub record IsOutcome (d : Decision) (o : Outcome) : Type 0 where
-  pub went : o.went ≡ true → Goes d o.frame
-  pub stayed : o.went ≡ false → (Goes d o.frame → ⊥) ⊎ (d.takes_memory ≡ true)
-
--- why a frame stays: it doesn't go, or it is undecided, since there was no memory to decide it
-pub record Stays (d : Decision) (undecided : Bool) (frame : List ℕ) : Type 0 where
-  pub decided : undecided ≡ false → Goes d frame → ⊥
-  pub wanting : undecided ≡ true → d.takes_memory ≡ true

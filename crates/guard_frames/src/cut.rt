@@ -7,15 +7,22 @@ ghost use Rattle.guard_frames.specs.Cut.{IsCut};
 /// The longest body that a frame may have.
 pub const LONGEST_BODY: usize = 1048576;
 
+/// Octets that begin with no whole frame.
+#[derive(Clone, Copy, Debug, PartialEq, Eq)]
+pub enum Rest {
+    /// less than a frame
+    Unfinished,
+    /// a length that no frame may have
+    TooLong,
+}
+
 /// What octets begin with.
 #[derive(Clone, Copy, Debug, PartialEq, Eq)]
 pub enum Cut {
     /// a whole frame of so many octets
     Frame(usize),
-    /// less than a frame
-    Unfinished,
-    /// a length that no frame may have
-    TooLong,
+    /// no whole frame
+    Rest(Rest),
 }
 
 /// The length of the body that the first four octets tell.
@@ -33,13 +40,13 @@ pub fn first_cut(octets: &[u8]) -> Cut
     ensures { IsCut octets.now result }
 {
     if octets.len() < 4 {
-        return Cut::Unfinished;
+        return Cut::Rest(Rest::Unfinished);
     }
     let body = body_length(octets);
     if body > LONGEST_BODY {
-        Cut::TooLong
+        Cut::Rest(Rest::TooLong)
     } else if octets.len() < body + 4 {
-        Cut::Unfinished
+        Cut::Rest(Rest::Unfinished)
     } else {
         Cut::Frame(body + 4)
     }

@@ -3,6 +3,7 @@
 ghost use Rattle.std.specs.Prelude.{◌≡◌, ◌<◌, ◌≤◌, ℕ, List, Bool, true, Option, length, take, IfOk, OnOk, OnErr, IsErr};
 ghost use Rattle.std.specs.Io.KnownBytes.{Appends, Consumes, IsAtEnd};
 ghost use Rattle.guard_frames.specs.Prefix.{IsProperPrefix};
+ghost use Rattle.guard_frames.specs.Totals.{WentUpBy};
 
 use thiserror::Error;
 
@@ -38,6 +39,9 @@ pub trait Source {
     /// the octets that it still tells, where it tells them
     ghost tells: { Self → Option (List ℕ) };
 
+    /// how often it was asked for octets: 2^64-1 where it doesn't count
+    ghost takes: { Self → ℕ };
+
     /// whether it has failed
     ghost has_failed: { Self → Bool };
 
@@ -47,6 +51,7 @@ pub trait Source {
         ensures within { IfOk result (λ n. n ≤ length buffer.old) }
         ensures given { IfOk result (λ n. Consumes (tells self.old) (tells self.new) (take n buffer.new)) }
         ensures end { IfOk result (λ n. n ≡ 0 → IsAtEnd (tells self.new)) }
+        ensures counted { WentUpBy (takes self.old) 1 (takes self.new) }
         ensures none { OnErr result (Consumes (tells self.old) (tells self.new) (take 0 buffer.new)) }
         ensures failed { OnErr result (has_failed self.new ≡ true) }
         ensures stays { has_failed self.old ≡ true → IsErr result };

@@ -6,7 +6,7 @@ ghost use Rattle.guard_frames.specs.LinkView.{link_view};
 ghost use Rattle.guard_frames.specs.Feeding.{Feeds};
 ghost use Rattle.guard_frames.specs.declared.link.LinkFault.TheVariants.{WriteFailed};
 
-use crate::cut::{Cut, first_cut};
+use crate::cut::{Cut, Rest, first_cut};
 use crate::deciding::decide;
 use crate::decision::Decide;
 use crate::devices::Sink;
@@ -46,8 +46,8 @@ impl Link {
         let totals = self.totals;
         let at = complete(&mut self.held, piece);
         match first_cut(self.held.as_slice()) {
-            Cut::Unfinished => return Ok(()),
-            Cut::TooLong => {
+            Cut::Rest(Rest::Unfinished) => return Ok(()),
+            Cut::Rest(Rest::TooLong) => {
                 self.held.clear();
                 self.closed = true;
                 return Err(LinkFault::FrameTooLong);
@@ -91,16 +91,15 @@ fn feed_rest<D: Decide, O: Sink, R: Sink>(
         }
     };
     link.totals = whole.totals;
-    match whole.next {
-        Cut::TooLong => {
+    match whole.rest {
+        Rest::TooLong => {
             link.closed = true;
             Err(LinkFault::FrameTooLong)
         }
-        Cut::Unfinished => {
+        Rest::Unfinished => {
             hold(link, &piece[whole.end..]);
             Ok(())
         }
-        Cut::Frame(_) => unreachable!(),
     }
 }
 

@@ -1,11 +1,10 @@
 //! Guards one stream under a policy.
 
-ghost use Rattle.std.specs.Prelude.{◌≡◌, ◌⊎◌, true, IfOk, IsErrOf};
+ghost use Rattle.std.specs.Prelude.{◌≡◌, ◌⊎◌, true, IsErrOf};
 ghost use Rattle.guard_policy.specs.PolicyView.{policy_view};
 ghost use Rattle.guard_frames.specs.OfPolicy.{decision_of};
-ghost use Rattle.guard_frames.specs.Guarding.{Guards};
 ghost use Rattle.guard_frames.specs.Runs.{Runs, ReadToLimit};
-ghost use Rattle.guard_frames.specs.declared.running.RunFault.TheVariants.{WriteFailed, ReadFailed};
+ghost use Rattle.guard_frames.specs.declared.running.RunFault.TheVariants.{WriteFailed, ReadFailed, OutOfMemory as NoMemory};
 
 use crate::devices::{Sink, Source};
 use crate::running::{RunFault, decide_stream};
@@ -15,7 +14,6 @@ use std::alloc::Global;
 
 /// Reads all that the source gives. The frames whose message goes under the policy go out, in order and octet by octet as they came, and
 /// of each other one a line is reported with the reason. It answers how many there were, or why it ended before the stream's end.
-#[tactic(auto, using(crate::proofs::UnderPolicy::guards))]
 pub fn run<S: Source, O: Sink, R: Sink>(
     alloc: Global,
     source: &mut S,
@@ -23,12 +21,15 @@ pub fn run<S: Source, O: Sink, R: Sink>(
     reports: &mut R,
     policy: &Policy,
 ) -> Result<Totals, RunFault>
-    ensures guards { IfOk result (Guards (policy_view policy.now) (S.tells source.old) (S.tells source.new)
-        (O.taken out.old) (O.taken out.new) (R.taken reports.old) (R.taken reports.new)) }
+    // What is read, goes out and is reported, by the answer;
     ensures runs { Runs (decision_of (policy_view policy.now)) (S.tells source.old) (S.tells source.new) result
         (O.taken out.old) (O.taken out.new) (R.taken reports.old) (R.taken reports.new) }
+    // a fault of a device is answered only where it has failed, or where the source was asked 2^40 times;
     ensures failed { IsErrOf result WriteFailed → (O.has_failed out.new ≡ true) ⊎ (R.has_failed reports.new ≡ true) }
-    ensures unread { IsErrOf result ReadFailed → (S.has_failed source.new ≡ true) ⊎ ReadToLimit (S.tells source.old) (S.tells source.new) }
+    ensures unread { IsErrOf result ReadFailed → (S.has_failed source.new ≡ true)
+        ⊎ ReadToLimit (S.takes source.old) (S.takes source.new) (S.tells source.old) (S.tells source.new) }
+    // and want of memory before anything is done.
+    ensures untouched { IsErrOf result NoMemory → (source.new ≡ source.old) × (out.new ≡ out.old) × (reports.new ≡ reports.old) }
 {
     decide_stream(alloc, source, out, reports, policy)
 }

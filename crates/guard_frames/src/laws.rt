@@ -1,15 +1,12 @@
 //! Laws of the definitions. The functions do nothing when they run.
 
 ghost use Rattle.std.specs.Prelude.{◌≡◌, ◌⊎◌, ℕ, List, ◌++◌, ◌↔◌, Some, true, false};
-ghost use Rattle.guard_policy.specs.PolicyView.{policy_view};
 ghost use Rattle.guard_frames.specs.Bodies.{AbstractBody, IsBody, body_in};
 ghost use Rattle.guard_frames.specs.Frames.{ConsistsOf};
-ghost use Rattle.guard_frames.specs.Outcomes.{Goes, Outcome, IsOutcome};
-ghost use Rattle.guard_frames.specs.OfPolicy.{decision_of};
+ghost use Rattle.guard_frames.specs.Outcomes.{Goes, Outcome};
 ghost use Rattle.guard_frames.specs.Guarding.{Adds, HadNoMemory};
 
 use crate::decision::Decide;
-use guard_policy::Policy;
 
 /// It doesn't matter how a stream was cut into pieces: the frames of two pieces joined are those of the first, and then those of its rest
 /// with the second behind it.
@@ -27,14 +24,14 @@ pub fn law_one_reading()
 
 /// Where it takes no memory to decide, a frame went exactly where it goes.
 pub fn law_went_exactly<D: Decide>(policy: &D)
-    ensures { (o : Outcome) → (D.decides policy.now).takes_memory ≡ false → IsOutcome (D.decides policy.now) o →
+    ensures { (n : ℕ) (o : Outcome) (line : List ℕ) → (D.decides policy.now).takes_memory ≡ false → Adds (D.decides policy.now) n o line →
         (o.went ≡ true) ↔ Goes (D.decides policy.now) o.frame }
 {}
 
-/// Under a policy a frame went exactly where its message goes, but for one whose line says that there was no memory.
-pub fn law_went_but_for_memory(policy: &Policy)
-    ensures { (n : ℕ) (o : Outcome) (line : List ℕ) → Adds (policy_view policy.now) n o line →
-        HadNoMemory n o line ⊎ ((o.went ≡ true) ↔ Goes (decision_of (policy_view policy.now)) o.frame) }
+/// A frame went exactly where it goes, but for one whose line says that there was no memory.
+pub fn law_went_but_for_memory<D: Decide>(policy: &D)
+    ensures { (n : ℕ) (o : Outcome) (line : List ℕ) → Adds (D.decides policy.now) n o line →
+        HadNoMemory (D.decides policy.now) n o line ⊎ ((o.went ≡ true) ↔ Goes (D.decides policy.now) o.frame) }
 {}
 
 /// A body that is read stands there, and one that stands there is read: three names, each behind its length, and the message.

@@ -5,17 +5,17 @@
 //! |---|---|---|
 //! | What is a frame, and how is a stream cut into frames? | `cut.rt` (`first_cut`) | `specs/Frames.antt`, `specs/Cut.antt` |
 //! | What is the header of a frame, and what is a name? | `body.rt`, `header.rt`, `names.rt` | `specs/Bodies.antt` |
-//! | Who decides which bodies pass, and which frames go? | `decision.rt` (`Decide`) | `specs/Outcomes.antt` (`Decision`, `Goes`, `IsOutcome`) |
-//! | What goes out, and which line is reported of what doesn't? | `report.rt` | `specs/Outputs.antt` (`octets_out`, `ReportLines`) |
-//! | How many frames were there? | `totals.rt` (`Totals`) | `specs/Totals.antt`, `specs/Outputs.antt` (`Counts`) |
+//! | Who decides which bodies pass, and which frames go? | `decision.rt` (`Decide`) | `specs/Outcomes.antt` (`Decision`, `Goes`), `specs/Rulings.antt` |
+//! | What goes out, and which line is reported of what doesn't? | `report.rt` | `specs/Guarding.antt` (`text_out`, `Adds`) |
+//! | How many frames were there? | `totals.rt` (`Totals`) | `specs/Totals.antt`, `specs/Guarding.antt` (`Counts`) |
 //! | What is read from and written to, and what does a failure leave? | `devices.rt` (`Sink`, `Source`) | the clauses of the traits, `specs/Prefix.antt` |
 //! | How are a file or pipe, or a list in memory, a source or a sink? | `through.rt` (`Through`), `kept.rt` (`Kept`) | |
 //! | Which frames of some octets go side by side, and how are all of them decided where they lie? | `passing.rt`, `deciding.rt` | `specs/SideBySide.antt`, `specs/Decided.antt` |
 //! | What does a link hold, and how does the next piece complete it? | `link.rt` (`Link`), `filling.rt` | `specs/LinkView.antt`, `specs/Frames.antt` (`IsUnfinished`) |
 //! | What does a piece, or the end, do to a link? | `feeding.rt` (`Link::feed`), `link.rt` (`Link::end`) | `specs/Feeding.antt` |
 //! | What does a whole run read and write, and what when a device fails? | `running.rt` (`decide_stream`) | `specs/Runs.antt` |
-//! | How does a policy decide, and what comes of a stream under it? | `policies.rt`, `guarding.rt` (`run`) | `specs/OfPolicy.antt`, `specs/Guarding.antt` |
-//! | Does it matter how a stream was cut? Has each stream one reading? Which frames went? | `laws.rt` | `specs/Frames.antt`, `specs/Outcomes.antt`, `specs/Guarding.antt` |
+//! | How does a policy decide, and what comes of a stream under it? | `policies.rt`, `guarding.rt` (`run`) | `specs/OfPolicy.antt`, `specs/Runs.antt` |
+//! | Does it matter how a stream was cut? Has each stream one reading? Which frames went? | `laws.rt` | `specs/Frames.antt`, `specs/Guarding.antt` |
 #![tactic(auto)]
 
 mod body;
@@ -39,7 +39,7 @@ mod through;
 mod totals;
 
 pub use body::Body;
-pub use decision::Decide;
+pub use decision::{Decide, Ruling};
 pub use devices::{Failed, Sink, Source};
 pub use guarding::run;
 pub use kept::Kept;

@@ -2,57 +2,57 @@
 
 ghost use Rattle.guard_frames.specs.SideBySide.{IsPassing};
 
-use crate::cut::{Cut, first_cut};
+use crate::cut::{Cut, Rest, first_cut};
 use crate::decision::Decide;
-use crate::report::goes;
+use crate::report::{Report, judge};
+use crate::totals::Totals;
 use std::alloc::Global;
 
+/// What follows frames that go.
+#[derive(Drop)]
+pub enum Next {
+    /// a frame of so many octets that stays, and why
+    Stays(usize, Report),
+    /// no whole frame
+    Rest(Rest),
+}
+
 /// The frames that go at the front of some octets.
-#[derive(Clone, Copy, Debug)]
+#[derive(Drop)]
 pub struct Passing {
     /// how many octets they take
     pub end: usize,
-    /// how many they are
-    pub count: u64,
-    /// what comes next
-    pub next: Cut,
-    /// whether there was no memory to decide what comes next
-    pub undecided: bool,
+    /// the totals after them
+    pub totals: Totals,
+    pub next: Next,
 }
 
-/// The frames that go at the front of the octets.
-pub fn passing_run<D: Decide>(alloc: Global, policy: &D, octets: &[u8]) -> Passing
-    ensures { IsPassing (D.decides policy.now) octets.now result }
+/// The frames that go at the front of the octets, counted on from `totals`.
+pub fn passing_run<D: Decide>(alloc: Global, policy: &D, totals: Totals, octets: &[u8]) -> Passing
+    ensures { IsPassing (D.decides policy.now) totals octets.now result }
 {
     let mut end = 0;
-    let mut count = 0;
+    let mut totals = totals;
     loop {
-        let next = first_cut(&octets[end..]);
-        let Cut::Frame(size) = next else {
+        let size = match first_cut(&octets[end..]) {
+            Cut::Frame(size) => size,
+            Cut::Rest(rest) => {
+                return Passing {
+                    end,
+                    totals,
+                    next: Next::Rest(rest),
+                };
+            }
+        };
+        let frame = &octets[end..end + size];
+        if let Some(report) = judge(alloc, policy, totals.next_number(), frame) {
             return Passing {
                 end,
-                count,
-                next,
-                undecided: false,
+                totals,
+                next: Next::Stays(size, report),
             };
-        };
-        match goes(alloc, policy, &octets[end..end + size]) {
-            Ok(true) => {
-                end += size;
-                count += 1;
-            }
-            Ok(false) => return Passing {
-                end,
-                count,
-                next,
-                undecided: false,
-            },
-            Err(_) => return Passing {
-                end,
-                count,
-                next,
-                undecided: true,
-            },
         }
+        end += size;
+        totals = totals.with_passed();
     }
 }

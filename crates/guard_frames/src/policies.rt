@@ -6,7 +6,7 @@ ghost use Rattle.guard_frames.specs.Bodies.{body_view};
 ghost use Rattle.guard_frames.specs.OfPolicy.{route_of, decision_of};
 
 use crate::body::Body;
-use crate::decision::Decide;
+use crate::decision::{Decide, Ruling};
 use guard_model::OutOfMemory;
 use guard_policy::{Policy, Route, Verdict};
 use guard_report::line;
@@ -15,18 +15,13 @@ use std::alloc::Global;
 impl Decide for Policy {
     ghost decides = { λ policy. decision_of (policy_view policy) };
 
-    fn passes(&self, alloc: Global, body: &Body) -> Result<bool, OutOfMemory> {
-        match self.verdict(alloc, &route_of(body), body.message) {
-            Ok(Verdict::Pass) => Ok(true),
-            Ok(_) => Ok(false),
-            Err(_) => Err(OutOfMemory),
-        }
-    }
-
-    fn line(&self, alloc: Global, number: u64, body: &Body) -> Result<Vec<u8>, OutOfMemory> {
+    fn decide(&self, alloc: Global, number: u64, body: &Body) -> Result<Ruling, OutOfMemory> {
         let route = route_of(body);
         let verdict = self.verdict(alloc, &route, body.message)?;
-        line(alloc, number, &route, &verdict, self)
+        if let Verdict::Pass = verdict {
+            return Ok(Ruling::Pass);
+        }
+        Ok(Ruling::Stop(line(alloc, number, &route, &verdict, self)?))
     }
 }
 

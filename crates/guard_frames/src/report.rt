@@ -1,54 +1,52 @@
 //! Whether a frame goes, and the line that is reported of one that doesn't.
 
-ghost use Rattle.std.specs.Prelude.{◌≡◌, ◌↔◌, ◌++◌, true, List, ℕ, IfOk, OnOk, OnErr, decimal};
+ghost use Rattle.std.specs.Prelude.{◌≡◌, ◌++◌, true, List, ℕ, OnOk, OnErr, decimal};
 ghost use Rattle.std.specs.Io.KnownBytes.{Appends};
-ghost use Rattle.guard_frames.specs.Outcomes.{Goes, Stays, that_stayed};
-ghost use Rattle.guard_frames.specs.Outputs.{ReportLine};
 ghost use Rattle.guard_frames.specs.Prefix.{IsProperPrefix};
+ghost use Rattle.guard_frames.specs.Rulings.{IsJudged, report_line};
 
-use crate::decision::Decide;
+use crate::decision::{Decide, Ruling};
 use crate::devices::{Failed, Sink, put_all};
 use crate::header::body_of;
-use guard_model::OutOfMemory;
 use itoa::Buffer;
 use std::alloc::Global;
 
-/// Whether the frame has its header, and its body passes.
-pub fn goes<D: Decide>(alloc: Global, policy: &D, frame: &[u8]) -> Result<bool, OutOfMemory>
-    ensures exact { IfOk result (λ goes. (goes ≡ true) ↔ Goes (D.decides policy.now) frame.now) }
-    ensures wanting { OnErr result ((D.decides policy.now).takes_memory ≡ true) }
+/// Why a frame stays.
+#[derive(Drop)]
+pub enum Report {
+    /// Its body isn't three names and a message.
+    BadHeader,
+    /// There was no memory to decide it or to write its line.
+    NoMemory,
+    /// This is its line.
+    Line(Vec<u8>),
+}
+
+/// Why the frame of this number stays, or none where it goes.
+pub fn judge<D: Decide>(alloc: Global, policy: &D, number: u64, frame: &[u8]) -> Option<Report>
+    ensures { IsJudged (D.decides policy.now) number frame.now result }
 {
-    match body_of(frame) {
-        Some(body) => policy.passes(alloc, &body),
-        None => Ok(false),
+    let Some(body) = body_of(frame) else {
+        return Some(Report::BadHeader);
+    };
+    match policy.decide(alloc, number, &body) {
+        Ok(Ruling::Pass) => None,
+        Ok(Ruling::Stop(line)) => Some(Report::Line(line)),
+        Err(_) => Some(Report::NoMemory),
     }
 }
 
-/// Reports a frame that stays: it doesn't go, or there was no memory to decide it.
-pub fn report<D: Decide, R: Sink>(
-    alloc: Global,
-    policy: &D,
-    number: u64,
-    frame: &[u8],
-    undecided: bool,
-    reports: &mut R,
-) -> Result<(), Failed>
-    requires { Stays (D.decides policy.now) undecided frame.now }
-    ensures all { OnOk result ((line : List ℕ) × ReportLine (D.decides policy.now) number (that_stayed frame.now) line
-        × Appends (R.taken reports.old) (R.taken reports.new) line) }
-    ensures part { OnErr result ((line : List ℕ) × (part : List ℕ) × ReportLine (D.decides policy.now) number (that_stayed frame.now) line
-        × IsProperPrefix part line × Appends (R.taken reports.old) (R.taken reports.new) part) }
-    ensures failed { OnErr result (R.has_failed reports.new ≡ true) }
+/// Puts the line that says why the frame of this number stays.
+pub fn put_report<S: Sink>(sink: &mut S, number: u64, report: &Report) -> Result<(), Failed>
+    ensures all { OnOk result (Appends (S.taken sink.old) (S.taken sink.new) (report_line number report.now)) }
+    ensures part { OnErr result ((part : List ℕ) × IsProperPrefix part (report_line number report.now)
+        × Appends (S.taken sink.old) (S.taken sink.new) part) }
+    ensures failed { OnErr result (S.has_failed sink.new ≡ true) }
 {
-    let Some(body) = body_of(frame) else {
-        return put_numbered(reports, number, b" bad-header\n");
-    };
-    if undecided {
-        return put_numbered(reports, number, b" no-memory\n");
-    }
-    match policy.line(alloc, number, &body) {
-        Ok(line) => put_all(reports, line.as_slice()),
-        Err(_) => put_numbered(reports, number, b" no-memory\n"),
+    match report {
+        Report::BadHeader => put_numbered(sink, number, b" bad-header\n"),
+        Report::NoMemory => put_numbered(sink, number, b" no-memory\n"),
+        Report::Line(line) => put_all(sink, line.as_slice()),
     }
 }
 

@@ -2,8 +2,9 @@
 
 ghost use Rattle.std.specs.Prelude.{◌≡◌, ◌<◌, ◌≤◌, ◌⊎◌, true, [], length, take, IfOk, OnErr, IsErrOf};
 ghost use Rattle.std.specs.Io.KnownBytes.{Consumes, IsAtEnd};
+ghost use Rattle.guard_frames.specs.Totals.{WentUpBy};
 ghost use Rattle.guard_frames.specs.Runs.{Runs, ReadToLimit};
-ghost use Rattle.guard_frames.specs.declared.running.RunFault.TheVariants.{WriteFailed, ReadFailed};
+ghost use Rattle.guard_frames.specs.declared.running.RunFault.TheVariants.{WriteFailed, ReadFailed, OutOfMemory as NoMemory};
 
 use crate::decision::Decide;
 use crate::devices::{Failed, Sink, Source};
@@ -49,6 +50,7 @@ fn read_piece<S: Source>(source: &mut S, buffer: &mut Vec<u8>) -> Result<usize, 
     ensures within { IfOk result (λ n. n ≤ length buffer.new.items) }
     ensures given { IfOk result (λ n. Consumes (S.tells source.old) (S.tells source.new) (take n buffer.new.items)) }
     ensures end { IfOk result (λ n. n ≡ 0 → IsAtEnd (S.tells source.new)) }
+    ensures counted { WentUpBy (S.takes source.old) 1 (S.takes source.new) }
     ensures none { OnErr result (Consumes (S.tells source.old) (S.tells source.new) []) }
     ensures failed { OnErr result (S.has_failed source.new ≡ true) }
 {
@@ -67,7 +69,9 @@ pub fn decide_stream<S: Source, D: Decide, O: Sink, R: Sink>(
     ensures runs { Runs (D.decides policy.now) (S.tells source.old) (S.tells source.new) result
         (O.taken out.old) (O.taken out.new) (R.taken reports.old) (R.taken reports.new) }
     ensures failed { IsErrOf result WriteFailed → (O.has_failed out.new ≡ true) ⊎ (R.has_failed reports.new ≡ true) }
-    ensures unread { IsErrOf result ReadFailed → (S.has_failed source.new ≡ true) ⊎ ReadToLimit (S.tells source.old) (S.tells source.new) }
+    ensures unread { IsErrOf result ReadFailed → (S.has_failed source.new ≡ true)
+        ⊎ ReadToLimit (S.takes source.old) (S.takes source.new) (S.tells source.old) (S.tells source.new) }
+    ensures untouched { IsErrOf result NoMemory → (source.new ≡ source.old) × (out.new ≡ out.old) × (reports.new ≡ reports.old) }
 {
     let Ok(mut link) = Link::new(alloc) else {
         return Err(RunFault::OutOfMemory);

@@ -11,6 +11,8 @@ use std::io::{Read, Write};
 pub struct Through<T> {
     pub inner: T,
     is_broken: bool,
+    /// how often it was read from
+    takes: u64,
 }
 
 impl<T> Through<T> {
@@ -25,6 +27,7 @@ impl<T> Through<T> {
         Through {
             inner,
             is_broken: false,
+            takes: 0,
         }
     }
 }
@@ -70,10 +73,13 @@ impl<R: Read> Source for Through<R> {
 
     ghost tells = { λ source. R.remaining source.inner };
 
+    ghost takes = { λ source. source.takes };
+
     ghost has_failed = { λ source. through_failed source };
 
     #[tactic(auto, using(crate::proofs::Reading::kept_gives_none))]
     fn take(&mut self, buffer: &mut [u8]) -> Result<usize, Failed> {
+        self.takes = self.takes.saturating_add(1);
         if self.is_broken {
             return Err(Failed);
         }

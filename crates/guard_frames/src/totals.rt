@@ -23,15 +23,13 @@ impl Totals {
         }
     }
 
-    /// After so many more frames that pass. (Numbers of 64 bits stay when nothing is added.)
-    #[tactic(auto, using(crate::proofs::Counting::fits_totals))]
-    pub fn with_passed(self, count: u64) -> Totals
-        ensures counted { result ≡ after_passing self count }
-        ensures fits { after_passing self 0 ≡ self }
+    /// After one more frame that passes.
+    pub fn with_passed(self) -> Totals
+        ensures { result ≡ after_passing self }
     {
         Totals {
-            frames: self.frames.saturating_add(count),
-            passed: self.passed.saturating_add(count),
+            frames: self.frames.saturating_add(1),
+            passed: self.passed.saturating_add(1),
             denied: self.denied,
         }
     }

@@ -1,72 +1,82 @@
-use Rattle.std.proofs.Common.{◌+◌, [], ◌∷◌, ◌++◌, subst, take, drop, length-drop, arith}
-use Rattle.guard_frames.specs.Cut.{IsCut}
-use Rattle.guard_frames.specs.Outcomes.{that_stayed}
-use Rattle.guard_frames.proofs.Ranges.{range_is}
-use Rattle.guard_frames.proofs.Went.{all_went}
-use Rattle.guard_frames.proofs.Steps.{on_err_of, rest_cut, run_at, step_go, stop_go, step_stay, stop_either}
+use Rattle.std.proofs.Common.{◌+◌, [], ◌++◌, subst, drop, arith}
+use Rattle.guard_frames.specs.Totals.{next_number}
+use Rattle.guard_frames.specs.Outcomes.{all_went}
+use Rattle.guard_frames.specs.SideBySide.{IsNext}
+use Rattle.guard_frames.proofs.Steps.{on_err_of, run_at, step_go, stop_go, step_both, stop_both}
 use Rattle.guard_frames.proofs.Progress.{Decided_none}
 use Rattle.guard_frames.proofs.deciding.decide.Goals as goal
 
-pub loop-size-init : goal.loop-size-init
-loop-size-init g c = record { within = omega arith; so_far = ([], Decided_none (g.D.Decide.decides c.args.policy.now) c.args.totals _ _) }
+pub loop-run-init : goal.loop-run-init
+loop-run-init g c = record { within = omega arith; so_far = ([], Decided_none (g.D.Decide.decides c.args.policy.now) c.args.totals _ _) }
 
 pub returns-in_err-put_all-clause-failure : goal.returns-in_err-put_all-clause-failure
 returns-in_err-put_all-clause-failure g c =
-    let h = c.loop-size.invariant in
-    let run = run_at (g.D.Decide.decides c.args.policy.now) c.loop-size.end c.args.octets.now c.passing_run-run.result h.within c.passing_run-run.ensures in
+    let d = g.D.Decide.decides c.args.policy.now in
+    let h = c.loop-run.invariant in
+    let run = run_at d c.loop-run.totals c.loop-run.end c.args.octets.now c.passing_run-run.result h.within c.passing_run-run.ensures in
     let p = c.in_err-put_all.ensures.part in
     on_err_of c.from_residual.result
-    (stop_go _ _ c.loop-size.totals c.loop-size.end c.args.octets.now p.0 h.so_far.0 c.passing_run-run.result _ _ _ _ _ h.so_far.1 run p.1 p.2)
+    (stop_go d c.args.totals c.loop-run.totals c.loop-run.end c.args.octets.now p.0 h.so_far.0 c.passing_run-run.result _ _ _ _ _ h.so_far.1 run p.1 p.2)
 
-pub returns-in_default : goal.returns-in_default
-returns-in_default g c =
-    let h = c.loop-size.invariant in
-    let run = run_at (g.D.Decide.decides c.args.policy.now) c.loop-size.end c.args.octets.now c.passing_run-run.result h.within c.passing_run-run.ensures in
-    let go = step_go _ _ c.loop-size.totals c.loop-size.end c.args.octets.now h.so_far.0 c.passing_run-run.result _ _ _ _ _ c.with_passed-totals.ensures.fits h.so_far.1 run c.in_ok-put_all.ensures.all in
+pub returns-in-Rest : goal.returns-in-Rest
+returns-in-Rest g c =
+    let d = g.D.Decide.decides c.args.policy.now in
+    let h = c.loop-run.invariant in
+    let s = c.args.octets.now in
+    let run = run_at d c.loop-run.totals c.loop-run.end s c.passing_run-run.result h.within c.passing_run-run.ensures in
+    let go = step_go d c.args.totals c.loop-run.totals c.loop-run.end s h.so_far.0 c.passing_run-run.result _ _ _ _ _ h.so_far.1 run c.in_ok-put_all.ensures.all in
+    let n = c.loop-run.end + c.passing_run-run.result.end in
     record {
       whole = record {
         within = run.within;
         outcomes = h.so_far.0 ++ all_went run.frames;
-        decided = rw c.with_passed-totals.ensures.counted go;
-        next = rest_cut _ _ run.next c.in_default.not-Frame;
+        decided = go;
+        next = subst (IsNext d (next_number c.passing_run-run.result.totals) (drop n s)) c.in-Rest.is run.next;
       };
       failure = tt;
       failed = tt;
     }
 
-pub put_and_report-requires : goal.put_and_report-requires
-put_and_report-requires g c =
-    let h = c.loop-size.invariant in
-    let run = run_at (g.D.Decide.decides c.args.policy.now) c.loop-size.end c.args.octets.now c.passing_run-run.result h.within c.passing_run-run.ensures in
-    rw (range_is (c.loop-size.end + c.passing_run-run.result.end) c.in-Frame.size c.args.octets.now) (run.stays c.in-Frame.size c.in-Frame.is)
-
-pub returns-in_err-put_and_report-clause-failure : goal.returns-in_err-put_and_report-clause-failure
-returns-in_err-put_and_report-clause-failure g c =
+pub returns-in_err-put_report-in-Stays-clause-failure : goal.returns-in_err-put_report-in-Stays-clause-failure
+returns-in_err-put_report-in-Stays-clause-failure g c =
     let d = g.D.Decide.decides c.args.policy.now in
-    let h = c.loop-size.invariant in
-    let run = run_at d c.loop-size.end c.args.octets.now c.passing_run-run.result h.within c.passing_run-run.ensures in
-    let n = c.loop-size.end + c.passing_run-run.result.end in
-    let next = subst (IsCut (drop n c.args.octets.now)) c.in-Frame.is run.next in
-    on_err_of c.from_residual-in_err-put_and_report.result
-    (stop_either d c.args.totals c.loop-size.totals c.with_passed-totals.result c.loop-size.end c.in-Frame.size c.args.octets.now h.so_far.0 c.passing_run-run.result
-    c.passing_run-run.result.undecided _ _ _ _ _ _ c.with_passed-totals.ensures.fits c.with_passed-totals.ensures.counted h.so_far.1 run next.1 (run.stays c.in-Frame.size c.in-Frame.is)
-    (rw c.next_number.ensures at c.in_err-put_and_report.ensures.part))
-
-pub loop-size-preserved : goal.loop-size-preserved
-loop-size-preserved g c =
-    let d = g.D.Decide.decides c.args.policy.now in
-    let h = c.loop-size.invariant in
+    let h = c.loop-run.invariant in
     let s = c.args.octets.now in
-    let run = run_at d c.loop-size.end s c.passing_run-run.result h.within c.passing_run-run.ensures in
-    let go = step_go d c.args.totals c.loop-size.totals c.loop-size.end s h.so_far.0 c.passing_run-run.result _ _ _ _ _ c.with_passed-totals.ensures.fits h.so_far.1 run
-    c.in_ok-put_and_report.ensures.sent in
-    let n = c.loop-size.end + c.passing_run-run.result.end in
-    let next = subst (IsCut (drop n s)) c.in-Frame.is run.next in
-    let p = c.in_ok-put_and_report.ensures.reported in
-    let room = next.0 in
-    let stay = step_stay d c.args.totals c.with_passed-totals.result n c.in-Frame.size s p.0 (h.so_far.0 ++ all_went run.frames) c.passing_run-run.result.undecided _ _ _ _ _
-    (rw c.with_passed-totals.ensures.counted go) next.1 (run.stays c.in-Frame.size c.in-Frame.is) (rw c.next_number.ensures at p.1) p.2 in
-    record {
-      within = omega (arith, room, run.within, length-drop n s);
-      so_far = ((h.so_far.0 ++ all_went run.frames) ++ that_stayed (take c.in-Frame.size (drop n s)) ∷ [], rw c.with_denied-totals.ensures stay);
-    }
+    let run = run_at d c.loop-run.totals c.loop-run.end s c.passing_run-run.result h.within c.passing_run-run.ensures in
+    let p = rw c.next_number.ensures at c.in_err-put_report-in-Stays.ensures.part in
+    on_err_of c.from_residual-in_err-put_report-in-Stays.result
+    (stop_both d c.args.totals c.loop-run.totals c.loop-run.end c.in-Stays.size s p.0 h.so_far.0 c.passing_run-run.result c.in-Stays.report _ _ _ _ _ _
+    h.so_far.1 run c.in-Stays.is c.in_ok-put_all.ensures.all p.1 p.2)
+
+pub loop-run-preserved : goal.loop-run-preserved
+loop-run-preserved g c =
+    let d = g.D.Decide.decides c.args.policy.now in
+    let h = c.loop-run.invariant in
+    let s = c.args.octets.now in
+    let run = run_at d c.loop-run.totals c.loop-run.end s c.passing_run-run.result h.within c.passing_run-run.ensures in
+    let told = rw c.next_number.ensures at c.in_ok-put_report-in-Stays.ensures.all in
+    let x = step_both d c.args.totals c.loop-run.totals c.loop-run.end c.in-Stays.size s h.so_far.0 c.passing_run-run.result c.in-Stays.report _ _ _ _ _ _
+    h.so_far.1 run c.in-Stays.is c.in_ok-put_all.ensures.all told in
+    record { within = x.0; so_far = (x.1.0, rw c.with_denied-totals.ensures x.1.1) }
+
+pub loop-run-preserved-in_ok-put_report-in-Stays : goal.loop-run-preserved-in_ok-put_report-in-Stays
+loop-run-preserved-in_ok-put_report-in-Stays g c =
+    let d = g.D.Decide.decides c.args.policy.now in
+    let h = c.loop-run.invariant in
+    let s = c.args.octets.now in
+    let run = run_at d c.loop-run.totals c.loop-run.end s c.passing_run-run.result h.within c.passing_run-run.ensures in
+    let told = rw c.next_number.ensures at c.in_ok-put_report-in-Stays.ensures.all in
+    let x = step_both d c.args.totals c.loop-run.totals c.loop-run.end c.in-Stays.size s h.so_far.0 c.passing_run-run.result c.in-Stays.report _ _ _ _ _ _
+    h.so_far.1 run c.in-Stays.is c.in_ok-put_all.ensures.all told in
+    record { within = x.0; so_far = (x.1.0, rw c.with_denied-totals.ensures x.1.1) }
+
+pub loop-run-preserved-in_ok-put_report-in-Stays-2 : goal.loop-run-preserved-in_ok-put_report-in-Stays-2
+loop-run-preserved-in_ok-put_report-in-Stays-2 g c =
+    let d = g.D.Decide.decides c.args.policy.now in
+    let h = c.loop-run.invariant in
+    let s = c.args.octets.now in
+    let run = run_at d c.loop-run.totals c.loop-run.end s c.passing_run-run.result h.within c.passing_run-run.ensures in
+    let told = rw c.next_number.ensures at c.in_ok-put_report-in-Stays.ensures.all in
+    let x = step_both d c.args.totals c.loop-run.totals c.loop-run.end c.in-Stays.size s h.so_far.0 c.passing_run-run.result c.in-Stays.report _ _ _ _ _ _
+    h.so_far.1 run c.in-Stays.is c.in_ok-put_all.ensures.all told in
+    record { within = x.0; so_far = (x.1.0, rw c.with_denied-totals.ensures x.1.1) }

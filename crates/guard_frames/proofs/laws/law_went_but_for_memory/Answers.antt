@@ -1,6 +1,5 @@
-use Rattle.guard_policy.specs.PolicyView.{policy_view}
-use Rattle.guard_frames.proofs.UnderPolicy.{went_but_for_memory}
+use Rattle.guard_frames.proofs.WentExactly.{went_but_for_memory}
 use Rattle.guard_frames.proofs.laws.law_went_but_for_memory.Goals as goal
 
 pub returns : goal.returns
-returns c = went_but_for_memory (policy_view c.args.policy.now)
+returns g c = went_but_for_memory (g.D.Decide.decides c.args.policy.now)

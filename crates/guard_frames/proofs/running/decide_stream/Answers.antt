@@ -1,12 +1,13 @@
-use Rattle.std.proofs.Common.{◌≡◌, ◌<◌, ◌≤◌, ◌^◌, ℕ, [], ◌++◌, ◌∙◌, ap, inr, subst, take, length, length-take, rules, arith}
+use Rattle.std.proofs.Common.{◌≡◌, ◌+◌, ◌<◌, ◌≤◌, ◌^◌, ℕ, [], ◌++◌, ◌∙◌, ap, inr, subst, take, length, length-take, rules, arith}
 use Rattle.std.specs.Prelude.{Err}
 use Rattle.guard_frames.specs.declared.link.LinkFault.TheVariants.{FrameTooLong, WriteFailed}
-use Rattle.guard_frames.specs.Totals.{no_frames}
+use Rattle.guard_frames.specs.Totals.{no_frames, WentUpBy}
+use Rattle.guard_frames.specs.Outcomes.{frames_of}
 use Rattle.guard_frames.specs.LinkView.{AbstractLink, link_view}
 use Rattle.guard_frames.specs.Runs.{CameInPieces}
 use Rattle.guard_frames.proofs.Counting.{counts}
 use Rattle.guard_frames.proofs.Reading.{Consumes_none, Consumes_trans, Consumes_zero, is_empty_list, no_pieces, one_more_piece}
-use Rattle.guard_frames.proofs.Holding.{begins_empty, feeds_more, fed_ok, fed_too_long, fed_failed}
+use Rattle.guard_frames.proofs.Holding.{begins_empty, feeds_more, fed_ok, fed_too_long, fed_failed, found_soon}
 use Rattle.guard_frames.proofs.running.decide_stream.Goals as goal
 
 pub loop-init : goal.loop-init
@@ -15,6 +16,7 @@ loop-init g c =
     record {
       room = c.in-Ok-new_buffer.ensures;
       open_still = ap (λ (l : AbstractLink). l.closed) c.in-Ok.ensures;
+      asked = omega arith;
       so_far = ([], Consumes_none (g.S.Source.tells c.args.source.now), rw (ap (λ (l : AbstractLink). l.held) c.in-Ok.ensures, ap (λ (l : AbstractLink). l.totals) c.in-Ok.ensures) start, no_pieces);
     }
 
@@ -68,7 +70,18 @@ returns-in-Err-FrameTooLong-clause-runs g c =
     let consumed = Consumes_trans _ _ _ h.0 p h.1 given in
     let is : c.feed.result ≡ Err FrameTooLong = cc in
     let x = fed_too_long d no_frames (h.0 ++ p) (link_view c.feed.new.self) c.feed.result o o₁ r r₁ is fed in
-    record { read = h.0 ++ p; consumed = consumed; outcomes = x.outcomes; rest = x.rest; split = x.split; passed = x.passed; last = x.too_long }
+    let size : length c.deref.result.now ≡ 65536 = ap length c.deref.ensures.value ∙ c.in-Ok-read_piece.ensures.room ∙ c.loop.invariant.room in
+    let most : length p ≤ 65536 = omega (arith, length-take c.in-Ok-read_piece.count c.deref.result.now, size) in
+    let soon : length x.rest < 4 + length p = found_soon h.0 c.loop.link.held.items p x.rest (frames_of h.2.outcomes) (frames_of x.outcomes) h.2.split h.2.rest x.split x.too_long in
+    record {
+      read = h.0 ++ p;
+      consumed = consumed;
+      outcomes = x.outcomes;
+      rest = x.rest;
+      split = x.split;
+      passed = x.passed;
+      last = record { too_long = x.too_long; at_once = omega (arith, soon, most) };
+    }
 
 pub returns-in-Err-WriteFailed-clause-runs : goal.returns-in-Err-WriteFailed-clause-runs
 returns-in-Err-WriteFailed-clause-runs g c =
@@ -107,6 +120,7 @@ loop-preserved g c =
     record {
       room = c.in-Ok-read_piece.ensures.room ∙ c.loop.invariant.room;
       open_still = x.1;
+      asked = omega (arith, c.loop.invariant.asked, c.in-Ok-read_piece.ensures.counted);
       so_far = (h.0 ++ p, consumed, x.0, one_more_piece c.loop.counter h.0 p h.3 some most);
     }
 
@@ -114,4 +128,4 @@ pub returns-clause-unread : goal.returns-clause-unread
 returns-clause-unread g c = λ _.
     let h = c.loop.invariant.so_far in
     let all : c.loop.counter ≡ 2 ^ 40 = omega arith in
-    inr (record { read = h.0; consumed = h.1; pieces = subst (λ (k : ℕ). CameInPieces k h.0) all h.3 })
+    inr (record { asked = subst (λ (k : ℕ). WentUpBy (g.S.Source.takes c.args.source.now) k (g.S.Source.takes c.loop.source)) all c.loop.invariant.asked; read = h.0; consumed = h.1; pieces = subst (λ (k : ℕ). CameInPieces k h.0) all h.3 })

@@ -1,6 +1,6 @@
 use Rattle.std.proofs.Common.{◌≡◌, ℕ, false, List, length}
 use Rattle.std.specs.Io.KnownBytes.{Consumes}
-use Rattle.guard_frames.specs.Totals.{no_frames}
+use Rattle.guard_frames.specs.Totals.{no_frames, WentUpBy}
 use Rattle.guard_frames.specs.Feeding.{TakesAll}
 use Rattle.guard_frames.specs.Runs.{CameInPieces}
 use Rattle.guard_frames.proofs.running.decide_stream.Given as goal
@@ -9,6 +9,7 @@ abbrev pub invariant-loop : goal.invariant-loop
 invariant-loop g l = record {
   room : length l.buffer.items ≡ 65536;
   open_still : l.link.closed ≡ false;
+  asked : WentUpBy (g.S.Source.takes l.initial.source) l.counter (g.S.Source.takes l.source);
   so_far : (read : List ℕ) × Consumes (g.S.Source.tells l.initial.source) (g.S.Source.tells l.source) read
       × TakesAll (g.D.Decide.decides l.policy) no_frames read l.link.totals l.link.held.items
       (g.O.Sink.taken l.initial.out) (g.O.Sink.taken l.out) (g.R.Sink.taken l.initial.reports) (g.R.Sink.taken l.reports)

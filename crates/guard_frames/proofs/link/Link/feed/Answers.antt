@@ -1,21 +1,22 @@
-use Rattle.std.proofs.Common.{refl, drop}
+use Rattle.std.proofs.Common.{refl, subst, drop}
 use Rattle.std.proofs.lemmas.List.{take_rest}
 use Rattle.guard_frames.specs.Frames.{IsFrame, IsUnfinished, IsTooLong}
+use Rattle.guard_frames.specs.Cut.{IsRest}
 use Rattle.guard_frames.specs.LinkView.{link_view}
 use Rattle.guard_frames.proofs.Holding.{held_splits, keeps_all, too_long_now, is_whole, decided_whole, failure_before, feeds_after}
 use Rattle.guard_frames.proofs.link.Link.feed.Goals as goal
 
-pub returns-in-Unfinished-clause-open : goal.returns-in-Unfinished-clause-open
-returns-in-Unfinished-clause-open g c = λ still.
-    let rest : IsUnfinished c.complete-at.new.held.items = rw c.as_slice.ensures.value at c.in-Unfinished.ensures in (
+pub returns-in-Rest-Unfinished-clause-open : goal.returns-in-Rest-Unfinished-clause-open
+returns-in-Rest-Unfinished-clause-open g c = λ still.
+    let rest : IsUnfinished c.complete-at.new.held.items = rw c.as_slice.ensures.value at (subst (IsRest c.as_slice.result.now) c.in-Rest-Unfinished.field-0-is c.in-Rest-Unfinished.ensures) in (
       keeps_all _ c.args.self.now.totals c.args.self.now.held.items c.args.piece.now c.complete-at.new.held.items c.complete-at.result _ _
           c.complete-at.ensures.held (c.complete-at.ensures.all rest) rest,
       still,
     )
 
-pub returns-in-TooLong-clause-open : goal.returns-in-TooLong-clause-open
-returns-in-TooLong-clause-open g c = λ still.
-    let long : IsTooLong c.complete-at.new.held.items = rw c.as_slice.ensures.value at c.in-TooLong.ensures in (
+pub returns-in-Rest-TooLong-clause-open : goal.returns-in-Rest-TooLong-clause-open
+returns-in-Rest-TooLong-clause-open g c = λ still.
+    let long : IsTooLong c.complete-at.new.held.items = rw c.as_slice.ensures.value at (subst (IsRest c.as_slice.result.now) c.in-Rest-TooLong.field-0-is c.in-Rest-TooLong.ensures) in (
       too_long_now _ c.args.self.now.totals c.args.self.now.held.items c.args.piece.now c.complete-at.new.held.items c.complete-at.result _ _
           c.complete-at.ensures.held long,
       refl,

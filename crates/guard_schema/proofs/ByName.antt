@@ -1,6 +1,6 @@
 -- Types by the names of definitions, as a schema keeps them.
 use Rattle.std.proofs.Common.{◌≡◌, ℕ, zero, suc, ◌+◌, Bool, true, false, cond, List, [], ◌∷◌, ◌++◌, length, map, drop, get_or, Option, Some, None, Bor, MatchOption, option_map, slice_get, refl, sym, ap, ◌∙◌, append_assoc, arith}
-use Rattle.std.specs.Prelude.{option_and_then, ◌<◌, ◌≤◌, bytes_eq}
+use Rattle.std.specs.Prelude.{option_and_then, ◌<◌, ◌≤◌}
 use Rattle.std.specs.List.{HoldsAt}
 use Rattle.std.proofs.Math.Path.{fun_ext}
 use Rattle.std.proofs.lemmas.Option.{slice_get_past, slice_get_read}

@@ -1,5 +1,5 @@
 -- Texts denote one schema at most, and then they have no fault: step by step.
-use Rattle.std.proofs.Common.{◌≡◌, ℕ, suc, true, false, List, [], ◌∷◌, Option, Some, None, Result, Ok, Err, refl, sym, ap, subst, ◌∙◌}
+use Rattle.std.proofs.Common.{◌≡◌, true, false, List, [], ◌∷◌, Option, Some, None, Ok, Err}
 use Rattle.guard_model.specs.declared.site.Site.{Site}
 use Rattle.guard_model.specs.AbstractType as type
 use Rattle.guard_model.specs.AbstractType.{AbstractType, AbstractKind, Constraint, type_of}
@@ -9,10 +9,10 @@ use Rattle.guard_syntax.specs.Trees.{WrittenValue, WrittenConstraint, WrittenOfC
 use Rattle.guard_values.specs.Denotes as values
 use Rattle.guard_constraints.specs.Visible.{Visible}
 use Rattle.guard_constraints.specs.Denotes as constraints
-use Rattle.guard_schema.specs.Outcomes.{Is, Then, IsDecided}
+use Rattle.guard_schema.specs.Outcomes.{IsDecided}
 use Rattle.guard_schema.specs.Faults.{AbstractFault, Value, Cons, Outcome}
-use Rattle.guard_schema.specs.Readings.{IsSoundAt, ReadsValue, ReadsMember, ReadsConstraint}
-use Rattle.guard_schema.specs.Finishing.{Filling, Adds, AddsOne, Constrains, Sizes, ConstrainsByOne, ConstrainsBefore, FillsPresence, constraint_before, with_constraint, listed, Finishes, FinishesKind, FinishesList, FinishesChoice, FinishesElement, FinishesComponent, FillsAll, Fills, FillsNext, FillsFrom, FillsFromBase, FillsOthers, site_of_type}
+use Rattle.guard_schema.specs.Readings.{ReadsValue, ReadsMember, ReadsConstraint}
+use Rattle.guard_schema.specs.Finishing.{Filling, Adds, AddsOne, Constrains, ConstrainsByOne, ConstrainsBefore, FillsPresence, constraint_before, with_constraint, listed, Finishes, FinishesKind, FinishesList, FinishesChoice, FinishesElement, FinishesComponent, FillsAll, Fills, FillsNext, FillsFrom, FillsFromBase, FillsOthers, site_of_type}
 use Rattle.guard_schema.proofs.Outcomes.{is_decided, passes_decided, then_decided}
 
 -- a tree denotes one value, and one constraint

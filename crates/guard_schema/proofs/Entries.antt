@@ -1,8 +1,8 @@
 -- Lists of what is written, one entry after another as a loop reads them: whatever the entries that are left make of what there is so far, all make of
 -- what there was first.
-use Rattle.std.proofs.Common.{◌≡◌, ℕ, ◌+◌, ◌<◌, ◌≤◌, List, [], ◌∷◌, map, length, get_or, drop, Option, Some, None, Result, Ok, Err, refl, sym, ap, subst, ◌∙◌, inl, inr}
+use Rattle.std.proofs.Common.{◌≡◌, ℕ, ◌+◌, ◌<◌, ◌≤◌, List, [], ◌∷◌, length, get_or, drop, Option, Some, None, Result, Ok, Err, refl, sym, ap, subst, ◌∙◌, inl, inr}
 use Rattle.std.proofs.lemmas.List.{at_drop_more, at_drop_all}
-use Rattle.guard_schema.specs.Outcomes.{Is, Then, RefusesBy}
+use Rattle.guard_schema.specs.Outcomes.{Then, RefusesBy}
 
 -- `Steps` is what a list of trees makes of a state, as `read` sees the trees; `One` what one tree does; `final` what is answered in the end.
 module _ {T W S R F : Type 0} (read : List T → W) (Steps : W → S → Result R F → Type 0) (One : T → S → Result S F → Type 0) (final : S → R)

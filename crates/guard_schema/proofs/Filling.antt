@@ -1,8 +1,8 @@
 -- Components, alternatives and constraints one after another, as loops read them.
-use Rattle.std.proofs.Common.{◌≡◌, ℕ, ◌+◌, ◌<◌, ◌≤◌, List, [], ◌∷◌, ◌++◌, map, length, get_or, drop, suc, Option, Result, Ok, Err, Bor, inl, inr, refl}
+use Rattle.std.proofs.Common.{◌≡◌, ℕ, ◌+◌, ◌<◌, ◌≤◌, List, map, length, get_or, Option, Ok, refl}
 use Rattle.guard_model.specs.AbstractType.{AbstractType}
 use Rattle.guard_model.specs.declared.site.Site.{Site}
-use Rattle.guard_syntax.specs.Trees.{WrittenConstraint, WrittenComponentForm, named, components_of_type, WrittenComponents, component_before, components_of, WrittenAlternatives, alternatives_of, WrittenModule}
+use Rattle.guard_syntax.specs.Trees.{WrittenComponentForm, named, components_of_type, WrittenComponents, component_before, components_of, alternatives_of}
 use Rattle.guard_syntax.specs.TypeViews as written
 use Rattle.guard_syntax.specs.SetViews.{constraint_view}
 use Rattle.guard_syntax.specs.declared.tree.ConsTree.{ConsTree}
@@ -11,8 +11,7 @@ use Rattle.guard_syntax.specs.declared.tree.AlternativeTree.{AlternativeTree}
 use Rattle.guard_constraints.specs.Visible.{Visible}
 use Rattle.guard_schema.specs.Outcomes.{Is, Then, RefusesBy}
 use Rattle.guard_schema.specs.Faults.{AbstractFault, Outcome}
-use Rattle.guard_schema.specs.Texts.{ReadsText, ReadsTexts}
-use Rattle.guard_schema.specs.Known.{Built, Known, with_built}
+use Rattle.guard_schema.specs.Known.{Known, with_built}
 use Rattle.guard_schema.specs.Building.{BuildsNumber, BuildsAll}
 use Rattle.guard_schema.specs.Finishing.{Filling, AddsOne, Adds, Fills, FillsEntry, FillsOthers, FillsAlternative}
 use Rattle.guard_schema.proofs.Entries as entries

@@ -26,7 +26,6 @@ use Rattle.guard_syntax.specs.declared.tree.BaseTree.TheVariants as base_form
 use Rattle.guard_syntax.specs.declared.tree.BaseTree.TheVariants.{rolls-Of}
 use Rattle.guard_syntax.specs.declared.tree.BaseTree.TheViews.{out-TypeTree, out-CompTree}
 use Rattle.guard_syntax.specs.declared.tree.Collection.{Collection}
-use Rattle.guard_syntax.specs.declared.tree.CompForm.{CompForm}
 use Rattle.guard_syntax.specs.declared.tree.CompForm.TheVariants as component_form
 use Rattle.guard_syntax.specs.declared.tree.CompForm.TheVariants.{rolls-ComponentsOf}
 use Rattle.guard_syntax.specs.declared.tree.CompTree.{CompTree}

@@ -1,5 +1,5 @@
 -- What names mean by what the code keeps is what they mean by the definitions.
-use Rattle.std.proofs.Common.{◌≡◌, ◌<◌, ◌≤◌, Bor, MatchOption, ℕ, zero, suc, List, [], ◌∷◌, length, map, Option, Some, None, option_map, slice_get, refl, sym, ap, subst, ◌∙◌, IsTrue, arith}
+use Rattle.std.proofs.Common.{◌≡◌, ◌<◌, ◌≤◌, Bor, MatchOption, ℕ, zero, suc, List, [], ◌∷◌, length, Option, Some, None, option_map, slice_get, refl, sym, ap, subst, ◌∙◌, IsTrue, arith}
 use Rattle.std.specs.Prelude.{IfSome, All}
 use Rattle.std.proofs.Math.Path.{fun_ext}
 use Rattle.std.proofs.lemmas.Option.{same_Some, slice_get_past, slice_get_read}
@@ -15,14 +15,13 @@ use Rattle.guard_model.specs.declared.ty.Ty.{Ty}
 use Rattle.guard_model.specs.declared.value.Value.{Value}
 use Rattle.guard_names.specs.Declarations.{definitions}
 use Rattle.guard_names.specs.NamesView.{modules_of, order_of}
-use Rattle.guard_values.specs.Meanings.{Governed, Meaning}
+use Rattle.guard_values.specs.Meanings.{Meaning}
 use Rattle.guard_values.specs.Visible.{visible_definition, placed_definition}
 use Rattle.guard_values.specs.Views.{known_pair, known_definition, home_name, visible_from, AreKnownFitting}
 use Rattle.guard_constraints.specs.Views.{visible_at, placed_type, types_from, AreKnownSound}
-use Rattle.guard_constraints.specs.Visible.{Visible}
 use Rattle.guard_schema.specs.declared.progress.Progress.{Progress}
-use Rattle.guard_schema.specs.Known.{Built, Known, built_at, governed, governed_value, type_alone, visible, meant}
-use Rattle.guard_schema.specs.Pairs.{paired, built_view}
+use Rattle.guard_schema.specs.Known.{Built, built_at, governed, governed_value, type_alone, visible, meant}
+use Rattle.guard_schema.specs.Pairs.{paired}
 use Rattle.guard_schema.specs.Views.{built_in, known_view}
 
 -- ---- at one place

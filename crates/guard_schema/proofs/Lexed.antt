@@ -1,6 +1,5 @@
 -- What the lexer refuses is refused by the text's first fault.
-use Rattle.std.proofs.Common.{◌≡◌, ◌⊎◌, inl, inr, ℕ, List, Option, Some, None, Err, option_map, refl, sym, subst, ◌∙◌}
-use Rattle.std.proofs.lemmas.Option.{same_Some}
+use Rattle.std.proofs.Common.{◌≡◌, ◌⊎◌, inl, inr, ℕ, List, None, option_map, refl, sym, subst}
 use Rattle.guard_lexer.specs.declared.fault.LexFault.{LexFault}
 use Rattle.guard_lexer.specs.declared.fault.LexFault.TheVariants as lex
 use Rattle.guard_lexer.specs.Lexing.{FirstFault, fault_named}

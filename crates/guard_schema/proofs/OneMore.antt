@@ -1,5 +1,5 @@
 -- A sound type with one proper constraint more is sound.
-use Rattle.std.proofs.Common.{◌≡◌, true, ◌&&◌, refl, ap, sym, subst, ◌∙◌, IsTrue, List}
+use Rattle.std.proofs.Common.{◌≡◌, refl, ◌∙◌, IsTrue, List}
 use Rattle.std.proofs.lemmas.Bool.{and_parts, and_from}
 use Rattle.guard_model.specs.declared.tag.Tag.{Tag}
 use Rattle.guard_model.specs.AbstractType as type

@@ -1,12 +1,8 @@
 -- Texts denote one schema at most, and then they have no fault.
-use Rattle.std.proofs.Common.{◌≡◌, ◌+◌, ℕ, suc, List, [], ◌∷◌, ◌++◌, length, Option, Some, None, Result, Ok, Err, refl, sym, ap, subst, ◌∙◌, slice_get}
+use Rattle.std.proofs.Common.{◌≡◌, ℕ, suc, List, [], ◌∷◌, ◌++◌, length, Option, Some, None, Ok, Err, refl, sym, subst, ◌∙◌}
 use Rattle.std.proofs.lemmas.Option.{same_Some}
 use Rattle.guard_model.specs.declared.site.Site.{Site}
 use Rattle.guard_model.specs.AbstractType.{AbstractType}
-use Rattle.guard_model.specs.AbstractValue.{AbstractValue}
-use Rattle.guard_model.proofs.Results.{same_Ok}
-use Rattle.guard_tagcheck.specs.Distinct.{Distinct, IsClash}
-use Rattle.guard_lexer.specs.declared.token.Token.{Token}
 use Rattle.guard_lexer.proofs.OneAnswer.{one_list, none_lexed}
 use Rattle.guard_syntax.specs.Lexemes.{lexemes_of, sites_of}
 use Rattle.guard_syntax.specs.Parses.{IsWritten, HasSites}
@@ -16,14 +12,13 @@ use Rattle.guard_names.specs.Declarations.{Definition, definitions}
 use Rattle.guard_names.specs.Meanings.{Uses}
 use Rattle.guard_names.proofs.Orders.{one_order}
 use Rattle.guard_names.proofs.OneFault.{never_both}
-use Rattle.guard_tagging.specs.Faults.{first_fault}
 use Rattle.guard_tagging.specs.Surroundings.{nodes_of_all}
 use Rattle.guard_tagging.specs.Types.{Surroundings}
 use Rattle.guard_constraints.specs.Visible.{Visible}
-use Rattle.guard_schema.specs.Outcomes.{Is, Then, IsDecided}
+use Rattle.guard_schema.specs.Outcomes.{IsDecided}
 use Rattle.guard_schema.specs.Faults.{AbstractFault, Lex, Syntax, Name, Tag, Clash}
 use Rattle.guard_schema.specs.Texts.{IsModuleText, ReadsText, ReadsTexts}
-use Rattle.guard_schema.specs.Known.{Built, Known, with_built, none_known, types_of, visible, around}
+use Rattle.guard_schema.specs.Known.{Known, with_built, none_known, types_of, visible, around}
 use Rattle.guard_schema.specs.Building.{HasTags, TellsApart, Assigns, HasValue, Builds, BuildsNumber, BuildsAll}
 use Rattle.guard_schema.specs.Accepts.{OrdersNames, Denotes}
 use Rattle.guard_schema.proofs.Outcomes.{is_decided, passes_decided, then_decided}

@@ -1,7 +1,7 @@
 -- Outcomes of steps: how they are reached, and that there is one at most.
-use Rattle.std.proofs.Common.{◌≡◌, ◌⊎◌, inl, inr, Bool, true, false, Option, Some, None, Result, Ok, Err, refl, sym, ap, subst, ◌∙◌}
+use Rattle.std.proofs.Common.{◌≡◌, inl, inr, Bool, true, false, Option, Some, None, Result, Ok, Err, refl, sym, subst, ◌∙◌}
 use Rattle.std.specs.Prelude.{IsTrue}
-use Rattle.guard_model.proofs.Results.{same_Ok, same_Err}
+use Rattle.guard_model.proofs.Results.{same_Ok}
 use Rattle.guard_schema.specs.Outcomes.{Is, Passes, Then, RefusesBy, Answers, IsDecided}
 
 -- ---- reached

@@ -1,11 +1,11 @@
 -- What it is for texts to denote a schema, and why they denote none. This is the page to read first.
-use Rattle.std.specs.Prelude.{◌≡◌, ℕ, List, [], length, Ok, Err}
+use Rattle.std.specs.Prelude.{ℕ, List, [], length, Ok, Err}
 use Rattle.guard_syntax.specs.Trees.{WrittenModule}
 use Rattle.guard_names.specs.Declarations.{definitions}
 use Rattle.guard_names.specs.Meanings.{Uses}
 use Rattle.guard_names.specs.Order.{IsOrder}
 use Rattle.guard_names.specs.Faults.{AreFaultless, IsFirstFault}
-use Rattle.guard_schema.specs.Outcomes.{Is, Then, IsDecided}
+use Rattle.guard_schema.specs.Outcomes.{Is, Then}
 use Rattle.guard_schema.specs.Faults.{AbstractFault, Name, Outcome}
 use Rattle.guard_schema.specs.Texts.{ReadsTexts, CountsTexts}
 use Rattle.guard_schema.specs.Known.{none_known}

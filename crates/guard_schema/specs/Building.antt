@@ -12,7 +12,7 @@ use Rattle.guard_tagging.specs.Tagged.{IsTagged, IsFirstFault}
 use Rattle.guard_tagging.specs.Named as tagging
 use Rattle.guard_constraints.specs.Visible.{Visible}
 use Rattle.guard_schema.specs.Outcomes.{Is, Passes, Then}
-use Rattle.guard_schema.specs.Faults.{AbstractFault, Tag, Clash, TooLarge, Outcome, IsNamed}
+use Rattle.guard_schema.specs.Faults.{Tag, Clash, TooLarge, Outcome, IsNamed}
 use Rattle.guard_schema.specs.Known.{Built, Known, with_built, types_of, visible, around}
 use Rattle.guard_schema.specs.Readings.{IsSoundAt, ReadsMember}
 use Rattle.guard_schema.specs.Finishing.{Finishes, site_of_type}

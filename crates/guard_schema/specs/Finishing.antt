@@ -8,12 +8,11 @@ use Rattle.guard_model.specs.AbstractType.{AbstractType, AbstractKind, AbstractP
 use Rattle.guard_model.specs.TypeView.{OneComponent, components_of}
 use Rattle.guard_model.specs.Counts.{component_count}
 use Rattle.guard_der.specs.ProperConstraints.{type_of_size}
-use Rattle.guard_syntax.specs.Trees as written
-use Rattle.guard_syntax.specs.Trees.{WrittenConstraint, WrittenOfConstraint, WrittenPresence, mandatory, optional, default, WrittenType, type_node, WrittenBase, plain, numbers, enumerated, structure, choice, of_type, named_type, WrittenComponents, no_components, component, components_from, WrittenAlternatives, no_alternatives, alternative, WrittenAlternative, WrittenComponentForm, named, components_of_type}
+use Rattle.guard_syntax.specs.Trees.{WrittenConstraint, WrittenOfConstraint, WrittenPresence, mandatory, optional, default, WrittenType, type_node, WrittenBase, structure, choice, of_type, named_type, WrittenComponents, no_components, component, components_from, WrittenAlternatives, no_alternatives, alternative, WrittenAlternative, WrittenComponentForm, named, components_of_type}
 use Rattle.guard_tagging.specs.Types.{parts_of}
 use Rattle.guard_constraints.specs.Visible.{Visible}
 use Rattle.guard_schema.specs.Outcomes.{Is, Then}
-use Rattle.guard_schema.specs.Faults.{AbstractFault, Outcome}
+use Rattle.guard_schema.specs.Faults.{Outcome}
 use Rattle.guard_schema.specs.Readings.{IsSoundAt, ReadsMember, ReadsConstraint}
 
 -- ---- parts of types

@@ -1,5 +1,5 @@
 -- What a written value and a written constraint are, or their first fault.
-use Rattle.std.specs.Prelude.{◌≡◌, Some, Ok, Err, IsTrue}
+use Rattle.std.specs.Prelude.{◌≡◌, Some, Ok, Err}
 use Rattle.guard_model.specs.declared.site.Site.{Site}
 use Rattle.guard_model.specs.AbstractType.{AbstractType, Constraint}
 use Rattle.guard_model.specs.AbstractValue.{AbstractValue}
@@ -15,7 +15,7 @@ use Rattle.guard_constraints.specs.Denotes as constraints
 use Rattle.guard_constraints.specs.Faults.{fault_of}
 use Rattle.guard_constraints.specs.Views as constraint_views
 use Rattle.guard_schema.specs.Outcomes.{Is, Passes, Then}
-use Rattle.guard_schema.specs.Faults.{AbstractFault, Value, Cons, DefaultOutside, Outcome, IsNamed}
+use Rattle.guard_schema.specs.Faults.{Value, Cons, DefaultOutside, Outcome, IsNamed}
 
 -- The type that is written there is sound. Only a value can keep it from that: one that stands alone in a constraint of a type that is
 -- referred to, and whose encoding is longer than may be under the tags before the reference (V8).

@@ -1,5 +1,5 @@
 -- The modules that texts are.
-use Rattle.std.specs.Prelude.{◌≡◌, ℕ, suc, List, [], ◌∷◌, ◌++◌, length, Ok, Err, nat_le}
+use Rattle.std.specs.Prelude.{ℕ, suc, List, [], ◌∷◌, ◌++◌, length, Ok, Err, nat_le}
 use Rattle.guard_lexer.specs.declared.token.Token.{Token}
 use Rattle.guard_lexer.specs.Lexing.{Lexes, FirstFault, fault_named}
 use Rattle.guard_syntax.specs.declared.fault.SyntaxFault.{SyntaxFault}
@@ -10,7 +10,7 @@ use Rattle.guard_syntax.specs.Faults.{NamesToken, fault_of}
 use Rattle.guard_names.specs.declared.fault.NameFault.TheVariants.{TooManyModules}
 use Rattle.guard_names.specs.Faults.{most_modules}
 use Rattle.guard_schema.specs.Outcomes.{Is, Passes, Then}
-use Rattle.guard_schema.specs.Faults.{AbstractFault, Lex, Syntax, Name, Outcome, IsNamed}
+use Rattle.guard_schema.specs.Faults.{Lex, Syntax, Name, Outcome, IsNamed}
 
 -- The text is cut into tokens that write this tree, each node with the site of its first token. `place` is its place in the list, from 1.
 pub record IsModuleText (place : ℕ) (text : List ℕ) (tree : WrittenModule) : Type 0 where

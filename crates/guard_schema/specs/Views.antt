@@ -1,8 +1,6 @@
 -- What the code's values stand for.
-use Rattle.std.specs.Prelude.{◌≡◌, ℕ, List, [], ◌∷◌, map, All, IsTrue, IfSome, string_bytes, Option, Some, None, option_map, option_and_then, bytes_eq, slice_get}
+use Rattle.std.specs.Prelude.{ℕ, List, map, string_bytes, Option, Some, None, option_map, option_and_then, slice_get}
 use Rattle.guard_model.specs.TypeView.{type_view, component_view}
-use Rattle.guard_model.specs.ValueView.{value_view}
-use Rattle.guard_model.specs.declared.ty.Ty.{Ty}
 use Rattle.guard_model.specs.declared.value.Value.{Value}
 use Rattle.guard_syntax.specs.Trees.{WrittenOfConstraint}
 use Rattle.guard_syntax.specs.SetViews.{constraint_view}

@@ -19,12 +19,7 @@ use guard_syntax::{BaseTree, ConsTree, OfConsTree, TypeTree};
 use std::alloc::{AllocError, Global};
 
 /// The type that is written so, with the constraint before OF and those behind it.
-pub fn with_written(
-    alloc: Global,
-    scope: Scope,
-    tree: &TypeTree,
-    ty: Ty,
-) -> Result<Ty, SchemaFault>
+pub fn with_written(alloc: Global, scope: Scope, tree: &TypeTree, ty: Ty) -> Result<Ty, SchemaFault>
     ensures { Answers type_view named result (ConstrainsWritten (visible_of scope.entry) (written.type_view tree.now) (type_view ty)) }
 {
     let before = constrained_before(alloc, scope, tree.site, &tree.base, ty)?;

@@ -39,7 +39,7 @@ impl Schema {
     pub fn build(alloc: Global, texts: &[&[u8]]) -> Result<Schema, SchemaFault>
         // What is answered is what the texts denote.
         ensures accepted { IfOk result (λ schema. Accepts (map (λ t. t.now) texts.now) (schema_view schema)) }
-        // A refusal names the texts' first fault, unless memory ran out. Then they denote no schema (`law_schema_or_fault`).
+        // A refusal names the texts' first fault, unless memory ran out. Then they denote no schema (`law_one_schema`).
         ensures refused { IfErr result (λ f. IfSome (named f) (IsRefused (map (λ t. t.now) texts.now))) }
         // The schema that the texts denote is answered, unless memory runs out.
         ensures only { (s : AbstractSchema) → Accepts (map (λ t. t.now) texts.now) s → Gives schema_view named result (Ok s) }

@@ -1,4 +1,3 @@
-use Rattle.std.proofs.Common.{◌≡◌}
 use Rattle.std.specs.Prelude.{IsTrue}
 use Rattle.guard_model.specs.TypeView.{type_view}
 use Rattle.guard_der.specs.Sound.{is_sound}

@@ -1,7 +1,7 @@
-use Rattle.std.proofs.Common.{◌≡◌, ◌++◌, map, length, drop}
-use Rattle.guard_names.specs.Declarations.{Definition, defined_in}
+use Rattle.std.proofs.Common.{◌≡◌, ◌++◌, map, length}
+use Rattle.guard_names.specs.Declarations.{defined_in}
 use Rattle.guard_names.specs.NamesView.{order_of}
-use Rattle.guard_syntax.specs.ModuleViews.{module_view, assignment_view}
+use Rattle.guard_syntax.specs.ModuleViews.{module_view}
 use Rattle.guard_schema.specs.Entries.{entries_from}
 use Rattle.guard_schema.specs.Views.{entry_view, type_place}
 use Rattle.guard_schema.proofs.ByName.{defined_behind}

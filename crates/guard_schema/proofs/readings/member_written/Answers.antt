@@ -1,5 +1,5 @@
 use Rattle.std.proofs.Common.{inl, inr, refl, sym, ap, ◌∙◌}
-use Rattle.guard_schema.specs.Faults.{AbstractFault, DefaultOutside}
+use Rattle.guard_schema.specs.Faults.{DefaultOutside}
 use Rattle.guard_schema.proofs.Read.{site_there}
 use Rattle.guard_schema.proofs.readings.member_written.Goals as goal
 

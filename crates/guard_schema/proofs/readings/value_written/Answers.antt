@@ -1,6 +1,5 @@
 use Rattle.std.proofs.lemmas.Result.{err_from_is_err_and}
 use Rattle.guard_model.specs.TypeView.{type_view}
-use Rattle.guard_model.specs.ValueView.{value_view}
 use Rattle.guard_syntax.specs.Views as values
 use Rattle.guard_schema.proofs.Known.{known_fitting}
 use Rattle.guard_schema.proofs.Read.{value_read, value_refused}

@@ -1,4 +1,4 @@
-use Rattle.std.proofs.Common.{◌≡◌, ◌∷◌, [], ◌+◌, suc, length, map, sym, ap, subst, ◌∙◌, arith, inl, refl, Ok}
+use Rattle.std.proofs.Common.{◌≡◌, ◌∷◌, [], ◌+◌, suc, length, map, ap, ◌∙◌, arith}
 use Rattle.std.specs.Prelude.{IsUtf8}
 use Rattle.guard_syntax.specs.Trees.{WrittenModule}
 use Rattle.std.proofs.lemmas.Result.{err_from_is_err_and}
@@ -7,9 +7,6 @@ use Rattle.std.proofs.lemmas.List.Elements.{All-same, All-append, All-cons, All-
 use Rattle.guard_syntax.specs.ModuleViews.{module_view}
 use Rattle.guard_tagging.specs.Spelled.{IsSpelledModule}
 use Rattle.guard_schema.specs.Faults.{named}
-use Rattle.guard_schema.specs.Outcomes.{RefusesBy}
-use Rattle.guard_schema.specs.Texts.{ReadsText}
-use Rattle.guard_schema.proofs.Outcomes.{first_refuses}
 use Rattle.guard_schema.proofs.ReadTexts.{text_refuses, text_read, no_text}
 use Rattle.guard_schema.proofs.texts.modules.Goals as goal
 

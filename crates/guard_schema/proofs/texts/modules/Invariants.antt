@@ -1,4 +1,4 @@
-use Rattle.std.proofs.Common.{◌≡◌, ◌≤◌, map, length}
+use Rattle.std.proofs.Common.{◌≡◌, map, length}
 use Rattle.std.specs.Prelude.{All, IsUtf8}
 use Rattle.guard_syntax.specs.ModuleViews.{module_view}
 use Rattle.guard_tagging.specs.Spelled.{IsSpelledModule}

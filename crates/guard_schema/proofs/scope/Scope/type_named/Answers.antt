@@ -1,5 +1,4 @@
 use Rattle.std.proofs.Common.{List, ℕ, Option, sym, ap, ◌∙◌}
-use Rattle.guard_model.specs.AbstractType.{AbstractType}
 use Rattle.guard_names.specs.NamesView.{modules_of, order_of}
 use Rattle.guard_values.specs.Visible.{visible_definition, placed_definition}
 use Rattle.guard_schema.specs.Known.{built_at, type_alone}

@@ -2,7 +2,7 @@
 //!
 //! | question | file |
 //! |---|---|
-//! | what answers the rows | `streams.rt` |
+//! | what answers the rows | `streams.rt`, `texts.rt` |
 //! | which messages pass there | `signs.rt` (`Signs`), `policies.rt` |
 //! | which source gives the stream, and which sinks take the outputs | `devices.rt` (`Pieces`, `Room`) |
 //! | how a file of rows is read and compared | the crate `conformance_rows` |
@@ -12,13 +12,16 @@ mod devices;
 mod policies;
 mod signs;
 mod streams;
+mod texts;
 
 use anyhow::ensure;
 use conformance_rows::check_rows;
 use streams::Streams;
+use texts::Texts;
 
 fn main(rt: HostRuntime) -> anyhow::Result<()> {
     let streams = check_rows(&rt, "streams.rows", &mut Streams::new())?;
-    ensure!(streams, "a row has another answer");
+    let texts = check_rows(&rt, "texts.rows", &mut Texts::new(rt.alloc()))?;
+    ensure!(streams && texts, "a row has another answer");
     Ok(())
 }

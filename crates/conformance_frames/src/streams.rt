@@ -148,7 +148,7 @@ fn text_of_run(
 }
 
 /// The octets as a text, or in hexadecimal where they are none.
-fn shown(alloc: Global, octets: &[u8]) -> Result<String, AllocError> {
+pub fn shown(alloc: Global, octets: &[u8]) -> Result<String, AllocError> {
     if let Ok(text) = str::from_utf8(octets) {
         return String::from_str(alloc, text);
     }
@@ -280,7 +280,11 @@ fn into_ten(alloc: Global, stream: &[u8]) -> Result<String, AllocError> {
     let mut out = Through::new(&mut room[..]);
     let mut reports = Kept::new(alloc);
     let end = decide_stream(alloc, &mut source, &mut out, &mut reports, &Signs);
-    let failed = (source.failed(), out.failed(), reports.failed());
+    let failed = (
+        Source::failed(&source),
+        Sink::failed(&out),
+        Sink::failed(&reports),
+    );
     let text = text_of_run(alloc, end, &room, reports.octets())?;
     format!(in alloc; "{text} {} {} {}", failed.0, failed.1, failed.2)
 }
@@ -301,14 +305,22 @@ fn errors(alloc: Global, stream: &[u8]) -> Result<String, AllocError> {
     let mut out = Through::new(Vec::new(alloc));
     let mut reports = Kept::new(alloc);
     let end = decide_stream(alloc, &mut source, &mut out, &mut reports, &Signs);
-    let failed = (source.failed(), out.failed(), reports.failed());
+    let failed = (
+        Source::failed(&source),
+        Sink::failed(&out),
+        Sink::failed(&reports),
+    );
     let read = text_of_run(alloc, end, &out.inner, reports.octets())?;
     let read = format!(in alloc; "{read} {} {} {}", failed.0, failed.1, failed.2)?;
     let mut source = Through::new(stream);
     let mut out = Through::new(Breaking(b""));
     let mut reports = Kept::new(alloc);
     let end = decide_stream(alloc, &mut source, &mut out, &mut reports, &Signs);
-    let failed = (source.failed(), out.failed(), reports.failed());
+    let failed = (
+        Source::failed(&source),
+        Sink::failed(&out),
+        Sink::failed(&reports),
+    );
     let written = text_of_run(alloc, end, b"", reports.octets())?;
     format!(in alloc; "{read}, {written} {} {} {}", failed.0, failed.1, failed.2)
 }
@@ -329,7 +341,7 @@ fn kept(alloc: Global, octets: &[u8]) -> Result<String, AllocError> {
         let held = shown(alloc, sink.octets())?;
         text.push_str(&format!(in alloc; "<{held}> ")?)?;
     }
-    format!(in alloc; "{text}{}", sink.failed())
+    format!(in alloc; "{text}{}", Sink::failed(&sink))
 }
 
 /// What a link answers to the stream, to one more octet, and to its end, twice.

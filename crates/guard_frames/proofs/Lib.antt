@@ -19,3 +19,7 @@ pub mod Composing
 pub mod Holding
 -- ---- laws
 pub mod WentExactly
+-- ---- texts
+pub mod FewModules
+pub mod OnePolicy
+pub mod UnderTexts

@@ -15,6 +15,10 @@ pub mod Feeding
 pub mod Runs
 -- ---- under a policy
 pub mod OfPolicy
+-- ---- under the policy that texts say
+pub mod ModulesView
+pub mod Texts
+pub mod RunsTexts
 -- ---- what the parts of the code do
 pub mod Cut
 pub mod Rulings

@@ -15,6 +15,8 @@
 //! | What does a piece, or the end, do to a link? | `feeding.rt` (`Link::feed`), `link.rt` (`Link::end`) | `specs/Feeding.antt` |
 //! | What does a whole run read and write, and what when a device fails? | `running.rt` (`decide_stream`) | `specs/Runs.antt` |
 //! | How does a policy decide, and what comes of a stream under it? | `policies.rt`, `guarding.rt` (`run`) | `specs/OfPolicy.antt`, `specs/Runs.antt` |
+//! | On which modules does a policy stand? | `modules.rt` (`Modules`) | `specs/ModulesView.antt` |
+//! | What do texts say, and what comes of a stream under it? | `texts.rt` (`load_texts`, `run_texts`) | `specs/Texts.antt`, `specs/RunsTexts.antt` |
 //! | Does it matter how a stream was cut? Has each stream one reading? Which frames went? | `laws.rt` | `specs/Frames.antt`, `specs/Guarding.antt` |
 #![tactic(auto)]
 
@@ -30,21 +32,25 @@ mod header;
 mod kept;
 pub mod laws;
 mod link;
+mod modules;
 mod names;
 mod passing;
 mod policies;
 mod report;
 mod running;
+mod texts;
 mod through;
 mod totals;
 
 pub use body::Body;
 pub use decision::{Decide, Ruling};
-pub use devices::{Failed, Sink, Source};
+pub use devices::{Failed, Sink, Source, put_all};
 pub use guarding::run;
 pub use kept::Kept;
 pub use link::{Link, LinkFault};
+pub use modules::Modules;
 pub use names::is_name;
 pub use running::{RunFault, decide_stream};
+pub use texts::{TextsFault, load_texts, run_texts};
 pub use through::Through;
 pub use totals::Totals;

@@ -19,7 +19,7 @@ defined_among [] name = None
 defined_among (d ∷ ds) name = if bytes_eq name d.name then Some d.ty else defined_among ds name
 
 abbrev pub types_written : WrittenModule → AbstractTypes
-types_written module = record {
-  modules = string_bytes module.name ∷ [];
-  types = λ home name. if bytes_eq home (string_bytes module.name) then defined_among (map definition_view module.definitions.items) name else None;
+types_written m = record {
+  modules = string_bytes m.name ∷ [];
+  types = λ home name. if bytes_eq home (string_bytes m.name) then defined_among (map definition_view m.definitions.items) name else None;
 }

@@ -1,5 +1,5 @@
 //! A module as rows write it: its name, and its types in the notation of `conformance_notation`. It is what a policy stands on.
-ghost use Rattle.std.specs.Prelude.{◌≡◌, map, option_map, IsTrue, IfSome};
+ghost use Rattle.std.specs.Prelude.{◌≡◌, ◌≤◌, [], ◌∷◌, map, length, option_map, string_bytes, IsTrue, IfSome};
 ghost use Rattle.guard_der.specs.Sound.{is_sound};
 ghost use Rattle.guard_model.specs.TypeView.{type_view};
 ghost use Rattle.conformance_tables.specs.Written.{definition_view, defined_among};
@@ -23,6 +23,7 @@ struct Definition {
 pub struct WrittenModule {
     name: String,
     definitions: Vec<Definition>,
+    ghost few: { length (string_bytes name ∷ []) ≤ 64 },
 }
 
 impl WrittenModule {
@@ -57,13 +58,11 @@ fn definition_of(alloc: Global, line: &str) -> Result<Definition, Unread> {
 }
 
 impl Types for WrittenModule {
-    ghost use Rattle.std.specs.Prelude.{string_bytes};
     ghost use Rattle.conformance_tables.specs.Written.{types_written};
-    ghost use Rattle.conformance_tables.proofs.OneModule.{one_is_few};
 
-    ghost types = { λ module. types_written module };
+    ghost types = { λ written. types_written written };
 
-    ghost few = { λ module. one_is_few (string_bytes module.name) };
+    ghost few = { λ written. written.few };
 
     fn ty(&self, module_name: &str, name: &str) -> Option<&Ty> {
         if module_name == self.name.as_str() {

@@ -49,7 +49,11 @@ impl Policies {
 
     fn keep(&mut self, alloc: Global, text: &[u8]) -> Result<String, AllocError> {
         self.module = read(WrittenModule::of(alloc, text_of(text)))?;
-        let answer = if self.module.is_some() { "ok" } else { "(not read)" };
+        let answer = if self.module.is_some() {
+            "ok"
+        } else {
+            "(not read)"
+        };
         String::from_str(alloc, answer)
     }
 }
@@ -96,7 +100,11 @@ fn plain(alloc: Global, text: &str) -> Result<String, AllocError> {
         to: to.as_bytes(),
         message: message.as_bytes(),
     };
-    let answer = if route.is_plain() { "plain" } else { "not plain" };
+    let answer = if route.is_plain() {
+        "plain"
+    } else {
+        "not plain"
+    };
     String::from_str(alloc, answer)
 }
 

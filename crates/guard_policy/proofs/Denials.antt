@@ -1,5 +1,5 @@
 -- The first rule that denies a value, looked for number by number.
-use Rattle.std.proofs.Common.{◌≡◌, ℕ, List, [], ◌∷◌, Bool, true, false, ◌&&◌, cond, slice_get, Option, Some, None, refl, ap, sym, ◌∙◌}
+use Rattle.std.proofs.Common.{◌≡◌, ℕ, List, ◌∷◌, Bool, true, false, ◌&&◌, cond, slice_get, Option, Some, None, refl, ap, sym, ◌∙◌}
 use Rattle.guard_model.specs.AbstractValue.{AbstractValue}
 use Rattle.guard_policy.specs.Policies.{AbstractRule, AbstractRoute}
 use Rattle.guard_policy.specs.Decisions.{NumberedRule, speaks_of, denies, first_denying}
@@ -14,7 +14,7 @@ heard_first : (route : AbstractRoute) (v : AbstractValue) (n : ℕ) (r : Abstrac
     → first_denying (heard route (record { number = n; rule = r } ∷ rest)) v ≡ cond (speaks_of route r && denies r v) (Some n) (first_denying (heard route rest) v)
 heard_first route v n r rest =
     (elim (speaks_of route r) as (λ (b : Bool). first_denying (cond b (record { number = n; rule = r } ∷ heard route rest) (heard route rest)) v
-        ≡ cond b (cond (denies r v) (Some n) (first_denying (heard route rest) v)) (first_denying (heard route rest) v)) [ true ↦ refl | false ↦ refl ])
+    ≡ cond b (cond (denies r v) (Some n) (first_denying (heard route rest) v)) (first_denying (heard route rest) v)) [ true ↦ refl | false ↦ refl ])
     ∙ by_tests (speaks_of route r) (denies r v) (Some n) (first_denying (heard route rest) v)
 
 at_front : (route : AbstractRoute) (v : AbstractValue) (n : ℕ) (o : Option AbstractRule) (rest : List NumberedRule)

@@ -1,10 +1,9 @@
 -- In a table the first unknown key is the least one.
-use Rattle.std.proofs.Common.{◌≡◌, ℕ, List, [], ◌∷◌, Bool, true, false, cond, Option, Some, None, IfSome, String, Global, string_bytes, refl, ap, sym, ◌∙◌, subst}
+use Rattle.std.proofs.Common.{◌≡◌, ℕ, List, [], ◌∷◌, Bool, true, false, cond, Option, Some, None, String, Global, string_bytes, refl, ap, ◌∙◌, subst}
 use Rattle.std.specs.List.{AllByRecursion}
 use Rattle.std.specs.List.Sorted.{IsStrictlySortedBy}
 use Rattle.std.specs.Map.{keys_of}
 use Rattle.std.specs.Ordering.{nat_cmp, is_lt, ordering_reverse}
-use Rattle.std.specs.declared.cmp.Ordering.{Ordering}
 use Rattle.std.specs.declared.cmp.Ordering.TheVariants.{Less}
 use Rattle.std.specs.Cmp.Lexicographic.{slice_cmp}
 use Rattle.std.specs.String.{string_cmp}
@@ -40,7 +39,7 @@ first_is_least keys [] sorted = refl
 first_is_least keys (x ∷ es) sorted =
     let more = first_is_least keys es sorted.1 in
     elim (is_key keys (string_bytes x.0)) as (λ (b : Bool). cond b (least_unknown keys (members_view es)) (Some (lesser (string_bytes x.0) (least_unknown keys (members_view es))))
-        ≡ cond b (first_unknown keys (members_view es)) (Some (string_bytes x.0))) [
+    ≡ cond b (first_unknown keys (members_view es)) (Some (string_bytes x.0))) [
       | true ↦ more
       | false ↦ ap Some (ap (lesser (string_bytes x.0)) more
           ∙ stays (string_bytes x.0) (first_unknown keys (members_view es)) (λ other. first_behind keys x.0 es other sorted.0))

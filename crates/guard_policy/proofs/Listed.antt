@@ -1,21 +1,19 @@
 -- What the name of a message leads to, as the index is made and as it is read.
 use Rattle.std.proofs.Common.{◌≡◌, ℕ, zero, suc, ◌+◌, ◌<◌, Bool, true, false, cond, ◌&&◌, List, [], ◌∷◌, ◌++◌, length, get_or, take, drop, map, slice_get, Option, Some, None, option_map, option_and_then, is_some, refl, ap, sym, ◌∙◌, subst, arith, add-one}
-use Rattle.std.specs.Prelude.{bytes_eq, string_bytes}
+use Rattle.std.specs.Prelude.{bytes_eq}
 use Rattle.std.specs.Borrow.{Bor}
 use Rattle.std.specs.Map.{lookup}
 use Rattle.std.specs.Option.{option_or}
 use Rattle.std.specs.Slice.{IsItemAt}
 use Rattle.std.proofs.Math.Seq.{drop-cons}
-use Rattle.std.proofs.lemmas.List.{map_more, length-map}
 use Rattle.std.proofs.lemmas.Option.{slice_get_past, slice_get_read, slice_get-map, some_pair_parts}
 use Rattle.std.proofs.lemmas.Slice.Eq.{bytes_eq-Decides}
 use Rattle.indexmap.specs.IndexMap.{insert_entry}
 use Rattle.guard_model.specs.AbstractType.{AbstractType}
 use Rattle.guard_policy.specs.declared.index.Listed.{Listed}
-use Rattle.guard_policy.specs.declared.policy.Message.{Message}
 use Rattle.guard_policy.specs.Decisions.{NumberedRule, speaks_of, speaking}
 use Rattle.guard_policy.specs.Listings.{AbstractListed, place_among, numbers_for, listing, listed_view, rules_at, heard}
-use Rattle.guard_policy.specs.Policies.{AbstractMessage, AbstractRule, AbstractRoute, message_view, declared_among}
+use Rattle.guard_policy.specs.Policies.{AbstractMessage, AbstractRule, AbstractRoute, declared_among}
 
 -- ---- what stands at a place of a list
 
@@ -72,7 +70,7 @@ heard_from route all (r ∷ rs) i e =
     let more : heard route (rules_at all (numbers_for route.message (i + 1) rs)) ≡ speaking route (i + 1) rs = heard_from route all rs (i + 1) (drop_rest all i r rs e) in
     let front : List NumberedRule → List NumberedRule = λ others. record { number = i; rule = r } ∷ others in
     (elim (bytes_eq r.message route.message) as (λ (b : Bool). bytes_eq r.message route.message ≡ b
-        → heard route (rules_at all (cond b (i ∷ numbers_for route.message (i + 1) rs) (numbers_for route.message (i + 1) rs))) ≡ speaking route i (r ∷ rs)) [
+    → heard route (rules_at all (cond b (i ∷ numbers_for route.message (i + 1) rs) (numbers_for route.message (i + 1) rs))) ≡ speaking route i (r ∷ rs)) [
       | true ↦ λ same.
           ap (λ (o : Option AbstractRule). heard route (elim o [ Some x ↦ record { number = i; rule = x } ∷ rules_at all (numbers_for route.message (i + 1) rs) | None ↦ rules_at all (numbers_for route.message (i + 1) rs) ])) (drop_get all i r rs e)
           ∙ ap (λ (others : List NumberedRule). cond (speaks_of route r) (front others) others) more
@@ -104,7 +102,7 @@ declared_from all [] i name numbers e = refl
 declared_from all (m ∷ ms) i name numbers e =
     let more = declared_from all ms (i + 1) name numbers (drop_rest all i m ms e) in
     elim (bytes_eq m.name name) as (λ (b : Bool). option_map (λ (t : AbstractType). (t, numbers)) (cond b (Some m.ty) (declared_among ms name))
-        ≡ option_and_then (type_at all) (option_map (listed_with numbers) (cond b (Some i) (place_among name (i + 1) ms)))) [
+    ≡ option_and_then (type_at all) (option_map (listed_with numbers) (cond b (Some i) (place_among name (i + 1) ms)))) [
       | true ↦ ap (option_map (λ (x : AbstractMessage). (x.ty, numbers))) (sym (drop_get all i m ms e))
       | false ↦ more
     ]
@@ -181,7 +179,7 @@ same_numbers : (name other : List ℕ) (rules : List AbstractRule) (n : ℕ)
     → cond (bytes_eq name other) (Some (listed_with (numbers_for other 0 rules) n)) None ≡ cond (bytes_eq other name) (Some (listed_with (numbers_for name 0 rules) n)) None
 same_numbers name other rules n =
     (elim (bytes_eq name other) as (λ (b : Bool). bytes_eq name other ≡ b
-        → cond b (Some (listed_with (numbers_for other 0 rules) n)) None ≡ cond b (Some (listed_with (numbers_for name 0 rules) n)) None) [
+    → cond b (Some (listed_with (numbers_for other 0 rules) n)) None ≡ cond b (Some (listed_with (numbers_for name 0 rules) n)) None) [
       | true ↦ λ same. ap (λ (x : List ℕ). Some (listed_with (numbers_for x 0 rules) n)) (sym ((bytes_eq-Decides name other).0 same))
       | false ↦ λ differ. refl
     ]) refl ∙ ap (λ b. cond b (Some (listed_with (numbers_for name 0 rules) n)) None) (alike name other)
@@ -217,7 +215,7 @@ module _ (messages : List AbstractMessage) (rules : List AbstractRule) (m : Abst
       kept : option_or (listing messages rules name) (cond (bytes_eq m.name name) (Some (listed_with (numbers_for name 0 rules) n)) None) ≡ listing messages rules name
       kept =
           (elim (bytes_eq m.name name) as (λ (b : Bool). bytes_eq m.name name ≡ b
-              → option_or (listing messages rules name) (cond b (Some (listed_with (numbers_for name 0 rules) n)) None) ≡ listing messages rules name) [
+          → option_or (listing messages rules name) (cond b (Some (listed_with (numbers_for name 0 rules) n)) None) ≡ listing messages rules name) [
             | true ↦ λ same. or_some (listing messages rules name) (Some (listed_with (numbers_for name 0 rules) n))
                 (subst (λ (x : List ℕ). is_some (listing messages rules x) ≡ true) ((bytes_eq-Decides m.name name).0 same) there)
             | false ↦ λ other. or_none (listing messages rules name)

@@ -1,5 +1,5 @@
 -- The allowing rules that fall short, gathered one by one.
-use Rattle.std.proofs.Common.{◌≡◌, ℕ, ◌+◌, ◌++◌, List, [], ◌∷◌, Bool, true, false, ◌||◌, ◌&&◌, cond, slice_get, Option, Some, None, refl, ap, sym, ◌∙◌, append_assoc, subst, inl, inr}
+use Rattle.std.proofs.Common.{◌≡◌, ℕ, ◌++◌, List, [], ◌∷◌, Bool, true, false, ◌||◌, ◌&&◌, cond, slice_get, Option, Some, None, refl, ap, sym, ◌∙◌, append_assoc, subst, inl, inr}
 use Rattle.std.specs.Prelude.{IsTrue}
 use Rattle.std.specs.List.{list_any}
 use Rattle.guard_der.specs.Fits.{fits}

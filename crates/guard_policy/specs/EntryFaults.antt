@@ -1,5 +1,5 @@
 -- What may be wrong with the messages and rules of a policy's text, and with the tables of its messages.
-use Rattle.std.specs.Prelude.{ℕ, suc, Bool, ◌&&◌, not, List, [], ◌∷◌, ◌++◌, bytes_eq, Option, None, option_map, if◌then◌else◌}
+use Rattle.std.specs.Prelude.{ℕ, suc, Bool, ◌&&◌, not, List, [], ◌∷◌, ◌++◌, bytes_eq, Option, None, option_map}
 use Rattle.std.specs.Option.{option_or, is_some}
 use Rattle.std.specs.List.{list_any}
 use Rattle.toml.specs.Data.{Members}

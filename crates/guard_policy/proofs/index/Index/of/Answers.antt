@@ -1,9 +1,9 @@
-use Rattle.std.proofs.Common.{rules, ◌≡◌, ◌+◌, ℕ, List, length, false, true, ap, sym, ◌∙◌, map, take, subst, is_some, option_map, Option}
+use Rattle.std.proofs.Common.{◌≡◌, ℕ, List, length, false, true, ap, sym, ◌∙◌, map, take, is_some, Option}
 use Rattle.std.specs.Prelude.{bytes_eq}
 use Rattle.std.specs.Map.{lookup}
 use Rattle.guard_policy.specs.declared.index.Listed.{Listed}
 use Rattle.guard_policy.specs.Listings.{AbstractListed, listing, listed_view, numbers_for}
-use Rattle.guard_policy.specs.Policies.{AbstractMessage, message_view, rule_view}
+use Rattle.guard_policy.specs.Policies.{message_view, rule_view}
 use Rattle.guard_policy.proofs.EntriesRead.{taken_is}
 use Rattle.guard_policy.proofs.Listed.{taken_length, says_new, says_old, inserted_last, is_some-map}
 use Rattle.guard_policy.proofs.index.Index.of.Goals as goal
@@ -26,7 +26,7 @@ loop-place-preserved c = λ name.
           let named : key.items ≡ m.name = w.in_ok-from_slice.ensures.items ∙ c.as_bytes-name.ensures.value in
           let numbered : w.in_ok-rules.rules.items ≡ numbers_for m.name 0 all = rw c.as_bytes-name.ensures.value at w.in_ok-rules.ensures in
           let absent : is_some (lookup (λ x. bytes_eq key.items x.items) c.loop-place.listed.entries) ≡ false =
-              ap (λ (bytes : List ℕ). is_some (lookup (λ x. bytes_eq bytes x.items) c.loop-place.listed.entries)) named ∙ sym tested ∙ w.if-not-contains_key.true in
+          ap (λ (bytes : List ℕ). is_some (lookup (λ x. bytes_eq bytes x.items) c.loop-place.listed.entries)) named ∙ sym tested ∙ w.if-not-contains_key.true in
           rw w.listed-is
           (says_new so_far all m n counted (λ x. x.items) c.loop-place.listed.entries w.insert.new.self.entries key l c.loop-place.invariant
           (w.in_ok-insert.ensures.entries ∙ inserted_last (λ x y. bytes_eq x.items y.items) c.loop-place.listed.entries key l absent) named (λ i. record { place = n; numbers = numbered i }) name)
@@ -36,13 +36,13 @@ loop-place-preserved c = λ name.
           let named : key.items ≡ m.name = w.in_ok-from_slice.ensures.items ∙ c.as_bytes-name.ensures.value in
           let numbered : w.in_ok-rules.rules.items ≡ numbers_for m.name 0 all = rw c.as_bytes-name.ensures.value at w.in_ok-rules.ensures in
           let absent : is_some (lookup (λ x. bytes_eq key.items x.items) c.loop-place.listed.entries) ≡ false =
-              ap (λ (bytes : List ℕ). is_some (lookup (λ x. bytes_eq bytes x.items) c.loop-place.listed.entries)) named ∙ sym tested ∙ w.if-not-contains_key.true in
+          ap (λ (bytes : List ℕ). is_some (lookup (λ x. bytes_eq bytes x.items) c.loop-place.listed.entries)) named ∙ sym tested ∙ w.if-not-contains_key.true in
           rw w.listed-is
           (says_new so_far all m n counted (λ x. x.items) c.loop-place.listed.entries w.insert.new.self.entries key l c.loop-place.invariant
           (w.in_ok-insert.ensures.entries ∙ inserted_last (λ x y. bytes_eq x.items y.items) c.loop-place.listed.entries key l absent) named (λ i. record { place = n; numbers = numbered i }) name)
       | else-not-contains_key w ↦
           let there : is_some (listing so_far all m.name) ≡ true =
-              ap (λ (o : Option AbstractListed). is_some o) (sym (c.loop-place.invariant m.name)) ∙ is_some-map listed_view (lookup (λ x. bytes_eq m.name x.items) c.loop-place.listed.entries)
-              ∙ sym tested ∙ w.if-not-contains_key.false in
+          ap (λ (o : Option AbstractListed). is_some o) (sym (c.loop-place.invariant m.name)) ∙ is_some-map listed_view (lookup (λ x. bytes_eq m.name x.items) c.loop-place.listed.entries)
+          ∙ sym tested ∙ w.if-not-contains_key.false in
           rw w.listed-is (c.loop-place.invariant name ∙ says_old so_far all m n counted there name)
     ])

@@ -1,4 +1,4 @@
-use Rattle.std.proofs.Common.{map, ◌∙◌}
+use Rattle.std.proofs.Common.{map}
 use Rattle.guard_policy.specs.Policies.{message_view, rule_view}
 use Rattle.guard_policy.proofs.Consistent.{consistent}
 use Rattle.guard_policy.proofs.policy.Policy.new.Goals as goal

@@ -6,7 +6,7 @@ use Rattle.guard_policy.specs.Policies.{declared_type}
 use Rattle.guard_policy.specs.Listings.{rules_at, heard}
 use Rattle.guard_policy.specs.PolicyView.{policy_view, route_view}
 use Rattle.guard_policy.specs.Verdicts.{verdict_view, pass}
-use Rattle.guard_policy.specs.Decisions.{NumberedRule, rules_of, judged, IsReason, Goes}
+use Rattle.guard_policy.specs.Decisions.{NumberedRule, judged, IsReason, Goes}
 use Rattle.guard_policy.proofs.Applicable.{declared_sound, applicable_from_consistent}
 use Rattle.guard_policy.proofs.Listed.{declared_pair, heard_listed}
 use Rattle.guard_policy.proofs.Reasons.{reason_of_value, reason_of_breach, if_ok_map, passes_exactly}
@@ -33,7 +33,7 @@ returns-in-Ok-clause-only c = λ w reason.
     let declared = (declared_pair p.rules route.message (declared_type p route.message) t c.in-Some.numbers.now c.in-Some.ensures) in
     if_ok_map (λ x. verdict_view x ≡ judged t (heard route (rules_at p.rules c.in-Some.numbers.now)) v) (λ x. verdict_view x ≡ w) c.judge.result
     (λ x e. e ∙ ap (λ (rs : List NumberedRule). judged t rs v) (heard_listed route p.rules c.in-Some.numbers.now declared.1)
-        ∙ reason_of_value p route c.args.octets.now t v w declared.0 c.in-Ok.ensures.only c.in-Ok.ensures.breach_only reason)
+    ∙ reason_of_value p route c.args.octets.now t v w declared.0 c.in-Ok.ensures.only c.in-Ok.ensures.breach_only reason)
     (rw c.deref.ensures.value at c.judge.ensures)
 
 pub returns-in-Ok-clause-passes : goal.returns-in-Ok-clause-passes
@@ -45,7 +45,7 @@ returns-in-Ok-clause-passes c =
     let declared = (declared_pair p.rules route.message (declared_type p route.message) t c.in-Some.numbers.now c.in-Some.ensures) in
     if_ok_map (λ x. verdict_view x ≡ judged t (heard route (rules_at p.rules c.in-Some.numbers.now)) v) (λ x. (verdict_view x ≡ pass) ↔ Goes p route c.args.octets.now) c.judge.result
     (λ x e. passes_exactly p route c.args.octets.now t v (verdict_view x) declared.0 c.in-Ok.ensures.decoded.0 c.in-Ok.ensures.decoded.1 c.in-Ok.ensures.only c.in-Ok.ensures.breach_only
-        (e ∙ ap (λ (rs : List NumberedRule). judged t rs v) (heard_listed route p.rules c.in-Some.numbers.now declared.1)))
+    (e ∙ ap (λ (rs : List NumberedRule). judged t rs v) (heard_listed route p.rules c.in-Some.numbers.now declared.1)))
     (rw c.deref.ensures.value at c.judge.ensures)
 
 pub returns-in-Err-Breach-clause-only : goal.returns-in-Err-Breach-clause-only
@@ -70,8 +70,16 @@ returns-in-Ok-clause-reason c =
     let v = value_view c.in-Ok.value in
     let declared = (declared_pair p.rules route.message (declared_type p route.message) t c.in-Some.numbers.now c.in-Some.ensures) in
     if_ok_map (λ x. verdict_view x ≡ judged t (heard route (rules_at p.rules c.in-Some.numbers.now)) v) (λ x. IsReason p route c.args.octets.now (verdict_view x)) c.judge.result
-    (λ x e. inr (t, declared.0, inr (v, c.in-Ok.ensures.decoded.0, c.in-Ok.ensures.decoded.1,
-        e ∙ ap (λ (rs : List NumberedRule). judged t rs v) (heard_listed route p.rules c.in-Some.numbers.now declared.1))))
+    (λ x e. inr (
+      t,
+      declared.0,
+      inr (
+        v,
+        c.in-Ok.ensures.decoded.0,
+        c.in-Ok.ensures.decoded.1,
+        e ∙ ap (λ (rs : List NumberedRule). judged t rs v) (heard_listed route p.rules c.in-Some.numbers.now declared.1),
+      ),
+    ))
     (rw c.deref.ensures.value at c.judge.ensures)
 
 pub returns-in-Err-Breach-clause-reason : goal.returns-in-Err-Breach-clause-reason

@@ -1,1 +1,1 @@
-pub mod Consistent
+pub mod Sound

@@ -4,7 +4,7 @@ use crate::verdict_notation::verdict_of;
 use conformance_notation::{octets_of, read};
 use conformance_rows::{Layer, text_of};
 use guard_model::{OutOfMemory, Ty};
-use guard_policy::{Effect, Policy, Route};
+use guard_policy::{Effect, Policy, PolicyFault, Route};
 use guard_report::verdict_text;
 use guard_schema::Schema;
 use std::alloc::{AllocError, Global};
@@ -84,12 +84,17 @@ impl Verdicts {
         }
     }
 
-    /// The policy is whole once a row asks for a verdict.
-    fn decide(&mut self, alloc: Global) {
+    /// The policy is whole once a row asks for a verdict. There is none where the types of a message and its rules make no table.
+    fn decide(&mut self, alloc: Global) -> Result<(), AllocError> {
         if let Some(draft) = self.draft.take() {
             let modules = std::mem::replace(&mut self.modules, Vec::new(alloc));
-            self.policy = Some(draft.policy(modules));
+            self.policy = match draft.policy(alloc, modules) {
+                Ok(policy) => Some(policy),
+                Err(PolicyFault::OutOfMemory) => return Err(AllocError),
+                Err(_) => None,
+            };
         }
+        Ok(())
     }
 }
 
@@ -166,7 +171,7 @@ fn printed(alloc: Global, text: Result<Vec<u8>, OutOfMemory>) -> Result<String, 
 impl Layer for Verdicts {
     /// `FROM TO MESSAGE` and octets, or a verdict.
     fn answer(&mut self, alloc: Global, input: &[u8]) -> Result<String, AllocError> {
-        self.decide(alloc);
+        self.decide(alloc)?;
         let (from, rest) = cut(text_of(input));
         let (to, rest) = cut(rest);
         let (message, given) = cut(rest);

@@ -2,12 +2,11 @@
 ghost use Rattle.std.specs.Prelude.{◌≡◌, IsTrue, IfOk};
 ghost use Rattle.guard_model.specs.TypeView.{type_view};
 ghost use Rattle.guard_der.specs.Sound.{is_sound};
-ghost use Rattle.guard_policy.specs.Policies.{FitsAlso};
 
 use conformance_notation::{Unread, type_of};
 use guard_der::sound;
 use guard_model::{OutOfMemory, Ty};
-use guard_policy::{Effect, Message, Policy, Rule};
+use guard_policy::{Effect, Message, Policy, PolicyFault, Rule};
 use std::alloc::Global;
 
 /// What the rows write of a policy.
@@ -24,7 +23,7 @@ pub struct Written<'a> {
     pub constraints: &'a str,
 }
 
-/// The policy that is written so; none where a type isn't sound.
+/// The policy that is written so; none where a type isn't sound, or where the types make no table.
 pub fn policy_of(alloc: Global, written: &Written) -> Result<Option<Policy>, Unread> {
     let declared = type_of(alloc, written.declared)?;
     let text = format!(in alloc; "{} {}", written.declared, written.constraints)?;
@@ -38,13 +37,11 @@ pub fn policy_of(alloc: Global, written: &Written) -> Result<Option<Policy>, Unr
     };
     let rule = rule_of(alloc, written, narrow)?;
     let module = String::from_str(alloc, written.module)?;
-    Ok(Some(one_rule(alloc, message, rule, module)?))
+    Ok(one_rule(alloc, message, rule, module)?)
 }
 
 /// The type under the constraints of another one.
-fn narrowed(alloc: Global, ty: &Ty, other: Box<Ty>) -> Result<Ty, OutOfMemory>
-    ensures { IfOk result (λ narrow. FitsAlso (type_view ty.now) (type_view narrow)) }
-{
+fn narrowed(alloc: Global, ty: &Ty, other: Box<Ty>) -> Result<Ty, OutOfMemory> {
     let mut narrow = ty.copy(alloc)?;
     let Ty { cons, .. } = Box::into_inner(other);
     narrow.cons = cons;
@@ -69,10 +66,9 @@ fn one_rule(
     message: Message,
     rule: Rule,
     module: String,
-) -> Result<Policy, OutOfMemory>
+) -> Result<Option<Policy>, OutOfMemory>
     requires message_sound { IsTrue (is_sound (type_view message.ty)) }
     requires rule_sound { IsTrue (is_sound (type_view rule.ty)) }
-    requires fits { FitsAlso (type_view message.ty) (type_view rule.ty) }
 {
     let mut messages = Vec::new(alloc);
     let mut rules = Vec::new(alloc);
@@ -80,5 +76,9 @@ fn one_rule(
     messages.push(message)?;
     rules.push(rule)?;
     modules.push(module)?;
-    Ok(Policy::new(messages, rules, modules))
+    match Policy::new(alloc, messages, rules, modules) {
+        Ok(policy) => Ok(Some(policy)),
+        Err(PolicyFault::OutOfMemory) => Err(OutOfMemory),
+        Err(_) => Ok(None),
+    }
 }

@@ -1,8 +1,7 @@
 -- The rules that a loop looks at apply to the value.
-use Rattle.std.proofs.Common.{◌≡◌, ℕ, suc, ◌+◌, ◌<◌, List, [], ◌∷◌, length, get_or, drop, map, Bool, true, false, ◌&&◌, cond, Some, ap, sym, ◌∙◌, subst, add-one}
+use Rattle.std.proofs.Common.{◌≡◌, ℕ, ◌<◌, List, [], ◌∷◌, length, get_or, slice_get, map, Bool, true, false, ◌&&◌, cond, Some, ap, sym, ◌∙◌, subst}
 use Rattle.std.specs.Prelude.{IsTrue}
 use Rattle.std.proofs.Math.ListN.{get_or-map}
-use Rattle.std.proofs.Math.Seq.{drop-cons}
 use Rattle.std.proofs.lemmas.List.{length-map}
 use Rattle.std.proofs.lemmas.List.Elements.{All-get_or, recursion_from_All, All-from_recursion}
 use Rattle.std.proofs.lemmas.Slice.Eq.{bytes_eq-Decides}
@@ -10,27 +9,30 @@ use Rattle.std.specs.Str.{bytes_eq}
 use Rattle.std.specs.List.{AllByRecursion}
 use Rattle.guard_model.specs.AbstractType.{AbstractType}
 use Rattle.guard_model.specs.AbstractValue.{AbstractValue}
-use Rattle.guard_model.specs.TypeView.{type_view}
 use Rattle.guard_der.specs.Fits.{fits}
 use Rattle.guard_der.specs.Sound.{is_sound}
 use Rattle.guard_policy.specs.declared.policy.Rule.{Rule}
-use Rattle.guard_policy.specs.Policies.{AbstractMessage, AbstractRule, AbstractRoute, rule_view, declared_among, FitsAlso, IsConsistent}
+use Rattle.guard_policy.specs.Policies.{AbstractMessage, AbstractRule, AbstractRoute, rule_view, declared_among, IsConsistent}
 use Rattle.guard_policy.specs.Decisions.{speaks_of, AreApplicable}
-use Rattle.std.proofs.lemmas.Option.{same_Some}
+use Rattle.guard_policy.proofs.Consistent.{Fit, rules_fit}
+use Rattle.std.proofs.lemmas.Option.{same_Some, slice_get_within, get_or_from_slice_get}
 
+-- what holds of a rule that applies
+abbrev pub Applies : AbstractRoute → AbstractValue → AbstractRule → Type 0
+Applies route v r = IsTrue (is_sound r.ty) × (IsTrue (speaks_of route r) → IsTrue (fits r.ty v))
+
+-- a rule of these, at its place in the list of the code
 pub applicable_at : (route : AbstractRoute) (v : AbstractValue) (rules : List Rule) (i : ℕ) (r : Rule)
-    → i < length rules → r ≡ get_or rules i r → AreApplicable route v (map rule_view rules)
-    → IsTrue (is_sound (type_view r.ty)) × (IsTrue (speaks_of route (rule_view r)) → IsTrue (fits (type_view r.ty) v))
+    → i < length rules → r ≡ get_or rules i r → AreApplicable route v (map rule_view rules) → Applies route v (rule_view r)
 applicable_at route v rules i r lt is applicable =
-    let P : AbstractRule → Type 0 = λ x. IsTrue (is_sound x.ty) × (IsTrue (speaks_of route x) → IsTrue (fits x.ty v)) in
-    subst P (get_or-map rule_view rules i r ∙ ap rule_view (sym is)) (All-get_or P (map rule_view rules) i (rule_view r) (rw (length-map rules rule_view) lt) applicable)
+    subst (Applies route v) (get_or-map rule_view rules i r ∙ ap rule_view (sym is))
+    (All-get_or (Applies route v) (map rule_view rules) i (rule_view r) (rw (length-map rules rule_view) lt) applicable)
 
--- what is left begins with the rule
-pub left_is : (rules : List Rule) (i : ℕ) (r : Rule) → i < length rules → r ≡ get_or rules i r
-    → map rule_view (drop i rules) ≡ rule_view r ∷ map rule_view (drop (i + 1) rules)
-left_is rules i r lt is =
-    ap (map rule_view) (drop-cons rules i r lt) ∙ ap (λ (x : Rule). rule_view x ∷ map rule_view (drop (suc i) rules)) (sym is)
-    ∙ ap (λ n. rule_view r ∷ map rule_view (drop n rules)) (sym (add-one i))
+-- the rule of a number
+pub applicable_number : (route : AbstractRoute) (v : AbstractValue) (rules : List AbstractRule) (n : ℕ) (r : AbstractRule)
+    → slice_get rules n ≡ Some r → AreApplicable route v rules → Applies route v r
+applicable_number route v rules n r is applicable =
+    subst (Applies route v) (get_or_from_slice_get rules n r r is) (All-get_or (Applies route v) rules n r (slice_get_within rules n r is) applicable)
 
 message_of : (a b c : Bool) → (a && b && c) ≡ true → c ≡ true
 message_of true true c e = e
@@ -40,9 +42,6 @@ message_of false b c e = absurd cc
 speaks_of-message : (route : AbstractRoute) (r : AbstractRule) → speaks_of route r ≡ true → r.message ≡ route.message
 speaks_of-message route r e =
     (bytes_eq-Decides r.message route.message).0 (message_of (bytes_eq r.from route.from) (bytes_eq r.to route.to) (bytes_eq r.message route.message) e)
-
-abbrev Fit : List AbstractMessage → AbstractRule → Type 0
-Fit messages r = (t : AbstractType) → declared_among messages r.message ≡ Some t → FitsAlso t r.ty
 
 applicable_rules : (messages : List AbstractMessage) (route : AbstractRoute) (t : AbstractType) (v : AbstractValue) (rules : List AbstractRule)
     → declared_among messages route.message ≡ Some t → IsTrue (fits t v)
@@ -59,7 +58,7 @@ pub applicable_from_consistent : (messages : List AbstractMessage) (rules : List
     → IsConsistent messages rules → declared_among messages route.message ≡ Some t → IsTrue (fits t v) → AreApplicable route v rules
 applicable_from_consistent messages rules route t v c declared fitting =
     All-from_recursion (λ r. IsTrue (is_sound r.ty) × (IsTrue (speaks_of route r) → IsTrue (fits r.ty v))) rules
-    (applicable_rules messages route t v rules declared fitting (recursion_from_All (λ r. IsTrue (is_sound r.ty)) rules c.rules_sound) (recursion_from_All (Fit messages) rules c.rules_fit))
+    (applicable_rules messages route t v rules declared fitting (recursion_from_All (λ r. IsTrue (is_sound r.ty)) rules c.rules_sound) (rules_fit messages rules c))
 
 -- a declared type is sound
 sound_among : (messages : List AbstractMessage) (name : List ℕ) (t : AbstractType) → AllByRecursion (λ m. IsTrue (is_sound m.ty)) messages

@@ -1,5 +1,8 @@
 -- ---- the rules that are asked
+pub mod Consistent
 pub mod Applicable
+pub mod Listed
+pub mod Denials
 pub mod Shortfalls
 -- ---- the verdict
 pub mod Goes
@@ -7,7 +10,7 @@ pub mod Reasons
 pub mod OneReason
 -- ---- the text of a policy
 pub mod Gathered
+pub mod LeastKey
 pub mod EntriesRead
 pub mod ModuleNames
-pub mod Consistent
 pub mod Loading

@@ -1,6 +1,6 @@
 -- From what each part of a text was read as to what the text says.
-use Rattle.std.proofs.Common.{◌≡◌, ℕ, List, [], map, Option, Some, None, IfSome, ap, sym, ◌∙◌, inl, inr}
-use Rattle.std.specs.Prelude.{unwrap_or}
+use Rattle.std.proofs.Common.{◌≡◌, ℕ, List, [], map, Option, Some, None, IfSome, Result, Ok, Err, ap, sym, ◌∙◌, inl, inr, subst}
+use Rattle.std.specs.Prelude.{unwrap_or, IfOk, IfErr}
 use Rattle.std.specs.Option.{option_or}
 use Rattle.std.proofs.lemmas.Option.{same_Some}
 use Rattle.toml.specs.Data.{Members}
@@ -10,7 +10,11 @@ use Rattle.guard_policy.specs.Entries.{AbstractTypes, message_in, rule_in, those
 use Rattle.guard_policy.specs.EntryFaults.{message_fault, rule_fault, entries_fault, tables_fault, document_fault}
 use Rattle.guard_policy.specs.Loads.{Loads, IsRefused}
 use Rattle.guard_policy.specs.Policies.{AbstractPolicy, AbstractMessage, AbstractRule, message_names}
-use Rattle.guard_policy.specs.PolicyFaults.{AbstractFault, toml, top_fault}
+use Rattle.guard_policy.specs.Answers.{Meets}
+use Rattle.guard_policy.specs.PolicyFaults.{AbstractFault, toml, top_fault, named}
+use Rattle.guard_policy.specs.PolicyView.{policy_view}
+use Rattle.guard_policy.specs.declared.policy.Policy.{Policy}
+use Rattle.guard_policy.specs.declared.fault.PolicyFault.{PolicyFault}
 
 -- What was read of a text, as far as it was read.
 pub record Document (text : List ℕ) (top : Members) (messages rules : List Members) : Type 0 where
@@ -26,6 +30,13 @@ pub record MessagesRead (s : AbstractTypes) (entries : List Members) (messages :
 pub record RulesRead (s : AbstractTypes) (messages : List AbstractMessage) (entries : List Members) (rules : List AbstractRule) : Type 0 where
   pub faultless : entries_fault (rule_fault s (message_names messages)) [] 1 entries ≡ None
   pub said : rules ≡ those_there (map (rule_in s) entries)
+
+one_document : (text : List ℕ) (a b : Members) → IsDocument text a → IsDocument text b → a ≡ b
+one_document text a b p q = same_Some a b (sym p.1 ∙ q.1)
+
+-- a text is one policy at most over the same types
+pub one_policy : (text : List ℕ) (s : AbstractTypes) (p q : AbstractPolicy) → Loads text s p → Loads text s q → p ≡ q
+one_policy text s p q (a, is_a, _, p_is) (b, is_b, _, q_is) = p_is ∙ ap (policy_in s) (one_document text a b is_a is_b) ∙ sym q_is
 
 module _ (text : List ℕ) (s : AbstractTypes) (top : Members) (message_entries rule_entries : List Members) (d : Document text top message_entries rule_entries) where
   messages_are : messages_in top ≡ message_entries
@@ -68,6 +79,24 @@ module _ (text : List ℕ) (s : AbstractTypes) (top : Members) (message_entries 
       refused_tables None is = tt
       refused_tables (Some x) is = inr (top, d.document, fault_is ∙ ap (λ t. option_or t None) is)
 
+      -- what becomes of a policy that is made of these messages and rules
+      module _ (modules : List (List ℕ)) (are : modules ≡ s.modules) where
+        abbrev pub Made : Result Policy PolicyFault → Type 0
+        Made result = IfOk result (λ p. policy_view p ≡ record { messages = messages; rules = rules; modules = modules })
+
+        pub loaded : (result : Result Policy PolicyFault) → Made result → Meets (tables_fault rules 1 messages) result → IfOk result (λ p. Loads text s (policy_view p))
+        loaded (Ok p) made none = subst (λ (q : AbstractPolicy). Loads text s q) (sym made) (loads modules none are)
+        loaded (Err e) made here = tt
+
+        pub loaded_only : (result : Result Policy PolicyFault) → Made result → Meets (tables_fault rules 1 messages) result
+            → (q : AbstractPolicy) → Loads text s q → IfOk result (λ p. policy_view p ≡ q)
+        loaded_only (Ok p) made none q said = made ∙ one_policy text s (record { messages = messages; rules = rules; modules = modules }) q (loads modules none are) said
+        loaded_only (Err e) made here q said = tt
+
+      pub load_refused : (result : Result Policy PolicyFault) → Meets (tables_fault rules 1 messages) result → IfErr result (λ f. IfSome (named f) (IsRefused text s))
+      load_refused (Ok p) none = tt
+      load_refused (Err e) here = refused_tables (named e) here
+
     pub refused_rules : (f : Option AbstractFault) → IfSome f (λ x. entries_fault (rule_fault s (message_names messages)) [] 1 rule_entries ≡ Some x) → IfSome f (IsRefused text s)
     refused_rules None is = tt
     refused_rules (Some x) is = inr (
@@ -101,10 +130,3 @@ refused_top text s top (Some x) document is = inr (
 pub refused_text : (text : List ℕ) (s : AbstractTypes) (f : Option AbstractFault) → IfSome f (λ x. (x ≡ toml) × IsNoDocument text) → IfSome f (IsRefused text s)
 refused_text text s None is = tt
 refused_text text s (Some x) is = inl (is.1, is.0)
-
-one_document : (text : List ℕ) (a b : Members) → IsDocument text a → IsDocument text b → a ≡ b
-one_document text a b p q = same_Some a b (sym p.1 ∙ q.1)
-
--- a text is one policy at most over the same types
-pub one_policy : (text : List ℕ) (s : AbstractTypes) (p q : AbstractPolicy) → Loads text s p → Loads text s q → p ≡ q
-one_policy text s p q (a, is_a, _, p_is) (b, is_b, _, q_is) = p_is ∙ ap (policy_in s) (one_document text a b is_a is_b) ∙ sym q_is

@@ -1,5 +1,5 @@
 -- The allowing rules that fall short, gathered one by one.
-use Rattle.std.proofs.Common.{◌≡◌, ℕ, ◌+◌, ◌++◌, List, [], ◌∷◌, Bool, true, false, ◌||◌, ◌&&◌, cond, Some, None, refl, ap, sym, ◌∙◌, append_assoc, subst, inl, inr}
+use Rattle.std.proofs.Common.{◌≡◌, ℕ, ◌++◌, List, [], ◌∷◌, Bool, true, false, ◌||◌, ◌&&◌, cond, slice_get, Option, Some, None, refl, ap, sym, ◌∙◌, append_assoc, subst, inl, inr}
 use Rattle.std.specs.Prelude.{IsTrue}
 use Rattle.std.specs.List.{list_any}
 use Rattle.guard_der.specs.Fits.{fits}
@@ -9,10 +9,12 @@ use Rattle.guard_eval.specs.Member.{is_member}
 use Rattle.guard_eval.specs.Violations.{AbstractViolation, violation}
 use Rattle.guard_policy.specs.Verdicts.{pass, not_allowed, no_rule}
 use Rattle.guard_policy.specs.Policies.{AbstractRule, AbstractRoute}
-use Rattle.guard_policy.specs.Decisions.{NumberedRule, speaks_of, speaking, is_allowing, allows, shortfalls, by_allowing}
+use Rattle.guard_policy.specs.Decisions.{NumberedRule, speaks_of, is_allowing, allows, shortfalls, by_allowing}
+use Rattle.guard_policy.specs.Listings.{rules_at, heard, allowing_at}
 use Rattle.guard_eval.proofs.Law.{type_clear, is_clear}
 use Rattle.guard_model.proofs.Tests.{not_both}
 use Rattle.std.proofs.lemmas.Bool.{and_parts}
+use Rattle.std.proofs.lemmas.Option.{same_Some}
 
 abbrev pub is_some_item : {A : Type 0} → List A → Bool
 is_some_item [] = false
@@ -85,42 +87,83 @@ pub none_allows : (all : List NumberedRule) (v : AbstractValue) (found : List (�
 none_allows all v [] g = rw (← g.allowed, ← g.allowing) refl
 none_allows all v (w ∷ ws) g = rw (← g.allowed, ← g.allowing, ← g.found_all) (ap not_allowed (append-nil (w ∷ ws)))
 
-speaking-there : (route : AbstractRoute) (i : ℕ) (r : AbstractRule) (rest : List AbstractRule) → speaks_of route r ≡ true
-    → speaking route i (r ∷ rest) ≡ record { number = i; rule = r } ∷ speaking route (i + 1) rest
-speaking-there route i r rest e = ap (λ b. cond b (record { number = i; rule = r } ∷ speaking route (i + 1) rest) (speaking route (i + 1) rest)) e
+-- ---- rules by their numbers
 
-speaking-not : (route : AbstractRoute) (i : ℕ) (r : AbstractRule) (rest : List AbstractRule) → speaks_of route r ≡ false
-    → speaking route i (r ∷ rest) ≡ speaking route (i + 1) rest
-speaking-not route i r rest e = ap (λ b. cond b (record { number = i; rule = r } ∷ speaking route (i + 1) rest) (speaking route (i + 1) rest)) e
+not_taken : {A : Type 0} (b : Bool) (x : A) → cond b (Some x) None ≡ None → b ≡ false
+not_taken true x e = absurd cc
+not_taken false x e = refl
 
--- the loop goes on past a rule that can't allow
-pub goes_on_past : (all : List NumberedRule) (route : AbstractRoute) (v : AbstractValue) (found : List (ℕ × AbstractViolation)) (rules rest : List AbstractRule) (i : ℕ) (r : AbstractRule)
-    → rules ≡ r ∷ rest → (speaks_of route r && is_allowing r) ≡ false
-    → Gathered all (speaking route i rules) v found → Gathered all (speaking route (i + 1) rest) v found
-goes_on_past all route v found rules rest i r is e g =
-    let here : Gathered all (speaking route i (r ∷ rest)) v found = subst (λ (rs : List AbstractRule). Gathered all (speaking route i rs) v found) is g in
-    elim (not_both (speaks_of route r) (is_allowing r) e) [
-      | inl silent ↦ subst (λ (rs : List NumberedRule). Gathered all rs v found) (speaking-not route i r rest silent) here
-      | inr q ↦ passed_over all (record { number = i; rule = r }) (speaking route (i + 1) rest) v found q.1
-          (subst (λ (rs : List NumberedRule). Gathered all rs v found) (speaking-there route i r rest q.0) here)
+taken : {A : Type 0} (b : Bool) (x y : A) → cond b (Some x) None ≡ Some y → (b ≡ true) × (x ≡ y)
+taken true x y e = (refl, same_Some x y e)
+taken false x y e = absurd cc
+
+-- what stands at a number, in front of the others
+abbrev in_front : ℕ → Option AbstractRule → List NumberedRule → List NumberedRule
+in_front n o rest = elim o [ Some r ↦ record { number = n; rule = r } ∷ rest | None ↦ rest ]
+
+abbrev allowing_among : AbstractRoute → Option AbstractRule → Option AbstractRule
+allowing_among route o = elim o [ Some r ↦ cond (speaks_of route r && is_allowing r) (Some r) None | None ↦ None ]
+
+heard-there : (route : AbstractRoute) (n : ℕ) (r : AbstractRule) (rest : List NumberedRule) → speaks_of route r ≡ true
+    → heard route (record { number = n; rule = r } ∷ rest) ≡ record { number = n; rule = r } ∷ heard route rest
+heard-there route n r rest e = ap (λ b. cond b (record { number = n; rule = r } ∷ heard route rest) (heard route rest)) e
+
+heard-not : (route : AbstractRoute) (n : ℕ) (r : AbstractRule) (rest : List NumberedRule) → speaks_of route r ≡ false
+    → heard route (record { number = n; rule = r } ∷ rest) ≡ heard route rest
+heard-not route n r rest e = ap (λ b. cond b (record { number = n; rule = r } ∷ heard route rest) (heard route rest)) e
+
+past : (all : List NumberedRule) (route : AbstractRoute) (v : AbstractValue) (found : List (ℕ × AbstractViolation)) (n : ℕ) (o : Option AbstractRule) (rest : List NumberedRule)
+    → allowing_among route o ≡ None → Gathered all (heard route (in_front n o rest)) v found → Gathered all (heard route rest) v found
+past all route v found n None rest e g = g
+past all route v found n (Some r) rest e g =
+    elim (not_both (speaks_of route r) (is_allowing r) (not_taken (speaks_of route r && is_allowing r) r e)) [
+      | inl silent ↦ subst (λ (rs : List NumberedRule). Gathered all rs v found) (heard-not route n r rest silent) g
+      | inr q ↦ passed_over all (record { number = n; rule = r }) (heard route rest) v found q.1
+          (subst (λ (rs : List NumberedRule). Gathered all rs v found) (heard-there route n r rest q.0) g)
     ]
 
+-- the rule stands at the number, speaks of the route and allows something
+pub record Allowing (rules : List AbstractRule) (n : ℕ) (route : AbstractRoute) (r : AbstractRule) : Type 0 where
+  pub stands : slice_get rules n ≡ Some r
+  pub speaks : speaks_of route r ≡ true
+  pub allowing : is_allowing r ≡ true
+
+found_allowing : (rules : List AbstractRule) (n : ℕ) (route : AbstractRoute) (r : AbstractRule) (o : Option AbstractRule) → slice_get rules n ≡ o → allowing_among route o ≡ Some r → Allowing rules n route r
+found_allowing rules n route r None is e = absurd cc
+found_allowing rules n route r (Some x) is e =
+    let q = taken (speaks_of route x && is_allowing x) x r e in
+    let p = and_parts (speaks_of route x) (is_allowing x) q.0 in
+    record { stands = is ∙ ap Some q.1; speaks = sym (ap (speaks_of route) q.1) ∙ p.0; allowing = sym (ap is_allowing q.1) ∙ p.1 }
+
+pub is_allowing_there : (rules : List AbstractRule) (n : ℕ) (route : AbstractRoute) (r : AbstractRule) → allowing_at rules n route ≡ Some r → Allowing rules n route r
+is_allowing_there rules n route r e = found_allowing rules n route r (slice_get rules n) refl e
+
+heard_front : (rules : List AbstractRule) (n : ℕ) (ns : List ℕ) (route : AbstractRoute) (r : AbstractRule) → Allowing rules n route r
+    → heard route (rules_at rules (n ∷ ns)) ≡ record { number = n; rule = r } ∷ heard route (rules_at rules ns)
+heard_front rules n ns route r a =
+    ap (λ (o : Option AbstractRule). heard route (in_front n o (rules_at rules ns))) a.stands ∙ heard-there route n r (rules_at rules ns) a.speaks
+
+-- the loop goes on past a number at which nothing can allow
+pub goes_on_past : (all : List NumberedRule) (rules : List AbstractRule) (route : AbstractRoute) (v : AbstractValue) (found : List (ℕ × AbstractViolation)) (left ns : List ℕ) (n : ℕ)
+    → left ≡ n ∷ ns → allowing_at rules n route ≡ None
+    → Gathered all (heard route (rules_at rules left)) v found → Gathered all (heard route (rules_at rules ns)) v found
+goes_on_past all rules route v found left ns n is e g =
+    past all route v found n (slice_get rules n) (rules_at rules ns) e (subst (λ (l : List ℕ). Gathered all (heard route (rules_at rules l)) v found) is g)
+
 -- the loop keeps a shortfall
-pub goes_on_with : (all : List NumberedRule) (route : AbstractRoute) (v : AbstractValue) (found : List (ℕ × AbstractViolation)) (rules rest : List AbstractRule) (i : ℕ) (r : AbstractRule) (w : AbstractViolation)
-    → rules ≡ r ∷ rest → (speaks_of route r && is_allowing r) ≡ true → IsTrue (fits r.ty v) → violation r.ty v ≡ Some w
-    → Gathered all (speaking route i rules) v found → Gathered all (speaking route (i + 1) rest) v (found ++ (i, w) ∷ [])
-goes_on_with all route v found rules rest i r w is e fitting h g =
-    let q = and_parts (speaks_of route r) (is_allowing r) e in
-    let here : Gathered all (speaking route i (r ∷ rest)) v found = subst (λ (rs : List AbstractRule). Gathered all (speaking route i rs) v found) is g in
-    falls_short all (record { number = i; rule = r }) (speaking route (i + 1) rest) v found w q.1 fitting h
-    (subst (λ (rs : List NumberedRule). Gathered all rs v found) (speaking-there route i r rest q.0) here)
+pub goes_on_with : (all : List NumberedRule) (rules : List AbstractRule) (route : AbstractRoute) (v : AbstractValue) (found : List (ℕ × AbstractViolation)) (left ns : List ℕ) (n : ℕ) (r : AbstractRule) (w : AbstractViolation)
+    → left ≡ n ∷ ns → Allowing rules n route r → IsTrue (fits r.ty v) → violation r.ty v ≡ Some w
+    → Gathered all (heard route (rules_at rules left)) v found → Gathered all (heard route (rules_at rules ns)) v (found ++ (n, w) ∷ [])
+goes_on_with all rules route v found left ns n r w is a fitting h g =
+    let here : Gathered all (heard route (rules_at rules (n ∷ ns))) v found = subst (λ (l : List ℕ). Gathered all (heard route (rules_at rules l)) v found) is g in
+    falls_short all (record { number = n; rule = r }) (heard route (rules_at rules ns)) v found w a.allowing fitting h
+    (subst (λ (rs : List NumberedRule). Gathered all rs v found) (heard_front rules n ns route r a) here)
 
 -- the loop ends at a rule that allows
-pub ends_with : (all : List NumberedRule) (route : AbstractRoute) (v : AbstractValue) (found : List (ℕ × AbstractViolation)) (rules rest : List AbstractRule) (i : ℕ) (r : AbstractRule)
-    → rules ≡ r ∷ rest → (speaks_of route r && is_allowing r) ≡ true → IsTrue (fits r.ty v) → violation r.ty v ≡ None
-    → Gathered all (speaking route i rules) v found → by_allowing all v ≡ pass
-ends_with all route v found rules rest i r is e fitting h g =
-    let q = and_parts (speaks_of route r) (is_allowing r) e in
-    let here : Gathered all (speaking route i (r ∷ rest)) v found = subst (λ (rs : List AbstractRule). Gathered all (speaking route i rs) v found) is g in
-    passes all (record { number = i; rule = r }) (speaking route (i + 1) rest) v found q.1 fitting h
-    (subst (λ (rs : List NumberedRule). Gathered all rs v found) (speaking-there route i r rest q.0) here)
+pub ends_with : (all : List NumberedRule) (rules : List AbstractRule) (route : AbstractRoute) (v : AbstractValue) (found : List (ℕ × AbstractViolation)) (left ns : List ℕ) (n : ℕ) (r : AbstractRule)
+    → left ≡ n ∷ ns → Allowing rules n route r → IsTrue (fits r.ty v) → violation r.ty v ≡ None
+    → Gathered all (heard route (rules_at rules left)) v found → by_allowing all v ≡ pass
+ends_with all rules route v found left ns n r is a fitting h g =
+    let here : Gathered all (heard route (rules_at rules (n ∷ ns))) v found = subst (λ (l : List ℕ). Gathered all (heard route (rules_at rules l)) v found) is g in
+    passes all (record { number = n; rule = r }) (heard route (rules_at rules ns)) v found a.allowing fitting h
+    (subst (λ (rs : List NumberedRule). Gathered all rs v found) (heard_front rules n ns route r a) here)

@@ -1,16 +1,14 @@
 -- How the code's answers stand for those of the definitions.
-use Rattle.std.specs.Prelude.{◌≡◌, ℕ, List, map, All, Option, Some, None, Result, Ok, Err, IfSome, String}
+use Rattle.std.specs.Prelude.{◌≡◌, ℕ, List, map, Option, Some, None, Result, Ok, Err, IfSome, String, if◌then◌else◌}
 use Rattle.std.specs.Borrow.{Bor}
 use Rattle.std.specs.BTreeMap.{BTreeMap}
 use Rattle.std.specs.declared.alloc.Global.{Global}
-use Rattle.toml.specs.Data.{Members}
+use Rattle.toml.specs.Data.{Members, no_members, member}
 use Rattle.toml.specs.View.{table_view}
 use Rattle.toml.specs.declared.value.Value.{Value}
-use Rattle.guard_tables.specs.Alike.{AreAlike}
-use Rattle.guard_policy.specs.EntryFaults.{types_for}
-use Rattle.guard_policy.specs.Policies.{AbstractMessage, AbstractRule}
 use Rattle.guard_policy.specs.declared.fault.PolicyFault.{PolicyFault}
-use Rattle.guard_policy.specs.PolicyFaults.{AbstractFault, named}
+use Rattle.guard_policy.specs.declared.entry.Key.{Key}
+use Rattle.guard_policy.specs.PolicyFaults.{AbstractFault, named, is_key}
 
 abbrev pub texts_view : List (Bor (List ℕ)) → List (List ℕ)
 texts_view texts = map (λ t. t.now) texts
@@ -23,6 +21,7 @@ abbrev pub Meets : {T : Type 0} → Option AbstractFault → Result T PolicyFaul
 Meets fault (Ok done) = fault ≡ None
 Meets fault (Err e) = IfSome (named e) (λ f. fault ≡ Some f)
 
--- the types of the message's rules have the values and encodings of its declared one, constraints aside
-abbrev pub IsAlike : List AbstractRule → AbstractMessage → Type 0
-IsAlike rules m = All (AreAlike m.ty) (types_for m.name rules)
+-- The first word that is none of the keys. The code's members ascend by their words' octets, so it is the least one.
+abbrev pub first_unknown : List Key → Members → Option (List ℕ)
+first_unknown keys no_members = None
+first_unknown keys (member word value others) = if is_key keys word then first_unknown keys others else Some word

@@ -1,9 +1,8 @@
 -- What may be wrong with the messages and rules of a policy's text, and with the tables of its messages.
-use Rattle.std.specs.Prelude.{ℕ, suc, Bool, ◌&&◌, not, List, [], ◌∷◌, ◌++◌, bytes_eq, Option, None, option_map, if◌then◌else◌}
+use Rattle.std.specs.Prelude.{ℕ, suc, Bool, ◌&&◌, not, List, [], ◌∷◌, ◌++◌, bytes_eq, Option, None, option_map}
 use Rattle.std.specs.Option.{option_or, is_some}
 use Rattle.std.specs.List.{list_any}
 use Rattle.toml.specs.Data.{Members}
-use Rattle.guard_model.specs.AbstractType.{AbstractType}
 use Rattle.guard_tables.specs.Tables.{first_fault}
 use Rattle.guard_policy.specs.declared.entry.Entry.{Entry}
 use Rattle.guard_policy.specs.declared.entry.Entry.TheVariants as place
@@ -12,7 +11,7 @@ use Rattle.guard_policy.specs.declared.entry.Key.TheVariants.{Name, Effect, From
 use Rattle.guard_policy.specs.Documents.{text_of, messages_in, rules_in}
 use Rattle.guard_policy.specs.Entries.{AbstractTypes, effect_named, type_in, policy_in}
 use Rattle.guard_policy.specs.Names.{is_name}
-use Rattle.guard_policy.specs.Policies.{AbstractMessage, AbstractRule, message_names}
+use Rattle.guard_policy.specs.Policies.{AbstractMessage, AbstractRule, message_names, types_for}
 use Rattle.guard_policy.specs.PolicyFaults.{AbstractFault, first_of, unless, unknown_in, missing_in, top_fault, message_keys, rule_keys, bad_name, duplicate_name, no_such_type, no_such_message, bad_effect, bad_table}
 
 -- ---- keys
@@ -55,11 +54,6 @@ entries_fault fault before number (entry ∷ others) =
     option_or (fault before number entry) (entries_fault fault (before ++ text_of Name entry ∷ []) (suc number) others)
 
 -- ---- tables
-
--- the types of the rules of this message, whoever sends it to whom, in file order
-abbrev pub types_for : List ℕ → List AbstractRule → List AbstractType
-types_for name [] = []
-types_for name (r ∷ rs) = if bytes_eq r.message name then r.ty ∷ types_for name rs else types_for name rs
 
 -- of the first message whose types make no table
 abbrev pub tables_fault : List AbstractRule → ℕ → List AbstractMessage → Option AbstractFault

@@ -13,6 +13,7 @@ pub mod EntryFaults
 pub mod Loads
 -- ---- what private contracts cite
 pub mod Answers
+pub mod Listings
 -- ---- worked examples
 pub mod Rows
 pub mod LoadRows

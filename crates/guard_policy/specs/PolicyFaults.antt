@@ -2,6 +2,8 @@
 use Rattle.std.specs.Prelude.{ℕ, Bool, List, [], ◌∷◌, string_bytes, bytes_eq, Option, Some, None, option_map, if◌then◌else◌}
 use Rattle.std.specs.Option.{option_or, is_some}
 use Rattle.std.specs.List.{list_any}
+use Rattle.std.specs.Ordering.{nat_cmp, is_lt}
+use Rattle.std.specs.Cmp.Lexicographic.{slice_cmp}
 use Rattle.toml.specs.Data.{Members, no_members, member}
 use Rattle.guard_tables.specs.declared.fault.TableFault.{TableFault}
 use Rattle.guard_policy.specs.declared.entry.Entry.{Entry}
@@ -55,10 +57,15 @@ rule_keys = Name ∷ Effect ∷ From ∷ To ∷ Message ∷ Module ∷ TypeName 
 abbrev pub is_key : List Key → List ℕ → Bool
 is_key keys word = list_any (λ key. bytes_eq (key_text key) word) keys
 
--- The first word that is none of the keys. Members stand in the order of their words' octets, so it is the least one.
-abbrev pub first_unknown : List Key → Members → Option (List ℕ)
-first_unknown keys no_members = None
-first_unknown keys (member word value others) = if is_key keys word then first_unknown keys others else Some word
+-- the lesser of two words, by their octets
+abbrev pub lesser : List ℕ → Option (List ℕ) → List ℕ
+lesser word None = word
+lesser word (Some other) = if is_lt (slice_cmp nat_cmp other word) then other else word
+
+-- the least word that is none of the keys
+abbrev pub least_unknown : List Key → Members → Option (List ℕ)
+least_unknown keys no_members = None
+least_unknown keys (member word value others) = if is_key keys word then least_unknown keys others else Some (lesser word (least_unknown keys others))
 
 -- the first of the keys at which no text stands
 abbrev pub first_missing : List Key → Members → Option Key
@@ -66,7 +73,7 @@ first_missing [] entry = None
 first_missing (key ∷ keys) entry = if is_some (text_at key entry) then first_missing keys entry else Some key
 
 abbrev pub unknown_in : Entry → List Key → Members → Option AbstractFault
-unknown_in place keys entry = option_map (unknown_key place) (first_unknown keys entry)
+unknown_in place keys entry = option_map (unknown_key place) (least_unknown keys entry)
 
 abbrev pub missing_in : Entry → List Key → Members → Option AbstractFault
 missing_in place keys entry = option_map (missing_key place) (first_missing keys entry)

@@ -1,5 +1,5 @@
 //! What becomes of a message.
-ghost use Rattle.std.specs.Prelude.{◌≡◌, ◌&&◌, map, IsTrue, IfOk};
+ghost use Rattle.std.specs.Prelude.{◌≡◌, ◌&&◌, map, option_map, IsTrue, IfOk};
 ghost use Rattle.guard_model.specs.TypeView.{type_view};
 ghost use Rattle.guard_model.specs.ValueView.{value_view};
 ghost use Rattle.guard_der.specs.Fits.{fits};
@@ -7,7 +7,8 @@ ghost use Rattle.guard_der.specs.Sound.{is_sound};
 ghost use Rattle.guard_policy.specs.Policies.{rule_view};
 ghost use Rattle.guard_policy.specs.PolicyView.{route_view};
 ghost use Rattle.guard_policy.specs.Verdicts.{verdict_view};
-ghost use Rattle.guard_policy.specs.Decisions.{speaks_of, speaking, is_allowing, denies, first_denying, by_allowing, judged, AreApplicable};
+ghost use Rattle.guard_policy.specs.Decisions.{speaks_of, is_allowing, denies, first_denying, by_allowing, judged, AreApplicable};
+ghost use Rattle.guard_policy.specs.Listings.{rules_at, heard, denies_at, allowing_at};
 
 use super::policy::{Effect, Rule};
 use super::route::Route;
@@ -16,10 +17,11 @@ use guard_eval::{first_violation, member};
 use guard_model::{OutOfMemory, Ty, Value};
 use std::alloc::Global;
 
-/// The verdict on a value of the declared type.
+/// The verdict on a value of the declared type, by the rules of these numbers.
 pub fn judge(
     alloc: Global,
     rules: &[Rule],
+    numbers: &[usize],
     route: &Route,
     ty: &Ty,
     value: &Value,
@@ -27,46 +29,52 @@ pub fn judge(
     requires type_sound { IsTrue (is_sound (type_view ty.now)) }
     requires value_fits { IsTrue (fits (type_view ty.now) (value_view value.now)) }
     requires rules_applicable { AreApplicable (route_view route.now) (value_view value.now) (map rule_view rules.now) }
-    ensures { IfOk result (λ w. verdict_view w ≡ judged (type_view ty.now) (speaking (route_view route.now) 0 (map rule_view rules.now)) (value_view value.now)) }
+    ensures { IfOk result (λ w. verdict_view w ≡ judged (type_view ty.now) (heard (route_view route.now) (rules_at (map rule_view rules.now) numbers.now)) (value_view value.now)) }
 {
     if let Some(violation) = first_violation(ty, value) {
         return Ok(Verdict::OutsideType(violation));
     }
-    if let Some(rule) = first_denying_rule(rules, route, value) {
+    if let Some(rule) = first_denying_rule(rules, numbers, route, value) {
         return Ok(Verdict::DeniedBy(rule));
     }
-    judge_by_allowing(alloc, rules, route, value)
+    judge_by_allowing(alloc, rules, numbers, route, value)
 }
 
-/// The number of the first rule of the route that denies the value.
-fn first_denying_rule(rules: &[Rule], route: &Route, value: &Value) -> Option<usize>
+/// The number of the first of these rules that speaks of the route and denies the value.
+fn first_denying_rule(
+    rules: &[Rule],
+    numbers: &[usize],
+    route: &Route,
+    value: &Value,
+) -> Option<usize>
     requires { AreApplicable (route_view route.now) (value_view value.now) (map rule_view rules.now) }
-    ensures { result ≡ first_denying (speaking (route_view route.now) 0 (map rule_view rules.now)) (value_view value.now) }
+    ensures { result ≡ first_denying (heard (route_view route.now) (rules_at (map rule_view rules.now) numbers.now)) (value_view value.now) }
 {
-    for (number, rule) in rules.iter().enumerate() {
-        if rule_speaks_of(route, rule) && rule_denies(rule, value) {
-            return Some(number);
+    for number in numbers {
+        if denies_at(rules, *number, route, value) {
+            return Some(*number);
         }
     }
     None
 }
 
-/// The verdict of the allowing rules of the route, where none denies the value.
+/// The verdict of those of these rules that speak of the route and allow something, where none denies the value.
 fn judge_by_allowing(
     alloc: Global,
     rules: &[Rule],
+    numbers: &[usize],
     route: &Route,
     value: &Value,
 ) -> Result<Verdict, OutOfMemory>
     requires { AreApplicable (route_view route.now) (value_view value.now) (map rule_view rules.now) }
-    ensures { IfOk result (λ w. verdict_view w ≡ by_allowing (speaking (route_view route.now) 0 (map rule_view rules.now)) (value_view value.now)) }
+    ensures { IfOk result (λ w. verdict_view w ≡ by_allowing (heard (route_view route.now) (rules_at (map rule_view rules.now) numbers.now)) (value_view value.now)) }
 {
     let mut shortfalls = Vec::new(alloc);
-    for (number, rule) in rules.iter().enumerate() {
-        if rule_may_allow(route, rule) {
+    for number in numbers {
+        if let Some(rule) = allowing_at(rules, *number, route) {
             match first_violation(&rule.ty, value) {
                 None => return Ok(Verdict::Pass),
-                Some(violation) => shortfalls.push((number, violation))?,
+                Some(violation) => shortfalls.push((*number, violation))?,
             }
         }
     }
@@ -74,6 +82,27 @@ fn judge_by_allowing(
         Ok(Verdict::NoRule)
     } else {
         Ok(Verdict::NotAllowed(shortfalls))
+    }
+}
+
+/// Whether the rule of this number speaks of the route and denies the value.
+fn denies_at(rules: &[Rule], number: usize, route: &Route, value: &Value) -> bool
+    requires { AreApplicable (route_view route.now) (value_view value.now) (map rule_view rules.now) }
+    ensures { result ≡ denies_at (map rule_view rules.now) number (route_view route.now) (value_view value.now) }
+{
+    match rules.get(number) {
+        Some(rule) => rule_speaks_of(route, rule) && rule_denies(rule, value),
+        None => false,
+    }
+}
+
+/// The rule of this number, where it speaks of the route and allows something.
+fn allowing_at<'a>(rules: &'a [Rule], number: usize, route: &Route) -> Option<&'a Rule>
+    ensures { option_map (λ rule. rule_view rule.now) result ≡ allowing_at (map rule_view rules.now) number (route_view route.now) }
+{
+    match rules.get(number) {
+        Some(rule) if rule_may_allow(route, rule) => Some(rule),
+        _ => None,
     }
 }
 

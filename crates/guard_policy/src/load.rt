@@ -8,7 +8,6 @@ use super::fault::PolicyFault;
 use super::messages::messages_of;
 use super::policy::Policy;
 use super::rules::rules_of;
-use super::tables::check_tables;
 use super::types::{Types, module_names};
 use std::alloc::Global;
 
@@ -32,8 +31,7 @@ impl Policy {
         let listed = top_of(alloc, &top)?;
         let messages = messages_of(alloc, schema, &listed.messages)?;
         let rules = rules_of(alloc, schema, &messages, &listed.rules)?;
-        check_tables(alloc, &messages, &rules)?;
         let modules = module_names(alloc, schema)?;
-        Ok(Policy::new(messages, rules, modules))
+        Policy::new(alloc, messages, rules, modules)
     }
 }

@@ -1,10 +1,15 @@
 //! The messages and rules of a policy.
 ghost use Rattle.std.specs.Prelude.{◌≡◌, map, option_map};
+ghost use Rattle.std.proofs.Props.{props};
 ghost use Rattle.guard_model.specs.TypeView.{type_view};
-ghost use Rattle.guard_policy.specs.Policies.{message_view, rule_view, IsConsistent, declared_among};
+ghost use Rattle.guard_policy.specs.Policies.{message_view, rule_view, IsConsistent};
+ghost use Rattle.guard_policy.specs.Listings.{IsIndex};
 
 use super::decision::judge;
+use super::fault::PolicyFault;
+use super::index::Index;
 use super::route::Route;
+use super::tables::check_tables;
 use super::verdict::Verdict;
 use guard_der::DecodeFault;
 use guard_model::{OutOfMemory, Ty};
@@ -36,34 +41,55 @@ pub struct Rule {
     pub ty: Ty,
 }
 
-/// A policy over a schema: messages and rules in file order, and the names of the schema's modules.
+/// A policy over a schema: messages and rules in file order, and the names of the schema's modules. All types are sound, and those of a message
+/// and its rules make a table: no rule's type has other tags or another base than the declared type of its message.
 #[derive(Drop)]
 pub struct Policy {
     messages: Vec<Message>,
     rules: Vec<Rule>,
     modules: Vec<String>,
+    index: Index,
     pub ghost consistent: { IsConsistent (map message_view messages.items) (map rule_view rules.items) },
+    pub ghost indexed: { IsIndex (map message_view messages.items) (map rule_view rules.items) index } by { Prim.hlevel props },
 }
 
 impl Policy {
-    ghost use Rattle.std.specs.Prelude.{string_bytes, length};
+    ghost use Rattle.std.specs.Prelude.{string_bytes, length, All, IsTrue, IfOk, List, ℕ};
+    ghost use Rattle.guard_model.specs.AbstractType.{AbstractType};
+    ghost use Rattle.guard_der.specs.Sound.{is_sound};
+    ghost use Rattle.guard_policy.specs.Answers.{Meets};
+    ghost use Rattle.guard_policy.specs.EntryFaults.{tables_fault};
     ghost use Rattle.guard_policy.specs.PolicyView.{policy_view};
     ghost use Rattle.guard_policy.specs.Policies.{declared_type, rule_name_of, module_name};
+    ghost use Rattle.guard_policy.specs.Listings.{numbers_for};
 
     /// A policy of these messages and rules, over a schema whose modules have these names.
-    pub fn new(messages: Vec<Message>, rules: Vec<Rule>, modules: Vec<String>) -> Policy
-        requires { IsConsistent (map message_view messages.items) (map rule_view rules.items) }
-        ensures { policy_view result ≡ record {
+    ///
+    /// It refuses with Table, and the number of the first message whose type and those of its rules make no table. OutOfMemory may stand in place
+    /// of any answer.
+    pub fn new(
+        alloc: Global,
+        messages: Vec<Message>,
+        rules: Vec<Rule>,
+        modules: Vec<String>,
+    ) -> Result<Policy, PolicyFault>
+        requires messages_sound { All (λ m. IsTrue (is_sound m.ty)) (map message_view messages.items) }
+        requires rules_sound { All (λ r. IsTrue (is_sound r.ty)) (map rule_view rules.items) }
+        ensures made { IfOk result (λ p. policy_view p ≡ record {
           messages = map message_view messages.items;
           rules = map rule_view rules.items;
           modules = map string_bytes modules.items;
-        } }
+        }) }
+        ensures met { Meets (tables_fault (map rule_view rules.items) 1 (map message_view messages.items)) result }
     {
-        Policy {
+        check_tables(alloc, &messages, &rules)?;
+        let index = Index::of(alloc, &messages, &rules)?;
+        Ok(Policy {
             messages,
             rules,
             modules,
-        }
+            index,
+        })
     }
 
     /// How many messages the policy declares.
@@ -91,7 +117,17 @@ impl Policy {
     pub fn declared(&self, message: &[u8]) -> Option<&Ty>
         ensures { option_map (λ ty. type_view ty.now) result ≡ declared_type (policy_view self.now) message.now }
     {
-        declared_among_messages(&self.messages, message)
+        let (ty, _) = self.listed(message)?;
+        Some(ty)
+    }
+
+    /// The declared type of the message of this name, and the numbers of the rules that speak of it.
+    fn listed(&self, message: &[u8]) -> Option<(&Ty, &[usize])>
+        ensures { option_map {U = AbstractType × List ℕ} (λ p. (type_view p.0.now, p.1.now)) result ≡ option_map {U = AbstractType × List ℕ} (λ t. (t, numbers_for message.now 0 (policy_view self.now).rules)) (declared_type (policy_view self.now) message.now) }
+    {
+        let listed = self.index.find(message)?;
+        let found = self.messages.get(listed.place)?;
+        Some((&found.ty, &listed.rules))
     }
 
     /// The name of the module at this place of the list of texts, from 1.
@@ -125,24 +161,13 @@ impl Policy {
         // It is to pass exactly where the message goes.
         ensures passes { IfOk result (λ w. (verdict_view w ≡ pass) ↔ Goes (policy_view self.now) (route_view route.now) octets.now) }
     {
-        let Some(ty) = self.declared(route.message) else {
+        let Some((ty, numbers)) = self.listed(route.message) else {
             return Ok(Verdict::UnknownMessage);
         };
         match guard_der::decode(alloc, ty, octets) {
-            Ok(value) => judge(alloc, &self.rules, route, ty, &value),
+            Ok(value) => judge(alloc, &self.rules, numbers, route, ty, &value),
             Err(DecodeFault::Breach(breach)) => Ok(Verdict::Undecodable(breach)),
             Err(DecodeFault::OutOfMemory) => Err(OutOfMemory),
         }
     }
-}
-
-fn declared_among_messages<'a>(messages: &'a [Message], name: &[u8]) -> Option<&'a Ty>
-    ensures { option_map (λ ty. type_view ty.now) result ≡ declared_among (map message_view messages.now) name.now }
-{
-    for message in messages {
-        if message.name.as_bytes() == name {
-            return Some(&message.ty);
-        }
-    }
-    None
 }

@@ -25,7 +25,7 @@ impl<'a> Route<'a> {
 }
 
 /// Whether the octets are a name: 1 to 63 letters, digits, `-`, `_` and `.`.
-pub(crate) fn is_name(octets: &[u8]) -> bool
+pub fn is_name(octets: &[u8]) -> bool
     ensures { result ≡ is_name octets.now }
 {
     1 <= octets.len() && octets.len() <= LONGEST_NAME && are_name_octets(octets)

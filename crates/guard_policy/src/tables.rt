@@ -1,11 +1,11 @@
 //! Whether the types of each message and its rules make a table.
-ghost use Rattle.std.specs.Prelude.{◌≡◌, All, map, option_map, string_bytes, IfOk, OnOk, IsTrue};
+ghost use Rattle.std.specs.Prelude.{◌≡◌, All, map, option_map, string_bytes, IfOk, IsTrue};
 ghost use Rattle.guard_der.specs.Sound.{is_sound};
 ghost use Rattle.guard_model.specs.TypeView.{type_view};
 ghost use Rattle.guard_tables.specs.Tables.{types_view, first_fault};
-ghost use Rattle.guard_policy.specs.Answers.{Meets, IsAlike};
-ghost use Rattle.guard_policy.specs.EntryFaults.{tables_fault, types_for};
-ghost use Rattle.guard_policy.specs.Policies.{message_view, rule_view};
+ghost use Rattle.guard_policy.specs.Answers.{Meets};
+ghost use Rattle.guard_policy.specs.EntryFaults.{tables_fault};
+ghost use Rattle.guard_policy.specs.Policies.{message_view, rule_view, types_for};
 ghost use Rattle.guard_policy.specs.PolicyFaults.{bad_table};
 
 use super::fault::PolicyFault;
@@ -22,8 +22,7 @@ pub(crate) fn check_tables(
 ) -> Result<(), PolicyFault>
     requires messages_sound { All (λ m. IsTrue (is_sound m.ty)) (map message_view messages.now) }
     requires rules_sound { All (λ r. IsTrue (is_sound r.ty)) (map rule_view rules.now) }
-    ensures met { Meets (tables_fault (map rule_view rules.now) 1 (map message_view messages.now)) result }
-    ensures alike { OnOk result (All (IsAlike (map rule_view rules.now)) (map message_view messages.now)) }
+    ensures { Meets (tables_fault (map rule_view rules.now) 1 (map message_view messages.now)) result }
 {
     for (index, message) in messages.iter().enumerate() {
         check_table(alloc, index + 1, message, rules)?;
@@ -40,8 +39,7 @@ fn check_table(
 ) -> Result<(), PolicyFault>
     requires message_sound { IsTrue (is_sound (type_view message.now.ty)) }
     requires rules_sound { All (λ r. IsTrue (is_sound r.ty)) (map rule_view rules.now) }
-    ensures met { Meets (option_map (bad_table number) (first_fault (type_view message.now.ty) (types_for (string_bytes message.now.name) (map rule_view rules.now)))) result }
-    ensures alike { OnOk result (IsAlike (map rule_view rules.now) (message_view message.now)) }
+    ensures { Meets (option_map (bad_table number) (first_fault (type_view message.now.ty) (types_for (string_bytes message.now.name) (map rule_view rules.now)))) result }
 {
     let types = types_for(alloc, &message.name, rules)?;
     match Table::compile(alloc, &message.ty, &types) {

@@ -1,54 +1,49 @@
-use Rattle.std.proofs.Common.{◌+◌, ◌∙◌, sym, map, drop}
+use Rattle.std.proofs.Common.{◌+◌, sym, map, drop, get_or}
 use Rattle.std.proofs.lemmas.List.{map_push}
 use Rattle.guard_model.specs.ValueView.{value_view}
-use Rattle.guard_policy.specs.Policies.{rule_view}
 use Rattle.guard_eval.specs.Violations.{violation_view, shortfall_view}
+use Rattle.guard_policy.specs.Policies.{rule_view}
 use Rattle.guard_policy.specs.PolicyView.{route_view}
-use Rattle.guard_policy.specs.Decisions.{speaks_of, is_allowing, speaking}
-use Rattle.guard_policy.proofs.Applicable.{applicable_at, left_is}
-use Rattle.guard_policy.proofs.Shortfalls.{goes_on_past, goes_on_with, ends_with}
+use Rattle.guard_policy.specs.Listings.{rules_at, heard}
+use Rattle.guard_policy.proofs.Applicable.{applicable_number}
+use Rattle.guard_policy.proofs.Listed.{front_is}
+use Rattle.guard_policy.proofs.Shortfalls.{is_allowing_there, goes_on_past, goes_on_with}
 use Rattle.guard_policy.proofs.decision.judge_by_allowing.Goals as goal
-use Rattle.guard_policy.proofs.decision.judge_by_allowing.Goals.{then-rule_may_allow+in-Some+in_ok-push-in-Some, else-rule_may_allow}
-use Rattle.std.proofs.lemmas.Bool.{and_parts}
+use Rattle.guard_policy.proofs.decision.judge_by_allowing.Goals.{in-Some+in-Some-first_violation+in_ok-push-in-Some-first_violation, in_default}
 
 pub first_violation-requires-clause-sound : goal.first_violation-requires-clause-sound
 first_violation-requires-clause-sound c =
-    (applicable_at (route_view c.args.route.now) (value_view c.args.value.now) c.args.rules.now c.loop-number.number c.index-rules-number.result c.loop-number-test.true c.index-rules-number.is c.requires).0
+    let rules = map rule_view c.args.rules.now in
+    let n = get_or c.args.numbers.now c.loop-number.number-index 0 in
+    let a = is_allowing_there rules n (route_view c.args.route.now) (rule_view c.in-Some.rule.now) (sym c.in-Some.ensures) in
+    (applicable_number (route_view c.args.route.now) (value_view c.args.value.now) rules n (rule_view c.in-Some.rule.now) a.stands c.requires).0
 
 pub first_violation-requires-clause-fits : goal.first_violation-requires-clause-fits
 first_violation-requires-clause-fits c =
-    (applicable_at (route_view c.args.route.now) (value_view c.args.value.now) c.args.rules.now c.loop-number.number c.index-rules-number.result c.loop-number-test.true c.index-rules-number.is c.requires).1
-    (and_parts (speaks_of (route_view c.args.route.now) (rule_view c.index-rules-number.result)) (is_allowing (rule_view c.index-rules-number.result)) (sym c.rule_may_allow.ensures ∙ c.if-rule_may_allow.true)).0
-
-pub returns-in-None : goal.returns-in-None
-returns-in-None c = sym (ends_with (speaking (route_view c.args.route.now) 0 (map rule_view c.args.rules.now)) (route_view c.args.route.now) (value_view c.args.value.now)
-    (map shortfall_view c.loop-number.shortfalls.items) (map rule_view (drop c.loop-number.number c.args.rules.now)) (map rule_view (drop (c.loop-number.number + 1) c.args.rules.now))
-    c.loop-number.number (rule_view c.index-rules-number.result)
-    (left_is c.args.rules.now c.loop-number.number c.index-rules-number.result c.loop-number-test.true c.index-rules-number.is)
-    (sym c.rule_may_allow.ensures ∙ c.if-rule_may_allow.true)
-    ((applicable_at (route_view c.args.route.now) (value_view c.args.value.now) c.args.rules.now c.loop-number.number c.index-rules-number.result c.loop-number-test.true c.index-rules-number.is c.requires).1
-    (and_parts (speaks_of (route_view c.args.route.now) (rule_view c.index-rules-number.result)) (is_allowing (rule_view c.index-rules-number.result)) (sym c.rule_may_allow.ensures ∙ c.if-rule_may_allow.true)).0)
-    (sym c.in-None.ensures.first) c.loop-number.invariant)
+    let rules = map rule_view c.args.rules.now in
+    let n = get_or c.args.numbers.now c.loop-number.number-index 0 in
+    let a = is_allowing_there rules n (route_view c.args.route.now) (rule_view c.in-Some.rule.now) (sym c.in-Some.ensures) in
+    (applicable_number (route_view c.args.route.now) (value_view c.args.value.now) rules n (rule_view c.in-Some.rule.now) a.stands c.requires).1 a.speaks
 
 pub loop-number-preserved : goal.loop-number-preserved
 loop-number-preserved c =
     let route = route_view c.args.route.now in
     let v = value_view c.args.value.now in
-    let all = speaking route 0 (map rule_view c.args.rules.now) in
-    let left = map rule_view (drop c.loop-number.number c.args.rules.now) in
-    let rest = map rule_view (drop (c.loop-number.number + 1) c.args.rules.now) in
-    let here = rule_view c.index-rules-number.result in
-    let begins = left_is c.args.rules.now c.loop-number.number c.index-rules-number.result c.loop-number-test.true c.index-rules-number.is in
-    elim c.if-rule_may_allow.branch [
-      | then-rule_may_allow+in-Some+in_ok-push-in-Some w ↦
-          rw (w.shortfalls-is, w.in_ok-push-in-Some.ensures.items, map_push shortfall_view c.loop-number.shortfalls.items)
-          (goes_on_with all route v (map shortfall_view c.loop-number.shortfalls.items) left rest c.loop-number.number here (violation_view w.in-Some.violation) begins
-          (sym c.rule_may_allow.ensures ∙ w.if-rule_may_allow.true)
-          ((applicable_at route v c.args.rules.now c.loop-number.number c.index-rules-number.result c.loop-number-test.true c.index-rules-number.is c.requires).1
-          (and_parts (speaks_of route here) (is_allowing here) (sym c.rule_may_allow.ensures ∙ w.if-rule_may_allow.true)).0)
-          (sym w.in-Some.ensures.first) c.loop-number.invariant)
-      | else-rule_may_allow w ↦
+    let rules = map rule_view c.args.rules.now in
+    let i = c.loop-number.number-index in
+    let n = get_or c.args.numbers.now i 0 in
+    let all = heard route (rules_at rules c.args.numbers.now) in
+    let begins = front_is c.args.numbers.now i 0 c.loop-number-test.true in
+    elim c.match-allowing_at.branch [
+      | in-Some+in-Some-first_violation+in_ok-push-in-Some-first_violation w ↦
+          let a = is_allowing_there rules n route (rule_view w.in-Some.rule.now) (sym w.in-Some.ensures) in
+          rw (w.shortfalls-is, w.in_ok-push-in-Some-first_violation.ensures.items, map_push shortfall_view c.loop-number.shortfalls.items)
+          (goes_on_with all rules route v (map shortfall_view c.loop-number.shortfalls.items) (drop i c.args.numbers.now) (drop (i + 1) c.args.numbers.now) n
+          (rule_view w.in-Some.rule.now) (violation_view w.in-Some-first_violation.violation) begins a
+          ((applicable_number route v rules n (rule_view w.in-Some.rule.now) a.stands c.requires).1 a.speaks)
+          (sym w.in-Some-first_violation.ensures.first) c.loop-number.invariant)
+      | in_default w ↦
           rw w.shortfalls-is
-          (goes_on_past all route v (map shortfall_view c.loop-number.shortfalls.items) left rest c.loop-number.number here begins
-          (sym c.rule_may_allow.ensures ∙ w.if-rule_may_allow.false) c.loop-number.invariant)
+          (goes_on_past all rules route v (map shortfall_view c.loop-number.shortfalls.items) (drop i c.args.numbers.now) (drop (i + 1) c.args.numbers.now) n begins
+          (sym (rw w.in_default.is at c.allowing_at.ensures)) c.loop-number.invariant)
     ]

@@ -1,11 +1,7 @@
-use Rattle.std.proofs.Common.{◌≡◌, ◌+◌, map, take, drop, All}
-use Rattle.guard_policy.specs.Answers.{IsAlike}
+use Rattle.std.proofs.Common.{◌≡◌, ◌+◌, map, drop}
 use Rattle.guard_policy.specs.EntryFaults.{tables_fault}
 use Rattle.guard_policy.specs.Policies.{message_view, rule_view}
 use Rattle.guard_policy.proofs.tables.check_tables.Given as goal
 
 abbrev pub invariant-loop-index : goal.invariant-loop-index
-invariant-loop-index l = record {
-  faults : tables_fault (map rule_view l.rules) (l.index + 1) (map message_view (drop l.index l.messages)) ≡ tables_fault (map rule_view l.rules) 1 (map message_view l.messages);
-  alike : All (IsAlike (map rule_view l.rules)) (map message_view (take l.index l.messages));
-}
+invariant-loop-index l = tables_fault (map rule_view l.rules) (l.index + 1) (map message_view (drop l.index l.messages)) ≡ tables_fault (map rule_view l.rules) 1 (map message_view l.messages)

@@ -1,13 +1,13 @@
-use Rattle.std.proofs.Common.{map, is_ok}
-use Rattle.guard_policy.specs.Policies.{message_view, rule_view, IsConsistent}
-use Rattle.conformance.proofs.Consistent.{with_rule, pushed}
+use Rattle.std.proofs.Common.{is_ok}
+use Rattle.std.specs.Prelude.{IsTrue}
+use Rattle.guard_der.specs.Sound.{is_sound}
+use Rattle.guard_policy.specs.Policies.{AbstractRule, rule_view}
+use Rattle.conformance.proofs.Sound.{pushed}
 use Rattle.conformance.proofs.policies.Draft.add_rule.Goals as goal
 
 pub invariant_of-self : goal.invariant_of-self
 invariant_of-self c =
-    let draft = c.args.self.now in
-    let messages = map message_view draft.messages.items in
-    record {
-      consistent = pushed rule_view (λ rules. IsConsistent messages rules) (is_ok c.push.result) draft.rules.items c.push.new.self.items c.args.rule
-          c.push.ensures.items draft.consistent (with_rule messages (map rule_view draft.rules.items) (rule_view c.args.rule) draft.consistent c.requires.sound c.requires.fits);
+    let draft = c.args.self.now in record {
+      messages_sound = draft.messages_sound;
+      rules_sound = pushed rule_view (λ (x : AbstractRule). IsTrue (is_sound x.ty)) (is_ok c.push.result) draft.rules.items c.push.new.self.items c.args.rule c.push.ensures.items draft.rules_sound c.requires;
     }

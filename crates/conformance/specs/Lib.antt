@@ -1,2 +1,0 @@
-pub mod IntegerTypes
-pub mod Rules

@@ -1,0 +1,60 @@
+//! Look-ups by the name of a message.
+ghost use Rattle.std.specs.Prelude.{◌≡◌, ◌+◌, map, option_map, string_bytes, IfOk};
+ghost use Rattle.guard_policy.specs.Listings.{IsIndex, found_in, listed_view, numbers_for};
+ghost use Rattle.guard_policy.specs.Policies.{message_view, rule_view};
+
+use super::policy::{Message, Rule};
+use indexmap::IndexMap;
+use std::alloc::{AllocError, Global};
+
+/// What the name of a message leads to.
+#[derive(Drop)]
+pub(crate) struct Listed {
+    /// Where the first message of this name stands.
+    pub place: usize,
+    /// The numbers of the rules that speak of it.
+    pub rules: Vec<usize>,
+}
+
+/// What each name of a message leads to.
+#[derive(Drop)]
+pub(crate) struct Index {
+    listed: IndexMap<Vec<u8>, Listed>,
+}
+
+impl Index {
+    /// The index of these messages and rules.
+    pub fn of(alloc: Global, messages: &[Message], rules: &[Rule]) -> Result<Index, AllocError>
+        ensures { IfOk result (IsIndex (map message_view messages.now) (map rule_view rules.now)) }
+    {
+        let mut listed = IndexMap::new(alloc);
+        for (place, message) in messages.iter().enumerate() {
+            let name = message.name.as_bytes();
+            if !listed.contains_key(name) {
+                let rules = numbers_for(alloc, name, rules)?;
+                listed.insert(Vec::from_slice(alloc, name)?, Listed { place, rules })?;
+            }
+        }
+        Ok(Index { listed })
+    }
+
+    /// What the name leads to, where a message has it.
+    pub fn find(&self, name: &[u8]) -> Option<&Listed>
+        ensures { option_map (λ listed. listed_view listed.now) result ≡ found_in self.now name.now }
+    {
+        self.listed.get(name)
+    }
+}
+
+/// The numbers of the rules that speak of the message of this name, in order.
+fn numbers_for(alloc: Global, name: &[u8], rules: &[Rule]) -> Result<Vec<usize>, AllocError>
+    ensures { IfOk result (λ numbers. numbers.items ≡ numbers_for name.now 0 (map rule_view rules.now)) }
+{
+    let mut numbers = Vec::new(alloc);
+    for (number, rule) in rules.iter().enumerate() {
+        if rule.message.as_bytes() == name {
+            numbers.push(number)?;
+        }
+    }
+    Ok(numbers)
+}

@@ -1,5 +1,5 @@
 -- An answer is written, or a fault is told.
-use Rattle.std.proofs.Common.{◌≡◌, ℕ, Result, Ok, Err, inl, inr}
+use Rattle.std.proofs.Common.{ℕ, Result, Ok, Err, inl, inr}
 use Rattle.std.specs.Prelude.{IfOk, IfErr}
 use Rattle.derguard.specs.declared.answer.Answer.{Answer}
 use Rattle.derguard.specs.declared.fault.Fault.{Fault}

@@ -11,7 +11,7 @@ use Rattle.derguard.specs.declared.fault.Fault.{Fault}
 use Rattle.derguard.specs.declared.fault.Fault.TheVariants.{BadHex, CannotRead, Schema, Policy, Run, NoMemory}
 use Rattle.derguard.specs.Faults.{StandsForPolicy, of_texts}
 use Rattle.derguard.specs.Files.{Told, HasText}
-use Rattle.derguard.specs.Reading.{folder, AreTexts, AreMissing, SayNothing, IsNoPolicyAt}
+use Rattle.derguard.specs.Reading.{folder, AreTexts, SayNothing, IsNoPolicyAt}
 use Rattle.derguard.specs.Texts.{CannotBeRead, CannotAllBeRead}
 
 module _ (told : Told) (path : List ℕ) where

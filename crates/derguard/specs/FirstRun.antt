@@ -1,5 +1,5 @@
 -- The module, the policy and the four messages that are built in, and what is printed for them.
-use Rattle.std.specs.Prelude.{◌≡◌, ℕ, List, [], ◌∷◌, ◌++◌, codes}
+use Rattle.std.specs.Prelude.{ℕ, List, [], ◌∷◌, ◌++◌, codes}
 use Rattle.guard_policy.specs.Policies.{AbstractPolicy}
 use Rattle.guard_frames.specs.Texts.{SayPolicy}
 use Rattle.derguard.specs.Printing.{AbstractMessageSent, AreLines}

@@ -8,7 +8,6 @@ use Rattle.guard_frames.specs.declared.running.RunFault.TheVariants.{WriteFailed
 use Rattle.derguard.specs.declared.fault.Fault.{Fault}
 use Rattle.derguard.specs.declared.fault.Fault.TheVariants.{Run}
 use Rattle.derguard.specs.Files.{Told}
-use Rattle.derguard.specs.Faults.{fault_status}
 use Rattle.derguard.specs.Requests.{AbstractRequest, first, check, decide, run}
 use Rattle.derguard.specs.Reading.{IsPolicyAt, IsNoPolicyAt}
 use Rattle.derguard.specs.Answers.{AbstractAnswer, IsFirst, IsNoFirst, IsChecked, IsDecided, IsUndecided}

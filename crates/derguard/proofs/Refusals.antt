@@ -1,12 +1,13 @@
 -- What a call refuses is why there is no policy at the path.
-use Rattle.std.proofs.Common.{◌≡◌, ◌⊎◌, ℕ, List, Option, Some, None, inl, inr, refl, MatchOption}
+use Rattle.std.proofs.Common.{◌≡◌, ◌⊎◌, ℕ, List, Option, Some, None, inl, inr, refl, subst, MatchOption}
 use Rattle.std.specs.Prelude.{IfSome}
 use Rattle.guard_policy.specs.declared.fault.PolicyFault.{PolicyFault}
+use Rattle.guard_policy.specs.Policies.{AbstractPolicy}
 use Rattle.guard_policy.specs.Loads.{ListsFiles, ListsNoFiles}
 use Rattle.guard_policy.specs.PolicyFaults as policy
 use Rattle.guard_frames.specs.declared.texts.TextsFault.{TextsFault}
 use Rattle.guard_frames.specs.declared.texts.TextsFault.TheVariants as texts
-use Rattle.guard_frames.specs.Texts.{SayNone}
+use Rattle.guard_frames.specs.Texts.{SayPolicy, SayNone}
 use Rattle.derguard.specs.declared.fault.Fault.{Fault}
 use Rattle.derguard.specs.declared.fault.Fault.TheVariants.{BadHex, CannotRead, Schema, Policy, Run, NoMemory}
 use Rattle.derguard.specs.Faults.{StandsForPolicy, of_texts}
@@ -55,3 +56,12 @@ none_said told path text modules are f h = elim (say_nothing modules text f h) [
   | inl none ↦ inr (inl (text, modules, are, none))
   | inr e ↦ inr (inr e)
 ]
+
+-- ---- texts that are these
+
+module _ (modules : List (List ℕ)) (text : List ℕ) (modules₁ : List (List ℕ)) (text₁ : List ℕ) (same_modules : modules₁ ≡ modules) (same_text : text₁ ≡ text) where
+  pub say_alike : (p : AbstractPolicy) → SayPolicy modules₁ text₁ p → SayPolicy modules text p
+  say_alike p said = subst (λ (t : List ℕ). SayPolicy modules t p) same_text (subst (λ (ms : List (List ℕ)). SayPolicy ms text₁ p) same_modules said)
+
+  pub say_none_alike : (f : TextsFault) → SayNone modules₁ text₁ f → SayNone modules text f
+  say_none_alike f none = subst (λ (t : List ℕ). SayNone modules t f) same_text (subst (λ (ms : List (List ℕ)). SayNone ms text₁ f) same_modules none)

@@ -5,7 +5,7 @@ use crate::signs::Signs;
 use conformance_notation::read;
 use conformance_rows::{Layer, text_of};
 use guard_frames::{
-    Kept, Link, LinkFault, RunFault, Sink, Source, Through, Totals, decide_stream, run,
+    Kept, Link, LinkFault, RunFault, Sink, Source, Through, Totals, decide_stream, put_all, run,
 };
 use guard_policy::Policy;
 use std::alloc::{AllocError, Global};
@@ -325,23 +325,20 @@ fn errors(alloc: Global, stream: &[u8]) -> Result<String, AllocError> {
     format!(in alloc; "{read}, {written} {} {} {}", failed.0, failed.1, failed.2)
 }
 
-/// What a sink in memory holds after the octets, after it was emptied, and after the octets twice; and whether it has failed.
+/// What a sink in memory holds that took the octets once, then twice, and then was emptied; and whether it has failed.
 fn kept(alloc: Global, octets: &[u8]) -> Result<String, AllocError> {
     let mut sink = Kept::new(alloc);
-    let mut text = String::new(alloc);
-    for times in 0..3 {
-        for _ in 0..times {
-            if sink.put(octets).is_err() {
-                return String::from_str(alloc, "failed");
-            }
-        }
-        let held = shown(alloc, sink.octets())?;
-        text.push_str(&format!(in alloc; "<{held}> ")?)?;
-        sink.empty();
-        let held = shown(alloc, sink.octets())?;
-        text.push_str(&format!(in alloc; "<{held}> ")?)?;
+    if put_all(&mut sink, octets).is_err() {
+        return String::from_str(alloc, "no memory");
     }
-    format!(in alloc; "{text}{}", Sink::failed(&sink))
+    let once = shown(alloc, sink.octets())?;
+    if put_all(&mut sink, octets).is_err() {
+        return String::from_str(alloc, "no memory");
+    }
+    let twice = shown(alloc, sink.octets())?;
+    sink.empty();
+    let emptied = shown(alloc, sink.octets())?;
+    format!(in alloc; "<{once}> <{twice}> <{emptied}> {}", Sink::failed(&sink))
 }
 
 /// What a link answers to the stream, to one more octet, and to its end, twice.

@@ -4,11 +4,12 @@
 //! | question | file |
 //! |---|---|
 //! | what answers the rows | `tables.rt`, `policies.rt` |
-//! | which types policies stand on | `modules.rt` |
+//! | which types policies stand on | `modules.rt`, `definitions.rt` |
 //! | how the types of a row are parted, and how one is written many times over | `types.rt` |
 //! | how a file of rows is read and compared | the crate `conformance_rows` |
 #![tactic(auto)]
 
+mod definitions;
 mod modules;
 mod policies;
 mod tables;

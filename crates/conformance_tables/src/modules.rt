@@ -1,9 +1,9 @@
 //! A module as rows write it: its name, and its types in the notation of `conformance_notation`. It is what a policy stands on.
-ghost use Rattle.std.specs.Prelude.{◌≡◌, ◌≤◌, [], ◌∷◌, map, length, option_map, string_bytes, IsTrue, IfSome};
+ghost use Rattle.std.specs.Prelude.{◌≤◌, [], ◌∷◌, length, string_bytes, IsTrue};
 ghost use Rattle.guard_der.specs.Sound.{is_sound};
 ghost use Rattle.guard_model.specs.TypeView.{type_view};
-ghost use Rattle.conformance_tables.specs.Written.{definition_view, defined_among};
 
+use crate::definitions::defined;
 use conformance_notation::{Unread, type_of};
 use guard_der::sound;
 use guard_model::Ty;
@@ -12,10 +12,10 @@ use std::alloc::Global;
 
 /// A type with its name.
 #[derive(Drop)]
-struct Definition {
-    name: String,
-    ty: Ty,
-    ghost sound: { IsTrue (is_sound (type_view ty)) },
+pub(crate) struct Definition {
+    pub name: String,
+    pub ty: Ty,
+    pub ghost sound: { IsTrue (is_sound (type_view ty)) },
 }
 
 /// A module with its types.
@@ -79,17 +79,4 @@ impl Types for WrittenModule {
             None
         }
     }
-}
-
-/// The type of the first definition of this name.
-fn defined<'a>(definitions: &'a [Definition], name: &str) -> Option<&'a Ty>
-    ensures sound { IfSome result (λ ty. IsTrue (is_sound (type_view ty.now))) }
-    ensures named { option_map (λ ty. type_view ty.now) result ≡ defined_among (map definition_view definitions.now) name.now }
-{
-    for definition in definitions {
-        if name == definition.name.as_str() {
-            return Some(&definition.ty);
-        }
-    }
-    None
 }

@@ -1,6 +1,6 @@
 use Rattle.std.proofs.Common.{◌≡◌, map, drop}
 use Rattle.conformance_tables.specs.Written.{definition_view, defined_among}
-use Rattle.conformance_tables.proofs.modules.defined.Given as goal
+use Rattle.conformance_tables.proofs.definitions.defined.Given as goal
 
 -- what is left defines what all define
 abbrev pub invariant-loop-definition : goal.invariant-loop-definition

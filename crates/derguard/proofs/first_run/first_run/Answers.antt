@@ -6,12 +6,15 @@ use Rattle.derguard.proofs.Refusals.{say_nothing, say_alike, say_none_alike}
 use Rattle.derguard.proofs.first_run.first_run.Goals as goal
 
 pub returns-clause-first : goal.returns-clause-first
-returns-clause-first c = ((
-  policy_view c.in_ok-policy.policy,
-  say_alike (first_module ∷ []) first_policy (c.as_bytes.result.now ∷ []) c.as_bytes-2.result.now (ap (λ (t : List ℕ). t ∷ []) c.as_bytes.ensures.value) c.as_bytes-2.ensures.value
-  (policy_view c.in_ok-policy.policy) c.in_ok-policy.ensures.said,
-  c.in_ok-out.ensures,
-), refl)
+returns-clause-first c = (
+  (
+    policy_view c.in_ok-policy.policy,
+    say_alike (first_module ∷ []) first_policy (c.as_bytes.result.now ∷ []) c.as_bytes-2.result.now (ap (λ (t : List ℕ). t ∷ []) c.as_bytes.ensures.value) c.as_bytes-2.ensures.value
+        (policy_view c.in_ok-policy.policy) c.in_ok-policy.ensures.said,
+    c.in_ok-out.ensures,
+  ),
+  refl,
+)
 
 pub returns-in_err-policy-clause-none : goal.returns-in_err-policy-clause-none
 returns-in_err-policy-clause-none c =

@@ -78,6 +78,10 @@ view-or None true o = refl
 view-or None false o = refl
 view-or (Some x) b o = refl
 
+some_mapped : (o : Option Origin) → is_some (option_map origin_view o) ≡ is_some o
+some_mapped None = refl
+some_mapped (Some x) = refl
+
 module _ (xs : List Declaration) (i : ℕ) (d : Declaration) (inside : i < length xs) where
   abbrev pub key_at : Key
   key_at = record { scope = (get_or xs i d).scope; name = (get_or xs i d).name }
@@ -113,6 +117,16 @@ module _ (xs : List Declaration) (i : ℕ) (d : Declaration) (inside : i < lengt
   passes_new es are absent total so_far =
       sym (next_declaration ∙ ap (λ o. cond (is_some o) (Some here.site) (duplicate_after (map declaration_view (take (i + 1) xs)) (map declaration_view (drop (i + 1) xs)))) (sym (same_before es are) ∙ ap (option_map origin_view) absent))
       ∙ so_far
+
+  -- where it is, it is the first one that is declared twice
+  pub is_duplicate : (es : List (Key × Origin)) → AreOrigins es (map declaration_view (take i xs)) → is_some (lookup (key_eq key_at) es) ≡ true → (total : Option Site)
+      → duplicate_after (map declaration_view (take i xs)) (map declaration_view (drop i xs)) ≡ total → total ≡ Some here.site
+  is_duplicate es are found total so_far =
+      sym so_far ∙ next_declaration
+      ∙ ap (λ b. cond b (Some here.site) (duplicate_after (map declaration_view (take (i + 1) xs)) (map declaration_view (drop (i + 1) xs)))) (ap is_some (sym (same_before es are)) ∙ some_mapped (lookup (key_eq key_at) es) ∙ found)
+
+pub some_from_old : {X : Type 0} (o p : Option X) → o ≡ p → true ≡ is_some o → is_some p ≡ true
+some_from_old o p is some = ap is_some (sym is) ∙ sym some
 
 pub none_from_old : {X : Type 0} (o p : Option X) → o ≡ p → false ≡ is_some o → p ≡ None
 none_from_old None p is none = sym is

@@ -1,6 +1,7 @@
 -- ---- what assignments mention
 pub mod Gathering
 pub mod Fronts
+pub mod Used
 -- ---- what modules declare and export, and look-ups
 pub mod Listing
 pub mod Keys

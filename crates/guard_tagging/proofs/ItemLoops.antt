@@ -80,14 +80,14 @@ taken_more numbers i d q old new lt was is =
 
 -- ---- the first that is free
 
-free_now : (taken : List ℤ) (tries n : ℕ) → list_any (int_eq (pos n)) taken ≡ false → free_from taken tries n ≡ n
+pub free_now : (taken : List ℤ) (tries n : ℕ) → list_any (int_eq (pos n)) taken ≡ false → free_from taken tries n ≡ n
 free_now taken zero n e = refl
 free_now taken (suc tries) n e = rw (e, free_from) refl
 
 pub found_free : (taken : List ℤ) (tries n total : ℕ) → list_any (int_eq (pos n)) taken ≡ false → free_from taken tries n ≡ total → n ≡ total
 found_free taken tries n total e so_far = sym (free_now taken tries n e) ∙ so_far
 
-free_next : (taken : List ℤ) (tries n : ℕ) → list_any (int_eq (pos n)) taken ≡ true → free_from taken (suc tries) n ≡ free_from taken tries (suc n)
+pub free_next : (taken : List ℤ) (tries n : ℕ) → list_any (int_eq (pos n)) taken ≡ true → free_from taken (suc tries) n ≡ free_from taken tries (suc n)
 free_next taken tries n e = rw (e, free_from) refl
 
 plus_one : (n : ℕ) → suc n ≡ n + 1

@@ -20,7 +20,7 @@ use Rattle.guard_syntax.specs.declared.tree.TagDefault.{TagDefault}
 use Rattle.guard_syntax.specs.Trees.{WrittenTag, WrittenConstraint, WrittenType, type_node, WrittenBase, plain, numbers, enumerated, structure, choice, of_type, named_type, WrittenComponents, no_components, component, components_from, WrittenAlternatives, no_alternatives, alternative}
 use Rattle.guard_tagging.specs.declared.fault.TagFault.{TagFault}
 use Rattle.guard_tagging.specs.declared.fault.TagFault.TheVariants.{TooManyComponents, TooDeep, SchemaTooLarge, UndefinedName}
-use Rattle.guard_tagging.specs.Faults.{fault_where, nodes, nodes_put_in, most_nodes, undefined_name, universal_tag, implicit_choice, tag_too_large, list_fault, number_fault, entry_fault, own_fault, duplicate_name, component_names, alternative_names, fault_in, fault_in_parts, fault_in_components, fault_in_alternatives}
+use Rattle.guard_tagging.specs.Faults.{fault_where, nodes, nodes_put_in, most_nodes, undefined_name, universal_tag, implicit_choice, tag_too_large, list_fault, number_fault, entry_fault, with_tag_there, own_fault, duplicate_name, component_names, alternative_names, fault_in, fault_in_parts, fault_in_components, fault_in_alternatives}
 use Rattle.guard_tagging.specs.Tagged.{KeepLimits}
 use Rattle.guard_tagging.specs.Tagging.{is_explicit, is_untagged_choice, tag_of, put_tag, with_tags, with_automatic_tags}
 use Rattle.guard_tagging.specs.Types as types
@@ -63,8 +63,7 @@ formed_put tag tags more kind h = right (is_tagged tags kind) (nat_le (component
 kept_put : (explicit : Bool) (tag : Tag) (t : AbstractType) → keeps_limits t ≡ true → keeps_limits (put_tag explicit tag t) ≡ true
 kept_put true tag (type_of tags kind cons) h =
     both (is_formed (tag ∷ tags) kind) (parts_keep_limits kind) (formed_put tag tags tags kind (left (is_formed tags kind) (parts_keep_limits kind) h)) (right (is_formed tags kind) (parts_keep_limits kind) h)
-kept_put false tag (type_of [] kind cons) h =
-    both (is_formed (tag ∷ []) kind) (parts_keep_limits kind) (formed_put tag [] [] kind (left (is_formed [] kind) (parts_keep_limits kind) h)) (right (is_formed [] kind) (parts_keep_limits kind) h)
+kept_put false tag (type_of [] kind cons) h = h
 kept_put false tag (type_of (outermost ∷ tags) kind cons) h =
     both (is_formed (tag ∷ tags) kind) (parts_keep_limits kind) (formed_put tag (outermost ∷ tags) tags kind (left (is_formed (outermost ∷ tags) kind) (parts_keep_limits kind) h)) (right (is_formed (outermost ∷ tags) kind) (parts_keep_limits kind) h)
 
@@ -128,16 +127,16 @@ structure_kept collection.Sequence tag cs few h = both _ _ few h
 structure_kept collection.Set tag cs few h = both _ _ few h
 
 -- what none of the faults before the limits says
-module _ (around : Surroundings) (count : ℕ) (site : Site) (tags : List WrittenTag) (base : WrittenBase) (cons : List WrittenConstraint)
-    (none : own_fault around count (type_node site tags base cons) ≡ None) where
+module _ (around : Surroundings) (automatic : Bool) (count : ℕ) (site : Site) (tags : List WrittenTag) (base : WrittenBase) (cons : List WrittenConstraint)
+    (none : own_fault around automatic count (type_node site tags base cons) ≡ None) where
   abbrev tree : WrittenType
   tree = type_node site tags base cons
 
   abbrev deep : Option TagFault
-  deep = fault_where (nat_lt deepest_nesting (nesting (denoted around tree))) (TooDeep site)
+  deep = fault_where (nat_lt deepest_nesting (nesting (with_tag_there automatic (denoted around tree)))) (TooDeep site)
 
   after_tags : option_or (list_fault around site base) (option_or deep (option_or (fault_where (nat_lt most_nodes count) (SchemaTooLarge site)) (option_or (number_fault base) None))) ≡ None
-  after_tags = none_then (tag_too_large tags) _ (none_then (implicit_choice around.tag_default (denoted_base around base) tags) _ (none_then (universal_tag tags) _ (none_then (undefined_name around base) _ none)))
+  after_tags = none_then (tag_too_large tags) _ (none_then (implicit_choice (denoted_base around base) tags) _ (none_then (universal_tag tags) _ (none_then (undefined_name around base) _ none)))
 
   pub no_undefined : undefined_name around base ≡ None
   no_undefined = none_first (undefined_name around base) _ none
@@ -145,8 +144,8 @@ module _ (around : Surroundings) (count : ℕ) (site : Site) (tags : List Writte
   pub no_list_fault : list_fault around site base ≡ None
   no_list_fault = none_first (list_fault around site base) _ after_tags
 
-  pub not_deep : nat_le (nesting (denoted around (type_node site tags base cons))) deepest_nesting ≡ true
-  not_deep = at_most _ deepest_nesting (not_wrong (nat_lt deepest_nesting (nesting (denoted around tree))) (TooDeep site) (none_first deep _ (none_then (list_fault around site base) _ after_tags)))
+  pub not_deep : nat_le (nesting (with_tag_there automatic (denoted around (type_node site tags base cons)))) deepest_nesting ≡ true
+  not_deep = at_most _ deepest_nesting (not_wrong (nat_lt deepest_nesting (nesting (with_tag_there automatic (denoted around tree)))) (TooDeep site) (none_first deep _ (none_then (list_fault around site base) _ after_tags)))
 
   pub not_many : count ≤ most_nodes
   not_many = ltb-false most_nodes count (not_wrong (nat_lt most_nodes count) (SchemaTooLarge site) (none_first _ _ (none_then deep _ (none_then (list_fault around site base) _ after_tags))))
@@ -156,11 +155,11 @@ meant_kept (Some m) at h none = left (keeps_limits m.ty) (nat_le (nesting m.ty) 
 meant_kept None at h none = absurd cc
 
 mutual
-  pub type_kept : (around : Surroundings) → KeepLimits around → (before count : ℕ) (t : WrittenType) → fault_in around before count t ≡ None → keeps_limits (denoted around t) ≡ true
-  type_kept around meant before count (type_node site tags base cons) none =
-      let own = none_then (fault_in_parts around before base) (own_fault around count (type_node site tags base cons)) none in
+  pub type_kept : (around : Surroundings) → KeepLimits around → (automatic : Bool) (before count : ℕ) (t : WrittenType) → fault_in around automatic before count t ≡ None → keeps_limits (denoted around t) ≡ true
+  type_kept around meant automatic before count (type_node site tags base cons) none =
+      let own = none_then (fault_in_parts around before base) (own_fault around automatic count (type_node site tags base cons)) none in
       kept_with around.tag_default tags (denoted_base around base)
-      (base_kept around meant before site base (none_first (fault_in_parts around before base) _ none) (no_undefined around count site tags base cons own) (no_list_fault around count site tags base cons own))
+      (base_kept around meant before site base (none_first (fault_in_parts around before base) _ none) (no_undefined around automatic count site tags base cons own) (no_list_fault around automatic count site tags base cons own))
 
   base_kept : (around : Surroundings) → KeepLimits around → (before : ℕ) (site : Site) (base : WrittenBase) → fault_in_parts around before base ≡ None → undefined_name around base ≡ None → list_fault around site base ≡ None
       → keeps_limits (denoted_base around base) ≡ true
@@ -174,8 +173,8 @@ mutual
   base_kept around meant before site (choice others) parts name list =
       let automatic = is_automatic_choice around.tag_default others in
       both _ _ (few_where automatic (denoted_alternatives around others) (duplicate_name (alternative_names others)) site list)
-      (kept_where automatic (denoted_alternatives around others) (alternatives_kept around meant before others parts))
-  base_kept around meant before site (of_type k c t) parts name list = of_kept k (types.universal_tag (types.collection_number k)) (denoted around t) (type_kept around meant before (before + nodes (denoted around t)) t parts)
+      (kept_where automatic (denoted_alternatives around others) (alternatives_kept around meant automatic before others parts))
+  base_kept around meant before site (of_type k c t) parts name list = of_kept k (types.universal_tag (types.collection_number k)) (denoted around t) (type_kept around meant false before (before + nodes (denoted around t)) t parts)
   base_kept around meant before site (named_type at name) parts undefined list = meant_kept (around.meaning name) at (meant name) undefined
 
   components_kept : (around : Surroundings) → KeepLimits around → (k : Collection) (automatic : Bool) (before : ℕ) (cs : WrittenComponents) → fault_in_components k automatic around before cs ≡ None
@@ -184,28 +183,28 @@ mutual
   components_kept around meant k automatic before (component site name t presence cs) none =
       let count = before + nodes (denoted around t) in
       both (keeps_limits (denoted around t)) (components_keep_limits (denoted_components around cs))
-      (type_kept around meant before count t (none_first (fault_in around before count t) _ none))
-      (components_kept around meant k automatic count cs (none_then (fault_in around before count t) _ none))
+      (type_kept around meant automatic before count t (none_first (fault_in around automatic before count t) _ none))
+      (components_kept around meant k automatic count cs (none_then (fault_in around automatic before count t) _ none))
   components_kept around meant k automatic before (components_from site t cs) none =
       let count = before + nodes_put_in around t in
       kept_join (parts_of (denoted around t)) (denoted_components around cs)
-      (kept_parts (denoted around t) (type_kept around meant before count t (none_first (fault_in around before count t) _ none)))
-      (components_kept around meant k automatic count cs (none_then (entry_fault k automatic around site t) _ (none_then (fault_in around before count t) _ none)))
+      (kept_parts (denoted around t) (type_kept around meant false before count t (none_first (fault_in around false before count t) _ none)))
+      (components_kept around meant k automatic count cs (none_then (entry_fault k automatic around site t) _ (none_then (fault_in around false before count t) _ none)))
 
-  alternatives_kept : (around : Surroundings) → KeepLimits around → (before : ℕ) (others : WrittenAlternatives) → fault_in_alternatives around before others ≡ None
+  alternatives_kept : (around : Surroundings) → KeepLimits around → (automatic : Bool) (before : ℕ) (others : WrittenAlternatives) → fault_in_alternatives automatic around before others ≡ None
       → components_keep_limits (denoted_alternatives around others) ≡ true
-  alternatives_kept around meant before no_alternatives none = refl
-  alternatives_kept around meant before (alternative site name t others) none =
+  alternatives_kept around meant automatic before no_alternatives none = refl
+  alternatives_kept around meant automatic before (alternative site name t others) none =
       let count = before + nodes (denoted around t) in
       both (keeps_limits (denoted around t)) (components_keep_limits (denoted_alternatives around others))
-      (type_kept around meant before count t (none_first (fault_in around before count t) _ none))
-      (alternatives_kept around meant count others (none_then (fault_in around before count t) _ none))
+      (type_kept around meant automatic before count t (none_first (fault_in around automatic before count t) _ none))
+      (alternatives_kept around meant automatic count others (none_then (fault_in around automatic before count t) _ none))
 
-pub within : (around : Surroundings) → KeepLimits around → (before count : ℕ) (t : WrittenType) → fault_in around before count t ≡ None → is_within_limits (denoted around t) ≡ true
+pub within : (around : Surroundings) → KeepLimits around → (before count : ℕ) (t : WrittenType) → fault_in around false before count t ≡ None → is_within_limits (denoted around t) ≡ true
 within around meant before count (type_node site tags base cons) none =
-    both _ _ (type_kept around meant before count (type_node site tags base cons) none)
-    (not_deep around count site tags base cons (none_then (fault_in_parts around before base) (own_fault around count (type_node site tags base cons)) none))
+    both _ _ (type_kept around meant false before count (type_node site tags base cons) none)
+    (not_deep around false count site tags base cons (none_then (fault_in_parts around before base) (own_fault around false count (type_node site tags base cons)) none))
 
-pub few : (around : Surroundings) (before count : ℕ) (t : WrittenType) → fault_in around before count t ≡ None → count ≤ most_nodes
-few around before count (type_node site tags base cons) none =
-    not_many around count site tags base cons (none_then (fault_in_parts around before base) (own_fault around count (type_node site tags base cons)) none)
+pub few : (around : Surroundings) (automatic : Bool) (before count : ℕ) (t : WrittenType) → fault_in around automatic before count t ≡ None → count ≤ most_nodes
+few around automatic before count (type_node site tags base cons) none =
+    not_many around automatic count site tags base cons (none_then (fault_in_parts around before base) (own_fault around automatic count (type_node site tags base cons)) none)

@@ -5,6 +5,7 @@ pub mod Digits
 pub mod TagLoops
 pub mod Places
 pub mod ItemLoops
+pub mod FreeNumbers
 pub mod WrittenTags
 pub mod WalkLoops
 pub mod Wholes

@@ -1,6 +1,6 @@
 -- SEQUENCE, SET and CHOICE over their components as they are read: what is made is what the definition says, or the first fault of the type itself.
 use Rattle.std.proofs.Common.{◌≡◌, Bool, true, false, ℕ, suc, ◌+◌, ◌-◌, ◌^◌, ◌<◌, ◌≤◌, List, [], ◌∷◌, length, Option, Some, None, Result, Ok, refl, sym, ap, ◌∙◌, arith, nat_lt, ◌⊎◌, inl, inr}
-use Rattle.std.specs.Prelude.{max}
+use Rattle.std.specs.Prelude.{max, is_some}
 use Rattle.std.specs.Option.{option_or}
 use Rattle.std.proofs.lemmas.Bool.{cases_lt, lt-ltb}
 use Rattle.guard_model.specs.Answer.{◌>>=◌}
@@ -9,6 +9,7 @@ use Rattle.guard_model.specs.AbstractType.{AbstractType, Components, type_of, no
 use Rattle.guard_model.specs.Counts.{component_count}
 use Rattle.guard_model.specs.TypeView.{components_of}
 use Rattle.guard_model.specs.declared.site.Site.{Site}
+use Rattle.guard_model.specs.declared.tag.Tag.{Tag}
 use Rattle.guard_model.specs.Limits.{most_components, deepest_nesting}
 use Rattle.guard_tagcheck.specs.Limits.{nesting, nesting_inside, deepest}
 use Rattle.guard_syntax.specs.declared.tree.Collection.{Collection}
@@ -22,8 +23,7 @@ use Rattle.guard_tagging.specs.ReadBases as make
 use Rattle.guard_tagging.specs.ReadNodes.{Node, Whole, Made, tags_of, made_from, made_with}
 use Rattle.guard_tagging.specs.ReadParts.{no_parts, listed, check_list}
 use Rattle.guard_tagging.specs.Types.{Surroundings, denoted, denoted_components, denoted_alternatives, universal, collection_number, structure_kind, is_automatic_list, is_automatic_choice, tagged_where}
-use Rattle.guard_tagging.proofs.WrittenTags.{put_all}
-use Rattle.guard_tagging.proofs.Wholes.{node_fault, whole_made, node_made}
+use Rattle.guard_tagging.proofs.Wholes.{all_tags, node_fault, whole_made, node_made}
 use Rattle.guard_tagging.proofs.NodeKinds.{node_at, counted, made_of, node_is, deep_capped, same_steps}
 use Rattle.guard_tagging.proofs.TaggedParts.{tagged_from, listed_forth, tagged_is, tagged_nodes}
 use Rattle.guard_tagging.proofs.WrittenLists.{component_sites, alternative_sites, component_places_are, alternative_places_are, with_more, list_checked}
@@ -43,7 +43,7 @@ behind_list node nesting many = first_of (fault_where (nat_lt deepest_nesting ne
 refused_or : (node : Node) (t : AbstractType) (list : Option TagFault) (a b many : ℕ) (x y : Made) → (list ≡ None → (a ≡ b) × (x ≡ y))
     → unless (node_fault node t list a many None) x ≡ unless (node_fault node t list b many None) y
 refused_or node t None a b many x y same = let p = same refl in λ i. unless (node_fault node t None (p.0 i) many None) (p.1 i)
-refused_or node t (Some f) a b many x y same = first_three (universal_tag node.tags) (implicit_choice node.tag_default t node.tags) (tag_too_large node.tags) f (behind_list node a many) (behind_list node b many) x y
+refused_or node t (Some f) a b many x y same = first_three (universal_tag node.tags) (implicit_choice t node.tags) (tag_too_large node.tags) f (behind_list node a many) (behind_list node b many) x y
 
 not_long : (names : Option TagFault) (long : Bool) (f : TagFault) → option_or names (fault_where long f) ≡ None → long ≡ false
 not_long (Some f) long g h = absurd cc
@@ -72,13 +72,13 @@ structure_nodes : (k : Collection) (cs : Components) → nodes_of_components cs 
 structure_nodes collection.Sequence cs = refl
 structure_nodes collection.Set cs = refl
 
-module _ (around : Surroundings) (site : Site) (tags : List WrittenTag) (cons : List WrittenConstraint) (counts : Bool) (before : ℕ) where
+module _ (around : Surroundings) (site : Site) (tags : List WrittenTag) (cons : List WrittenConstraint) (counts : Bool) (own : Option Tag) (before : ℕ) where
   abbrev node : Node
-  node = node_at around site tags counts
+  node = node_at around site tags counts own
 
   pub structure_is : (k : Collection) (cs : WrittenComponents)
-      → make.structure_type (node_at around site tags counts) k (with_more (is_automatic_list around.tag_default cs) (no_parts before) (component_sites around cs) (denoted_components around cs))
-      ≡ unless (own_fault around (before + counted counts (denoted around (type_node site tags (structure k cs) cons))) (type_node site tags (structure k cs) cons)) (made_of counts before (denoted around (type_node site tags (structure k cs) cons)))
+      → make.structure_type (node_at around site tags counts own) k (with_more (is_automatic_list around.tag_default cs) (no_parts before) (component_sites around cs) (denoted_components around cs))
+      ≡ unless (own_fault around (is_some own) (before + counted counts (denoted around (type_node site tags (structure k cs) cons))) (type_node site tags (structure k cs) cons)) (made_of counts own before (denoted around (type_node site tags (structure k cs) cons)))
   unfolding make.structure_type
   structure_is k cs =
       let automatic = is_automatic_list around.tag_default cs in
@@ -88,7 +88,7 @@ module _ (around : Surroundings) (site : Site) (tags : List WrittenTag) (cons : 
       let wanted = tagged_where automatic written in
       let kind = structure_kind k wanted in
       let base_tags = universal (collection_number k) in
-      let all = put_all around.tag_default tags base_tags in
+      let all = all_tags node base_tags in
       let list = list_fault around site (structure k cs) in
       let parts = with_more automatic (no_parts before) (component_sites around cs) written in
       let many = before + nodes_of_components written in
@@ -104,14 +104,14 @@ module _ (around : Surroundings) (site : Site) (tags : List WrittenTag) (cons : 
       node_made node base_tags kind no_constraints list None inside many (check_list site parts) (λ whole. Ok (made_with whole (structure_kind k (components_of (listed read))))) made
       (list_checked site automatic before (component_sites around cs) written (component_names around cs) (component_places_are around automatic 0 cs)) refl
       ∙ refused_or node t list (length all + inside) (length all + nesting_inside kind) _ made asked same
-      ∙ node_is around site tags (structure k cs) cons counts before base_tags kind no_constraints refl list None (nesting_inside kind) many refl refl refl refl
+      ∙ node_is around site tags (structure k cs) cons counts own before base_tags kind no_constraints refl refl list None (nesting_inside kind) many refl refl refl refl
       (ap (λ (n : ℕ). before + n) (sym (tagged_nodes automatic written) ∙ structure_nodes k wanted))
 
   -- ---- CHOICE
 
   pub choice_is : (others : WrittenAlternatives)
-      → make.choice_type (node_at around site tags counts) (with_more (is_automatic_choice around.tag_default others) (no_parts before) (alternative_sites others) (denoted_alternatives around others))
-      ≡ unless (own_fault around (before + counted counts (denoted around (type_node site tags (choice others) cons))) (type_node site tags (choice others) cons)) (made_of counts before (denoted around (type_node site tags (choice others) cons)))
+      → make.choice_type (node_at around site tags counts own) (with_more (is_automatic_choice around.tag_default others) (no_parts before) (alternative_sites others) (denoted_alternatives around others))
+      ≡ unless (own_fault around (is_some own) (before + counted counts (denoted around (type_node site tags (choice others) cons))) (type_node site tags (choice others) cons)) (made_of counts own before (denoted around (type_node site tags (choice others) cons)))
   unfolding make.choice_type
   choice_is others =
       let automatic = is_automatic_choice around.tag_default others in
@@ -120,7 +120,7 @@ module _ (around : Surroundings) (site : Site) (tags : List WrittenTag) (cons : 
       let inside = max 0 (deepest read) in
       let wanted = tagged_where automatic written in
       let kind = type.choice wanted in
-      let all = put_all around.tag_default tags [] in
+      let all = all_tags node [] in
       let list = list_fault around site (choice others) in
       let parts = with_more automatic (no_parts before) (alternative_sites others) written in
       let many = before + nodes_of_components written in
@@ -138,5 +138,5 @@ module _ (around : Surroundings) (site : Site) (tags : List WrittenTag) (cons : 
       ∙ node_made node [] kind no_constraints list None (inside + 1) many (check_list site parts) last made
       (list_checked site automatic before (alternative_sites others) written (alternative_names others) (alternative_places_are around automatic 0 others)) refl
       ∙ refused_or node t list (length all + (inside + 1)) (length all + nesting_inside kind) _ made asked same
-      ∙ node_is around site tags (choice others) cons counts before [] kind no_constraints refl list None (nesting_inside kind) many refl refl refl refl
+      ∙ node_is around site tags (choice others) cons counts own before [] kind no_constraints refl refl list None (nesting_inside kind) many refl refl refl refl
       (ap (λ (n : ℕ). before + n) (sym (tagged_nodes automatic written)))

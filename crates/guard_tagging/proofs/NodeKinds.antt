@@ -1,6 +1,7 @@
 -- Types without components: what is read is what the definition says, or the first fault of the type.
 use Rattle.std.proofs.Common.{◌≡◌, Bool, true, false, cond, ℕ, ◌+◌, ◌<◌, ◌≤◌, List, [], ◌∷◌, length, map, Option, Some, None, Result, Ok, Err, refl, sym, ap, ◌∙◌, arith, nat_lt, ◌⊎◌, inl, inr}
-use Rattle.std.specs.Prelude.{min}
+use Rattle.std.specs.Prelude.{min, is_some}
+use Rattle.std.specs.Option.{option_or}
 use Rattle.std.proofs.lemmas.Bool.{cases_lt, lt-ltb}
 use Rattle.guard_model.specs.Answer.{◌>>=◌}
 use Rattle.guard_model.specs.AbstractType as type
@@ -9,7 +10,7 @@ use Rattle.guard_model.specs.Each.{each}
 use Rattle.guard_model.specs.declared.site.Site.{Site}
 use Rattle.guard_model.specs.declared.tag.Tag.{Tag}
 use Rattle.guard_model.specs.Limits.{deepest_nesting}
-use Rattle.guard_tagcheck.specs.Limits.{nesting, nesting_inside}
+use Rattle.guard_tagcheck.specs.Limits.{nesting, nesting_inside, is_tagged}
 use Rattle.guard_syntax.specs.declared.tree.PlainType.{PlainType}
 use Rattle.guard_syntax.specs.declared.tree.Collection.{Collection}
 use Rattle.guard_syntax.specs.declared.tree.Collection.TheVariants as collection
@@ -17,7 +18,7 @@ use Rattle.guard_syntax.specs.Trees.{WrittenTag, WrittenType, WrittenBase, Writt
 use Rattle.guard_tagging.specs.declared.fault.TagFault.{TagFault}
 use Rattle.guard_tagging.specs.declared.fault.TagFault.TheVariants.{TooDeep, SchemaTooLarge}
 use Rattle.guard_tagging.specs.Faults as faults
-use Rattle.guard_tagging.specs.Faults.{Placed, first_of, fault_where, universal_tag, implicit_choice, tag_too_large, most_nodes, nodes, nodes_inside, undefined_name, list_fault, number_fault, number_too_large, duplicate_number, own_fault}
+use Rattle.guard_tagging.specs.Faults.{Placed, first_of, fault_where, universal_tag, implicit_choice, tag_too_large, most_nodes, nodes, nodes_inside, undefined_name, list_fault, number_fault, number_too_large, duplicate_number, with_tag_there, own_fault}
 use Rattle.guard_tagging.specs.Enumerations.{numbered, named_number}
 use Rattle.guard_tagging.specs.Named.{unless, allowed}
 use Rattle.guard_tagging.specs.ReadBases as make
@@ -28,18 +29,19 @@ use Rattle.guard_tagging.specs.Spelled.{AreNamed, AreItems}
 use Rattle.guard_tagging.specs.Tagging.{is_untagged_choice, with_tags}
 use Rattle.guard_tagging.specs.Types.{Surroundings, denoted, denoted_base, universal, plain_number, plain_kind, collection_number, of_kind}
 use Rattle.guard_tagging.proofs.WrittenNumbers.{named_places_are, item_places_are, named_read, items_are}
-use Rattle.guard_tagging.proofs.WrittenTags.{put_all, with_tags_is}
+use Rattle.guard_tagging.proofs.WrittenTags.{put_all, put_automatic, with_automatic, with_automatic_is, nesting_there, all_tagged, with_tags_is}
 use Rattle.guard_tagging.proofs.Wholes.{node_fault, whole_made, node_made, whole_then}
 
-abbrev pub node_at : Surroundings → Site → List WrittenTag → Bool → Node
-node_at around site tags counts = record { site = site; tags = tags; tag_default = around.tag_default; counts = counts }
+abbrev pub node_at : Surroundings → Site → List WrittenTag → Bool → Option Tag → Node
+node_at around site tags counts own = record { site = site; tags = tags; tag_default = around.tag_default; counts = counts; automatic = own }
 
 -- the types that a type counts for, which the type behind COMPONENTS OF doesn't do itself
 abbrev pub counted : Bool → AbstractType → ℕ
 counted counts (type_of tags kind cons) = nodes_inside kind + one_where counts
 
-abbrev pub made_of : Bool → ℕ → AbstractType → Made
-made_of counts before t = record { ty = t; nesting = nesting t; nodes = before + counted counts t }
+-- what is made of a type, which gets this automatic tag or none
+abbrev pub made_of : Bool → Option Tag → ℕ → AbstractType → Made
+made_of counts own before t = record { ty = with_automatic own t; nesting = nesting (with_automatic own t); nodes = before + counted counts t }
 
 plus_none : (a : ℕ) → a ≡ a + 0
 plus_none a = omega arith
@@ -52,80 +54,119 @@ then_made {A} r (Some f) x make e = ap (λ (q : Result A TagFault). q >>= λ y. 
 plus_assoc : (a b c : ℕ) → (a + b) + c ≡ a + (b + c)
 plus_assoc a b c = omega arith
 
-module _ (around : Surroundings) (site : Site) (tags : List WrittenTag) (base : WrittenBase) (cons : List WrittenConstraint) (counts : Bool) (before : ℕ)
-    (base_tags : List Tag) (kind : AbstractKind) (base_cons : Constraints) (base_is : denoted_base around base ≡ type_of base_tags kind base_cons) where
+-- where an earlier fault stands, what follows doesn't matter
+refused_either : (u : Option TagFault) (f : TagFault) (x y : Made) → unless (option_or u (Some f)) x ≡ unless (option_or u (Some f)) y
+refused_either None f x y = refl
+refused_either (Some g) f x y = refl
+
+module _ (around : Surroundings) (site : Site) (tags : List WrittenTag) (base : WrittenBase) (cons : List WrittenConstraint) (counts : Bool) (own : Option Tag) (before : ℕ)
+    (base_tags : List Tag) (kind : AbstractKind) (base_cons : Constraints) (base_is : denoted_base around base ≡ type_of base_tags kind base_cons) (tagged : is_tagged base_tags kind ≡ true) where
   abbrev tree : WrittenType
   tree = type_node site tags base cons
 
+  abbrev node : Node
+  node = node_at around site tags counts own
+
   abbrev all : List Tag
-  all = put_all around.tag_default tags base_tags
+  all = put_automatic own (put_all around.tag_default tags base_tags)
 
-  pub denoted_is : denoted around (type_node site tags base cons) ≡ type_of (put_all around.tag_default tags base_tags) kind base_cons
-  denoted_is = ap (with_tags around.tag_default tags) base_is ∙ with_tags_is around.tag_default tags base_tags kind base_cons
+  -- where IMPLICIT doesn't stand on an untagged CHOICE
+  module _ (lawful : implicit_choice (type_of base_tags kind base_cons) tags ≡ None) where
+    denoted_is : denoted around (type_node site tags base cons) ≡ type_of (put_all around.tag_default tags base_tags) kind base_cons
+    denoted_is = ap (with_tags around.tag_default tags) base_is ∙ with_tags_is around.tag_default tags base_tags kind base_cons tagged lawful
 
-  own_is : (list large : Option TagFault) (count : ℕ) → undefined_name around base ≡ None → list_fault around site base ≡ list → number_fault base ≡ large
-      → own_fault around count tree ≡ node_fault (node_at around site tags counts) (type_of base_tags kind base_cons) list (length all + nesting_inside kind) count large
-  own_is list large count u l n = λ i.
-      first_of (u i ∷ universal_tag tags ∷ implicit_choice around.tag_default (base_is i) tags ∷ tag_too_large tags ∷ l i
-      ∷ fault_where (nat_lt deepest_nesting (nesting (denoted_is i))) (TooDeep site) ∷ fault_where (nat_lt most_nodes count) (SchemaTooLarge site) ∷ n i ∷ [])
+    standing_is : with_automatic own (denoted around (type_node site tags base cons)) ≡ type_of (put_automatic own (put_all around.tag_default tags base_tags)) kind base_cons
+    standing_is = ap (with_automatic own) denoted_is ∙ with_automatic_is own (put_all around.tag_default tags base_tags) kind base_cons (all_tagged around.tag_default tags base_tags kind tagged)
+
+    own_is : (list large : Option TagFault) (count : ℕ) → undefined_name around base ≡ None → list_fault around site base ≡ list → number_fault base ≡ large
+        → own_fault around (is_some own) count tree ≡ node_fault node (type_of base_tags kind base_cons) list (length all + nesting_inside kind) count large
+    own_is list large count u l n =
+        let deep : nesting (with_tag_there (is_some own) (denoted around tree)) ≡ length all + nesting_inside kind = nesting_there own (denoted around tree) ∙ ap nesting standing_is in
+        λ i. first_of (u i ∷ universal_tag tags ∷ implicit_choice (base_is i) tags ∷ tag_too_large tags ∷ l i
+        ∷ fault_where (nat_lt deepest_nesting (deep i)) (TooDeep site) ∷ fault_where (nat_lt most_nodes count) (SchemaTooLarge site) ∷ n i ∷ [])
+
+    lawful_is : (list large : Option TagFault) (inside many : ℕ) → undefined_name around base ≡ None → list_fault around site base ≡ list → number_fault base ≡ large
+        → inside ≡ nesting_inside kind → many ≡ before + nodes_inside kind
+        → unless (node_fault node (type_of base_tags kind base_cons) list (length all + inside) (many + one_where counts) large)
+        (made_from (whole_made node base_tags kind base_cons list large inside many) kind base_cons)
+        ≡ unless (own_fault around (is_some own) (before + counted counts (denoted around tree)) tree) (made_of counts own before (denoted around tree))
+    lawful_is list large inside many u l n deep much =
+        let count : many + one_where counts ≡ before + counted counts (denoted around tree) =
+        ap (λ (k : ℕ). k + one_where counts) much ∙ plus_assoc before (nodes_inside kind) (one_where counts) ∙ ap (λ (t : AbstractType). before + counted counts t) (sym denoted_is) in
+        let fault : node_fault node (type_of base_tags kind base_cons) list (length all + inside) (many + one_where counts) large ≡ own_fault around (is_some own) (before + counted counts (denoted around tree)) tree =
+        (λ i. node_fault node (type_of base_tags kind base_cons) list (length all + deep i) (count i) large) ∙ sym (own_is list large (before + counted counts (denoted around tree)) u l n) in
+        let made : made_from (whole_made node base_tags kind base_cons list large inside many) kind base_cons ≡ made_of counts own before (denoted around tree) =
+        (λ i. record { ty = type_of all kind base_cons; nesting = length all + deep i; nodes = count i })
+        ∙ (λ i. record { ty = sym standing_is i; nesting = nesting (sym standing_is i); nodes = before + counted counts (denoted around tree) }) in
+        λ i. unless (fault i) (made i)
 
   -- where so many types come before the node itself
   pub node_is : (list large : Option TagFault) (inside many : ℕ) → undefined_name around base ≡ None → list_fault around site base ≡ list → number_fault base ≡ large
       → inside ≡ nesting_inside kind → many ≡ before + nodes_inside kind
-      → unless (node_fault (node_at around site tags counts) (type_of base_tags kind base_cons) list (length all + inside) (many + one_where counts) large)
-      (made_from (whole_made (node_at around site tags counts) base_tags kind base_cons list large inside many) kind base_cons)
-      ≡ unless (own_fault around (before + counted counts (denoted around tree)) tree) (made_of counts before (denoted around tree))
-  node_is list large inside many u l n deep much =
-      let count : many + one_where counts ≡ before + counted counts (denoted around tree) =
-      ap (λ (k : ℕ). k + one_where counts) much ∙ plus_assoc before (nodes_inside kind) (one_where counts) ∙ ap (λ (t : AbstractType). before + counted counts t) (sym denoted_is) in
-      let fault : node_fault (node_at around site tags counts) (type_of base_tags kind base_cons) list (length all + inside) (many + one_where counts) large ≡ own_fault around (before + counted counts (denoted around tree)) tree =
-      (λ i. node_fault (node_at around site tags counts) (type_of base_tags kind base_cons) list (length all + deep i) (count i) large) ∙ sym (own_is list large (before + counted counts (denoted around tree)) u l n) in
-      let made : made_from (whole_made (node_at around site tags counts) base_tags kind base_cons list large inside many) kind base_cons ≡ made_of counts before (denoted around tree) =
-      (λ i. record { ty = type_of all kind base_cons; nesting = length all + deep i; nodes = count i }) ∙ (λ i. record { ty = sym denoted_is i; nesting = nesting (sym denoted_is i); nodes = before + counted counts (denoted around tree) }) in
-      λ i. unless (fault i) (made i)
+      → unless (node_fault (node_at around site tags counts own) (type_of base_tags kind base_cons) list (length (put_automatic own (put_all around.tag_default tags base_tags)) + inside) (many + one_where counts) large)
+      (made_from (whole_made (node_at around site tags counts own) base_tags kind base_cons list large inside many) kind base_cons)
+      ≡ unless (own_fault around (is_some own) (before + counted counts (denoted around (type_node site tags base cons))) (type_node site tags base cons)) (made_of counts own before (denoted around (type_node site tags base cons)))
+  node_is list large inside many u l n deep much = by (implicit_choice (type_of base_tags kind base_cons) tags) refl
+    where
+      by : (f : Option TagFault) → implicit_choice (type_of base_tags kind base_cons) tags ≡ f
+          → unless (node_fault node (type_of base_tags kind base_cons) list (length all + inside) (many + one_where counts) large)
+          (made_from (whole_made node base_tags kind base_cons list large inside many) kind base_cons)
+          ≡ unless (own_fault around (is_some own) (before + counted counts (denoted around tree)) tree) (made_of counts own before (denoted around tree))
+      by None lawful = lawful_is lawful list large inside many u l n deep much
+      by (Some f) wrong =
+          let there : implicit_choice (denoted_base around base) tags ≡ Some f = ap (λ (t : AbstractType). implicit_choice t tags) base_is ∙ wrong in
+          let rest = first_of (tag_too_large tags ∷ list ∷ fault_where (nat_lt deepest_nesting (length all + inside)) (TooDeep site)
+          ∷ fault_where (nat_lt most_nodes (many + one_where counts)) (SchemaTooLarge site) ∷ large ∷ []) in
+          let others = first_of (tag_too_large tags ∷ list_fault around site base ∷ fault_where (nat_lt deepest_nesting (nesting (with_tag_there (is_some own) (denoted around tree)))) (TooDeep site)
+          ∷ fault_where (nat_lt most_nodes (before + counted counts (denoted around tree))) (SchemaTooLarge site) ∷ number_fault base ∷ []) in
+          let made = made_from (whole_made node base_tags kind base_cons list large inside many) kind base_cons in
+          let asked = made_of counts own before (denoted around tree) in
+          ap (λ (o : Option TagFault). unless (option_or (universal_tag tags) (option_or o rest)) made) wrong
+          ∙ refused_either (universal_tag tags) f made asked
+          ∙ sym (λ i. unless (option_or (u i) (option_or (universal_tag tags) (option_or (there i) others))) asked)
 
 -- ---- types that are written with words alone
 
-pub plain_is : (around : Surroundings) (site : Site) (tags : List WrittenTag) (p : PlainType) (cons : List WrittenConstraint) (counts : Bool) (before : ℕ)
+pub plain_is : (around : Surroundings) (site : Site) (tags : List WrittenTag) (p : PlainType) (cons : List WrittenConstraint) (counts : Bool) (own : Option Tag) (before : ℕ)
     → nesting_inside (plain_kind p) ≡ 0 → nodes_inside (plain_kind p) ≡ 0
-    → make.plain_type (node_at around site tags counts) p before
-    ≡ unless (own_fault around (before + counted counts (denoted around (type_node site tags (plain p) cons))) (type_node site tags (plain p) cons)) (made_of counts before (denoted around (type_node site tags (plain p) cons)))
+    → make.plain_type (node_at around site tags counts own) p before
+    ≡ unless (own_fault around (is_some own) (before + counted counts (denoted around (type_node site tags (plain p) cons))) (type_node site tags (plain p) cons)) (made_of counts own before (denoted around (type_node site tags (plain p) cons)))
 unfolding make.plain_type
-plain_is around site tags p cons counts before deep many =
-    node_made (node_at around site tags counts) (universal (plain_number p)) (plain_kind p) no_constraints None None 0 before (Ok tt) (λ whole. Ok (made_with whole (plain_kind p))) _ refl refl
-    ∙ node_is around site tags (plain p) cons counts before (universal (plain_number p)) (plain_kind p) no_constraints refl None None 0 before refl refl refl (sym deep) (let e : before ≡ before + nodes_inside (plain_kind p) = omega (arith, many) in e)
+plain_is around site tags p cons counts own before deep many =
+    node_made (node_at around site tags counts own) (universal (plain_number p)) (plain_kind p) no_constraints None None 0 before (Ok tt) (λ whole. Ok (made_with whole (plain_kind p))) _ refl refl
+    ∙ node_is around site tags (plain p) cons counts own before (universal (plain_number p)) (plain_kind p) no_constraints refl refl None None 0 before refl refl refl (sym deep) (let e : before ≡ before + nodes_inside (plain_kind p) = omega (arith, many) in e)
 
 -- ---- INTEGER and ENUMERATED
 
-pub integer_is : (around : Surroundings) (site : Site) (tags : List WrittenTag) (ns : List WrittenNamed) (cons : List WrittenConstraint) (counts : Bool) (before : ℕ) → AreNamed ns
-    → make.integer_type (node_at around site tags counts) ns before
-    ≡ unless (own_fault around (before + counted counts (denoted around (type_node site tags (numbers ns) cons))) (type_node site tags (numbers ns) cons)) (made_of counts before (denoted around (type_node site tags (numbers ns) cons)))
+pub integer_is : (around : Surroundings) (site : Site) (tags : List WrittenTag) (ns : List WrittenNamed) (cons : List WrittenConstraint) (counts : Bool) (own : Option Tag) (before : ℕ) → AreNamed ns
+    → make.integer_type (node_at around site tags counts own) ns before
+    ≡ unless (own_fault around (is_some own) (before + counted counts (denoted around (type_node site tags (numbers ns) cons))) (type_node site tags (numbers ns) cons)) (made_of counts own before (denoted around (type_node site tags (numbers ns) cons)))
 unfolding make.integer_type make.numbered_whole
-integer_is around site tags ns cons counts before spelled =
+integer_is around site tags ns cons counts own before spelled =
     let kind = type.integer (map named_number ns) in
     let list = duplicate_number (map faults.named_place ns) in
     let large = number_too_large (map faults.named_place ns) in
-    whole_then (node_at around site tags counts) (universal 2) false (make.differ (map reading.named_place ns)) 0 before (λ whole. each read_named ns >>= λ all. Ok (made_with whole (type.integer all)))
-    ∙ node_made (node_at around site tags counts) (universal 2) kind no_constraints list large 0 before (make.differ (map reading.named_place ns)) (λ whole. each read_named ns >>= λ all. Ok (made_with whole (type.integer all)))
-    (made_with (whole_made (node_at around site tags counts) (universal 2) kind no_constraints list large 0 before) kind)
+    whole_then (node_at around site tags counts own) (universal 2) false (make.differ (map reading.named_place ns)) 0 before (λ whole. each read_named ns >>= λ all. Ok (made_with whole (type.integer all)))
+    ∙ node_made (node_at around site tags counts own) (universal 2) kind no_constraints list large 0 before (make.differ (map reading.named_place ns)) (λ whole. each read_named ns >>= λ all. Ok (made_with whole (type.integer all)))
+    (made_with (whole_made (node_at around site tags counts own) (universal 2) kind no_constraints list large 0 before) kind)
     (ap (λ (ps : List Placed). allowed (duplicate_number ps)) (named_places_are ns spelled))
-    (then_made (each read_named ns) large (map named_number ns) (λ all. made_with (whole_made (node_at around site tags counts) (universal 2) kind no_constraints list large 0 before) (type.integer all)) (named_read ns spelled))
-    ∙ node_is around site tags (numbers ns) cons counts before (universal 2) kind no_constraints refl list large 0 before refl refl refl refl (plus_none before)
+    (then_made (each read_named ns) large (map named_number ns) (λ all. made_with (whole_made (node_at around site tags counts own) (universal 2) kind no_constraints list large 0 before) (type.integer all)) (named_read ns spelled))
+    ∙ node_is around site tags (numbers ns) cons counts own before (universal 2) kind no_constraints refl refl list large 0 before refl refl refl refl (plus_none before)
 
-pub enumerated_is : (around : Surroundings) (site : Site) (tags : List WrittenTag) (items : List WrittenItem) (cons : List WrittenConstraint) (counts : Bool) (before : ℕ) → AreItems items
-    → make.enumerated_type (node_at around site tags counts) items before
-    ≡ unless (own_fault around (before + counted counts (denoted around (type_node site tags (enumerated items) cons))) (type_node site tags (enumerated items) cons)) (made_of counts before (denoted around (type_node site tags (enumerated items) cons)))
+pub enumerated_is : (around : Surroundings) (site : Site) (tags : List WrittenTag) (items : List WrittenItem) (cons : List WrittenConstraint) (counts : Bool) (own : Option Tag) (before : ℕ) → AreItems items
+    → make.enumerated_type (node_at around site tags counts own) items before
+    ≡ unless (own_fault around (is_some own) (before + counted counts (denoted around (type_node site tags (enumerated items) cons))) (type_node site tags (enumerated items) cons)) (made_of counts own before (denoted around (type_node site tags (enumerated items) cons)))
 unfolding make.enumerated_type make.numbered_whole
-enumerated_is around site tags items cons counts before spelled =
+enumerated_is around site tags items cons counts own before spelled =
     let kind = type.enumerated (numbered items) in
     let list = duplicate_number (map faults.item_place items) in
     let large = number_too_large (map faults.item_place items) in
-    whole_then (node_at around site tags counts) (universal 10) false (make.differ (map reading.item_place items)) 0 before (λ whole. read_items items >>= λ all. Ok (made_with whole (type.enumerated all)))
-    ∙ node_made (node_at around site tags counts) (universal 10) kind no_constraints list large 0 before (make.differ (map reading.item_place items)) (λ whole. read_items items >>= λ all. Ok (made_with whole (type.enumerated all)))
-    (made_with (whole_made (node_at around site tags counts) (universal 10) kind no_constraints list large 0 before) kind)
+    whole_then (node_at around site tags counts own) (universal 10) false (make.differ (map reading.item_place items)) 0 before (λ whole. read_items items >>= λ all. Ok (made_with whole (type.enumerated all)))
+    ∙ node_made (node_at around site tags counts own) (universal 10) kind no_constraints list large 0 before (make.differ (map reading.item_place items)) (λ whole. read_items items >>= λ all. Ok (made_with whole (type.enumerated all)))
+    (made_with (whole_made (node_at around site tags counts own) (universal 10) kind no_constraints list large 0 before) kind)
     (ap (λ (ps : List Placed). allowed (duplicate_number ps)) (item_places_are items spelled))
-    (then_made (read_items items) large (numbered items) (λ all. made_with (whole_made (node_at around site tags counts) (universal 10) kind no_constraints list large 0 before) (type.enumerated all)) (items_are items spelled))
-    ∙ node_is around site tags (enumerated items) cons counts before (universal 10) kind no_constraints refl list large 0 before refl refl refl refl (plus_none before)
+    (then_made (read_items items) large (numbered items) (λ all. made_with (whole_made (node_at around site tags counts own) (universal 10) kind no_constraints list large 0 before) (type.enumerated all)) (items_are items spelled))
+    ∙ node_is around site tags (enumerated items) cons counts own before (universal 10) kind no_constraints refl refl list large 0 before refl refl refl refl (plus_none before)
 
 of_nesting : (k : Collection) (t : AbstractType) → nesting t ≡ nesting_inside (of_kind k t)
 of_nesting collection.Sequence t = refl
@@ -140,14 +181,14 @@ of_nodes collection.Set t before = ap (λ (n : ℕ). before + n) (counted_is t)
 
 -- ---- SEQUENCE OF and SET OF, over what was read of the element
 
-pub of_is : (around : Surroundings) (site : Site) (tags : List WrittenTag) (k : Collection) (c : Option WrittenOfConstraint) (t : WrittenType) (cons : List WrittenConstraint) (counts : Bool) (before : ℕ)
-    → make.of_type (node_at around site tags counts) k (made_of true before (denoted around t))
-    ≡ unless (own_fault around (before + counted counts (denoted around (type_node site tags (of_type k c t) cons))) (type_node site tags (of_type k c t) cons)) (made_of counts before (denoted around (type_node site tags (of_type k c t) cons)))
+pub of_is : (around : Surroundings) (site : Site) (tags : List WrittenTag) (k : Collection) (c : Option WrittenOfConstraint) (t : WrittenType) (cons : List WrittenConstraint) (counts : Bool) (own : Option Tag) (before : ℕ)
+    → make.of_type (node_at around site tags counts own) k (made_of true None before (denoted around t))
+    ≡ unless (own_fault around (is_some own) (before + counted counts (denoted around (type_node site tags (of_type k c t) cons))) (type_node site tags (of_type k c t) cons)) (made_of counts own before (denoted around (type_node site tags (of_type k c t) cons)))
 unfolding make.of_type
-of_is around site tags k c t cons counts before =
+of_is around site tags k c t cons counts own before =
     let element = denoted around t in
-    node_made (node_at around site tags counts) (universal (collection_number k)) (of_kind k element) no_constraints None None (nesting element) (before + counted true element) (Ok tt) (λ whole. Ok (made_with whole (of_kind k element))) _ refl refl
-    ∙ node_is around site tags (of_type k c t) cons counts before (universal (collection_number k)) (of_kind k element) no_constraints refl None None (nesting element) (before + counted true element) refl refl refl (of_nesting k element) (of_nodes k element before)
+    node_made (node_at around site tags counts own) (universal (collection_number k)) (of_kind k element) no_constraints None None (nesting element) (before + counted true element) (Ok tt) (λ whole. Ok (made_with whole (of_kind k element))) _ refl refl
+    ∙ node_is around site tags (of_type k c t) cons counts own before (universal (collection_number k)) (of_kind k element) no_constraints refl refl None None (nesting element) (before + counted true element) refl refl refl (of_nesting k element) (of_nodes k element before)
 
 -- ---- names of types: what is too deep or too many for sure need not be known further
 
@@ -178,16 +219,16 @@ pub same_steps : {A B : Type 0} (r : Result A TagFault) (f g : A → Result B Ta
 same_steps (Ok x) f g h = h x
 same_steps (Err e) f g h = refl
 
-pub referred_is : (around : Surroundings) (site : Site) (tags : List WrittenTag) (name : WrittenBase) (cons : List WrittenConstraint) (counts : Bool) (before : ℕ)
-    (base_tags : List Tag) (kind : AbstractKind) (base_cons : Constraints) → denoted_base around name ≡ type_of base_tags kind base_cons
+pub referred_is : (around : Surroundings) (site : Site) (tags : List WrittenTag) (name : WrittenBase) (cons : List WrittenConstraint) (counts : Bool) (own : Option Tag) (before : ℕ)
+    (base_tags : List Tag) (kind : AbstractKind) (base_cons : Constraints) → denoted_base around name ≡ type_of base_tags kind base_cons → is_tagged base_tags kind ≡ true
     → undefined_name around name ≡ None → list_fault around site name ≡ None → number_fault name ≡ None
-    → make.referred_to (node_at around site tags counts) (type_of base_tags kind base_cons) before
-    ≡ unless (own_fault around (before + counted counts (denoted around (type_node site tags name cons))) (type_node site tags name cons)) (made_of counts before (denoted around (type_node site tags name cons)))
-referred_is around site tags name cons counts before base_tags kind base_cons is u l n =
-    let node = node_at around site tags counts in
+    → make.referred_to (node_at around site tags counts own) (type_of base_tags kind base_cons) before
+    ≡ unless (own_fault around (is_some own) (before + counted counts (denoted around (type_node site tags name cons))) (type_node site tags name cons)) (made_of counts own before (denoted around (type_node site tags name cons)))
+referred_is around site tags name cons counts own before base_tags kind base_cons is tagged u l n =
+    let node = node_at around site tags counts own in
     let last = λ (whole : Whole). Ok (made_from whole kind base_cons) in
     same_steps (tags_of node base_tags (is_untagged_choice (type_of base_tags kind base_cons))) _ _ (λ all. ap (λ (r : Result Whole TagFault). r >>= last)
     (deep_capped node all (nesting_inside kind) 33 (min (before + nodes_inside kind) 100001) (omega arith)
     ∙ with_nodes node all (nesting_inside kind) (min (before + nodes_inside kind) 100001) (before + nodes_inside kind) (many_enough node (before + nodes_inside kind) (cases_lt 100001 (before + nodes_inside kind)))))
     ∙ node_made node base_tags kind base_cons None None (nesting_inside kind) (before + nodes_inside kind) (Ok tt) last _ refl refl
-    ∙ node_is around site tags name cons counts before base_tags kind base_cons is None None (nesting_inside kind) (before + nodes_inside kind) u l n refl refl
+    ∙ node_is around site tags name cons counts own before base_tags kind base_cons is tagged None None (nesting_inside kind) (before + nodes_inside kind) u l n refl refl

@@ -6,7 +6,7 @@ use Rattle.guard_model.specs.declared.tag.Class.{Class}
 use Rattle.guard_model.specs.declared.tag.Class.TheVariants as class
 use Rattle.guard_model.specs.declared.tag.Tag.{Tag}
 use Rattle.guard_model.specs.AbstractType as type
-use Rattle.guard_model.specs.AbstractType.{AbstractType, AbstractKind, type_of}
+use Rattle.guard_model.specs.AbstractType.{AbstractType, AbstractKind, AbstractPresence, Constraints, type_of}
 use Rattle.guard_syntax.specs.declared.tree.PlainType.TheVariants as plain_type
 use Rattle.guard_syntax.specs.declared.tree.Collection.TheVariants.{Sequence, Set}
 use Rattle.guard_syntax.specs.declared.tree.TagClass.{TagClass}
@@ -134,6 +134,16 @@ components_of_a : denoted (module_with Implicit (codes "A") (type_a (universal 1
     (type.component (codes "y") (of (universal 1 ∷ []) type.boolean) type.mandatory type.no_components)))
 components_of_a = refl
 
+-- a name stands for its type with all that it has, and what COMPONENTS OF puts in keeps all that it has: constraints, defaults and what is inside it
+copied_whole : (t : AbstractType) → denoted (module_with Automatic (codes "T") t false) (bare (named_type (at 1) (codes "T"))) ≡ t
+copied_whole t = refl
+
+put_in_whole : (t : AbstractType) (p : AbstractPresence) (c : Constraints)
+    → denoted (module_with Implicit (codes "A") (type_of (universal 16 ∷ []) (type.sequence (type.component (codes "x") t p type.no_components)) c) false)
+    (bare (structure Sequence (components_from (at 2) (bare (named_type (at 1) (codes "A"))) no_components)))
+    ≡ of (universal 16 ∷ []) (type.sequence (type.component (codes "x") t p type.no_components))
+put_in_whole t p c = refl
+
 abbrev takes : WrittenBase → WrittenType
 takes base = bare (structure Sequence (components_from (at 7) (bare base) no_components))
 
@@ -207,6 +217,23 @@ not_g10 = refl
 
 g10 : first_fault (alone Explicit) 0 (nested 32) ≡ Some (fault.TooDeep (at 1))
 g10 = refl
+
+-- SEQUENCE {a CHOICE {c ..}} under AUTOMATIC TAGS, around so many SEQUENCE OF: the automatic tag of the CHOICE is one of its levels
+abbrev around_choice : ℕ → WrittenType
+around_choice n = bare (structure Sequence (component (at 2) (codes "a") (type_node (at 3) [] (choice (alternative (at 4) (codes "c") (nested n) no_alternatives)) []) mandatory no_components))
+
+g10_of_choice : first_fault (alone Automatic) 0 (around_choice 30) ≡ Some (fault.TooDeep (at 3))
+g10_of_choice = refl
+
+g10_of_list : first_fault (alone Automatic) 0 (around_choice 29) ≡ Some (fault.TooDeep (at 1))
+g10_of_list = refl
+
+not_g10_of_list : first_fault (alone Automatic) 0 (around_choice 28) ≡ None
+not_g10_of_list = refl
+
+-- without automatic tags only the whole is too deep
+g10_untagged : first_fault (alone Implicit) 0 (around_choice 30) ≡ Some (fault.TooDeep (at 1))
+g10_untagged = refl
 
 -- a name of so many letters for each component
 abbrev row_of : ℕ → WrittenComponents

@@ -46,37 +46,37 @@ all_kept (u ∷ types) s (suc place) t h = all_kept types (λ k x l. s (suc k) x
 -- ---- one definition
 
 module _ (ms : List WrittenModule) (order : List ℕ) (types : List AbstractType) (id : ℕ) (d : Definition) (is : Some d ≡ slice_get (definitions ms) id)
-    (around : Surroundings) (same : around ≡ surroundings_of ms order types d) (before : ℕ) (counted : before ≡ nodes_of_all types) (spelled : IsSpelled d.assignment.ty) where
+    (around : Surroundings) (same : around ≡ surroundings_of ms order types d) (before : ℕ) (counted : before ≡ nodes_of_all types) (spelled : IsSpelled d.assignment.ty) (kept : KeepLimits around) where
   -- the type that was made
-  module _ (m : Made) (h : read_type around true before d.assignment.ty ≡ Ok m) where
+  module _ (m : Made) (h : read_type around true None before d.assignment.ty ≡ Ok m) where
     tagged_here : IsTagged around before d.assignment.ty m.ty
-    tagged_here = (given around before d.assignment.ty spelled m h).0
+    tagged_here = (given around kept before d.assignment.ty spelled m h).0
 
     pub tagged_so : IsTypeOf ms order types id m.ty
     tagged_so =
         (d, sym is, subst (λ (n : ℕ). IsTagged (surroundings_of ms order types d) n d.assignment.ty m.ty) counted (subst (λ (a : Surroundings). IsTagged a before d.assignment.ty m.ty) same tagged_here))
 
     pub counted_so : m.nodes ≡ before + nodes m.ty
-    counted_so = (given around before d.assignment.ty spelled m h).1
+    counted_so = (given around kept before d.assignment.ty spelled m h).1
 
     pub few_so : m.nodes ≤ most_nodes
     few_so = subst (λ (n : ℕ). n ≤ most_nodes) (sym counted_so) (few around before d.assignment.ty m.ty tagged_here)
 
-    pub within_so : KeepLimits around → is_within_limits m.ty ≡ true
-    within_so kept = within around kept before d.assignment.ty m.ty tagged_here
+    pub within_so : is_within_limits m.ty ≡ true
+    within_so = within around kept before d.assignment.ty m.ty tagged_here
 
   -- the fault that was found
-  pub refused_so : (f : Option TagFault) → Refuses f (read_type around true before d.assignment.ty) → IfSome f (IsFaultOf ms order types id)
+  pub refused_so : (f : Option TagFault) → Refuses f (read_type around true None before d.assignment.ty) → IfSome f (IsFaultOf ms order types id)
   refused_so None h = tt
   refused_so (Some f) h = (
     d,
     sym is,
     subst (λ (n : ℕ). IsFirstFault (surroundings_of ms order types d) n d.assignment.ty f) counted
-        (subst (λ (a : Surroundings). IsFirstFault a before d.assignment.ty f) same (refused around before d.assignment.ty spelled f h)),
+        (subst (λ (a : Surroundings). IsFirstFault a before d.assignment.ty f) same (refused around kept before d.assignment.ty spelled f h)),
   )
 
   -- it has a number where the names of types are known
-  pub numbered_so : AreMeant (surroundings_of ms order types d) (in_type d.assignment.ty) → (f : Option TagFault) → Refuses f (read_type around true before d.assignment.ty) → IfSome f (λ g. is_numbered g ≡ true)
+  pub numbered_so : AreMeant (surroundings_of ms order types d) (in_type d.assignment.ty) → (f : Option TagFault) → Refuses f (read_type around true None before d.assignment.ty) → IfSome f (λ g. is_numbered g ≡ true)
   numbered_so meant None h = tt
   numbered_so meant (Some f) h =
-      definition_numbered around d.assignment.ty before (subst (λ (a : Surroundings). AreMeant a (in_type d.assignment.ty)) (sym same) meant) f (refused around before d.assignment.ty spelled f h)
+      definition_numbered around d.assignment.ty before (subst (λ (a : Surroundings). AreMeant a (in_type d.assignment.ty)) (sym same) meant) f (refused around kept before d.assignment.ty spelled f h)

@@ -1,24 +1,23 @@
 -- Components with their automatic tags, as they are read one after another, are those of the definition.
-use Rattle.std.proofs.Common.{◌≡◌, Bool, true, false, cond, ◌&&◌, ℕ, suc, ◌+◌, ◌<◌, ◌≤◌, List, [], ◌∷◌, ◌++◌, length, refl, ap, ◌∙◌, arith}
-use Rattle.std.specs.Prelude.{max}
-use Rattle.std.proofs.lemmas.Bool.{lt-ltb}
+use Rattle.std.proofs.Common.{◌≡◌, Bool, true, false, ℕ, suc, ◌+◌, ◌<◌, ◌≤◌, List, [], ◌∷◌, ◌++◌, length, refl, ap, ◌∙◌, arith}
+use Rattle.std.specs.Prelude.{max, min}
 use Rattle.guard_model.specs.AbstractType as type
-use Rattle.guard_model.specs.AbstractType.{AbstractType, AbstractKind, Components, Constraints, type_of}
+use Rattle.guard_model.specs.AbstractType.{AbstractType, Components, type_of}
 use Rattle.guard_model.specs.Counts.{component_count}
 use Rattle.guard_model.specs.TypeView.{OneComponent, components_of}
 use Rattle.guard_model.specs.declared.tag.Tag.{Tag}
 use Rattle.guard_model.specs.Limits.{most_components}
-use Rattle.guard_tagcheck.specs.Limits.{nesting, nesting_inside, deepest}
+use Rattle.guard_tagcheck.specs.Limits.{nesting, deepest}
 use Rattle.guard_tagging.specs.Faults.{nodes, nodes_of_components}
-use Rattle.guard_tagging.specs.ReadNodes.{one_where}
-use Rattle.guard_tagging.specs.ReadParts.{place_tag, tagged_type, gets_tag, tagged_at, is_tagless, levels_at, listed}
-use Rattle.guard_tagging.specs.Tagging.{is_untagged_choice, put_tag, with_automatic_tags}
+use Rattle.guard_tagging.specs.ReadParts.{place_tag, listed}
+use Rattle.guard_tagging.specs.Tagging.{is_untagged_choice, put_tag, automatic_tag, with_automatic_tag, with_automatic_tags}
 use Rattle.guard_tagging.specs.Types.{tagged_where, join}
+use Rattle.guard_tagging.proofs.WrittenTags.{with_automatic}
 
 -- the components from a place on, with their automatic tags as they are read
 abbrev pub tagged_from : Bool → ℕ → Components → Components
 tagged_from automatic place type.no_components = type.no_components
-tagged_from automatic place (type.component name t presence cs) = type.component name (tagged_at automatic place t) presence (tagged_from automatic (suc place) cs)
+tagged_from automatic place (type.component name t presence cs) = type.component name (with_automatic (place_tag automatic place) t) presence (tagged_from automatic (suc place) cs)
 
 -- ---- lists of components
 
@@ -56,29 +55,21 @@ tagged_not place (type.component name t presence cs) = ap (type.component name t
 
 -- ---- with them
 
-put_where : (b : Bool) (tag : Tag) (kind : AbstractKind) (cons : Constraints) → tagged_type tag (type_of [] kind cons) ≡ put_tag b tag (type_of [] kind cons)
-put_where true tag kind cons = refl
-put_where false tag kind cons = refl
-
-put_is : (tag : Tag) (t : AbstractType) → tagged_type tag t ≡ put_tag (is_untagged_choice t) tag t
-put_is tag (type_of [] kind cons) = put_where (is_untagged_choice (type_of [] kind cons)) tag kind cons
-put_is tag (type_of (outermost ∷ tags) kind cons) = refl
-
-tagged_within : (place : ℕ) (t : AbstractType) → place < most_components → tagged_at true place t ≡ put_tag (is_untagged_choice t) (place_tag place) t
-tagged_within place t lt = ap (λ (b : Bool). cond b (tagged_type (place_tag place) t) t) (lt-ltb place most_components lt) ∙ put_is (place_tag place) t
+within : (place : ℕ) → place < most_components → min place most_components ≡ place
+within place lt = omega (arith, lt)
 
 pub tagged_all : (place : ℕ) (cs : Components) → place + component_count cs ≤ most_components → tagged_from true place cs ≡ with_automatic_tags place cs
 tagged_all place type.no_components le = refl
 tagged_all place (type.component name t presence cs) le =
     let lt : place < most_components = omega (arith, le) in
     let others = tagged_all (suc place) cs (omega (arith, le)) in
-    λ i. type.component name (tagged_within place t lt i) presence (others i)
+    λ i. type.component name (with_automatic_tag (automatic_tag (within place lt i)) t) presence (others i)
 
 pub tagged_is : (automatic : Bool) (cs : Components) → component_count cs ≤ most_components → tagged_from automatic 0 cs ≡ tagged_where automatic cs
 tagged_is true cs le = tagged_all 0 cs (omega (arith, le))
 tagged_is false cs le = tagged_not 0 cs
 
--- ---- tags change no number of types, and add a level where there is none
+-- ---- tags change no number of types
 
 put_nodes : (explicit : Bool) (tag : Tag) (t : AbstractType) → nodes (put_tag explicit tag t) ≡ nodes t
 put_nodes true tag (type_of tags kind cons) = refl
@@ -88,7 +79,7 @@ put_nodes false tag (type_of (outermost ∷ tags) kind cons) = refl
 automatic_nodes : (place : ℕ) (cs : Components) → nodes_of_components (with_automatic_tags place cs) ≡ nodes_of_components cs
 automatic_nodes place type.no_components = refl
 automatic_nodes place (type.component name t presence cs) =
-    λ i. put_nodes (is_untagged_choice t) (place_tag place) t i + automatic_nodes (suc place) cs i
+    λ i. put_nodes (is_untagged_choice t) (automatic_tag place) t i + automatic_nodes (suc place) cs i
 
 pub tagged_nodes : (automatic : Bool) (cs : Components) → nodes_of_components (tagged_where automatic cs) ≡ nodes_of_components cs
 tagged_nodes true cs = automatic_nodes 0 cs
@@ -101,11 +92,3 @@ automatic_count place (type.component name t presence cs) = ap suc (automatic_co
 pub tagged_count : (automatic : Bool) (cs : Components) → component_count (tagged_where automatic cs) ≡ component_count cs
 tagged_count true cs = automatic_count 0 cs
 tagged_count false cs = refl
-
-one_level : (b : Bool) (tag : Tag) (t : AbstractType) → nesting (cond b (tagged_type tag t) t) ≡ nesting t + one_where (b && is_tagless t)
-one_level false tag t = let e : nesting t ≡ nesting t + 0 = omega arith in e
-one_level true tag (type_of [] kind cons) = let e : 1 + nesting_inside kind ≡ 0 + nesting_inside kind + 1 = omega arith in e
-one_level true tag (type_of (outermost ∷ tags) kind cons) = let e : suc (length tags) + nesting_inside kind ≡ suc (length tags) + nesting_inside kind + 0 = omega arith in e
-
-pub levels_are : (automatic : Bool) (place : ℕ) (t : AbstractType) → nesting (tagged_at automatic place t) ≡ nesting t + levels_at automatic place t
-levels_are automatic place t = one_level (gets_tag automatic place) (place_tag place) t

@@ -12,7 +12,7 @@ use Rattle.guard_syntax.specs.declared.tree.AlternativeTree.{AlternativeTree}
 use Rattle.guard_tagging.specs.declared.fault.TagFault.{TagFault}
 use Rattle.guard_tagging.specs.Faults.{taken_fault}
 use Rattle.guard_tagging.specs.Named.{allowed}
-use Rattle.guard_tagging.specs.ReadParts.{PartList, with_component, with_list}
+use Rattle.guard_tagging.specs.ReadParts.{PartList, next_tag, with_component, with_list}
 use Rattle.guard_tagging.specs.ReadTypes.{read_type, read_components, read_alternatives, read_entry, read_component, read_one}
 use Rattle.guard_tagging.specs.Types.{Surroundings, presence_of, is_automatic}
 
@@ -29,9 +29,9 @@ one_entry : (around : Surroundings) (k : Collection) (automatic : Bool) (parts :
     → read_components around k automatic parts (component_before site form others) ≡ (read_entry around k automatic parts site form >>= λ p. read_components around k automatic p others)
 unfolding read_type
 one_entry around k automatic parts site (named name t presence) others =
-    in_turn (read_type around true parts.nodes t) (λ made. with_component automatic parts site name made (presence_of presence)) (λ p. read_components around k automatic p others)
+    in_turn (read_type around true (next_tag automatic parts) parts.nodes t) (λ made. with_component parts site name made (presence_of presence)) (λ p. read_components around k automatic p others)
 one_entry around k automatic parts site (components_of_type t) others =
-    with_test (read_type around false parts.nodes t) (λ made. allowed (taken_fault k (automatic || is_automatic around t) site made.ty)) (λ made. with_list parts site made) (λ p. read_components around k automatic p others)
+    with_test (read_type around false None parts.nodes t) (λ made. allowed (taken_fault k (automatic || is_automatic around t) site made.ty)) (λ made. with_list parts site made) (λ p. read_components around k automatic p others)
 
 module _ (around : Surroundings) (k : Collection) (automatic : Bool) (parts : PartList) (trees : List CompTree) (i : ℕ) (total : Result PartList TagFault)
     (so_far : read_components around k automatic parts (components_of (map written.component_view (drop i trees))) ≡ total) where
@@ -75,7 +75,7 @@ module _ (around : Surroundings) (automatic : Bool) (parts : PartList) (trees : 
       at_drop_more (λ ts. alternatives_of (map written.alternative_view ts)) trees i x lt
       ∙ ap (λ (y : AlternativeTree). alternative (written.alternative_view y).site (written.alternative_view y).name (written.alternative_view y).ty (others (i + 1))) (sym is) in
       sym (ap (read_alternatives around automatic parts) first
-      ∙ in_turn (read_type around true parts.nodes a.ty) (λ made. with_component automatic parts a.site a.name made type.mandatory) (λ p. read_alternatives around automatic p (others (i + 1)))) ∙ so_far
+      ∙ in_turn (read_type around true (next_tag automatic parts) parts.nodes a.ty) (λ made. with_component parts a.site a.name made type.mandatory) (λ p. read_alternatives around automatic p (others (i + 1)))) ∙ so_far
 
   pub alternative_stops : (x : AlternativeTree) → i < length trees → x ≡ get_or trees i x → (f : Option TagFault) → Refuses f (read_one around automatic parts (written.alternative_view x)) → Refuses f total
   alternative_stops x lt is None refused = tt

@@ -1,5 +1,6 @@
 -- A type is refused for the first of its own faults in their order, and else has the tags that the definition puts on.
 use Rattle.std.proofs.Common.{◌≡◌, Bool, true, false, cond, ℕ, ◌+◌, List, [], ◌∷◌, length, Option, Some, None, Result, Ok, Err, refl, sym, ap, ◌∙◌, nat_lt}
+use Rattle.std.specs.Prelude.{is_some}
 use Rattle.std.specs.Option.{option_or}
 use Rattle.guard_model.specs.Answer.{◌>>=◌}
 use Rattle.guard_model.specs.AbstractType.{AbstractType, AbstractKind, Constraints, type_of}
@@ -10,9 +11,9 @@ use Rattle.guard_tagging.specs.declared.fault.TagFault.TheVariants.{TooDeep, Sch
 use Rattle.guard_tagging.specs.Faults.{first_of, fault_where, universal_tag, implicit_choice, tag_too_large, most_nodes}
 use Rattle.guard_tagging.specs.Named.{unless, allowed}
 use Rattle.guard_tagging.specs.ReadNodes.{Node, Whole, Made, tags_of, one_where, nodes_with, whole_with}
-use Rattle.guard_tagging.specs.ReadTags.{read_tags}
+use Rattle.guard_tagging.specs.ReadTags.{in_front, read_tags}
 use Rattle.guard_tagging.specs.Tagging.{is_untagged_choice}
-use Rattle.guard_tagging.proofs.WrittenTags.{put_all, tags_read, implicit_is}
+use Rattle.guard_tagging.proofs.WrittenTags.{put_all, put_automatic, front_is, tags_read, implicit_is}
 
 -- ---- one step after the other
 
@@ -40,17 +41,24 @@ or_nothing (Some x) = refl
 
 -- the faults of the tags before this type
 abbrev pub tags_fault : Node → AbstractType → Option TagFault
-tags_fault node t = option_or (universal_tag node.tags) (option_or (implicit_choice node.tag_default t node.tags) (tag_too_large node.tags))
+tags_fault node t = option_or (universal_tag node.tags) (option_or (implicit_choice t node.tags) (tag_too_large node.tags))
+
+-- its tags: the automatic one, those that are written, and these behind them
+abbrev pub all_tags : Node → List Tag → List Tag
+all_tags node base = put_automatic node.automatic (put_all node.tag_default node.tags base)
 
 pub tags_are : (node : Node) (base : List Tag) (kind : AbstractKind) (cons : Constraints)
-    → tags_of node base (is_untagged_choice (type_of base kind cons)) ≡ unless (tags_fault node (type_of base kind cons)) (put_all node.tag_default node.tags base)
+    → tags_of node base (is_untagged_choice (type_of base kind cons)) ≡ unless (tags_fault node (type_of base kind cons)) (all_tags node base)
 unfolding tags_of
 tags_are node base kind cons =
     let on_choice = is_untagged_choice (type_of base kind cons) in
-    let implicit = implicit_choice node.tag_default (type_of base kind cons) node.tags in
-    then_allowed (universal_tag node.tags) _ (option_or implicit (tag_too_large node.tags)) (put_all node.tag_default node.tags base)
-    (ap (λ (f : Option TagFault). allowed f >>= λ _. read_tags node.tag_default false [] node.tags base) (sym (implicit_is node.tag_default node.tags base kind cons))
-    ∙ then_allowed implicit _ (tag_too_large node.tags) (put_all node.tag_default node.tags base) (tags_read node.tag_default false [] node.tags base))
+    let implicit = implicit_choice (type_of base kind cons) node.tags in
+    let front = in_front node.automatic in
+    let replaced = is_some node.automatic in
+    then_allowed (universal_tag node.tags) _ (option_or implicit (tag_too_large node.tags)) (all_tags node base)
+    (ap (λ (f : Option TagFault). allowed f >>= λ _. read_tags node.tag_default replaced front node.tags base) (sym (implicit_is node.tags base kind cons))
+    ∙ then_allowed implicit _ (tag_too_large node.tags) (all_tags node base)
+    (tags_read node.tag_default replaced front node.tags base ∙ ap (unless (tag_too_large node.tags)) (front_is node.automatic (put_all node.tag_default node.tags base))))
 
 -- ---- limits
 
@@ -74,7 +82,7 @@ limits_are node tags inside before =
 
 abbrev pub node_fault : Node → AbstractType → Option TagFault → ℕ → ℕ → Option TagFault → Option TagFault
 node_fault node t list nesting nodes numbers =
-    first_of (universal_tag node.tags ∷ implicit_choice node.tag_default t node.tags ∷ tag_too_large node.tags ∷ list
+    first_of (universal_tag node.tags ∷ implicit_choice t node.tags ∷ tag_too_large node.tags ∷ list
     ∷ fault_where (nat_lt deepest_nesting nesting) (TooDeep node.site) ∷ fault_where (nat_lt most_nodes nodes) (SchemaTooLarge node.site) ∷ numbers ∷ [])
 
 flat : (u i l list d g numbers : Option TagFault)
@@ -90,7 +98,7 @@ flat None None None None None None (Some f) = refl
 
 module _ (node : Node) (base : List Tag) (kind : AbstractKind) (cons : Constraints) (list numbers : Option TagFault) (inside before : ℕ) where
   abbrev all : List Tag
-  all = put_all node.tag_default node.tags base
+  all = all_tags node base
 
   abbrev pub whole_made : Whole
   whole_made = record { tags = all; nesting = length all + inside; nodes = before + one_where node.counts }
@@ -107,7 +115,7 @@ module _ (node : Node) (base : List Tag) (kind : AbstractKind) (cons : Constrain
       (ap (λ (r : Result (Unit {0}) TagFault). r >>= λ _. whole_with node all inside before >>= last) checked
       ∙ then_allowed list _ (option_or (limits_fault node (length all + inside) nodes) numbers) made
       (ap (λ (r : Result Whole TagFault). r >>= last) (limits_are node all inside before) ∙ then_unless (limits_fault node (length all + inside) nodes) whole_made last numbers made ended))
-      ∙ ap (λ (f : Option TagFault). unless f made) (flat (universal_tag node.tags) (implicit_choice node.tag_default t node.tags) (tag_too_large node.tags) list
+      ∙ ap (λ (f : Option TagFault). unless f made) (flat (universal_tag node.tags) (implicit_choice t node.tags) (tag_too_large node.tags) list
       (fault_where (nat_lt deepest_nesting (length all + inside)) (TooDeep node.site)) (fault_where (nat_lt most_nodes nodes) (SchemaTooLarge node.site)) numbers)
 
 -- the last step, behind the others as one

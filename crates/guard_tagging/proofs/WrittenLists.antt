@@ -19,10 +19,11 @@ use Rattle.guard_tagging.specs.declared.fault.TagFault.TheVariants.{DuplicateNam
 use Rattle.guard_tagging.specs.Faults.{Placed, first_of, fault_where, nodes, nodes_inside, nodes_of_components, placed_at, component_names, alternative_names, duplicate_name, too_many, repeated, is_kind_of, is_plain_tag, taken_fault}
 use Rattle.guard_tagging.specs.Named.{allowed}
 use Rattle.guard_tagging.specs.ReadNames.{text_octets, read_places}
-use Rattle.guard_tagging.specs.ReadParts.{PartList, no_parts, tagged_at, levels_at, named_component, with_component, listed, with_list, list_result, check_list}
+use Rattle.guard_tagging.specs.ReadParts.{PartList, no_parts, place_tag, next_tag, named_component, with_component, listed, with_list, list_result, check_list}
 use Rattle.guard_tagging.specs.Types.{Surroundings, denoted, denoted_components, denoted_alternatives, parts_of, join}
 use Rattle.guard_tagging.proofs.NodeKinds.{counted, made_of}
-use Rattle.guard_tagging.proofs.TaggedParts.{tagged_from, listed_count, listed_join, deepest_join, nodes_join, tagged_not, levels_are}
+use Rattle.guard_tagging.proofs.WrittenTags.{with_automatic}
+use Rattle.guard_tagging.proofs.TaggedParts.{tagged_from, listed_count, listed_join, deepest_join, nodes_join, tagged_not}
 
 -- ---- where components stand
 
@@ -79,8 +80,8 @@ with_none automatic parts = λ i. record { sites = append-nil parts.sites i; com
 one_longer : {A : Type 0} (xs : List A) (x : A) → length (xs ++ x ∷ []) ≡ suc (length xs)
 one_longer xs x = length-append xs (x ∷ []) ∙ (let e : length xs + 1 ≡ suc (length xs) = omega arith in e)
 
-max_by_one : (a b c d e : ℕ) → b ≡ c + d → max (max a (c + d)) e ≡ max a (max b e)
-max_by_one a b c d e h = omega (arith, h)
+max_first : (a b c : ℕ) → max (max a b) c ≡ max a (max b c)
+max_first a b c = omega arith
 
 pub counted_is : (t : AbstractType) → counted true t ≡ nodes t
 counted_is (type_of tags kind cons) = omega arith
@@ -89,17 +90,18 @@ plus_by_one : (a b c d : ℕ) → b ≡ c → (a + b) + d ≡ a + (c + d)
 plus_by_one a b c d h = omega (arith, h)
 
 pub one_more : (automatic : Bool) (parts : PartList) (site : Site) (name : List ℕ) (t : AbstractType) (presence : AbstractPresence) (sites : List Site) (cs : Components) → text_octets name ≡ name
-    → with_more automatic (with_component automatic parts site name (made_of true parts.nodes t) presence) sites cs ≡ with_more automatic parts (site ∷ sites) (type.component name t presence cs)
+    → with_more automatic (with_component parts site name (made_of true (next_tag automatic parts) parts.nodes t) presence) sites cs ≡ with_more automatic parts (site ∷ sites) (type.component name t presence cs)
 one_more automatic parts site name t presence sites cs text =
     let place = length parts.comps in
-    let c = named_component name (tagged_at automatic place t) presence in
+    let ty = with_automatic (place_tag automatic place) t in
+    let c = named_component name ty presence in
     let long : length (parts.comps ++ c ∷ []) ≡ suc place = one_longer parts.comps c in
     let tail : tagged_from automatic (length (parts.comps ++ c ∷ [])) cs ≡ tagged_from automatic (suc place) cs = ap (λ (n : ℕ). tagged_from automatic n cs) long in
     let comps : (parts.comps ++ c ∷ []) ++ listed (tagged_from automatic (length (parts.comps ++ c ∷ [])) cs) ≡ parts.comps ++ listed (tagged_from automatic place (type.component name t presence cs)) =
     append_assoc parts.comps (c ∷ []) (listed (tagged_from automatic (length (parts.comps ++ c ∷ [])) cs))
-    ∙ (λ i. parts.comps ++ record { name = text i; ty = tagged_at automatic place t; presence = presence } ∷ listed (tail i)) in
-    let deep = max_by_one parts.deepest (nesting (tagged_at automatic place t)) (nesting t) (levels_at automatic place t) (deepest (tagged_from automatic (length (parts.comps ++ c ∷ [])) cs)) (levels_are automatic place t)
-    ∙ ap (λ (more : Components). max parts.deepest (max (nesting (tagged_at automatic place t)) (deepest more))) tail in
+    ∙ (λ i. parts.comps ++ record { name = text i; ty = ty; presence = presence } ∷ listed (tail i)) in
+    let deep = max_first parts.deepest (nesting ty) (deepest (tagged_from automatic (length (parts.comps ++ c ∷ [])) cs))
+    ∙ ap (λ (more : Components). max parts.deepest (max (nesting ty) (deepest more))) tail in
     let so_many = plus_by_one parts.nodes (counted true t) (nodes t) (nodes_of_components cs) (counted_is t) in
     λ i. record { sites = append_assoc parts.sites (site ∷ []) sites i; comps = comps i; deepest = deep i; nodes = so_many i }
 
@@ -154,7 +156,7 @@ plus_by_some a b c d e h j = omega (arith, h, j)
 
 list_put_in : (k : Collection) (parts : PartList) (site : Site) (tags : List Tag) (kind : AbstractKind) (cons : Constraints) (sites : List Site) (cs : Components)
     → is_kind_of k kind ≡ true → is_plain_tag tags ≡ true
-    → with_more false (with_list parts site (made_of false parts.nodes (type_of tags kind cons))) sites cs
+    → with_more false (with_list parts site (made_of false None parts.nodes (type_of tags kind cons))) sites cs
     ≡ with_more false parts (replicate (length (listed (components_in kind))) site ++ sites) (join (components_in kind) cs)
 list_put_in k parts site tags kind cons sites cs of_kind plain =
     let inner = components_in kind in
@@ -175,7 +177,7 @@ list_put_in k parts site tags kind cons sites cs of_kind plain =
 
 list_where : (k : Collection) (automatic : Bool) (parts : PartList) (site : Site) (tags : List Tag) (kind : AbstractKind) (cons : Constraints) (sites : List Site) (cs : Components)
     → is_kind_of k kind ≡ true → automatic ≡ false → is_plain_tag tags ≡ true
-    → with_more automatic (with_list parts site (made_of false parts.nodes (type_of tags kind cons))) sites cs
+    → with_more automatic (with_list parts site (made_of false None parts.nodes (type_of tags kind cons))) sites cs
     ≡ with_more automatic parts (replicate (length (listed (components_in kind))) site ++ sites) (join (components_in kind) cs)
 list_where k false parts site tags kind cons sites cs of_kind not plain = list_put_in k parts site tags kind cons sites cs of_kind plain
 list_where k true parts site tags kind cons sites cs of_kind not plain = absurd cc
@@ -185,7 +187,7 @@ or_false false b h = refl
 or_false true b h = absurd cc
 
 pub list_more : (k : Collection) (automatic other : Bool) (parts : PartList) (site : Site) (t : AbstractType) (sites : List Site) (cs : Components) → taken_fault k (automatic || other) site t ≡ None
-    → with_more automatic (with_list parts site (made_of false parts.nodes t)) sites cs ≡ with_more automatic parts (replicate (length (listed (parts_of t))) site ++ sites) (join (parts_of t) cs)
+    → with_more automatic (with_list parts site (made_of false None parts.nodes t)) sites cs ≡ with_more automatic parts (replicate (length (listed (parts_of t))) site ++ sites) (join (parts_of t) cs)
 list_more k automatic other parts site (type_of tags kind cons) sites cs none =
     let p = none_wrong (is_kind_of k kind) (automatic || other) (is_plain_tag tags) (ComponentsOfKind site) (ComponentsOfAutomatic site) (ComponentsOfTagged site) none in
     list_where k automatic parts site tags kind cons sites cs p.0 (or_false automatic other p.1.0) p.1.1

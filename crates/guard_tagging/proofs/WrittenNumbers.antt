@@ -12,7 +12,7 @@ use Rattle.guard_lexer.specs.Items.{number_value}
 use Rattle.guard_syntax.specs.Trees.{WrittenNumber, WrittenNamed, WrittenItem}
 use Rattle.guard_tagging.specs.declared.fault.TagFault.{TagFault}
 use Rattle.guard_tagging.specs.declared.fault.TagFault.TheVariants.{NumberTooLarge}
-use Rattle.guard_tagging.specs.Enumerations.{written_number, written_numbers, free_from, given_number, next_behind, numbered_from, numbered, named_number}
+use Rattle.guard_tagging.specs.Enumerations.{written_number, written_numbers, free_from, given_number, next_number, numbered_from, numbered, named_number}
 use Rattle.guard_tagging.specs.Faults as faults
 use Rattle.guard_tagging.specs.Faults.{Placed, fault_where, number_too_large}
 use Rattle.guard_tagging.specs.Named.{unless}
@@ -99,7 +99,7 @@ given_by : (written : List ℤ) (tries next : ℕ) (front : List NamedNumber) (s
     → option_or (fault_where (faults.is_too_large (option_map number_of n)) (NumberTooLarge site)) (number_too_large (map faults.item_place items)) ≡ None
     → ((next : ℕ) (front : List NamedNumber) → number_too_large (map faults.item_place items) ≡ None → read_numbered written tries next front items ≡ Ok (front ++ numbered_from written tries next items))
     → ((read_number written tries next site n >>= as_item name) >>= λ one. read_numbered written tries one.1 (front ++ one.0 ∷ []) items)
-    ≡ Ok (front ++ record { name = name; number = given_number written tries next n } ∷ numbered_from written tries (next_behind written tries next n) items)
+    ≡ Ok (front ++ record { name = name; number = given_number written tries next n } ∷ numbered_from written tries (next_number written tries next n) items)
 given_by written tries next front site name None items utf8 e others =
     let free = free_from written tries next in
     others (suc free) (front ++ numbered_name name (pos free) ∷ []) e

@@ -1,21 +1,26 @@
 -- The tags of a type as they are read are those that the definition puts on.
 use Rattle.std.proofs.Common.{◌≡◌, Bool, true, false, cond, not, ◌&&◌, suc, ◌-◌, List, [], ◌∷◌, ◌++◌, length, Option, Some, None, Result, Ok, Err, refl, sym, ap, ◌∙◌, append_assoc, arith, nat_lt}
+use Rattle.std.specs.Prelude.{is_some}
 use Rattle.std.specs.Option.{option_or}
 use Rattle.std.specs.List.{slice_get}
 use Rattle.guard_model.specs.Answer.{◌>>=◌}
 use Rattle.guard_model.specs.declared.tag.Tag.{Tag}
-use Rattle.guard_model.specs.AbstractType.{AbstractKind, Constraints, type_of}
+use Rattle.guard_model.specs.AbstractType as type
+use Rattle.guard_model.specs.AbstractType.{AbstractType, AbstractKind, Components, Constraints, type_of}
 use Rattle.guard_model.specs.Limits.{greatest_tag_number}
+use Rattle.guard_tagcheck.specs.Limits.{nesting, is_tagged}
 use Rattle.guard_lexer.specs.Items.{number_value}
 use Rattle.guard_syntax.specs.Trees.{WrittenTag}
 use Rattle.guard_syntax.specs.declared.tree.TagDefault.{TagDefault}
+use Rattle.guard_syntax.specs.declared.tree.TagDefault.TheVariants as by_default
 use Rattle.guard_syntax.specs.declared.tree.TagMode.{TagMode}
+use Rattle.guard_syntax.specs.declared.tree.TagMode.TheVariants as mode
 use Rattle.guard_tagging.specs.declared.fault.TagFault.{TagFault}
 use Rattle.guard_tagging.specs.declared.fault.TagFault.TheVariants.{ImplicitChoice, TagTooLarge}
-use Rattle.guard_tagging.specs.Tagging.{tag_of, is_untagged_choice, is_explicit, put_tag, with_tag, with_tags}
-use Rattle.guard_tagging.specs.Faults.{fault_where, is_implicit, implicit_choice, tag_too_large}
+use Rattle.guard_tagging.specs.Tagging.{tag_of, is_untagged_choice, is_explicit, put_tag, with_tag, with_tags, automatic_tag, with_automatic_tag}
+use Rattle.guard_tagging.specs.Faults.{fault_where, is_implicit, implicit_choice, tag_too_large, with_tag_there}
 use Rattle.guard_tagging.specs.Named.{unless}
-use Rattle.guard_tagging.specs.ReadTags.{implicit_at, implicit_last, read_tags, kept, unless_replaced}
+use Rattle.guard_tagging.specs.ReadTags.{implicit_at, implicit_last, in_front, read_tags, kept, unless_replaced}
 
 -- ---- a tag on a list of tags
 
@@ -28,31 +33,104 @@ abbrev pub put_all : TagDefault → List WrittenTag → List Tag → List Tag
 put_all default [] base = base
 put_all default (w ∷ ws) base = put (is_explicit w.mode default false) (tag_of w) (put_all default ws base)
 
-put_is : (explicit : Bool) (tag : Tag) (tags : List Tag) (kind : AbstractKind) (cons : Constraints) → put_tag explicit tag (type_of tags kind cons) ≡ type_of (put explicit tag tags) kind cons
-put_is true tag tags kind cons = refl
-put_is false tag [] kind cons = refl
-put_is false tag (outermost ∷ tags) kind cons = refl
+-- a type that has a tag, or is a CHOICE, has a tag with one more
+put_tagged : (explicit : Bool) (tag : Tag) (tags : List Tag) (kind : AbstractKind) → is_tagged (put explicit tag tags) kind ≡ true
+put_tagged true tag tags kind = refl
+put_tagged false tag [] kind = refl
+put_tagged false tag (outermost ∷ tags) kind = refl
 
--- on a CHOICE without tags a tag has nothing to replace
-nothing_there : (a b : Bool) (tag : Tag) → put a tag [] ≡ put b tag []
-nothing_there true true tag = refl
-nothing_there true false tag = refl
-nothing_there false true tag = refl
-nothing_there false false tag = refl
+pub all_tagged : (default : TagDefault) (ws : List WrittenTag) (base : List Tag) (kind : AbstractKind) → is_tagged base kind ≡ true → is_tagged (put_all default ws base) kind ≡ true
+all_tagged default [] base kind h = h
+all_tagged default (w ∷ ws) base kind h = put_tagged (is_explicit w.mode default false) (tag_of w) (put_all default ws base) kind
 
-untagged_is : (tags : List Tag) (kind : AbstractKind) (cons : Constraints) (m : Option TagMode) (default : TagDefault) (tag : Tag)
-    → put (is_explicit m default (is_untagged_choice (type_of tags kind cons))) tag tags ≡ put (is_explicit m default false) tag tags
-untagged_is [] kind cons m default tag = nothing_there (is_explicit m default (is_untagged_choice (type_of [] kind cons))) (is_explicit m default false) tag
-untagged_is (t ∷ tags) kind cons m default tag = refl
+put_nonempty : (explicit : Bool) (tag : Tag) (tags : List Tag) (kind : AbstractKind) (cons : Constraints) → is_untagged_choice (type_of (put explicit tag tags) kind cons) ≡ false
+put_nonempty true tag tags kind cons = refl
+put_nonempty false tag [] kind cons = refl
+put_nonempty false tag (t ∷ tags) kind cons = refl
 
-pub with_tags_is : (default : TagDefault) (ws : List WrittenTag) (base : List Tag) (kind : AbstractKind) (cons : Constraints)
+-- ---- one tag: without the word IMPLICIT it is explicit on an untagged CHOICE
+
+explicit_there : (m : Option TagMode) (default : TagDefault) → (is_implicit m && true) ≡ false → is_explicit m default true ≡ true
+explicit_there (Some mode.Explicit) default h = refl
+explicit_there (Some mode.Implicit) default h = absurd cc
+explicit_there None by_default.Explicit h = refl
+explicit_there None by_default.Implicit h = refl
+explicit_there None by_default.Automatic h = refl
+
+-- on no tags a tag is the first
+first_put : (explicit : Bool) (tag : Tag) → tag ∷ [] ≡ put explicit tag []
+first_put true tag = refl
+first_put false tag = refl
+
+put_on : (explicit : Bool) (tag outermost : Tag) (tags : List Tag) (kind : AbstractKind) (cons : Constraints)
+    → put_tag explicit tag (type_of (outermost ∷ tags) kind cons) ≡ type_of (put explicit tag (outermost ∷ tags)) kind cons
+put_on true tag outermost tags kind cons = refl
+put_on false tag outermost tags kind cons = refl
+
+module _ (default : TagDefault) (w : WrittenTag) where
+  one_on_choice : (cs : Components) (cons : Constraints) → (is_implicit w.mode && true) ≡ false
+      → with_tag default w (type_of [] (type.choice cs) cons) ≡ type_of (put (is_explicit w.mode default false) (tag_of w) []) (type.choice cs) cons
+  one_on_choice cs cons lawful =
+      ap (λ (explicit : Bool). put_tag explicit (tag_of w) (type_of [] (type.choice cs) cons)) (explicit_there w.mode default lawful)
+      ∙ ap (λ (tags : List Tag). type_of tags (type.choice cs) cons) (first_put (is_explicit w.mode default false) (tag_of w))
+
+  one_put : (tags : List Tag) (kind : AbstractKind) (cons : Constraints) → is_tagged tags kind ≡ true → (is_implicit w.mode && is_untagged_choice (type_of tags kind cons)) ≡ false
+      → with_tag default w (type_of tags kind cons) ≡ type_of (put (is_explicit w.mode default false) (tag_of w) tags) kind cons
+  one_put (outermost ∷ tags) kind cons tagged lawful = put_on (is_explicit w.mode default false) (tag_of w) outermost tags kind cons
+  one_put [] (type.choice cs) cons tagged lawful = one_on_choice cs cons lawful
+  one_put [] _ cons tagged lawful = absurd cc
+
+-- ---- all that are written
+
+no_fault : (wrong : Bool) (f : TagFault) → fault_where wrong f ≡ None → wrong ≡ false
+no_fault true f h = absurd cc
+no_fault false f h = refl
+
+and_false : (a b : Bool) → b ≡ false → (a && b) ≡ false
+and_false true b h = h
+and_false false b h = refl
+
+pub with_tags_is : (default : TagDefault) (ws : List WrittenTag) (base : List Tag) (kind : AbstractKind) (cons : Constraints) → is_tagged base kind ≡ true → implicit_choice (type_of base kind cons) ws ≡ None
     → with_tags default ws (type_of base kind cons) ≡ type_of (put_all default ws base) kind cons
-with_tags_is default [] base kind cons = refl
-with_tags_is default (w ∷ ws) base kind cons =
-    let inner = put_all default ws base in
-    ap (with_tag default w) (with_tags_is default ws base kind cons)
-    ∙ put_is (is_explicit w.mode default (is_untagged_choice (type_of inner kind cons))) (tag_of w) inner kind cons
-    ∙ ap (λ (tags : List Tag). type_of tags kind cons) (untagged_is inner kind cons w.mode default (tag_of w))
+with_tags_is default [] base kind cons tagged lawful = refl
+with_tags_is default (w ∷ []) base kind cons tagged lawful = one_put default w base kind cons tagged (no_fault (is_implicit w.mode && is_untagged_choice (type_of base kind cons)) (ImplicitChoice w.site) lawful)
+with_tags_is default (w ∷ v ∷ ws) base kind cons tagged lawful =
+    let inner = put_all default (v ∷ ws) base in
+    ap (with_tag default w) (with_tags_is default (v ∷ ws) base kind cons tagged lawful)
+    ∙ one_put default w inner kind cons (all_tagged default (v ∷ ws) base kind tagged)
+    (and_false (is_implicit w.mode) (is_untagged_choice (type_of inner kind cons)) (put_nonempty (is_explicit v.mode default false) (tag_of v) (put_all default ws base) kind cons))
+
+-- ---- the automatic tag
+
+abbrev pub put_automatic : Option Tag → List Tag → List Tag
+put_automatic None tags = tags
+put_automatic (Some tag) tags = put false tag tags
+
+abbrev pub with_automatic : Option Tag → AbstractType → AbstractType
+with_automatic None t = t
+with_automatic (Some tag) t = with_automatic_tag tag t
+
+pub front_is : (automatic : Option Tag) (tags : List Tag) → in_front automatic ++ kept (is_some automatic) tags ≡ put_automatic automatic tags
+front_is None tags = refl
+front_is (Some tag) [] = refl
+front_is (Some tag) (outermost ∷ tags) = refl
+
+pub with_automatic_is : (automatic : Option Tag) (tags : List Tag) (kind : AbstractKind) (cons : Constraints) → is_tagged tags kind ≡ true
+    → with_automatic automatic (type_of tags kind cons) ≡ type_of (put_automatic automatic tags) kind cons
+with_automatic_is None tags kind cons tagged = refl
+with_automatic_is (Some tag) (outermost ∷ tags) kind cons tagged = refl
+with_automatic_is (Some tag) [] (type.choice cs) cons tagged = refl
+with_automatic_is (Some tag) [] _ cons tagged = absurd cc
+
+-- its number doesn't matter for the nesting
+same_nesting : (explicit : Bool) (a b : Tag) (t : AbstractType) → nesting (put_tag explicit a t) ≡ nesting (put_tag explicit b t)
+same_nesting true a b (type_of tags kind cons) = refl
+same_nesting false a b (type_of [] kind cons) = refl
+same_nesting false a b (type_of (outermost ∷ tags) kind cons) = refl
+
+pub nesting_there : (automatic : Option Tag) (t : AbstractType) → nesting (with_tag_there (is_some automatic) t) ≡ nesting (with_automatic automatic t)
+nesting_there None t = refl
+nesting_there (Some tag) t = same_nesting (is_untagged_choice t) (automatic_tag 0) tag t
 
 -- ---- reading from the outside in
 
@@ -90,40 +168,19 @@ tags_read default replaced front (w ∷ ws) base =
 
 -- ---- IMPLICIT on a CHOICE without tags
 
-put_nonempty : (explicit : Bool) (tag : Tag) (tags : List Tag) (kind : AbstractKind) (cons : Constraints) → is_untagged_choice (type_of (put explicit tag tags) kind cons) ≡ false
-put_nonempty true tag tags kind cons = refl
-put_nonempty false tag [] kind cons = refl
-put_nonempty false tag (t ∷ tags) kind cons = refl
-
-not_both : (a : Bool) (f : TagFault) (rest : Option TagFault) → option_or (fault_where (a && false) f) rest ≡ rest
-not_both true f rest = refl
-not_both false f rest = refl
-
 and-comm : (a b : Bool) → (a && b) ≡ (b && a)
 and-comm true true = refl
 and-comm true false = refl
 and-comm false true = refl
 and-comm false false = refl
 
-or-none : (o : Option TagFault) → option_or o None ≡ o
-or-none None = refl
-or-none (Some f) = refl
-
 last_of_more : (w v : WrittenTag) (ws : List WrittenTag) → slice_get (w ∷ v ∷ ws) (length (w ∷ v ∷ ws) - 1) ≡ slice_get (v ∷ ws) (length (v ∷ ws) - 1)
 last_of_more w v ws =
     let e : length (w ∷ v ∷ ws) - 1 ≡ suc (length (v ∷ ws) - 1) = omega arith in
     ap (slice_get (w ∷ v ∷ ws)) e
 
-pub implicit_is : (default : TagDefault) (ws : List WrittenTag) (base : List Tag) (kind : AbstractKind) (cons : Constraints)
-    → implicit_choice default (type_of base kind cons) ws ≡ implicit_last (is_untagged_choice (type_of base kind cons)) ws
-implicit_is default [] base kind cons = refl
-implicit_is default (w ∷ []) base kind cons =
-    or-none (fault_where (is_implicit w.mode && is_untagged_choice (type_of base kind cons)) (ImplicitChoice w.site))
-    ∙ ap (λ (b : Bool). fault_where b (ImplicitChoice w.site)) (and-comm (is_implicit w.mode) (is_untagged_choice (type_of base kind cons)))
-implicit_is default (w ∷ v ∷ ws) base kind cons =
-    let inside : is_untagged_choice (with_tags default (v ∷ ws) (type_of base kind cons)) ≡ false =
-    ap is_untagged_choice (with_tags_is default (v ∷ ws) base kind cons) ∙ put_nonempty (is_explicit v.mode default false) (tag_of v) (put_all default ws base) kind cons in
-    ap (λ (b : Bool). option_or (fault_where (is_implicit w.mode && b) (ImplicitChoice w.site)) (implicit_choice default (type_of base kind cons) (v ∷ ws))) inside
-    ∙ not_both (is_implicit w.mode) (ImplicitChoice w.site) (implicit_choice default (type_of base kind cons) (v ∷ ws))
-    ∙ implicit_is default (v ∷ ws) base kind cons
-    ∙ ap (implicit_at (is_untagged_choice (type_of base kind cons))) (sym (last_of_more w v ws))
+pub implicit_is : (ws : List WrittenTag) (base : List Tag) (kind : AbstractKind) (cons : Constraints)
+    → implicit_choice (type_of base kind cons) ws ≡ implicit_last (is_untagged_choice (type_of base kind cons)) ws
+implicit_is [] base kind cons = refl
+implicit_is (w ∷ []) base kind cons = ap (λ (b : Bool). fault_where b (ImplicitChoice w.site)) (and-comm (is_implicit w.mode) (is_untagged_choice (type_of base kind cons)))
+implicit_is (w ∷ v ∷ ws) base kind cons = implicit_is (v ∷ ws) base kind cons ∙ ap (implicit_at (is_untagged_choice (type_of base kind cons))) (sym (last_of_more w v ws))

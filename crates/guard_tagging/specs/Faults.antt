@@ -17,15 +17,14 @@ use Rattle.guard_syntax.specs.declared.tree.Collection.{Collection}
 use Rattle.guard_syntax.specs.declared.tree.Collection.TheVariants as collection
 use Rattle.guard_syntax.specs.declared.tree.TagClass.{TagClass}
 use Rattle.guard_syntax.specs.declared.tree.TagClass.TheVariants as word
-use Rattle.guard_syntax.specs.declared.tree.TagDefault.{TagDefault}
 use Rattle.guard_syntax.specs.declared.tree.TagMode.{TagMode}
 use Rattle.guard_syntax.specs.declared.tree.TagMode.TheVariants as mode
 use Rattle.guard_syntax.specs.Trees.{WrittenTag, WrittenNamed, WrittenItem, WrittenType, type_node, WrittenBase, numbers, enumerated, structure, choice, of_type, named_type, WrittenComponents, no_components, component, components_from, WrittenAlternatives, no_alternatives, alternative}
 use Rattle.guard_tagging.specs.declared.fault.TagFault.{TagFault}
 use Rattle.guard_tagging.specs.declared.fault.TagFault.TheVariants.{UniversalTag, ImplicitChoice, TagTooLarge, ComponentsOfKind, ComponentsOfAutomatic, ComponentsOfTagged, DuplicateName, DuplicateNumber, TooManyComponents, TooDeep, SchemaTooLarge, NumberTooLarge, UndefinedName}
 use Rattle.guard_tagging.specs.Numbers.{number_of, is_number}
-use Rattle.guard_tagging.specs.Tagging.{is_untagged_choice, with_tags}
-use Rattle.guard_tagging.specs.Types.{Surroundings, denoted, denoted_base, denoted_components, denoted_alternatives, parts_of, is_automatic, is_automatic_list}
+use Rattle.guard_tagging.specs.Tagging.{is_untagged_choice, automatic_tag, with_automatic_tag}
+use Rattle.guard_tagging.specs.Types.{Surroundings, denoted, denoted_base, denoted_components, denoted_alternatives, parts_of, is_automatic, is_automatic_list, is_automatic_choice}
 
 -- the first of these that is there
 abbrev pub first_of : List (Option TagFault) → Option TagFault
@@ -82,11 +81,11 @@ abbrev pub is_implicit : Option TagMode → Bool
 is_implicit (Some mode.Implicit) = true
 is_implicit _ = false
 
--- IMPLICIT on a CHOICE that has no tag (31.2.9): with the tags behind it this is the type that it stands before
-abbrev pub implicit_choice : TagDefault → AbstractType → List WrittenTag → Option TagFault
-implicit_choice default t [] = None
-implicit_choice default t (w ∷ ws) =
-    option_or (fault_where (is_implicit w.mode && is_untagged_choice (with_tags default ws t)) (ImplicitChoice w.site)) (implicit_choice default t ws)
+-- IMPLICIT on a CHOICE that has no tag (31.2.9). A tag that stands before another one is on a type that has a tag.
+abbrev pub implicit_choice : AbstractType → List WrittenTag → Option TagFault
+implicit_choice t [] = None
+implicit_choice t (w ∷ []) = fault_where (is_implicit w.mode && is_untagged_choice t) (ImplicitChoice w.site)
+implicit_choice t (w ∷ v ∷ ws) = implicit_choice t (v ∷ ws)
 
 abbrev pub tag_too_large : List WrittenTag → Option TagFault
 tag_too_large [] = None
@@ -192,15 +191,20 @@ number_fault (numbers ns) = number_too_large (map named_place ns)
 number_fault (enumerated items) = number_too_large (map item_place items)
 number_fault _ = None
 
--- what is wrong with the type itself, where there are so many types with it and what was written before it
-abbrev pub own_fault : Surroundings → ℕ → WrittenType → Option TagFault
-own_fault around count (type_node site tags base cons) =
+-- A type that gets an automatic tag, or gets none. Which number that has doesn't matter for its nesting.
+abbrev pub with_tag_there : Bool → AbstractType → AbstractType
+with_tag_there true t = with_automatic_tag (automatic_tag 0) t
+with_tag_there false t = t
+
+-- What is wrong with the type itself, where it gets an automatic tag or none, and where there are so many types with it and what was written before it.
+abbrev pub own_fault : Surroundings → Bool → ℕ → WrittenType → Option TagFault
+own_fault around automatic count (type_node site tags base cons) =
     first_of (undefined_name around base
     ∷ universal_tag tags
-    ∷ implicit_choice around.tag_default (denoted_base around base) tags
+    ∷ implicit_choice (denoted_base around base) tags
     ∷ tag_too_large tags
     ∷ list_fault around site base
-    ∷ fault_where (nat_lt deepest_nesting (nesting (denoted around (type_node site tags base cons)))) (TooDeep site)
+    ∷ fault_where (nat_lt deepest_nesting (nesting (with_tag_there automatic (denoted around (type_node site tags base cons))))) (TooDeep site)
     ∷ fault_where (nat_lt most_nodes count) (SchemaTooLarge site)
     ∷ number_fault base ∷ [])
 
@@ -209,29 +213,30 @@ abbrev pub nodes_put_in : Surroundings → WrittenType → ℕ
 nodes_put_in around t = nodes_within (denoted around t)
 
 abbrev mutual
-  -- the first fault in a type, with so many types before it and so many with it
-  pub fault_in : Surroundings → ℕ → ℕ → WrittenType → Option TagFault
-  fault_in around before count (type_node site tags base cons) = option_or (fault_in_parts around before base) (own_fault around count (type_node site tags base cons))
+  -- The first fault in a type, with so many types before it and so many with it. Components and alternatives get automatic tags or none; no other types get any.
+  pub fault_in : Surroundings → Bool → ℕ → ℕ → WrittenType → Option TagFault
+  fault_in around automatic before count (type_node site tags base cons) =
+      option_or (fault_in_parts around before base) (own_fault around automatic count (type_node site tags base cons))
 
   pub fault_in_parts : Surroundings → ℕ → WrittenBase → Option TagFault
   fault_in_parts around before (structure k cs) = fault_in_components k (is_automatic_list around.tag_default cs) around before cs
-  fault_in_parts around before (choice others) = fault_in_alternatives around before others
-  fault_in_parts around before (of_type k cons t) = fault_in around before (before + nodes (denoted around t)) t
+  fault_in_parts around before (choice others) = fault_in_alternatives (is_automatic_choice around.tag_default others) around before others
+  fault_in_parts around before (of_type k cons t) = fault_in around false before (before + nodes (denoted around t)) t
   fault_in_parts around before _ = None
 
   pub fault_in_components : Collection → Bool → Surroundings → ℕ → WrittenComponents → Option TagFault
   fault_in_components k automatic around before no_components = None
   fault_in_components k automatic around before (component site name t presence cs) =
-      option_or (fault_in around before (before + nodes (denoted around t)) t) (fault_in_components k automatic around (before + nodes (denoted around t)) cs)
+      option_or (fault_in around automatic before (before + nodes (denoted around t)) t) (fault_in_components k automatic around (before + nodes (denoted around t)) cs)
   fault_in_components k automatic around before (components_from site t cs) =
-      option_or (fault_in around before (before + nodes_put_in around t) t)
+      option_or (fault_in around false before (before + nodes_put_in around t) t)
       (option_or (entry_fault k automatic around site t) (fault_in_components k automatic around (before + nodes_put_in around t) cs))
 
-  pub fault_in_alternatives : Surroundings → ℕ → WrittenAlternatives → Option TagFault
-  fault_in_alternatives around before no_alternatives = None
-  fault_in_alternatives around before (alternative site name t others) =
-      option_or (fault_in around before (before + nodes (denoted around t)) t) (fault_in_alternatives around (before + nodes (denoted around t)) others)
+  pub fault_in_alternatives : Bool → Surroundings → ℕ → WrittenAlternatives → Option TagFault
+  fault_in_alternatives automatic around before no_alternatives = None
+  fault_in_alternatives automatic around before (alternative site name t others) =
+      option_or (fault_in around automatic before (before + nodes (denoted around t)) t) (fault_in_alternatives automatic around (before + nodes (denoted around t)) others)
 
 -- the first fault in the type of a definition, with so many types in the definitions before it
 abbrev pub first_fault : Surroundings → ℕ → WrittenType → Option TagFault
-first_fault around before t = fault_in around before (before + nodes (denoted around t)) t
+first_fault around before t = fault_in around false before (before + nodes (denoted around t)) t

@@ -1,5 +1,5 @@
 -- What all types have in common, as it is read.
-use Rattle.std.specs.Prelude.{ℕ, ◌+◌, Bool, true, false, List, [], length, Result, Ok, Err, nat_lt, if◌then◌else◌}
+use Rattle.std.specs.Prelude.{ℕ, ◌+◌, Bool, true, false, List, length, Option, is_some, Result, Ok, Err, nat_lt, if◌then◌else◌}
 use Rattle.guard_model.specs.Answer.{◌>>=◌}
 use Rattle.guard_model.specs.AbstractType.{AbstractType, AbstractKind, Constraints, type_of, no_constraints}
 use Rattle.guard_model.specs.declared.site.Site.{Site}
@@ -11,14 +11,15 @@ use Rattle.guard_tagging.specs.declared.fault.TagFault.{TagFault}
 use Rattle.guard_tagging.specs.declared.fault.TagFault.TheVariants.{TooDeep, SchemaTooLarge}
 use Rattle.guard_tagging.specs.Faults.{universal_tag, most_nodes}
 use Rattle.guard_tagging.specs.Named.{allowed}
-use Rattle.guard_tagging.specs.ReadTags.{implicit_last, read_tags}
+use Rattle.guard_tagging.specs.ReadTags.{implicit_last, in_front, read_tags}
 
--- what is written of a type beside its base, and whether it counts as a type
+-- what is written of a type beside its base, whether it counts as a type, and the automatic tag that it gets, where it gets one
 pub record Node : Type 0 where
   pub site : Site
   pub tags : List WrittenTag
   pub tag_default : TagDefault
   pub counts : Bool
+  pub automatic : Option Tag
 
 -- what is known of a type that keeps the limits, beside its kind
 pub record Whole : Type 0 where
@@ -33,7 +34,8 @@ pub record Made : Type 0 where
 
 unfoldable pub tags_of : Node → List Tag → Bool → Result (List Tag) TagFault
 tags_of node base on_choice =
-    allowed (universal_tag node.tags) >>= λ _. allowed (implicit_last on_choice node.tags) >>= λ _. read_tags node.tag_default false [] node.tags base
+    allowed (universal_tag node.tags) >>= λ _. allowed (implicit_last on_choice node.tags) >>= λ _.
+    read_tags node.tag_default (is_some node.automatic) (in_front node.automatic) node.tags base
 
 abbrev pub one_where : Bool → ℕ
 one_where true = 1

@@ -23,6 +23,11 @@ implicit_last on_choice ws = implicit_at on_choice (slice_get ws (length ws - 1)
 abbrev pub read_tag : WrittenTag → Result Tag TagFault
 read_tag w = if nat_lt greatest_tag_number (number_value w.number) then Err (TagTooLarge w.site) else Ok (tag_of w)
 
+-- the tags in front of those that are written: an automatic one, where there is one
+abbrev pub in_front : Option Tag → List Tag
+in_front None = []
+in_front (Some tag) = tag ∷ []
+
 -- what is left of these tags behind one that replaces the outermost, or doesn't
 abbrev pub kept : Bool → List Tag → List Tag
 kept true [] = []

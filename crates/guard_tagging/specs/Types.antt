@@ -138,9 +138,12 @@ join type.no_components cs = cs
 join (type.component name t presence others) cs = type.component name t presence (join others cs)
 
 abbrev mutual
+  -- a type with the tags that are written before it (31.2)
   pub denoted : Surroundings → WrittenType → AbstractType
   denoted around (type_node site tags base cons) = with_tags around.tag_default tags (denoted_base around base)
 
+  -- Types that are written with words alone (18, 22 to 24, 32, 41); INTEGER with its named numbers (19) and ENUMERATED with its items (20); SEQUENCE and SET with
+  -- their components (25, 27), CHOICE with its alternatives (29), SEQUENCE OF and SET OF (26, 28); a name, which is the type that it is assigned (14).
   pub denoted_base : Surroundings → WrittenBase → AbstractType
   denoted_base around (plain p) = type_of (universal (plain_number p)) (plain_kind p) type.no_constraints
   denoted_base around (numbers ns) = type_of (universal 2) (type.integer (map named_number ns)) type.no_constraints
@@ -151,12 +154,13 @@ abbrev mutual
   denoted_base around (of_type k cons t) = type_of (universal (collection_number k)) (of_kind k (denoted around t)) type.no_constraints
   denoted_base around (named_type site name) = meant (around.meaning name)
 
-  -- COMPONENTS OF puts in the components of the list that its type has
+  -- in their written order; COMPONENTS OF puts in the components of the list that its type has (25.4, 27.2)
   pub denoted_components : Surroundings → WrittenComponents → Components
   denoted_components around no_components = type.no_components
   denoted_components around (component site name t presence cs) = type.component name (denoted around t) (presence_of presence) (denoted_components around cs)
   denoted_components around (components_from site t cs) = join (parts_of (denoted around t)) (denoted_components around cs)
 
+  -- in their written order; each must be there where it is chosen (29)
   pub denoted_alternatives : Surroundings → WrittenAlternatives → Components
   denoted_alternatives around no_alternatives = type.no_components
   denoted_alternatives around (alternative site name t others) = type.component name (denoted around t) type.mandatory (denoted_alternatives around others)

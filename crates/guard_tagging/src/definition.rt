@@ -86,7 +86,7 @@ pub fn skeleton_behind(
         unreachable!();
     };
     let scope = scope_in(names, home, *done);
-    let made = type_of(alloc, &scope, &assignment.ty, true, done.nodes)?;
+    let made = type_of(alloc, &scope, &assignment.ty, true, None, done.nodes)?;
     let is_automatic = is_automatic(&scope, &assignment.ty.base);
     let Made { ty, nodes, .. } = Box::into_inner(made);
     Ok(TaggedType {

@@ -14,6 +14,8 @@ pub struct Node<'t> {
     pub tag_default: TagDefault,
     /// Whether it counts as a type. The type behind COMPONENTS OF doesn't.
     pub counts: bool,
+    /// The tag that it gets as a component or alternative of a list that is tagged automatically.
+    pub automatic: Option<Tag>,
 }
 
 /// What is known of a type that keeps the limits, beside its kind.

@@ -25,7 +25,7 @@ pub fn tags_of(
 {
     check_universal(node.tags)?;
     check_implicit(node.tags, on_choice)?;
-    with_written(alloc, node.tags, node.tag_default, base)
+    with_written(alloc, node, base)
 }
 
 /// A type with these tags, whose parts are nested so deep, and with so many types before it.

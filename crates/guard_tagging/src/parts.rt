@@ -1,5 +1,5 @@
 //! The components of a list, as they are read.
-ghost use Rattle.std.specs.Prelude.{◌≡◌, ◌≤◌, ◌<◌, ◌++◌, length, map, replicate, IfOk};
+ghost use Rattle.std.specs.Prelude.{◌≡◌, ◌++◌, length, map, min, replicate, IfOk};
 ghost use Rattle.guard_model.specs.Answer.{Gives};
 ghost use Rattle.guard_model.specs.Components.{components_in};
 ghost use Rattle.guard_model.specs.TypeView as model;
@@ -7,6 +7,7 @@ ghost use Rattle.guard_tagging.specs.Named.{named};
 ghost use Rattle.guard_tagging.specs.NodeViews.{made_view};
 ghost use Rattle.guard_tagging.specs.PartViews.{parts_view};
 ghost use Rattle.guard_tagging.specs.ReadParts as reading;
+ghost use Rattle.guard_tagging.specs.Tagging as tagging;
 
 use crate::fault::TagFault;
 use crate::made::{Made, Parts};
@@ -26,24 +27,41 @@ pub fn no_parts(alloc: Global, before: usize) -> Parts
     }
 }
 
-/// One component more. In a list that is tagged automatically its place is the number of its tag.
+/// The tag of the next component, in a list that is tagged automatically: its number is the component's place. A longer list than is allowed is
+/// refused, and at its end one tag is as good as another.
+pub fn next_tag(automatic: bool, parts: &Parts) -> Option<Tag>
+    ensures { result ≡ reading.next_tag automatic (parts_view parts.now) }
+{
+    if automatic {
+        Some(place_tag(parts.comps.len()))
+    } else {
+        None
+    }
+}
+
+fn place_tag(place: usize) -> Tag
+    ensures { result ≡ tagging.automatic_tag (min place 64) }
+{
+    Tag {
+        class: Class::Context,
+        number: place.min(MOST_COMPONENTS) as u32,
+    }
+}
+
+/// One component more.
 pub fn with_component(
     parts: Box<Parts>,
     alloc: Global,
-    automatic: bool,
     site: Site,
     name: &[u8],
     made: Box<Made>,
     presence: Presence,
 ) -> Result<Box<Parts>, AllocError>
-    ensures { IfOk result (λ v. parts_view v.value ≡ reading.with_component automatic (parts_view parts.value) site name.now (made_view made.value) (model.presence_view presence)) }
+    ensures { IfOk result (λ v. parts_view v.value ≡ reading.with_component (parts_view parts.value) site name.now (made_view made.value) (model.presence_view presence)) }
 {
     let Made { ty, nesting, nodes } = Box::into_inner(made);
-    let place = parts.comps.len();
-    let added = levels_at(automatic, place, &ty);
-    let ty = tagged_at(alloc, automatic, place, ty)?;
     let comp = comp_of(alloc, name, ty, presence)?;
-    pushed(parts, alloc, site, comp, nesting + added, nodes)
+    pushed(parts, alloc, site, comp, nesting, nodes)
 }
 
 fn comp_of(alloc: Global, name: &[u8], ty: Ty, presence: Presence) -> Result<Comp, AllocError>
@@ -83,58 +101,6 @@ fn pushed(
     )?)
 }
 
-/// Whether the component at a place gets a tag. A longer list than is allowed is refused, and its end needs none.
-fn gets_tag(automatic: bool, place: usize) -> bool
-    ensures { result ≡ reading.gets_tag automatic place }
-{
-    automatic && place < MOST_COMPONENTS
-}
-
-/// How many levels an automatic tag adds: one where there is no tag to replace, as on a CHOICE that has none.
-fn levels_at(automatic: bool, place: usize, ty: &Ty) -> usize
-    ensures levels { result ≡ reading.levels_at automatic place (model.type_view ty.now) }
-    ensures one { result ≤ 1 }
-{
-    if gets_tag(automatic, place) && ty.tags.is_empty() {
-        1
-    } else {
-        0
-    }
-}
-
-fn tagged_at(alloc: Global, automatic: bool, place: usize, ty: Ty) -> Result<Ty, AllocError>
-    ensures { IfOk result (λ t. model.type_view t ≡ reading.tagged_at automatic place (model.type_view ty)) }
-{
-    if !gets_tag(automatic, place) {
-        return Ok(ty);
-    }
-    let Ty { tags, kind, cons } = ty;
-    let tags = with_outermost(alloc, place_tag(place), &tags)?;
-    Ok(Ty { tags, kind, cons })
-}
-
-fn place_tag(place: usize) -> Tag
-    requires { place < 64 }
-    ensures { result ≡ reading.place_tag place }
-{
-    Tag {
-        class: Class::Context,
-        number: place as u32,
-    }
-}
-
-/// The tags with this one in place of the outermost, where there is one.
-fn with_outermost(alloc: Global, tag: Tag, tags: &[Tag]) -> Result<Vec<Tag>, AllocError>
-    ensures { IfOk result (λ v. v.items ≡ reading.replace_outermost tag tags.now) }
-{
-    let mut all = Vec::new(alloc);
-    all.push(tag)?;
-    if let [_, others @ ..] = tags {
-        all.extend_from_slice(others)?;
-    }
-    Ok(all)
-}
-
 /// What COMPONENTS OF puts in at its word: the components of the SEQUENCE or SET.
 pub fn with_list(
     parts: Box<Parts>,
@@ -145,13 +111,28 @@ pub fn with_list(
     ensures { IfOk result (λ v. parts_view v.value ≡ reading.with_list (parts_view parts.value) site (made_view made.value)) }
 {
     let Made { ty, nesting, nodes } = Box::into_inner(made);
+    let put_in = comps_in(alloc, ty.kind);
+    appended(parts, alloc, site, put_in, nesting.saturating_sub(1), nodes)
+}
+
+/// The parts with all these at one site, of which the deepest is nested so deep.
+fn appended(
+    parts: Box<Parts>,
+    alloc: Global,
+    site: Site,
+    put_in: Vec<Comp>,
+    nesting: usize,
+    nodes: usize,
+) -> Result<Box<Parts>, AllocError>
+    ensures { IfOk result (λ v. parts_view v.value ≡ reading.appended (parts_view parts.value) site (map model.component_view put_in.items) nesting nodes) }
+{
     let Parts {
         sites,
         mut comps,
         deepest,
         ..
     } = Box::into_inner(parts);
-    let mut put_in = comps_in(alloc, ty.kind);
+    let mut put_in = put_in;
     let sites = with_sites(sites, site, put_in.len())?;
     comps.append(&mut put_in)?;
     Ok(Box::new(
@@ -159,7 +140,7 @@ pub fn with_list(
         Parts {
             sites,
             comps,
-            deepest: deepest.max(nesting.saturating_sub(1)),
+            deepest: deepest.max(nesting),
             nodes,
         },
     )?)

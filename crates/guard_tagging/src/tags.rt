@@ -1,13 +1,15 @@
 //! Written tags (X.680 clause 31).
-ghost use Rattle.std.specs.Prelude.{◌≡◌, [], false, map};
+ghost use Rattle.std.specs.Prelude.{◌≡◌, IfOk, false, is_some, map};
 ghost use Rattle.guard_model.specs.Answer.{Gives};
 ghost use Rattle.guard_syntax.specs.TypeViews.{tag_view};
 ghost use Rattle.guard_tagging.specs.Faults as faults;
 ghost use Rattle.guard_tagging.specs.Named.{named, allowed};
-ghost use Rattle.guard_tagging.specs.ReadTags.{implicit_last, read_tag, read_tags, kept};
+ghost use Rattle.guard_tagging.specs.NodeViews.{node_view};
+ghost use Rattle.guard_tagging.specs.ReadTags.{implicit_last, in_front, read_tag, read_tags, kept};
 ghost use Rattle.guard_tagging.specs.Tagging as tagging;
 
 use crate::fault::TagFault;
+use crate::made::Node;
 use crate::number::magnitude;
 use guard_model::{Class, GREATEST_TAG_NUMBER, Tag};
 use guard_syntax::{TagClass, TagDefault, TagMode, TagTree};
@@ -49,26 +51,31 @@ fn is_implicit(mode: Option<TagMode>) -> bool
     matches!(mode, Some(TagMode::Implicit))
 }
 
-/// The tags of a type with those that are written before it, the outermost first. An implicit tag replaces the outermost one
-/// behind it. A CHOICE without tags has none to replace, so that a tag on it is explicit.
-pub fn with_written(
-    alloc: Global,
-    written: &[TagTree],
-    default: TagDefault,
-    base: &[Tag],
-) -> Result<Vec<Tag>, TagFault>
-    ensures { Gives (λ v. v.items) named result (read_tags default false [] (map tag_view written.now) base.now) }
+/// The tags of a type with those that are written before it and the automatic one before these, the outermost first. An implicit tag replaces the
+/// outermost one behind it, and so does an automatic one. A CHOICE without tags has none to replace, so that a tag on it is explicit.
+pub fn with_written(alloc: Global, node: &Node, base: &[Tag]) -> Result<Vec<Tag>, TagFault>
+    ensures { Gives (λ v. v.items) named result (read_tags node.now.tag_default (is_some node.now.automatic) (in_front node.now.automatic) (node_view node.now).tags base.now) }
 {
-    let mut tags = Vec::new(alloc);
-    let mut replaced = false;
-    for tree in written {
+    let mut tags = in_front(alloc, node.automatic)?;
+    let mut replaced = node.automatic.is_some();
+    for tree in node.tags {
         let tag = tag_of(tree)?;
         if !replaced {
             tags.push(tag)?;
         }
-        replaced = !is_explicit(tree.mode, default);
+        replaced = !is_explicit(tree.mode, node.tag_default);
     }
     tags.extend_from_slice(kept(base, replaced))?;
+    Ok(tags)
+}
+
+fn in_front(alloc: Global, automatic: Option<Tag>) -> Result<Vec<Tag>, AllocError>
+    ensures { IfOk result (λ v. v.items ≡ in_front automatic) }
+{
+    let mut tags = Vec::new(alloc);
+    if let Some(tag) = automatic {
+        tags.push(tag)?;
+    }
     Ok(tags)
 }
 

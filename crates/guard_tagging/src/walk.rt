@@ -16,13 +16,13 @@ use crate::base::{
 use crate::fault::TagFault;
 use crate::kinds::presence_of;
 use crate::made::{Made, Node, Parts};
-use crate::parts::{no_parts, with_component, with_list};
+use crate::parts::{next_tag, no_parts, with_component, with_list};
 use crate::scope::Scope;
-use guard_model::Presence;
+use guard_model::{Presence, Tag};
 use guard_syntax::{AlternativeTree, BaseTree, Collection, CompForm, CompTree, TypeTree};
 use std::alloc::Global;
 
-/// The type that is written, with so many types before it. The type behind COMPONENTS OF doesn't count itself.
+/// The type that is written, with so many types before it and with the automatic tag that it gets. The type behind COMPONENTS OF doesn't count itself.
 #[cycle(walk)]
 #[tactic(auto, unfolding(crate::specs::ReadTypes::read_type))]
 pub fn type_of(
@@ -30,15 +30,17 @@ pub fn type_of(
     scope: &Scope,
     tree: &TypeTree,
     counts: bool,
+    automatic: Option<Tag>,
     before: usize,
 ) -> Result<Box<Made>, TagFault>
-    ensures { Gives (λ m. made_view m.value) named result (reading.read_type (scope_view scope.now) counts before (written.type_view tree.now)) }
+    ensures { Gives (λ m. made_view m.value) named result (reading.read_type (scope_view scope.now) counts automatic before (written.type_view tree.now)) }
 {
     let node = Node {
         site: tree.site,
         tags: &tree.tags,
         tag_default: scope.tag_default,
         counts,
+        automatic,
     };
     type_with(alloc, scope, &node, &tree.base, before)
 }
@@ -113,7 +115,7 @@ fn elements(
 ) -> Result<Box<Made>, TagFault>
     ensures { Gives (λ m. made_view m.value) named result (reading.read_elements (scope_view scope.now) (node_view node.now) collection before (written.type_view tree.now)) }
 {
-    let element = type_of(alloc, scope, tree, true, before)?;
+    let element = type_of(alloc, scope, tree, true, None, before)?;
     of_type(alloc, node, collection, element)
 }
 
@@ -149,12 +151,13 @@ fn entry(
 {
     match &tree.form {
         CompForm::Named(name, ty, presence) => {
-            let made = type_of(alloc, scope, ty, true, parts.nodes)?;
+            let tag = next_tag(automatic, &parts);
+            let made = type_of(alloc, scope, ty, true, tag, parts.nodes)?;
             let presence = presence_of(presence);
-            Ok(with_component(parts, alloc, automatic, tree.site, name, made, presence)?)
+            Ok(with_component(parts, alloc, tree.site, name, made, presence)?)
         }
         CompForm::ComponentsOf(ty) => {
-            let made = type_of(alloc, scope, ty, false, parts.nodes)?;
+            let made = type_of(alloc, scope, ty, false, None, parts.nodes)?;
             let automatic = automatic || is_automatic(scope, &ty.base);
             check_taken(collection, automatic, tree.site, &made.ty)?;
             Ok(with_list(parts, alloc, tree.site, made)?)
@@ -189,11 +192,11 @@ fn alternative(
 ) -> Result<Box<Parts>, TagFault>
     ensures { Gives (λ p. parts_view p.value) named result (reading.read_one (scope_view scope.now) automatic (parts_view parts.value) (written.alternative_view tree.now)) }
 {
-    let made = type_of(alloc, scope, &tree.ty, true, parts.nodes)?;
+    let tag = next_tag(automatic, &parts);
+    let made = type_of(alloc, scope, &tree.ty, true, tag, parts.nodes)?;
     Ok(with_component(
         parts,
         alloc,
-        automatic,
         tree.site,
         tree.name,
         made,

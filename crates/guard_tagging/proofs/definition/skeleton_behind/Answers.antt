@@ -1,4 +1,4 @@
-use Rattle.std.proofs.Common.{◌≡◌, ◌+◌, ◌≤◌, ℕ, List, Option, true, IfSome, length, map, slice_get, Some, Ok, sym, ap, subst, ◌∙◌}
+use Rattle.std.proofs.Common.{◌≡◌, ◌+◌, ◌≤◌, ℕ, List, Option, None, true, IfSome, length, map, slice_get, Some, Ok, sym, ap, subst, ◌∙◌}
 use Rattle.std.proofs.lemmas.List.{length-map}
 use Rattle.std.proofs.lemmas.Result.{err_from_is_err_and}
 use Rattle.guard_model.specs.AbstractType.{AbstractType}
@@ -70,31 +70,32 @@ module _ (c : After-deref) where
   spelled : IsSpelled d.assignment.ty
   spelled = all_spelled ms c.requires.spelled c.args.id d (sym is)
 
+  kept : KeepLimits around
+  kept = subst KeepLimits (sym c.scope_in-scope.ensures) (known_kept types c.args.done.now.automatic.now (all_kept c.args.done.now.types.now c.requires.limits) ms order d.home)
+
   tree : c.deref.result.now ≡ c.in-Some.assignment.now.ty.value
   tree = cc (c.deref.ensures)
 
   -- the fault that the walk met
-  refusal : (f : Option TagFault) → Refuses f (read_type around true before (written.type_view c.deref.result.now)) → IfSome f (IsFaultOf ms order types c.args.id) × IfSome f (λ g. is_numbered g ≡ true)
+  refusal : (f : Option TagFault) → Refuses f (read_type around true None before (written.type_view c.deref.result.now)) → IfSome f (IsFaultOf ms order types c.args.id) × IfSome f (λ g. is_numbered g ≡ true)
   refusal f met =
       let many : length types ≡ length c.args.done.now.types.now = length-map c.args.done.now.types.now type_view in
       let next : slice_get order (length types) ≡ Some c.args.id = ap (slice_get order) many ∙ c.requires.next in
       let meant = type_meant ms (none_is (fault_of_names ms) c.args.names.now.faultless) order c.args.names.now.ordered types c.args.id next d (sym is) in
-      let read = subst (λ (t : TypeTree). Refuses f (read_type around true before (written.type_view t))) tree met in (
-        refused_so ms order types c.args.id d is around same before c.requires.counted spelled f read,
-        numbered_so ms order types c.args.id d is around same before c.requires.counted spelled meant f read,
+      let read = subst (λ (t : TypeTree). Refuses f (read_type around true None before (written.type_view t))) tree met in (
+        refused_so ms order types c.args.id d is around same before c.requires.counted spelled kept f read,
+        numbered_so ms order types c.args.id d is around same before c.requires.counted spelled kept meant f read,
       )
 
   -- the type that it made
-  answer : (m : Made) → read_type around true before (written.type_view c.deref.result.now) ≡ Ok (made_view m)
+  answer : (m : Made) → read_type around true None before (written.type_view c.deref.result.now) ≡ Ok (made_view m)
       → IsTypeOf ms order types c.args.id (type_view m.ty) × (is_within_limits (type_view m.ty) ≡ true) × (m.nodes ≡ before + nodes (type_view m.ty)) × (m.nodes ≤ most_nodes)
   answer m read =
-      let made : read_type around true before d.assignment.ty ≡ Ok (made_view m) = ap (λ (t : TypeTree). read_type around true before (written.type_view t)) (sym tree) ∙ read in
-      let kept : KeepLimits around =
-      subst KeepLimits (sym c.scope_in-scope.ensures) (known_kept types c.args.done.now.automatic.now (all_kept c.args.done.now.types.now c.requires.limits) ms order d.home) in (
-        tagged_so ms order types c.args.id d is around same before c.requires.counted spelled (made_view m) made,
-        within_so ms order types c.args.id d is around same before c.requires.counted spelled (made_view m) made kept,
-        counted_so ms order types c.args.id d is around same before c.requires.counted spelled (made_view m) made,
-        few_so ms order types c.args.id d is around same before c.requires.counted spelled (made_view m) made,
+      let made : read_type around true None before d.assignment.ty ≡ Ok (made_view m) = ap (λ (t : TypeTree). read_type around true None before (written.type_view t)) (sym tree) ∙ read in (
+        tagged_so ms order types c.args.id d is around same before c.requires.counted spelled kept (made_view m) made,
+        within_so ms order types c.args.id d is around same before c.requires.counted spelled kept (made_view m) made,
+        counted_so ms order types c.args.id d is around same before c.requires.counted spelled kept (made_view m) made,
+        few_so ms order types c.args.id d is around same before c.requires.counted spelled kept (made_view m) made,
       )
 
 pub returns-in_err-made-clause-refused : goal.returns-in_err-made-clause-refused
@@ -107,7 +108,7 @@ returns-in_err-made-clause-numbered c =
     let p = err_from_is_err_and c.from_residual.result c.from_residual.ensures.1 in
     rw (p.1, p.2) (refusal (goal.at.returns-in_err-made-clause-numbered c).After-deref (named c.in_err-made.field-0.0) c.in_err-made.ensures).1
 
-read_so : (c : goal.After-into_inner-ty) → read_type (scope_view c.scope_in-scope.result) true c.args.done.now.nodes (written.type_view c.deref.result.now) ≡ Ok (made_view c.into_inner-ty.result)
+read_so : (c : goal.After-into_inner-ty) → read_type (scope_view c.scope_in-scope.result) true None c.args.done.now.nodes (written.type_view c.deref.result.now) ≡ Ok (made_view c.into_inner-ty.result)
 read_so c = c.in_ok-made.ensures ∙ ap (λ (m : Made). Ok (made_view m)) (sym c.into_inner-ty.ensures)
 
 pub returns-clause-tagged : goal.returns-clause-tagged

@@ -111,7 +111,7 @@ Leaves places target before after = (j : ℕ) → field_at j after ≡ cond (is_
 
 abbrev pub EntriesRead : Meaning → Bool → Components → ℕ → Fields → Fields → WrittenEntries → Type 0
 EntriesRead m ordered cs next target before es =
-    (after : Fields) × (read_entries m ordered cs next before es ≡ Ok after) × Leaves (entry_places cs es) target before after × HasFields cs after
+    (after : Fields) × (read_entries m true ordered cs next before es ≡ Ok after) × Leaves (entry_places cs es) target before after × HasFields cs after
 
 abbrev pub WantedEntries : Meaning → Components → WrittenEntries → Fields → Type 0
 WantedEntries m cs es target = (j : ℕ) (u : AbstractType) → component_type j cs ≡ Some u → is_among j (entry_places cs es) ≡ true → (v : AbstractValue) × (field_at j target ≡ Some v) × EntrySays m cs es j u v
@@ -147,7 +147,7 @@ or_second false b e = e
 entry_again : (m : Meaning) (cs : Components) (ordered : Bool) (next : ℕ) (target before : Fields) (site : Site) (name : List ℕ) (tree : WrittenValue) (rest : WrittenEntries) (found : Option Located) → located name cs ≡ found
     → are_different (entry_places cs (entry site (Some name) tree rest)) ≡ true → (ordered ≡ true → are_in_order next (entry_places cs (entry site (Some name) tree rest)) ≡ true)
     → ((j : ℕ) → is_among j (entry_places cs (entry site (Some name) tree rest)) ≡ true → is_filled j before ≡ false) → WantedEntries m cs (entry site (Some name) tree rest) target → HasFields cs before
-    → ((u : AbstractType) (w : AbstractValue) → Says m u tree w → read m u tree ≡ Ok w)
+    → ((u : AbstractType) (w : AbstractValue) → Says m u tree w → read m true u tree ≡ Ok w)
     → ((next : ℕ) (before : Fields) → are_different (entry_places cs rest) ≡ true → (ordered ≡ true → are_in_order next (entry_places cs rest) ≡ true)
     → ((j : ℕ) → is_among j (entry_places cs rest) ≡ true → is_filled j before ≡ false) → WantedEntries m cs rest target → HasFields cs before → EntriesRead m ordered cs next target before rest)
     → EntriesRead m ordered cs next target before (entry site (Some name) tree rest)
@@ -167,8 +167,8 @@ entry_again m cs ordered next target before site name tree rest (Some l) e diffe
     let w = wanted p l.ty (located_type cs name l e) here in
     let v = w.0 in
     let said : Says m l.ty tree v = at_first m cs site (Some name) tree rest p l.ty v once w.2 in
-    let first : entry_at ordered cs next before site (Some name) (λ u. read m u tree) ≡ Ok (p, v) =
-    entry_at_again ordered cs next before site name (λ u. read m u tree) l v (placed_again ordered next before site (located name cs) l e (free p here) (λ o. (ordering o).0)) (says l.ty v said) in
+    let first : entry_at ordered cs next before site (Some name) (λ u. read m true u tree) ≡ Ok (p, v) =
+    entry_at_again ordered cs next before site name (λ u. read m true u tree) l v (placed_again ordered next before site (located name cs) l e (free p here) (λ o. (ordering o).0)) (says l.ty v said) in
     let more = others (suc p) (fill p v before) d.1 (λ o. (ordering o).1)
     (λ j a. unfilled_elsewhere p j v before (place_tells j p ps once a) ∙ free j (later j a))
     (λ j u ct a. let x = wanted j u ct (later j a) in (x.0, x.1, behind_first m cs site (Some name) tree rest p j u x.0 (ap (option_map (λ l. l.place)) e) (place_tells j p ps once a) x.2))
@@ -179,7 +179,7 @@ entry_again m cs ordered next target before site name tree rest (Some l) e diffe
     subst P (sym places) (one_place j p ps (field_at j target) (field_at j more.0) (field_at j before) (field_at j (fill p v before)) v (more.2 j)
     (λ t. subst Q (sym (eqb-true j p t)) (filled_there cs p l.ty v before shape (located_type cs name l e), w.1))
     (λ t. kept_elsewhere p j v before t))) in
-    (more.0, then_entries (entry_at ordered cs next before site (Some name) (λ u. read m u tree)) (λ x. read_entries m ordered cs (suc x.0) (fill x.0 x.1 before) rest) (p, v) more.0 first more.1, leaves, more.3)
+    (more.0, then_entries (entry_at ordered cs next before site (Some name) (λ u. read m true u tree)) (λ x. read_entries m true ordered cs (suc x.0) (fill x.0 x.1 before) rest) (p, v) more.0 first more.1, leaves, more.3)
 
 -- ---- values in braces
 
@@ -205,11 +205,11 @@ ordered_differ next (Some p ∷ ps) e = once (is_among p ps) refl (ordered_diffe
   once false among rest = rw (among, rest) refl
 
 module _ (m : Meaning) (es : WrittenEntries)
-    (elements : (short : Bool) (u : AbstractType) (ws : List AbstractValue) → EntriesSay m u es ws → (short ≡ true → are_short u ws ≡ true) → read_elements m short u es ≡ Ok ws)
+    (elements : (short : Bool) (u : AbstractType) (ws : List AbstractValue) → EntriesSay m u es ws → (short ≡ true → are_short u ws ≡ true) → read_elements m true short u es ≡ Ok ws)
     (entries : (ordered : Bool) (cs : Components) (target : Fields) → are_different (entry_places cs es) ≡ true → (ordered ≡ true → are_in_order 0 (entry_places cs es) ≡ true) → WantedEntries m cs es target
     → EntriesRead m ordered cs 0 target (all_absent cs) es) where
   fields_again : (site : Site) (ordered : Bool) (cs : Components) (fs : Fields) → are_different (entry_places cs es) ≡ true → (ordered ≡ true → are_in_order 0 (entry_places cs es) ≡ true)
-      → FieldsDenote (entry_places cs es) (λ i u w. EntrySays m cs es i u w) 0 cs fs → read_fields site cs (read_entries m ordered cs 0 (all_absent cs) es) ≡ Ok (value.fields fs)
+      → FieldsDenote (entry_places cs es) (λ i u w. EntrySays m cs es i u w) 0 cs fs → read_fields site cs (read_entries m true ordered cs 0 (all_absent cs) es) ≡ Ok (value.fields fs)
   fields_again site ordered cs fs different order denotes =
       let wanted = fields_wanted (entry_places cs es) (λ i u w. EntrySays m cs es i u w) 0 cs fs denotes in
       let given = entries ordered cs fs different order (λ j u e a. wanted j j u (omega arith) e a) in
@@ -221,11 +221,11 @@ module _ (m : Meaning) (es : WrittenEntries)
       rw (given.1, settled) refl
 
   listed_again : (site : Site) (short : Bool) (u : AbstractType) (ws : List AbstractValue) (make : List AbstractValue → AbstractValue) → EntriesSay m u es ws → (short ≡ true → are_short u ws ≡ true) → are_few ws ≡ true
-      → (read_elements m short u es >>= λ vs. few site vs >>= λ xs. Ok (make xs)) ≡ Ok (make ws)
+      → (read_elements m true short u es >>= λ vs. few site vs >>= λ xs. Ok (make xs)) ≡ Ok (make ws)
   listed_again site short u ws make says s is_few = rw (elements short u ws says s, is_few) refl
 
   braces_again : (kind : AbstractKind) (site : Site) (v : AbstractValue) → BracesDenote kind es (λ cs i u w. EntrySays m cs es i u w) (λ u ws. EntriesSay m u es ws) v
-      → read_braces site kind es (λ ordered cs. read_entries m ordered cs 0 (all_absent cs) es) (λ short u. read_elements m short u es) ≡ Ok v
+      → read_braces true site kind es (λ ordered cs. read_entries m true ordered cs 0 (all_absent cs) es) (λ short u. read_elements m true short u es) ≡ Ok v
   braces_again (type.sequence cs) site v h = fields_again site true cs h.1.0 (ordered_differ 0 (entry_places cs es) h.0) (λ _. h.0) h.1.1 ∙ ap Ok (sym h.1.2)
   braces_again (type.set cs) site v h = fields_again site false cs h.1.0 h.0 (λ e. absurd cc) h.1.1 ∙ ap Ok (sym h.1.2)
   braces_again (type.sequence_of u) site v h = listed_again site false u h.0 (λ ws. value.items (items_of ws)) h.1 (λ e. absurd cc) h.2 ∙ ap Ok (sym h.3)
@@ -237,27 +237,27 @@ module _ (m : Meaning) (es : WrittenEntries)
 mutual
   unfolding read
 
-  pub says_read : (m : Meaning) (tree : WrittenValue) (t : AbstractType) (v : AbstractValue) → Says m t tree v → read m t tree ≡ Ok v
+  pub says_read : (m : Meaning) (tree : WrittenValue) (t : AbstractType) (v : AbstractValue) → Says m t tree v → read m true t tree ≡ Ok v
   says_read m (value_node site form) t v h = form_read m form site t v h
 
-  form_read : (m : Meaning) (form : WrittenValueForm) (site : Site) (t : AbstractType) (v : AbstractValue) → FormSays m t form v → read_form m t site form ≡ Ok v
+  form_read : (m : Meaning) (form : WrittenValueForm) (site : Site) (t : AbstractType) (v : AbstractValue) → FormSays m t form v → read_form m true t site form ≡ Ok v
   form_read m (written.boolean b) site t v h = ap (answered (WrongNotation site)) h
   form_read m written.null site t v h = ap (answered (WrongNotation site)) h
   form_read m (written.integer n) site t v h = integer_again site (kind_of t) n v h
   form_read m (written.text k spelling) site t v h = ap (answered (string_fault site (kind_of t) k)) h
   form_read m (written.reference name) site t v h = named_again site t (own_number (kind_of t) name) (m name) v h
-  form_read m (written.chosen name tree) site t v h = chosen_again site (kind_of t) name (λ u. read m u tree) (λ u w. Says m u tree w) v (λ u w s. says_read m tree u w s) h
+  form_read m (written.chosen name tree) site t v h = chosen_again site (kind_of t) name (λ u. read m true u tree) (λ u w. Says m u tree w) v (λ u w s. says_read m tree u w s) h
   form_read m (written.list es) site t v h =
       braces_again m es (λ short u ws s i. elements_read m es short u ws s i)
       (λ ordered cs target different order wanted. entries_read m es ordered cs 0 target (all_absent cs) different order (λ j a. none_filled cs j) wanted (has_absent cs)) (kind_of t) site v h
   form_read m (written.arcs arcs) site t v h = arcs_again site (kind_of t) arcs v h
 
-  elements_read : (m : Meaning) (es : WrittenEntries) (short : Bool) (t : AbstractType) (ws : List AbstractValue) → EntriesSay m t es ws → (short ≡ true → are_short t ws ≡ true) → read_elements m short t es ≡ Ok ws
+  elements_read : (m : Meaning) (es : WrittenEntries) (short : Bool) (t : AbstractType) (ws : List AbstractValue) → EntriesSay m t es ws → (short ≡ true → are_short t ws ≡ true) → read_elements m true short t es ≡ Ok ws
   elements_read m no_entries short t ws h s = ap Ok (sym h)
   elements_read m (entry site None tree rest) short t ws h s =
       let parts : short ≡ true → (is_short (der t h.0) ≡ true) × (are_short t h.1 ≡ true) = (λ e. and_parts (is_short (der t h.0)) (are_short t h.1) (sym (ap (are_short t) h.4) ∙ s e)) in
-      one_more (element_at short t site None (site_of tree) (read m t tree)) (read_elements m short t rest) h.0 h.1
-      (element_again short t site (site_of tree) (read m t tree) h.0 (says_read m tree t h.0 h.2) (λ e. (parts e).0)) (elements_read m rest short t h.1 h.3 (λ e. (parts e).1))
+      one_more (element_at short t site None (site_of tree) (read m true t tree)) (read_elements m true short t rest) h.0 h.1
+      (element_again short t site (site_of tree) (read m true t tree) h.0 (says_read m tree t h.0 h.2) (λ e. (parts e).0)) (elements_read m rest short t h.1 h.3 (λ e. (parts e).1))
       ∙ ap Ok (sym h.4)
   elements_read m (entry site (Some name) tree rest) short t ws h s = absurd h
 

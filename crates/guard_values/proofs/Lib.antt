@@ -17,7 +17,10 @@ pub mod AgainFields
 pub mod Again
 -- ---- what is read is what a tree says
 pub mod Said
+-- ---- faults
+pub mod Told
 pub mod Standing
+pub mod Refusals
 -- ---- what a tree says fits
 pub mod FitsBits
 pub mod FitsArcs

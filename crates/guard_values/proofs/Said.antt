@@ -259,8 +259,8 @@ completed_said site places Denoted i (component name t presence rest) (value.abs
 -- ---- values in braces
 
 module _ (m : Meaning) (es : WrittenEntries)
-    (elements : (short : Bool) (u : AbstractType) (ws : List AbstractValue) → read_elements m short u es ≡ Ok ws → EntriesSay m u es ws × (short ≡ true → are_short u ws ≡ true))
-    (entries : (ordered : Bool) (cs : Components) (after : Fields) → read_entries m ordered cs 0 (all_absent cs) es ≡ Ok after → EntriesSaid m ordered cs 0 (all_absent cs) after es) where
+    (elements : (short : Bool) (u : AbstractType) (ws : List AbstractValue) → read_elements m true short u es ≡ Ok ws → EntriesSay m u es ws × (short ≡ true → are_short u ws ≡ true))
+    (entries : (ordered : Bool) (cs : Components) (after : Fields) → read_entries m true ordered cs 0 (all_absent cs) es ≡ Ok after → EntriesSaid m ordered cs 0 (all_absent cs) after es) where
   -- what the entries leave, as the components' fields are settled from it
   pub entries_given : (ordered : Bool) (cs : Components) (after : Fields) → EntriesSaid m ordered cs 0 (all_absent cs) after es → Given (entry_places cs es) (λ i u w. EntrySays m cs es i u w) 0 cs after
   entries_given ordered cs after s = (
@@ -272,19 +272,19 @@ module _ (m : Meaning) (es : WrittenEntries)
         subst P same (λ among. s.kept j among ∙ nothing_at cs j) a,
   )
 
-  pub fields_said : (site : Site) (ordered : Bool) (cs : Components) (v : AbstractValue) → read_fields site cs (read_entries m ordered cs 0 (all_absent cs) es) ≡ Ok v
+  pub fields_said : (site : Site) (ordered : Bool) (cs : Components) (v : AbstractValue) → read_fields site cs (read_entries m true ordered cs 0 (all_absent cs) es) ≡ Ok v
       → (are_different (entry_places cs es) ≡ true) × (ordered ≡ true → are_in_order 0 (entry_places cs es) ≡ true)
       × ((fs : Fields) × FieldsDenote (entry_places cs es) (λ i u w. EntrySays m cs es i u w) 0 cs fs × (v ≡ value.fields fs))
   fields_said site ordered cs v e =
-      let b = bind_ok (read_entries m ordered cs 0 (all_absent cs) es) (λ given. completed site cs given >>= λ fs. Ok (value.fields fs)) v e in
+      let b = bind_ok (read_entries m true ordered cs 0 (all_absent cs) es) (λ given. completed site cs given >>= λ fs. Ok (value.fields fs)) v e in
       let s = entries ordered cs b.0 b.1 in
       let c = made_ok (completed site cs b.0) (λ fs. value.fields fs) v b.2 in
       (s.different, s.order, (c.0, completed_said site (entry_places cs es) (λ i u w. EntrySays m cs es i u w) 0 cs b.0 c.0 (entries_given ordered cs b.0 s) s.shape c.1, sym c.2))
 
-  pub listed_said : (site : Site) (short : Bool) (u : AbstractType) (make : List AbstractValue → AbstractValue) (v : AbstractValue) → (read_elements m short u es >>= λ vs. few site vs >>= λ xs. Ok (make xs)) ≡ Ok v
+  pub listed_said : (site : Site) (short : Bool) (u : AbstractType) (make : List AbstractValue → AbstractValue) (v : AbstractValue) → (read_elements m true short u es >>= λ vs. few site vs >>= λ xs. Ok (make xs)) ≡ Ok v
       → (ws : List AbstractValue) × EntriesSay m u es ws × (are_few ws ≡ true) × (short ≡ true → are_short u ws ≡ true) × (v ≡ make ws)
   listed_said site short u make v e =
-      let b = bind_ok (read_elements m short u es) (λ vs. few site vs >>= λ xs. Ok (make xs)) v e in
+      let b = bind_ok (read_elements m true short u es) (λ vs. few site vs >>= λ xs. Ok (make xs)) v e in
       let c = made_ok (few site b.0) make v b.2 in
       let f = few_ok site b.0 c.0 c.1 in
       let s = elements short u b.0 b.1 in
@@ -295,7 +295,7 @@ module _ (m : Meaning) (es : WrittenEntries)
   too_few_fault false f g v e = absurd cc
 
   pub braces_said : (kind : AbstractKind) (site : Site) (v : AbstractValue)
-      → read_braces site kind es (λ ordered cs. read_entries m ordered cs 0 (all_absent cs) es) (λ short u. read_elements m short u es) ≡ Ok v
+      → read_braces true site kind es (λ ordered cs. read_entries m true ordered cs 0 (all_absent cs) es) (λ short u. read_elements m true short u es) ≡ Ok v
       → BracesDenote kind es (λ cs i u w. EntrySays m cs es i u w) (λ u ws. EntriesSay m u es ws) v
   braces_said (type.sequence cs) site v e = let f = fields_said site true cs v e in (f.1 refl, f.2)
   braces_said (type.set cs) site v e = let f = fields_said site false cs v e in (f.0, f.2)
@@ -309,32 +309,32 @@ module _ (m : Meaning) (es : WrittenEntries)
 mutual
   unfolding read
 
-  pub read_said : (m : Meaning) (tree : WrittenValue) (t : AbstractType) (v : AbstractValue) → read m t tree ≡ Ok v → Says m t tree v
+  pub read_said : (m : Meaning) (tree : WrittenValue) (t : AbstractType) (v : AbstractValue) → read m true t tree ≡ Ok v → Says m t tree v
   read_said m (value_node site form) t v e = form_said m form site t v e
 
-  form_said : (m : Meaning) (form : WrittenValueForm) (site : Site) (t : AbstractType) (v : AbstractValue) → read_form m t site form ≡ Ok v → FormSays m t form v
+  form_said : (m : Meaning) (form : WrittenValueForm) (site : Site) (t : AbstractType) (v : AbstractValue) → read_form m true t site form ≡ Ok v → FormSays m t form v
   form_said m (written.boolean b) site t v e = answered_ok (WrongNotation site) (boolean_value (kind_of t) b) v e
   form_said m written.null site t v e = answered_ok (WrongNotation site) (null_value (kind_of t)) v e
   form_said m (written.integer n) site t v e = integer_said site (kind_of t) n v e
   form_said m (written.text k spelling) site t v e = answered_ok (string_fault site (kind_of t) k) (text_value (kind_of t) k spelling) v e
   form_said m (written.reference name) site t v e = named_said site t (own_number (kind_of t) name) (m name) v e
-  form_said m (written.chosen name tree) site t v e = chosen_said site (kind_of t) name (λ u. read m u tree) (λ u w. Says m u tree w) v (λ u w f. read_said m tree u w f) e
+  form_said m (written.chosen name tree) site t v e = chosen_said site (kind_of t) name (λ u. read m true u tree) (λ u w. Says m u tree w) v (λ u w f. read_said m tree u w f) e
   form_said m (written.list es) site t v e =
       braces_said m es (λ short u ws f. elements_said m es short u ws f) (λ ordered cs after f. entries_said m es ordered cs 0 (all_absent cs) after (has_absent cs) f) (kind_of t) site v e
   form_said m (written.arcs arcs) site t v e = arcs_said site (kind_of t) arcs v e
 
-  pub elements_said : (m : Meaning) (es : WrittenEntries) (short : Bool) (t : AbstractType) (ws : List AbstractValue) → read_elements m short t es ≡ Ok ws → EntriesSay m t es ws × (short ≡ true → are_short t ws ≡ true)
+  pub elements_said : (m : Meaning) (es : WrittenEntries) (short : Bool) (t : AbstractType) (ws : List AbstractValue) → read_elements m true short t es ≡ Ok ws → EntriesSay m t es ws × (short ≡ true → are_short t ws ≡ true)
   elements_said m no_entries short t ws e = (sym (same_Ok [] ws e), λ _. ap (are_short t) (sym (same_Ok [] ws e)))
   elements_said m (entry site None tree rest) short t ws e =
-      let b = bind_ok (element_at short t site None (site_of tree) (read m t tree)) (λ v. read_elements m short t rest >>= λ more. Ok (v ∷ more)) ws e in
-      let c = made_ok (read_elements m short t rest) (λ more. b.0 ∷ more) ws b.2 in
-      let first = element_ok short t site (site_of tree) (read m t tree) b.0 b.1 in
+      let b = bind_ok (element_at short t site None (site_of tree) (read m true t tree)) (λ v. read_elements m true short t rest >>= λ more. Ok (v ∷ more)) ws e in
+      let c = made_ok (read_elements m true short t rest) (λ more. b.0 ∷ more) ws b.2 in
+      let first = element_ok short t site (site_of tree) (read m true t tree) b.0 b.1 in
       let others = elements_said m rest short t c.0 c.1 in
       ((b.0, c.0, read_said m tree t b.0 first.0, others.0, sym c.2), λ s. ap (are_short t) (sym c.2) ∙ and_from (is_short (der t b.0)) (are_short t c.0) (first.1 s) (others.1 s))
   elements_said m (entry site (Some name) tree rest) short t ws e = absurd cc
 
   pub entries_said : (m : Meaning) (es : WrittenEntries) (ordered : Bool) (cs : Components) (next : ℕ) (before after : Fields) → HasFields cs before
-      → read_entries m ordered cs next before es ≡ Ok after → EntriesSaid m ordered cs next before after es
+      → read_entries m true ordered cs next before es ≡ Ok after → EntriesSaid m ordered cs next before after es
   entries_said m no_entries ordered cs next before after shape e =
       let same : before ≡ after = same_Ok before after e in
       record {
@@ -346,10 +346,10 @@ mutual
         shape = subst (HasFields cs) same shape;
       }
   entries_said m (entry site name tree rest) ordered cs next before after shape e =
-      let b = bind_ok (entry_at ordered cs next before site name (λ u. read m u tree)) (λ x. read_entries m ordered cs (suc x.0) (fill x.0 x.1 before) rest) after e in
+      let b = bind_ok (entry_at ordered cs next before site name (λ u. read m true u tree)) (λ x. read_entries m true ordered cs (suc x.0) (fill x.0 x.1 before) rest) after e in
       let x = b.0 in
-      let o = entry_ok ordered cs next before site name (λ u. read m u tree) x b.1 in
+      let o = entry_ok ordered cs next before site name (λ u. read m true u tree) x b.1 in
       let l = o.0 in
-      let P : ℕ → Type 0 = (λ n. read_entries m ordered cs (suc n) (fill n x.1 before) rest ≡ Ok after) in
+      let P : ℕ → Type 0 = (λ n. read_entries m true ordered cs (suc n) (fill n x.1 before) rest ≡ Ok after) in
       with_entry m ordered cs next before site name tree rest l.place l.ty x.1 o.1 o.2 o.3 o.4 (read_said m tree l.ty x.1 o.5) shape after
       (entries_said m rest ordered cs (suc l.place) (fill l.place x.1 before) after (has_filled cs l.place x.1 before shape) (subst P (sym o.6) b.2))

@@ -45,13 +45,13 @@ value_view_is v = fold_out-ValueTree WrittenValueForm WrittenEntry WrittenValue 
 pub form_list : (es : Vec EntryTree) → value_form_view (variant.List es) ≡ written.list (entries_of (map entry_view es.items))
 form_list es = ap value_form_view (sym (rolls-List es)) ∙ fold-roll-ValueForm WrittenValueForm WrittenEntry WrittenValue value_form_step entry_step value_step (ValueForm-F.List es)
 
-pub list_is : (m : Meaning) (ty : Ty) (site : Site) (form : ValueForm) (es : Vec EntryTree) → form ≡ variant.List es
-    → read_form m (type_view ty) site (value_form_view form) ≡ read_list m site (kind_view (out-Ty ty).kind) (entries_of (map entry_view es.items))
+pub list_is : (m : Meaning) (sorted : Bool) (ty : Ty) (site : Site) (form : ValueForm) (es : Vec EntryTree) → form ≡ variant.List es
+    → read_form m sorted (type_view ty) site (value_form_view form) ≡ read_list m sorted site (kind_view (out-Ty ty).kind) (entries_of (map entry_view es.items))
 unfolding read
-list_is m ty site form es is =
-    ap (λ (f : ValueForm). read_form m (type_view ty) site (value_form_view f)) is
-    ∙ ap (read_form m (type_view ty) site) (form_list es)
-    ∙ ap (λ (t : AbstractType). read_list m site (kind_of t) (entries_of (map entry_view es.items))) (type_view_is ty)
+list_is m sorted ty site form es is =
+    ap (λ (f : ValueForm). read_form m sorted (type_view ty) site (value_form_view f)) is
+    ∙ ap (read_form m sorted (type_view ty) site) (form_list es)
+    ∙ ap (λ (t : AbstractType). read_list m sorted site (kind_of t) (entries_of (map entry_view es.items))) (type_view_is ty)
 
 -- ---- an entry by itself
 
@@ -63,17 +63,17 @@ plain : (t : AbstractType) (site place : Site) (name : Option (List ℕ)) (value
 plain t site place name (Ok v) e = rw e refl
 plain t site place name (Err f) e = rw e refl
 
-pub plain_element : (m : Meaning) (t : AbstractType) (e : EntryTree) → is_some (out-EntryTree e).name ≡ false
-    → element_at false t (entry_view e).site (entry_view e).name (site_of (entry_view e).value) (read m t (entry_view e).value) ≡ read m t (value_view (out-EntryTree e).value)
-plain_element m t e none =
-    ap (λ (w : WrittenEntry). element_at false t w.site w.name (site_of w.value) (read m t w.value)) (entry_view_is e)
-    ∙ plain t (out-EntryTree e).site (site_of (value_view (out-EntryTree e).value)) (name_view (out-EntryTree e).name) (read m t (value_view (out-EntryTree e).value)) (no_name (out-EntryTree e).name none)
+pub plain_element : (m : Meaning) (sorted : Bool) (t : AbstractType) (e : EntryTree) → is_some (out-EntryTree e).name ≡ false
+    → element_at false t (entry_view e).site (entry_view e).name (site_of (entry_view e).value) (read m sorted t (entry_view e).value) ≡ read m sorted t (value_view (out-EntryTree e).value)
+plain_element m sorted t e none =
+    ap (λ (w : WrittenEntry). element_at false t w.site w.name (site_of w.value) (read m sorted t w.value)) (entry_view_is e)
+    ∙ plain t (out-EntryTree e).site (site_of (value_view (out-EntryTree e).value)) (name_view (out-EntryTree e).name) (read m sorted t (value_view (out-EntryTree e).value)) (no_name (out-EntryTree e).name none)
 
-pub entry_found : (m : Meaning) (ordered : Bool) (cs : Components) (next : ℕ) (fs : Fields) (e : EntryTree) (l : Located) (v : AbstractValue)
-    → place_at ordered cs next fs (out-EntryTree e).site (name_view (out-EntryTree e).name) ≡ Ok l → read m l.ty (value_view (out-EntryTree e).value) ≡ Ok v
-    → entry_at ordered cs next fs (entry_view e).site (entry_view e).name (λ u. read m u (entry_view e).value) ≡ Ok (l.place, v)
-entry_found m ordered cs next fs e l v h k =
-    ap (λ (w : WrittenEntry). entry_at ordered cs next fs w.site w.name (λ u. read m u w.value)) (entry_view_is e) ∙ (rw (h, k) refl)
+pub entry_found : (m : Meaning) (sorted : Bool) (ordered : Bool) (cs : Components) (next : ℕ) (fs : Fields) (e : EntryTree) (l : Located) (v : AbstractValue)
+    → place_at ordered cs next fs (out-EntryTree e).site (name_view (out-EntryTree e).name) ≡ Ok l → read m sorted l.ty (value_view (out-EntryTree e).value) ≡ Ok v
+    → entry_at ordered cs next fs (entry_view e).site (entry_view e).name (λ u. read m sorted u (entry_view e).value) ≡ Ok (l.place, v)
+entry_found m sorted ordered cs next fs e l v h k =
+    ap (λ (w : WrittenEntry). entry_at ordered cs next fs w.site w.name (λ u. read m sorted u w.value)) (entry_view_is e) ∙ (rw (h, k) refl)
 
 -- ---- those from a place on
 
@@ -102,17 +102,17 @@ regroup : (front : List AbstractValue) (v : AbstractValue) (others : Read (List 
 regroup front v (Ok more) = ap (λ (vs : List AbstractValue). Ok vs) (sym (append_assoc front (v ∷ []) more))
 regroup front v (Err f) = refl
 
-module _ (m : Meaning) (short : Bool) (t : AbstractType) (entries : List EntryTree) where
+module _ (m : Meaning) (sorted : Bool) (short : Bool) (t : AbstractType) (entries : List EntryTree) where
   -- what is read of those from a place on
   abbrev pub behind : ℕ → Read (List AbstractValue)
-  behind i = read_elements m short t (left entries i)
+  behind i = read_elements m sorted short t (left entries i)
 
   abbrev pub one : EntryTree → Read AbstractValue
-  one e = element_at short t (entry_view e).site (entry_view e).name (site_of (entry_view e).value) (read m t (entry_view e).value)
+  one e = element_at short t (entry_view e).site (entry_view e).name (site_of (entry_view e).value) (read m sorted t (entry_view e).value)
 
   pub behind_is : (i : ℕ) (e : EntryTree) → i < length entries → e ≡ get_or entries i e → behind i ≡ (one e >>= λ v. behind (i + 1) >>= λ more. Ok (v ∷ more))
   unfolding read
-  behind_is i e lt is = ap (read_elements m short t) (left_is entries i e lt is)
+  behind_is i e lt is = ap (read_elements m sorted short t) (left_is entries i e lt is)
 
   pub elements_on : (i : ℕ) (e : EntryTree) (front : List AbstractValue) (v : AbstractValue) (total : Read (List AbstractValue)) → i < length entries → e ≡ get_or entries i e → one e ≡ Ok v
       → with_front front (behind i) ≡ total → with_front (front ++ v ∷ []) (behind (i + 1)) ≡ total
@@ -132,20 +132,20 @@ module _ (m : Meaning) (short : Bool) (t : AbstractType) (entries : List EntryTr
   pub elements_done : (i : ℕ) (front : List AbstractValue) (total : Read (List AbstractValue)) → length entries ≤ i → with_front front (behind i) ≡ total → total ≡ Ok front
   unfolding read
   elements_done i front total le so_far =
-      sym so_far ∙ ap (λ (es : WrittenEntries). with_front front (read_elements m short t es)) (none_left entries i le) ∙ ap (λ (vs : List AbstractValue). Ok vs) (append-nil front)
+      sym so_far ∙ ap (λ (es : WrittenEntries). with_front front (read_elements m sorted short t es)) (none_left entries i le) ∙ ap (λ (vs : List AbstractValue). Ok vs) (append-nil front)
 
 -- ---- entries for components
 
-module _ (m : Meaning) (ordered : Bool) (cs : Components) (entries : List EntryTree) where
+module _ (m : Meaning) (sorted : Bool) (ordered : Bool) (cs : Components) (entries : List EntryTree) where
   abbrev pub from : ℕ → Fields → ℕ → Read Fields
-  from next fs i = read_entries m ordered cs next fs (left entries i)
+  from next fs i = read_entries m sorted ordered cs next fs (left entries i)
 
   abbrev pub at : ℕ → Fields → EntryTree → Read (ℕ × AbstractValue)
-  at next fs e = entry_at ordered cs next fs (entry_view e).site (entry_view e).name (λ u. read m u (entry_view e).value)
+  at next fs e = entry_at ordered cs next fs (entry_view e).site (entry_view e).name (λ u. read m sorted u (entry_view e).value)
 
   pub from_is : (next : ℕ) (fs : Fields) (i : ℕ) (e : EntryTree) → i < length entries → e ≡ get_or entries i e → from next fs i ≡ (at next fs e >>= λ x. from (suc x.0) (fill x.0 x.1 fs) (i + 1))
   unfolding read
-  from_is next fs i e lt is = ap (read_entries m ordered cs next fs) (left_is entries i e lt is)
+  from_is next fs i e lt is = ap (read_entries m sorted ordered cs next fs) (left_is entries i e lt is)
 
   pub entries_on : (next : ℕ) (fs : Fields) (i : ℕ) (e : EntryTree) (x : ℕ × AbstractValue) (total : Read Fields) → i < length entries → e ≡ get_or entries i e → at next fs e ≡ Ok x
       → from next fs i ≡ total → from (suc x.0) (fill x.0 x.1 fs) (i + 1) ≡ total
@@ -160,7 +160,7 @@ module _ (m : Meaning) (ordered : Bool) (cs : Components) (entries : List EntryT
 
   pub entries_done : (next : ℕ) (fs : Fields) (i : ℕ) (total : Read Fields) → length entries ≤ i → from next fs i ≡ total → total ≡ Ok fs
   unfolding read
-  entries_done next fs i total le so_far = sym so_far ∙ ap (read_entries m ordered cs next fs) (none_left entries i le)
+  entries_done next fs i total le so_far = sym so_far ∙ ap (read_entries m sorted ordered cs next fs) (none_left entries i le)
 
   pub entries_put : (next : ℕ) (fields after : List (Option Value)) (i : ℕ) (e : EntryTree) (place : ℕ) (v : Value) (total : Read Fields) → i < length entries → e ≡ get_or entries i e
       → at next (fields_view fields) e ≡ Ok (place, guard.value_view v) → place < length fields → after ≡ set fields place (Some v) → from next (fields_view fields) i ≡ total → from (place + 1) (fields_view after) (i + 1) ≡ total

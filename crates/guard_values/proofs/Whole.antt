@@ -18,26 +18,30 @@ use Rattle.guard_values.specs.declared.fault.ValueFault.{ValueFault}
 use Rattle.guard_values.specs.Meanings.{Meaning, AreFitting}
 use Rattle.guard_values.specs.Denotes.{Denotes}
 use Rattle.guard_values.specs.Faults.{Stands}
-use Rattle.guard_values.specs.Reading.{Read, element_at, site_of, read, read_whole}
+use Rattle.guard_values.specs.FirstFault.{IsFirstFault}
+use Rattle.guard_values.specs.Reading.{Read, element_at, site_of, read, read_sorted, read_whole}
 use Rattle.guard_values.specs.Views.{named}
 use Rattle.guard_values.proofs.Said.{read_said}
 use Rattle.guard_values.proofs.FitsSaid.{says_fits}
-use Rattle.guard_values.proofs.Standing.{whole_stands, whole_denotes, whole_denotes_none}
+use Rattle.guard_values.proofs.Standing.{whole_first, whole_stands, sorted_ok, whole_denotes, whole_denotes_none}
 
 pub sound_proper : (t : AbstractType) → is_sound t ≡ true → is_proper t ≡ true
 sound_proper t sound = (and_parts (is_proper t) (none_clash (first_clash t)) (and_parts (is_proper t && none_clash (first_clash t)) (nat_le (nesting t) 32) sound).0).0
 
 -- ---- what is read fits
 
-pub read_fits : (m : Meaning) → AreFitting m → (tree : WrittenValue) (t : AbstractType) (v : AbstractValue) → is_proper t ≡ true → read m t tree ≡ Ok v → fits t v ≡ true
+pub read_fits : (m : Meaning) → AreFitting m → (tree : WrittenValue) (t : AbstractType) (v : AbstractValue) → is_proper t ≡ true → read m true t tree ≡ Ok v → fits t v ≡ true
 read_fits m fit tree t v proper e = says_fits m fit tree t v proper (read_said m tree t v e)
 
 element_read : (t : AbstractType) (site place : Site) (name : Option (List ℕ)) (value_read : Read AbstractValue) (v : AbstractValue) → element_at false t site name place value_read ≡ Ok v → value_read ≡ Ok v
 element_read t site place (Some name) value_read v e = absurd cc
 element_read t site place None value_read v e = let b = bind_ok value_read (λ w. Ok w) v e in b.1 ∙ b.2
 
-pub element_fits : (m : Meaning) → AreFitting m → (t : AbstractType) (e : WrittenEntry) (v : AbstractValue) → is_proper t ≡ true → element_at false t e.site e.name (site_of e.value) (read m t e.value) ≡ Ok v → fits t v ≡ true
-element_fits m fit t e v proper h = read_fits m fit e.value t v proper (element_read t e.site (site_of e.value) e.name (read m t e.value) v h)
+pub element_fits : (m : Meaning) → AreFitting m → (t : AbstractType) (e : WrittenEntry) (v : AbstractValue) → is_proper t ≡ true → element_at false t e.site e.name (site_of e.value) (read m true t e.value) ≡ Ok v → fits t v ≡ true
+element_fits m fit t e v proper h = read_fits m fit e.value t v proper (element_read t e.site (site_of e.value) e.name (read m true t e.value) v h)
+
+pub sorted_fits : (m : Meaning) → AreFitting m → (tree : WrittenValue) (t : AbstractType) (v : AbstractValue) → is_proper t ≡ true → read_sorted m t tree ≡ Ok v → fits t v ≡ true
+sorted_fits m fit tree t v proper e = read_fits m fit tree t v proper (sorted_ok m tree t v e)
 
 -- ---- what a call answers
 
@@ -65,3 +69,11 @@ module _ (m : Meaning) (t : AbstractType) (tree : WrittenValue) where
   pub gives_none : (answer : Result Value ValueFault) → Gives value_view named answer (read_whole m t tree) → IfErr answer (λ e. IfSome (named e) (λ f. (v : AbstractValue) → Denotes m t tree v → ⊥))
   gives_none (Ok v) h = tt
   gives_none (Err e) h = faults_denote_none (named e) h
+
+  first_faults : (f : Option ValueFault) → Refuses f (read_whole m t tree) → IfSome f (IsFirstFault m t tree)
+  first_faults None h = tt
+  first_faults (Some f) h = whole_first m tree t f h
+
+  pub gives_first : (answer : Result Value ValueFault) → Gives value_view named answer (read_whole m t tree) → IfErr answer (λ e. IfSome (named e) (IsFirstFault m t tree))
+  gives_first (Ok v) h = tt
+  gives_first (Err e) h = first_faults (named e) h

@@ -1,5 +1,5 @@
 -- Why a written value denotes nothing: for each fault, the condition that stands at its site.
-use Rattle.std.specs.Prelude.{◌≡◌, ℕ, suc, ℤ, Bool, true, false, ◌&&◌, ◌||◌, not, List, [], ◌∷◌, nat_lt, Option, Some, None, IsTrue, ◌⊎◌}
+use Rattle.std.specs.Prelude.{◌≡◌, ℕ, suc, ℤ, Bool, true, false, ◌&&◌, ◌||◌, not, List, [], ◌∷◌, nat_lt, nat_le, Option, Some, None, IsTrue, ◌⊎◌}
 use Rattle.std.specs.Option.{option_map}
 use Rattle.guard_model.specs.declared.site.Site.{Site}
 use Rattle.guard_model.specs.AbstractType as type
@@ -16,7 +16,7 @@ use Rattle.guard_values.specs.ObjectIdentifiers.{arc_numbers, too_large_arc, are
 use Rattle.guard_values.specs.Meanings.{Governed, Meaning, own_number, kind_of}
 use Rattle.guard_values.specs.Simple.{integer_value, text_value, numbered_value, visible_value}
 use Rattle.guard_values.specs.Places.{located, entry_place, entry_places, is_among}
-use Rattle.guard_values.specs.Denotes.{alternatives_of, are_few, Says, EntriesSay}
+use Rattle.guard_values.specs.Denotes.{alternatives_of, Says}
 
 -- ---- the values inside a value, each with its governor
 
@@ -124,7 +124,7 @@ HasUnknownEntry cs (entry site (Some name) tree rest) s = ((s ≡ site) × (loca
 -- V2, at the name: it is neither in the type's own list nor visible, or no alternative, or no component
 abbrev pub IsUnknownName : Meaning → Site → AbstractType → WrittenValue → Type 0
 IsUnknownName m s t (value_node site (written.reference name)) = (s ≡ site) × (own_number (kind_of t) name ≡ None) × (m name ≡ None)
-IsUnknownName m s t (value_node site (written.chosen name tree)) = (s ≡ site) × (located name (alternatives_of (kind_of t)) ≡ None)
+IsUnknownName m s t (value_node site (written.chosen name tree)) = (s ≡ site) × ((cs : Components) × (kind_of t ≡ type.choice cs) × (located name cs ≡ None))
 IsUnknownName m s t (value_node site (written.list es)) = (cs : Components) × (has_components (kind_of t) ≡ Some cs) × HasUnknownEntry cs es s
 IsUnknownName m s t _ = ⊥
 
@@ -200,22 +200,34 @@ abbrev pub is_integer : AbstractKind → Bool
 is_integer (type.integer ns) = true
 is_integer _ = false
 
+abbrev pub entry_count : WrittenEntries → ℕ
+entry_count no_entries = 0
+entry_count (entry site name tree rest) = suc (entry_count rest)
+
+-- this profile's limit on the elements of an OF type
+abbrev pub are_few_entries : WrittenEntries → Bool
+are_few_entries es = nat_le (entry_count es) 4294967295
+
 abbrev pub IsLargeNumber : Meaning → Site → AbstractType → WrittenValue → Type 0
 IsLargeNumber m s t (value_node site (written.integer n)) = (s ≡ n.site) × IsTrue (is_integer (kind_of t)) × (integer_value (kind_of t) n ≡ None)
 IsLargeNumber m s t (value_node site (written.reference name)) =
     (s ≡ site) × ((z : ℤ) × (own_number (kind_of t) name ≡ Some z) × (numbered_value (kind_of t) z ≡ None))
 IsLargeNumber m s t (value_node site (written.arcs arcs)) = (kind_of t ≡ type.object_identifier) × (too_large_arc arcs ≡ Some s)
 IsLargeNumber m s t (value_node site (written.list es)) =
-    (s ≡ site) × ((u : AbstractType) × (ws : List AbstractValue) × (entry_type (kind_of t) None ≡ Some u) × EntriesSay m u es ws × (are_few ws ≡ false))
+    (s ≡ site) × ((u : AbstractType) × (entry_type (kind_of t) None ≡ Some u) × (are_few_entries es ≡ false))
 IsLargeNumber m s t _ = ⊥
 
 -- what it says has an encoding of more than 1,048,576 octets, or none
-abbrev pub HasLongEncoding : Meaning → Site → AbstractType → WrittenValue → Type 0
-HasLongEncoding m s t (value_node site form) = (s ≡ site) × ((v : AbstractValue) × Says m t (value_node site form) v × (is_short (der t v) ≡ false))
+abbrev pub HasLongEncoding : Meaning → AbstractType → WrittenValue → Type 0
+HasLongEncoding m t tree = (v : AbstractValue) × Says m t tree v × (is_short (der t v) ≡ false)
+
+-- so has the value, or one inside it
+abbrev pub IsTooLong : Meaning → Site → AbstractType → WrittenValue → Type 0
+IsTooLong m s t (value_node site form) = (s ≡ site) × Somewhere (HasLongEncoding m) t (value_node site form)
 
 -- V8, at the number, the arc or the value: outside this profile's limits
 abbrev pub IsTooLarge : Meaning → Site → AbstractType → WrittenValue → Type 0
-IsTooLarge m s t tree = IsLargeNumber m s t tree ⊎ HasLongEncoding m s t tree
+IsTooLarge m s t tree = IsLargeNumber m s t tree ⊎ IsTooLong m s t tree
 
 -- ---- all faults
 

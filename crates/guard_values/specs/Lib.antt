@@ -10,6 +10,7 @@ pub mod Arrangement
 -- ---- which value a tree denotes, and why one denotes none
 pub mod Denotes
 pub mod Faults
+pub mod FirstFault
 -- ---- what private contracts cite
 pub mod Visible
 pub mod Views

@@ -128,13 +128,18 @@ listed site vs = few site vs >>= λ ws. Ok (value.items (items_of ws))
 abbrev pub listed_set : Site → AbstractType → List AbstractValue → Read AbstractValue
 listed_set site t vs = few site vs >>= λ ws. Ok (value.items (items_of (arranged t ws)))
 
-abbrev pub read_braces : Site → AbstractKind → WrittenEntries → (Bool → Components → Read Fields) → (Bool → AbstractType → Read (List AbstractValue)) → Read AbstractValue
-read_braces site (type.sequence cs) es entries elements = read_fields site cs (entries true cs)
-read_braces site (type.set cs) es entries elements = read_fields site cs (entries false cs)
-read_braces site (type.sequence_of t) es entries elements = elements false t >>= λ vs. listed site vs
-read_braces site (type.set_of t) es entries elements = elements true t >>= λ vs. listed_set site t vs
-read_braces site type.object_identifier es entries elements = if are_too_few_arcs es then Err (BadObjectId site) else Err (WrongNotation site)
-read_braces site _ es entries elements = Err (WrongNotation site)
+-- sorted: by their encodings, of which each is limited; or as they are written
+abbrev pub read_set_of : Bool → Site → AbstractType → (Bool → AbstractType → Read (List AbstractValue)) → Read AbstractValue
+read_set_of true site t elements = elements true t >>= λ vs. listed_set site t vs
+read_set_of false site t elements = elements false t >>= λ vs. listed site vs
+
+abbrev pub read_braces : Bool → Site → AbstractKind → WrittenEntries → (Bool → Components → Read Fields) → (Bool → AbstractType → Read (List AbstractValue)) → Read AbstractValue
+read_braces sorted site (type.sequence cs) es entries elements = read_fields site cs (entries true cs)
+read_braces sorted site (type.set cs) es entries elements = read_fields site cs (entries false cs)
+read_braces sorted site (type.sequence_of t) es entries elements = elements false t >>= λ vs. listed site vs
+read_braces sorted site (type.set_of t) es entries elements = read_set_of sorted site t elements
+read_braces sorted site type.object_identifier es entries elements = if are_too_few_arcs es then Err (BadObjectId site) else Err (WrongNotation site)
+read_braces sorted site _ es entries elements = Err (WrongNotation site)
 
 abbrev pub perhaps_limited : Bool → Site → AbstractType → AbstractValue → Read AbstractValue
 perhaps_limited true site t v = limited site t v
@@ -148,44 +153,57 @@ abbrev pub element_at : Bool → AbstractType → Site → Option (List ℕ) →
 element_at short t site (Some name) place value = Err (WrongNotation site)
 element_at short t site None place value = value >>= λ v. perhaps_limited short place t v
 
+-- With each SET OF sorted, or as it is written.
 unfoldable mutual
-  pub read : Meaning → AbstractType → WrittenValue → Read AbstractValue
-  read m t (value_node site form) = read_form m t site form
+  pub read : Meaning → Bool → AbstractType → WrittenValue → Read AbstractValue
+  read m sorted t (value_node site form) = read_form m sorted t site form
 
-  pub read_form : Meaning → AbstractType → Site → WrittenValueForm → Read AbstractValue
-  read_form m t site (written.boolean b) = answered (WrongNotation site) (boolean_value (kind_of t) b)
-  read_form m t site written.null = answered (WrongNotation site) (null_value (kind_of t))
-  read_form m t site (written.integer n) = read_integer site (kind_of t) n
-  read_form m t site (written.text k spelling) = read_text site (kind_of t) k spelling
-  read_form m t site (written.reference name) = read_reference m t site name
-  read_form m t site (written.chosen name tree) = read_chosen site (kind_of t) name (λ u. read m u tree)
-  read_form m t site (written.list es) =
-      read_braces site (kind_of t) es (λ ordered cs. read_entries m ordered cs 0 (all_absent cs) es) (λ short u. read_elements m short u es)
-  read_form m t site (written.arcs arcs) = read_arcs site (kind_of t) arcs
+  pub read_form : Meaning → Bool → AbstractType → Site → WrittenValueForm → Read AbstractValue
+  read_form m sorted t site (written.boolean b) = answered (WrongNotation site) (boolean_value (kind_of t) b)
+  read_form m sorted t site written.null = answered (WrongNotation site) (null_value (kind_of t))
+  read_form m sorted t site (written.integer n) = read_integer site (kind_of t) n
+  read_form m sorted t site (written.text k spelling) = read_text site (kind_of t) k spelling
+  read_form m sorted t site (written.reference name) = read_reference m t site name
+  read_form m sorted t site (written.chosen name tree) = read_chosen site (kind_of t) name (λ u. read m sorted u tree)
+  read_form m sorted t site (written.list es) =
+      read_braces sorted site (kind_of t) es (λ ordered cs. read_entries m sorted ordered cs 0 (all_absent cs) es) (λ short u. read_elements m sorted short u es)
+  read_form m sorted t site (written.arcs arcs) = read_arcs site (kind_of t) arcs
 
   -- into the fields for the components, from `next` on where they are ordered
-  pub read_entries : Meaning → Bool → Components → ℕ → Fields → WrittenEntries → Read Fields
-  read_entries m ordered cs next fs no_entries = Ok fs
-  read_entries m ordered cs next fs (entry site name tree rest) =
-      entry_at ordered cs next fs site name (λ u. read m u tree) >>= λ x. read_entries m ordered cs (suc x.0) (fill x.0 x.1 fs) rest
+  pub read_entries : Meaning → Bool → Bool → Components → ℕ → Fields → WrittenEntries → Read Fields
+  read_entries m sorted ordered cs next fs no_entries = Ok fs
+  read_entries m sorted ordered cs next fs (entry site name tree rest) =
+      entry_at ordered cs next fs site name (λ u. read m sorted u tree) >>= λ x. read_entries m sorted ordered cs (suc x.0) (fill x.0 x.1 fs) rest
 
-  -- in turn
-  pub read_elements : Meaning → Bool → AbstractType → WrittenEntries → Read (List AbstractValue)
-  read_elements m short t no_entries = Ok []
-  read_elements m short t (entry site name tree rest) =
-      element_at short t site name (site_of tree) (read m t tree) >>= λ v. read_elements m short t rest >>= λ more. Ok (v ∷ more)
+  -- in turn; `short` where each has its limit
+  pub read_elements : Meaning → Bool → Bool → AbstractType → WrittenEntries → Read (List AbstractValue)
+  read_elements m sorted short t no_entries = Ok []
+  read_elements m sorted short t (entry site name tree rest) =
+      element_at short t site name (site_of tree) (read m sorted t tree) >>= λ v. read_elements m sorted short t rest >>= λ more. Ok (v ∷ more)
 
 -- ---- what single calls read
 
-abbrev pub read_items : Meaning → Site → AbstractType → WrittenEntries → Read AbstractValue
-read_items m site t es = read_elements m false t es >>= λ vs. listed site vs
+abbrev pub read_items : Meaning → Bool → Site → AbstractType → WrittenEntries → Read AbstractValue
+read_items m sorted site t es = read_elements m sorted false t es >>= λ vs. listed site vs
 
-abbrev pub read_set_items : Meaning → Site → AbstractType → WrittenEntries → Read AbstractValue
-read_set_items m site t es = read_elements m true t es >>= λ vs. listed_set site t vs
+abbrev pub read_set_items : Meaning → Bool → Site → AbstractType → WrittenEntries → Read AbstractValue
+read_set_items m sorted site t es = read_set_of sorted site t (λ short u. read_elements m sorted short u es)
 
-abbrev pub read_list : Meaning → Site → AbstractKind → WrittenEntries → Read AbstractValue
-read_list m site kind es = read_braces site kind es (λ ordered cs. read_entries m ordered cs 0 (all_absent cs) es) (λ short u. read_elements m short u es)
+abbrev pub read_list : Meaning → Bool → Site → AbstractKind → WrittenEntries → Read AbstractValue
+read_list m sorted site kind es = read_braces sorted site kind es (λ ordered cs. read_entries m sorted ordered cs 0 (all_absent cs) es) (λ short u. read_elements m sorted short u es)
 
--- a whole written value
+-- ---- a whole written value
+
+-- the first fault of what is written, encodings aside; without one the encoding is too long
+abbrev pub read_first_fault : Meaning → AbstractType → WrittenValue → Read AbstractValue
+read_first_fault m t tree = read m false t tree >>= λ v. Err (TooLarge (site_of tree))
+
+abbrev pub sorted_or : Read AbstractValue → Read AbstractValue → Read AbstractValue
+sorted_or (Ok v) other = Ok v
+sorted_or (Err f) other = other
+
+abbrev pub read_sorted : Meaning → AbstractType → WrittenValue → Read AbstractValue
+read_sorted m t tree = sorted_or (read m true t tree) (read_first_fault m t tree)
+
 abbrev pub read_whole : Meaning → AbstractType → WrittenValue → Read AbstractValue
-read_whole m t tree = read m t tree >>= λ v. limited (site_of tree) t v
+read_whole m t tree = read_sorted m t tree >>= λ v. limited (site_of tree) t v

@@ -12,6 +12,8 @@ use Rattle.guard_syntax.specs.Trees as written
 use Rattle.guard_syntax.specs.Trees.{WrittenValue, value_node, no_entries, entry}
 use Rattle.guard_values.specs.Strings.{quoted}
 use Rattle.guard_values.specs.Simple.{text_value}
+use Rattle.guard_values.specs.declared.fault.ValueFault.TheVariants.{WrongNotation, TooLarge}
+use Rattle.guard_values.specs.FirstFault.{fault_of}
 use Rattle.guard_values.specs.Reading.{read, read_whole}
 
 -- one bit for OCTET STRING is filled with zero bits behind it
@@ -50,3 +52,13 @@ ascending : read_whole (λ name. None) set_of_integers (value_node here (written
     ≡ Ok (value.items (value.item (value.integer (pos 1)) (value.item (value.integer (negsuc 0)) value.no_items)))
 unfolding read here number integers set_of_integers fewest signed_octets identifier_octets length_octets element
 ascending = refl
+
+-- a chosen value is no INTEGER, whatever its name
+other_form : fault_of (λ name. None) integers (value_node here (written.chosen (codes "a") (number false (codes "5")))) ≡ Some (WrongNotation here)
+unfolding here number integers
+other_form = refl
+
+-- 2^127 is too large, and it stands before TRUE
+written_first : fault_of (λ name. None) set_of_integers (value_node here (written.list (entry here None (number false (codes "170141183460469231731687303715884105728")) (entry here None (value_node here (written.boolean true)) no_entries)))) ≡ Some (TooLarge here)
+unfolding here number integers set_of_integers
+written_first = refl

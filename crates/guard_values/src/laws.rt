@@ -12,6 +12,8 @@ ghost use Rattle.guard_names.specs.NamesView.{modules_of};
 ghost use Rattle.guard_syntax.specs.Trees.{WrittenEntry, value_node, list, entries_of};
 ghost use Rattle.guard_syntax.specs.Views as trees;
 ghost use Rattle.guard_values.specs.Denotes.{Denotes};
+ghost use Rattle.guard_values.specs.FirstFault.{IsFirstFault};
+ghost use Rattle.guard_values.specs.declared.fault.ValueFault.{ValueFault};
 ghost use Rattle.guard_values.specs.Visible.{visible_definition};
 ghost use Rattle.guard_values.specs.Views.{visible_from, AreKnownFitting};
 
@@ -23,6 +25,11 @@ use guard_syntax::ValueTree;
 /// A tree denotes one value at most.
 pub fn law_one_value(names: &Names, known: &Known, id: Id, ty: &Ty, tree: &ValueTree)
     ensures { (v w : AbstractValue) → Denotes (visible_from names.now known.now id) (type_view ty.now) (trees.value_view tree.now) v → Denotes (visible_from names.now known.now id) (type_view ty.now) (trees.value_view tree.now) w → v ≡ w }
+{}
+
+/// One fault at most is the first.
+pub fn law_one_fault(names: &Names, known: &Known, id: Id, ty: &Ty, tree: &ValueTree)
+    ensures { (f g : ValueFault) → IsFirstFault (visible_from names.now known.now id) (type_view ty.now) (trees.value_view tree.now) f → IsFirstFault (visible_from names.now known.now id) (type_view ty.now) (trees.value_view tree.now) g → f ≡ g }
 {}
 
 /// The elements of a SET OF may be written in any order: the value is the same.

@@ -2,7 +2,7 @@
 //!
 //! | question | code | definition |
 //! |---|---|---|
-//! | Which value does a tree denote, and why none? | `values.rt` (`value`), `fault.rt` | `specs/Denotes.antt`, `specs/Faults.antt` |
+//! | Which value does a tree denote, and why none? | `values.rt` (`value`), `fault.rt` | `specs/Denotes.antt`, `specs/Faults.antt`, `specs/FirstFault.antt` |
 //! | What do visible names mean? | `scope.rt` (`Known`, `Scope`) | `specs/Visible.antt`, `specs/Views.antt` |
 //! | How are trees read by their types? | `written.rt` | `specs/Reading.antt` |
 //! | What do forms without a value inside say? | `simple.rt`, `numbers.rt`, `strings.rt` (`quoted`), `object_identifiers.rt`, `names.rt` | `specs/Simple.antt` |

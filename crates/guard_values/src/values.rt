@@ -11,6 +11,7 @@ ghost use Rattle.guard_names.specs.NamesView.{modules_of};
 ghost use Rattle.guard_syntax.specs.Views as trees;
 ghost use Rattle.guard_values.specs.Denotes.{Denotes};
 ghost use Rattle.guard_values.specs.Faults.{Stands};
+ghost use Rattle.guard_values.specs.FirstFault.{IsFirstFault};
 ghost use Rattle.guard_values.specs.Reading.{read_whole};
 ghost use Rattle.guard_values.specs.Views.{named, visible_from, home_name, AreKnownFitting};
 
@@ -40,6 +41,8 @@ pub fn value(
     // A fault that is named stands, and then nothing is denoted.
     ensures stands { IfErr result (λ e. IfSome (named e) (λ f. Stands (visible_from names.now known.now id) (type_view ty.now) (trees.value_view tree.now) f)) }
     ensures none { IfErr result (λ e. IfSome (named e) (λ f. (v : AbstractValue) → Denotes (visible_from names.now known.now id) (type_view ty.now) (trees.value_view tree.now) v → ⊥)) }
+    // It is the first one.
+    ensures first { IfErr result (λ e. IfSome (named e) (IsFirstFault (visible_from names.now known.now id) (type_view ty.now) (trees.value_view tree.now))) }
     // The same step by step, for what reads values inside: the fault is the first one that is met.
     ensures read { Gives value_view named result (read_whole (visible_from names.now known.now id) (type_view ty.now) (trees.value_view tree.now)) }
 {

@@ -11,7 +11,7 @@ ghost use Rattle.guard_syntax.specs.Views as trees;
 ghost use Rattle.guard_values.specs.Meanings.{AreFitting};
 ghost use Rattle.guard_values.specs.Arrangement.{AreEncodings, encoded_value};
 ghost use Rattle.guard_values.specs.Reading as reading;
-ghost use Rattle.guard_values.specs.Reading.{read_form, read_chosen, read_list, read_items, read_set_items, read_fields, read_entries, read_elements, entry_at, element_at, read_whole};
+ghost use Rattle.guard_values.specs.Reading.{read_form, read_chosen, read_list, read_items, read_set_items, read_fields, read_entries, read_elements, entry_at, element_at, read_whole, read_sorted, read_first_fault};
 ghost use Rattle.guard_values.specs.Views.{named, encoded_view, meaning_of};
 
 use crate::arrangement::Encoded;
@@ -31,20 +31,49 @@ pub fn whole(alloc: Global, scope: Scope, tree: &ValueTree, ty: &Ty) -> Result<V
     requires fitting { AreFitting (meaning_of scope) }
     ensures { Gives value_view named result (read_whole (meaning_of scope.entry) (type_view ty.now) (trees.value_view tree.now)) }
 {
-    let value = read(alloc, scope, tree, ty)?;
+    let value = sorted_value(alloc, scope, tree, ty)?;
     let encoded = encoded(alloc, ty, tree.site, value)?;
     Ok(encoded.value)
 }
 
-/// The value, its own encoding aside.
-#[cycle(values)]
-#[tactic(auto, unfolding(crate::specs::Reading::read))]
-fn read(alloc: Global, scope: Scope, tree: &ValueTree, ty: &Ty) -> Result<Value, ValueFault>
+/// The value, its own encoding aside. What is at fault elsewhere comes before an element of a SET OF whose encoding is too long to sort by.
+fn sorted_value(alloc: Global, scope: Scope, tree: &ValueTree, ty: &Ty) -> Result<Value, ValueFault>
     requires proper { IsTrue (is_proper (type_view ty.now)) }
     requires fitting { AreFitting (meaning_of scope) }
-    ensures { Gives value_view named result (reading.read (meaning_of scope.entry) (type_view ty.now) (trees.value_view tree.now)) }
+    ensures { Gives value_view named result (read_sorted (meaning_of scope.entry) (type_view ty.now) (trees.value_view tree.now)) }
 {
-    form(alloc, scope, &tree.form, tree.site, ty)
+    match read(alloc, scope, true, tree, ty) {
+        Ok(value) => Ok(value),
+        Err(ValueFault::OutOfMemory) => Err(ValueFault::OutOfMemory),
+        Err(_) => first_fault(alloc, scope, tree, ty),
+    }
+}
+
+/// The first fault of what is written, encodings aside; without one the encoding is too long.
+fn first_fault(alloc: Global, scope: Scope, tree: &ValueTree, ty: &Ty) -> Result<Value, ValueFault>
+    requires proper { IsTrue (is_proper (type_view ty.now)) }
+    requires fitting { AreFitting (meaning_of scope) }
+    ensures { Gives value_view named result (read_first_fault (meaning_of scope.entry) (type_view ty.now) (trees.value_view tree.now)) }
+{
+    let _value = read(alloc, scope, false, tree, ty)?;
+    Err(ValueFault::TooLarge(tree.site))
+}
+
+/// The value, its own encoding aside: each SET OF sorted, or as it is written.
+#[cycle(values)]
+#[tactic(auto, unfolding(crate::specs::Reading::read))]
+fn read(
+    alloc: Global,
+    scope: Scope,
+    sorted: bool,
+    tree: &ValueTree,
+    ty: &Ty,
+) -> Result<Value, ValueFault>
+    requires proper { IsTrue (is_proper (type_view ty.now)) }
+    requires fitting { AreFitting (meaning_of scope) }
+    ensures { Gives value_view named result (reading.read (meaning_of scope.entry) sorted (type_view ty.now) (trees.value_view tree.now)) }
+{
+    form(alloc, scope, sorted, &tree.form, tree.site, ty)
 }
 
 #[cycle(values)]
@@ -52,13 +81,14 @@ fn read(alloc: Global, scope: Scope, tree: &ValueTree, ty: &Ty) -> Result<Value,
 fn form(
     alloc: Global,
     scope: Scope,
+    sorted: bool,
     form: &ValueForm,
     site: Site,
     ty: &Ty,
 ) -> Result<Value, ValueFault>
     requires proper { IsTrue (is_proper (type_view ty.now)) }
     requires fitting { AreFitting (meaning_of scope) }
-    ensures { Gives value_view named result (read_form (meaning_of scope.entry) (type_view ty.now) site (trees.value_form_view form.now)) }
+    ensures { Gives value_view named result (read_form (meaning_of scope.entry) sorted (type_view ty.now) site (trees.value_form_view form.now)) }
 {
     match form {
         ValueForm::Boolean(truth) => boolean(&ty.kind, site, *truth),
@@ -66,8 +96,8 @@ fn form(
         ValueForm::Integer(number) => integer(&ty.kind, site, number),
         ValueForm::Text(string, spelling) => text(alloc, &ty.kind, site, *string, spelling),
         ValueForm::Reference(name) => reference(alloc, scope, ty, site, name),
-        ValueForm::Chosen(name, tree) => chosen(alloc, scope, tree, name, site, &ty.kind),
-        ValueForm::List(entries) => braces(alloc, scope, entries, site, &ty.kind),
+        ValueForm::Chosen(name, tree) => chosen(alloc, scope, sorted, tree, name, site, &ty.kind),
+        ValueForm::List(entries) => braces(alloc, scope, sorted, entries, site, &ty.kind),
         ValueForm::Arcs(all) => arcs(alloc, &ty.kind, site, all),
     }
 }
@@ -77,6 +107,7 @@ fn form(
 fn chosen(
     alloc: Global,
     scope: Scope,
+    sorted: bool,
     tree: &ValueTree,
     name: &[u8],
     site: Site,
@@ -84,10 +115,10 @@ fn chosen(
 ) -> Result<Value, ValueFault>
     requires proper { IsTrue (is_proper_kind (kind_view kind.now)) }
     requires fitting { AreFitting (meaning_of scope) }
-    ensures { Gives value_view named result (read_chosen site (kind_view kind.now) name.now (λ u. reading.read (meaning_of scope.entry) u (trees.value_view tree.now))) }
+    ensures { Gives value_view named result (read_chosen site (kind_view kind.now) name.now (λ u. reading.read (meaning_of scope.entry) sorted u (trees.value_view tree.now))) }
 {
     let (place, ty) = alternative(kind, site, name)?;
-    let value = read(alloc, scope, tree, ty)?;
+    let value = read(alloc, scope, sorted, tree, ty)?;
     Ok(Value::Chosen(place, Box::new(alloc, value)?))
 }
 
@@ -96,19 +127,20 @@ fn chosen(
 fn braces(
     alloc: Global,
     scope: Scope,
+    sorted: bool,
     entries: &[EntryTree],
     site: Site,
     kind: &Kind,
 ) -> Result<Value, ValueFault>
     requires proper { IsTrue (is_proper_kind (kind_view kind.now)) }
     requires fitting { AreFitting (meaning_of scope) }
-    ensures { Gives value_view named result (read_list (meaning_of scope.entry) site (kind_view kind.now) (entries_of (map trees.entry_view entries.now))) }
+    ensures { Gives value_view named result (read_list (meaning_of scope.entry) sorted site (kind_view kind.now) (entries_of (map trees.entry_view entries.now))) }
 {
     match kind {
-        Kind::Sequence(comps) => fields(alloc, scope, entries, site, true, comps),
-        Kind::Set(comps) => fields(alloc, scope, entries, site, false, comps),
-        Kind::SequenceOf(ty) => items(alloc, scope, entries, site, ty),
-        Kind::SetOf(ty) => set_items(alloc, scope, entries, site, ty),
+        Kind::Sequence(comps) => fields(alloc, scope, sorted, entries, site, true, comps),
+        Kind::Set(comps) => fields(alloc, scope, sorted, entries, site, false, comps),
+        Kind::SequenceOf(ty) => items(alloc, scope, sorted, entries, site, ty),
+        Kind::SetOf(ty) => set_items(alloc, scope, sorted, entries, site, ty),
         Kind::Oid => Err(object_identifier_fault(site, entries)),
         _ => Err(ValueFault::WrongNotation(site)),
     }
@@ -119,6 +151,7 @@ fn braces(
 fn fields(
     alloc: Global,
     scope: Scope,
+    sorted: bool,
     entries: &[EntryTree],
     site: Site,
     ordered: bool,
@@ -126,9 +159,9 @@ fn fields(
 ) -> Result<Value, ValueFault>
     requires proper { IsTrue (are_proper (components_of (map component_view comps.now))) }
     requires fitting { AreFitting (meaning_of scope) }
-    ensures { Gives value_view named result (read_fields site (components_of (map component_view comps.now)) (read_entries (meaning_of scope.entry) ordered (components_of (map component_view comps.now)) 0 (all_absent (components_of (map component_view comps.now))) (entries_of (map trees.entry_view entries.now)))) }
+    ensures { Gives value_view named result (read_fields site (components_of (map component_view comps.now)) (read_entries (meaning_of scope.entry) sorted ordered (components_of (map component_view comps.now)) 0 (all_absent (components_of (map component_view comps.now))) (entries_of (map trees.entry_view entries.now)))) }
 {
-    let given = entry_fields(alloc, scope, entries, ordered, comps)?;
+    let given = entry_fields(alloc, scope, sorted, entries, ordered, comps)?;
     let fields = completed(alloc, site, comps, given)?;
     Ok(Value::Fields(fields))
 }
@@ -137,6 +170,7 @@ fn fields(
 fn entry_fields(
     alloc: Global,
     scope: Scope,
+    sorted: bool,
     entries: &[EntryTree],
     ordered: bool,
     comps: &[Comp],
@@ -144,12 +178,14 @@ fn entry_fields(
     requires proper { IsTrue (are_proper (components_of (map component_view comps.now))) }
     requires fitting { AreFitting (meaning_of scope) }
     ensures count { IfOk result (λ v. length v.items ≡ length comps.now) }
-    ensures given { Gives (λ v. fields_view v.items) named result (read_entries (meaning_of scope.entry) ordered (components_of (map component_view comps.now)) 0 (all_absent (components_of (map component_view comps.now))) (entries_of (map trees.entry_view entries.now))) }
+    ensures given { Gives (λ v. fields_view v.items) named result (read_entries (meaning_of scope.entry) sorted ordered (components_of (map component_view comps.now)) 0 (all_absent (components_of (map component_view comps.now))) (entries_of (map trees.entry_view entries.now))) }
 {
     let mut fields = absent_fields(alloc, comps)?;
     let mut next = 0;
     for entry in entries {
-        let (place, value) = entry_value(alloc, scope, entry, ordered, comps, next, &fields)?;
+        let (place, value) = entry_value(
+            alloc, scope, sorted, entry, ordered, comps, next, &fields,
+        )?;
         put(&mut fields, place, Some(value));
         next = place + 1;
     }
@@ -161,6 +197,7 @@ fn entry_fields(
 fn entry_value(
     alloc: Global,
     scope: Scope,
+    sorted: bool,
     entry: &EntryTree,
     ordered: bool,
     comps: &[Comp],
@@ -171,10 +208,10 @@ fn entry_value(
     requires fitting { AreFitting (meaning_of scope) }
     requires count { length fields.now ≡ length comps.now }
     ensures within { IfOk result (λ x. x.0 < length comps.now) }
-    ensures given { Gives (λ x. (x.0, value_view x.1)) named result (entry_at ordered (components_of (map component_view comps.now)) next (fields_view fields.now) (trees.entry_view entry.now).site (trees.entry_view entry.now).name (λ u. reading.read (meaning_of scope.entry) u (trees.entry_view entry.now).value)) }
+    ensures given { Gives (λ x. (x.0, value_view x.1)) named result (entry_at ordered (components_of (map component_view comps.now)) next (fields_view fields.now) (trees.entry_view entry.now).site (trees.entry_view entry.now).name (λ u. reading.read (meaning_of scope.entry) sorted u (trees.entry_view entry.now).value)) }
 {
     let (place, ty) = place_of(ordered, comps, next, fields, entry.site, entry.name)?;
-    let value = read(alloc, scope, &entry.value, ty)?;
+    let value = read(alloc, scope, sorted, &entry.value, ty)?;
     Ok((place, value))
 }
 
@@ -183,15 +220,16 @@ fn entry_value(
 fn items(
     alloc: Global,
     scope: Scope,
+    sorted: bool,
     entries: &[EntryTree],
     site: Site,
     ty: &Ty,
 ) -> Result<Value, ValueFault>
     requires proper { IsTrue (is_proper (type_view ty.now)) }
     requires fitting { AreFitting (meaning_of scope) }
-    ensures { Gives value_view named result (read_items (meaning_of scope.entry) site (type_view ty.now) (entries_of (map trees.entry_view entries.now))) }
+    ensures { Gives value_view named result (read_items (meaning_of scope.entry) sorted site (type_view ty.now) (entries_of (map trees.entry_view entries.now))) }
 {
-    let elements = elements(alloc, scope, entries, ty)?;
+    let elements = elements(alloc, scope, sorted, entries, ty)?;
     listed(site, elements)
 }
 
@@ -199,16 +237,17 @@ fn items(
 fn elements(
     alloc: Global,
     scope: Scope,
+    sorted: bool,
     entries: &[EntryTree],
     ty: &Ty,
 ) -> Result<Vec<Value>, ValueFault>
     requires proper { IsTrue (is_proper (type_view ty.now)) }
     requires fitting { AreFitting (meaning_of scope) }
-    ensures { Gives (λ v. map value_view v.items) named result (read_elements (meaning_of scope.entry) false (type_view ty.now) (entries_of (map trees.entry_view entries.now))) }
+    ensures { Gives (λ v. map value_view v.items) named result (read_elements (meaning_of scope.entry) sorted false (type_view ty.now) (entries_of (map trees.entry_view entries.now))) }
 {
     let mut elements = Vec::with_capacity(alloc, entries.len())?;
     for entry in entries {
-        let value = element(alloc, scope, entry, ty)?;
+        let value = element(alloc, scope, sorted, entry, ty)?;
         elements.push(value)?;
     }
     Ok(elements)
@@ -219,14 +258,18 @@ fn elements(
 fn set_items(
     alloc: Global,
     scope: Scope,
+    sorted: bool,
     entries: &[EntryTree],
     site: Site,
     ty: &Ty,
 ) -> Result<Value, ValueFault>
     requires proper { IsTrue (is_proper (type_view ty.now)) }
     requires fitting { AreFitting (meaning_of scope) }
-    ensures { Gives value_view named result (read_set_items (meaning_of scope.entry) site (type_view ty.now) (entries_of (map trees.entry_view entries.now))) }
+    ensures { Gives value_view named result (read_set_items (meaning_of scope.entry) sorted site (type_view ty.now) (entries_of (map trees.entry_view entries.now))) }
 {
+    if !sorted {
+        return items(alloc, scope, sorted, entries, site, ty);
+    }
     let elements = encoded_elements(alloc, scope, entries, ty)?;
     listed_set(alloc, site, ty, elements)
 }
@@ -241,7 +284,7 @@ fn encoded_elements(
     requires proper { IsTrue (is_proper (type_view ty.now)) }
     requires fitting { AreFitting (meaning_of scope) }
     ensures encodings { IfOk result (λ v. AreEncodings (type_view ty.now) (map encoded_view v.items)) }
-    ensures given { Gives (λ v. map encoded_value (map encoded_view v.items)) named result (read_elements (meaning_of scope.entry) true (type_view ty.now) (entries_of (map trees.entry_view entries.now))) }
+    ensures given { Gives (λ v. map encoded_value (map encoded_view v.items)) named result (read_elements (meaning_of scope.entry) true true (type_view ty.now) (entries_of (map trees.entry_view entries.now))) }
 {
     let mut elements = Vec::with_capacity(alloc, entries.len())?;
     for entry in entries {
@@ -262,21 +305,27 @@ fn encoded_element(
     requires proper { IsTrue (is_proper (type_view ty.now)) }
     requires fitting { AreFitting (meaning_of scope) }
     ensures encoding { IfOk result (λ e. der (type_view ty.now) (value_view e.value) ≡ Some e.octets.items) }
-    ensures given { Gives (λ e. value_view e.value) named result (element_at true (type_view ty.now) (trees.entry_view entry.now).site (trees.entry_view entry.now).name (reading.site_of (trees.entry_view entry.now).value) (reading.read (meaning_of scope.entry) (type_view ty.now) (trees.entry_view entry.now).value)) }
+    ensures given { Gives (λ e. value_view e.value) named result (element_at true (type_view ty.now) (trees.entry_view entry.now).site (trees.entry_view entry.now).name (reading.site_of (trees.entry_view entry.now).value) (reading.read (meaning_of scope.entry) true (type_view ty.now) (trees.entry_view entry.now).value)) }
 {
-    let value = element(alloc, scope, entry, ty)?;
+    let value = element(alloc, scope, true, entry, ty)?;
     encoded(alloc, ty, entry.value.site, value)
 }
 
 /// An entry of an OF type has no name.
 #[cycle(values)]
-fn element(alloc: Global, scope: Scope, entry: &EntryTree, ty: &Ty) -> Result<Value, ValueFault>
+fn element(
+    alloc: Global,
+    scope: Scope,
+    sorted: bool,
+    entry: &EntryTree,
+    ty: &Ty,
+) -> Result<Value, ValueFault>
     requires proper { IsTrue (is_proper (type_view ty.now)) }
     requires fitting { AreFitting (meaning_of scope) }
-    ensures { Gives value_view named result (element_at false (type_view ty.now) (trees.entry_view entry.now).site (trees.entry_view entry.now).name (reading.site_of (trees.entry_view entry.now).value) (reading.read (meaning_of scope.entry) (type_view ty.now) (trees.entry_view entry.now).value)) }
+    ensures { Gives value_view named result (element_at false (type_view ty.now) (trees.entry_view entry.now).site (trees.entry_view entry.now).name (reading.site_of (trees.entry_view entry.now).value) (reading.read (meaning_of scope.entry) sorted (type_view ty.now) (trees.entry_view entry.now).value)) }
 {
     if entry.name.is_some() {
         return Err(ValueFault::WrongNotation(entry.site));
     }
-    read(alloc, scope, &entry.value, ty)
+    read(alloc, scope, sorted, &entry.value, ty)
 }

@@ -13,18 +13,18 @@ use Rattle.guard_values.proofs.written.+values.Given as goal
 abbrev pub invariant-entry_fields-loop-entry : goal.invariant-entry_fields-loop-entry
 invariant-entry_fields-loop-entry l = record {
   count : length l.fields.items ≡ length l.comps;
-  so_far : read_entries (meaning_of l.scope) l.ordered (components_of (map component_view l.comps)) l.next (fields_view l.fields.items) (entries_of (map entry_view (drop l.entry-index l.entries)))
-      ≡ read_entries (meaning_of l.scope) l.ordered (components_of (map component_view l.comps)) 0 (all_absent (components_of (map component_view l.comps))) (entries_of (map entry_view l.entries));
+  so_far : read_entries (meaning_of l.scope) l.sorted l.ordered (components_of (map component_view l.comps)) l.next (fields_view l.fields.items) (entries_of (map entry_view (drop l.entry-index l.entries)))
+      ≡ read_entries (meaning_of l.scope) l.sorted l.ordered (components_of (map component_view l.comps)) 0 (all_absent (components_of (map component_view l.comps))) (entries_of (map entry_view l.entries));
 }
 
 abbrev pub invariant-elements-loop-entry : goal.invariant-elements-loop-entry
 invariant-elements-loop-entry l =
-    with_front (map value_view l.elements.items) (read_elements (meaning_of l.scope) false (type_view l.ty) (entries_of (map entry_view (drop l.entry-index l.entries))))
-    ≡ read_elements (meaning_of l.scope) false (type_view l.ty) (entries_of (map entry_view l.entries))
+    with_front (map value_view l.elements.items) (read_elements (meaning_of l.scope) l.sorted false (type_view l.ty) (entries_of (map entry_view (drop l.entry-index l.entries))))
+    ≡ read_elements (meaning_of l.scope) l.sorted false (type_view l.ty) (entries_of (map entry_view l.entries))
 
 abbrev pub invariant-encoded_elements-loop-entry : goal.invariant-encoded_elements-loop-entry
 invariant-encoded_elements-loop-entry l = record {
   encodings : AreEncodings (type_view l.ty) (map encoded_view l.elements.items);
-  so_far : with_front (map encoded_value (map encoded_view l.elements.items)) (read_elements (meaning_of l.scope) true (type_view l.ty) (entries_of (map entry_view (drop l.entry-index l.entries))))
-      ≡ read_elements (meaning_of l.scope) true (type_view l.ty) (entries_of (map entry_view l.entries));
+  so_far : with_front (map encoded_value (map encoded_view l.elements.items)) (read_elements (meaning_of l.scope) true true (type_view l.ty) (entries_of (map entry_view (drop l.entry-index l.entries))))
+      ≡ read_elements (meaning_of l.scope) true true (type_view l.ty) (entries_of (map entry_view l.entries));
 }

@@ -15,6 +15,7 @@ mod Values
 mod Proper
 mod Answered
 -- ---- steps of the code
+mod Gathering
 mod Refused
 mod Find
 mod Repeats

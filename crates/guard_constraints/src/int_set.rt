@@ -1,10 +1,8 @@
 //! Sets of integers of signed 128 bits.
-ghost use Rattle.std.specs.Prelude.{IsTrue};
-ghost use Rattle.guard_constraints.specs.Ranges.{are_apart};
-
 use crate::ranges::{Range, begins_by, common, gaps, reaches};
 use guard_model::OutOfMemory;
 use std::alloc::Global;
+use std::marker::Model;
 
 /// A set of integers, each of them of signed 128 bits: at least -2^127, at most 2^127-1.
 ///
@@ -12,7 +10,18 @@ use std::alloc::Global;
 #[derive(Drop)]
 pub struct IntSet {
     ranges: Vec<Range>,
-    pub ghost apart: { IsTrue (are_apart ranges.items) },
+}
+
+impl Model for IntSet {
+    ghost use Rattle.std.specs.Prelude.{List, IsTrue};
+    ghost use Rattle.guard_constraints.specs.declared.ranges.Range.{Range};
+    ghost use Rattle.guard_constraints.specs.Ranges.{are_apart};
+
+    ghost Value = { List Range };
+
+    ghost view = { λ set. set.ranges.items };
+
+    ghost invariant = { λ set. IsTrue (are_apart set.ranges.items) };
 }
 
 impl IntSet {

@@ -4,7 +4,7 @@ ghost use Rattle.guard_model.specs.Answer.{Gives};
 ghost use Rattle.guard_model.specs.AbstractType as abstract;
 ghost use Rattle.guard_model.specs.AbstractType.{Constraint};
 ghost use Rattle.guard_model.specs.Each.{each};
-ghost use Rattle.guard_model.specs.TypeView.{type_view, constraint_view, part_view};
+ghost use Rattle.guard_model.specs.TypeView.{type_view, constraint_view, part_view, constraints_of, parts_of};
 ghost use Rattle.guard_der.specs.Sound.{is_sound, is_proper_constraint};
 ghost use Rattle.guard_syntax.specs.Trees as trees;
 ghost use Rattle.guard_syntax.specs.SetViews as views;
@@ -116,10 +116,16 @@ fn union(
         return Ok(first);
     }
     let all = united(alloc, context, others, first, ty)?;
-    Ok(Cons {
+    Ok(any_of(site, all))
+}
+
+fn any_of(site: Site, all: Vec<Cons>) -> Cons
+    ensures { constraint_view result ≡ abstract.at site (abstract.union (constraints_of (map constraint_view all.items))) }
+{
+    Cons {
         site,
         rule: Rule::Any(all),
-    })
+    }
 }
 
 /// The first intersection of a union and those joined to it.
@@ -177,10 +183,16 @@ fn meeting(
         return Ok(first);
     }
     let all = met(alloc, context, others, first, ty)?;
-    Ok(Cons {
+    Ok(all_of(site, all))
+}
+
+fn all_of(site: Site, all: Vec<Cons>) -> Cons
+    ensures { constraint_view result ≡ abstract.at site (abstract.intersection (constraints_of (map constraint_view all.items))) }
+{
+    Cons {
         site,
         rule: Rule::Both(all),
-    })
+    }
 }
 
 /// The first difference of an intersection and those joined to it.
@@ -345,10 +357,16 @@ fn parts(
 {
     check_parts(listed, ty, site)?;
     let parts = each_part(alloc, context, listed, ty)?;
-    Ok(Cons {
+    Ok(with_components(site, partial, parts))
+}
+
+fn with_components(site: Site, partial: bool, parts: Vec<Part>) -> Cons
+    ensures { constraint_view result ≡ abstract.at site (abstract.with_components partial (parts_of (map part_view parts.items))) }
+{
+    Cons {
         site,
         rule: Rule::Parts(partial, parts),
-    })
+    }
 }
 
 #[cycle(sets)]

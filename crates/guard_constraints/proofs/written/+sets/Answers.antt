@@ -1,11 +1,8 @@
-use Rattle.std.proofs.Common.{◌≡◌, ◌+◌, rules, List, map, drop, sym, ap, ◌∙◌, subst}
-use Rattle.std.proofs.lemmas.List.{map_push}
+use Rattle.std.proofs.Common.{◌≡◌, rules, map, refl, sym, ◌∙◌}
 use Rattle.std.proofs.lemmas.Result.{err_from_is_err_and}
-use Rattle.guard_model.specs.AbstractType.{Constraint}
 use Rattle.guard_model.specs.Each.{each}
-use Rattle.guard_model.specs.TypeView.{OnePart, type_view, constraint_view, part_view}
-use Rattle.guard_model.specs.declared.ty.Kind.{the_lemmas}
-use Rattle.guard_model.proofs.Loops.{with_front, stops_at, goes_on, ends_there}
+use Rattle.guard_model.specs.TypeView.{type_view, constraint_view, part_view}
+use Rattle.guard_model.proofs.Loops.{stops_at, ends_there}
 use Rattle.guard_der.specs.ProperConstraints.{kind_of}
 use Rattle.guard_syntax.specs.Trees.{WrittenJoinedIntersection, WrittenJoinedDifference}
 use Rattle.guard_syntax.specs.SetViews as views
@@ -15,6 +12,7 @@ use Rattle.guard_syntax.specs.Trees as written
 use Rattle.guard_syntax.specs.Trees.{united_of}
 use Rattle.guard_constraints.specs.Reading.{read, behind, joined_intersections, joined_differences, read_set, read_set_form, read_intersection, read_difference, read_part}
 use Rattle.guard_constraints.specs.Views.{named, visible_in}
+use Rattle.guard_constraints.proofs.Gathering.{pushes}
 use Rattle.guard_constraints.proofs.Shapes.{intersection_view_is, joined_intersection_is, joined_difference_is}
 use Rattle.guard_constraints.proofs.Joins.{union_steps, union_alone, union_joined, union_refused, meeting_steps, meeting_alone, meeting_joined, meeting_refused, parts_checked, parts_refused, parts_made}
 use Rattle.guard_constraints.proofs.written.+sets.Goals as goal
@@ -42,17 +40,15 @@ union-returns-in_err-all t c =
 pub union-returns : goal.union-returns
 union-returns t c =
     let e = union_joined (visible_in c.args.context) (type_view c.args.ty.now) c.args.site (constraint_view c.args.first) c.args.others.now (map constraint_view c.in_ok-all.all.items) (sym c.is_empty.ensures ∙ c.if-is_empty.false) c.in_ok-all.ensures in
-    rw e (search (rules, the_lemmas))
+    rw (e, c.any_of.ensures) refl
 
 pub united-loop-other-preserved : goal.united-loop-other-preserved
 united-loop-other-preserved t c =
     let step = λ (j : WrittenJoinedIntersection). read_intersection (visible_in c.args.context) (type_view c.args.ty.now) j.joined in
     let total = behind (constraint_view c.args.first) (joined_intersections (visible_in c.args.context) (type_view c.args.ty.now) (map views.joined_intersection_view c.args.others.now)) in
-    let more = goes_on step views.joined_intersection_view (map constraint_view c.loop-other.all.items) c.args.others.now c.loop-other.other-index total c.loop-other.invariant
-    c.other-item.result c.other-item.result c.loop-other-test.true c.other-item.is (constraint_view c.in_ok-intersection.field-0)
-    (rw (joined_intersection_is c.other-item.result) (rw c.deref.ensures at c.in_ok-intersection.ensures)) in
-    let P : List Constraint → Type 0 = (λ f. with_front f (joined_intersections (visible_in c.args.context) (type_view c.args.ty.now) (map views.joined_intersection_view (drop (c.loop-other.other-index + 1) c.args.others.now))) ≡ total) in
-    subst P (sym (ap (map constraint_view) c.in_ok-push-2.ensures.items ∙ map_push constraint_view c.loop-other.all.items c.in_ok-intersection.field-0)) more
+    pushes step views.joined_intersection_view constraint_view c.loop-other.all.items c.args.others.now c.loop-other.other-index total c.loop-other.invariant
+    c.other-item.result c.loop-other-test.true c.other-item.is c.in_ok-intersection.field-0 _ c.in_ok-push-2.ensures.items
+    (rw (joined_intersection_is c.other-item.result) (rw c.deref.ensures at c.in_ok-intersection.ensures))
 
 pub united-returns-in_err-intersection : goal.united-returns-in_err-intersection
 united-returns-in_err-intersection t c =
@@ -91,17 +87,15 @@ meeting-returns-in_err-all t c =
 pub meeting-returns : goal.meeting-returns
 meeting-returns t c =
     let e = meeting_joined (visible_in c.args.context) (type_view c.args.ty.now) c.args.site (constraint_view c.args.first) c.args.others.now (map constraint_view c.in_ok-all.all.items) (sym c.is_empty.ensures ∙ c.if-is_empty.false) c.in_ok-all.ensures in
-    rw e (search (rules, the_lemmas))
+    rw (e, c.all_of.ensures) refl
 
 pub met-loop-other-preserved : goal.met-loop-other-preserved
 met-loop-other-preserved t c =
     let step = λ (j : WrittenJoinedDifference). read_difference (visible_in c.args.context) (type_view c.args.ty.now) j.joined in
     let total = behind (constraint_view c.args.first) (joined_differences (visible_in c.args.context) (type_view c.args.ty.now) (map views.joined_difference_view c.args.others.now)) in
-    let more = goes_on step views.joined_difference_view (map constraint_view c.loop-other.all.items) c.args.others.now c.loop-other.other-index total c.loop-other.invariant
-    c.other-item.result c.other-item.result c.loop-other-test.true c.other-item.is (constraint_view c.in_ok-difference.field-0)
-    (rw (joined_difference_is c.other-item.result) (rw c.deref.ensures at c.in_ok-difference.ensures)) in
-    let P : List Constraint → Type 0 = (λ f. with_front f (joined_differences (visible_in c.args.context) (type_view c.args.ty.now) (map views.joined_difference_view (drop (c.loop-other.other-index + 1) c.args.others.now))) ≡ total) in
-    subst P (sym (ap (map constraint_view) c.in_ok-push-2.ensures.items ∙ map_push constraint_view c.loop-other.all.items c.in_ok-difference.field-0)) more
+    pushes step views.joined_difference_view constraint_view c.loop-other.all.items c.args.others.now c.loop-other.other-index total c.loop-other.invariant
+    c.other-item.result c.loop-other-test.true c.other-item.is c.in_ok-difference.field-0 _ c.in_ok-push-2.ensures.items
+    (rw (joined_difference_is c.other-item.result) (rw c.deref.ensures at c.in_ok-difference.ensures))
 
 pub met-returns-in_err-difference : goal.met-returns-in_err-difference
 met-returns-in_err-difference t c =
@@ -133,16 +127,14 @@ parts-returns-in_err-parts t c =
 pub parts-returns : goal.parts-returns
 parts-returns t c =
     let e = parts_made (visible_in c.args.context) (type_view c.args.ty.now) c.args.site c.args.partial c.args.listed.now (map part_view c.in_ok-parts.parts.items) c.in_ok-check_parts.ensures c.in_ok-parts.ensures in
-    rw e (search (rules, the_lemmas))
+    rw (e, c.with_components.ensures) refl
 
 pub each_part-loop-one-preserved : goal.each_part-loop-one-preserved
 each_part-loop-one-preserved t c =
     let step = read_part (visible_in c.args.context) (kind_of (type_view c.args.ty.now)) in
     let total = each step (map views.part_view c.args.listed.now) in
-    let more = goes_on step views.part_view (map part_view c.loop-one.parts.items) c.args.listed.now c.loop-one.one-index total c.loop-one.invariant
-    c.one-item.result c.one-item.result c.loop-one-test.true c.one-item.is (part_view c.in_ok-part.field-0) c.in_ok-part.ensures in
-    let P : List OnePart → Type 0 = (λ f. with_front f (each step (map views.part_view (drop (c.loop-one.one-index + 1) c.args.listed.now))) ≡ total) in
-    subst P (sym (ap (map part_view) c.in_ok-push.ensures.items ∙ map_push part_view c.loop-one.parts.items c.in_ok-part.field-0)) more
+    pushes step views.part_view part_view c.loop-one.parts.items c.args.listed.now c.loop-one.one-index total c.loop-one.invariant
+    c.one-item.result c.loop-one-test.true c.one-item.is c.in_ok-part.field-0 _ c.in_ok-push.ensures.items c.in_ok-part.ensures
 
 pub each_part-returns-in_err-part : goal.each_part-returns-in_err-part
 each_part-returns-in_err-part t c =

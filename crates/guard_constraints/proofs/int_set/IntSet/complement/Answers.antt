@@ -5,7 +5,7 @@ use Rattle.guard_constraints.proofs.Sets.{complement_has}
 use Rattle.guard_constraints.proofs.int_set.IntSet.complement.Goals as goal
 
 pub invariant_of-result : goal.invariant_of-result
-invariant_of-result c = record { apart = rw c.in_ok-ranges.ensures (rw c.deref.ensures.value (gaps_apart least c.args.self.now.ranges.items c.args.self.now.apart refl)) }
+invariant_of-result c = rw c.in_ok-ranges.ensures (rw c.deref.ensures.value (gaps_apart least c.self.inside.ranges.items c.self.invariant refl))
 
 pub returns : goal.returns
-returns c = λ x. rw c.in_ok-ranges.ensures (rw c.deref.ensures.value (complement_has c.args.self.now.ranges.items x c.args.self.now.apart))
+returns c = λ x. rw (c.in_ok-ranges.ensures, ← c.self.view_is) (rw c.deref.ensures.value (complement_has c.self.inside.ranges.items x c.self.invariant))

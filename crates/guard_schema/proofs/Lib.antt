@@ -21,4 +21,5 @@ pub mod AllDefinitions
 -- ---- the schema
 pub mod ModuleNames
 pub mod ByName
+pub mod Lookups
 pub mod Whole

@@ -29,8 +29,7 @@ use Rattle.guard_schema.specs.Known.{Built, none_known}
 use Rattle.guard_schema.specs.Outcomes.{RefusesBy, Answers, IsDecided}
 use Rattle.guard_schema.specs.Schemas.{AbstractSchema, schema_of, module_named}
 use Rattle.guard_schema.specs.Texts.{ReadsTexts, CountsTexts}
-use Rattle.guard_schema.specs.Entries.{place_named}
-use Rattle.guard_schema.specs.Views.{schema_view, entry_view, built_in, known_view}
+use Rattle.guard_schema.specs.Views.{schema_view, place_in, built_in, known_view}
 use Rattle.guard_schema.proofs.Known.{all_at}
 
 module _ (texts : List (List ℕ)) where
@@ -101,7 +100,7 @@ types_sound ts h None = tt
 types_sound ts h (Some p) = sound_there ts (slice_get ts p) (λ u e. all_at (λ (t : Ty). IsTrue (is_sound (type_view t))) ts p u h e)
 
 pub sound : (result : Result Schema SchemaFault) → IfOk result (λ s. (home name : List ℕ) → IfSome ((schema_view s).types home name) (λ t. IsTrue (is_sound t)))
-sound (Ok s) = λ home name. types_sound s.types.items s.sound (place_named home name (map entry_view s.definitions.items))
+sound (Ok s) = λ home name. types_sound s.types.items s.sound (place_in s.index home name)
 sound (Err e) = tt
 
 -- ---- from the texts to the schema

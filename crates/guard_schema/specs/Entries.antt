@@ -1,5 +1,6 @@
 -- What a schema keeps of definitions, as the code finds types by their names.
 use Rattle.std.specs.Prelude.{ℕ, ◌+◌, ◌&&◌, List, [], ◌∷◌, Option, Some, None, bytes_eq, if◌then◌else◌}
+use Rattle.std.specs.Map.{lookup}
 use Rattle.guard_names.specs.Declarations.{Definition}
 
 -- the two names of a definition, and the place of its type where it assigns one
@@ -17,6 +18,23 @@ entries_from place number (d ∷ ds) = record { home = d.home.name; name = d.ass
 abbrev pub place_named : List ℕ → List ℕ → List Entry → Option ℕ
 place_named home name [] = None
 place_named home name (e ∷ es) = if bytes_eq home e.home && bytes_eq name e.name then e.place else place_named home name es
+
+-- ---- by two names, one after the other
+
+-- what the name leads to, where keys are names
+abbrev pub looked_up : {K X : Type 0} → (K → List ℕ) → List ℕ → List (K × X) → Option X
+looked_up items name entries = lookup (λ key. bytes_eq name (items key)) entries
+
+abbrev pub place_if : List ℕ → List ℕ → Option ℕ → Option (Option ℕ)
+place_if q name place = if bytes_eq q name then Some place else None
+
+abbrev pub entry_if : List ℕ → List ℕ → Entry → Option (Option ℕ)
+entry_if home name e = if bytes_eq home e.home then place_if name e.name e.place else None
+
+-- what the first one with these names has as its place
+abbrev pub first_named : List ℕ → List ℕ → List Entry → Option (Option ℕ)
+first_named home name [] = None
+first_named home name (e ∷ es) = if bytes_eq home e.home && bytes_eq name e.name then Some e.place else first_named home name es
 
 -- the place of a type, where what stands there has no value
 abbrev pub unvalued : {A : Type 0} → ℕ → Option (Option A) → Option ℕ

@@ -13,13 +13,14 @@ use Rattle.guard_schema.specs.declared.progress.Progress.{Progress}
 use Rattle.guard_schema.specs.declared.progress.Definition as code_definition
 use Rattle.guard_schema.specs.declared.schema.Schema.{Schema}
 use Rattle.guard_schema.specs.declared.naming.NamedDefinition.{NamedDefinition}
+use Rattle.guard_schema.specs.declared.index.TypeIndex.{TypeIndex}
 use Rattle.guard_schema.specs.declared.scope.Scope.{Scope}
 use Rattle.guard_schema.specs.declared.finishing.Filling as code_filling
 use Rattle.guard_schema.specs.Known.{Built, Known, visible}
 use Rattle.guard_schema.specs.Pairs.{built_view, paired}
 use Rattle.guard_schema.specs.Finishing.{Filling}
 use Rattle.guard_values.specs.Visible.{placed_definition}
-use Rattle.guard_schema.specs.Entries.{Entry, place_named, unvalued}
+use Rattle.guard_schema.specs.Entries.{Entry, looked_up, unvalued}
 use Rattle.guard_schema.specs.Schemas.{AbstractSchema}
 
 -- ---- what is built
@@ -49,6 +50,13 @@ before_view c = record { site = c.site; size = c.size; constraint = constraint_v
 abbrev pub entry_view : NamedDefinition → Entry
 entry_view n = record { home = n.home.items; name = n.name.items; place = n.place }
 
+-- what an index has under the two names
+abbrev pub found_in : TypeIndex → List ℕ → List ℕ → Option (Option ℕ)
+found_in index home name = option_and_then (λ places. looked_up (λ key. key.items) name places.entries) (looked_up (λ key. key.items) home index.homes.entries)
+
+abbrev pub place_in : TypeIndex → List ℕ → List ℕ → Option ℕ
+place_in index home name = option_and_then (λ place. place) (found_in index home name)
+
 abbrev pub unvalued_at : List (Option Value) → Option ℕ → Option ℕ
 unvalued_at values None = None
 unvalued_at values (Some place) = unvalued place (slice_get values place)
@@ -60,5 +68,5 @@ type_place order values number = unvalued_at values (placed_definition order (So
 abbrev pub schema_view : Schema → AbstractSchema
 schema_view s = record {
   modules = map string_bytes s.modules.items;
-  types = λ home name. option_map type_view (option_and_then (slice_get s.types.items) (place_named home name (map entry_view s.definitions.items)));
+  types = λ home name. option_map type_view (option_and_then (slice_get s.types.items) (place_in s.index home name));
 }

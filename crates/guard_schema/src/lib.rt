@@ -9,6 +9,7 @@
 //! | What does a definition denote, each in turn? | `definitions.rt` | `specs/Building.antt` |
 //! | Which constraints and defaults are filled into a type? | `finishing.rt`, `constraints.rt` | `specs/Finishing.antt` |
 //! | What are a written value and a written constraint? | `readings.rt` | `specs/Readings.antt` |
+//! | By what are types found? | `index.rt` (`TypeIndex`), `naming.rt` | `specs/Entries.antt`, `specs/Views.antt` |
 //! | How much may a schema hold? | `counting.rt` | `specs/Counting.antt` |
 //! | Is there one schema, or one fault? | `laws.rt` | `specs/Accepts.antt` |
 #![tactic(auto)]
@@ -18,6 +19,7 @@ mod counting;
 mod definitions;
 mod fault;
 mod finishing;
+mod index;
 pub mod laws;
 mod names;
 mod naming;

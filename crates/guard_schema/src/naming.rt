@@ -13,6 +13,7 @@ ghost use Rattle.guard_schema.specs.Views.{entry_view, type_place, schema_view, 
 
 use crate::definitions::all_built;
 use crate::fault::SchemaFault;
+use crate::index::TypeIndex;
 use crate::names::name_text;
 use crate::progress::Progress;
 use crate::schema::Schema;
@@ -53,10 +54,11 @@ fn with_names(alloc: Global, modules: &[Module], progress: Progress) -> Result<S
     let Progress { names, known, .. } = progress;
     let Known { types, values } = known;
     let definitions = definitions(alloc, names, &values, modules)?;
+    let index = TypeIndex::of(alloc, &definitions)?;
     let modules = module_names(alloc, modules)?;
     Ok(Schema {
         modules,
-        definitions,
+        index,
         types,
     })
 }
@@ -139,16 +141,4 @@ fn unvalued(values: &[Option<Value>], place: usize) -> Option<usize>
         Some(None) => Some(place),
         _ => None,
     }
-}
-
-/// The place of the type with these names.
-pub fn place_named(home: &[u8], name: &[u8], definitions: &[NamedDefinition]) -> Option<usize>
-    ensures { result ≡ entries.place_named home.now name.now (map entry_view definitions.now) }
-{
-    for definition in definitions {
-        if home == definition.home.as_slice() && name == definition.name.as_slice() {
-            return definition.place;
-        }
-    }
-    None
 }

@@ -5,8 +5,9 @@ ghost use Rattle.guard_der.specs.Sound.{is_sound};
 ghost use Rattle.guard_model.specs.TypeView as model;
 
 use crate::fault::SchemaFault;
+use crate::index::TypeIndex;
 use crate::laws::law_one_schema;
-use crate::naming::{NamedDefinition, place_named, schema_of};
+use crate::naming::schema_of;
 use guard_model::Ty;
 use std::alloc::Global;
 
@@ -15,8 +16,7 @@ use std::alloc::Global;
 #[derive(Drop)]
 pub struct Schema {
     pub(crate) modules: Vec<String>,
-    /// One for each definition, in module and text order.
-    pub(crate) definitions: Vec<NamedDefinition>,
+    pub(crate) index: TypeIndex,
     pub(crate) types: Vec<Ty>,
     pub ghost sound: { All (λ t. IsTrue (is_sound (model.type_view t))) types.items } by { Prim.hlevel props },
 }
@@ -55,7 +55,7 @@ impl Schema {
         ensures named { option_map (λ ty. model.type_view ty.now) result ≡ (schema_view self.now).types module_name.now name.now }
         ensures sound { IfSome result (λ ty. IsTrue (is_sound (model.type_view ty.now))) }
     {
-        let place = place_named(module_name.as_bytes(), name.as_bytes(), &self.definitions)?;
+        let place = self.index.find(module_name.as_bytes(), name.as_bytes())?;
         self.types.get(place)
     }
 

@@ -5,7 +5,8 @@ use Rattle.std.proofs.lemmas.Bool.{ltb-false, le-ltb}
 use Rattle.std.proofs.lemmas.List.{take-append-drop}
 use Rattle.std.proofs.Math.Seq.{take-append_seam, drop-append_seam}
 use Rattle.guard_model.proofs.Tests.{chosen}
-use Rattle.guard_frames.specs.Bodies.{AbstractBody, is_name, name_of_length, name_first, ◌>>=◌, body_in, named, IsBody}
+use Rattle.guard_policy.specs.Names.{is_name}
+use Rattle.guard_frames.specs.Bodies.{AbstractBody, name_of_length, name_first, ◌>>=◌, body_in, named, IsBody}
 
 pub same_Some : {A : Type 0} (x y : A) → ◌≡◌ {A = Option A} (Some x) (Some y) → x ≡ y
 same_Some x y e = cc

@@ -1,8 +1,8 @@
 -- Texts that say a policy say one alone, and then have no fault.
-use Rattle.std.proofs.Common.{◌≡◌, ℕ, List, Option, Some, None, Result, Ok, Err, inl, inr, refl, sym, ap, subst, ◌∙◌}
-use Rattle.std.specs.Prelude.{IfOk, IfErr, IfSome, IsSomeAnd}
+use Rattle.std.proofs.Common.{◌≡◌, ℕ, List, Option, Some, None, Result, Ok, inl, inr, sym, ap, subst, ◌∙◌}
+use Rattle.std.specs.Prelude.{IfSome}
 use Rattle.std.proofs.lemmas.Option.{same_Some}
-use Rattle.guard_model.specs.Answer.{Refuses, Gives}
+use Rattle.guard_model.specs.Answer.{Refuses}
 use Rattle.guard_model.proofs.Results.{same_Ok}
 use Rattle.guard_schema.specs.declared.fault.SchemaFault.{SchemaFault}
 use Rattle.guard_schema.specs.declared.fault.SchemaFault.TheVariants as schema_fault
@@ -12,16 +12,14 @@ use Rattle.guard_schema.specs.Faults as schema
 use Rattle.guard_schema.specs.Schemas.{AbstractSchema}
 use Rattle.guard_policy.specs.declared.fault.PolicyFault.{PolicyFault}
 use Rattle.guard_policy.specs.declared.fault.PolicyFault.TheVariants as policy_fault
-use Rattle.guard_policy.specs.declared.policy.Policy.{Policy}
 use Rattle.guard_policy.specs.Entries.{AbstractTypes}
 use Rattle.guard_policy.specs.EntryFaults.{document_fault}
 use Rattle.guard_policy.specs.Loads as policy_text
 use Rattle.guard_policy.specs.Loads.{Loads}
 use Rattle.guard_policy.specs.Policies.{AbstractPolicy}
 use Rattle.guard_policy.specs.PolicyFaults as policy
-use Rattle.guard_policy.specs.PolicyView.{policy_view}
 use Rattle.guard_frames.specs.ModulesView.{types_of}
-use Rattle.guard_frames.specs.Texts.{SayPolicy, SayNone, named, of_schema, of_policy}
+use Rattle.guard_frames.specs.Texts.{SayNone, named, of_schema, of_policy}
 
 -- ---- faults of the modules
 

@@ -12,7 +12,7 @@ use Rattle.guard_frames.specs.declared.texts.TextsFault.TheVariants.{Schema, Pol
 use Rattle.guard_frames.specs.OfPolicy.{decision_of}
 use Rattle.guard_frames.specs.Runs.{Runs}
 use Rattle.guard_frames.specs.Texts.{SayPolicy, SayNone, named, of_run}
-use Rattle.guard_frames.specs.RunsTexts.{AreUntouched, RunsUnder, RunsTexts}
+use Rattle.guard_frames.specs.RunsTexts.{RunsUnder, RunsTexts}
 
 -- a fault of the source is one of the run
 pub read_failed : (f : RunFault) (X : Type 0) → (IsErrOf {T = Totals} (Err f) run_fault.ReadFailed → X) → IsErrOf {T = Totals} (Err (of_run f)) (Run run_fault.ReadFailed) → X

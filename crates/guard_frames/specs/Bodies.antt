@@ -1,16 +1,7 @@
 -- The body of a frame: the names of the sender, the receiver and the message, each behind one octet of length, and then the message.
-use Rattle.std.specs.Prelude.{◌≡◌, ℕ, Bool, true, ◌&&◌, ◌||◌, List, [], ◌∷◌, ◌++◌, length, take, drop, nat_eq, nat_le, nat_lt, if◌then◌else◌, Option, Some, None}
-use Rattle.std.specs.Char.{is_ascii_alphanumeric}
-use Rattle.std.specs.List.{list_all}
+use Rattle.std.specs.Prelude.{◌≡◌, ℕ, true, List, [], ◌∷◌, ◌++◌, length, take, drop, nat_lt, if◌then◌else◌, Option, Some, None}
+use Rattle.guard_policy.specs.Names.{is_name}
 use Rattle.guard_frames.specs.declared.body.Body.{Body}
-
--- a letter, a digit, `-`, `_` or `.`
-abbrev pub is_name_octet : ℕ → Bool
-is_name_octet c = is_ascii_alphanumeric c || nat_eq c 45 || nat_eq c 95 || nat_eq c 46
-
--- 1 to 63 of them
-abbrev pub is_name : List ℕ → Bool
-is_name octets = nat_le 1 (length octets) && nat_le (length octets) 63 && list_all is_name_octet octets
 
 pub record AbstractBody : Type 0 where
   pub sender : List ℕ

@@ -1,5 +1,5 @@
 -- What texts say: a policy over the schema of modules, or why they say none.
-use Rattle.std.specs.Prelude.{◌≡◌, ℕ, List, Option, Some, None, IsSomeAnd}
+use Rattle.std.specs.Prelude.{ℕ, List, Option, Some, None, IsSomeAnd}
 use Rattle.guard_schema.specs.declared.fault.SchemaFault.{SchemaFault}
 use Rattle.guard_schema.specs.declared.fault.SchemaFault.TheVariants as schema_fault
 use Rattle.guard_schema.specs.Schemas.{AbstractSchema}

@@ -4,7 +4,7 @@ ghost use Rattle.std.specs.Prelude.{◌≡◌, drop, option_map};
 ghost use Rattle.guard_frames.specs.Bodies.{body_view, name_first, body_in};
 
 use crate::body::Body;
-use crate::names::is_name;
+use guard_policy::is_name;
 
 /// The body of a frame, or none where its header is bad.
 #[tactic(auto, using(crate::proofs::Headers::short_frame, crate::proofs::Headers::body_behind))]

@@ -4,7 +4,7 @@
 //! | question | code | definition |
 //! |---|---|---|
 //! | What is a frame, and how is a stream cut into frames? | `cut.rt` (`first_cut`) | `specs/Frames.antt`, `specs/Cut.antt` |
-//! | What is the header of a frame, and what is a name? | `body.rt`, `header.rt`, `names.rt` | `specs/Bodies.antt` |
+//! | What is the header of a frame? | `body.rt`, `header.rt` | `specs/Bodies.antt`; a name: `specs/Names.antt` of `guard_policy` |
 //! | Who decides which bodies pass, and which frames go? | `decision.rt` (`Decide`) | `specs/Outcomes.antt` (`Decision`, `Goes`), `specs/Rulings.antt` |
 //! | What goes out, and which line is reported of what doesn't? | `report.rt` | `specs/Guarding.antt` (`text_out`, `Adds`) |
 //! | How many frames were there? | `totals.rt` (`Totals`) | `specs/Totals.antt`, `specs/Guarding.antt` (`Counts`) |
@@ -33,7 +33,6 @@ mod kept;
 pub mod laws;
 mod link;
 mod modules;
-mod names;
 mod passing;
 mod policies;
 mod report;
@@ -49,7 +48,6 @@ pub use guarding::run;
 pub use kept::Kept;
 pub use link::{Link, LinkFault};
 pub use modules::Modules;
-pub use names::is_name;
 pub use running::{RunFault, decide_stream};
 pub use texts::{TextsFault, load_texts, run_texts};
 pub use through::Through;

@@ -24,7 +24,6 @@ impl Modules {
     ghost use Rattle.guard_frames.specs.ModulesView.{schema_of};
 
     /// The modules of these texts, each the text of one module. Its faults are those of `Schema::build`, the first one.
-    #[tactic(auto, using(crate::proofs::FewModules::few_modules))]
     pub fn build(alloc: Global, texts: &[&[u8]]) -> Result<Modules, SchemaFault>
         ensures accepted { IfOk result (λ m. Accepts (map (λ t. t.now) texts.now) (schema_of m)) }
         ensures refused { IfErr result (λ f. IfSome (named f) (IsRefused (map (λ t. t.now) texts.now))) }

@@ -186,7 +186,7 @@ fn all(
 }
 
 /// Whether each known type is sound.
-fn are_sound(alloc: Global, known: &Known) -> bool
+pub fn are_sound(alloc: Global, known: &Known) -> bool
     ensures { result ≡ true → AreKnownSound known.now }
 {
     for place in 0..known.types.len() {

@@ -7,14 +7,17 @@
 //! | what answers the rows on tags, and how the types of all definitions are built | `tagging.rt`, `types.rt` |
 //! | what answers the rows on written values | `values.rt` |
 //! | what answers the rows on written constraints | `constraints.rt` |
+//! | what answers the rows on members of definitions, and how these are built | `members.rt`, `building.rt` |
 //! | how the texts of a row are parted and parsed | `texts.rt` |
 //! | which large modules a word makes | `large.rt` |
 //! | how a file of rows is read and compared | the crate `conformance_rows` |
 #![tactic(auto)]
 
 mod answers;
+mod building;
 mod constraints;
 mod large;
+mod members;
 mod names;
 mod tagging;
 mod texts;
@@ -24,6 +27,7 @@ mod values;
 use anyhow::ensure;
 use conformance_rows::check_rows;
 use constraints::ConstraintsRows;
+use members::MembersRows;
 use names::NamesRows;
 use tagging::TaggingRows;
 use values::ValuesRows;
@@ -34,8 +38,9 @@ fn main(rt: HostRuntime) -> anyhow::Result<()> {
     let tagging = check_rows(&rt, "tagging.rows", &mut TaggingRows::new(alloc))?;
     let values = check_rows(&rt, "values.rows", &mut ValuesRows::new(alloc))?;
     let constraints = check_rows(&rt, "constraints.rows", &mut ConstraintsRows::new(alloc))?;
+    let members = check_rows(&rt, "members.rows", &mut MembersRows::new(alloc))?;
     ensure!(
-        names && tagging && values && constraints,
+        names && tagging && values && constraints && members,
         "a row has another answer"
     );
     Ok(())

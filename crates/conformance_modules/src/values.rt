@@ -28,6 +28,9 @@ struct Visible {
 pub struct ValuesRows {
     ty: String,
     visible: Vec<Visible>,
+    /// Those of another module, and which of them are imported.
+    others: Vec<Visible>,
+    imported: String,
     /// Whether of the octets only their number is answered.
     counted: bool,
 }
@@ -37,20 +40,25 @@ impl ValuesRows {
         ValuesRows {
             ty: String::new(alloc),
             visible: Vec::new(alloc),
+            others: Vec::new(alloc),
+            imported: String::new(alloc),
             counted: false,
         }
     }
 
-    /// A module with the value in its third line, and the visible ones below it. The types in it say nothing here.
+    /// A module with the value in its third line, and the visible ones below it; and the other module. The types in them say nothing here.
     fn module_text(&self, alloc: Global, text: &str) -> Result<String, AllocError> {
-        let mut whole = String::from_str(alloc, "M DEFINITIONS ::= BEGIN\nv NULL ::=\n")?;
-        whole.push_str(text)?;
-        for visible in &self.visible {
-            whole.push('\n')?;
-            whole.push_str(&visible.name)?;
-            whole.push_str(" NULL ::= ")?;
-            whole.push_str(&visible.value)?;
+        let mut whole = String::from_str(alloc, "M DEFINITIONS ::= BEGIN")?;
+        if !self.imported.is_empty() {
+            whole.push_str(" IMPORTS ")?;
+            whole.push_str(&self.imported)?;
+            whole.push_str(" FROM N;")?;
         }
+        whole.push_str("\nv NULL ::=\n")?;
+        whole.push_str(text)?;
+        push_assignments(&mut whole, &self.visible)?;
+        whole.push_str("\nEND\n==== N DEFINITIONS ::= BEGIN")?;
+        push_assignments(&mut whole, &self.others)?;
         whole.push_str("\nEND\n")?;
         Ok(whole)
     }
@@ -71,12 +79,9 @@ impl ValuesRows {
 
     /// The type of the value with this name, as it is written.
     fn type_text(&self, name: &[u8]) -> &str {
-        for visible in &self.visible {
-            if visible.name.as_bytes() == name {
-                return &visible.ty;
-            }
-        }
-        &self.ty
+        type_among(&self.visible, name)
+            .or(type_among(&self.others, name))
+            .unwrap_or(&self.ty)
     }
 
     /// Values in the order of their definitions, up to the one that is asked for.
@@ -143,6 +148,25 @@ impl ValuesRows {
         }
         digits_of(alloc, &octets)
     }
+}
+
+fn push_assignments(whole: &mut String, assignments: &[Visible]) -> Result<(), AllocError> {
+    for visible in assignments {
+        whole.push('\n')?;
+        whole.push_str(&visible.name)?;
+        whole.push_str(" NULL ::= ")?;
+        whole.push_str(&visible.value)?;
+    }
+    Ok(())
+}
+
+fn type_among<'a>(assignments: &'a [Visible], name: &[u8]) -> Option<&'a str> {
+    for visible in assignments {
+        if visible.name.as_bytes() == name {
+            return Some(&visible.ty);
+        }
+    }
+    None
 }
 
 fn digits_of(alloc: Global, octets: &[u8]) -> Result<String, AllocError> {
@@ -216,12 +240,15 @@ impl Layer for ValuesRows {
         self.answer_of(alloc, &text)
     }
 
-    /// `@type TYPE`; `@visible NAME TYPE ::= VALUE`, and `@visible none`; `@show octets` and `@show count`.
+    /// `@type TYPE`; `@visible NAME TYPE ::= VALUE`, and `@visible none`; `@other NAME TYPE ::= VALUE` in another module, and `@imports NAMES` from it;
+    /// `@show octets` and `@show count`.
     fn set(&mut self, alloc: Global, name: &str, text: &[u8]) -> Result<String, AllocError> {
         match (name, text_of(text)) {
             ("type", text) => self.ty = String::from_str(alloc, text)?,
             ("visible", "none") => self.visible = Vec::new(alloc),
-            ("visible", text) => return self.add_visible(alloc, text),
+            ("visible", text) => return add_to(alloc, &mut self.visible, text),
+            ("other", text) => return add_to(alloc, &mut self.others, text),
+            ("imports", text) => self.imported = String::from_str(alloc, text)?,
             ("show", "octets") => self.counted = false,
             ("show", "count") => self.counted = true,
             ("want", "memory") => {
@@ -234,19 +261,17 @@ impl Layer for ValuesRows {
     }
 }
 
-impl ValuesRows {
-    fn add_visible(&mut self, alloc: Global, text: &str) -> Result<String, AllocError> {
-        let Some((name, rest)) = text.split_once(' ') else {
-            return String::from_str(alloc, "(not read)");
-        };
-        let Some((ty, value)) = rest.split_once(" ::= ") else {
-            return String::from_str(alloc, "(not read)");
-        };
-        self.visible.push(Visible {
-            name: String::from_str(alloc, name)?,
-            ty: String::from_str(alloc, ty)?,
-            value: String::from_str(alloc, value)?,
-        })?;
-        String::from_str(alloc, "ok")
-    }
+fn add_to(alloc: Global, list: &mut Vec<Visible>, text: &str) -> Result<String, AllocError> {
+    let Some((name, rest)) = text.split_once(' ') else {
+        return String::from_str(alloc, "(not read)");
+    };
+    let Some((ty, value)) = rest.split_once(" ::= ") else {
+        return String::from_str(alloc, "(not read)");
+    };
+    list.push(Visible {
+        name: String::from_str(alloc, name)?,
+        ty: String::from_str(alloc, ty)?,
+        value: String::from_str(alloc, value)?,
+    })?;
+    String::from_str(alloc, "ok")
 }

@@ -7,7 +7,7 @@
 //! | `types.rows`, `values.rows` | `alike.rt` |
 //! | `tagcheck.rows` | `clashes.rt` |
 //! | `sound.rows`, `fits.rows` | `sound_types.rt`, `fitting.rt` |
-//! | `int_sets.rows` | `int_sets.rt` |
+//! | `int_sets.rows`, `set_trees.rows` | `int_sets.rt`, `set_trees.rt` |
 //! | `header.rows`, `encode.rows`, `decode.rows` | `headers.rt`, `encoding.rt`, `decoding.rt` |
 #![tactic(auto)]
 
@@ -20,6 +20,7 @@ mod encoding;
 mod fitting;
 mod headers;
 mod int_sets;
+mod set_trees;
 mod sound_types;
 mod tags;
 mod texts;
@@ -37,6 +38,7 @@ use fitting::Fitting;
 use guard_model::{Ty, Value};
 use headers::Headers;
 use int_sets::IntSets;
+use set_trees::SetTrees;
 use sound_types::SoundTypes;
 use std::io;
 use std::rt::Files;
@@ -59,7 +61,8 @@ fn model_rows<R: Files + Print + AllocGlobal>(rt: &R) -> io::Result<bool> {
     let types = check_rows(rt, "types.rows", &mut Alike::<Ty>::new(rt.alloc()))?;
     let values = check_rows(rt, "values.rows", &mut Alike::<Value>::new(rt.alloc()))?;
     let int_sets = check_rows(rt, "int_sets.rows", &mut IntSets { set: None })?;
-    Ok(tags && alphabets && texts && types && values && int_sets)
+    let set_trees = check_rows(rt, "set_trees.rows", &mut SetTrees)?;
+    Ok(tags && alphabets && texts && types && values && int_sets && set_trees)
 }
 
 /// The same of types: whether tags tell their parts apart, whether they are sound, and which values fit them.

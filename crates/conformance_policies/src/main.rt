@@ -1,0 +1,20 @@
+//! Tries policies that are read from their texts over modules that are read from theirs, on rows: messages with the verdicts and report lines that are
+//! expected, in `data/orders.rows`.
+//!
+//! | question | file |
+//! |---|---|
+//! | which verdict a message gets, and which line of a report | `orders.rt` |
+//! | how a file of rows is read and compared, and what stands round a text | the crate `conformance_rows` |
+#![tactic(auto)]
+
+mod orders;
+
+use anyhow::ensure;
+use conformance_rows::check_rows;
+use orders::Orders;
+
+fn main(rt: HostRuntime) -> anyhow::Result<()> {
+    let orders = check_rows(&rt, "orders.rows", &mut Orders::new())?;
+    ensure!(orders, "a row has another answer");
+    Ok(())
+}

@@ -12,3 +12,8 @@ pub mod Clashes
 pub mod SearchLoops
 -- a type has one clash at most
 pub mod OneClash
+-- the search with a map of the tags finds the same
+pub mod FirstOfTags
+pub mod NotedTags
+pub mod NotedPairs
+pub mod Finding

@@ -21,7 +21,7 @@ one_path p q (inl e) d = e
 one_path p q (inr b) (inl e) = sym e
 one_path p q (inr b) (inr d) = absurd (not_both p q b d)
 
-one_pair : (i j k l : ℕ) → (i < k) ⊎ ((i ≡ k) × (j ≤ l)) → (k < i) ⊎ ((k ≡ i) × (l ≤ j)) → (i ≡ k) × (j ≡ l)
+pub one_pair : (i j k l : ℕ) → (i < k) ⊎ ((i ≡ k) × (j ≤ l)) → (k < i) ⊎ ((k ≡ i) × (l ≤ j)) → (i ≡ k) × (j ≡ l)
 one_pair i j k l (inl lt) (inl gt) = absurd (omega (arith, lt, gt))
 one_pair i j k l (inl lt) (inr (e, le)) = absurd (omega (arith, lt, e))
 one_pair i j k l (inr (e, le)) (inl gt) = absurd (omega (arith, gt, e))

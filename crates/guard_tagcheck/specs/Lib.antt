@@ -5,4 +5,6 @@ pub mod Distinct
 pub mod Limits
 -- how the first clash is looked for, and what the code's answer stands for
 pub mod Search
+-- how it is looked for with a map of the tags
+pub mod Noting
 pub mod Views

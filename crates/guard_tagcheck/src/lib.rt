@@ -3,16 +3,20 @@
 //! | question | code | definition |
 //! |---|---|---|
 //! | Do the tags of a type tell its components apart, or which two are the first that clash? | `search.rt` (`check`) | `specs/Distinct.antt`, `specs/Search.antt` |
+//! | The same, with memory for a map of the tags? | `find.rt` (`find_clash`), `noting.rt` | `specs/Distinct.antt`, `specs/Noting.antt` |
 //! | What is a clash, and how does it print? | `clash.rt` | `specs/Distinct.antt`, `specs/Views.antt` |
 //! | With which tags may an encoding of a type begin? | `first_tags.rt` | `specs/FirstTags.antt` |
 //! | Which types can be looked at? | `limits.rt` (`is_within_limits`) | `specs/Limits.antt` |
 #![tactic(auto)]
 
 mod clash;
+mod find;
 mod first_tags;
 mod limits;
+mod noting;
 mod search;
 
 pub use clash::Clash;
+pub use find::find_clash;
 pub use limits::is_within_limits;
 pub use search::check;

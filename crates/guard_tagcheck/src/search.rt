@@ -130,7 +130,7 @@ fn partner(comps: &[Comp], index: usize, ty: &Ty, in_sequence: bool) -> Option<u
 }
 
 /// Whether a later component may come next behind one with this presence: in a SEQUENCE only where it may be left out.
-fn is_passed(presence: &Presence, in_sequence: bool) -> bool
+pub(crate) fn is_passed(presence: &Presence, in_sequence: bool) -> bool
     ensures { result ≡ is_passed in_sequence (presence_view presence.now) }
 {
     !in_sequence || !matches!(presence, Presence::Mandatory)

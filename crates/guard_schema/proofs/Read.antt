@@ -15,7 +15,7 @@ use Rattle.guard_syntax.specs.declared.tree.ValueForm.TheViews.{out-ValueTree}
 use Rattle.guard_values.specs.declared.fault.ValueFault.{ValueFault}
 use Rattle.guard_values.specs.declared.fault.ValueFault.TheVariants as value_fault
 use Rattle.guard_values.specs.Denotes as values
-use Rattle.guard_values.specs.Faults.{Stands}
+use Rattle.guard_values.specs.FirstFault.{IsFirstFault}
 use Rattle.guard_values.specs.Views as value_views
 use Rattle.guard_values.specs.Views.{visible_from, home_name}
 use Rattle.guard_constraints.specs.declared.fault.ConsFault.{ConsFault}
@@ -65,18 +65,18 @@ module _ (p : Progress) (id : ℕ) where
   value_read t tree v h = subst (λ (m : Visible). values.Denotes m.values t tree v) (visible_same p id) h
 
   value_faulty : (t : AbstractType) (tree : WrittenValue) (f : ValueFault) (o : Option ValueFault) → value_views.named f ≡ o
-      → IfSome o (Stands (visible_from p.names.now p.known id) t tree)
+      → IfSome o (IsFirstFault (visible_from p.names.now p.known id) t tree)
       → IfSome o (λ g. (v : AbstractValue) → values.Denotes (visible_from p.names.now p.known id) t tree v → ⊥)
       → RefusesBy (option_map Value o) (ReadsValue names t tree)
   value_faulty t tree f None e h k = tt
   value_faulty t tree f (Some g) e h k = (
     value_named f g e,
-    subst (λ (m : Visible). Stands m.values t tree g) (visible_same p id) h,
+    subst (λ (m : Visible). IsFirstFault m.values t tree g) (visible_same p id) h,
     subst (λ (m : Visible). (v : AbstractValue) → values.Denotes m.values t tree v → ⊥) (visible_same p id) k,
   )
 
   pub value_refused : (t : AbstractType) (tree : WrittenValue) (f : ValueFault) (y : SchemaFault) → named y ≡ option_map Value (value_views.named f)
-      → IfSome (value_views.named f) (Stands (visible_from p.names.now p.known id) t tree)
+      → IfSome (value_views.named f) (IsFirstFault (visible_from p.names.now p.known id) t tree)
       → IfSome (value_views.named f) (λ g. (v : AbstractValue) → values.Denotes (visible_from p.names.now p.known id) t tree v → ⊥)
       → RefusesBy (named y) (ReadsValue (visible (known_view p) (home_name (slice_get (definitions (modules_of p.names.now)) id))) t tree)
   value_refused t tree f y is h k = subst (λ o. RefusesBy o (ReadsValue names t tree)) (sym is) (value_faulty t tree f (value_views.named f) refl h k)

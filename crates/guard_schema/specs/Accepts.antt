@@ -32,6 +32,6 @@ Denotes texts =
 abbrev pub Accepts : List (List ℕ) → AbstractSchema → Type 0
 Accepts texts schema = Denotes texts (Ok schema)
 
--- The texts denote no schema, and this is their first fault. Of the parser's faults, and of several in one value, it is one whose condition stands.
+-- The texts denote no schema, and this is their first fault. Of the parser's faults it is one whose condition stands.
 abbrev pub IsRefused : List (List ℕ) → AbstractFault → Type 0
 IsRefused texts fault = Denotes texts (Err fault)

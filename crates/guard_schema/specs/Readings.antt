@@ -8,7 +8,7 @@ use Rattle.guard_eval.specs.Member.{is_member}
 use Rattle.guard_syntax.specs.Trees.{WrittenValue, value_node, WrittenConstraint}
 use Rattle.guard_values.specs.declared.fault.ValueFault.TheVariants as value_fault
 use Rattle.guard_values.specs.Denotes as values
-use Rattle.guard_values.specs.Faults.{Stands}
+use Rattle.guard_values.specs.FirstFault.{IsFirstFault}
 use Rattle.guard_values.specs.Views as value_views
 use Rattle.guard_constraints.specs.Visible.{Visible}
 use Rattle.guard_constraints.specs.Denotes as constraints
@@ -22,10 +22,10 @@ use Rattle.guard_schema.specs.Faults.{Value, Cons, DefaultOutside, Outcome, IsNa
 abbrev pub IsSoundAt : Site → AbstractType → Outcome (Unit {0}) → Type 0
 IsSoundAt site t = Passes (is_sound t) (Value (value_fault.TooLarge site))
 
--- the value that a tree denotes, or a fault whose condition stands in it, where it denotes none
+-- the value that a tree denotes, or its first fault, where it denotes none
 abbrev pub ReadsValue : Visible → AbstractType → WrittenValue → Outcome AbstractValue → Type 0
 ReadsValue names t tree (Ok v) = values.Denotes names.values t tree v
-ReadsValue names t tree (Err (Value f)) = IsNamed value_views.named f × Stands names.values t tree f × ((v : AbstractValue) → ¬ (values.Denotes names.values t tree v))
+ReadsValue names t tree (Err (Value f)) = IsNamed value_views.named f × IsFirstFault names.values t tree f × ((v : AbstractValue) → ¬ (values.Denotes names.values t tree v))
 ReadsValue names t tree (Err _) = ⊥
 
 abbrev pub site_of : WrittenValue → Site

@@ -22,7 +22,7 @@ use crate::sound_types::forms::{
 use guard_model::{
     Comp, Cons, Kind, MOST_COMPONENTS, OutOfMemory, Part, Presence, Rule, Ty, Value,
 };
-use guard_tagcheck::{check, is_within_limits};
+use guard_tagcheck::{find_clash, is_within_limits};
 use std::alloc::Global;
 
 /// Whether the type is sound: a tag at each node but a CHOICE, numbers of tags up to 268,435,455, at most 64 components or
@@ -47,9 +47,9 @@ fn is_sound(alloc: Global, ty: &Ty) -> Result<bool, OutOfMemory>
     if !is_within_limits(ty) {
         return Ok(false);
     }
-    match check(ty) {
-        Ok(_) => is_proper(alloc, ty),
-        Err(_clash) => Ok(false),
+    match find_clash(alloc, ty)? {
+        None => is_proper(alloc, ty),
+        Some(_clash) => Ok(false),
     }
 }
 

@@ -29,6 +29,7 @@ use crate::scope::Scope;
 use guard_model::{Site, Ty, Value};
 use guard_names::{Id, Names};
 use guard_syntax::{Assignment, ValueTree};
+use guard_tagcheck::find_clash;
 use guard_tagging::{TaggedType, skeleton_behind};
 use std::alloc::Global;
 
@@ -88,7 +89,7 @@ fn tagged_apart(
     ensures automatic { IfOk result (λ s. s.is_automatic ≡ is_automatic_definition (modules_of progress.now.names.now) (order_of progress.now.names.now) (known_from (modules_of progress.now.names.now) (order_of progress.now.names.now) (map type_view progress.now.known.types.items)) (slice_get (definitions (modules_of progress.now.names.now)) id)) }
 {
     let tagged = skeleton_behind(alloc, progress.names, &progress.done(), id)?;
-    check_tags(site, &tagged.ty)?;
+    check_tags(alloc, site, &tagged.ty)?;
     Ok(tagged)
 }
 
@@ -126,13 +127,13 @@ fn completed(
 }
 
 /// Tags must tell components and alternatives apart.
-fn check_tags(site: Site, ty: &Ty) -> Result<(), SchemaFault>
+fn check_tags(alloc: Global, site: Site, ty: &Ty) -> Result<(), SchemaFault>
     requires { IsTrue (is_within_limits (type_view ty.now)) }
     ensures { Answers (λ u. u) named result (TellsApart site (type_view ty.now)) }
 {
-    match guard_tagcheck::check(ty) {
-        Ok(()) => Ok(()),
-        Err(clash) => Err(SchemaFault::Clash(site, clash)),
+    match find_clash(alloc, ty)? {
+        None => Ok(()),
+        Some(clash) => Err(SchemaFault::Clash(site, clash)),
     }
 }
 

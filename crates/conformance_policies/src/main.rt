@@ -1,5 +1,5 @@
 //! Tries policies that are read from their texts over modules that are read from theirs, on rows: messages with the verdicts and report lines that are
-//! expected, in `data/orders.rows`.
+//! expected, in `data/orders.rows` by hand and in `data/outside.rows` by another encoder and another evaluation of constraints.
 //!
 //! | question | file |
 //! |---|---|
@@ -15,6 +15,7 @@ use orders::Orders;
 
 fn main(rt: HostRuntime) -> anyhow::Result<()> {
     let orders = check_rows(&rt, "orders.rows", &mut Orders::new())?;
-    ensure!(orders, "a row has another answer");
+    let outside = check_rows(&rt, "outside.rows", &mut Orders::new())?;
+    ensure!(orders && outside, "a row has another answer");
     Ok(())
 }

@@ -1,5 +1,7 @@
 -- The trees of the definitions that the code's trees stand for: sets of values and constraints.
 use Rattle.std.specs.Prelude.{Option, Some, None}
+use Rattle.std.specs.Option.{option_map}
+use Rattle.std.specs.Global.{Box}
 use Rattle.guard_syntax.specs.Trees.{WrittenEndForm, end_integer, end_reference, end_characters, WrittenEnd, WrittenRange, WrittenSet, set_node, WrittenSetForm, all_except, union, WrittenJoinedIntersection, united_of, WrittenIntersection, intersection, WrittenJoinedDifference, met_of, WrittenDifference, difference_of, WrittenElement, element_node, WrittenElementForm, parentheses, value, contained, range, size, from, with_component, with_components, WrittenConstraint, constraint, WrittenPart, parts_of}
 use Rattle.guard_syntax.specs.Views.{number_view, value_view}
 use Rattle.guard_syntax.specs.declared.tree.EndForm.{EndForm}
@@ -39,7 +41,7 @@ abbrev pub element_form_step : ElementForm-F WrittenElementForm WrittenSetForm W
 element_form_step (ElementForm-F.Parentheses s) = parentheses s.value
 element_form_step (ElementForm-F.Value v) = value (value_view v)
 element_form_step (ElementForm-F.Contained includes name) = contained includes name.site name.name.now
-element_form_step (ElementForm-F.Range r) = range (range_view r)
+element_form_step (ElementForm-F.Range r) = range (range_view r.value)
 element_form_step (ElementForm-F.Size c) = size c.value
 element_form_step (ElementForm-F.From c) = from c.value
 element_form_step (ElementForm-F.WithComponent c) = with_component c.value
@@ -56,7 +58,7 @@ abbrev pub constraint_step : ConsTree-F WrittenElementForm WrittenSetForm Writte
 constraint_step c = constraint c.site c.set.value
 
 abbrev pub difference_step : DifferenceTree-F WrittenElementForm WrittenSetForm WrittenPart WrittenConstraint WrittenDifference WrittenElement WrittenIntersection WrittenJoinedDifference WrittenJoinedIntersection WrittenSet → WrittenDifference
-difference_step d = difference_of d.site d.element d.except
+difference_step d = difference_of d.site d.element (option_map (λ e. e.value) d.except)
 
 abbrev pub element_step : ElementTree-F WrittenElementForm WrittenSetForm WrittenPart WrittenConstraint WrittenDifference WrittenElement WrittenIntersection WrittenJoinedDifference WrittenJoinedIntersection WrittenSet → WrittenElement
 element_step e = element_node e.site e.form
@@ -108,6 +110,6 @@ abbrev pub perhaps_constraint_view : Option ConsTree → Option WrittenConstrain
 perhaps_constraint_view None = None
 perhaps_constraint_view (Some c) = Some (constraint_view c)
 
-abbrev pub perhaps_element_view : Option ElementTree → Option WrittenElement
+abbrev pub perhaps_element_view : Option (Box ElementTree) → Option WrittenElement
 perhaps_element_view None = None
-perhaps_element_view (Some e) = Some (element_view e)
+perhaps_element_view (Some e) = Some (element_view e.value)

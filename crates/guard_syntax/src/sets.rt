@@ -218,14 +218,14 @@ fn except<'a, 't>(
     alloc: Global,
     levels: u8,
     at: Cursor<'a, 't>,
-) -> Read<'a, 't, Option<ElementTree<'a>>>
+) -> Read<'a, 't, Option<Box<ElementTree<'a>>>>
     ensures { Reads perhaps_element_view result (reading.read_except (read_value levels) (reading.read_set levels) (ahead at.entry)) }
 {
     if !at.begins_with(TokenKind::Reserved(Reserved::Except)) {
         return Ok((None, at));
     }
     let (element, rest) = element(alloc, levels, at.behind())?;
-    Ok((Some(element), rest))
+    Ok((Some(Box::new(alloc, element)?), rest))
 }
 
 #[cycle(sets)]
@@ -277,7 +277,7 @@ fn range_or_value<'a, 't>(
 {
     if begins_range(at) {
         let (range, rest) = range(at)?;
-        Ok((ElementForm::Range(range), rest))
+        Ok((ElementForm::Range(Box::new(alloc, range)?), rest))
     } else {
         let (value, rest) = value(alloc, levels, at)?;
         Ok((ElementForm::Value(value), rest))

@@ -305,7 +305,7 @@ pub enum JoinMark {
 pub struct DifferenceTree<'a> {
     pub site: Site,
     pub element: ElementTree<'a>,
-    pub except: Option<ElementTree<'a>>,
+    pub except: Option<Box<ElementTree<'a>>>,
 }
 
 /// An element of a set (X.680 50.1, 51.1). Its site is that of its first token.
@@ -327,7 +327,7 @@ pub enum ElementForm<'a> {
     /// A contained subtype: whether INCLUDES is written, and the name of the type (X.680 51.3).
     Contained(bool, NameTree<'a>),
     /// X.680 51.4.
-    Range(RangeTree<'a>),
+    Range(Box<RangeTree<'a>>),
     /// X.680 51.5.
     Size(Box<ConsTree<'a>>),
     /// A permitted alphabet (X.680 51.7).

@@ -1,5 +1,7 @@
 -- What it is to meet a request, by what is read, what goes out, and the status. This is the page to read first.
-use Rattle.std.specs.Prelude.{◌≡◌, ◌⊎◌, ℕ, nat_eq, true, List, Option, Result, Ok, Err, if◌then◌else◌}
+use Rattle.std.specs.Prelude.{◌≡◌, ◌⊎◌, ℕ, Bool, nat_eq, true, false, List, Option, Result, Ok, Err, if◌then◌else◌}
+use Rattle.clap.specs.declared.error.kind.ErrorKind.{ErrorKind}
+use Rattle.clap.specs.declared.error.kind.ErrorKind.TheVariants.{DisplayHelp, DisplayVersion}
 use Rattle.guard_policy.specs.Policies.{AbstractPolicy}
 use Rattle.guard_frames.specs.declared.totals.Totals.{Totals}
 use Rattle.guard_frames.specs.OfPolicy.{decision_of}
@@ -8,11 +10,11 @@ use Rattle.guard_frames.specs.declared.running.RunFault.TheVariants.{WriteFailed
 use Rattle.derguard.specs.declared.fault.Fault.{Fault}
 use Rattle.derguard.specs.declared.fault.Fault.TheVariants.{Run}
 use Rattle.derguard.specs.Files.{Told}
-use Rattle.derguard.specs.Requests.{AbstractRequest, first, check, decide, run}
+use Rattle.derguard.specs.Requests.{AbstractRequest, HasPath, first, check, decide, run}
 use Rattle.derguard.specs.Reading.{IsPolicyAt, IsNoPolicyAt}
 use Rattle.derguard.specs.Answers.{AbstractAnswer, IsFirst, IsNoFirst, IsChecked, IsDecided, IsUndecided}
 use Rattle.derguard.specs.Devices.{Input, Device, IsUnread, IsUntouched}
-use Rattle.derguard.specs.Writing.{Writes, Tells, TellsText}
+use Rattle.derguard.specs.Writing.{Writes, Tells, TellsText, TellsNoMemory}
 
 -- Such an answer is written, or such a fault is told; nothing is read.
 abbrev pub Answers : (AbstractAnswer → Type 0) → (Fault → Type 0) → Input → Device → Device → ℕ → Type 0
@@ -60,12 +62,23 @@ Meets told (check path) = Answers (IsChecked told path) (IsNoPolicyAt told path)
 Meets told (decide path route digits) = Answers (IsDecided told path route digits) (IsUndecided told path digits)
 Meets told (run path) = GuardsStream told path
 
--- What the reader of words says of them: help, to standard output, or what is wrong with them, to standard error.
-abbrev pub Shows : Device → Device → ℕ → Type 0
-Shows out err status =
-    ((text : List ℕ) × Writes text 0 out err status) ⊎ ((text : List ℕ) × IsUntouched out × TellsText text 2 err status)
+-- What the reader of words says is help or the version, and no fault of the words.
+abbrev pub is_help : ErrorKind → Bool
+is_help DisplayHelp = true
+is_help DisplayVersion = true
+is_help _ = false
 
--- The words are a request, and it is met; or nothing is read, and what is wrong with them is said. Which words are which request is shown by tests.
+-- Help goes to standard output, with status 0, and what is wrong with the words is told, with status 2; or memory ran out, and that is told. The texts are
+-- those of the reader of words, which tests show.
+abbrev pub Shows : ErrorKind → Device → Device → ℕ → Type 0
+Shows said out err status =
+    ((is_help said ≡ true) × ((text : List ℕ) × Writes text 0 out err status))
+    ⊎ ((is_help said ≡ false) × IsUntouched out × ((text : List ℕ) × TellsText text 2 err status))
+    ⊎ (IsUntouched out × TellsNoMemory err status)
+
+-- Words behind the program's name are a request of the policy at some path, and it is met; or nothing is read, and what is wrong with them, or help, is shown.
+-- Which words are which request is shown by tests.
 abbrev pub Programs : Told → Input → Device → Device → ℕ → Type 0
 Programs told input out err status =
-    ((request : AbstractRequest) × Meets told request input out err status) ⊎ (IsUnread input × Shows out err status)
+    ((request : AbstractRequest) × HasPath request × Meets told request input out err status)
+    ⊎ (IsUnread input × ((said : ErrorKind) × Shows said out err status))

@@ -23,3 +23,8 @@ request_view code.First = first
 request_view (code.Check policy) = check policy.now
 request_view (code.Decide m) = decide m.policy.now (message_route m) m.hex.now
 request_view (code.Run policy) = run policy.now
+
+-- it is of the policy at some path, as each request is that words write
+abbrev pub HasPath : AbstractRequest → Type 0
+HasPath first = ⊥
+HasPath _ = Unit {0}

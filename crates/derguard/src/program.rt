@@ -3,7 +3,8 @@ ghost use Rattle.std.specs.Prelude.{◌≡◌, ◌≤◌, length, IfOk, IfErr};
 ghost use Rattle.derguard.specs.Requests.{request_view, first};
 ghost use Rattle.derguard.specs.Devices.{input_of, device};
 ghost use Rattle.derguard.specs.Writing.{Writes, Tells};
-ghost use Rattle.derguard.specs.Meeting.{Meets, Programs, Shows};
+ghost use Rattle.derguard.specs.Meeting.{Meets, Programs, Shows, is_help};
+ghost use Rattle.clap.specs.Words.{kind_of};
 
 use crate::answer::Answer;
 use crate::checking::check;
@@ -34,7 +35,7 @@ pub fn program<F: Files, S: Source, O: Sink, E: Sink>(
     out: &mut O,
     err: &mut E,
 ) -> u8
-    ensures all { Programs (F.told files.old) (input_of (S.tells input.old) (S.tells input.new) (S.takes input.old) (S.takes input.new) (S.has_failed input.new))
+    ensures words { 2 ≤ length words.now → Programs (F.told files.old) (input_of (S.tells input.old) (S.tells input.new) (S.takes input.old) (S.takes input.new) (S.has_failed input.new))
         (device (O.taken out.old) (O.taken out.new) (O.has_failed out.new)) (device (E.taken err.old) (E.taken err.new) (E.has_failed err.new)) result }
     // Without words behind the program's name it decides the messages that are built in.
     ensures alone { length words.now ≤ 1 → Meets (F.told files.old) first (input_of (S.tells input.old) (S.tells input.new) (S.takes input.old) (S.takes input.new) (S.has_failed input.new))
@@ -88,7 +89,7 @@ fn give<O: Sink, E: Sink>(
 
 /// Shows what `clap` says of the words: help on standard output, with status 0, and what is wrong with them on standard error, with status 2.
 fn show<O: Sink, E: Sink>(alloc: Global, said: &Error, out: &mut O, err: &mut E) -> u8
-    ensures { Shows (device (O.taken out.old) (O.taken out.new) (O.has_failed out.new))
+    ensures { Shows (kind_of said.now) (device (O.taken out.old) (O.taken out.new) (O.has_failed out.new))
         (device (E.taken err.old) (E.taken err.new) (E.has_failed err.new)) result }
 {
     if said.kind() == ErrorKind::OutOfMemory {
@@ -97,9 +98,15 @@ fn show<O: Sink, E: Sink>(alloc: Global, said: &Error, out: &mut O, err: &mut E)
     let Ok(text) = format!(in alloc; "{said}") else {
         return tell_no_memory(err);
     };
-    if said.use_stderr() {
-        tell_text(alloc, text.trim_end(), 2, err)
-    } else {
+    if is_help(said.kind()) {
         write(text.as_bytes(), 0, out, err)
+    } else {
+        tell_text(alloc, text.trim_end(), 2, err)
     }
+}
+
+fn is_help(said: ErrorKind) -> bool
+    ensures { result ≡ is_help said }
+{
+    matches!(said, ErrorKind::DisplayHelp | ErrorKind::DisplayVersion)
 }

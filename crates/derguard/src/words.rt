@@ -1,4 +1,8 @@
 //! The words of the command line. `clap` splits them; which words are which request is shown by tests.
+ghost use Rattle.std.specs.Prelude.{◌≡◌, true, false, IfOk};
+ghost use Rattle.clap.specs.Words.{app_of, has_subcommand};
+ghost use Rattle.derguard.specs.Requests.{request_view, HasPath};
+
 use crate::request::{Message, Request};
 use clap::{Arg, ArgAction, ArgMatches, Command, Error};
 use std::alloc::{AllocError, Global};
@@ -16,14 +20,18 @@ const DECIDE_EXAMPLE: &str =
 
 const RUN_EXAMPLE: &str = "Example:\n  derguard run examples/orders.toml < examples/orders.frames";
 
-/// What the words ask for; the first is the program's name. Help is an error of `clap` too, of its own kind.
-pub fn request_in<'a>(alloc: Global, words: &'a [&'a str]) -> Result<Request<'a>, Error> {
+/// What the words ask for, of the policy at some path; the first is the program's name. Help is an error of `clap` too, of its own kind.
+pub fn request_in<'a>(alloc: Global, words: &'a [&'a str]) -> Result<Request<'a>, Error>
+    ensures { IfOk result (λ request. HasPath (request_view request)) }
+{
     let matches = command(alloc)?.try_get_matches_from(words)?;
     Ok(request_of(&matches))
 }
 
-/// What was matched. Each argument is required, so each is there.
-fn request_of<'a>(matches: &ArgMatches<'a>) -> Request<'a> {
+/// What was matched. A command and each of its arguments is required, so they are there.
+fn request_of<'a>(matches: &ArgMatches<'a>) -> Request<'a>
+    ensures { has_subcommand matches.now ≡ true → HasPath (request_view result) }
+{
     match matches.subcommand() {
         Some(("check", found)) => Request::Check {
             policy: text(found, "policy"),
@@ -46,7 +54,9 @@ fn text<'a>(matches: &ArgMatches<'a>, id: &str) -> &'a str {
     matches.get_str(id).unwrap_or("")
 }
 
-fn command<'a>(alloc: Global) -> Result<Command<'a>, AllocError> {
+fn command<'a>(alloc: Global) -> Result<Command<'a>, AllocError>
+    ensures { IfOk result (λ c. ((app_of c).top.is_plain ≡ true) × ((app_of c).top.subcommand_required ≡ true)) }
+{
     Command::new(alloc, "derguard")
         .about(ABOUT)
         .after_help(EXAMPLE)
@@ -56,14 +66,18 @@ fn command<'a>(alloc: Global) -> Result<Command<'a>, AllocError> {
         .subcommand(run(alloc)?)
 }
 
-fn check<'a>(alloc: Global) -> Result<Command<'a>, AllocError> {
+fn check<'a>(alloc: Global) -> Result<Command<'a>, AllocError>
+    ensures { IfOk result (λ c. (app_of c).top.is_plain ≡ true) }
+{
     Command::new(alloc, "check")
         .about("Says whether a policy and its modules are accepted.")
         .after_help(CHECK_EXAMPLE)
         .arg(policy(alloc))
 }
 
-fn decide<'a>(alloc: Global) -> Result<Command<'a>, AllocError> {
+fn decide<'a>(alloc: Global) -> Result<Command<'a>, AllocError>
+    ensures { IfOk result (λ c. (app_of c).top.is_plain ≡ true) }
+{
     Command::new(alloc, "decide")
         .about("Says what becomes of one message, and why.")
         .after_help(DECIDE_EXAMPLE)
@@ -78,7 +92,9 @@ fn decide<'a>(alloc: Global) -> Result<Command<'a>, AllocError> {
         )
 }
 
-fn run<'a>(alloc: Global) -> Result<Command<'a>, AllocError> {
+fn run<'a>(alloc: Global) -> Result<Command<'a>, AllocError>
+    ensures { IfOk result (λ c. (app_of c).top.is_plain ≡ true) }
+{
     Command::new(alloc, "run")
         .about(
             "Guards a stream: frames from standard input, those that pass to standard output, a line for each other one to standard error.",
@@ -87,20 +103,26 @@ fn run<'a>(alloc: Global) -> Result<Command<'a>, AllocError> {
         .arg(policy(alloc))
 }
 
-fn policy<'a>(alloc: Global) -> Arg<'a> {
+fn policy<'a>(alloc: Global) -> Arg<'a>
+    ensures { result.global ≡ false }
+{
     required(alloc, "policy").value_name("POLICY").help(
         "The file of the policy; module files are looked for beside it.",
     )
 }
 
 /// An option whose value is taken as it is, a hyphen in front included.
-fn option<'a>(alloc: Global, name: &'a str, help: &'a str) -> Arg<'a> {
+fn option<'a>(alloc: Global, name: &'a str, help: &'a str) -> Arg<'a>
+    ensures { result.global ≡ false }
+{
     required(alloc, name)
         .long(name)
         .allow_hyphen_values(true)
         .help(help)
 }
 
-fn required<'a>(alloc: Global, name: &'a str) -> Arg<'a> {
+fn required<'a>(alloc: Global, name: &'a str) -> Arg<'a>
+    ensures { result.global ≡ false }
+{
     Arg::new(alloc, name).required(true).action(ArgAction::Set)
 }

@@ -13,6 +13,8 @@ enum Asked {
     Build,
     /// From which length on what the text begins with makes a schema.
     Beginnings,
+    /// Whether so many modules make a schema, in each of which the text stands.
+    Copies(u32),
     /// The type of this name in the texts' module `M`.
     TypeOf(String),
     /// Of the schema that is kept, the type by the names `MODULE.NAME`.
@@ -76,6 +78,23 @@ fn beginnings(alloc: Global, text: &[u8]) -> Result<String, AllocError> {
     format!(in alloc; "refused {refused}, then accepted {accepted}")
 }
 
+/// Whether so many modules make a schema: `M10`, `M11` and so on, so that up to 90 texts have the same length.
+fn copies(alloc: Global, body: &str, number: u32) -> Result<String, AllocError> {
+    let mut texts = Vec::new(alloc);
+    for copy in 0..number {
+        let name = copy.saturating_add(10);
+        texts.push(format!(in alloc; "M{name} DEFINITIONS ::= BEGIN {body} END")?)?;
+    }
+    let mut slices = Vec::new(alloc);
+    for text in &texts {
+        slices.push(text.as_bytes())?;
+    }
+    match Schema::build(alloc, &slices) {
+        Ok(_) => String::from_str(alloc, "ok"),
+        Err(fault) => format!(in alloc; "{fault}"),
+    }
+}
+
 /// The text of the type of this name, or `none`.
 fn shown(alloc: Global, schema: &Schema, module: &str, name: &str) -> Result<String, AllocError> {
     match schema.ty(module, name) {
@@ -119,11 +138,12 @@ impl Layer for Schemas {
             (Asked::Modules, Some(schema)) => module_by_place(alloc, schema, text_of(input)),
             (Asked::Messages, Some(schema)) => message_by_type(alloc, schema, text_of(input)),
             (Asked::Beginnings, _) => beginnings(alloc, input),
+            (Asked::Copies(number), _) => copies(alloc, text_of(input), *number),
             _ => self.built(alloc, input),
         }
     }
 
-    /// `@ask build`, `@ask beginnings`, `@type-of NAME`; `@schema` with the texts of a schema that is kept, `@ask types`, `@ask modules` and
+    /// `@ask build`, `@ask beginnings`, `@copies NUMBER`, `@type-of NAME`; `@schema` with the texts of a schema that is kept, `@ask types`, `@ask modules` and
     /// `@ask messages` of it; `@before` and `@after`.
     fn set(&mut self, alloc: Global, name: &str, text: &[u8]) -> Result<String, AllocError> {
         match (name, text_of(text)) {
@@ -132,6 +152,7 @@ impl Layer for Schemas {
             ("ask", "types") => self.asked = Asked::Types,
             ("ask", "modules") => self.asked = Asked::Modules,
             ("ask", "messages") => self.asked = Asked::Messages,
+            ("copies", number) => self.asked = Asked::Copies(number.parse::<u32>().unwrap_or(0)),
             ("type-of", name) => self.asked = Asked::TypeOf(String::from_str(alloc, name)?),
             ("schema", _) => return self.keep(alloc, text),
             _ => return self.around.set(alloc, name, text),

@@ -162,7 +162,8 @@ fn intersection(
     ensures { Gives constraint_view named result (reading.read_intersection (visible_in context.entry) (type_view ty.now) (views.intersection_view tree.now)) }
 {
     let first = difference(alloc, context, &tree.first, ty)?;
-    meeting(alloc, context, &tree.others, first, tree.site, ty)
+    let site = tree.first.element.site;
+    meeting(alloc, context, &tree.others, first, site, ty)
 }
 
 /// The first difference with those joined to it. Alone it is itself.
@@ -234,7 +235,7 @@ fn difference(
         None => Ok(all),
         Some(less) => {
             let less = element(alloc, context, less, ty)?;
-            Ok(except(alloc, tree.site, all, less)?)
+            Ok(except(alloc, tree.element.site, all, less)?)
         }
     }
 }

@@ -74,8 +74,8 @@ fn read_items(alloc: Global, place: u32, text: &[u8]) -> Result<Vec<Token>, LexF
         if let Some(kind) = kind_of(item.kind, octets) {
             tokens.push(Token {
                 kind,
-                start: at,
-                end,
+                start: at as u32,
+                end: end as u32,
                 site,
             })?;
         }

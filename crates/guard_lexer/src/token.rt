@@ -6,9 +6,9 @@ use guard_model::Site;
 pub struct Token {
     pub kind: TokenKind,
     /// The offset of its first octet in the text.
-    pub start: usize,
+    pub start: u32,
     /// The offset after its last octet.
-    pub end: usize,
+    pub end: u32,
     pub site: Site,
 }
 

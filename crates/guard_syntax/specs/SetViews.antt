@@ -2,7 +2,8 @@
 use Rattle.std.specs.Prelude.{Option, Some, None}
 use Rattle.std.specs.Option.{option_map}
 use Rattle.std.specs.Global.{Box}
-use Rattle.guard_syntax.specs.Trees.{WrittenEndForm, end_integer, end_reference, end_characters, WrittenEnd, WrittenRange, WrittenSet, set_node, WrittenSetForm, all_except, union, WrittenJoinedIntersection, united_of, WrittenIntersection, intersection, WrittenJoinedDifference, met_of, WrittenDifference, difference_of, WrittenElement, element_node, WrittenElementForm, parentheses, value, contained, range, size, from, with_component, with_components, WrittenConstraint, constraint, WrittenPart, parts_of}
+use Rattle.guard_model.specs.declared.site.Site.{Site}
+use Rattle.guard_syntax.specs.Trees.{WrittenEndForm, end_integer, end_reference, end_characters, WrittenEnd, WrittenRange, WrittenSet, set_node, WrittenSetForm, all_except, union, WrittenJoinedIntersection, united_of, WrittenIntersection, intersection, WrittenJoinedDifference, met_of, WrittenDifference, element_alone, element_except, difference_of, WrittenElement, element_node, WrittenElementForm, parentheses, value, contained, range, size, from, with_component, with_components, WrittenConstraint, constraint, WrittenPart, parts_of}
 use Rattle.guard_syntax.specs.Views.{number_view, value_view}
 use Rattle.guard_syntax.specs.declared.tree.EndForm.{EndForm}
 use Rattle.guard_syntax.specs.declared.tree.EndForm.TheVariants as end_form
@@ -36,7 +37,17 @@ end_or_view (Some e) = Some (end_view e)
 abbrev pub range_view : RangeTree → WrittenRange
 range_view r = record { low = end_or_view r.low; above_low = r.above_low; below_high = r.below_high; high = end_or_view r.high }
 
--- one level of each, with the sets inside already seen
+-- where an element stands
+abbrev pub site_of_element : WrittenElement → Site
+site_of_element (element_node site form) = site
+
+-- where a difference stands
+abbrev pub site_of_difference : WrittenDifference → Site
+site_of_difference (element_alone site e) = site
+site_of_difference (element_except site e f) = site
+
+-- One level of each, with the sets inside already seen. A difference begins where its element does, and an intersection where its
+-- first difference does.
 abbrev pub element_form_step : ElementForm-F WrittenElementForm WrittenSetForm WrittenPart WrittenConstraint WrittenDifference WrittenElement WrittenIntersection WrittenJoinedDifference WrittenJoinedIntersection WrittenSet → WrittenElementForm
 element_form_step (ElementForm-F.Parentheses s) = parentheses s.value
 element_form_step (ElementForm-F.Value v) = value (value_view v)
@@ -58,19 +69,19 @@ abbrev pub constraint_step : ConsTree-F WrittenElementForm WrittenSetForm Writte
 constraint_step c = constraint c.site c.set.value
 
 abbrev pub difference_step : DifferenceTree-F WrittenElementForm WrittenSetForm WrittenPart WrittenConstraint WrittenDifference WrittenElement WrittenIntersection WrittenJoinedDifference WrittenJoinedIntersection WrittenSet → WrittenDifference
-difference_step d = difference_of d.site d.element (option_map (λ e. e.value) d.except)
+difference_step d = difference_of (site_of_element d.element) d.element (option_map (λ e. e.value) d.except)
 
 abbrev pub element_step : ElementTree-F WrittenElementForm WrittenSetForm WrittenPart WrittenConstraint WrittenDifference WrittenElement WrittenIntersection WrittenJoinedDifference WrittenJoinedIntersection WrittenSet → WrittenElement
 element_step e = element_node e.site e.form
 
 abbrev pub intersection_step : IntersectionTree-F WrittenElementForm WrittenSetForm WrittenPart WrittenConstraint WrittenDifference WrittenElement WrittenIntersection WrittenJoinedDifference WrittenJoinedIntersection WrittenSet → WrittenIntersection
-intersection_step i = intersection i.site i.first.value (met_of i.others.items)
+intersection_step i = intersection (site_of_difference i.first) i.first (met_of i.others.items)
 
 abbrev pub joined_difference_step : JoinedDifference-F WrittenElementForm WrittenSetForm WrittenPart WrittenConstraint WrittenDifference WrittenElement WrittenIntersection WrittenJoinedDifference WrittenJoinedIntersection WrittenSet → WrittenJoinedDifference
-joined_difference_step j = record { mark = j.mark; joined = j.part.value }
+joined_difference_step j = record { mark = j.mark; joined = j.part }
 
 abbrev pub joined_intersection_step : JoinedIntersection-F WrittenElementForm WrittenSetForm WrittenPart WrittenConstraint WrittenDifference WrittenElement WrittenIntersection WrittenJoinedDifference WrittenJoinedIntersection WrittenSet → WrittenJoinedIntersection
-joined_intersection_step j = record { mark = j.mark; joined = j.part.value }
+joined_intersection_step j = record { mark = j.mark; joined = j.part }
 
 abbrev pub set_step : SetTree-F WrittenElementForm WrittenSetForm WrittenPart WrittenConstraint WrittenDifference WrittenElement WrittenIntersection WrittenJoinedDifference WrittenJoinedIntersection WrittenSet → WrittenSet
 set_step s = set_node s.site s.form

@@ -119,7 +119,7 @@ impl<'a, 't> Cursor<'a, 't> {
 pub fn octets<'a>(text: &'a [u8], token: &Token) -> &'a [u8]
     ensures { result.now ≡ octets_of text.now token.now }
 {
-    let end = token.end.min(text.len());
-    let start = token.start.min(end);
+    let end = (token.end as usize).min(text.len());
+    let start = (token.start as usize).min(end);
     &text[start..end]
 }

@@ -1,11 +1,11 @@
 //! Constraints and sets of values.
-ghost use Rattle.std.specs.Prelude.{◌≡◌, map, length};
+ghost use Rattle.std.specs.Prelude.{◌≡◌, map, length, IfOk};
 ghost use Rattle.guard_model.specs.Answer.{Gives};
 ghost use Rattle.guard_syntax.specs.ReadTokens as tokens_reading;
 ghost use Rattle.guard_syntax.specs.Cursors.{ahead, Reads, each_view, boxed_view};
 ghost use Rattle.guard_syntax.specs.ReadValues.{read_value};
 ghost use Rattle.guard_syntax.specs.ReadSets as reading;
-ghost use Rattle.guard_syntax.specs.SetViews.{element_form_view, element_view, perhaps_element_view, difference_view, joined_difference_view, intersection_view, joined_intersection_view, set_form_view, set_view, constraint_view, perhaps_constraint_view, part_view};
+ghost use Rattle.guard_syntax.specs.SetViews.{site_of_element, site_of_difference, element_form_view, element_view, perhaps_element_view, difference_view, joined_difference_view, intersection_view, joined_intersection_view, set_form_view, set_view, constraint_view, perhaps_constraint_view, part_view};
 
 use crate::cursor::{Cursor, Read};
 use crate::join_marks::{
@@ -95,7 +95,7 @@ fn set_form<'a, 't>(alloc: Global, levels: u8, at: Cursor<'a, 't>) -> Read<'a, '
     }
     let (first, rest) = intersection(alloc, levels, at)?;
     let (others, rest) = joined_intersections(alloc, levels, rest)?;
-    Ok((SetForm::Union(first, others), rest))
+    Ok((SetForm::Union(Box::new(alloc, first)?, others), rest))
 }
 
 /// The further intersections of a union. Each takes a token, so there are no more than tokens.
@@ -141,18 +141,12 @@ fn intersection<'a, 't>(
     alloc: Global,
     levels: u8,
     at: Cursor<'a, 't>,
-) -> Read<'a, 't, Box<IntersectionTree<'a>>>
-    ensures { Reads (boxed_view intersection_view) result (reading.read_intersection (read_value levels) (reading.read_set levels) (ahead at.entry)) }
+) -> Read<'a, 't, IntersectionTree<'a>>
+    ensures { Reads intersection_view result (reading.read_intersection (read_value levels) (reading.read_set levels) (ahead at.entry)) }
 {
     let (first, rest) = difference(alloc, levels, at)?;
     let (others, rest) = joined_differences(alloc, levels, rest)?;
-    let site = at.site();
-    let tree = IntersectionTree {
-        site,
-        first,
-        others,
-    };
-    Ok((Box::new(alloc, tree)?, rest))
+    Ok((IntersectionTree { first, others }, rest))
 }
 
 /// The further differences of an intersection. Each takes a token, so there are no more than tokens.
@@ -198,18 +192,13 @@ fn difference<'a, 't>(
     alloc: Global,
     levels: u8,
     at: Cursor<'a, 't>,
-) -> Read<'a, 't, Box<DifferenceTree<'a>>>
-    ensures { Reads (boxed_view difference_view) result (reading.read_difference (read_value levels) (reading.read_set levels) (ahead at.entry)) }
+) -> Read<'a, 't, DifferenceTree<'a>>
+    ensures tree { Reads difference_view result (reading.read_difference (read_value levels) (reading.read_set levels) (ahead at.entry)) }
+    ensures site { IfOk result (λ d. site_of_difference (difference_view d.0) ≡ tokens_reading.site_at (ahead at.entry)) }
 {
     let (element, rest) = element(alloc, levels, at)?;
     let (except, rest) = except(alloc, levels, rest)?;
-    let site = at.site();
-    let tree = DifferenceTree {
-        site,
-        element,
-        except,
-    };
-    Ok((Box::new(alloc, tree)?, rest))
+    Ok((DifferenceTree { element, except }, rest))
 }
 
 #[cycle(sets)]
@@ -231,7 +220,8 @@ fn except<'a, 't>(
 #[cycle(sets)]
 #[tactic(auto, unfolding(crate::specs::ReadSets::read_element))]
 fn element<'a, 't>(alloc: Global, levels: u8, at: Cursor<'a, 't>) -> Read<'a, 't, ElementTree<'a>>
-    ensures { Reads element_view result (reading.read_element (read_value levels) (reading.read_set levels) (ahead at.entry)) }
+    ensures site { IfOk result (λ e. site_of_element (element_view e.0) ≡ tokens_reading.site_at (ahead at.entry)) }
+    ensures tree { Reads element_view result (reading.read_element (read_value levels) (reading.read_set levels) (ahead at.entry)) }
 {
     let (form, rest) = element_form(alloc, levels, at)?;
     let site = at.site();

@@ -270,15 +270,15 @@ pub enum SetForm<'a> {
 #[cycle(sets)]
 pub struct JoinedIntersection<'a> {
     pub mark: JoinMark,
-    pub part: Box<IntersectionTree<'a>>,
+    pub part: IntersectionTree<'a>,
 }
 
 /// An intersection (X.680 50.1): the first difference and those joined to it. Where nothing is joined it is the difference alone.
+/// Its site is that of the first difference.
 #[derive(Drop)]
 #[cycle(sets)]
 pub struct IntersectionTree<'a> {
-    pub site: Site,
-    pub first: Box<DifferenceTree<'a>>,
+    pub first: DifferenceTree<'a>,
     pub others: Vec<JoinedDifference<'a>>,
 }
 
@@ -287,7 +287,7 @@ pub struct IntersectionTree<'a> {
 #[cycle(sets)]
 pub struct JoinedDifference<'a> {
     pub mark: JoinMark,
-    pub part: Box<DifferenceTree<'a>>,
+    pub part: DifferenceTree<'a>,
 }
 
 /// How a union or an intersection is spelled (X.680 50.1).
@@ -299,11 +299,10 @@ pub enum JoinMark {
     Word,
 }
 
-/// An element, perhaps EXCEPT another one (X.680 50.1).
+/// An element, perhaps EXCEPT another one (X.680 50.1). Its site is that of the first of them.
 #[derive(Drop)]
 #[cycle(sets)]
 pub struct DifferenceTree<'a> {
-    pub site: Site,
     pub element: ElementTree<'a>,
     pub except: Option<Box<ElementTree<'a>>>,
 }

@@ -3,7 +3,7 @@ use Rattle.std.proofs.lemmas.Result.{err_from_is_err_and}
 use Rattle.guard_syntax.specs.Trees as written
 use Rattle.guard_syntax.specs.Trees.{united_of}
 use Rattle.guard_syntax.specs.declared.tree.ElementForm.{the_lemmas as tree_lemmas}
-use Rattle.guard_syntax.specs.SetViews.{set_view, intersection_view, difference_view, joined_intersection_view}
+use Rattle.guard_syntax.specs.SetViews.{site_of_difference, set_view, intersection_view, difference_view, joined_intersection_view}
 use Rattle.guard_syntax.specs.declared.tree.ElementForm.TheViews.{out-IntersectionTree}
 use Rattle.guard_constraints.specs.PermittedAlphabets.{items_of, items_of_form, items_of_united}
 use Rattle.guard_constraints.specs.Reading.{gathered}
@@ -15,12 +15,12 @@ use Rattle.guard_constraints.proofs.alphabets.+alphabet_forms.Goals as goal
 pub in_intersection-returns-then-not-is_empty : goal.in_intersection-returns-then-not-is_empty
 in_intersection-returns-then-not-is_empty t c =
     let i = out-IntersectionTree c.args.tree.now in
-    rw (intersection_view_is c.args.tree.now, joined_refused i.site (difference_view i.first.value) i.others.items (rw c.deref-others.ensures.value at (sym c.is_empty.ensures ∙ c.if-not-is_empty.true))) refl
+    rw (intersection_view_is c.args.tree.now, joined_refused (site_of_difference (difference_view i.first)) (difference_view i.first) i.others.items (rw c.deref-others.ensures.value at (sym c.is_empty.ensures ∙ c.if-not-is_empty.true))) refl
 
 pub in_intersection-returns : goal.in_intersection-returns
 in_intersection-returns t c =
     let i = out-IntersectionTree c.args.tree.now in
-    rw (intersection_view_is c.args.tree.now, alone_taken i.site (difference_view i.first.value) i.others.items (rw c.deref-others.ensures.value at (sym c.is_empty.ensures ∙ c.if-not-is_empty.false))) (rw c.deref.ensures at c.in_difference.ensures)
+    rw (intersection_view_is c.args.tree.now, alone_taken (site_of_difference (difference_view i.first)) (difference_view i.first) i.others.items (rw c.deref-others.ensures.value at (sym c.is_empty.ensures ∙ c.if-not-is_empty.false))) c.in_difference.ensures
 
 pub in_set-returns-in_ok-items-in-Union : goal.in_set-returns-in_ok-items-in-Union
 unfolding items_of
@@ -34,7 +34,7 @@ in_united-loop-other-preserved t c =
     united_goes_on c.args.site (map item_view c.loop-other.all.items) c.args.others.now c.loop-other.other-index
     (gathered c.args.site (map item_view c.args.items.items) (items_of_united (united_of (map joined_intersection_view c.args.others.now)))) c.loop-other.invariant
     c.other-item.result c.other-item.result c.loop-other-test.true c.other-item.is (map item_view c.in_ok-all.all.items)
-    (rw (joined_intersection_is c.other-item.result) (rw c.deref.ensures at c.in_ok-all.ensures))
+    (rw (joined_intersection_is c.other-item.result) c.in_ok-all.ensures)
 
 pub in_united-returns-in_err-all : goal.in_united-returns-in_err-all
 in_united-returns-in_err-all t c =
@@ -42,7 +42,7 @@ in_united-returns-in_err-all t c =
     rw (p.1, p.2) (united_stops c.args.site (map item_view c.loop-other.all.items) c.args.others.now c.loop-other.other-index
     (gathered c.args.site (map item_view c.args.items.items) (items_of_united (united_of (map joined_intersection_view c.args.others.now)))) c.loop-other.invariant
     c.other-item.result c.other-item.result c.loop-other-test.true c.other-item.is (named c.in_err-all.field-0.0)
-    (rw (joined_intersection_is c.other-item.result) (rw c.deref.ensures at c.in_err-all.ensures)))
+    (rw (joined_intersection_is c.other-item.result) c.in_err-all.ensures))
 
 pub in_united-returns : goal.in_united-returns
 in_united-returns t c =

@@ -6,14 +6,14 @@ use Rattle.guard_model.proofs.Loops.{stops_at, ends_there}
 use Rattle.guard_der.specs.ProperConstraints.{kind_of}
 use Rattle.guard_syntax.specs.Trees.{WrittenJoinedIntersection, WrittenJoinedDifference}
 use Rattle.guard_syntax.specs.SetViews as views
-use Rattle.guard_syntax.specs.declared.tree.ElementForm.TheViews.{out-IntersectionTree, out-SetTree}
+use Rattle.guard_syntax.specs.declared.tree.ElementForm.TheViews.{out-DifferenceTree, out-ElementTree, out-IntersectionTree, out-SetTree}
 use Rattle.guard_syntax.specs.declared.tree.ElementForm.{the_lemmas as tree_lemmas}
 use Rattle.guard_syntax.specs.Trees as written
 use Rattle.guard_syntax.specs.Trees.{united_of}
 use Rattle.guard_constraints.specs.Reading.{read, behind, joined_intersections, joined_differences, read_set, read_set_form, read_intersection, read_difference, read_part}
 use Rattle.guard_constraints.specs.Views.{named, visible_in}
 use Rattle.guard_constraints.proofs.Gathering.{pushes}
-use Rattle.guard_constraints.proofs.Shapes.{intersection_view_is, joined_intersection_is, joined_difference_is}
+use Rattle.guard_constraints.proofs.Shapes.{intersection_view_is, difference_site_is, joined_intersection_is, joined_difference_is}
 use Rattle.guard_constraints.proofs.Joins.{union_steps, union_alone, union_joined, union_refused, meeting_steps, meeting_alone, meeting_joined, meeting_refused, parts_checked, parts_refused, parts_made}
 use Rattle.guard_constraints.proofs.written.+sets.Goals as goal
 
@@ -48,7 +48,7 @@ united-loop-other-preserved t c =
     let total = behind (constraint_view c.args.first) (joined_intersections (visible_in c.args.context) (type_view c.args.ty.now) (map views.joined_intersection_view c.args.others.now)) in
     pushes step views.joined_intersection_view constraint_view c.loop-other.all.items c.args.others.now c.loop-other.other-index total c.loop-other.invariant
     c.other-item.result c.loop-other-test.true c.other-item.is c.in_ok-intersection.field-0 _ c.in_ok-push-2.ensures.items
-    (rw (joined_intersection_is c.other-item.result) (rw c.deref.ensures at c.in_ok-intersection.ensures))
+    (rw (joined_intersection_is c.other-item.result) c.in_ok-intersection.ensures)
 
 pub united-returns-in_err-intersection : goal.united-returns-in_err-intersection
 united-returns-in_err-intersection t c =
@@ -57,7 +57,7 @@ united-returns-in_err-intersection t c =
     let p = err_from_is_err_and c.from_residual-in_err-intersection.result c.from_residual-in_err-intersection.ensures.1 in
     rw (p.1, p.2) (stops_at step views.joined_intersection_view (map constraint_view c.loop-other.all.items) c.args.others.now c.loop-other.other-index total c.loop-other.invariant
     c.other-item.result c.other-item.result c.loop-other-test.true c.other-item.is (named c.in_err-intersection.field-0.0)
-    (rw (joined_intersection_is c.other-item.result) (rw c.deref.ensures at c.in_err-intersection.ensures)))
+    (rw (joined_intersection_is c.other-item.result) c.in_err-intersection.ensures))
 
 pub united-returns : goal.united-returns
 united-returns t c =
@@ -72,8 +72,9 @@ intersection-returns t c =
     let names = visible_in c.args.context in
     let ty = type_view c.args.ty.now in
     let i = out-IntersectionTree c.args.tree.now in
-    rw (intersection_view_is c.args.tree.now, meeting_steps names ty i.site (views.difference_view i.first.value) (map views.joined_difference_view i.others.items) (constraint_view c.in_ok-first.first) (rw c.deref.ensures at c.in_ok-first.ensures))
-    (rw c.deref-2.ensures.value at c.meeting.ensures)
+    let site = (out-ElementTree (out-DifferenceTree i.first).element).site in
+    rw (intersection_view_is c.args.tree.now, difference_site_is i.first, meeting_steps names ty site (views.difference_view i.first) (map views.joined_difference_view i.others.items) (constraint_view c.in_ok-first.first) c.in_ok-first.ensures)
+    (rw c.deref.ensures.value at c.meeting.ensures)
 
 pub meeting-returns-then-is_empty : goal.meeting-returns-then-is_empty
 meeting-returns-then-is_empty t c =
@@ -95,7 +96,7 @@ met-loop-other-preserved t c =
     let total = behind (constraint_view c.args.first) (joined_differences (visible_in c.args.context) (type_view c.args.ty.now) (map views.joined_difference_view c.args.others.now)) in
     pushes step views.joined_difference_view constraint_view c.loop-other.all.items c.args.others.now c.loop-other.other-index total c.loop-other.invariant
     c.other-item.result c.loop-other-test.true c.other-item.is c.in_ok-difference.field-0 _ c.in_ok-push-2.ensures.items
-    (rw (joined_difference_is c.other-item.result) (rw c.deref.ensures at c.in_ok-difference.ensures))
+    (rw (joined_difference_is c.other-item.result) c.in_ok-difference.ensures)
 
 pub met-returns-in_err-difference : goal.met-returns-in_err-difference
 met-returns-in_err-difference t c =
@@ -104,7 +105,7 @@ met-returns-in_err-difference t c =
     let p = err_from_is_err_and c.from_residual-in_err-difference.result c.from_residual-in_err-difference.ensures.1 in
     rw (p.1, p.2) (stops_at step views.joined_difference_view (map constraint_view c.loop-other.all.items) c.args.others.now c.loop-other.other-index total c.loop-other.invariant
     c.other-item.result c.other-item.result c.loop-other-test.true c.other-item.is (named c.in_err-difference.field-0.0)
-    (rw (joined_difference_is c.other-item.result) (rw c.deref.ensures at c.in_err-difference.ensures)))
+    (rw (joined_difference_is c.other-item.result) c.in_err-difference.ensures))
 
 pub met-returns : goal.met-returns
 met-returns t c =

@@ -13,7 +13,7 @@ add_united-loop-joined-init t c = refl
 pub add_united-loop-joined-preserved : goal.add_united-loop-joined-preserved
 add_united-loop-joined-preserved t c =
     one_more (λ xs. mentions.in_united (united_of (map joined_intersection_view xs))) c.args.others.now c.loop-joined.joined-index _
-    c.joined-item.result _ _ _ c.loop-joined-test.true c.joined-item.is c.in_ok-add_intersection.ensures c.loop-joined.invariant (rw (fold_out-JoinedIntersection, c.deref.ensures) refl)
+    c.joined-item.result _ _ _ c.loop-joined-test.true c.joined-item.is c.in_ok-add_intersection.ensures c.loop-joined.invariant (rw fold_out-JoinedIntersection refl)
 
 pub add_united-returns : goal.add_united-returns
 add_united-returns t c =
@@ -25,7 +25,7 @@ add_met-loop-joined-init t c = refl
 pub add_met-loop-joined-preserved : goal.add_met-loop-joined-preserved
 add_met-loop-joined-preserved t c =
     one_more (λ xs. mentions.in_met (met_of (map joined_difference_view xs))) c.args.others.now c.loop-joined.joined-index _
-    c.joined-item.result _ _ _ c.loop-joined-test.true c.joined-item.is c.in_ok-add_difference.ensures c.loop-joined.invariant (rw (fold_out-JoinedDifference, c.deref.ensures) refl)
+    c.joined-item.result _ _ _ c.loop-joined-test.true c.joined-item.is c.in_ok-add_difference.ensures c.loop-joined.invariant (rw fold_out-JoinedDifference refl)
 
 pub add_met-returns : goal.add_met-returns
 add_met-returns t c =

@@ -48,7 +48,7 @@ fn sites(alloc: Global, module: &Module) -> Result<String, AllocError> {
     let SetForm::Union(first, _) = &cons.set.form else {
         return String::from_str(alloc, "no union");
     };
-    let intersection = first.site;
+    let intersection = first.first.element.site;
     let ElementForm::Parentheses(inner) = &first.first.element.form else {
         return format!(in alloc; "set {set}; intersection {intersection}");
     };

@@ -8,6 +8,7 @@ pub mod Tags
 pub mod TypeViews
 pub mod ValueViews
 pub mod Components
+pub mod Characters
 -- ---- equality of values and of types
 pub mod Sameness
 pub mod SameTypes

@@ -117,7 +117,7 @@ mutual
   equal_kinds : (a b : AbstractKind) → same_kind a b ≡ true → a ≡ b
   equal_kinds boolean boolean h = refl
   equal_kinds (integer ns) (integer ms) h = ap integer ((pointwise_decides named_Decides ns ms).0 h)
-  equal_kinds bit_string bit_string h = refl
+  equal_kinds (bit_string ns) (bit_string ms) h = ap bit_string ((pointwise_decides named_Decides ns ms).0 h)
   equal_kinds octet_string octet_string h = refl
   equal_kinds null null h = refl
   equal_kinds object_identifier object_identifier h = refl
@@ -208,7 +208,7 @@ mutual
   kind_itself : (a : AbstractKind) → same_kind a a ≡ true
   kind_itself boolean = refl
   kind_itself (integer ns) = (pointwise_decides named_Decides ns ns).1 refl
-  kind_itself bit_string = refl
+  kind_itself (bit_string ns) = (pointwise_decides named_Decides ns ns).1 refl
   kind_itself octet_string = refl
   kind_itself null = refl
   kind_itself object_identifier = refl

@@ -7,7 +7,7 @@ use Rattle.guard_model.specs.declared.ty.CharKind.{CharKind}
 use Rattle.guard_model.specs.declared.ty.Limit.{Limit}
 use Rattle.guard_model.specs.declared.ty.Word.{Word}
 
--- a named number of an INTEGER (X.680 19), or an item of an ENUMERATED (20)
+-- a named number of an INTEGER (X.680 19), an item of an ENUMERATED (20), or a named bit of a BIT STRING (22)
 pub record NamedNumber : Type 0 where
   pub name : List ℕ
   pub number : ℤ
@@ -31,8 +31,8 @@ mutual
     boolean : AbstractKind
     -- 19, with its named numbers
     integer : List NamedNumber → AbstractKind
-    -- 22
-    bit_string : AbstractKind
+    -- 22, with its named bits
+    bit_string : List NamedNumber → AbstractKind
     -- 23
     octet_string : AbstractKind
     -- 24

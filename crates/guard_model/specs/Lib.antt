@@ -8,6 +8,7 @@ pub mod AbstractValue
 pub mod AbstractType
 pub mod Components
 pub mod Counts
+pub mod Kinds
 -- ---- what is said of them
 pub mod Limits
 pub mod Alphabets

@@ -62,7 +62,7 @@ abbrev mutual
   pub same_kind : AbstractKind → AbstractKind → Bool
   same_kind boolean boolean = true
   same_kind (integer ns) (integer ms) = pointwise same_named ns ms
-  same_kind bit_string bit_string = true
+  same_kind (bit_string ns) (bit_string ms) = pointwise same_named ns ms
   same_kind octet_string octet_string = true
   same_kind null null = true
   same_kind object_identifier object_identifier = true

@@ -57,7 +57,7 @@ parts_of (p ∷ ps) = part_before p.site p.place p.within p.word (parts_of ps)
 abbrev pub kind_step : Kind-F AbstractKind Element OneComponent Constraint OnePart AbstractType → AbstractKind
 kind_step Kind-F.Bool = abstract.boolean
 kind_step (Kind-F.Int ns) = abstract.integer (map named_view ns.items)
-kind_step Kind-F.Bits = abstract.bit_string
+kind_step (Kind-F.Bits ns) = abstract.bit_string (map named_view ns.items)
 kind_step Kind-F.Octets = abstract.octet_string
 kind_step Kind-F.Null = abstract.null
 kind_step Kind-F.Oid = abstract.object_identifier

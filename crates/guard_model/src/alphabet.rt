@@ -1,7 +1,7 @@
 //! The alphabets of the character strings (X.680 clause 41).
-ghost use Rattle.guard_model.specs.Alphabets.{is_character, is_printable_mark as printable_mark};
+ghost use Rattle.guard_model.specs.Alphabets.{all_characters, fits_characters, is_character, is_printable_mark as printable_mark};
 ghost use Rattle.std.specs.Char.{is_ascii_alphabetic, is_ascii_digit};
-ghost use Rattle.std.specs.Prelude.{◌≡◌};
+ghost use Rattle.std.specs.Prelude.{◌≡◌, chars};
 
 use crate::ty::CharKind;
 
@@ -18,6 +18,30 @@ impl CharKind {
             CharKind::Utf8 => true,
         }
     }
+
+    /// Whether each character of the text is of the kind's alphabet.
+    pub fn has_all(self, text: &str) -> bool
+        ensures { result ≡ fits_characters self (chars text.now) }
+    {
+        match self {
+            CharKind::Numeric => are_characters(self, text),
+            CharKind::Printable => are_characters(self, text),
+            CharKind::Ia5 => are_characters(self, text),
+            CharKind::Visible => are_characters(self, text),
+            CharKind::Utf8 => true,
+        }
+    }
+}
+
+fn are_characters(kind: CharKind, text: &str) -> bool
+    ensures { result ≡ all_characters kind (chars text.now) }
+{
+    for character in text.chars() {
+        if !kind.has(u32::from(character)) {
+            return false;
+        }
+    }
+    true
 }
 
 fn is_digit(code: u32) -> bool

@@ -107,7 +107,7 @@ impl Kind {
         match self {
             Kind::Bool => Ok(Kind::Bool),
             Kind::Int(named) => Ok(Kind::Int(copy_of_named(alloc, named)?)),
-            Kind::Bits => Ok(Kind::Bits),
+            Kind::Bits(named) => Ok(Kind::Bits(copy_of_named(alloc, named)?)),
             Kind::Octets => Ok(Kind::Octets),
             Kind::Null => Ok(Kind::Null),
             Kind::Oid => Ok(Kind::Oid),

@@ -5,6 +5,7 @@
 //! | what is a type, a constraint, a value | `ty.rt`, `value.rt`; as the definitions see them `specs/AbstractType.antt`, `specs/AbstractValue.antt`, and which one a type or value of the code is `specs/TypeView.antt`, `specs/ValueView.antt` |
 //! | when are two values the same | `same.rt`, `specs/Same.antt` |
 //! | when have two types the same base | `same_base.rt`, `specs/SameBase.antt` |
+//! | what is inside a kind, which elements of constraints apply to it | `kinds.rt`, `specs/Kinds.antt`, `specs/Components.antt` |
 //! | how is a value or type copied | `copying.rt` |
 //! | which tag comes first | `tag.rt`, `specs/Tags.antt` |
 //! | which characters may a string have | `alphabet.rt`, `specs/Alphabets.antt` |
@@ -16,6 +17,7 @@
 
 mod alphabet;
 mod copying;
+mod kinds;
 mod limits;
 mod memory;
 mod same;

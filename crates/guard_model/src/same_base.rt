@@ -1,6 +1,6 @@
 //! Whether two types have the same base.
 ghost use Rattle.guard_model.specs.BareView.{bare_components_view, bare_constraints_view, bare_parts_view, same_component, same_part};
-ghost use Rattle.guard_model.specs.SameBase.{HasSameBase, bare, bare_constraint, bare_element, bare_kind};
+ghost use Rattle.guard_model.specs.SameBase.{HasSameBase, bare, bare_constraint, bare_element, bare_kind, bare_names};
 ghost use Rattle.guard_model.specs.SameType.{same_base, same_components, same_constraint, same_constraints, same_element, same_kind, same_limit, same_named, same_parts, same_presence, same_range, same_type};
 ghost use Rattle.guard_model.specs.Tags.{same_tag};
 ghost use Rattle.guard_model.specs.TypeView.{component_view, constraint_view, element_view, kind_view, named_view, part_view, presence_view, type_view};
@@ -13,7 +13,8 @@ use crate::ty::{Comp, Cons, Kind, Limit, Named, Part, Presence, Rule, Ty};
 
 impl Ty {
     /// Whether both have the same base: equal kinds without the outermost tags and constraints. Inside, parts are compared in name, tags, presence, default and constraints.
-    /// Named numbers of an INTEGER and sites count nowhere; the items of an ENUMERATED count, in written order and with their numbers. Constraints are compared as they are written.
+    /// Named numbers of an INTEGER and sites count nowhere. Of named bits it counts whether there are some. The items of an ENUMERATED count, in written order and with their numbers.
+    /// Constraints are compared as they are written.
     pub fn same_base(&self, other: &Ty) -> bool
         ensures test { result ≡ same_base (type_view self.now) (type_view other.now) }
         ensures equal { Decides result (HasSameBase (type_view self.now) (type_view other.now)) }
@@ -45,7 +46,7 @@ impl Kind {
         match (self, other) {
             (Kind::Bool, Kind::Bool) => true,
             (Kind::Int(_), Kind::Int(_)) => true,
-            (Kind::Bits, Kind::Bits) => true,
+            (Kind::Bits(one), Kind::Bits(two)) => are_both_named(one, two),
             (Kind::Octets, Kind::Octets) => true,
             (Kind::Null, Kind::Null) => true,
             (Kind::Oid, Kind::Oid) => true,
@@ -59,6 +60,13 @@ impl Kind {
             _ => false,
         }
     }
+}
+
+/// Both have named bits, or neither has.
+fn are_both_named(names: &[Named], others: &[Named]) -> bool
+    ensures { result ≡ pointwise same_named (bare_names (map named_view names.now)) (bare_names (map named_view others.now)) }
+{
+    names.is_empty() == others.is_empty()
 }
 
 fn are_same_items(items: &[Named], others: &[Named]) -> bool

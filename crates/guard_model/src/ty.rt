@@ -21,7 +21,8 @@ pub enum Kind {
     Bool,
     /// INTEGER with its named numbers.
     Int(Vec<Named>),
-    Bits,
+    /// BIT STRING with its named bits. Where there are some, a value has no trailing zero bit (X.680 22.7).
+    Bits(Vec<Named>),
     Octets,
     Null,
     Oid,
@@ -46,7 +47,7 @@ pub enum CharKind {
     Utf8,
 }
 
-/// A named number of an INTEGER, or an item of an ENUMERATED.
+/// A named number of an INTEGER, an item of an ENUMERATED, or a named bit of a BIT STRING.
 #[derive(Debug, Drop)]
 pub struct Named {
     pub name: String,

@@ -1,12 +1,11 @@
 -- What the faults name.
-use Rattle.std.specs.Prelude.{◌≡◌, ℕ, ◌+◌, ◌<◌, ◌^◌, Bool, true, not, ◌||◌, ◌==◌, ◌⊎◌, List, [], ◌∷◌, length, take, drop, Contains, Option, Some, None}
+use Rattle.std.specs.Prelude.{◌≡◌, ℕ, ◌+◌, ◌<◌, ◌^◌, Bool, true, not, ◌||◌, ◌==◌, ◌⊎◌, List, length, take, Contains, Option, Some, None}
 use Rattle.std.specs.List.{count_by, suffix_len}
 use Rattle.guard_model.specs.declared.site.Site.{Site}
 use Rattle.guard_lexer.specs.declared.token.Token.{Token}
 use Rattle.guard_lexer.specs.declared.token.TokenKind.{TokenKind}
-use Rattle.guard_lexer.specs.declared.token.TokenKind.TheVariants.{Unsupported, Reserved, Mark}
-use Rattle.guard_lexer.specs.declared.token.Reserved.TheVariants.{Bit, String}
-use Rattle.guard_lexer.specs.declared.token.Mark.TheVariants.{CommercialAt, Ellipsis, Exclamation, FullStop, LeftBrace, LeftVersionBrackets, RightVersionBrackets}
+use Rattle.guard_lexer.specs.declared.token.TokenKind.TheVariants.{Unsupported, Mark}
+use Rattle.guard_lexer.specs.declared.token.Mark.TheVariants.{CommercialAt, Ellipsis, Exclamation, FullStop, LeftVersionBrackets, RightVersionBrackets}
 use Rattle.guard_syntax.specs.declared.fault.SyntaxFault.{SyntaxFault}
 use Rattle.guard_syntax.specs.declared.fault.SyntaxFault.TheVariants as fault
 use Rattle.guard_syntax.specs.Kinds.{same_kind}
@@ -26,28 +25,6 @@ pub record IsLeftOut (text : List ℕ) (tokens : List Token) (spelling : List �
   pub left_out : is_left_out token.kind ≡ true
   pub spelled : spelling ≡ take 16 (octets_of text token)
 
--- the tokens begin with BIT STRING and a brace directly behind it, where named bits are left out (X.680 22.1)
-pub record BeginWithNamedBits (tokens : List Token) (spelling : List ℕ) (site : Site) : Type 0 where
-  pub bit : Token
-  pub string : Token
-  pub brace : Token
-  pub behind : List Token
-  pub stand : tokens ≡ bit ∷ string ∷ brace ∷ behind
-  pub is_bit : same_kind bit.kind (Reserved Bit) ≡ true
-  pub is_string : same_kind string.kind (Reserved String) ≡ true
-  pub is_brace : same_kind brace.kind (Mark LeftBrace) ≡ true
-  pub spelled : spelling ≡ 123 ∷ []
-  pub at : site ≡ brace.site
-
-abbrev pub HasNamedBits : List Token → List ℕ → Site → Type 0
-HasNamedBits tokens spelling site = (before : ℕ) × BeginWithNamedBits (drop before tokens) spelling site
-
--- of a fault, where there is one: it is P2 and names such a brace
-abbrev pub NamesBrace : (List ℕ → Site → Type 0) → Option SyntaxFault → Type 0
-NamesBrace Is None = Unit {0}
-NamesBrace Is (Some (fault.Unsupported spelling site)) = Is spelling.octets.items site
-NamesBrace Is (Some _) = ⊥
-
 abbrev pub is_line_feed : ℕ → Bool
 is_line_feed octet = octet == 10
 
@@ -63,11 +40,11 @@ pub record IsAtToken (tokens : List Token) (site : Site) (token : Token) : Type 
   pub stands : Contains tokens token
   pub at : site ≡ token.site
 
--- P1 is at a token or where the text ends (a text of less than 2 ^ 32 octets), P2 names a token of a form that is left out or
--- the brace of named bits, and P3 is at a token.
+-- P1 is at a token or where the text ends (a text of less than 2 ^ 32 octets), P2 names a token of a form that is left out, and
+-- P3 is at a token.
 abbrev pub NamesToken : ℕ → List ℕ → List Token → SyntaxFault → Type 0
 NamesToken place text tokens (fault.Unexpected site) = ((token : Token) × IsAtToken tokens site token) ⊎ (length text + 1 < 2 ^ 32 → site ≡ end_site place text)
-NamesToken place text tokens (fault.Unsupported spelling site) = ((token : Token) × IsLeftOut text tokens spelling.octets.items token × (site ≡ token.site)) ⊎ HasNamedBits tokens spelling.octets.items site
+NamesToken place text tokens (fault.Unsupported spelling site) = (token : Token) × IsLeftOut text tokens spelling.octets.items token × (site ≡ token.site)
 NamesToken place text tokens (fault.TooDeep site) = (token : Token) × IsAtToken tokens site token
 NamesToken place text tokens fault.OutOfMemory = Unit {0}
 

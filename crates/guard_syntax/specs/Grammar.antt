@@ -1,6 +1,6 @@
 -- What the grammar allows, of all trees. `levels` says how many types, values and sets may stand one in the other.
-use Rattle.std.specs.Prelude.{◌≢◌, ℕ, zero, suc, Bool, true, false, List, [], ◌∷◌, Option, Some, None}
-use Rattle.guard_syntax.specs.Trees.{WrittenNumber, WrittenArc, WrittenValue, value_node, WrittenValueForm, boolean, null, integer, text, reference, chosen, list, arcs, WrittenEntries, no_entries, entry, WrittenEndForm, end_integer, end_reference, end_characters, WrittenEnd, WrittenRange, WrittenSet, set_node, WrittenSetForm, all_except, union, WrittenUnited, none_united, united, WrittenIntersection, intersection, WrittenMet, none_met, met, WrittenDifference, element_alone, element_except, WrittenElement, element_node, WrittenElementForm, parentheses, value, contained, range, size, from, with_component, with_components, WrittenConstraint, constraint, WrittenParts, no_parts, part, part_in, WrittenNamed, WrittenItem, WrittenOfConstraint, WrittenPresence, mandatory, optional, default, WrittenType, type_node, WrittenBase, plain, numbers, enumerated, structure, choice, of_type, named_type, WrittenComponents, no_components, component, components_from, WrittenAlternatives, no_alternatives, alternative, WrittenImport, WrittenAssignment, WrittenModule}
+use Rattle.std.specs.Prelude.{◌≡◌, ◌≢◌, ℕ, zero, suc, Bool, true, false, List, [], ◌∷◌, Option, Some, None}
+use Rattle.guard_syntax.specs.Trees.{WrittenNumber, WrittenArc, WrittenValue, value_node, WrittenValueForm, boolean, null, integer, text, reference, chosen, list, arcs, WrittenEntries, no_entries, entry, WrittenEndForm, end_integer, end_reference, end_characters, WrittenEnd, WrittenRange, WrittenSet, set_node, WrittenSetForm, all_except, union, WrittenUnited, none_united, united, WrittenIntersection, intersection, WrittenMet, none_met, met, WrittenDifference, element_alone, element_except, WrittenElement, element_node, WrittenElementForm, parentheses, value, contained, range, size, from, with_component, with_components, WrittenConstraint, constraint, WrittenParts, no_parts, part, part_in, WrittenNamed, WrittenItem, WrittenOfConstraint, WrittenPresence, mandatory, optional, default, WrittenType, type_node, WrittenBase, plain, numbers, named_bits, enumerated, structure, choice, of_type, named_type, WrittenComponents, no_components, component, components_from, WrittenAlternatives, no_alternatives, alternative, WrittenImport, WrittenAssignment, WrittenModule}
 
 -- the number 0
 abbrev pub zero_digits : List ℕ
@@ -13,6 +13,10 @@ MayFollowSign false digits = Unit {0}
 -- a minus sign is not followed by the number 0 (X.680 19.9)
 abbrev pub IsNumber : WrittenNumber → Type 0
 IsNumber n = MayFollowSign n.minus n.digits
+
+-- there is no minus sign
+abbrev pub IsUnsigned : WrittenNumber → Type 0
+IsUnsigned n = n.minus ≡ false
 
 -- ---- lists
 
@@ -129,6 +133,10 @@ abbrev mutual
 abbrev pub IsNamed : WrittenNamed → Type 0
 IsNamed n = IsNumber n.number
 
+-- a named bit has a number without a sign (X.680 22.1)
+abbrev pub IsNamedBit : WrittenNamed → Type 0
+IsNamedBit b = IsUnsigned b.number
+
 abbrev pub IsItem : WrittenItem → Type 0
 IsItem i = IsPerhaps IsNumber i.number
 
@@ -159,6 +167,7 @@ abbrev mutual
   pub IsBase : ℕ → WrittenBase → Type 0
   IsBase levels (plain p) = Unit {0}
   IsBase levels (numbers ns) = AreEach IsNamed ns
+  IsBase levels (named_bits bs) = AreEach IsNamedBit bs
   IsBase levels (enumerated is) = AreSome IsItem is
   IsBase levels (structure k cs) = AreComponents levels cs
   IsBase levels (choice alternatives) = HasAlternatives alternatives × AreAlternatives levels alternatives

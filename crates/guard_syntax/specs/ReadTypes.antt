@@ -12,7 +12,7 @@ use Rattle.guard_syntax.specs.declared.tree.PlainType.{PlainType}
 use Rattle.guard_syntax.specs.declared.tree.PlainType.TheVariants as plain_type
 use Rattle.guard_syntax.specs.declared.tree.Collection.{Collection}
 use Rattle.guard_syntax.specs.declared.tree.Collection.TheVariants as collection
-use Rattle.guard_syntax.specs.Trees.{WrittenNumber, WrittenValue, WrittenSet, WrittenConstraint, WrittenTag, WrittenNamed, WrittenItem, WrittenOfConstraint, WrittenPresence, mandatory, optional, default, WrittenType, type_node, WrittenBase, plain, numbers, enumerated, structure, choice, of_type, named_type, WrittenComponentForm, named, components_of_type, WrittenComponent, components_of, WrittenAlternative, alternatives_of}
+use Rattle.guard_syntax.specs.Trees.{WrittenNumber, WrittenValue, WrittenSet, WrittenConstraint, WrittenTag, WrittenNamed, WrittenItem, WrittenOfConstraint, WrittenPresence, mandatory, optional, default, WrittenType, type_node, WrittenBase, plain, numbers, named_bits, enumerated, structure, choice, of_type, named_type, WrittenComponentForm, named, components_of_type, WrittenComponent, components_of, WrittenAlternative, alternatives_of}
 use Rattle.guard_syntax.specs.ReadTokens.{Placed, Reader, begins_with, behind, behind_if, site_at, too_deep, read_token, read_spelling, read_each, read_parted, read_number}
 use Rattle.guard_syntax.specs.ReadValues.{is_there, read_value}
 use Rattle.guard_syntax.specs.ReadSets.{read_constraint, read_set}
@@ -45,7 +45,7 @@ begins_tag ps = begins_with (Mark LeftBracket) ps
 abbrev pub begins_constraint : List Placed → Bool
 begins_constraint ps = begins_with (Mark LeftParenthesis) ps
 
--- ---- named numbers and items
+-- ---- named numbers, named bits and items
 
 -- a number in parentheses
 unfoldable pub read_in_parentheses : Reader WrittenNumber
@@ -61,6 +61,20 @@ read_named ps = do
   n ← read_in_parentheses name.1
   Ok (record { site = site_at ps; name = name.0; number = n.0 }, n.1)
 
+-- a number without a sign in parentheses
+unfoldable pub read_bit_number : Reader WrittenNumber
+read_bit_number ps = do
+  opening ← read_token (Mark LeftParenthesis) ps
+  digits ← read_spelling Number opening
+  closing ← read_token (Mark RightParenthesis) digits.1
+  Ok (record { site = site_at opening; minus = false; digits = digits.0 }, closing)
+
+unfoldable pub read_bit : Reader WrittenNamed
+read_bit ps = do
+  name ← read_spelling LowerName ps
+  n ← read_bit_number name.1
+  Ok (record { site = site_at ps; name = name.0; number = n.0 }, n.1)
+
 unfoldable pub read_item_number : Reader (Option WrittenNumber)
 read_item_number ps = if begins_with (Mark LeftParenthesis) ps then (read_in_parentheses ps >>= λ n. Ok (Some n.0, n.1)) else Ok (None, ps)
 
@@ -70,11 +84,11 @@ read_item ps = do
   n ← read_item_number name.1
   Ok (record { site = site_at ps; name = name.0; number = n.0 }, n.1)
 
--- behind INTEGER
-unfoldable pub read_numbers : Reader (List WrittenNamed)
-read_numbers ps =
+-- In braces what is named after INTEGER or BIT STRING. Where no brace stands there is none.
+unfoldable pub read_numbers : Reader WrittenNamed → Reader (List WrittenNamed)
+read_numbers read ps =
     if begins_with (Mark LeftBrace) ps
-    then (read_parted read_named (length (behind ps)) (behind ps) >>= λ all. read_token (Mark RightBrace) all.1 >>= λ closing. Ok (all.0, closing))
+    then (read_parted read (length (behind ps)) (behind ps) >>= λ all. read_token (Mark RightBrace) all.1 >>= λ closing. Ok (all.0, closing))
     else Ok ([], ps)
 
 -- behind ENUMERATED
@@ -100,13 +114,12 @@ single_word_at ps =
     else None))))))
 
 abbrev pub begins_two_words : List Placed → Bool
-begins_two_words ps = begins_with (Reserved Bit) ps || begins_with (Reserved Octet) ps || begins_with (Reserved Object) ps
+begins_two_words ps = begins_with (Reserved Octet) ps || begins_with (Reserved Object) ps
 
 unfoldable pub read_two_words : Reader PlainType
 read_two_words ps =
-    if begins_with (Reserved Bit) ps then (read_token (Reserved String) (behind ps) >>= λ rest. Ok (plain_type.BitString, rest))
-    else (if begins_with (Reserved Octet) ps then (read_token (Reserved String) (behind ps) >>= λ rest. Ok (plain_type.OctetString, rest))
-    else (read_token (Reserved Object) ps >>= λ rest. read_token (Reserved Identifier) rest >>= λ rest. Ok (plain_type.ObjectIdentifier, rest)))
+    if begins_with (Reserved Octet) ps then (read_token (Reserved String) (behind ps) >>= λ rest. Ok (plain_type.OctetString, rest))
+    else (read_token (Reserved Object) ps >>= λ rest. read_token (Reserved Identifier) rest >>= λ rest. Ok (plain_type.ObjectIdentifier, rest))
 
 -- ---- components and alternatives
 
@@ -176,13 +189,18 @@ plain_or_name (Some p) ps = Ok (plain p, behind ps)
 unfoldable pub read_word_or_name : Reader WrittenBase
 read_word_or_name ps = plain_or_name (single_word_at ps) ps
 
+-- after BIT
+unfoldable pub read_bit_string : Reader WrittenBase
+read_bit_string ps = read_token (Reserved String) ps >>= λ rest. read_numbers read_bit rest >>= λ all. Ok (named_bits all.0, all.1)
+
 -- a base in which no type stands
 unfoldable pub read_simple : Reader WrittenBase
 read_simple ps =
     if begins_two_words ps then (read_two_words ps >>= λ p. Ok (plain p.0, p.1))
-    else (if begins_with (Reserved Integer) ps then (read_numbers (behind ps) >>= λ all. Ok (numbers all.0, all.1))
+    else (if begins_with (Reserved Integer) ps then (read_numbers read_named (behind ps) >>= λ all. Ok (numbers all.0, all.1))
+    else (if begins_with (Reserved Bit) ps then read_bit_string (behind ps)
     else (if begins_with (Reserved Enumerated) ps then (read_items (behind ps) >>= λ all. Ok (enumerated all.0, all.1))
-    else (read_word_or_name ps)))
+    else (read_word_or_name ps))))
 
 unfoldable pub read_base : Reader WrittenValue → Reader WrittenSet → Reader WrittenType → Reader WrittenBase
 read_base values sets types ps =
@@ -201,8 +219,8 @@ read_constraints sets of ps = if of then Ok ([], ps) else read_each begins_const
 
 abbrev pub begins_type : List Placed → Bool
 begins_type ps =
-    begins_tag ps || is_there (single_word_at ps) || begins_two_words ps || begins_with (Reserved Integer) ps || begins_with (Reserved Enumerated) ps
-    || begins_with (Reserved Sequence) ps || begins_with (Reserved Set) ps || begins_with (Reserved Choice) ps || begins_with UpperName ps
+    begins_tag ps || is_there (single_word_at ps) || begins_two_words ps || begins_with (Reserved Integer) ps || begins_with (Reserved Bit) ps
+    || begins_with (Reserved Enumerated) ps || begins_with (Reserved Sequence) ps || begins_with (Reserved Set) ps || begins_with (Reserved Choice) ps || begins_with UpperName ps
 
 -- a type with what stands inside
 unfoldable pub read_inner_type : Reader WrittenValue → Reader WrittenSet → Reader WrittenType → Reader WrittenType

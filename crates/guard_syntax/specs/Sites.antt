@@ -4,7 +4,7 @@ use Rattle.std.specs.Prelude.{ℕ, Bool, true, false, List, [], ◌∷◌, Optio
 use Rattle.guard_model.specs.declared.site.Site.{Site}
 use Rattle.guard_syntax.specs.declared.tree.PlainType.{PlainType}
 use Rattle.guard_syntax.specs.declared.tree.PlainType.TheVariants as plain_type
-use Rattle.guard_syntax.specs.Trees.{WrittenNumber, WrittenArc, WrittenValue, value_node, WrittenValueForm, boolean, null, integer, text, reference, chosen, list, arcs, WrittenEntries, no_entries, entry, WrittenEndForm, end_integer, end_reference, end_characters, WrittenEnd, WrittenRange, WrittenSet, set_node, WrittenSetForm, all_except, union, WrittenUnited, none_united, united, WrittenIntersection, intersection, WrittenMet, none_met, met, WrittenDifference, element_alone, element_except, WrittenElement, element_node, WrittenElementForm, parentheses, value, contained, range, size, from, with_component, with_components, WrittenConstraint, constraint, WrittenParts, no_parts, part, part_in, WrittenTag, WrittenNamed, WrittenItem, WrittenOfConstraint, WrittenPresence, mandatory, optional, default, WrittenType, type_node, WrittenBase, plain, numbers, enumerated, structure, choice, of_type, named_type, WrittenComponents, no_components, component, components_from, WrittenAlternatives, no_alternatives, alternative, WrittenIdentifierPart, bare_name, arc_part, WrittenSymbol, WrittenExports, all_exported, exported, WrittenImport, WrittenAssignment, WrittenModule}
+use Rattle.guard_syntax.specs.Trees.{WrittenNumber, WrittenArc, WrittenValue, value_node, WrittenValueForm, boolean, null, integer, text, reference, chosen, list, arcs, WrittenEntries, no_entries, entry, WrittenEndForm, end_integer, end_reference, end_characters, WrittenEnd, WrittenRange, WrittenSet, set_node, WrittenSetForm, all_except, union, WrittenUnited, none_united, united, WrittenIntersection, intersection, WrittenMet, none_met, met, WrittenDifference, element_alone, element_except, WrittenElement, element_node, WrittenElementForm, parentheses, value, contained, range, size, from, with_component, with_components, WrittenConstraint, constraint, WrittenParts, no_parts, part, part_in, WrittenTag, WrittenNamed, WrittenItem, WrittenOfConstraint, WrittenPresence, mandatory, optional, default, WrittenType, type_node, WrittenBase, plain, numbers, named_bits, enumerated, structure, choice, of_type, named_type, WrittenComponents, no_components, component, components_from, WrittenAlternatives, no_alternatives, alternative, WrittenIdentifierPart, bare_name, arc_part, WrittenSymbol, WrittenExports, all_exported, exported, WrittenImport, WrittenAssignment, WrittenModule}
 
 -- the site of the first of these tokens; where there is none, no place
 abbrev pub first : List Site → Site
@@ -208,7 +208,6 @@ sited_numbers (n ∷ ns) ss = let inside = sited_parted sited_named (n ∷ ns) (
 
 abbrev pub past_plain : PlainType → List Site → List Site
 past_plain plain_type.Boolean ss = past ss
-past_plain plain_type.BitString ss = past (past ss)
 past_plain plain_type.OctetString ss = past (past ss)
 past_plain plain_type.Null ss = past ss
 past_plain plain_type.ObjectIdentifier ss = past (past ss)
@@ -248,6 +247,7 @@ abbrev mutual
   pub sited_base : WrittenBase → List Site → WrittenBase × List Site
   sited_base (plain p) ss = (plain p, past_plain p ss)
   sited_base (numbers ns) ss = let inside = sited_numbers ns (past ss) in (numbers inside.0, inside.1)
+  sited_base (named_bits bs) ss = let inside = sited_numbers bs (past (past ss)) in (named_bits inside.0, inside.1)
   sited_base (enumerated is) ss = let inside = sited_parted sited_item is (past (past ss)) in (enumerated inside.0, past inside.1)
   sited_base (structure k cs) ss = let inside = sited_components cs (past (past ss)) in (structure k inside.0, past inside.1)
   sited_base (choice alternatives) ss = let inside = sited_alternatives alternatives (past (past ss)) in (choice inside.0, past inside.1)

@@ -22,7 +22,7 @@ use Rattle.guard_syntax.specs.declared.tree.StringKind.TheVariants as string
 use Rattle.guard_syntax.specs.declared.tree.SymbolKind.{SymbolKind}
 use Rattle.guard_syntax.specs.declared.tree.SymbolKind.TheVariants as symbol
 use Rattle.guard_syntax.specs.Lexemes.{Lexeme, word, mark, upper_name, lower_name, number, character_string, bit_string, hexadecimal_string}
-use Rattle.guard_syntax.specs.Trees.{WrittenNumber, WrittenArc, WrittenValue, value_node, WrittenValueForm, boolean, null, integer, text, reference, chosen, list, arcs, WrittenEntries, no_entries, entry, WrittenEndForm, end_integer, end_reference, end_characters, WrittenEnd, WrittenRange, WrittenSet, set_node, WrittenSetForm, all_except, union, WrittenUnited, none_united, united, WrittenIntersection, intersection, WrittenMet, none_met, met, WrittenDifference, element_alone, element_except, WrittenElement, element_node, WrittenElementForm, parentheses, value, contained, range, size, from, with_component, with_components, WrittenConstraint, constraint, WrittenParts, no_parts, part, part_in, WrittenTag, WrittenNamed, WrittenItem, WrittenOfConstraint, WrittenPresence, mandatory, optional, default, WrittenType, type_node, WrittenBase, plain, numbers, enumerated, structure, choice, of_type, named_type, WrittenComponents, no_components, component, components_from, WrittenAlternatives, no_alternatives, alternative, WrittenIdentifierPart, bare_name, arc_part, WrittenSymbol, WrittenExports, all_exported, exported, WrittenImport, WrittenAssignment, WrittenModule}
+use Rattle.guard_syntax.specs.Trees.{WrittenNumber, WrittenArc, WrittenValue, value_node, WrittenValueForm, boolean, null, integer, text, reference, chosen, list, arcs, WrittenEntries, no_entries, entry, WrittenEndForm, end_integer, end_reference, end_characters, WrittenEnd, WrittenRange, WrittenSet, set_node, WrittenSetForm, all_except, union, WrittenUnited, none_united, united, WrittenIntersection, intersection, WrittenMet, none_met, met, WrittenDifference, element_alone, element_except, WrittenElement, element_node, WrittenElementForm, parentheses, value, contained, range, size, from, with_component, with_components, WrittenConstraint, constraint, WrittenParts, no_parts, part, part_in, WrittenTag, WrittenNamed, WrittenItem, WrittenOfConstraint, WrittenPresence, mandatory, optional, default, WrittenType, type_node, WrittenBase, plain, numbers, named_bits, enumerated, structure, choice, of_type, named_type, WrittenComponents, no_components, component, components_from, WrittenAlternatives, no_alternatives, alternative, WrittenIdentifierPart, bare_name, arc_part, WrittenSymbol, WrittenExports, all_exported, exported, WrittenImport, WrittenAssignment, WrittenModule}
 
 -- ---- lists
 
@@ -223,7 +223,7 @@ tag_then t rest = mark LeftBracket ∷ perhaps_then class_then t.class (number t
 abbrev pub parenthesised_then : WrittenNumber → List Lexeme → List Lexeme
 parenthesised_then n rest = mark LeftParenthesis ∷ number_then n (mark RightParenthesis ∷ rest)
 
--- Num = lower "(" Int ")"
+-- Num = lower "(" Int ")", Bit = lower "(" number ")"
 abbrev pub named_then : WrittenNamed → List Lexeme → List Lexeme
 named_then n rest = lower_name n.name ∷ parenthesised_then n.number rest
 
@@ -231,7 +231,7 @@ named_then n rest = lower_name n.name ∷ parenthesised_then n.number rest
 abbrev pub item_then : WrittenItem → List Lexeme → List Lexeme
 item_then i rest = lower_name i.name ∷ perhaps_then parenthesised_then i.number rest
 
--- ["{" Num,+ "}"]
+-- ["{" Num,+ "}"], ["{" Bit,+ "}"]
 abbrev pub numbers_then : List WrittenNamed → List Lexeme → List Lexeme
 numbers_then [] rest = rest
 numbers_then (n ∷ ns) rest = mark LeftBrace ∷ parted_then named_then (n ∷ ns) (mark RightBrace ∷ rest)
@@ -239,7 +239,6 @@ numbers_then (n ∷ ns) rest = mark LeftBrace ∷ parted_then named_then (n ∷ 
 -- the types that are written with words alone
 abbrev pub plain_then : PlainType → List Lexeme → List Lexeme
 plain_then plain_type.Boolean rest = word Boolean ∷ rest
-plain_then plain_type.BitString rest = word Bit ∷ word String ∷ rest
 plain_then plain_type.OctetString rest = word Octet ∷ word String ∷ rest
 plain_then plain_type.Null rest = word Null ∷ rest
 plain_then plain_type.ObjectIdentifier rest = word Object ∷ word Identifier ∷ rest
@@ -277,11 +276,12 @@ abbrev mutual
   pub type_then : WrittenType → List Lexeme → List Lexeme
   type_then (type_node site tags base constraints) rest = each_then tag_then tags (base_then base (each_then constraint_then constraints rest))
 
-  -- Base = INTEGER ["{" Num,+ "}"] | ENUMERATED "{" Item,+ "}" | (SEQUENCE|SET) "{" [Comp,+] "}" | CHOICE "{" Alt,+ "}"
-  --      | (SEQUENCE|SET) [Cons | SIZE Cons] OF Type | upper | words
+  -- Base = INTEGER ["{" Num,+ "}"] | BIT STRING ["{" Bit,+ "}"] | ENUMERATED "{" Item,+ "}"
+  --      | (SEQUENCE|SET) "{" [Comp,+] "}" | CHOICE "{" Alt,+ "}" | (SEQUENCE|SET) [Cons | SIZE Cons] OF Type | upper | words
   pub base_then : WrittenBase → List Lexeme → List Lexeme
   base_then (plain p) rest = plain_then p rest
   base_then (numbers ns) rest = word Integer ∷ numbers_then ns rest
+  base_then (named_bits bs) rest = word Bit ∷ word String ∷ numbers_then bs rest
   base_then (enumerated is) rest = word Enumerated ∷ mark LeftBrace ∷ parted_then item_then is (mark RightBrace ∷ rest)
   base_then (structure k cs) rest = word (collection_word k) ∷ mark LeftBrace ∷ components_then cs (mark RightBrace ∷ rest)
   base_then (choice alternatives) rest = word Choice ∷ mark LeftBrace ∷ alternatives_then alternatives (mark RightBrace ∷ rest)

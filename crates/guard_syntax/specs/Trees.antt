@@ -166,7 +166,7 @@ pub record WrittenTag : Type 0 where
   pub number : List ℕ
   pub mode : Option TagMode
 
--- a named number (X.680 19.1)
+-- a named number (X.680 19.1) or a named bit (X.680 22.1)
 pub record WrittenNamed : Type 0 where
   pub site : Site
   pub name : List ℕ
@@ -198,6 +198,7 @@ mutual
   pub data WrittenBase : Type 0 where
     plain : PlainType → WrittenBase
     numbers : List WrittenNamed → WrittenBase
+    named_bits : List WrittenNamed → WrittenBase
     enumerated : List WrittenItem → WrittenBase
     structure : Collection → WrittenComponents → WrittenBase
     choice : WrittenAlternatives → WrittenBase

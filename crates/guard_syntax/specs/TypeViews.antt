@@ -1,6 +1,6 @@
 -- The trees of the definitions that the code's trees stand for: types.
 use Rattle.std.specs.Prelude.{map, Option, Some, None}
-use Rattle.guard_syntax.specs.Trees.{WrittenNumber, WrittenTag, WrittenNamed, WrittenItem, WrittenOfConstraint, WrittenPresence, mandatory, optional, default, WrittenType, type_node, WrittenBase, plain, numbers, enumerated, structure, choice, of_type, named_type, WrittenComponentForm, named, components_of_type, WrittenComponent, components_of, WrittenAlternative, alternatives_of}
+use Rattle.guard_syntax.specs.Trees.{WrittenNumber, WrittenTag, WrittenNamed, WrittenItem, WrittenOfConstraint, WrittenPresence, mandatory, optional, default, WrittenType, type_node, WrittenBase, plain, numbers, named_bits, enumerated, structure, choice, of_type, named_type, WrittenComponentForm, named, components_of_type, WrittenComponent, components_of, WrittenAlternative, alternatives_of}
 use Rattle.guard_syntax.specs.Views.{number_view, value_view}
 use Rattle.guard_syntax.specs.SetViews.{constraint_view}
 use Rattle.guard_syntax.specs.declared.tree.NumberTree.{NumberTree}
@@ -44,6 +44,7 @@ presence_view (presence.Default v) = default (value_view v)
 abbrev pub base_step : BaseTree-F WrittenBase WrittenComponentForm WrittenAlternative WrittenComponent WrittenType → WrittenBase
 base_step (BaseTree-F.Plain p) = plain p
 base_step (BaseTree-F.Integer ns) = numbers (map named_view ns.items)
+base_step (BaseTree-F.BitString bs) = named_bits (map named_view bs.items)
 base_step (BaseTree-F.Enumerated is) = enumerated (map item_view is.items)
 base_step (BaseTree-F.Structure k cs) = structure k (components_of cs.items)
 base_step (BaseTree-F.Choice all) = choice (alternatives_of all.items)

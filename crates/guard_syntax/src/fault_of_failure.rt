@@ -1,13 +1,13 @@
 //! Which fault a failure is, and where it is.
 ghost use Rattle.std.specs.Prelude.{◌≡◌, ◌-◌, drop, length};
 ghost use Rattle.guard_syntax.specs.Faults as faults;
-ghost use Rattle.guard_syntax.specs.Faults.{NamesToken, NamesBrace, HasNamedBits, BeginWithNamedBits};
+ghost use Rattle.guard_syntax.specs.Faults.{NamesToken};
 
 use crate::cursor::octets;
 use crate::fault::{Spelling, SyntaxFault};
 use crate::read_error::{Failure, ReadError};
 use crate::text_end::end_of;
-use guard_lexer::{Mark, Reserved, Token, TokenKind};
+use guard_lexer::{Mark, Token, TokenKind};
 use guard_model::Site;
 
 /// The fault for this error.
@@ -17,10 +17,7 @@ pub fn fault(place: u32, text: &[u8], tokens: &[Token], error: ReadError) -> Syn
 {
     match error {
         ReadError::OutOfMemory => SyntaxFault::OutOfMemory,
-        ReadError::At(Failure::Unexpected(left)) => match named_bits(tokens, left) {
-            Some(fault) => fault,
-            None => unexpected(place, text, last(tokens, left)),
-        },
+        ReadError::At(Failure::Unexpected(left)) => unexpected(place, text, last(tokens, left)),
         ReadError::At(Failure::TooDeep(left)) => too_deep(place, text, last(tokens, left)),
     }
 }
@@ -30,30 +27,6 @@ fn last(tokens: &[Token], left: usize) -> &[Token]
     ensures { result.now ≡ drop (length tokens.now - left) tokens.now }
 {
     &tokens[tokens.len().saturating_sub(left)..]
-}
-
-/// The fault at a brace directly behind BIT STRING, where so many tokens are left.
-fn named_bits(tokens: &[Token], left: usize) -> Option<SyntaxFault>
-    ensures { NamesBrace (HasNamedBits tokens.now) result }
-{
-    if left >= tokens.len() || tokens.len() - left < 2 {
-        return None;
-    }
-    brace_behind_bit_string(last(tokens, left + 2))
-}
-
-fn brace_behind_bit_string(tokens: &[Token]) -> Option<SyntaxFault>
-    ensures { NamesBrace (BeginWithNamedBits tokens.now) result }
-{
-    match tokens {
-        [bit, string, brace, ..]
-            if bit.kind == TokenKind::Reserved(Reserved::Bit)
-                && string.kind == TokenKind::Reserved(Reserved::String)
-                && brace.kind == TokenKind::Mark(Mark::LeftBrace) => {
-            Some(SyntaxFault::Unsupported(Spelling::of(b"{"), brace.site))
-        }
-        _ => None,
-    }
 }
 
 fn too_deep(place: u32, text: &[u8], tokens: &[Token]) -> SyntaxFault

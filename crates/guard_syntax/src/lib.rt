@@ -8,7 +8,7 @@
 //! | What is a tree? | `tree.rt`; without places in memory `specs/Trees.antt`, and the way between them `specs/*Views.antt` |
 //! | Which trees does the grammar allow, and how are they written? | `specs/Grammar.antt`, `specs/TokensOf.antt` |
 //! | Which token is the site of a node? | `specs/Sites.antt` |
-//! | How is a form read? | modules `module.rt`, `imports.rt`, `module_identifiers.rt`; types `types.rt`, `tags.rt`, `named_numbers.rt`; constraints and sets of values `sets.rt`, `join_marks.rt`, `ranges.rt`; values `values.rt`, `numbers.rt`; each beside its reading function in `specs/Read*.antt` |
+//! | How is a form read? | modules `module.rt`, `imports.rt`, `module_identifiers.rt`; types `types.rt`, `tags.rt`, `named_numbers.rt`, `named_bits.rt`; constraints and sets of values `sets.rt`, `join_marks.rt`, `ranges.rt`; values `values.rt`, `numbers.rt`; each beside its reading function in `specs/Read*.antt` |
 //! | How is one token read? | `cursor.rt` |
 //! | How deep may a tree be nested? | `MOST_OTHERS` in `module.rt`, `most_levels` in `specs/Grammar.antt` |
 //! | Where does a new fault go? | `fault.rt` (its text), `read_error.rt` (where a reader fails), `fault_of_failure.rt` (which fault that is), `specs/Faults.antt` |
@@ -23,6 +23,7 @@ mod join_marks;
 pub mod laws;
 mod module;
 mod module_identifiers;
+mod named_bits;
 mod named_numbers;
 mod numbers;
 mod parser;

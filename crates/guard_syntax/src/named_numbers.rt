@@ -16,7 +16,7 @@ use std::alloc::Global;
 /// The named numbers behind INTEGER. Where no brace stands there are none.
 #[tactic(auto, unfolding(crate::specs::ReadTypes::read_numbers))]
 pub fn numbers<'a, 't>(alloc: Global, at: Cursor<'a, 't>) -> Read<'a, 't, Vec<NamedTree<'a>>>
-    ensures { Reads (each_view named_view) result (reading.read_numbers (ahead at.entry)) }
+    ensures { Reads (each_view named_view) result (reading.read_numbers reading.read_named (ahead at.entry)) }
 {
     if !at.begins_with(TokenKind::Mark(Mark::LeftBrace)) {
         return Ok((Vec::new(alloc), at));

@@ -144,6 +144,8 @@ pub enum BaseTree<'a> {
     Plain(PlainType),
     /// INTEGER with its named numbers (X.680 19.1). Where there are none, no braces are written.
     Integer(Vec<NamedTree<'a>>),
+    /// BIT STRING with its named bits (X.680 22.1). Where there are none, no braces are written.
+    BitString(Vec<NamedTree<'a>>),
     /// ENUMERATED with its items in written order, at least one (X.680 20.1).
     Enumerated(Vec<ItemTree<'a>>),
     /// SEQUENCE or SET with its components in written order (X.680 25.1, 27.1). There may be none.
@@ -160,7 +162,6 @@ pub enum BaseTree<'a> {
 #[derive(Clone, Copy, Debug, PartialEq, Eq)]
 pub enum PlainType {
     Boolean,
-    BitString,
     OctetString,
     Null,
     ObjectIdentifier,
@@ -187,7 +188,7 @@ pub struct OfConsTree<'a> {
     pub cons: Box<ConsTree<'a>>,
 }
 
-/// A named number (X.680 19.1).
+/// A named number (X.680 19.1), or a named bit (X.680 22.1), whose number has no minus sign.
 #[derive(Clone, Copy)]
 pub struct NamedTree<'a> {
     pub site: Site,

@@ -11,6 +11,7 @@ ghost use Rattle.guard_syntax.specs.SetViews.{constraint_view};
 ghost use Rattle.guard_syntax.specs.TypeViews.{of_constraint_view, presence_view, base_view, component_form_view, component_view, alternative_view, type_view};
 
 use crate::cursor::{Cursor, Read};
+use crate::named_bits::bits;
 use crate::named_numbers::{items, numbers};
 use crate::read_error::ReadError;
 use crate::sets::constraint;
@@ -31,6 +32,7 @@ fn begins_type(at: Cursor) -> bool
         || single_word_at(at).is_some()
         || begins_two_words(at)
         || at.begins_with(TokenKind::Reserved(Reserved::Integer))
+        || at.begins_with(TokenKind::Reserved(Reserved::Bit))
         || at.begins_with(TokenKind::Reserved(Reserved::Enumerated))
         || at.begins_with(TokenKind::Reserved(Reserved::Sequence))
         || at.begins_with(TokenKind::Reserved(Reserved::Set))
@@ -64,8 +66,7 @@ fn single_word_at(at: Cursor) -> Option<PlainType>
 fn begins_two_words(at: Cursor) -> bool
     ensures { result ≡ reading.begins_two_words (ahead at.entry) }
 {
-    at.begins_with(TokenKind::Reserved(Reserved::Bit))
-        || at.begins_with(TokenKind::Reserved(Reserved::Octet))
+    at.begins_with(TokenKind::Reserved(Reserved::Octet))
         || at.begins_with(TokenKind::Reserved(Reserved::Object))
 }
 
@@ -73,11 +74,7 @@ fn begins_two_words(at: Cursor) -> bool
 fn two_words<'a, 't>(at: Cursor<'a, 't>) -> Read<'a, 't, PlainType>
     ensures { Reads (λ x. x) result (reading.read_two_words (ahead at.entry)) }
 {
-    if at.begins_with(TokenKind::Reserved(Reserved::Bit)) {
-        let rest = at.behind();
-        let rest = rest.after(TokenKind::Reserved(Reserved::String))?;
-        Ok((PlainType::BitString, rest))
-    } else if at.begins_with(TokenKind::Reserved(Reserved::Octet)) {
+    if at.begins_with(TokenKind::Reserved(Reserved::Octet)) {
         let rest = at.behind();
         let rest = rest.after(TokenKind::Reserved(Reserved::String))?;
         Ok((PlainType::OctetString, rest))
@@ -142,6 +139,7 @@ fn is_of(base: &BaseTree) -> bool
         BaseTree::Of(_, _, _) => true,
         BaseTree::Plain(_) => false,
         BaseTree::Integer(_) => false,
+        BaseTree::BitString(_) => false,
         BaseTree::Enumerated(_) => false,
         BaseTree::Structure(_, _) => false,
         BaseTree::Choice(_) => false,
@@ -221,12 +219,24 @@ fn simple<'a, 't>(alloc: Global, at: Cursor<'a, 't>) -> Read<'a, 't, BaseTree<'a
     } else if at.begins_with(TokenKind::Reserved(Reserved::Integer)) {
         let (all, rest) = numbers(alloc, at.behind())?;
         Ok((BaseTree::Integer(all), rest))
+    } else if at.begins_with(TokenKind::Reserved(Reserved::Bit)) {
+        bit_string(alloc, at.behind())
     } else if at.begins_with(TokenKind::Reserved(Reserved::Enumerated)) {
         let (all, rest) = items(alloc, at.behind())?;
         Ok((BaseTree::Enumerated(all), rest))
     } else {
         word_or_name(at)
     }
+}
+
+/// A bit string, after the word BIT.
+#[tactic(auto, unfolding(crate::specs::ReadTypes::read_bit_string))]
+fn bit_string<'a, 't>(alloc: Global, at: Cursor<'a, 't>) -> Read<'a, 't, BaseTree<'a>>
+    ensures { Reads base_view result (reading.read_bit_string (ahead at.entry)) }
+{
+    let rest = at.after(TokenKind::Reserved(Reserved::String))?;
+    let (all, rest) = bits(alloc, rest)?;
+    Ok((BaseTree::BitString(all), rest))
 }
 
 /// A type that is a single word, or the name of a type.

@@ -7,11 +7,11 @@ use Rattle.std.proofs.lemmas.List.Elements.{All-nil, All-cons, All-append, All-w
 use Rattle.std.proofs.lemmas.Option.{same_Some}
 use Rattle.guard_model.specs.declared.site.Site.{Site}
 use Rattle.guard_syntax.specs.Trees.{WrittenSymbol, WrittenImport, WrittenAssignment, WrittenModule}
-use Rattle.guard_names.specs.Declarations.{Origin, of_module, imported_from, assigned_by, Declaration, declarations, declarations_from, module_declaration, module_declarations, lists_name, symbol_declarations, import_declarations, assigned_declarations, written_imports, Origins, origin_there, assigned_number, number_behind, definition_of}
+use Rattle.guard_names.specs.Declarations.{Origin, of_module, imported_from, assigned_by, Declaration, declarations, declarations_from, module_declaration, module_declarations, lists_name, symbol_declarations, import_declarations, assigned_declarations, written_imports, Origins, origin_there, exported_number, number_behind, definition_of}
 use Rattle.guard_names.specs.Meanings.{Means}
 use Rattle.guard_names.specs.Faults.{first_where, first_found, is_missing, no_module_in, duplicate_after, fault_of_names}
-use Rattle.guard_names.proofs.Meaning.{declared_so, found_so, origin-append, means_number, number_meant}
-use Rattle.guard_names.proofs.Refusals.{none_duplicate, none_closed, none_missing}
+use Rattle.guard_names.proofs.Meaning.{declared_so, found_so, origin-append, means_number, meant_number}
+use Rattle.guard_names.proofs.Refusals.{none_duplicate, none_missing}
 
 -- ---- the declarations of modules are those of the first, and those of the others behind them
 
@@ -196,7 +196,7 @@ module _ (ms more : List WrittenModule) (none : fault_of_names ms ≡ None) (non
       by : (o : Option Origin) → origin_there (declarations ms) (Some home) name ≡ o → number_behind (origin_there (declarations (ms ++ more))) name o ≡ number_behind (origin_there (declarations ms)) name o
       by None e = refl
       by (Some of_module) e = refl
-      by (Some (imported_from from)) e = ap assigned_number (same_there from (from_there from e) name)
+      by (Some (imported_from from)) e = ap exported_number (same_there from (from_there from e) name)
       by (Some (assigned_by number exports)) e = refl
 
   -- in a module of the first, a name means what it means without the others
@@ -207,7 +207,7 @@ module _ (ms more : List WrittenModule) (none : fault_of_names ms ≡ None) (non
       there = rw (← is, found_so (declarations ms) (none_duplicate ms none) None m.name m.site of_module (module_there 0 ms k m below at)) refl
 
       to : Means ms home name number → Means (ms ++ more) home name number
-      to h = means_number (ms ++ more) (none_closed (ms ++ more) none_behind) home name number (same_number home there name ∙ number_meant ms (none_duplicate ms none) home name number h)
+      to h = means_number (ms ++ more) home name number (same_number home there name ∙ meant_number ms (none_duplicate ms none) home name number h)
 
       from : Means (ms ++ more) home name number → Means ms home name number
-      from h = means_number ms (none_closed ms none) home name number (sym (same_number home there name) ∙ number_meant (ms ++ more) (none_duplicate (ms ++ more) none_behind) home name number h)
+      from h = means_number ms home name number (sym (same_number home there name) ∙ meant_number (ms ++ more) (none_duplicate (ms ++ more) none_behind) home name number h)

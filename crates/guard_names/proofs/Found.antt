@@ -1,25 +1,25 @@
 -- What is looked up in the names of modules without faults.
-use Rattle.std.proofs.Common.{◌≡◌, ◌↔◌, ℕ, ◌<◌, List, length, get_or, Option, Some, None, option_map, slice_get, IfSome, refl, sym, ◌∙◌, ap, subst}
+use Rattle.std.proofs.Common.{◌≡◌, inr, ◌↔◌, ℕ, ◌<◌, List, length, get_or, Option, Some, None, option_map, slice_get, IfSome, refl, sym, ◌∙◌, ap, subst}
 use Rattle.std.proofs.lemmas.Option.{same_Some, slice_get_within, slice_get-get_or, get_or_from_slice_get}
 use Rattle.guard_syntax.specs.Trees.{WrittenModule}
 use Rattle.guard_names.specs.declared.fault.NameFault.{NameFault}
 use Rattle.guard_names.specs.declared.fault.NameFault.TheVariants.{Recursive}
 use Rattle.guard_names.specs.Declarations.{Definition, definitions}
-use Rattle.guard_names.specs.Meanings.{Means, Uses}
+use Rattle.guard_names.specs.Meanings.{Means, Uses, number_meant}
 use Rattle.guard_names.specs.Order.{IsOrder, IsRecursive, IsFirstRecursive}
 use Rattle.guard_names.specs.Faults.{fault_of_names, IsFirstFault, named}
 use Rattle.guard_names.specs.Queues.{UsesIn, AreInside}
-use Rattle.guard_names.specs.Reading.{numbers_of, uses_of_all}
+use Rattle.guard_names.specs.Reading.{uses_of_all}
 use Rattle.guard_names.proofs.Numbered.{meant_at}
 use Rattle.guard_names.proofs.Placing.{listed_there, order_below, order_place}
 use Rattle.guard_names.proofs.SameUses.{are_means, are_meant, are_inside, recursive_so, so_recursive, first_so, recursive_within, order_so}
 
 module _ (ms : List WrittenModule) (none : fault_of_names ms ≡ None) where
   -- a look-up answers what the name means
-  pub found_means : (home name : List ℕ) (o : Option ℕ) → o ≡ numbers_of ms home name → (number : ℕ) → (o ≡ Some number) ↔ Means ms home name number
+  pub found_means : (home name : List ℕ) (o : Option ℕ) → o ≡ number_meant ms home name → (number : ℕ) → (o ≡ Some number) ↔ Means ms home name number
   found_means home name o is number = (λ h. are_means ms none home name number (sym is ∙ h), λ m. is ∙ are_meant ms none home name number m)
 
-  pub found_home : (home name : List ℕ) (o : Option ℕ) → o ≡ numbers_of ms home name → IfSome o (λ id. (d : Definition) × (slice_get (definitions ms) id ≡ Some d) × (d.assignment.name ≡ name))
+  pub found_home : (home name : List ℕ) (o : Option ℕ) → o ≡ number_meant ms home name → IfSome o (λ id. (d : Definition) × (slice_get (definitions ms) id ≡ Some d) × (d.assignment.name ≡ name))
   found_home home name None is = tt
   found_home home name (Some id) is = meant_at ms home name id (are_means ms none home name id (sym is))
 
@@ -48,7 +48,7 @@ module _ (ms : List WrittenModule) (none : fault_of_names ms ≡ None) where
         by None e h = absurd cc
         by (Some d) e h =
             subst (λ g. IfSome (named g) (IsFirstFault ms)) (same_Some (Recursive d.assignment.site) f h)
-            (none, (number, first_so ms none number (subst (λ xs. IsFirstRecursive (UsesIn xs) number) are first), d, e, refl))
+            (inr (none, d.assignment.site, refl, (number, first_so ms none number (subst (λ xs. IsFirstRecursive (UsesIn xs) number) are first), d, e, refl)))
 
 -- a place in the order is kept by its definition
 module _ (count : ℕ) (uses : ℕ → ℕ → Type 0) (order places : List ℕ) (ordered : IsOrder count uses order) (whole : length places ≡ count)

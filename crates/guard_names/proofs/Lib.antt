@@ -18,6 +18,7 @@ pub mod Queueing
 pub mod Settling
 pub mod Orders
 pub mod Placing
+pub mod Places
 -- ---- definitions that use themselves
 pub mod Paths
 pub mod Parts

@@ -1,5 +1,5 @@
 -- Where names have no fault, a look-up answers what a name means.
-use Rattle.std.proofs.Common.{◌≡◌, inl, inr, ℕ, zero, suc, ◌<◌, Bool, true, false, cond, not, List, [], ◌∷◌, ◌++◌, length, get_or, Option, Some, None, option_map, is_some, Contains, refl, sym, ◌∙◌, ap, subst, arith}
+use Rattle.std.proofs.Common.{◌≡◌, ◌↔◌, inl, inr, ℕ, zero, suc, ◌<◌, Bool, true, false, cond, List, [], ◌∷◌, ◌++◌, length, get_or, Option, Some, None, option_map, is_some, Contains, refl, sym, ◌∙◌, ap, subst, arith}
 use Rattle.std.specs.Prelude.{bytes_eq}
 use Rattle.std.proofs.Common.{append_assoc}
 use Rattle.std.specs.List.{find}
@@ -10,9 +10,9 @@ use Rattle.std.proofs.lemmas.Option.{same_Some}
 use Rattle.std.proofs.lemmas.List.Folds.{find-append}
 use Rattle.guard_model.specs.declared.site.Site.{Site}
 use Rattle.guard_syntax.specs.Trees.{WrittenModule}
-use Rattle.guard_names.specs.Declarations.{Origin, of_module, imported_from, assigned_by, Declaration, declarations, declares, Origins, origin_there, assigned_number, is_exported, number_behind, definition_of}
-use Rattle.guard_names.specs.Meanings.{IsDeclared, IsImported, Means}
-use Rattle.guard_names.specs.Faults.{duplicate_after, is_closed_import, not_exported_among}
+use Rattle.guard_names.specs.Declarations.{Origin, of_module, imported_from, assigned_by, Declaration, declarations, declares, Origins, origin_there, exported_number, number_behind}
+use Rattle.guard_names.specs.Meanings.{IsDeclared, Means, number_meant}
+use Rattle.guard_names.specs.Faults.{duplicate_after, duplicate}
 
 -- ---- names that are the same
 
@@ -85,58 +85,42 @@ pub found_so : (ds : List Declaration) → duplicate_after [] ds ≡ None → (s
     → Contains ds (record { scope = scope; name = name; site = site; origin = o }) → origin_there ds scope name ≡ Some o
 found_so ds h scope name site o is = never_before [] ds h is.0 (record { scope = scope; name = name; site = site; origin = o }) is.1 is.2
 
--- ---- what is imported is exported there
-
-none_closed : (origins : Origins) (ds : List Declaration) → not_exported_among origins ds ≡ None → (d : Declaration) → Contains ds d → is_closed_import origins d.name d.origin ≡ false
-none_closed origins [] h d is = absurd (omega (arith, is.1))
-none_closed origins (e ∷ ds) h d (k, l, is) = by (is_closed_import origins e.name e.origin) refl h k l is (none_closed origins ds)
-  where
-    by : (b : Bool) → is_closed_import origins e.name e.origin ≡ b → cond b (Some e.site) (not_exported_among origins ds) ≡ None → (k : ℕ) → k < length (e ∷ ds) → get_or (e ∷ ds) k d ≡ d
-        → (not_exported_among origins ds ≡ None → (d : Declaration) → Contains ds d → is_closed_import origins d.name d.origin ≡ false) → is_closed_import origins d.name d.origin ≡ false
-    by true e' h' k' l' is' rest = absurd cc
-    by false e' h' zero l' is' rest = subst (λ (x : Declaration). is_closed_import origins x.name x.origin ≡ false) is' e'
-    by false e' h' (suc k') l' is' rest = rest h' d (k', omega (arith, l'), is')
-
 -- ---- a definition and its name
 
-assigned_so : (o : Option Origin) (number : ℕ) → assigned_number o ≡ Some number → (exports : Bool) × (o ≡ Some (assigned_by number exports))
-assigned_so None number h = absurd cc
-assigned_so (Some of_module) number h = absurd cc
-assigned_so (Some (imported_from home)) number h = absurd cc
-assigned_so (Some (assigned_by n exports)) number h = (exports, ap (λ x. Some (assigned_by x exports)) (same_Some n number h))
+exported_so : (o : Option Origin) (number : ℕ) → exported_number o ≡ Some number → o ≡ Some (assigned_by number true)
+exported_so None number h = absurd cc
+exported_so (Some of_module) number h = absurd cc
+exported_so (Some (imported_from home)) number h = absurd cc
+exported_so (Some (assigned_by n true)) number h = ap (λ x. Some (assigned_by x true)) (same_Some n number h)
+exported_so (Some (assigned_by n false)) number h = absurd cc
 
 module _ (ms : List WrittenModule) where
   abbrev origins : Origins
   origins = origin_there (declarations ms)
 
   -- what a look-up answers, the name means
-  pub means_number : not_exported_among origins (declarations ms) ≡ None → (home name : List ℕ) (number : ℕ) → definition_of origins home name ≡ Some number → Means ms home name number
-  means_number exported home name number h = by (origins (Some home) name) refl h
+  pub means_number : (home name : List ℕ) (number : ℕ) → number_meant ms home name ≡ Some number → Means ms home name number
+  means_number home name number h = by (origins (Some home) name) refl h
     where
-      not_false : (b : Bool) → not b ≡ false → b ≡ true
-      not_false true h' = refl
-      not_false false h' = absurd cc
-
-      imported : (from : List ℕ) → origins (Some home) name ≡ Some (imported_from from) → (exports : Bool) → origins (Some from) name ≡ Some (assigned_by number exports) → IsImported ms home name number
-      imported from e exports a =
-          let here = declared_so (declarations ms) (Some home) name (imported_from from) e in
-          let open_there = none_closed origins (declarations ms) exported _ here.1 in
-          let yes : exports ≡ true = not_false exports (ap (λ o. not (is_exported o)) (sym a) ∙ open_there) in
-          let there = declared_so (declarations ms) (Some from) name (assigned_by number exports) a in
-          (from, here, subst (λ b. IsDeclared ms from name (assigned_by number b)) yes there)
-
       by : (o : Option Origin) → origins (Some home) name ≡ o → number_behind origins name o ≡ Some number → Means ms home name number
       by None e h' = absurd cc
       by (Some of_module) e h' = absurd cc
-      by (Some (imported_from from)) e h' = let a = assigned_so (origins (Some from) name) number h' in inr (imported from e a.0 a.1)
+      by (Some (imported_from from)) e h' =
+          let here = declared_so (declarations ms) (Some home) name (imported_from from) e in
+          let there = declared_so (declarations ms) (Some from) name (assigned_by number true) (exported_so (origins (Some from) name) number h') in
+          inr (from, here, there)
       by (Some (assigned_by n exports)) e h' =
           let d = declared_so (declarations ms) (Some home) name (assigned_by n exports) e in
           inl (exports, subst (λ x. IsDeclared ms home name (assigned_by x exports)) (same_Some n number h') d)
 
   -- what the name means, a look-up answers
-  pub number_meant : duplicate_after [] (declarations ms) ≡ None → (home name : List ℕ) (number : ℕ) → Means ms home name number → definition_of origins home name ≡ Some number
-  number_meant once home name number (inl (exports, there)) =
+  pub meant_number : duplicate ms ≡ None → (home name : List ℕ) (number : ℕ) → Means ms home name number → number_meant ms home name ≡ Some number
+  meant_number once home name number (inl (exports, there)) =
       ap (number_behind origins name) (found_so (declarations ms) once (Some home) name there.0 (assigned_by number exports) there.1)
-  number_meant once home name number (inr (from, here, there)) =
+  meant_number once home name number (inr (from, here, there)) =
       ap (number_behind origins name) (found_so (declarations ms) once (Some home) name here.0 (imported_from from) here.1)
-      ∙ ap assigned_number (found_so (declarations ms) once (Some from) name there.0 (assigned_by number true) there.1)
+      ∙ ap exported_number (found_so (declarations ms) once (Some from) name there.0 (assigned_by number true) there.1)
+
+  -- The law: the one definition that a name means.
+  pub number_is_meant : duplicate ms ≡ None → (home name : List ℕ) (number : ℕ) → (number_meant ms home name ≡ Some number) ↔ Means ms home name number
+  number_is_meant once home name number = (means_number home name number, meant_number once home name number)

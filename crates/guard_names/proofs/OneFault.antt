@@ -12,17 +12,6 @@ use Rattle.guard_names.specs.Order.{IsFirstRecursive}
 use Rattle.guard_names.specs.Faults.{fault_of_names, IsRecursiveAt, AreFaultless, IsFirstFault}
 
 module _ (ms : List WrittenModule) where
-  -- it is one of names, or else one of recursion
-  either : (f : NameFault) → IsFirstFault ms f → (fault_of_names ms ≡ Some f) ⊎ ((fault_of_names ms ≡ None) × (site : Site) × (f ≡ Recursive site) × IsRecursiveAt ms site)
-  either (Duplicate s) h = inl h
-  either (Undefined s) h = inl h
-  either (NoModule s) h = inl h
-  either (NotExported s) h = inl h
-  either (ImportNotDefined s) h = inl h
-  either (Recursive s) h = inr (h.0, s, refl, h.1)
-  either TooManyModules h = inl h
-  either OutOfMemory h = absurd h
-
   some_none : (f : NameFault) → fault_of_names ms ≡ Some f → fault_of_names ms ≡ None → ⊥
   some_none f a b = clash (sym a ∙ b)
     where
@@ -41,18 +30,11 @@ module _ (ms : List WrittenModule) where
       is ∙ ap (λ (z : Definition). z.assignment.site) same ∙ sym is'
 
   pub one_fault : (f g : NameFault) → IsFirstFault ms f → IsFirstFault ms g → f ≡ g
-  one_fault f g h k = by (either f h) (either g k)
-    where
-      by : (fault_of_names ms ≡ Some f) ⊎ ((fault_of_names ms ≡ None) × (site : Site) × (f ≡ Recursive site) × IsRecursiveAt ms site)
-          → (fault_of_names ms ≡ Some g) ⊎ ((fault_of_names ms ≡ None) × (site : Site) × (g ≡ Recursive site) × IsRecursiveAt ms site) → f ≡ g
-      by (inl a) (inl b) = same_Some f g (sym a ∙ b)
-      by (inl a) (inr b) = absurd (some_none f a b.0)
-      by (inr a) (inl b) = absurd (some_none g b a.0)
-      by (inr a) (inr b) = a.2 ∙ ap Recursive (one_site a.1 b.1 a.3 b.3) ∙ sym b.2
+  one_fault f g (inl a) (inl b) = same_Some f g (sym a ∙ b)
+  one_fault f g (inl a) (inr b) = absurd (some_none f a b.0)
+  one_fault f g (inr a) (inl b) = absurd (some_none g b a.0)
+  one_fault f g (inr a) (inr b) = a.2 ∙ ap Recursive (one_site a.1 b.1 a.3 b.3) ∙ sym b.2
 
   pub never_both : (f : NameFault) → AreFaultless ms → IsFirstFault ms f → ⊥
-  never_both f none h = by (either f h)
-    where
-      by : (fault_of_names ms ≡ Some f) ⊎ ((fault_of_names ms ≡ None) × (site : Site) × (f ≡ Recursive site) × IsRecursiveAt ms site) → ⊥
-      by (inl a) = some_none f a none.named
-      by (inr a) = none.acyclic a.3.0 a.3.1.recursive
+  never_both f none (inl a) = some_none f a none.named
+  never_both f none (inr a) = none.acyclic a.3.0 a.3.1.recursive

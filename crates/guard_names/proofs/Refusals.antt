@@ -1,5 +1,5 @@
 -- The faults of names in their order: what a refusal names, and what there isn't where nothing is refused.
-use Rattle.std.proofs.Common.{◌≡◌, ℕ, ◌≤◌, Bool, true, false, List, Option, Some, None, option_map, Result, Ok, Err, is_some, IfSome, if◌then◌else◌, length, map, refl, sym, ◌∙◌, ap, subst, arith}
+use Rattle.std.proofs.Common.{◌≡◌, inl, ℕ, ◌≤◌, Bool, true, false, List, Option, Some, None, option_map, Result, Ok, Err, is_some, IfSome, if◌then◌else◌, length, map, refl, sym, ◌∙◌, ap, subst, arith}
 use Rattle.std.specs.Prelude.{nat_lt}
 use Rattle.std.specs.Option.{option_or}
 use Rattle.std.proofs.lemmas.Option.{same_Some}
@@ -82,13 +82,13 @@ refuses_first ms few f h = by f (λ g r. refused_is (fault_of_names ms) g (sym (
     never h' = cc
 
     by : (f : NameFault) → ((g : NameFault) → check_names ms ≡ Err g → fault_of_names ms ≡ Some g) → Refuses (named f) (check_names ms) → IfSome (named f) (IsFirstFault ms)
-    by (Duplicate s) so h' = so (Duplicate s) h'
-    by (Undefined s) so h' = so (Undefined s) h'
-    by (NoModule s) so h' = so (NoModule s) h'
-    by (NotExported s) so h' = so (NotExported s) h'
-    by (ImportNotDefined s) so h' = so (ImportNotDefined s) h'
+    by (Duplicate s) so h' = inl (so (Duplicate s) h')
+    by (Undefined s) so h' = inl (so (Undefined s) h')
+    by (NoModule s) so h' = inl (so (NoModule s) h')
+    by (NotExported s) so h' = inl (so (NotExported s) h')
+    by (ImportNotDefined s) so h' = inl (so (ImportNotDefined s) h')
     by (Recursive s) so h' = absurd (never (fault_is_of_names ms (Recursive s) (so (Recursive s) h')))
-    by TooManyModules so h' = so TooManyModules h'
+    by TooManyModules so h' = inl (so TooManyModules h')
     by OutOfMemory so h' = tt
 
 pub accepts_none : (ms : List WrittenModule) → too_many ms ≡ false → check_names ms ≡ Ok tt → fault_of_names ms ≡ None
@@ -117,9 +117,6 @@ none_duplicate ms h = (none_each (duplicate ms) (no_module ms) (not_defined ms) 
 
 pub none_missing : (ms : List WrittenModule) → fault_of_names ms ≡ None → no_module ms ≡ None
 none_missing ms h = (none_each (duplicate ms) (no_module ms) (not_defined ms) (not_exported ms) (undefined ms) (none_kinds ms h)).1
-
-pub none_closed : (ms : List WrittenModule) → fault_of_names ms ≡ None → not_exported ms ≡ None
-none_closed ms h = (none_each (duplicate ms) (no_module ms) (not_defined ms) (not_exported ms) (undefined ms) (none_kinds ms h)).3
 
 pub none_is : (o : Option NameFault) → is_some o ≡ false → o ≡ None
 none_is None h = refl

@@ -4,14 +4,14 @@ use Rattle.std.proofs.lemmas.List.{length-map}
 use Rattle.std.proofs.lemmas.Option.{slice_get_within}
 use Rattle.guard_syntax.specs.Trees.{WrittenModule}
 use Rattle.guard_names.specs.Declarations.{definitions}
-use Rattle.guard_names.specs.Meanings.{Means, Uses}
+use Rattle.guard_names.specs.Meanings.{Means, Uses, number_meant}
 use Rattle.guard_names.specs.Order.{IsReady, Follow, IsOrder, Leads, at_once, through, IsRecursive, IsFirstRecursive}
 use Rattle.guard_names.specs.Faults.{fault_of_names}
 use Rattle.guard_names.specs.Queues.{UsesIn, AreInside}
-use Rattle.guard_names.specs.Reading.{numbers_of, uses_of_all}
-use Rattle.guard_names.proofs.Meaning.{means_number, number_meant}
+use Rattle.guard_names.specs.Reading.{uses_of_all}
+use Rattle.guard_names.proofs.Meaning.{means_number, meant_number}
 use Rattle.guard_names.proofs.Numbered.{meant_at}
-use Rattle.guard_names.proofs.Refusals.{none_duplicate, none_closed}
+use Rattle.guard_names.proofs.Refusals.{none_duplicate}
 use Rattle.guard_names.proofs.UseLists.{uses_of, listed_by_definition, uses_from_list, list_from_uses}
 
 module _ (count : ℕ) (uses also : ℕ → ℕ → Type 0) (to : (a b : ℕ) → uses a b → also a b) (from : (a b : ℕ) → also a b → uses a b) where
@@ -36,23 +36,23 @@ leads_also to (through {a} {b} {c} u chain) = through (to a b u) (leads_also to 
 -- ---- the lists of uses, and what the definitions of modules use
 
 module _ (ms : List WrittenModule) (none : fault_of_names ms ≡ None) where
-  pub are_means : (home name : List ℕ) (number : ℕ) → numbers_of ms home name ≡ Some number → Means ms home name number
-  are_means home name number h = means_number ms (none_closed ms none) home name number h
+  pub are_means : (home name : List ℕ) (number : ℕ) → number_meant ms home name ≡ Some number → Means ms home name number
+  are_means home name number h = means_number ms home name number h
 
-  pub are_meant : (home name : List ℕ) (number : ℕ) → Means ms home name number → numbers_of ms home name ≡ Some number
-  are_meant home name number m = number_meant ms (none_duplicate ms none) home name number m
+  pub are_meant : (home name : List ℕ) (number : ℕ) → Means ms home name number → number_meant ms home name ≡ Some number
+  are_meant home name number m = meant_number ms (none_duplicate ms none) home name number m
 
-  by_definition : uses_of_all ms ≡ map (uses_of (numbers_of ms)) (definitions ms)
-  by_definition = listed_by_definition (numbers_of ms) ms
+  by_definition : uses_of_all ms ≡ map (uses_of (number_meant ms)) (definitions ms)
+  by_definition = listed_by_definition (number_meant ms) ms
 
   pub as_many : length (uses_of_all ms) ≡ length (definitions ms)
-  as_many = ap length by_definition ∙ length-map (definitions ms) (uses_of (numbers_of ms))
+  as_many = ap length by_definition ∙ length-map (definitions ms) (uses_of (number_meant ms))
 
   pub uses_so : (a b : ℕ) → UsesIn (uses_of_all ms) a b → Uses ms a b
-  uses_so a b u = uses_from_list ms (numbers_of ms) are_means are_meant a b (subst (λ us. UsesIn us a b) by_definition u)
+  uses_so a b u = uses_from_list ms (number_meant ms) are_means are_meant a b (subst (λ us. UsesIn us a b) by_definition u)
 
   pub so_uses : (a b : ℕ) → Uses ms a b → UsesIn (uses_of_all ms) a b
-  so_uses a b u = subst (λ us. UsesIn us a b) (sym by_definition) (list_from_uses ms (numbers_of ms) are_means are_meant a b u)
+  so_uses a b u = subst (λ us. UsesIn us a b) (sym by_definition) (list_from_uses ms (number_meant ms) are_means are_meant a b u)
 
   pub are_inside : AreInside (uses_of_all ms)
   are_inside a b u = subst (λ n. b < n) (sym as_many) (within (uses_so a b u))

@@ -6,7 +6,8 @@ use Rattle.guard_names.specs.declared.fault.NameFault.{NameFault}
 use Rattle.guard_names.specs.declared.fault.NameFault.TheVariants.{Duplicate, Undefined, NoModule, NotExported, ImportNotDefined}
 use Rattle.guard_names.specs.Declarations.{Declaration, declarations, Origins, Numbers, origin_there, definition_of}
 use Rattle.guard_names.specs.Faults.{first_found, duplicate_after, duplicate, no_module_in, no_module, not_defined_among, not_defined, not_exported_among, undefined_in, undefined}
-use Rattle.guard_names.specs.Reading.{refused_at, check_imports, check_names, numbers_of}
+use Rattle.guard_names.specs.Meanings.{number_meant}
+use Rattle.guard_names.specs.Reading.{refused_at, check_imports, check_names}
 
 then_last : (a b c : Result (Unit {0}) NameFault) → a ≡ Ok tt → b ≡ Ok tt → (a >>= λ _. (b >>= λ _. c)) ≡ c
 then_last a b c first second = ap (λ x. x >>= λ _. (b >>= λ _. c)) first ∙ ap (λ x. x >>= λ _. c) second
@@ -15,7 +16,7 @@ module _ (ms : List WrittenModule) (ds : List Declaration) (are : ds ≡ declara
   origins_are : t ≡ origin_there (declarations ms)
   origins_are = (λ i scope name. found scope name i) ∙ ap origin_there are
 
-  pub numbers_are : definition_of t ≡ numbers_of ms
+  pub numbers_are : definition_of t ≡ number_meant ms
   numbers_are = ap definition_of origins_are
 
   -- the last step decides

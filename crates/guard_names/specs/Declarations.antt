@@ -1,5 +1,5 @@
 -- The names that modules declare (X.680 13.1): their own, those that they import, and those to which they assign a type or a value.
-use Rattle.std.specs.Prelude.{ℕ, ◌+◌, Bool, true, false, ◌&&◌, List, [], ◌∷◌, ◌++◌, map, length, Option, Some, None, option_map, bytes_eq, find}
+use Rattle.std.specs.Prelude.{ℕ, ◌+◌, Bool, true, false, ◌&&◌, List, [], ◌∷◌, ◌++◌, map, length, Option, Some, None, option_map, bytes_eq, find, if◌then◌else◌}
 use Rattle.std.specs.List.{flat_map, list_any}
 use Rattle.std.specs.Option.{option_eq}
 use Rattle.guard_model.specs.declared.site.Site.{Site}
@@ -100,18 +100,18 @@ assigned_number (Some of_module) = None
 assigned_number (Some (imported_from home)) = None
 assigned_number (Some (assigned_by number exports)) = Some number
 
--- whether it is assigned and exported
-abbrev pub is_exported : Option Origin → Bool
-is_exported None = false
-is_exported (Some of_module) = false
-is_exported (Some (imported_from home)) = false
-is_exported (Some (assigned_by number exports)) = exports
+-- the definition in which it is assigned, if its module exports it
+abbrev pub exported_number : Option Origin → Option ℕ
+exported_number None = None
+exported_number (Some of_module) = None
+exported_number (Some (imported_from home)) = None
+exported_number (Some (assigned_by number exports)) = if exports then Some number else None
 
--- the definition in which a name of this origin is assigned: in its own module, or in the one from which it is imported
+-- the definition in which a name of this origin is assigned: in its own module, or in the one from which it is imported and that exports it
 abbrev pub number_behind : Origins → List ℕ → Option Origin → Option ℕ
 number_behind origins name None = None
 number_behind origins name (Some of_module) = None
-number_behind origins name (Some (imported_from home)) = assigned_number (origins (Some home) name)
+number_behind origins name (Some (imported_from home)) = exported_number (origins (Some home) name)
 number_behind origins name (Some (assigned_by number exports)) = Some number
 
 -- which definition each name is the name of, in the module of a name

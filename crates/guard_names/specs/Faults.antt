@@ -1,5 +1,5 @@
 -- Why names mean nothing. Each fault is looked for in module and text order, and named at the first place where it stands.
-use Rattle.std.specs.Prelude.{◌≡◌, ℕ, Bool, true, false, not, ◌&&◌, List, [], ◌∷◌, ◌++◌, length, Option, Some, None, option_map, is_some, slice_get, nat_lt, if◌then◌else◌}
+use Rattle.std.specs.Prelude.{◌≡◌, ◌⊎◌, ℕ, Bool, true, false, not, ◌&&◌, List, [], ◌∷◌, ◌++◌, length, Option, Some, None, option_map, is_some, slice_get, nat_lt, if◌then◌else◌}
 use Rattle.std.specs.Option.{option_or}
 use Rattle.guard_model.specs.declared.site.Site.{Site}
 use Rattle.guard_syntax.specs.declared.tree.SymbolKind.{SymbolKind}
@@ -8,7 +8,7 @@ use Rattle.guard_syntax.specs.Trees.{WrittenSymbol, WrittenImport, WrittenAssign
 use Rattle.guard_names.specs.declared.fault.NameFault.{NameFault}
 use Rattle.guard_names.specs.declared.fault.NameFault.TheVariants.{Duplicate, Undefined, NoModule, NotExported, ImportNotDefined, Recursive, TooManyModules, OutOfMemory}
 use Rattle.guard_names.specs.Mentions.{Mention, mentions}
-use Rattle.guard_names.specs.Declarations.{Definition, definitions, Origin, of_module, imported_from, assigned_by, Declaration, declarations, Origins, Numbers, origin_there, assigned_number, is_exported, definition_of, written_imports, listed_exports}
+use Rattle.guard_names.specs.Declarations.{Definition, definitions, Origin, of_module, imported_from, assigned_by, Declaration, declarations, Origins, Numbers, origin_there, assigned_number, exported_number, definition_of, written_imports, listed_exports}
 use Rattle.guard_names.specs.Meanings.{Uses}
 use Rattle.guard_names.specs.Order.{IsRecursive, IsFirstRecursive}
 
@@ -62,7 +62,7 @@ not_defined ms = not_defined_among (origin_there (declarations ms)) (declaration
 -- N4: a name that is imported from a module that doesn't export it
 abbrev pub is_closed_import : Origins → List ℕ → Origin → Bool
 is_closed_import origins name of_module = false
-is_closed_import origins name (imported_from home) = not (is_exported (origins (Some home) name))
+is_closed_import origins name (imported_from home) = not (is_some (exported_number (origins (Some home) name)))
 is_closed_import origins name (assigned_by number exports) = false
 
 abbrev pub not_exported_among : Origins → List Declaration → Option Site
@@ -115,22 +115,9 @@ pub record AreFaultless (ms : List WrittenModule) : Type 0 where
 
 -- This is the first fault of the names in these modules.
 abbrev pub IsFirstFault : List WrittenModule → NameFault → Type 0
-IsFirstFault ms (Recursive site) = (fault_of_names ms ≡ None) × IsRecursiveAt ms site
-IsFirstFault ms (Duplicate site) = fault_of_names ms ≡ Some (Duplicate site)
-IsFirstFault ms (Undefined site) = fault_of_names ms ≡ Some (Undefined site)
-IsFirstFault ms (NoModule site) = fault_of_names ms ≡ Some (NoModule site)
-IsFirstFault ms (NotExported site) = fault_of_names ms ≡ Some (NotExported site)
-IsFirstFault ms (ImportNotDefined site) = fault_of_names ms ≡ Some (ImportNotDefined site)
-IsFirstFault ms TooManyModules = fault_of_names ms ≡ Some TooManyModules
-IsFirstFault ms OutOfMemory = ⊥
+IsFirstFault ms f = (fault_of_names ms ≡ Some f) ⊎ ((fault_of_names ms ≡ None) × (site : Site) × (f ≡ Recursive site) × IsRecursiveAt ms site)
 
 -- a refusal names a fault, unless memory ran out
 abbrev pub named : NameFault → Option NameFault
 named OutOfMemory = None
-named (Duplicate site) = Some (Duplicate site)
-named (Undefined site) = Some (Undefined site)
-named (NoModule site) = Some (NoModule site)
-named (NotExported site) = Some (NotExported site)
-named (ImportNotDefined site) = Some (ImportNotDefined site)
-named (Recursive site) = Some (Recursive site)
-named TooManyModules = Some TooManyModules
+named f = Some f

@@ -4,6 +4,7 @@ pub mod Declarations
 pub mod Meanings
 -- ---- the order of definitions, and definitions that use themselves
 pub mod Order
+pub mod Places
 -- ---- the faults
 pub mod Faults
 -- ---- worked examples

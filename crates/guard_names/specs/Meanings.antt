@@ -3,7 +3,7 @@ use Rattle.std.specs.Prelude.{◌≡◌, ◌⊎◌, ℕ, Bool, true, List, Conta
 use Rattle.guard_model.specs.declared.site.Site.{Site}
 use Rattle.guard_syntax.specs.Trees.{WrittenModule}
 use Rattle.guard_names.specs.Mentions.{Mention, mentions}
-use Rattle.guard_names.specs.Declarations.{Definition, definitions, Origin, imported_from, assigned_by, declarations}
+use Rattle.guard_names.specs.Declarations.{Definition, definitions, Origin, imported_from, assigned_by, declarations, Numbers, origin_there, definition_of}
 
 -- in the module of this name the name is declared so
 abbrev pub IsDeclared : List WrittenModule → List ℕ → List ℕ → Origin → Type 0
@@ -20,6 +20,10 @@ IsImported ms home name number = (from : List ℕ) × IsDeclared ms home name (i
 -- In the module of this name the name means the definition of this number.
 abbrev pub Means : List WrittenModule → List ℕ → List ℕ → ℕ → Type 0
 Means ms home name number = IsAssigned ms home name number ⊎ IsImported ms home name number
+
+-- That number by a look-up. Where no name is declared twice it is the one that `Means` leads to, as a law says.
+abbrev pub number_meant : List WrittenModule → Numbers
+number_meant ms = definition_of (origin_there (declarations ms))
 
 -- The definition of the first number uses that of the second one: it mentions a name that means it in its module.
 abbrev pub Uses : List WrittenModule → ℕ → ℕ → Type 0

@@ -5,7 +5,7 @@ use Rattle.std.specs.List.{flat_map}
 use Rattle.guard_model.specs.declared.site.Site.{Site}
 use Rattle.guard_syntax.specs.declared.tree.SymbolKind.{SymbolKind}
 use Rattle.guard_syntax.specs.declared.tree.SymbolKind.TheVariants as symbol
-use Rattle.guard_syntax.specs.Trees.{WrittenValue, value_node, WrittenValueForm, boolean, null, integer, text, reference, chosen, list, arcs, WrittenEntries, no_entries, entry, WrittenEndForm, end_integer, end_reference, end_characters, WrittenEnd, WrittenSet, set_node, WrittenSetForm, all_except, union, WrittenUnited, none_united, united, WrittenIntersection, intersection, WrittenMet, none_met, met, WrittenDifference, element_alone, element_except, WrittenElement, element_node, WrittenElementForm, parentheses, value, contained, range, size, from, with_component, with_components, WrittenConstraint, constraint, WrittenParts, no_parts, part, part_in, WrittenOfConstraint, WrittenPresence, mandatory, optional, default, WrittenType, type_node, WrittenBase, plain, numbers, enumerated, structure, choice, of_type, named_type, WrittenComponents, no_components, component, components_from, WrittenComponentForm, named, components_of_type, WrittenAlternatives, no_alternatives, alternative, WrittenAssignment}
+use Rattle.guard_syntax.specs.Trees.{WrittenValue, value_node, WrittenValueForm, boolean, null, integer, text, reference, chosen, list, arcs, WrittenEntries, no_entries, entry, WrittenEndForm, end_integer, end_reference, end_characters, WrittenEnd, WrittenSet, set_node, WrittenSetForm, all_except, union, WrittenUnited, none_united, united, WrittenIntersection, intersection, WrittenMet, none_met, met, WrittenDifference, element_alone, element_except, WrittenElement, element_node, WrittenElementForm, parentheses, value, contained, range, size, from, with_component, with_components, WrittenConstraint, constraint, WrittenParts, no_parts, part, part_in, WrittenOfConstraint, WrittenPresence, mandatory, optional, default, WrittenType, type_node, WrittenBase, plain, numbers, named_bits, enumerated, structure, choice, of_type, named_type, WrittenComponents, no_components, component, components_from, WrittenComponentForm, named, components_of_type, WrittenAlternatives, no_alternatives, alternative, WrittenAssignment}
 
 -- a name that is mentioned, and where
 pub record Mention : Type 0 where
@@ -117,6 +117,7 @@ abbrev mutual
   pub in_base : WrittenBase → List Mention
   in_base (plain p) = []
   in_base (numbers ns) = []
+  in_base (named_bits bs) = []
   in_base (enumerated items) = []
   in_base (structure kind cs) = in_components cs
   in_base (choice all) = in_alternatives all

@@ -7,7 +7,8 @@ use Rattle.guard_syntax.specs.Trees.{WrittenAssignment, WrittenModule}
 use Rattle.guard_names.specs.declared.fault.NameFault.{NameFault}
 use Rattle.guard_names.specs.declared.fault.NameFault.TheVariants.{Duplicate, Undefined, NoModule, NotExported, ImportNotDefined}
 use Rattle.guard_names.specs.Mentions.{mentions}
-use Rattle.guard_names.specs.Declarations.{Numbers, declarations, origin_there, definition_of}
+use Rattle.guard_names.specs.Declarations.{Numbers}
+use Rattle.guard_names.specs.Meanings.{number_meant}
 use Rattle.guard_names.specs.Faults.{duplicate, no_module, not_defined, not_exported, undefined}
 
 abbrev pub nothing : {A : Type 0} → A → Unit {0}
@@ -36,13 +37,9 @@ used_in numbers home a = filter_map (λ x. numbers home x.name) (mentions a)
 abbrev pub used_in_module : Numbers → WrittenModule → List (List ℕ)
 used_in_module numbers m = map (used_in numbers m.name) m.assignments
 
--- which definition each name is the name of
-abbrev pub numbers_of : List WrittenModule → Numbers
-numbers_of ms = definition_of (origin_there (declarations ms))
-
 -- the definitions that each definition uses
 abbrev pub uses_of_all : List WrittenModule → List (List ℕ)
-uses_of_all ms = flat_map (used_in_module (numbers_of ms)) ms
+uses_of_all ms = flat_map (used_in_module (number_meant ms)) ms
 
 -- what the code keeps of them
 abbrev pub listed_uses : {Y Z : Type 0} → Vec (Vec ℕ Y) Z → List (List ℕ)

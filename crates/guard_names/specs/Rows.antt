@@ -8,6 +8,8 @@ use Rattle.guard_syntax.specs.Trees.{WrittenValue, value_node, reference, chosen
 use Rattle.guard_names.specs.declared.fault.NameFault.TheVariants.{Duplicate, Undefined, NoModule, NotExported, ImportNotDefined, TooManyModules}
 use Rattle.guard_names.specs.Mentions.{mentions}
 use Rattle.guard_names.specs.Declarations.{imported_from, assigned_by, declarations, origin_there}
+use Rattle.guard_names.specs.Meanings.{number_meant}
+use Rattle.guard_names.specs.Places.{known_meant}
 use Rattle.guard_names.specs.Faults.{fault_of_names}
 
 -- names and places
@@ -107,6 +109,28 @@ T_of_B = refl
 
 T_in_C : origin_there (declarations three) (Some C) T ≡ Some (imported_from A)
 T_in_C = refl
+
+T_meant_in_B : number_meant three B T ≡ Some 1
+T_meant_in_B = refl
+
+T_meant_in_C : number_meant three C T ≡ Some 0
+T_meant_in_C = refl
+
+-- B is no name in C
+B_meant_in_C : number_meant three C B ≡ None
+B_meant_in_C = refl
+
+-- A exports nothing
+not_exported_T : number_meant (module_of 1 A (Some (exported [])) [] (assigned 2 T null_type ∷ []) ∷ module_of 3 C None (import_at 4 T 5 A ∷ []) [] ∷ []) C T ≡ None
+not_exported_T = refl
+
+-- of the order 2, 0, 1 two are known, and T of C is the second of them
+known_in_C : known_meant {A = ℕ} three (2 ∷ 0 ∷ 1 ∷ []) (10 ∷ 11 ∷ []) C T ≡ Some 11
+known_in_C = refl
+
+-- T of B isn't known yet
+known_in_B : known_meant {A = ℕ} three (2 ∷ 0 ∷ 1 ∷ []) (10 ∷ 11 ∷ []) B T ≡ None
+known_in_B = refl
 
 -- ---- faults
 

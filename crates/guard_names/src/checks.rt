@@ -90,7 +90,7 @@ fn is_closed_import(declaration: &Declaration, table: &Table) -> bool
 {
     match declaration.origin {
         Origin::Module => false,
-        Origin::Import(home) => !table.exports(home, declaration.name),
+        Origin::Import(home) => table.exported(home, declaration.name).is_none(),
         Origin::Assignment(_, _) => false,
     }
 }

@@ -4,8 +4,8 @@ ghost use Rattle.guard_syntax.specs.ModuleViews.{module_view};
 ghost use Rattle.guard_syntax.specs.Trees.{WrittenModule};
 ghost use Rattle.guard_names.specs.declared.fault.NameFault.{NameFault};
 ghost use Rattle.guard_names.specs.Declarations.{Definition, definitions};
-ghost use Rattle.guard_names.specs.Faults.{AreFaultless, IsFirstFault, fault_of_names};
-ghost use Rattle.guard_names.specs.Meanings.{IsAssigned, Means, Uses};
+ghost use Rattle.guard_names.specs.Faults.{AreFaultless, IsFirstFault, duplicate, fault_of_names};
+ghost use Rattle.guard_names.specs.Meanings.{IsAssigned, Means, Uses, number_meant};
 ghost use Rattle.guard_names.specs.Order.{OneOrder};
 
 use guard_syntax::Module;
@@ -17,6 +17,13 @@ pub fn law_modules_behind(modules: &[Module], more: &[Module], home: &[u8], name
     requires whole { fault_of_names (map module_view modules.now ++ map module_view more.now) ≡ None }
     requires home { (m : WrittenModule) × Contains (map module_view modules.now) m × (m.name ≡ home.now) }
     ensures { (number : ℕ) → Means (map module_view modules.now) home.now name.now number ↔ Means (map module_view modules.now ++ map module_view more.now) home.now name.now number }
+{}
+
+/// Where no name is declared twice, a look-up answers the one definition that a name means.
+pub fn law_number_meant(modules: &[Module])
+    requires { duplicate (map module_view modules.now) ≡ None }
+    ensures { (home name : List ℕ) (number : ℕ)
+        → (number_meant (map module_view modules.now) home name ≡ Some number) ↔ Means (map module_view modules.now) home name number }
 {}
 
 /// What is assigned in a module is the definition of its number, in this module and of this name.

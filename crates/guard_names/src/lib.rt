@@ -3,7 +3,7 @@
 //!
 //! | question | code | definition |
 //! |---|---|---|
-//! | What does a name mean in a module, where does a definition stand, and in which order do they come? | `names.rt` (`Names`) | `specs/Meanings.antt`, `specs/Order.antt` |
+//! | What does a name mean in a module, where does a definition stand, and in which order do they come? | `names.rt` (`Names`) | `specs/Meanings.antt`, `specs/Order.antt`, `specs/Places.antt` |
 //! | Have the names of modules a fault, and which is the first? | `resolution.rt` (`resolve`), `fault.rt` | `specs/Faults.antt` |
 //! | Which names does a module declare, and which does it export? | `declarations.rt`, `exports.rt` | `specs/Declarations.antt` |
 //! | Where does a declared name come from, and what does it mean? | `table.rt`, `meanings.rt` | `specs/Declarations.antt` |

@@ -57,6 +57,7 @@ fn add_base<'a>(base: &BaseTree<'a>, into: &mut Vec<Mention<'a>>) -> Result<(), 
     match base {
         BaseTree::Plain(_) => Ok(()),
         BaseTree::Integer(_) => Ok(()),
+        BaseTree::BitString(_) => Ok(()),
         BaseTree::Enumerated(_) => Ok(()),
         BaseTree::Structure(_, comps) => add_components(comps, into),
         BaseTree::Choice(alternatives) => add_alternatives(alternatives, into),

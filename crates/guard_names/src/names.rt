@@ -1,12 +1,13 @@
 //! What the names in a list of modules mean.
 ghost use Rattle.std.specs.Prelude.{◌≡◌, ◌↔◌, ℕ, ◌<◌, List, map, length, option_map, slice_get, slice_index_or, is_some, false, IsTrue, IfOk, IfErr, IfSome, Option, Some, None};
 ghost use Rattle.std.proofs.Props.{props};
-ghost use Rattle.guard_names.specs.Declarations.{Definition, definitions, declarations, definition_of, origin_there};
+ghost use Rattle.guard_names.specs.Declarations.{Definition, definitions};
 ghost use Rattle.guard_names.specs.Faults.{fault_of_names};
-ghost use Rattle.guard_names.specs.Meanings.{Means, Uses};
+ghost use Rattle.guard_names.specs.Meanings.{Means, Uses, number_meant};
 ghost use Rattle.guard_names.specs.Order.{IsOrder, IsRecursive, is_listed};
+ghost use Rattle.guard_names.specs.Places.{place_in};
 ghost use Rattle.guard_names.specs.OrderProps.{IsOrder-prop};
-ghost use Rattle.guard_names.specs.Reading.{numbers_of, uses_of_all};
+ghost use Rattle.guard_names.specs.Reading.{uses_of_all};
 ghost use Rattle.guard_names.specs.TableViews.{meaning_in};
 ghost use Rattle.guard_syntax.specs.ModuleViews.{module_view, assignment_view};
 
@@ -25,7 +26,7 @@ pub struct Names<'m, 'a> {
     /// Where each definition stands in the order, by definitions.
     places: Vec<usize>,
     pub ghost faultless: { is_some (fault_of_names (map module_view modules.now)) ≡ false },
-    pub ghost meant: { (home name : List ℕ) → meaning_in meanings home name ≡ numbers_of (map module_view modules.now) home name } by { Prim.hlevel props },
+    pub ghost meant: { (home name : List ℕ) → meaning_in meanings home name ≡ number_meant (map module_view modules.now) home name } by { Prim.hlevel props },
     pub ghost ordered: { IsOrder (length (definitions (map module_view modules.now))) (Uses (map module_view modules.now)) order.items } by { IsOrder-prop (length (definitions (map module_view modules.now))) (Uses (map module_view modules.now)) order.items },
     pub ghost whole: { length places.items ≡ length (definitions (map module_view modules.now)) },
     pub ghost placed: { (number : ℕ) → number < length places.items → slice_get order.items (slice_index_or places.items number 0) ≡ Some number } by { Prim.hlevel props },
@@ -43,7 +44,7 @@ impl<'m, 'a> Names<'m, 'a> {
     ) -> Result<Names<'m, 'a>, AllocError>
         requires named { fault_of_names (map module_view modules.now) ≡ None }
         requires acyclic { (number : ℕ) → IsRecursive (Uses (map module_view modules.now)) number → ⊥ }
-        requires meant { (home name : List ℕ) → meaning_in meanings home name ≡ numbers_of (map module_view modules.now) home name }
+        requires meant { (home name : List ℕ) → meaning_in meanings home name ≡ number_meant (map module_view modules.now) home name }
         requires used { map (λ v. v.items) uses.now ≡ uses_of_all (map module_view modules.now) }
         ensures { IfOk result (λ names. modules_of names ≡ map module_view modules.now) }
     {
@@ -69,7 +70,7 @@ impl<'m, 'a> Names<'m, 'a> {
     /// The same of names as they stand in trees, which are octets.
     pub fn meaning(&self, module_name: &[u8], name: &[u8]) -> Option<Id>
         ensures meant { (number : ℕ) → (result ≡ Some number) ↔ Means (modules_of self.now) module_name.now name.now number }
-        ensures computed { result ≡ definition_of (origin_there (declarations (modules_of self.now))) module_name.now name.now }
+        ensures computed { result ≡ number_meant (modules_of self.now) module_name.now name.now }
     {
         self.meanings.find(module_name, name)
     }
@@ -85,7 +86,8 @@ impl<'m, 'a> Names<'m, 'a> {
 
     /// The place of a definition in the order.
     pub fn place(&self, id: Id) -> Option<usize>
-        ensures { (place : ℕ) → (result ≡ Some place) ↔ (slice_get (order_of self.now) place ≡ Some id) }
+        ensures placed { (place : ℕ) → (result ≡ Some place) ↔ (slice_get (order_of self.now) place ≡ Some id) }
+        ensures computed { result ≡ place_in (order_of self.now) id }
     {
         self.places.get(id).copied()
     }

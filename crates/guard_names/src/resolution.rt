@@ -6,7 +6,7 @@ ghost use Rattle.guard_names.specs.declared.fault.NameFault.TheVariants as fault
 ghost use Rattle.guard_names.specs.Declarations.{definitions, definition_of, origin_there};
 ghost use Rattle.guard_names.specs.DeclarationViews.{declaration_view};
 ghost use Rattle.guard_names.specs.Faults.{AreFaultless, IsFirstFault, IsRecursiveAt, named, first_found, undefined_in, fault_of_names};
-ghost use Rattle.guard_names.specs.Meanings.{Uses};
+ghost use Rattle.guard_names.specs.Meanings.{Uses, number_meant};
 ghost use Rattle.guard_names.specs.NamesView.{modules_of};
 ghost use Rattle.guard_names.specs.Order.{IsRecursive};
 ghost use Rattle.guard_names.specs.Reading as reading;
@@ -52,7 +52,7 @@ fn by_uses<'m, 'a>(
     uses: &[Vec<Id>],
 ) -> Result<Names<'m, 'a>, NameFault>
     requires named { fault_of_names (map module_view modules.now) ≡ None }
-    requires meant { (home name : List ℕ) → meaning_in meanings home name ≡ reading.numbers_of (map module_view modules.now) home name }
+    requires meant { (home name : List ℕ) → meaning_in meanings home name ≡ number_meant (map module_view modules.now) home name }
     requires used { map (λ v. v.items) uses.now ≡ reading.uses_of_all (map module_view modules.now) }
     ensures faultless { IfOk result (λ _. AreFaultless (map module_view modules.now)) }
     ensures modules { IfOk result (λ names. modules_of names ≡ map module_view modules.now) }
@@ -67,7 +67,7 @@ fn meanings_and_uses<'a>(
     alloc: Global,
     modules: &[Module<'a>],
 ) -> Result<(Meanings<'a>, Vec<Vec<Id>>), NameFault>
-    ensures meant { IfOk result (λ p. (home name : List ℕ) → meaning_in p.0 home name ≡ reading.numbers_of (map module_view modules.now) home name) }
+    ensures meant { IfOk result (λ p. (home name : List ℕ) → meaning_in p.0 home name ≡ number_meant (map module_view modules.now) home name) }
     ensures used { IfOk result (λ p. reading.listed_uses p.1 ≡ reading.uses_of_all (map module_view modules.now)) }
     ensures refused { Gives reading.nothing named result (reading.check_names (map module_view modules.now)) }
 {

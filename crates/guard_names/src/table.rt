@@ -2,7 +2,7 @@
 ghost use Rattle.std.specs.Prelude.{◌≡◌, ℕ, List, [], map, Option, Some, option_map, IfOk};
 ghost use Rattle.guard_model.specs.Answer.{Gives};
 ghost use Rattle.guard_names.specs.declared.fault.NameFault.TheVariants as fault;
-ghost use Rattle.guard_names.specs.Declarations.{origin_there, assigned_number, is_exported, definition_of};
+ghost use Rattle.guard_names.specs.Declarations.{origin_there, assigned_number, exported_number, definition_of};
 ghost use Rattle.guard_names.specs.DeclarationViews.{declaration_view, origin_view, scope_view};
 ghost use Rattle.guard_names.specs.Faults.{named, duplicate_after};
 ghost use Rattle.guard_names.specs.Reading.{refused_at, nothing};
@@ -65,26 +65,27 @@ impl<'a> Table<'a> {
         }
     }
 
-    /// Whether the module of this name assigns and exports a name.
-    pub fn exports(&self, home: &[u8], name: &[u8]) -> bool
-        ensures { result ≡ is_exported (origin_in self.now (Some home.now) name.now) }
+    /// The definition in which a name is assigned in the module of this name, if that module exports it.
+    pub fn exported(&self, home: &[u8], name: &[u8]) -> Option<Id>
+        ensures { result ≡ exported_number (origin_in self.now (Some home.now) name.now) }
     {
         match self.origin(Some(home), name) {
-            None => false,
-            Some(Origin::Module) => false,
-            Some(Origin::Import(_)) => false,
-            Some(Origin::Assignment(_, exported)) => exported,
+            None => None,
+            Some(Origin::Module) => None,
+            Some(Origin::Import(_)) => None,
+            Some(Origin::Assignment(number, exports)) => exports.then_some(number),
         }
     }
 
-    /// The definition of a name in the module of this name: there, or in the module from which the name is imported.
+    /// The definition of a name in the module of this name: one that is assigned there, or in the module from which the name is
+    /// imported and that exports it.
     pub fn definition(&self, home: &[u8], name: &[u8]) -> Option<Id>
         ensures { result ≡ definition_of (origin_in self.now) home.now name.now }
     {
         match self.origin(Some(home), name) {
             None => None,
             Some(Origin::Module) => None,
-            Some(Origin::Import(from)) => self.assigned(from, name),
+            Some(Origin::Import(from)) => self.exported(from, name),
             Some(Origin::Assignment(number, _)) => Some(number),
         }
     }

@@ -5,4 +5,4 @@ use Rattle.guard_names.proofs.table.Table.definition.Goals as goal
 
 pub returns-in-Some-Import : goal.returns-in-Some-Import
 returns-in-Some-Import c =
-    c.assigned.ensures ∙ ap (number_behind (origin_in c.args.self.now) c.args.name.now) (rw c.in-Some-Import.field-0-is at c.in-Some-Import.ensures)
+    c.exported.ensures ∙ ap (number_behind (origin_in c.args.self.now) c.args.name.now) (rw c.in-Some-Import.field-0-is at c.in-Some-Import.ensures)

@@ -256,7 +256,14 @@ abbrev mutual
   FaultInContents (type.set_of t) size octets b =
       (vs : Items) × (es : List (List ℕ)) × (rest : List ℕ) × (c : AbstractBreach)
       × (octets ≡ joined es ++ rest) × ItemsReached t true vs es × ItemFault t true (FaultIn t) (item_count vs) (last_of es) rest c × (b ≡ after (size + length (joined es)) c)
-  FaultInContents kind size octets b = FaultInSimple kind size octets b
+  FaultInContents type.boolean size octets b = FaultInSimple type.boolean size octets b
+  FaultInContents (type.integer ns) size octets b = FaultInSimple (type.integer ns) size octets b
+  FaultInContents (type.bit_string names) size octets b = FaultInSimple (type.bit_string names) size octets b
+  FaultInContents type.octet_string size octets b = FaultInSimple type.octet_string size octets b
+  FaultInContents type.null size octets b = FaultInSimple type.null size octets b
+  FaultInContents type.object_identifier size octets b = FaultInSimple type.object_identifier size octets b
+  FaultInContents (type.enumerated ns) size octets b = FaultInSimple (type.enumerated ns) size octets b
+  FaultInContents (type.characters k) size octets b = FaultInSimple (type.characters k) size octets b
 
   -- An element of an untagged CHOICE is that of the chosen alternative.
   pub FaultUntagged : AbstractKind → List ℕ → AbstractBreach → Type 0

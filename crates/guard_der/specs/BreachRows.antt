@@ -4,7 +4,7 @@ use Rattle.guard_model.specs.declared.site.Step.{Step}
 use Rattle.guard_model.specs.declared.site.Step.TheVariants.{Component, Element}
 use Rattle.guard_model.specs.declared.tag.Class.TheVariants.{Application}
 use Rattle.guard_model.specs.AbstractType as type
-use Rattle.guard_model.specs.AbstractType.{AbstractType, type_of, no_components, component, no_constraints}
+use Rattle.guard_model.specs.AbstractType.{AbstractType, NamedNumber, type_of, no_components, component, no_constraints}
 use Rattle.guard_model.specs.AbstractValue as value
 use Rattle.guard_model.specs.AbstractValue.{AbstractValue}
 use Rattle.guard_der.specs.declared.breach.Code.{Code}
@@ -130,23 +130,23 @@ row32 : message_of (plain (universal 6) type.object_identifier) (0x06 ∷ 0x13 �
 unfolding message_of alone_at due_at element_at contents_at untagged_at fields_at part_at tags_at framed simple_at sent_at component_at end_at chosen_at item_alone item_at items_at head_of tag_number high_number number_from length_at long_length twos_complement lib.Utf8.encode Rattle.std.specs.Str.chars Rattle.std.specs.Str.is_utf8
 row32 = refl
 
-row33 : message_of (plain (universal 3) type.bit_string) (0x03 ∷ 0x02 ∷ 0x05 ∷ 0xA0 ∷ []) ≡ Ok (value.bit_string (0xA0 ∷ []) 5)
+row33 : message_of (plain (universal 3) (type.bit_string [])) (0x03 ∷ 0x02 ∷ 0x05 ∷ 0xA0 ∷ []) ≡ Ok (value.bit_string (0xA0 ∷ []) 5)
 unfolding message_of alone_at due_at element_at contents_at untagged_at fields_at part_at tags_at framed simple_at sent_at component_at end_at chosen_at item_alone item_at items_at head_of tag_number high_number number_from length_at long_length twos_complement lib.Utf8.encode Rattle.std.specs.Str.chars Rattle.std.specs.Str.is_utf8
 row33 = refl
 
-row34 : message_of (plain (universal 3) type.bit_string) (0x03 ∷ 0x02 ∷ 0x05 ∷ 0xA1 ∷ []) ≡ fault code.UnusedBits 0 ([])
+row34 : message_of (plain (universal 3) (type.bit_string [])) (0x03 ∷ 0x02 ∷ 0x05 ∷ 0xA1 ∷ []) ≡ fault code.UnusedBits 0 ([])
 unfolding message_of alone_at due_at element_at contents_at untagged_at fields_at part_at tags_at framed simple_at sent_at component_at end_at chosen_at item_alone item_at items_at head_of tag_number high_number number_from length_at long_length twos_complement lib.Utf8.encode Rattle.std.specs.Str.chars Rattle.std.specs.Str.is_utf8
 row34 = refl
 
-row35 : message_of (plain (universal 3) type.bit_string) (0x03 ∷ 0x00 ∷ []) ≡ fault code.BitStringContents 0 ([])
+row35 : message_of (plain (universal 3) (type.bit_string [])) (0x03 ∷ 0x00 ∷ []) ≡ fault code.BitStringContents 0 ([])
 unfolding message_of alone_at due_at element_at contents_at untagged_at fields_at part_at tags_at framed simple_at sent_at component_at end_at chosen_at item_alone item_at items_at head_of tag_number high_number number_from length_at long_length twos_complement lib.Utf8.encode Rattle.std.specs.Str.chars Rattle.std.specs.Str.is_utf8
 row35 = refl
 
-row36 : message_of (plain (universal 3) type.bit_string) (0x03 ∷ 0x01 ∷ 0x08 ∷ []) ≡ fault code.BitStringContents 0 ([])
+row36 : message_of (plain (universal 3) (type.bit_string [])) (0x03 ∷ 0x01 ∷ 0x08 ∷ []) ≡ fault code.BitStringContents 0 ([])
 unfolding message_of alone_at due_at element_at contents_at untagged_at fields_at part_at tags_at framed simple_at sent_at component_at end_at chosen_at item_alone item_at items_at head_of tag_number high_number number_from length_at long_length twos_complement lib.Utf8.encode Rattle.std.specs.Str.chars Rattle.std.specs.Str.is_utf8
 row36 = refl
 
-row37 : message_of (plain (universal 3) type.bit_string) (0x03 ∷ 0x01 ∷ 0x01 ∷ []) ≡ fault code.BitStringContents 0 ([])
+row37 : message_of (plain (universal 3) (type.bit_string [])) (0x03 ∷ 0x01 ∷ 0x01 ∷ []) ≡ fault code.BitStringContents 0 ([])
 unfolding message_of alone_at due_at element_at contents_at untagged_at fields_at part_at tags_at framed simple_at sent_at component_at end_at chosen_at item_alone item_at items_at head_of tag_number high_number number_from length_at long_length twos_complement lib.Utf8.encode Rattle.std.specs.Str.chars Rattle.std.specs.Str.is_utf8
 row37 = refl
 
@@ -177,3 +177,49 @@ row43 = refl
 row44 : message_of (type_of (context 0 ∷ universal 2 ∷ []) (type.integer []) no_constraints) (0xA0 ∷ 0x00 ∷ []) ≡ fault code.Truncated 2 ([])
 unfolding message_of alone_at due_at element_at contents_at untagged_at fields_at part_at tags_at framed simple_at sent_at component_at end_at chosen_at item_alone item_at items_at head_of tag_number high_number number_from length_at long_length twos_complement lib.Utf8.encode Rattle.std.specs.Str.chars Rattle.std.specs.Str.is_utf8
 row44 = refl
+
+-- ---- named bits
+
+abbrev named_bit : List ℕ → ℕ → NamedNumber
+named_bit name bit = record { name = name; number = pos bit }
+
+-- BIT STRING {read(0), write(1), run(5)}
+abbrev flags : AbstractType
+flags = plain (universal 3) (type.bit_string (named_bit (codes "read") 0 ∷ named_bit (codes "write") 1 ∷ named_bit (codes "run") 5 ∷ []))
+
+row45 : message_of flags (0x03 ∷ 0x02 ∷ 0x02 ∷ 0x84 ∷ []) ≡ Ok (value.bit_string (0x84 ∷ []) 2)
+unfolding message_of alone_at due_at element_at contents_at untagged_at fields_at part_at tags_at framed simple_at sent_at component_at end_at chosen_at item_alone item_at items_at head_of tag_number high_number number_from length_at long_length twos_complement lib.Utf8.encode Rattle.std.specs.Str.chars Rattle.std.specs.Str.is_utf8
+row45 = refl
+
+row46 : message_of flags (0x03 ∷ 0x01 ∷ 0x00 ∷ []) ≡ Ok (value.bit_string [] 0)
+unfolding message_of alone_at due_at element_at contents_at untagged_at fields_at part_at tags_at framed simple_at sent_at component_at end_at chosen_at item_alone item_at items_at head_of tag_number high_number number_from length_at long_length twos_complement lib.Utf8.encode Rattle.std.specs.Str.chars Rattle.std.specs.Str.is_utf8
+row46 = refl
+
+row47 : message_of flags (0x03 ∷ 0x02 ∷ 0x05 ∷ 0x20 ∷ []) ≡ Ok (value.bit_string (0x20 ∷ []) 5)
+unfolding message_of alone_at due_at element_at contents_at untagged_at fields_at part_at tags_at framed simple_at sent_at component_at end_at chosen_at item_alone item_at items_at head_of tag_number high_number number_from length_at long_length twos_complement lib.Utf8.encode Rattle.std.specs.Str.chars Rattle.std.specs.Str.is_utf8
+row47 = refl
+
+row48 : message_of flags (0x03 ∷ 0x02 ∷ 0x01 ∷ 0x84 ∷ []) ≡ fault code.TrailingZeroBit 0 ([])
+unfolding message_of alone_at due_at element_at contents_at untagged_at fields_at part_at tags_at framed simple_at sent_at component_at end_at chosen_at item_alone item_at items_at head_of tag_number high_number number_from length_at long_length twos_complement lib.Utf8.encode Rattle.std.specs.Str.chars Rattle.std.specs.Str.is_utf8
+row48 = refl
+
+row49 : message_of flags (0x03 ∷ 0x02 ∷ 0x00 ∷ 0x80 ∷ []) ≡ fault code.TrailingZeroBit 0 ([])
+unfolding message_of alone_at due_at element_at contents_at untagged_at fields_at part_at tags_at framed simple_at sent_at component_at end_at chosen_at item_alone item_at items_at head_of tag_number high_number number_from length_at long_length twos_complement lib.Utf8.encode Rattle.std.specs.Str.chars Rattle.std.specs.Str.is_utf8
+row49 = refl
+
+row50 : message_of flags (0x03 ∷ 0x03 ∷ 0x07 ∷ 0x80 ∷ 0x00 ∷ []) ≡ fault code.TrailingZeroBit 0 ([])
+unfolding message_of alone_at due_at element_at contents_at untagged_at fields_at part_at tags_at framed simple_at sent_at component_at end_at chosen_at item_alone item_at items_at head_of tag_number high_number number_from length_at long_length twos_complement lib.Utf8.encode Rattle.std.specs.Str.chars Rattle.std.specs.Str.is_utf8
+row50 = refl
+
+row51 : message_of flags (0x03 ∷ 0x02 ∷ 0x02 ∷ 0x85 ∷ []) ≡ fault code.UnusedBits 0 ([])
+unfolding message_of alone_at due_at element_at contents_at untagged_at fields_at part_at tags_at framed simple_at sent_at component_at end_at chosen_at item_alone item_at items_at head_of tag_number high_number number_from length_at long_length twos_complement lib.Utf8.encode Rattle.std.specs.Str.chars Rattle.std.specs.Str.is_utf8
+row51 = refl
+
+row52 : message_of flags (0x03 ∷ 0x01 ∷ 0x08 ∷ []) ≡ fault code.BitStringContents 0 ([])
+unfolding message_of alone_at due_at element_at contents_at untagged_at fields_at part_at tags_at framed simple_at sent_at component_at end_at chosen_at item_alone item_at items_at head_of tag_number high_number number_from length_at long_length twos_complement lib.Utf8.encode Rattle.std.specs.Str.chars Rattle.std.specs.Str.is_utf8
+row52 = refl
+
+-- without a list of names the trailing zero bits are bits of the value
+row53 : message_of (plain (universal 3) (type.bit_string [])) (0x03 ∷ 0x02 ∷ 0x00 ∷ 0x80 ∷ []) ≡ Ok (value.bit_string (0x80 ∷ []) 0)
+unfolding message_of alone_at due_at element_at contents_at untagged_at fields_at part_at tags_at framed simple_at sent_at component_at end_at chosen_at item_alone item_at items_at head_of tag_number high_number number_from length_at long_length twos_complement lib.Utf8.encode Rattle.std.specs.Str.chars Rattle.std.specs.Str.is_utf8
+row53 = refl

@@ -26,7 +26,14 @@ is_constructed (type.set cs) = true
 is_constructed (type.choice cs) = true
 is_constructed (type.sequence_of t) = true
 is_constructed (type.set_of t) = true
-is_constructed _ = false
+is_constructed type.boolean = false
+is_constructed (type.integer ns) = false
+is_constructed (type.bit_string names) = false
+is_constructed type.octet_string = false
+is_constructed type.null = false
+is_constructed type.object_identifier = false
+is_constructed (type.enumerated ns) = false
+is_constructed (type.characters k) = false
 
 abbrev pub joined : List (List ℕ) → List ℕ
 joined [] = []
@@ -94,7 +101,7 @@ abbrev mutual
   pub contents_octets : AbstractKind → AbstractValue → Option (List ℕ)
   contents_octets type.boolean (value.boolean b) = Some (boolean_octet b ∷ [])
   contents_octets (type.integer ns) (value.integer z) = Some (signed_octets z)
-  contents_octets type.bit_string (value.bit_string os unused) = Some (unused ∷ os)
+  contents_octets (type.bit_string names) (value.bit_string os unused) = Some (unused ∷ os)
   contents_octets type.octet_string (value.octet_string os) = Some os
   contents_octets type.null value.null = Some []
   contents_octets type.object_identifier (value.object_identifier arcs) = Some (arcs_octets arcs)

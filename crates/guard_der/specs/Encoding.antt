@@ -11,9 +11,13 @@ abbrev pub refusal : EncodeFault → Option EncodeFault
 refusal TooLong = Some TooLong
 refusal OutOfMemory = None
 
+-- in octets
+abbrev pub longest_encoding : ℕ
+longest_encoding = 1048576
+
 abbrev pub limited : Option (List ℕ) → Result (List ℕ) EncodeFault
 limited None = Err TooLong
-limited (Some os) = if nat_le (length os) 1048576 then Ok os else Err TooLong
+limited (Some os) = if nat_le (length os) longest_encoding then Ok os else Err TooLong
 
 -- The encoding where there is one of at most 1,048,576 octets, else TooLong.
 abbrev pub encoding_of : AbstractType → AbstractValue → Result (List ℕ) EncodeFault

@@ -1,21 +1,14 @@
 -- The abstract values of a type, constraints aside.
-use Rattle.std.specs.Prelude.{ℕ, zero, suc, ◌+◌, ◌*◌, ◌%◌, ◌^◌, ℤ, pos, negsuc, Bool, true, false, not, ◌&&◌, ◌||◌, List, [], ◌∷◌, length, nat_lt, nat_le, nat_eq, Option, Some, None}
+use Rattle.std.specs.Prelude.{ℕ, zero, suc, ◌+◌, ◌*◌, ◌/◌, ◌%◌, ◌^◌, ℤ, Bool, true, false, not, ◌&&◌, ◌||◌, List, [], ◌∷◌, length, nat_lt, nat_le, nat_eq, Option, Some, None}
 use Rattle.std.specs.Ordering.{int_eq}
-use Rattle.std.specs.Str.{all_scalars}
-use Rattle.guard_model.specs.declared.ty.CharKind.{CharKind}
-use Rattle.guard_model.specs.declared.ty.CharKind.TheVariants.{Utf8}
 use Rattle.guard_model.specs.AbstractType as type
 use Rattle.guard_model.specs.AbstractType.{AbstractType, AbstractKind, AbstractPresence, Components, NamedNumber, type_of, no_components, component}
 use Rattle.guard_model.specs.AbstractValue as value
 use Rattle.guard_model.specs.AbstractValue.{AbstractValue, Fields, Items}
-use Rattle.guard_model.specs.Alphabets.{is_character}
+use Rattle.guard_model.specs.Alphabets.{fits_characters}
+use Rattle.guard_model.specs.Limits.{fits_128_bits}
 use Rattle.guard_der.specs.Der.{der, item_encodings}
 use Rattle.guard_model.specs.Counts.{item_count}
-
--- this profile's limit on INTEGER and ENUMERATED: signed 128 bits
-abbrev pub fits_128_bits : ℤ → Bool
-fits_128_bits (pos n) = nat_lt n (2 ^ 127)
-fits_128_bits (negsuc n) = nat_lt n (2 ^ 127)
 
 abbrev pub all_below : ℕ → List ℕ → Bool
 all_below limit [] = true
@@ -40,6 +33,16 @@ has_zero_end os unused = nat_eq (last_octet os % 2 ^ unused) 0
 abbrev pub fits_bits : List ℕ → ℕ → Bool
 fits_bits os unused = all_below 256 os && has_proper_end os unused && has_zero_end os unused
 
+-- The last bit is one, or there are no octets and so no bits.
+abbrev pub has_no_trailing_zero : List ℕ → ℕ → Bool
+has_no_trailing_zero [] unused = true
+has_no_trailing_zero (o ∷ os) unused = nat_eq (last_octet (o ∷ os) / 2 ^ unused % 2) 1
+
+-- Where bits are named, trailing zero bits have no part in the value (X.680 22.7), and none is encoded (X.690 11.2.2).
+abbrev pub ends_as_named : List NamedNumber → List ℕ → ℕ → Bool
+ends_as_named [] os unused = true
+ends_as_named (name ∷ names) os unused = has_no_trailing_zero os unused
+
 -- X.660 has three first arcs, 0, 1 and 2, and 40 arcs each under 0 and 1. In this profile no subidentifier has more than 128 bits.
 abbrev pub fits_first_arcs : ℕ → ℕ → Bool
 fits_first_arcs x y = nat_le x 2 && (nat_eq x 2 || nat_le y 39) && nat_lt (40 * x + y) (2 ^ 128)
@@ -47,14 +50,6 @@ fits_first_arcs x y = nat_le x 2 && (nat_eq x 2 || nat_le y 39) && nat_lt (40 * 
 abbrev pub fits_arcs : List ℕ → Bool
 fits_arcs (x ∷ y ∷ arcs) = fits_first_arcs x y && all_below (2 ^ 128) arcs
 fits_arcs _ = false
-
-abbrev pub all_characters : CharKind → List ℕ → Bool
-all_characters k [] = true
-all_characters k (c ∷ cs) = is_character k c && all_characters k cs
-
-abbrev pub fits_characters : CharKind → List ℕ → Bool
-fits_characters Utf8 cs = all_scalars cs
-fits_characters k cs = all_characters k cs
 
 abbrev pub may_be_absent : AbstractPresence → Bool
 may_be_absent type.optional = true
@@ -100,19 +95,31 @@ abbrev mutual
 
   pub fits_kind : AbstractKind → AbstractValue → Bool
   fits_kind type.boolean (value.boolean b) = true
+  fits_kind type.boolean _ = false
   fits_kind (type.integer ns) (value.integer z) = fits_128_bits z
-  fits_kind type.bit_string (value.bit_string os unused) = fits_bits os unused
+  fits_kind (type.integer ns) _ = false
+  fits_kind (type.bit_string names) (value.bit_string os unused) = fits_bits os unused && ends_as_named names os unused
+  fits_kind (type.bit_string names) _ = false
   fits_kind type.octet_string (value.octet_string os) = all_below 256 os
+  fits_kind type.octet_string _ = false
   fits_kind type.null value.null = true
+  fits_kind type.null _ = false
   fits_kind type.object_identifier (value.object_identifier arcs) = fits_arcs arcs
+  fits_kind type.object_identifier _ = false
   fits_kind (type.enumerated ns) (value.enumerated z) = fits_128_bits z && is_item z ns
+  fits_kind (type.enumerated ns) _ = false
   fits_kind (type.characters k) (value.characters cs) = fits_characters k cs
+  fits_kind (type.characters k) _ = false
   fits_kind (type.sequence cs) (value.fields fs) = fits_fields cs fs
+  fits_kind (type.sequence cs) _ = false
   fits_kind (type.set cs) (value.fields fs) = fits_fields cs fs
+  fits_kind (type.set cs) _ = false
   fits_kind (type.choice cs) (value.chosen i v) = fits_alternative cs i v
+  fits_kind (type.choice cs) _ = false
   fits_kind (type.sequence_of t) (value.items vs) = fits_items (fits t) vs
+  fits_kind (type.sequence_of t) _ = false
   fits_kind (type.set_of t) (value.items vs) = fits_set (fits t) (der t) vs
-  fits_kind _ _ = false
+  fits_kind (type.set_of t) _ = false
 
   -- a fitting value at each component, or none at an OPTIONAL one
   pub fits_fields : Components → Fields → Bool

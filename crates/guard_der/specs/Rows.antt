@@ -59,18 +59,34 @@ fits_greatest_arc = refl
 past_greatest_arc : fits (plain (universal 6) type.object_identifier) (value.object_identifier (2 ∷ 340282366920938463463374607431768211376 ∷ [])) ≡ false
 past_greatest_arc = refl
 
-bits : der (plain (universal 3) type.bit_string) (value.bit_string (0xA0 ∷ []) 5) ≡ Some (0x03 ∷ 0x02 ∷ 0x05 ∷ 0xA0 ∷ [])
+bits : der (plain (universal 3) (type.bit_string [])) (value.bit_string (0xA0 ∷ []) 5) ≡ Some (0x03 ∷ 0x02 ∷ 0x05 ∷ 0xA0 ∷ [])
 unfolding fewest unsigned_octets signed_octets base_128 identifier_octets length_octets element
 bits = refl
 
-fits_bits : fits (plain (universal 3) type.bit_string) (value.bit_string (0xA0 ∷ []) 5) ≡ true
+fits_bits : fits (plain (universal 3) (type.bit_string [])) (value.bit_string (0xA0 ∷ []) 5) ≡ true
 fits_bits = refl
 
-unused_bits : fits (plain (universal 3) type.bit_string) (value.bit_string (0xA1 ∷ []) 5) ≡ false
+unused_bits : fits (plain (universal 3) (type.bit_string [])) (value.bit_string (0xA1 ∷ []) 5) ≡ false
 unused_bits = refl
 
-unused_nothing : fits (plain (universal 3) type.bit_string) (value.bit_string [] 1) ≡ false
+unused_nothing : fits (plain (universal 3) (type.bit_string [])) (value.bit_string [] 1) ≡ false
 unused_nothing = refl
+
+-- BIT STRING {a(0)}
+abbrev named_bits : AbstractType
+named_bits = plain (universal 3) (type.bit_string (record { name = codes "a"; number = pos 0 } ∷ []))
+
+fits_last_bit : fits named_bits (value.bit_string (0xA0 ∷ []) 5) ≡ true
+fits_last_bit = refl
+
+fits_no_bits : fits named_bits (value.bit_string [] 0) ≡ true
+fits_no_bits = refl
+
+trailing_zero : fits named_bits (value.bit_string (0xA0 ∷ []) 4) ≡ false
+trailing_zero = refl
+
+trailing_octet : fits named_bits (value.bit_string (0x80 ∷ 0x00 ∷ []) 0) ≡ false
+trailing_octet = refl
 
 nothing : der (plain (universal 5) type.null) value.null ≡ Some (0x05 ∷ 0x00 ∷ [])
 unfolding fewest unsigned_octets signed_octets base_128 identifier_octets length_octets element

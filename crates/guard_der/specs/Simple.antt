@@ -10,7 +10,8 @@ use Rattle.guard_model.specs.AbstractValue.{AbstractValue}
 use Rattle.guard_der.specs.declared.breach.Code.{Code}
 use Rattle.guard_der.specs.declared.breach.Code.TheVariants as code
 use Rattle.guard_der.specs.Octets.{twos_complement}
-use Rattle.guard_der.specs.Fits.{all_below, is_item, has_proper_end, has_zero_end, all_characters}
+use Rattle.guard_der.specs.Fits.{all_below, is_item, has_proper_end, has_zero_end, ends_as_named}
+use Rattle.guard_model.specs.Alphabets.{all_characters}
 
 -- A BOOLEAN is 00 or FF (X.690 8.2, 11.1).
 abbrev pub boolean_fault : List ℕ → Option Code
@@ -41,13 +42,14 @@ enumerated_fault items os = elim (integer_fault os) [
   | None ↦ if is_item (twos_complement os) items then None else Some code.UnknownEnumeration
 ]
 
--- The first octet is the count of unused bits (X.690 8.6.2), which are zero (11.2.1).
-abbrev pub bits_fault : List ℕ → Option Code
-bits_fault [] = Some code.BitStringContents
-bits_fault (unused ∷ os) =
-    if has_proper_end os unused
-    then (if has_zero_end os unused then None else Some code.UnusedBits)
-    else Some code.BitStringContents
+-- The first octet is the count of unused bits (X.690 8.6.2), which are zero (11.2.1). Where bits are named the last one is not (11.2.2).
+abbrev pub bits_fault : List NamedNumber → List ℕ → Option Code
+bits_fault names [] = Some code.BitStringContents
+bits_fault names (unused ∷ os) =
+    if not (has_proper_end os unused) then Some code.BitStringContents
+    else if not (has_zero_end os unused) then Some code.UnusedBits
+    else if not (ends_as_named names os unused) then Some code.TrailingZeroBit
+    else None
 
 abbrev pub bits_of : List ℕ → AbstractValue
 bits_of [] = value.bit_string [] 0
@@ -99,19 +101,31 @@ characters_of _ os = os
 abbrev pub simple_fault : AbstractKind → List ℕ → Option Code
 simple_fault type.boolean os = boolean_fault os
 simple_fault (type.integer ns) os = integer_fault os
-simple_fault type.bit_string os = bits_fault os
+simple_fault (type.bit_string names) os = bits_fault names os
+simple_fault type.octet_string os = None
 simple_fault type.null os = null_fault os
 simple_fault type.object_identifier os = object_id_fault os
 simple_fault (type.enumerated ns) os = enumerated_fault ns os
 simple_fault (type.characters k) os = characters_fault k os
-simple_fault _ os = None
+-- no simple kinds
+simple_fault (type.sequence cs) os = None
+simple_fault (type.set cs) os = None
+simple_fault (type.choice cs) os = None
+simple_fault (type.sequence_of t) os = None
+simple_fault (type.set_of t) os = None
 
 abbrev pub simple_value : AbstractKind → List ℕ → AbstractValue
 simple_value type.boolean os = value.boolean (boolean_of os)
 simple_value (type.integer ns) os = value.integer (twos_complement os)
-simple_value type.bit_string os = bits_of os
+simple_value (type.bit_string names) os = bits_of os
 simple_value type.octet_string os = value.octet_string os
+simple_value type.null os = value.null
 simple_value type.object_identifier os = value.object_identifier (arcs_of (subidentifiers 0 os))
 simple_value (type.enumerated ns) os = value.enumerated (twos_complement os)
 simple_value (type.characters k) os = value.characters (characters_of k os)
-simple_value _ os = value.null
+-- no simple kinds
+simple_value (type.sequence cs) os = value.null
+simple_value (type.set cs) os = value.null
+simple_value (type.choice cs) os = value.null
+simple_value (type.sequence_of t) os = value.null
+simple_value (type.set_of t) os = value.null

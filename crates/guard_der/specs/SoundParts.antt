@@ -2,7 +2,8 @@
 use Rattle.std.specs.Prelude.{Bool, true, Option, Some, None}
 use Rattle.guard_model.specs.AbstractType.{AbstractType, AbstractKind, Constraint}
 use Rattle.guard_model.specs.TypeView.{OnePart}
-use Rattle.guard_der.specs.ProperConstraints.{part_of, is_there_and}
+use Rattle.guard_der.specs.ProperConstraints.{is_there_and}
+use Rattle.guard_model.specs.Kinds.{part_of}
 use Rattle.guard_der.specs.Sound.{is_proper_constraint}
 
 abbrev pub is_proper_within : Option Constraint → AbstractType → Bool

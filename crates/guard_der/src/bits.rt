@@ -1,6 +1,9 @@
-//! The end of a BIT STRING: how many bits are unused, and what they are.
-ghost use Rattle.std.specs.Prelude.{◌≡◌, ◌^◌, ◌≤◌};
-ghost use Rattle.guard_der.specs.Fits.{last_octet as last_of, has_proper_end, has_zero_end};
+//! The end of a BIT STRING: how many bits are unused, what they are, and what the last bit is.
+ghost use Rattle.std.specs.Prelude.{◌≡◌, ◌^◌, ◌≤◌, map};
+ghost use Rattle.guard_model.specs.TypeView.{named_view};
+ghost use Rattle.guard_der.specs.Fits.{last_octet as last_of, has_proper_end, has_zero_end, has_no_trailing_zero, ends_as_named};
+
+use guard_model::Named;
 
 /// At most seven bits are unused, and without octets none (X.690 8.6.2).
 pub fn has_proper_end(octets: &[u8], unused: u8) -> bool
@@ -15,6 +18,28 @@ pub fn has_zero_end(octets: &[u8], unused: u8) -> bool
     ensures { result ≡ has_zero_end octets.now unused }
 {
     last_octet(octets) % power_of_two(unused) == 0
+}
+
+/// Where bits are named the last bit is one, or there are none (X.680 22.7, X.690 11.2.2).
+pub fn ends_as_named(names: &[Named], octets: &[u8], unused: u8) -> bool
+    requires { unused ≤ 7 }
+    ensures { result ≡ ends_as_named (map named_view names.now) octets.now unused }
+{
+    match names {
+        [] => true,
+        _ => has_no_trailing_zero(octets, unused),
+    }
+}
+
+/// The last bit is one, or there are no bits.
+fn has_no_trailing_zero(octets: &[u8], unused: u8) -> bool
+    requires { unused ≤ 7 }
+    ensures { result ≡ has_no_trailing_zero octets.now unused }
+{
+    match octets {
+        [] => true,
+        _ => last_octet(octets) / power_of_two(unused) % 2 == 1,
+    }
 }
 
 fn last_octet(octets: &[u8]) -> u8

@@ -54,6 +54,8 @@ pub enum Code {
     DefaultPresent,
     /// Octets after the one element that a message or a wrapper holds.
     TrailingOctets,
+    /// The last bit of a BIT STRING with named bits is zero (X.690 11.2.2).
+    TrailingZeroBit,
 }
 
 impl Code {
@@ -86,6 +88,7 @@ impl Code {
             Code::SetOfOrder => "SetOfOrder",
             Code::DefaultPresent => "DefaultPresent",
             Code::TrailingOctets => "TrailingOctets",
+            Code::TrailingZeroBit => "TrailingZeroBit",
         }
     }
 }

@@ -2,7 +2,6 @@
 ghost use Rattle.std.specs.Prelude.{◌≡◌, chars, option_map, Some, None, if◌then◌else◌};
 ghost use Rattle.guard_der.specs.Simple.{is_text, characters_of};
 
-use crate::fitting::simple::characters_fit;
 use guard_model::CharKind;
 
 /// The text that octets of the kind spell: UTF-8, each character of the kind's alphabet.
@@ -12,9 +11,5 @@ pub fn text_of(kind: CharKind, octets: &[u8]) -> Option<&str>
     let Ok(text) = str::from_utf8(octets) else {
         return None;
     };
-    if characters_fit(kind, text) {
-        Some(text)
-    } else {
-        None
-    }
+    if kind.has_all(text) { Some(text) } else { None }
 }

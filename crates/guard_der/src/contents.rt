@@ -10,7 +10,7 @@ ghost use Rattle.guard_der.specs.Simple.{boolean_fault, boolean_of, integer_faul
 ghost use Rattle.guard_der.specs.Reading.{unless_fault};
 ghost use Rattle.guard_der.specs.Views.{breach_of};
 
-use crate::bits::{has_proper_end, has_zero_end};
+use crate::bits::{ends_as_named, has_proper_end, has_zero_end};
 use crate::breach::{Code, DecodeFault};
 use crate::characters::text_of;
 use crate::faults::fault_at;
@@ -31,7 +31,7 @@ pub fn value_of_simple(
     match kind {
         Kind::Bool => boolean(at, octets),
         Kind::Int(_) => integer(at, octets),
-        Kind::Bits => bit_string(alloc, at, octets),
+        Kind::Bits(names) => bit_string(alloc, names, at, octets),
         Kind::Octets => Ok(Value::Octets(Vec::from_slice(alloc, octets)?)),
         Kind::Null => null(at, octets),
         Kind::Oid => object_identifier(alloc, at, octets),
@@ -62,9 +62,14 @@ fn null(at: usize, octets: &[u8]) -> Result<Value, DecodeFault>
     }
 }
 
-/// The first octet is the count of unused bits, which are zero (X.690 8.6.2, 11.2.1).
-fn bit_string(alloc: Global, at: usize, octets: &[u8]) -> Result<Value, DecodeFault>
-    ensures { Gives value_view breach_of result (unless_fault at (bits_fault octets.now) (bits_of octets.now)) }
+/// The first octet is the count of unused bits, which are zero (X.690 8.6.2, 11.2.1); where bits are named, the last one isn't (11.2.2).
+fn bit_string(
+    alloc: Global,
+    names: &[Named],
+    at: usize,
+    octets: &[u8],
+) -> Result<Value, DecodeFault>
+    ensures { Gives value_view breach_of result (unless_fault at (bits_fault (map named_view names.now) octets.now) (bits_of octets.now)) }
 {
     let [unused, rest @ ..] = octets else {
         return Err(fault_at(Code::BitStringContents, at));
@@ -74,6 +79,9 @@ fn bit_string(alloc: Global, at: usize, octets: &[u8]) -> Result<Value, DecodeFa
     }
     if !has_zero_end(rest, *unused) {
         return Err(fault_at(Code::UnusedBits, at));
+    }
+    if !ends_as_named(names, rest, *unused) {
+        return Err(fault_at(Code::TrailingZeroBit, at));
     }
     Ok(Value::Bits(Bits {
         octets: Vec::from_slice(alloc, rest)?,

@@ -1,11 +1,13 @@
 //! Laws of the encoding, over the definitions alone. Each is carried by a function that does nothing when it runs.
-ghost use Rattle.std.specs.Prelude.{◌≡◌, ℕ, List, ◌++◌, Some, IsTrue, ◌⊎◌};
+ghost use Rattle.std.specs.Prelude.{◌≡◌, ◌↔◌, ℕ, List, ◌++◌, Some, IsTrue, ◌⊎◌};
 ghost use Rattle.guard_model.specs.TypeView.{type_view};
 ghost use Rattle.guard_model.specs.ValueView.{value_view};
+ghost use Rattle.guard_model.specs.AbstractType.{AbstractType};
 ghost use Rattle.guard_model.specs.AbstractValue.{AbstractValue};
+ghost use Rattle.guard_tagcheck.specs.Distinct.{Distinct};
 ghost use Rattle.guard_der.specs.Der.{der};
 ghost use Rattle.guard_der.specs.Fits.{fits};
-ghost use Rattle.guard_der.specs.Sound.{is_sound};
+ghost use Rattle.guard_der.specs.Sound.{is_sound, has_distinct_tags};
 ghost use Rattle.guard_der.specs.Breach.{AbstractBreach, IsBreach};
 
 use guard_model::{Ty, Value};
@@ -33,4 +35,10 @@ pub fn law_one_answer(ty: &Ty, octets: &[u8])
     ensures one { ((v : AbstractValue) × IsTrue (fits (type_view ty.now) v) × (der (type_view ty.now) v ≡ Some octets.now)) ⊎ ((b : AbstractBreach) × IsBreach (type_view ty.now) octets.now b) }
     ensures never_both { (v : AbstractValue) (b : AbstractBreach) → IsTrue (fits (type_view ty.now) v) → der (type_view ty.now) v ≡ Some octets.now → IsBreach (type_view ty.now) octets.now b → ⊥ }
     ensures one_breach { (b c : AbstractBreach) → IsBreach (type_view ty.now) octets.now b → IsBreach (type_view ty.now) octets.now c → b ≡ c }
+{}
+
+/// What `is_sound` asks of the tags of a type, and of each type contained in its constraints at any depth, is that all differ that must
+/// (X.680 25.6, 27.3, 29.3).
+pub fn law_distinct_tags()
+    ensures { (t : AbstractType) → IsTrue (has_distinct_tags t) ↔ Distinct t }
 {}

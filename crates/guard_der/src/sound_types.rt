@@ -8,7 +8,9 @@ ghost use Rattle.guard_tagcheck.specs.Distinct.{Distinct};
 ghost use Rattle.guard_tagcheck.specs.Limits.{nesting};
 ghost use Rattle.guard_der.specs.Der.{der};
 ghost use Rattle.guard_der.specs.Fits.{fits};
-ghost use Rattle.guard_der.specs.ProperConstraints.{may_stand_in, is_short, kind_of, has_size, type_of_size, element_of, has_parts, part_of, is_there_and};
+ghost use Rattle.guard_der.specs.ProperConstraints.{may_stand_in, is_short, takes_size, is_there_and};
+ghost use Rattle.guard_model.specs.Kinds.{kind_of, type_of_size, element_of, has_parts, part_of};
+ghost use Rattle.guard_model.specs.Limits.{most_components, deepest_nesting};
 ghost use Rattle.guard_der.specs.Sound.{is_sound, is_proper, is_proper_kind, are_proper, is_proper_presence, are_proper_constraints, is_proper_constraint, are_proper_parts};
 ghost use Rattle.guard_der.specs.SoundParts.{is_proper_part, is_proper_within};
 
@@ -16,9 +18,7 @@ mod forms;
 
 use crate::encoding::{EncodeFault, encode};
 use crate::fitting::fits;
-use crate::sound_types::forms::{
-    element_of, has_parts, has_proper_tags, has_size, is_integer, is_string, part_of, type_of_size,
-};
+use crate::sound_types::forms::{has_proper_tags, takes_size};
 use guard_model::{
     Comp, Cons, Kind, MOST_COMPONENTS, OutOfMemory, Part, Presence, Rule, Ty, Value,
 };
@@ -28,14 +28,16 @@ use std::alloc::Global;
 /// Whether the type is sound: a tag at each node but a CHOICE, numbers of tags up to 268,435,455, at most 64 components or
 /// alternatives in each list, nesting up to 32; tags that tell components and alternatives apart (X.680 25.6, 27.3, 29.3);
 /// no default that is pending, and each default a value of its type whose encoding has at most 1,048,576 octets. Each element of
-/// a constraint applies to the kind that it constrains, inside SIZE to INTEGER; single values are as defaults, contained types
-/// sound and of the same base, and parts that are named by their places exist (51.2 to 51.8). Its one refusal is want of memory.
+/// a constraint applies to the kind that it constrains, SIZE to none with named bits and inside SIZE to INTEGER; single values are as
+/// defaults, contained types sound and of the same base, and parts that are named by their places exist (51.2 to 51.8). So tags tell
+/// components and alternatives apart in contained types too, at every depth: of each `law_distinct_tags` says that the test is true
+/// exactly where all tags that must differ do. Its one refusal is want of memory.
 pub fn sound(alloc: Global, ty: &Ty) -> Result<bool, OutOfMemory>
     ensures exact { IfOk result (λ b. b ≡ is_sound (type_view ty.now)) }
     // Of a sound type all tags that must differ do.
     ensures distinct { IfOk result (λ b. IsTrue b → Distinct (type_view ty.now)) }
     // A type all of whose tags that must differ do is sound where the rest is as it should be.
-    ensures accepted { IfOk result (λ b. Distinct (type_view ty.now) → IsTrue (is_proper (type_view ty.now)) → IsTrue (nat_le (nesting (type_view ty.now)) 32) → IsTrue b) }
+    ensures accepted { IfOk result (λ b. Distinct (type_view ty.now) → IsTrue (is_proper (type_view ty.now)) → IsTrue (nat_le (nesting (type_view ty.now)) deepest_nesting) → IsTrue b) }
 {
     is_sound(alloc, ty)
 }
@@ -83,7 +85,7 @@ fn is_proper_kind(alloc: Global, kind: &Kind) -> Result<bool, OutOfMemory>
 /// Of a SEQUENCE, SET or CHOICE.
 #[cycle(proper)]
 fn list_is_proper(alloc: Global, comps: &[Comp]) -> Result<bool, OutOfMemory>
-    ensures { IfOk result (λ b. b ≡ (nat_le (component_count (components_of (map component_view comps.now))) 64 && are_proper (components_of (map component_view comps.now)))) }
+    ensures { IfOk result (λ b. b ≡ (nat_le (component_count (components_of (map component_view comps.now))) most_components && are_proper (components_of (map component_view comps.now)))) }
 {
     if comps.len() > MOST_COMPONENTS {
         return Ok(false);
@@ -146,9 +148,9 @@ fn is_proper_constraint(alloc: Global, constraint: &Cons, ty: &Ty) -> Result<boo
     match &constraint.rule {
         Rule::One(value) => may_stand_in(alloc, ty, value),
         Rule::Inside(contained) => is_proper_inside(alloc, contained, ty),
-        Rule::Range(_, _) => Ok(is_integer(ty)),
+        Rule::Range(_, _) => Ok(ty.kind.is_integer()),
         Rule::Size(size) => is_proper_size(alloc, size, ty),
-        Rule::Alphabet(_) => Ok(is_string(ty)),
+        Rule::Alphabet(_) => Ok(ty.kind.is_string()),
         Rule::Each(each) => is_proper_each(alloc, each, ty),
         Rule::Parts(_, parts) => is_proper_list(alloc, parts, ty),
         Rule::Any(any) => are_proper_constraints(alloc, any, ty),
@@ -176,12 +178,12 @@ fn is_proper_inside(alloc: Global, contained: &Ty, ty: &Ty) -> Result<bool, OutO
 
 #[cycle(proper)]
 fn is_proper_size(alloc: Global, size: &Cons, ty: &Ty) -> Result<bool, OutOfMemory>
-    ensures { IfOk result (λ b. b ≡ (has_size (kind_of (type_view ty.now)) && is_proper_constraint (constraint_view size.now) type_of_size)) }
+    ensures { IfOk result (λ b. b ≡ (takes_size (kind_of (type_view ty.now)) && is_proper_constraint (constraint_view size.now) type_of_size)) }
 {
-    if !has_size(ty) {
+    if !takes_size(&ty.kind) {
         return Ok(false);
     }
-    let number = type_of_size(alloc)?;
+    let number = Ty::integer(alloc)?;
     is_proper_constraint(alloc, size, &number)
 }
 
@@ -190,7 +192,7 @@ fn is_proper_size(alloc: Global, size: &Cons, ty: &Ty) -> Result<bool, OutOfMemo
 fn is_proper_each(alloc: Global, each: &Cons, ty: &Ty) -> Result<bool, OutOfMemory>
     ensures { IfOk result (λ b. b ≡ is_there_and (is_proper_constraint (constraint_view each.now)) (element_of (kind_of (type_view ty.now)))) }
 {
-    match element_of(ty) {
+    match ty.kind.element() {
         Some(element) => is_proper_constraint(alloc, each, element),
         None => Ok(false),
     }
@@ -202,7 +204,7 @@ fn is_proper_each(alloc: Global, each: &Cons, ty: &Ty) -> Result<bool, OutOfMemo
 fn is_proper_list(alloc: Global, parts: &[Part], ty: &Ty) -> Result<bool, OutOfMemory>
     ensures { IfOk result (λ b. b ≡ (has_parts (kind_of (type_view ty.now)) && are_proper_parts (parts_of (map part_view parts.now)) (type_view ty.now))) }
 {
-    if !has_parts(ty) {
+    if !ty.kind.has_parts() {
         return Ok(false);
     }
     are_proper_parts(alloc, parts, ty)
@@ -225,7 +227,7 @@ fn are_proper_parts(alloc: Global, parts: &[Part], ty: &Ty) -> Result<bool, OutO
 fn is_proper_part(alloc: Global, part: &Part, kind: &Kind) -> Result<bool, OutOfMemory>
     ensures { IfOk result (λ b. b ≡ is_proper_part (part_view part.now) (kind_view kind.now)) }
 {
-    match part_of(kind, part.at) {
+    match kind.part(part.at) {
         Some(ty) => is_proper_within(alloc, &part.cons, ty),
         None => Ok(false),
     }

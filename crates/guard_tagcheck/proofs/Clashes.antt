@@ -56,7 +56,7 @@ mutual
   kind_none tags (type.set_of t) cons e = part_none tags (type.set_of t) cons t (λ i j p. p.0) (set_of_part t) (type_none t (inside_none (Element 0) (first_clash t) e))
   kind_none tags type.boolean cons e = leaf_none tags type.boolean cons (λ i j p. p.0) (λ s. refl)
   kind_none tags (type.integer ns) cons e = leaf_none tags (type.integer ns) cons (λ i j p. p.0) (λ s. refl)
-  kind_none tags type.bit_string cons e = leaf_none tags type.bit_string cons (λ i j p. p.0) (λ s. refl)
+  kind_none tags (type.bit_string ns) cons e = leaf_none tags (type.bit_string ns) cons (λ i j p. p.0) (λ s. refl)
   kind_none tags type.octet_string cons e = leaf_none tags type.octet_string cons (λ i j p. p.0) (λ s. refl)
   kind_none tags type.null cons e = leaf_none tags type.null cons (λ i j p. p.0) (λ s. refl)
   kind_none tags type.object_identifier cons e = leaf_none tags type.object_identifier cons (λ i j p. p.0) (λ s. refl)
@@ -179,7 +179,7 @@ mutual
       part_some tags (type.set_of t) cons t c d.0 (λ i j p. p.0) (set_of_part t) refl (type_some t d.0 d.1) d.2
   kind_some tags type.boolean cons c e = absurd cc
   kind_some tags (type.integer ns) cons c e = absurd cc
-  kind_some tags type.bit_string cons c e = absurd cc
+  kind_some tags (type.bit_string ns) cons c e = absurd cc
   kind_some tags type.octet_string cons c e = absurd cc
   kind_some tags type.null cons c e = absurd cc
   kind_some tags type.object_identifier cons c e = absurd cc

@@ -17,3 +17,5 @@ pub mod FirstOfTags
 pub mod NotedTags
 pub mod NotedPairs
 pub mod Finding
+-- no clash is found exactly where all that must differ do
+pub mod NoClash

@@ -43,7 +43,7 @@ mutual
       omega (arith, tag_there tags tagged, path_length c _ d.2, type_paths t d.0 limits d.1)
   kind_paths tags type.boolean c tagged limits e = absurd cc
   kind_paths tags (type.integer ns) c tagged limits e = absurd cc
-  kind_paths tags type.bit_string c tagged limits e = absurd cc
+  kind_paths tags (type.bit_string ns) c tagged limits e = absurd cc
   kind_paths tags type.octet_string c tagged limits e = absurd cc
   kind_paths tags type.null c tagged limits e = absurd cc
   kind_paths tags type.object_identifier c tagged limits e = absurd cc

@@ -24,7 +24,7 @@ mutual
   alternative_from (type.choice cs) b e = one_from cs b e
   alternative_from type.boolean b e = absurd cc
   alternative_from (type.integer ns) b e = absurd cc
-  alternative_from type.bit_string b e = absurd cc
+  alternative_from (type.bit_string ns) b e = absurd cc
   alternative_from type.octet_string b e = absurd cc
   alternative_from type.null b e = absurd cc
   alternative_from type.object_identifier b e = absurd cc
@@ -53,7 +53,7 @@ mutual
   alternative_to (type.choice cs) b tag first second = one_to cs b tag first second
   alternative_to type.boolean b tag first second = absurd cc
   alternative_to (type.integer ns) b tag first second = absurd cc
-  alternative_to type.bit_string b tag first second = absurd cc
+  alternative_to (type.bit_string ns) b tag first second = absurd cc
   alternative_to type.octet_string b tag first second = absurd cc
   alternative_to type.null b tag first second = absurd cc
   alternative_to type.object_identifier b tag first second = absurd cc

@@ -13,15 +13,15 @@ use Rattle.guard_tagcheck.specs.FirstTags.{begins_with}
 abbrev pub CanBeAbsent : Components → ℕ → ℕ → Type 0
 CanBeAbsent cs i j = (k : ℕ) → i ≤ k → k < j → IfSome (component_at k cs) (λ c. c.presence ≢ type.mandatory)
 
--- The tags of component i must differ from those of the later component j: in a SEQUENCE where an encoding that comes after
--- those of the components before i may be of or_cases (25.6), in a SET (27.3) and in a CHOICE (29.3) always.
+-- The tags of component i must differ from those of the later component j: in a SEQUENCE where the encoding that comes after
+-- those of the components before i may be that of either one (25.6), in a SET (27.3) and in a CHOICE (29.3) always.
 abbrev pub MustDiffer : AbstractKind → ℕ → ℕ → Type 0
 MustDiffer (type.sequence cs) i j = (i < j) × CanBeAbsent cs i j
 MustDiffer (type.set cs) i j = i < j
 MustDiffer (type.choice cs) i j = i < j
 MustDiffer _ i j = ⊥
 
--- An encoding of or_cases type may begin with the same tag.
+-- An encoding of either type may begin with the same tag.
 abbrev pub ShareTag : AbstractType → AbstractType → Type 0
 ShareTag a b = (tag : Tag) × IsTrue (begins_with a tag) × IsTrue (begins_with b tag)
 

@@ -8,3 +8,5 @@ pub mod Search
 -- how it is looked for with a map of the tags
 pub mod Noting
 pub mod Views
+-- what the search says of every type
+pub mod Laws

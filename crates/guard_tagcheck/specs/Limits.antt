@@ -4,6 +4,7 @@ use Rattle.guard_model.specs.AbstractType as type
 use Rattle.guard_model.specs.AbstractType.{AbstractType, AbstractKind, Components, type_of, no_components, component}
 use Rattle.guard_model.specs.Components.{components_in}
 use Rattle.guard_model.specs.Counts.{component_count}
+use Rattle.guard_model.specs.Kinds.{is_choice}
 use Rattle.guard_model.specs.Limits.{most_components, deepest_nesting, greatest_tag_number}
 use Rattle.guard_model.specs.declared.tag.Tag.{Tag}
 
@@ -44,10 +45,6 @@ abbrev mutual
 abbrev pub has_tag : List Tag → Bool
 has_tag [] = false
 has_tag (t ∷ ts) = true
-
-abbrev pub is_choice : AbstractKind → Bool
-is_choice (type.choice cs) = true
-is_choice _ = false
 
 -- only a CHOICE may have no tag (X.680 8.1)
 abbrev pub is_tagged : List Tag → AbstractKind → Bool

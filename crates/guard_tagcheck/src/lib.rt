@@ -7,11 +7,13 @@
 //! | What is a clash, and how does it print? | `clash.rt` | `specs/Distinct.antt`, `specs/Views.antt` |
 //! | With which tags may an encoding of a type begin? | `first_tags.rt` | `specs/FirstTags.antt` |
 //! | Which types can be looked at? | `limits.rt` (`is_within_limits`) | `specs/Limits.antt` |
+//! | What holds of the definitions for every type? | `laws.rt` | `specs/Laws.antt` |
 #![tactic(auto)]
 
 mod clash;
 mod find;
 mod first_tags;
+pub mod laws;
 mod limits;
 mod noting;
 mod search;

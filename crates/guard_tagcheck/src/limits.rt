@@ -30,7 +30,7 @@ fn is_within(ty: &Ty, depth: usize) -> bool
 fn is_tagged(tags: &[Tag], kind: &Kind) -> bool
     ensures { result ≡ is_tagged tags.now (kind_view kind.now) }
 {
-    !tags.is_empty() || matches!(kind, Kind::Choice(_))
+    !tags.is_empty() || kind.is_choice()
 }
 
 #[cycle(limits)]

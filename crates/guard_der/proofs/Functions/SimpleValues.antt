@@ -1,12 +1,9 @@
 -- The tests of simple values, one step at a time.
-use Rattle.std.proofs.Common.{◌≡◌, ℕ, suc, ◌+◌, ◌^◌, ◌<◌, ◌≤◌, Bool, true, false, List, [], ◌∷◌, length, drop, get_or, refl, sym, ap, ◌∙◌, arith}
+use Rattle.std.proofs.Common.{◌≡◌, ℕ, suc, ◌+◌, ◌^◌, ◌<◌, ◌≤◌, Bool, true, false, List, [], ◌∷◌, length, get_or, refl, sym, ap, ◌∙◌, arith}
 use Rattle.std.specs.Prelude.{◌&&◌, nat_le, nat_lt}
 use Rattle.std.proofs.lemmas.Bool.{and_parts, and_from, leb-true, ltb-true, lt-ltb, le-leb, lt-leb}
-use Rattle.std.proofs.lemmas.List.{at_drop_more, drop_all}
-use Rattle.guard_model.specs.declared.ty.CharKind.{CharKind}
 use Rattle.guard_model.proofs.Tests.{same_test}
-use Rattle.guard_model.specs.Alphabets.{is_character}
-use Rattle.guard_der.specs.Fits.{all_characters, all_below, fits_arcs, fits_first_arcs}
+use Rattle.guard_der.specs.Fits.{all_below, fits_arcs, fits_first_arcs}
 
 pub all_below_from : (limit : ℕ) (xs : List ℕ) → ((i : ℕ) → i < length xs → get_or xs i 0 < limit) → all_below limit xs ≡ true
 all_below_from limit [] h = refl
@@ -43,11 +40,3 @@ pub few_arcs : (arcs : List ℕ) → length arcs < 2 → false ≡ fits_arcs arc
 few_arcs [] h = refl
 few_arcs (x ∷ []) h = refl
 few_arcs (x ∷ y ∷ arcs) h = absurd (omega arith)
-
--- ---- characters
-
-pub character_next : (k : CharKind) (cs : List ℕ) (n c : ℕ) → (n < length cs) × (c ≡ get_or cs n c) → all_characters k (drop n cs) ≡ (is_character k c && all_characters k (drop (n + 1) cs))
-character_next k cs n c h = at_drop_more (all_characters k) cs n c h.0 ∙ ap (λ (x : ℕ). is_character k x && all_characters k (drop (n + 1) cs)) (sym h.1)
-
-pub characters_end : (k : CharKind) (cs : List ℕ) (n : ℕ) (w : Bool) → n ≡ length cs → all_characters k (drop n cs) ≡ w → true ≡ w
-characters_end k cs n w all e = rw (drop_all n cs (omega (arith, all))) at e

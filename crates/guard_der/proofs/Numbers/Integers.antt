@@ -7,7 +7,7 @@ use Rattle.std.proofs.lemmas.Nat.{mul-le}
 use Rattle.std.proofs.lemmas.List.{length-map}
 use Rattle.guard_der.specs.Octets.{fewest, big_endian, signed_octets, turned, twos_complement}
 use Rattle.guard_der.specs.Simple.{integer_fault, nine_equal}
-use Rattle.guard_der.specs.Fits.{fits_128_bits}
+use Rattle.guard_model.specs.Limits.{fits_128_bits}
 use Rattle.guard_der.specs.declared.breach.Code.{Code}
 use Rattle.guard_der.specs.declared.breach.Code.TheVariants.{IntegerContents, IntegerTooLong}
 use Rattle.std.proofs.Math.Seq.{take-suc}

@@ -14,7 +14,9 @@ use Rattle.guard_der.specs.declared.breach.Code.TheVariants as code
 use Rattle.guard_der.specs.Octets.{signed_octets, twos_complement, base_128}
 use Rattle.guard_der.specs.Contents.{boolean_octet, arcs_octets, character_octets}
 use Rattle.guard_der.specs.Der.{contents_octets}
-use Rattle.guard_der.specs.Fits.{fits_kind, fits_128_bits, all_below, is_item, has_proper_end, has_zero_end, fits_arcs, fits_characters}
+use Rattle.guard_der.specs.Fits.{fits_kind, all_below, is_item, has_proper_end, has_zero_end, ends_as_named, fits_bits, fits_arcs}
+use Rattle.guard_model.specs.Alphabets.{fits_characters}
+use Rattle.guard_model.specs.Limits.{fits_128_bits}
 use Rattle.guard_der.specs.Simple.{simple_fault, simple_value, integer_fault, are_subidentifiers, subidentifiers, arcs_of, is_text, characters_of}
 use Rattle.guard_der.specs.Breach.{AbstractBreach, FaultInSimple, here, after}
 use Rattle.guard_der.specs.Reading.{simple_at, unless_fault, fault}
@@ -171,31 +173,37 @@ enumerated_law ns = record {
 
 -- ---- BIT STRING
 
-no_end_fault : (proper zeros : Bool) → ◌≡◌ {A = Option Code} (cond proper (cond zeros None (Some code.UnusedBits)) (Some code.BitStringContents)) None → (proper ≡ true) × (zeros ≡ true)
-no_end_fault true true e = (refl, refl)
-no_end_fault true false e = absurd cc
-no_end_fault false zeros e = absurd cc
+abbrev end_fault : Bool → Bool → Bool → Option Code
+end_fault proper zeros named = cond (not proper) (Some code.BitStringContents) (cond (not zeros) (Some code.UnusedBits) (cond (not named) (Some code.TrailingZeroBit) None))
 
-fine_end : (proper zeros : Bool) → proper ≡ true → zeros ≡ true → ◌≡◌ {A = Option Code} (cond proper (cond zeros None (Some code.UnusedBits)) (Some code.BitStringContents)) None
-fine_end true true p q = refl
-fine_end true false p q = absurd cc
-fine_end false zeros p q = absurd cc
+no_end_fault : (proper zeros named : Bool) → end_fault proper zeros named ≡ None → (proper ≡ true) × (zeros ≡ true) × (named ≡ true)
+no_end_fault true true true e = (refl, refl, refl)
+no_end_fault true true false e = absurd cc
+no_end_fault true false named e = absurd cc
+no_end_fault false zeros named e = absurd cc
 
-bits_take : (os : List ℕ) → AreDigits 256 os → simple_fault type.bit_string os ≡ None → IsTrue (fits_kind type.bit_string (simple_value type.bit_string os)) × (contents_octets type.bit_string (simple_value type.bit_string os) ≡ Some os)
-bits_take [] digits e = absurd cc
-bits_take (unused ∷ os) digits e =
-    let f = no_end_fault (has_proper_end os unused) (has_zero_end os unused) e in
-    (and_from (all_below 256 os && has_proper_end os unused) (has_zero_end os unused) (and_from (all_below 256 os) (has_proper_end os unused) (all_octets os digits.1) f.0) f.1, refl)
+fine_end : (proper zeros named : Bool) → proper ≡ true → zeros ≡ true → named ≡ true → end_fault proper zeros named ≡ None
+fine_end proper zeros named p q r = rw (p, q, r) refl
 
-bits_again : (os : List ℕ) (v : AbstractValue) → IsTrue (fits_kind type.bit_string v) → contents_octets type.bit_string v ≡ Some os → (simple_fault type.bit_string os ≡ None) × (simple_value type.bit_string os ≡ v)
-bits_again os (value.bit_string x unused) fits e =
-    let a = and_parts (all_below 256 x && has_proper_end x unused) (has_zero_end x unused) fits in
+bits_take : (ns : List NamedNumber) (os : List ℕ) → AreDigits 256 os → simple_fault (type.bit_string ns) os ≡ None
+    → IsTrue (fits_kind (type.bit_string ns) (simple_value (type.bit_string ns) os)) × (contents_octets (type.bit_string ns) (simple_value (type.bit_string ns) os) ≡ Some os)
+bits_take ns [] digits e = absurd cc
+bits_take ns (unused ∷ os) digits e =
+    let f = no_end_fault (has_proper_end os unused) (has_zero_end os unused) (ends_as_named ns os unused) e in
+    let octets = and_from (all_below 256 os) (has_proper_end os unused) (all_octets os digits.1) f.0 in
+    (and_from (fits_bits os unused) (ends_as_named ns os unused) (and_from (all_below 256 os && has_proper_end os unused) (has_zero_end os unused) octets f.1) f.2, refl)
+
+bits_again : (ns : List NamedNumber) (os : List ℕ) (v : AbstractValue) → IsTrue (fits_kind (type.bit_string ns) v) → contents_octets (type.bit_string ns) v ≡ Some os
+    → (simple_fault (type.bit_string ns) os ≡ None) × (simple_value (type.bit_string ns) os ≡ v)
+bits_again ns os (value.bit_string x unused) fits e =
+    let n = and_parts (fits_bits x unused) (ends_as_named ns x unused) fits in
+    let a = and_parts (all_below 256 x && has_proper_end x unused) (has_zero_end x unused) n.0 in
     let b = and_parts (all_below 256 x) (has_proper_end x unused) a.0 in
-    rw (← same_Some (unused ∷ x) os e) (fine_end (has_proper_end x unused) (has_zero_end x unused) b.1 a.1, refl)
-bits_again os v fits e = absurd cc
+    rw (← same_Some (unused ∷ x) os e) (fine_end (has_proper_end x unused) (has_zero_end x unused) (ends_as_named ns x unused) b.1 a.1 n.1, refl)
+bits_again ns os v fits e = absurd cc
 
-pub bits_law : SimpleLaw type.bit_string
-bits_law = record { takes = bits_take; again = bits_again }
+pub bits_law : (ns : List NamedNumber) → SimpleLaw (type.bit_string ns)
+bits_law ns = record { takes = bits_take ns; again = bits_again ns }
 
 -- ---- OBJECT IDENTIFIER
 

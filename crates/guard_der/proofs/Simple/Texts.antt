@@ -7,11 +7,10 @@ use Rattle.std.specs.Str.{IsAscii, IsUtf8, chars, encode_utf8_all}
 use Rattle.std.proofs.lemmas.Bool.{and_parts, or_cases, leb-true, ltb-true, eqb-true}
 use Rattle.std.proofs.lemmas.Str.{IsUtf8-from_is_utf8, is_utf8-from_IsUtf8, IsUtf8-from_ascii, chars-IsAscii, scalars-chars, encodes-chars}
 use Rattle.guard_model.proofs.Tests.{same_test}
-use Rattle.guard_model.specs.Alphabets.{is_character, is_printable_mark}
+use Rattle.guard_model.specs.Alphabets.{is_character, is_printable_mark, fits_characters, all_characters}
 use Rattle.guard_model.specs.declared.ty.CharKind.{CharKind}
 use Rattle.guard_model.specs.declared.ty.CharKind.TheVariants.{Numeric, Printable, Ia5, Visible, Utf8}
 use Rattle.guard_der.specs.Contents.{character_octets}
-use Rattle.guard_der.specs.Fits.{fits_characters, all_characters}
 use Rattle.guard_der.specs.Simple.{is_text, characters_of}
 
 -- ---- the alphabets with one octet a character lie below 128

@@ -82,7 +82,7 @@ mutual
   kind_lawful : (kind : AbstractKind) → is_proper_kind kind ≡ true → clash_of_kind kind ≡ None → LawfulKind kind
   kind_lawful type.boolean e none = simple_lawful type.boolean boolean_law
   kind_lawful (type.integer ns) e none = simple_lawful (type.integer ns) (integer_law ns)
-  kind_lawful type.bit_string e none = simple_lawful type.bit_string bits_law
+  kind_lawful (type.bit_string ns) e none = simple_lawful (type.bit_string ns) (bits_law ns)
   kind_lawful type.octet_string e none = simple_lawful type.octet_string octets_law
   kind_lawful type.null e none = simple_lawful type.null null_law
   kind_lawful type.object_identifier e none = simple_lawful type.object_identifier id_law

@@ -1,16 +1,16 @@
 -- Types of the same base have the same values, constraints aside, and with the same tags the same encodings.
 use Rattle.std.proofs.Common.{◌≡◌, ℕ, zero, suc, Bool, true, ◌&&◌, Option, Some, List, [], ◌∷◌, refl, sym, ap, ◌∙◌}
 use Rattle.guard_model.specs.AbstractType as type
-use Rattle.guard_model.specs.AbstractType.{AbstractType, AbstractKind, AbstractPresence, Components, Constraints, type_of, no_components, component, no_constraints}
+use Rattle.guard_model.specs.AbstractType.{AbstractType, AbstractKind, AbstractPresence, Components, Constraints, NamedNumber, type_of, no_components, component, no_constraints}
 use Rattle.guard_model.specs.AbstractValue as value
 use Rattle.guard_model.specs.AbstractValue.{AbstractValue, Fields}
-use Rattle.guard_model.specs.SameBase.{bare, bare_kind, bare_components, bare_kind_of}
+use Rattle.guard_model.specs.SameBase.{bare, bare_kind, bare_names, bare_components, bare_kind_of}
 use Rattle.guard_model.specs.SameType.{same_base}
 use Rattle.guard_model.specs.declared.tag.Tag.{Tag}
 use Rattle.guard_model.proofs.SameTypes.{same_kind-Decides}
 use Rattle.guard_der.specs.Element.{tagged}
 use Rattle.guard_der.specs.Der.{der, is_constructed, is_left_out, Part, part_unless, parts_joined, ascending, joined, item_encodings, contents_octets, alternative_octets, parts_of, outermost, outermost_inside, outermost_alternative, ◌>>=◌}
-use Rattle.guard_der.specs.Fits.{fits, fits_kind, fits_fields, fits_alternative, fits_items, fits_set, may_be_absent}
+use Rattle.guard_der.specs.Fits.{fits, fits_kind, fits_fields, fits_alternative, fits_bits, ends_as_named, fits_items, fits_set, may_be_absent}
 
 same_form : (kind : AbstractKind) → is_constructed (bare_kind kind) ≡ is_constructed kind
 same_form (type.integer ns) = refl
@@ -72,12 +72,17 @@ mutual
 
 -- ---- values
 
+ends_bare : (ns : List NamedNumber) (os : List ℕ) (unused : ℕ) → ends_as_named (bare_names ns) os unused ≡ ends_as_named ns os unused
+ends_bare [] os unused = refl
+ends_bare (n ∷ ns) os unused = refl
+
 mutual
   fits_bare : (t : AbstractType) (v : AbstractValue) → fits (bare t) v ≡ fits t v
   fits_bare (type_of tags kind cons) v = kind_bare kind v
 
   pub kind_bare : (kind : AbstractKind) (v : AbstractValue) → fits_kind (bare_kind kind) v ≡ fits_kind kind v
   kind_bare (type.integer ns) (value.integer z) = refl
+  kind_bare (type.bit_string ns) (value.bit_string os unused) = ap (λ (b : Bool). fits_bits os unused && b) (ends_bare ns os unused)
   kind_bare (type.sequence cs) (value.fields fs) = fields_bare cs fs
   kind_bare (type.set cs) (value.fields fs) = fields_bare cs fs
   kind_bare (type.choice cs) (value.chosen i v) = chosen_bare cs i v

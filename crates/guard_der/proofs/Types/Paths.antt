@@ -136,7 +136,7 @@ mutual
       set_shallow cs (part_shallow cs p.1) p.1 (length os) (all_absent cs) None start os b (fields_err (set_at (length os) cs (part_at cs) (all_absent cs) None start os) b read)
   kind_shallow type.boolean e at start os b read = simple_paths type.boolean at start os b read
   kind_shallow (type.integer ns) e at start os b read = simple_paths (type.integer ns) at start os b read
-  kind_shallow type.bit_string e at start os b read = simple_paths type.bit_string at start os b read
+  kind_shallow (type.bit_string ns) e at start os b read = simple_paths (type.bit_string ns) at start os b read
   kind_shallow type.octet_string e at start os b read = simple_paths type.octet_string at start os b read
   kind_shallow type.null e at start os b read = simple_paths type.null at start os b read
   kind_shallow type.object_identifier e at start os b read = simple_paths type.object_identifier at start os b read

@@ -2,7 +2,8 @@
 ghost use Rattle.std.specs.Prelude.{◌≡◌, ◌∷◌, [], chars, IfOk, IsTrue};
 ghost use Rattle.guard_der.specs.Octets.{signed_octets};
 ghost use Rattle.guard_der.specs.Contents.{boolean_octet, arcs_octets, character_octets};
-ghost use Rattle.guard_der.specs.Fits.{fits_arcs, fits_characters};
+ghost use Rattle.guard_der.specs.Fits.{fits_arcs};
+ghost use Rattle.guard_model.specs.Alphabets.{fits_characters};
 
 use crate::encoding::octets::{push_base_128, push_signed};
 use guard_model::{Bits, CharKind, OutOfMemory};

@@ -36,7 +36,7 @@ fn contents(alloc: Global, kind: &Kind, value: &Value) -> Result<Vec<u8>, Encode
     match (kind, value) {
         (Kind::Bool, Value::Bool(truth)) => Ok(boolean(alloc, *truth)?),
         (Kind::Int(_), Value::Int(number)) => Ok(integer(alloc, *number)?),
-        (Kind::Bits, Value::Bits(bits)) => Ok(bit_string(alloc, bits)?),
+        (Kind::Bits(_), Value::Bits(bits)) => Ok(bit_string(alloc, bits)?),
         (Kind::Octets, Value::Octets(octets)) => Ok(Vec::from_slice(alloc, octets)?),
         (Kind::Null, Value::Null) => Ok(Vec::new(alloc)),
         (Kind::Oid, Value::Oid(arcs)) => Ok(object_identifier(alloc, arcs)?),

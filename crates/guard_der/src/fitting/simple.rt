@@ -1,10 +1,11 @@
 //! Which values the simple kinds have.
-ghost use Rattle.std.specs.Prelude.{◌≡◌, chars, map};
+ghost use Rattle.std.specs.Prelude.{◌≡◌, ◌&&◌, map};
 ghost use Rattle.guard_model.specs.TypeView.{named_view};
-ghost use Rattle.guard_der.specs.Fits.{all_below, all_characters, fits_128_bits, fits_arcs, fits_bits, fits_characters, is_item, fits_first_arcs};
+ghost use Rattle.guard_der.specs.Fits.{all_below, fits_arcs, fits_bits, ends_as_named, is_item, fits_first_arcs};
+ghost use Rattle.guard_model.specs.Limits.{fits_128_bits};
 
-use crate::bits::{has_proper_end, has_zero_end};
-use guard_model::{Bits, CharKind, Named};
+use crate::bits::{ends_as_named, has_proper_end, has_zero_end};
+use guard_model::{Bits, Named};
 
 /// An INTEGER and an ENUMERATED lie within signed 128 bits, as each number of this type does.
 pub fn is_in_range(number: i128) -> bool
@@ -21,13 +22,15 @@ pub fn are_octets(octets: &[u8]) -> bool
     true
 }
 
-/// At most seven bits are unused, none where there are no octets (X.690 8.6.2); the unused bits are zero (11.2.1).
-pub fn bits_fit(bits: &Bits) -> bool
-    ensures { result ≡ fits_bits bits.now.octets.items bits.now.unused }
+/// At most seven bits are unused, none where there are no octets (X.690 8.6.2); the unused bits are zero (11.2.1). Where bits are named,
+/// the last one isn't (11.2.2).
+pub fn bits_fit(names: &[Named], bits: &Bits) -> bool
+    ensures { result ≡ (fits_bits bits.now.octets.items bits.now.unused && ends_as_named (map named_view names.now) bits.now.octets.items bits.now.unused) }
 {
     are_octets(&bits.octets)
         && has_proper_end(&bits.octets, bits.unused)
         && has_zero_end(&bits.octets, bits.unused)
+        && ends_as_named(names, &bits.octets, bits.unused)
 }
 
 /// X.660 has three first arcs, 0, 1 and 2, and 40 arcs each under 0 and 1; in this profile no subidentifier has more than 128 bits.
@@ -61,28 +64,4 @@ pub fn is_item(number: i128, items: &[Named]) -> bool
         }
     }
     false
-}
-
-/// Each character is of the kind's alphabet (X.680 clause 41).
-pub fn characters_fit(kind: CharKind, text: &str) -> bool
-    ensures { result ≡ fits_characters kind (chars text.now) }
-{
-    match kind {
-        CharKind::Numeric => are_characters(kind, text),
-        CharKind::Printable => are_characters(kind, text),
-        CharKind::Ia5 => are_characters(kind, text),
-        CharKind::Visible => are_characters(kind, text),
-        CharKind::Utf8 => true,
-    }
-}
-
-fn are_characters(kind: CharKind, text: &str) -> bool
-    ensures { result ≡ all_characters kind (chars text.now) }
-{
-    for character in text.chars() {
-        if !kind.has(u32::from(character)) {
-            return false;
-        }
-    }
-    true
 }

@@ -5,12 +5,12 @@ use Rattle.guard_der.proofs.characters.text_of.Goals as goal
 pub returns-in_default : goal.returns-in_default
 returns-in_default c = not_spelled c.args.kind c.args.octets.now c.in_default.ensures.cases.0
 
-pub returns-then-characters_fit : goal.returns-then-characters_fit
-returns-then-characters_fit c =
+pub returns-then-has_all : goal.returns-then-has_all
+returns-then-has_all c =
     let is = c.in-Ok.ensures.cases in
-    rw is.0 (is_read c.args.kind c.args.octets.now is.1 (rw is.0 at (sym c.characters_fit.ensures ∙ c.if-characters_fit.true)))
+    rw is.0 (is_read c.args.kind c.args.octets.now is.1 (rw is.0 at (sym c.has_all.ensures ∙ c.if-has_all.true)))
 
-pub returns-else-characters_fit : goal.returns-else-characters_fit
-returns-else-characters_fit c =
+pub returns-else-has_all : goal.returns-else-has_all
+returns-else-has_all c =
     let is = c.in-Ok.ensures.cases in
-    is_not_read c.args.kind c.args.octets.now is.1 (rw is.0 at (sym c.characters_fit.ensures ∙ c.if-characters_fit.false))
+    is_not_read c.args.kind c.args.octets.now is.1 (rw is.0 at (sym c.has_all.ensures ∙ c.if-has_all.false))

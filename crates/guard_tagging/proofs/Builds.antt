@@ -1,14 +1,16 @@
 -- What is known of the definitions that are built, one after the other in their order.
-use Rattle.std.proofs.Common.{◌≡◌, ℕ, zero, suc, ◌+◌, ◌<◌, ◌≤◌, Bool, true, false, cond, List, [], ◌∷◌, ◌++◌, length, drop, get_or, Option, Some, None, slice_get, nat_eq, refl, sym, ◌∙◌, ap, arith}
+use Rattle.std.proofs.Common.{◌≡◌, ℕ, zero, suc, ◌+◌, ◌<◌, ◌≤◌, Bool, true, List, [], ◌∷◌, ◌++◌, length, drop, get_or, Option, Some, None, slice_get, refl, sym, ◌∙◌, ap, arith}
 use Rattle.std.specs.Prelude.{IfSome}
 use Rattle.std.proofs.lemmas.Option.{same_Some, slice_get-get_or}
 use Rattle.guard_model.specs.AbstractType.{AbstractType, type_of, null, no_constraints}
 use Rattle.guard_syntax.specs.Trees.{WrittenModule}
-use Rattle.guard_names.specs.Declarations.{definitions, declarations, definition_of, origin_there}
+use Rattle.guard_names.specs.Declarations.{definitions}
+use Rattle.guard_names.specs.Places.{place_meant}
+use Rattle.std.specs.Option.{option_and_then}
 use Rattle.guard_tagcheck.specs.Limits.{is_within_limits}
 use Rattle.guard_tagging.specs.Faults.{nodes}
 use Rattle.guard_tagging.specs.ScopeView.{known_list}
-use Rattle.guard_tagging.specs.Surroundings.{known_of, known_meant, surroundings, is_automatic_definition, meaning_at, known_behind, known_from, nodes_of_all}
+use Rattle.guard_tagging.specs.Surroundings.{surroundings, is_automatic_definition, meaning_at, known_behind, known_from, nodes_of_all}
 use Rattle.guard_tagging.specs.Tagged.{KeepLimits}
 use Rattle.guard_tagging.specs.Types.{Meaning}
 use Rattle.guard_tagging.proofs.Scopes.{both, known_at}
@@ -51,33 +53,22 @@ module _ (ms : List WrittenModule) (order : List ℕ) (types : List AbstractType
 
 -- ---- what is known keeps the limits
 
-pub is_among : (order : List ℕ) (known : List Meaning) (number : ℕ) (m : Meaning) → known_of order known number ≡ Some m → (place : ℕ) × (slice_get known place ≡ Some m)
-is_among [] known number m h = absurd cc
-is_among (n ∷ order) [] number m h = absurd cc
-is_among (n ∷ order) (k ∷ known) number m h = by (nat_eq n number) h (is_among order known number m)
-  where
-    by : (b : Bool) → cond b (Some k) (known_of order known number) ≡ Some m → (known_of order known number ≡ Some m → (place : ℕ) × (slice_get known place ≡ Some m)) → (place : ℕ) × (slice_get (k ∷ known) place ≡ Some m)
-    by true e later = (zero, e)
-    by false e later = let r = later e in (suc r.0, r.1)
-
 is_type : (t : Option AbstractType) (b : Option Bool) (m : Meaning) → both t b ≡ Some m → t ≡ Some m.ty
 is_type None b m h = absurd cc
 is_type (Some t) None m h = absurd cc
 is_type (Some t) (Some b) m h = ap (λ (x : Meaning). Some x.ty) (same_Some _ m h)
 
 module _ (types : List AbstractType) (automatic : List Bool) (limits : (place : ℕ) (t : AbstractType) → slice_get types place ≡ Some t → is_within_limits t ≡ true) where
-  meant_kept : (order : List ℕ) (number : Option ℕ) → IfSome (known_meant order (known_list types automatic) number) (λ m. is_within_limits m.ty ≡ true)
-  meant_kept order None = tt
-  meant_kept order (Some number) = by (known_of order (known_list types automatic) number) refl
-    where
-      by : (found : Option Meaning) → known_of order (known_list types automatic) number ≡ found → IfSome found (λ m. is_within_limits m.ty ≡ true)
-      by None e = tt
-      by (Some m) e =
-          let at = is_among order (known_list types automatic) number m e in
-          limits at.0 m.ty (is_type (slice_get types at.0) (slice_get automatic at.0) m (sym (known_at types automatic at.0) ∙ at.1))
+  kept_at : (place : ℕ) (found : Option Meaning) → slice_get (known_list types automatic) place ≡ found → IfSome found (λ m. is_within_limits m.ty ≡ true)
+  kept_at place None e = tt
+  kept_at place (Some m) e = limits place m.ty (is_type (slice_get types place) (slice_get automatic place) m (sym (known_at types automatic place) ∙ e))
+
+  meant_kept : (place : Option ℕ) → IfSome (option_and_then (slice_get (known_list types automatic)) place) (λ m. is_within_limits m.ty ≡ true)
+  meant_kept None = tt
+  meant_kept (Some place) = kept_at place (slice_get (known_list types automatic) place) refl
 
   pub known_kept : (ms : List WrittenModule) (order : List ℕ) (home : WrittenModule) → KeepLimits (surroundings ms order (known_list types automatic) home)
-  known_kept ms order home = λ name. meant_kept order (definition_of (origin_there (declarations ms)) home.name name)
+  known_kept ms order home = λ name. meant_kept (place_meant ms order home.name name)
 
 -- ---- a number below the count is that of a definition
 

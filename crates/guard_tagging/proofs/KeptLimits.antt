@@ -1,6 +1,6 @@
 -- A written type without a fault denotes a type within the limits, where the types that names mean are.
-use Rattle.std.proofs.Common.{◌≡◌, Bool, true, false, not, ◌&&◌, ℕ, suc, ◌+◌, ◌≤◌, List, [], ◌∷◌, Option, Some, None, refl, ap, ◌∙◌, arith, nat_lt, nat_le}
-use Rattle.std.specs.Prelude.{IfSome, is_some}
+use Rattle.std.proofs.Common.{◌≡◌, Bool, true, false, ◌&&◌, ℕ, suc, ◌+◌, ◌≤◌, List, [], ◌∷◌, Option, Some, None, refl, ap, ◌∙◌, arith, nat_lt, nat_le}
+use Rattle.std.specs.Prelude.{IfSome}
 use Rattle.std.specs.Option.{option_or}
 use Rattle.std.proofs.lemmas.Bool.{ltb-false}
 use Rattle.std.proofs.lemmas.Bool.Decides.{nat_tests}
@@ -17,10 +17,10 @@ use Rattle.guard_syntax.specs.declared.tree.Collection.TheVariants as collection
 use Rattle.guard_syntax.specs.declared.tree.PlainType.{PlainType}
 use Rattle.guard_syntax.specs.declared.tree.PlainType.TheVariants as plain_type
 use Rattle.guard_syntax.specs.declared.tree.TagDefault.{TagDefault}
-use Rattle.guard_syntax.specs.Trees.{WrittenTag, WrittenConstraint, WrittenType, type_node, WrittenBase, plain, numbers, enumerated, structure, choice, of_type, named_type, WrittenComponents, no_components, component, components_from, WrittenAlternatives, no_alternatives, alternative}
+use Rattle.guard_syntax.specs.Trees.{WrittenTag, WrittenConstraint, WrittenType, type_node, WrittenBase, plain, numbers, named_bits, enumerated, structure, choice, of_type, named_type, WrittenComponents, no_components, component, components_from, WrittenAlternatives, no_alternatives, alternative}
 use Rattle.guard_tagging.specs.declared.fault.TagFault.{TagFault}
-use Rattle.guard_tagging.specs.declared.fault.TagFault.TheVariants.{TooManyComponents, TooDeep, SchemaTooLarge, UndefinedName}
-use Rattle.guard_tagging.specs.Faults.{fault_where, nodes, nodes_put_in, most_nodes, undefined_name, universal_tag, implicit_choice, tag_too_large, list_fault, number_fault, entry_fault, with_tag_there, own_fault, duplicate_name, component_names, alternative_names, fault_in, fault_in_parts, fault_in_components, fault_in_alternatives}
+use Rattle.guard_tagging.specs.declared.fault.TagFault.TheVariants.{TooManyComponents, TooDeep, SchemaTooLarge}
+use Rattle.guard_tagging.specs.Faults.{fault_where, nodes, nodes_within, nodes_put_in, most_nodes, universal_tag, implicit_choice, tag_too_large, list_fault, number_fault, taken_fault, with_tag_there, own_fault, duplicate_name, component_names, alternative_names, fault_in, fault_in_parts, fault_in_components, fault_in_alternatives}
 use Rattle.guard_tagging.specs.Tagged.{KeepLimits}
 use Rattle.guard_tagging.specs.Tagging.{is_explicit, is_untagged_choice, tag_of, put_tag, with_tags, with_automatic_tags}
 use Rattle.guard_tagging.specs.Types as types
@@ -100,7 +100,6 @@ kept_parts (type_of tags kind cons) h = kept_inside kind (right (is_formed tags 
 
 plain_kept : (p : PlainType) → keeps_limits (type_of (universal (plain_number p)) (plain_kind p) type.no_constraints) ≡ true
 plain_kept plain_type.Boolean = refl
-plain_kept plain_type.BitString = refl
 plain_kept plain_type.OctetString = refl
 plain_kept plain_type.Null = refl
 plain_kept plain_type.ObjectIdentifier = refl
@@ -136,10 +135,7 @@ module _ (around : Surroundings) (automatic : Bool) (count : ℕ) (site : Site) 
   deep = fault_where (nat_lt deepest_nesting (nesting (with_tag_there automatic (denoted around tree)))) (TooDeep site)
 
   after_tags : option_or (list_fault around site base) (option_or deep (option_or (fault_where (nat_lt most_nodes count) (SchemaTooLarge site)) (option_or (number_fault base) None))) ≡ None
-  after_tags = none_then (tag_too_large tags) _ (none_then (implicit_choice (denoted_base around base) tags) _ (none_then (universal_tag tags) _ (none_then (undefined_name around base) _ none)))
-
-  pub no_undefined : undefined_name around base ≡ None
-  no_undefined = none_first (undefined_name around base) _ none
+  after_tags = none_then (tag_too_large tags) _ (none_then (implicit_choice (denoted_base around base) tags) _ (none_then (universal_tag tags) _ none))
 
   pub no_list_fault : list_fault around site base ≡ None
   no_list_fault = none_first (list_fault around site base) _ after_tags
@@ -150,32 +146,33 @@ module _ (around : Surroundings) (automatic : Bool) (count : ℕ) (site : Site) 
   pub not_many : count ≤ most_nodes
   not_many = ltb-false most_nodes count (not_wrong (nat_lt most_nodes count) (SchemaTooLarge site) (none_first _ _ (none_then deep _ (none_then (list_fault around site base) _ after_tags))))
 
-meant_kept : (m : Option Meaning) (at : Site) → IfSome m (λ m. is_within_limits m.ty ≡ true) → fault_where (not (is_some m)) (UndefinedName at) ≡ None → keeps_limits (meant m) ≡ true
-meant_kept (Some m) at h none = left (keeps_limits m.ty) (nat_le (nesting m.ty) deepest_nesting) h
-meant_kept None at h none = absurd cc
+meant_kept : (m : Option Meaning) → IfSome m (λ m. is_within_limits m.ty ≡ true) → keeps_limits (meant m) ≡ true
+meant_kept (Some m) h = left (keeps_limits m.ty) (nat_le (nesting m.ty) deepest_nesting) h
+meant_kept None h = refl
 
 mutual
   pub type_kept : (around : Surroundings) → KeepLimits around → (automatic : Bool) (before count : ℕ) (t : WrittenType) → fault_in around automatic before count t ≡ None → keeps_limits (denoted around t) ≡ true
   type_kept around meant automatic before count (type_node site tags base cons) none =
       let own = none_then (fault_in_parts around before base) (own_fault around automatic count (type_node site tags base cons)) none in
       kept_with around.tag_default tags (denoted_base around base)
-      (base_kept around meant before site base (none_first (fault_in_parts around before base) _ none) (no_undefined around automatic count site tags base cons own) (no_list_fault around automatic count site tags base cons own))
+      (base_kept around meant before site base (none_first (fault_in_parts around before base) _ none) (no_list_fault around automatic count site tags base cons own))
 
-  base_kept : (around : Surroundings) → KeepLimits around → (before : ℕ) (site : Site) (base : WrittenBase) → fault_in_parts around before base ≡ None → undefined_name around base ≡ None → list_fault around site base ≡ None
+  base_kept : (around : Surroundings) → KeepLimits around → (before : ℕ) (site : Site) (base : WrittenBase) → fault_in_parts around before base ≡ None → list_fault around site base ≡ None
       → keeps_limits (denoted_base around base) ≡ true
-  base_kept around meant before site (plain p) parts name list = plain_kept p
-  base_kept around meant before site (numbers ns) parts name list = refl
-  base_kept around meant before site (enumerated items) parts name list = refl
-  base_kept around meant before site (structure k cs) parts name list =
+  base_kept around meant before site (plain p) parts list = plain_kept p
+  base_kept around meant before site (numbers ns) parts list = refl
+  base_kept around meant before site (named_bits bs) parts list = refl
+  base_kept around meant before site (enumerated items) parts list = refl
+  base_kept around meant before site (structure k cs) parts list =
       let automatic = is_automatic_list around.tag_default cs in
-      structure_kept k (types.universal_tag (types.collection_number k)) (tagged_where automatic (denoted_components around cs)) (few_where automatic (denoted_components around cs) (duplicate_name (component_names around cs)) site list)
+      structure_kept k (types.universal_tag (types.collection_number k)) (tagged_where automatic (denoted_components around cs)) (few_where automatic (denoted_components around cs) (duplicate_name (component_names around cs)) site (none_then (taken_fault around k automatic cs) _ list))
       (kept_where automatic (denoted_components around cs) (components_kept around meant k automatic before cs parts))
-  base_kept around meant before site (choice others) parts name list =
+  base_kept around meant before site (choice others) parts list =
       let automatic = is_automatic_choice around.tag_default others in
       both _ _ (few_where automatic (denoted_alternatives around others) (duplicate_name (alternative_names others)) site list)
       (kept_where automatic (denoted_alternatives around others) (alternatives_kept around meant automatic before others parts))
-  base_kept around meant before site (of_type k c t) parts name list = of_kept k (types.universal_tag (types.collection_number k)) (denoted around t) (type_kept around meant false before (before + nodes (denoted around t)) t parts)
-  base_kept around meant before site (named_type at name) parts undefined list = meant_kept (around.meaning name) at (meant name) undefined
+  base_kept around meant before site (of_type k c t) parts list = of_kept k (types.universal_tag (types.collection_number k)) (denoted around t) (type_kept around meant false before (before + nodes (denoted around t)) t parts)
+  base_kept around meant before site (named_type at name) parts list = meant_kept (around.meaning name) (meant name)
 
   components_kept : (around : Surroundings) → KeepLimits around → (k : Collection) (automatic : Bool) (before : ℕ) (cs : WrittenComponents) → fault_in_components k automatic around before cs ≡ None
       → components_keep_limits (denoted_components around cs) ≡ true
@@ -186,10 +183,10 @@ mutual
       (type_kept around meant automatic before count t (none_first (fault_in around automatic before count t) _ none))
       (components_kept around meant k automatic count cs (none_then (fault_in around automatic before count t) _ none))
   components_kept around meant k automatic before (components_from site t cs) none =
-      let count = before + nodes_put_in around t in
+      let count = before + nodes_within (denoted around t) in
       kept_join (parts_of (denoted around t)) (denoted_components around cs)
       (kept_parts (denoted around t) (type_kept around meant false before count t (none_first (fault_in around false before count t) _ none)))
-      (components_kept around meant k automatic count cs (none_then (entry_fault k automatic around site t) _ (none_then (fault_in around false before count t) _ none)))
+      (components_kept around meant k automatic (before + nodes_put_in around k automatic t) cs (none_then (fault_in around false before count t) _ none))
 
   alternatives_kept : (around : Surroundings) → KeepLimits around → (automatic : Bool) (before : ℕ) (others : WrittenAlternatives) → fault_in_alternatives automatic around before others ≡ None
       → components_keep_limits (denoted_alternatives around others) ≡ true

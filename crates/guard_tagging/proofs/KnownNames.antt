@@ -1,21 +1,24 @@
 -- The names of types in a definition mean definitions that stand before it in the order, so that they are known when it is built.
-use Rattle.std.proofs.Common.{◌≡◌, ℕ, zero, suc, ◌+◌, ◌≤◌, Bool, true, false, cond, not, ◌&&◌, ◌||◌, List, [], ◌∷◌, ◌++◌, length, map, take, Option, Some, None, option_map, is_some, slice_get, nat_eq, Contains, refl, sym, ◌∙◌, subst, arith, eqb-true, eq-eqb, append_assoc}
-use Rattle.std.specs.Option.{option_or}
+use Rattle.std.proofs.Common.{◌≡◌, ℕ, zero, suc, ◌+◌, ◌<◌, ◌≤◌, Bool, true, false, cond, not, ◌&&◌, List, [], ◌∷◌, ◌++◌, length, map, take, Option, Some, None, option_map, is_some, slice_get, Contains, refl, sym, subst, arith, append_assoc}
+use Rattle.std.specs.Option.{option_or, option_and_then}
 use Rattle.std.proofs.lemmas.List.{append-nil, length-append}
 use Rattle.std.proofs.lemmas.Option.{same_Some, slice_get_within}
 use Rattle.guard_model.specs.AbstractType.{AbstractType}
-use Rattle.guard_syntax.specs.Trees.{WrittenAssignment, WrittenModule}
+use Rattle.std.specs.List.{flat_map}
+use Rattle.guard_syntax.specs.Trees.{WrittenType, type_node, WrittenBase, plain, numbers, named_bits, enumerated, structure, choice, of_type, named_type, WrittenComponents, no_components, component, components_from, WrittenAlternatives, no_alternatives, alternative, WrittenAssignment, WrittenModule}
 use Rattle.guard_names.specs.declared.fault.NameFault.TheVariants.{Duplicate, Undefined, NoModule, NotExported, ImportNotDefined, TooManyModules}
 use Rattle.guard_names.specs.Declarations.{Definition, definitions, declarations, definition_of, origin_there, Origins, Numbers}
 use Rattle.guard_names.specs.Faults.{first_where, first_found, too_many, duplicate, no_module, not_defined, not_exported, is_type, is_undefined_mention, undefined_export_in, undefined_mention_in, undefined_in, undefined, fault_of_names}
 use Rattle.guard_names.specs.Meanings.{Uses}
-use Rattle.guard_names.specs.Mentions.{Mention, mentions, in_type, in_perhaps_value}
+use Rattle.guard_names.specs.Mentions.{Mention, mentions, in_type, in_base, in_components, in_alternatives, in_constraint, in_of_constraint, in_presence, in_perhaps_value}
 use Rattle.guard_names.specs.Order.{is_listed, Follow, IsOrder}
+use Rattle.guard_names.specs.Places.{place_in}
+use Rattle.guard_names.proofs.Places.{placed_before}
 use Rattle.guard_names.proofs.SameUses.{are_means}
-use Rattle.guard_tagging.specs.Surroundings.{known_of, known_meant, meaning_at, known_behind, known_from}
+use Rattle.guard_tagging.specs.Surroundings.{meaning_at, known_behind, known_from}
 use Rattle.guard_tagging.specs.Skeletons.{surroundings_of}
-use Rattle.guard_tagging.specs.Types.{Meaning}
-use Rattle.guard_tagging.proofs.Numbered.{AreMeant}
+use Rattle.guard_tagging.specs.Types.{Surroundings, Meaning}
+use Rattle.guard_tagging.specs.KnownNames.{IsKnown, IsKnownInside, AreKnown, AreKnownOthers}
 
 -- ---- a name of a type that means nothing would be a fault of names
 
@@ -76,6 +79,45 @@ module _ (numbers : Numbers) where
   have_numbers home (y ∷ xs) h x (suc k, l, e) =
       have_numbers home xs (passed (is_undefined_mention numbers home y) y.site (first_where (is_undefined_mention numbers home) (λ z. z.site) xs) h).1 x (k, omega (arith, l), e)
 
+-- ---- names that are mentioned in a type
+
+module _ (around : Surroundings) where
+  abbrev AreMeant : List Mention → Type 0
+  AreMeant [] = Unit {0}
+  AreMeant (x ∷ xs) = (is_type x.kind ≡ true → is_some (around.meaning x.name) ≡ true) × AreMeant xs
+
+  first_meant : (xs ys : List Mention) → AreMeant (xs ++ ys) → AreMeant xs
+  first_meant [] ys h = tt
+  first_meant (x ∷ xs) ys h = (h.0, first_meant xs ys h.1)
+
+  later_meant : (xs ys : List Mention) → AreMeant (xs ++ ys) → AreMeant ys
+  later_meant [] ys h = h
+  later_meant (x ∷ xs) ys h = later_meant xs ys h.1
+
+  mutual
+    type_known : (t : WrittenType) → AreMeant (in_type t) → IsKnown around t
+    type_known (type_node site tags base cons) h = inside_known base (first_meant (in_base base) (flat_map in_constraint cons) h)
+
+    inside_known : (base : WrittenBase) → AreMeant (in_base base) → IsKnownInside around base
+    inside_known (plain p) h = tt
+    inside_known (numbers ns) h = tt
+    inside_known (named_bits bs) h = tt
+    inside_known (enumerated items) h = tt
+    inside_known (structure k cs) h = components_known cs h
+    inside_known (choice others) h = others_known others h
+    inside_known (of_type k cons t) h = type_known t (later_meant (in_of_constraint cons) (in_type t) h)
+    inside_known (named_type site name) h = h.0 refl
+
+    components_known : (cs : WrittenComponents) → AreMeant (in_components cs) → AreKnown around cs
+    components_known no_components h = tt
+    components_known (component site name t presence cs) h =
+        (type_known t (first_meant (in_type t) (in_presence presence) (first_meant (in_type t ++ in_presence presence) (in_components cs) h)), components_known cs (later_meant (in_type t ++ in_presence presence) (in_components cs) h))
+    components_known (components_from site t cs) h = (type_known t (first_meant (in_type t) (in_components cs) h), components_known cs (later_meant (in_type t) (in_components cs) h))
+
+    others_known : (others : WrittenAlternatives) → AreMeant (in_alternatives others) → AreKnownOthers around others
+    others_known no_alternatives h = tt
+    others_known (alternative site name t others) h = (type_known t (first_meant (in_type t) (in_alternatives others) h), others_known others (later_meant (in_type t) (in_alternatives others) h))
+
 -- ---- what is used stands before
 
 module _ (count : ℕ) (uses : ℕ → ℕ → Type 0) where
@@ -86,26 +128,15 @@ module _ (count : ℕ) (uses : ℕ → ℕ → Type 0) where
   listed_before listed (x ∷ rest) f (suc place) id used h u =
       subst (λ (xs : List ℕ). is_listed xs used ≡ true) (append_assoc listed (x ∷ []) (take place rest)) (listed_before (listed ++ x ∷ []) rest f.1 place id used h u)
 
-same_other_way : (a b : ℕ) → nat_eq a b ≡ true → nat_eq b a ≡ true
-same_other_way a b h = eq-eqb b a (sym (eqb-true a b h))
+there_is : {A : Type 0} (xs : List A) (place : ℕ) → place < length xs → is_some (slice_get xs place) ≡ true
+there_is [] place l = absurd (omega (arith, l))
+there_is (x ∷ xs) zero l = refl
+there_is (x ∷ xs) (suc place) l = there_is xs place (omega (arith, l))
 
-known_listed : (order : List ℕ) (known : List Meaning) (place number : ℕ) → place ≤ length known → is_listed (take place order) number ≡ true → is_some (known_of order known number) ≡ true
-known_listed [] known zero number l h = absurd cc
-known_listed [] known (suc place) number l h = absurd cc
-known_listed (n ∷ order) known zero number l h = absurd cc
-known_listed (n ∷ order) [] (suc place) number l h = absurd (omega (arith, l))
-known_listed (n ∷ order) (m ∷ known) (suc place) number l h = by (nat_eq n number) refl (known_listed order known place number (omega (arith, l)))
-  where
-    later : (a b : Bool) → (a || b) ≡ true → (a ≡ true → ⊥) → b ≡ true
-    later true b e ne = absurd (ne refl)
-    later false b e ne = e
-
-    false_true : false ≡ true → ⊥
-    false_true e = cc
-
-    by : (b : Bool) → nat_eq n number ≡ b → (is_listed (take place order) number ≡ true → is_some (known_of order known number) ≡ true) → is_some (cond b (Some m) (known_of order known number)) ≡ true
-    by true e rest = refl
-    by false e rest = rest (later (nat_eq number n) (is_listed (take place order) number) h (λ s. false_true (sym e ∙ same_other_way number n s)))
+known_listed : (order : List ℕ) (known : List Meaning) (place number : ℕ) → place ≤ length known → is_listed (take place order) number ≡ true → is_some (option_and_then (slice_get known) (place_in order number)) ≡ true
+known_listed order known place number l h =
+    let p = placed_before order place number h in
+    subst (λ (o : Option ℕ). is_some (option_and_then (slice_get known) o) ≡ true) (sym p.1) (there_is known p.0 (omega (arith, p.2, l)))
 
 -- ---- as much is known as is built
 
@@ -124,10 +155,10 @@ module _ (ms : List WrittenModule) (order : List ℕ) where
 
 module _ (ms : List WrittenModule) (none : fault_of_names ms ≡ None) (order : List ℕ) (ordered : IsOrder (length (definitions ms)) (Uses ms) order) (types : List AbstractType) (id : ℕ)
     (next : slice_get order (length types) ≡ Some id) (d : Definition) (is : slice_get (definitions ms) id ≡ Some d) where
-  abbrev numbers : Numbers
-  numbers = definition_of (origin_there (declarations ms))
+  abbrev by_name : Numbers
+  by_name = definition_of (origin_there (declarations ms))
 
-  known : (number : ℕ) → Uses ms id number → is_some (known_of order (known_from ms order types) number) ≡ true
+  known : (number : ℕ) → Uses ms id number → is_some (option_and_then (slice_get (known_from ms order types)) (place_in order number)) ≡ true
   known number u =
       let within = slice_get_within order (length types) id next in
       let many = known_as_many ms order types (omega (arith, within)) in
@@ -135,16 +166,14 @@ module _ (ms : List WrittenModule) (none : fault_of_names ms ≡ None) (order : 
 
   meant : (x : Mention) → Contains (mentions d.assignment) x → is_type x.kind ≡ true → is_some ((surroundings_of ms order types d).meaning x.name) ≡ true
   meant x here kind =
-      let n = have_numbers numbers d.home.name (mentions d.assignment) (all_defined numbers (origin_there (declarations ms)) ms (undefined_none ms none) id d is) x here kind in
-      subst (λ (o : Option ℕ). is_some (known_meant order (known_from ms order types) o) ≡ true) (sym n.1) (known n.0 (d, is, x, here, are_means ms none d.home.name x.name n.0 n.1))
+      let n = have_numbers by_name d.home.name (mentions d.assignment) (all_defined by_name (origin_there (declarations ms)) ms (undefined_none ms none) id d is) x here kind in
+      subst (λ (o : Option ℕ). is_some (option_and_then (slice_get (known_from ms order types)) (option_and_then (place_in order) o)) ≡ true) (sym n.1) (known n.0 (d, is, x, here, are_means ms none d.home.name x.name n.0 n.1))
 
   all_meant : (xs : List Mention) → ((x : Mention) → Contains xs x → is_type x.kind ≡ true → is_some ((surroundings_of ms order types d).meaning x.name) ≡ true) → AreMeant (surroundings_of ms order types d) xs
   all_meant [] h = tt
   all_meant (x ∷ xs) h = (h x (zero, omega arith, refl), all_meant xs (λ y c. h y (suc c.0, omega (arith, c.1), c.2)))
 
-  front_meant : (xs ys : List Mention) → AreMeant (surroundings_of ms order types d) (xs ++ ys) → AreMeant (surroundings_of ms order types d) xs
-  front_meant [] ys h = tt
-  front_meant (x ∷ xs) ys h = (h.0, front_meant xs ys h.1)
-
-  pub type_meant : AreMeant (surroundings_of ms order types d) (in_type d.assignment.ty)
-  type_meant = front_meant (in_type d.assignment.ty) (in_perhaps_value d.assignment.value) (all_meant (mentions d.assignment) meant)
+  pub known_in_type : IsKnown (surroundings_of ms order types d) d.assignment.ty
+  known_in_type =
+      type_known (surroundings_of ms order types d) d.assignment.ty
+      (first_meant (surroundings_of ms order types d) (in_type d.assignment.ty) (in_perhaps_value d.assignment.value) (all_meant (mentions d.assignment) meant))

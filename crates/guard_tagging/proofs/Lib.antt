@@ -24,7 +24,6 @@ pub mod SpelledTokens
 -- ---- what names mean, and the definitions that are built
 pub mod Scopes
 pub mod Builds
--- ---- faults have numbers where names mean something
-pub mod Numbered
+-- ---- each name of a type is known
 pub mod KnownNames
 pub mod Skeletons

@@ -15,7 +15,7 @@ use Rattle.guard_syntax.specs.declared.tree.TagDefault.{TagDefault}
 use Rattle.guard_syntax.specs.declared.tree.TagDefault.TheVariants.{Explicit, Implicit, Automatic}
 use Rattle.guard_syntax.specs.declared.tree.TagMode.{TagMode}
 use Rattle.guard_syntax.specs.declared.tree.TagMode.TheVariants as mode
-use Rattle.guard_syntax.specs.Trees.{WrittenType, WrittenBase, WrittenTag, WrittenComponents, WrittenItem, type_node, plain, numbers, enumerated, structure, choice, of_type, named_type, component, components_from, no_components, alternative, no_alternatives, mandatory}
+use Rattle.guard_syntax.specs.Trees.{WrittenNamed, WrittenType, WrittenBase, WrittenTag, WrittenComponents, WrittenItem, type_node, plain, numbers, named_bits, enumerated, structure, choice, of_type, named_type, component, components_from, no_components, alternative, no_alternatives, mandatory}
 use Rattle.guard_tagging.specs.declared.fault.TagFault.TheVariants as fault
 use Rattle.guard_tagging.specs.Types.{Surroundings, denoted}
 use Rattle.guard_tagging.specs.Enumerations.{numbered}
@@ -163,6 +163,37 @@ g5 = refl
 g6 : first_fault (module_with Implicit (codes "D") (type_a (context 1 ∷ [])) false) 0 (takes (named_type (at 1) (codes "D"))) ≡ Some (fault.ComponentsOfTagged (at 7))
 g6 = refl
 
+-- [UNIVERSAL 1] SEQUENCE {COMPONENTS OF NULL}: the list's own tag comes first
+g1_before_g4 : first_fault (alone Implicit) 0 (tagged (tag_at 4 (Some word.Universal) (codes "1") None ∷ []) (structure Sequence (components_from (at 7) (bare (plain plain_type.Null)) no_components)))
+    ≡ Some (fault.UniversalTag (at 4))
+g1_before_g4 = refl
+
+-- SEQUENCE {COMPONENTS OF NULL, a [UNIVERSAL 1] NULL}: and so do the types of later components
+part_before_g4 : first_fault (alone Implicit) 0 (bare (structure Sequence (components_from (at 7) (bare (plain plain_type.Null))
+    (component (at 8) (codes "a") (tagged (tag_at 9 (Some word.Universal) (codes "1") None ∷ []) (plain plain_type.Null)) mandatory no_components)))) ≡ Some (fault.UniversalTag (at 9))
+part_before_g4 = refl
+
+-- SEQUENCE {COMPONENTS OF NULL, b SEQUENCE {COMPONENTS OF NULL}}
+inner_g4_first : first_fault (alone Implicit) 0 (bare (structure Sequence (components_from (at 7) (bare (plain plain_type.Null))
+    (component (at 8) (codes "b") (bare (structure Sequence (components_from (at 9) (bare (plain plain_type.Null)) no_components))) mandatory no_components)))) ≡ Some (fault.ComponentsOfKind (at 9))
+inner_g4_first = refl
+
+-- SEQUENCE {COMPONENTS OF D, COMPONENTS OF NULL}, where D is tagged: the number of the fault counts before the entry
+g4_before_g6 : first_fault (module_with Implicit (codes "D") (type_a (context 1 ∷ [])) false) 0 (bare (structure Sequence (components_from (at 7) (bare (named_type (at 1) (codes "D")))
+    (components_from (at 9) (bare (plain plain_type.Null)) no_components)))) ≡ Some (fault.ComponentsOfKind (at 9))
+g4_before_g6 = refl
+
+-- SEQUENCE {a NULL, a NULL, COMPONENTS OF NULL}
+g4_before_g7 : first_fault (alone Implicit) 0 (bare (structure Sequence (component (at 5) (codes "a") (bare (plain plain_type.Null)) mandatory (component (at 6) (codes "a") (bare (plain plain_type.Null)) mandatory
+    (components_from (at 7) (bare (plain plain_type.Null)) no_components))))) ≡ Some (fault.ComponentsOfKind (at 7))
+g4_before_g7 = refl
+
+-- CHOICE {a NULL, b NULL} is put into no SEQUENCE, so that its alternatives count for nothing after it
+counts_for_nothing : first_fault (module_with Implicit (codes "C") (of [] (type.choice (type.component (codes "a") (of (universal 5 ∷ []) type.null) type.mandatory
+    (type.component (codes "b") (of (universal 5 ∷ []) type.null) type.mandatory type.no_components)))) false) 99998 (bare (structure Sequence (components_from (at 7) (bare (named_type (at 1) (codes "C")))
+    (component (at 8) (codes "c") (bare (plain plain_type.Null)) mandatory no_components)))) ≡ Some (fault.ComponentsOfKind (at 7))
+counts_for_nothing = refl
+
 -- ---- other faults
 
 g1 : first_fault (alone Explicit) 0 (tagged (tag_at 4 (Some word.Universal) (codes "2") None ∷ []) (plain plain_type.Null)) ≡ Some (fault.UniversalTag (at 4))
@@ -204,6 +235,23 @@ g12 = refl
 -- the least number there is
 not_g12 : first_fault (alone Explicit) 0 (bare (numbers (record { site = at 3; name = codes "a"; number = record { site = at 4; minus = true; digits = codes "170141183460469231731687303715884105728" } } ∷ []))) ≡ None
 not_g12 = refl
+
+abbrev named_bit : ℕ → List ℕ → List ℕ → WrittenNamed
+named_bit n name digits = record { site = at n; name = name; number = record { site = at n; minus = false; digits = digits } }
+
+-- BIT STRING {read(0), write(2)}
+named_bits_of : denoted (alone Explicit) (bare (named_bits (named_bit 3 (codes "read") (codes "0") ∷ named_bit 4 (codes "write") (codes "2") ∷ [])))
+    ≡ of (universal 3 ∷ []) (type.bit_string (record { name = codes "read"; number = pos 0 } ∷ record { name = codes "write"; number = pos 2 } ∷ []))
+named_bits_of = refl
+
+g8_of_bits : first_fault (alone Explicit) 0 (bare (named_bits (named_bit 3 (codes "a") (codes "1") ∷ named_bit 8 (codes "b") (codes "1") ∷ []))) ≡ Some (fault.DuplicateNumber (at 8))
+g8_of_bits = refl
+
+g12_of_bits : first_fault (alone Explicit) 0 (bare (named_bits (named_bit 3 (codes "a") (codes "65535") ∷ named_bit 8 (codes "b") (codes "65536") ∷ []))) ≡ Some (fault.NumberTooLarge (at 8))
+g12_of_bits = refl
+
+not_g12_of_bits : first_fault (alone Explicit) 0 (bare (named_bits (named_bit 3 (codes "a") (codes "65535") ∷ []))) ≡ None
+not_g12_of_bits = refl
 
 -- ---- limits
 

@@ -1,12 +1,15 @@
 -- What is known of a definition stands at its place in the order.
-use Rattle.std.proofs.Common.{◌≡◌, ◌↔◌, ℕ, zero, suc, Bool, true, false, cond, List, [], ◌∷◌, map, Option, Some, None, option_map, slice_get, nat_eq, refl, sym, ◌∙◌, ap, eq-eqb, eqb-true, arith}
-use Rattle.std.proofs.lemmas.Option.{same_Some, slice_get-map}
+use Rattle.std.proofs.Common.{◌≡◌, ℕ, zero, suc, Bool, List, [], ◌∷◌, map, Option, Some, None, option_map, slice_get, refl, sym, ◌∙◌, ap}
+use Rattle.std.specs.Option.{option_and_then}
+use Rattle.std.proofs.lemmas.Option.{slice_get-map}
 use Rattle.guard_model.specs.AbstractType.{AbstractType}
 use Rattle.guard_model.specs.TypeView.{type_view}
 use Rattle.guard_model.specs.declared.ty.Ty.{Ty}
+use Rattle.guard_syntax.specs.Trees.{WrittenModule}
+use Rattle.guard_names.specs.Meanings.{number_meant}
+use Rattle.guard_names.specs.Places.{place_in, known_meant}
 use Rattle.guard_tagging.specs.declared.scope.Known.{Known}
 use Rattle.guard_tagging.specs.ScopeView.{meaning_view, known_list}
-use Rattle.guard_tagging.specs.Surroundings.{known_of}
 use Rattle.guard_tagging.specs.Types.{Meaning}
 
 -- ---- a type and its flag, at one place
@@ -26,49 +29,12 @@ known_at (t ∷ types) [] place = by (slice_get (t ∷ types) place)
 known_at (t ∷ types) (b ∷ automatic) zero = refl
 known_at (t ∷ types) (b ∷ automatic) (suc place) = known_at types automatic place
 
--- ---- a definition, by its place
+-- ---- what is known of the definition that a name means, by its number and its place
 
-there : (n number : ℕ) (m : Meaning) (rest : Option Meaning) → n ≡ number → cond (nat_eq n number) (Some m) rest ≡ Some m
-there n number m rest e = ap (λ b. cond b (Some m) rest) (eq-eqb n number e)
-
-elsewhere : (n number : ℕ) (m : Meaning) (rest : Option Meaning) → ¬ (n ≡ number) → cond (nat_eq n number) (Some m) rest ≡ rest
-elsewhere n number m rest ne = by (nat_eq n number) refl
-  where
-    by : (b : Bool) → nat_eq n number ≡ b → cond b (Some m) rest ≡ rest
-    by true e = absurd (ne (eqb-true n number e))
-    by false e = refl
-
-pub known_there : (order : List ℕ) (known : List Meaning) (number place : ℕ) → slice_get order place ≡ Some number
-    → ((other : ℕ) → slice_get order other ≡ Some number → place ≡ other) → known_of order known number ≡ slice_get known place
-known_there [] known number place h once = absurd cc
-known_there (n ∷ order) [] number place h once = refl
-known_there (n ∷ order) (m ∷ known) number zero h once = there n number m (known_of order known number) (same_Some n number h)
-known_there (n ∷ order) (m ∷ known) number (suc place) h once =
-    elsewhere n number m (known_of order known number) (λ e. zero_suc (once zero (ap Some e))) ∙ known_there order known number place h (λ other i. less (once (suc other) i))
-  where
-    zero_suc : {p : ℕ} → suc p ≡ zero → ⊥
-    zero_suc h' = omega (arith, h')
-
-    less : {p q : ℕ} → suc p ≡ suc q → p ≡ q
-    less h' = omega (arith, h')
-
-pub known_nowhere : (order : List ℕ) (known : List Meaning) (number : ℕ) → ((place : ℕ) → ¬ (slice_get order place ≡ Some number)) → known_of order known number ≡ None
-known_nowhere [] known number none = refl
-known_nowhere (n ∷ order) [] number none = refl
-known_nowhere (n ∷ order) (m ∷ known) number none =
-    elsewhere n number m (known_of order known number) (λ e. none zero (ap Some e)) ∙ known_nowhere order known number (λ place. none (suc place))
-
--- ---- by what the names say of its place
-
-module _ (order : List ℕ) (known : List Meaning) (number : ℕ) (place : Option ℕ) (is : (p : ℕ) → (place ≡ Some p) ↔ (slice_get order p ≡ Some number)) where
-  pub known_placed : (p : ℕ) → place ≡ Some p → known_of order known number ≡ slice_get known p
-  known_placed p e = known_there order known number p ((is p).0 e) (λ other h. same_Some p other (sym e ∙ (is other).1 h))
-
-  pub known_unplaced : place ≡ None → known_of order known number ≡ None
-  known_unplaced e = known_nowhere order known number (λ p h. none_some (sym e ∙ (is p).1 h))
-    where
-      none_some : {p : ℕ} → None ≡ Some p → ⊥
-      none_some h = cc
+pub known_placed : (ms : List WrittenModule) (order : List ℕ) (known : List Meaning) (home name : List ℕ) (id : ℕ) (place : Option ℕ) → number_meant ms home name ≡ Some id → place_in order id ≡ place
+    → known_meant ms order known home name ≡ option_and_then (slice_get known) place
+known_placed ms order known home name id place n p =
+    ap (λ (o : Option ℕ). option_and_then (slice_get known) (option_and_then (place_in order) o)) n ∙ ap (option_and_then (slice_get known)) p
 
 -- ---- what a look-up among the built definitions answers
 

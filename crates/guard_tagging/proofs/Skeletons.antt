@@ -8,11 +8,9 @@ use Rattle.guard_model.specs.TypeView.{type_view}
 use Rattle.guard_model.specs.declared.ty.Ty.{Ty}
 use Rattle.guard_syntax.specs.Trees.{WrittenAssignment, WrittenModule}
 use Rattle.guard_names.specs.Declarations.{Definition, definitions}
-use Rattle.guard_names.specs.Mentions.{in_type}
 use Rattle.guard_tagcheck.specs.Limits.{is_within_limits}
 use Rattle.guard_tagging.specs.declared.fault.TagFault.{TagFault}
 use Rattle.guard_tagging.specs.Faults.{nodes, most_nodes}
-use Rattle.guard_tagging.specs.Named.{is_numbered}
 use Rattle.guard_tagging.specs.ReadNodes.{Made}
 use Rattle.guard_tagging.specs.ReadTypes.{read_type}
 use Rattle.guard_tagging.specs.Skeletons.{surroundings_of, IsTypeOf, IsFaultOf}
@@ -21,7 +19,6 @@ use Rattle.guard_tagging.specs.Surroundings.{nodes_of_all}
 use Rattle.guard_tagging.specs.Tagged.{IsTagged, IsFirstFault, KeepLimits}
 use Rattle.guard_tagging.specs.Types.{Surroundings}
 use Rattle.guard_tagging.proofs.Given.{given, refused, within, few}
-use Rattle.guard_tagging.proofs.Numbered.{AreMeant, definition_numbered}
 
 -- ---- the definitions of modules whose names are spelled so
 
@@ -74,9 +71,3 @@ module _ (ms : List WrittenModule) (order : List ℕ) (types : List AbstractType
     subst (λ (n : ℕ). IsFirstFault (surroundings_of ms order types d) n d.assignment.ty f) counted
         (subst (λ (a : Surroundings). IsFirstFault a before d.assignment.ty f) same (refused around kept before d.assignment.ty spelled f h)),
   )
-
-  -- it has a number where the names of types are known
-  pub numbered_so : AreMeant (surroundings_of ms order types d) (in_type d.assignment.ty) → (f : Option TagFault) → Refuses f (read_type around true None before d.assignment.ty) → IfSome f (λ g. is_numbered g ≡ true)
-  numbered_so meant None h = tt
-  numbered_so meant (Some f) h =
-      definition_numbered around d.assignment.ty before (subst (λ (a : Surroundings). AreMeant a (in_type d.assignment.ty)) (sym same) meant) f (refused around kept before d.assignment.ty spelled f h)

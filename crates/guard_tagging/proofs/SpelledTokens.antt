@@ -18,7 +18,7 @@ use Rattle.guard_lexer.specs.Spans.{IsSpan, AreSpans}
 use Rattle.guard_syntax.specs.declared.tree.PlainType.TheVariants as plain_type
 use Rattle.guard_syntax.specs.Lexemes.{Lexeme, word, mark, upper_name, lower_name, number, character_string, bit_string, hexadecimal_string, unsupported, lexeme_of, octets_of, lexemes_of}
 use Rattle.guard_syntax.specs.TokensOf.{each_then, comma_before, parted_then, perhaps_then, if_there_then, number_then, arc_form_then, arc_then, entry_name_then, entries_comma, value_then, value_form_then, entries_then, end_form_then, end_or_then, range_then, presence_word_then, partial_then, parts_comma, set_then, set_form_then, united_then, intersection_then, met_then, difference_then, element_then, element_form_then, constraint_then, parts_then, class_then, mode_then, tag_then, parenthesised_then, named_then, item_then, numbers_then, plain_then, of_constraint_then, presence_then, components_comma, alternatives_comma, type_then, base_then, components_then, alternatives_then, identifier_part_then, identifier_then, tag_default_then, symbol_then, exports_then, import_then, imports_then, assigned_then, assignment_then, tokens_of}
-use Rattle.guard_syntax.specs.Trees.{WrittenNumber, WrittenValue, value_node, boolean, null, integer, text, reference, chosen, list, arcs, no_entries, entry, end_integer, end_reference, end_characters, set_node, all_except, union, none_united, united, intersection, none_met, met, element_alone, element_except, element_node, parentheses, value, contained, range, size, from, with_component, with_components, constraint, no_parts, part, part_in, WrittenNamed, WrittenItem, mandatory, optional, default, WrittenType, type_node, WrittenBase, plain, numbers, enumerated, structure, choice, of_type, named_type, WrittenComponents, no_components, component, components_from, WrittenAlternatives, no_alternatives, alternative, bare_name, arc_part, all_exported, exported, WrittenAssignment, WrittenModule}
+use Rattle.guard_syntax.specs.Trees.{WrittenNumber, WrittenValue, value_node, boolean, null, integer, text, reference, chosen, list, arcs, no_entries, entry, end_integer, end_reference, end_characters, set_node, all_except, union, none_united, united, intersection, none_met, met, element_alone, element_except, element_node, parentheses, value, contained, range, size, from, with_component, with_components, constraint, no_parts, part, part_in, WrittenNamed, WrittenItem, mandatory, optional, default, WrittenType, type_node, WrittenBase, plain, numbers, named_bits, enumerated, structure, choice, of_type, named_type, WrittenComponents, no_components, component, components_from, WrittenAlternatives, no_alternatives, alternative, bare_name, arc_part, all_exported, exported, WrittenAssignment, WrittenModule}
 use Rattle.guard_tagging.specs.Spelled.{IsShort, AreNamed, AreItems, IsSpelled, IsSpelledInside, AreSpelled, AreSpelledOthers, AreAssigned, IsSpelledModule, SpelledByTokens}
 
 -- ---- lexemes
@@ -235,7 +235,6 @@ items_fit (i ∷ items) rest h =
 
 plain_leaves : Leaves plain_then
 plain_leaves plain_type.Boolean rest h = h.1
-plain_leaves plain_type.BitString rest h = h.1.1
 plain_leaves plain_type.OctetString rest h = h.1.1
 plain_leaves plain_type.Null rest h = h.1
 plain_leaves plain_type.ObjectIdentifier rest h = h.1.1
@@ -272,6 +271,7 @@ mutual
   base_fits : (base : WrittenBase) (rest : List Lexeme) → AllFit (base_then base rest) → IsSpelledInside base × AllFit rest
   base_fits (plain p) rest h = (tt, plain_leaves p rest h)
   base_fits (numbers ns) rest h = numbers_fit ns rest h.1
+  base_fits (named_bits bs) rest h = numbers_fit bs rest h.1.1
   base_fits (enumerated items) rest h = let f = items_fit items (mark RightBrace ∷ rest) h.1.1 in (f.0, f.1.1)
   base_fits (structure k cs) rest h = let f = components_fit cs (mark RightBrace ∷ rest) h.1.1 in (f.0, f.1.1)
   base_fits (choice others) rest h = let f = alternatives_fit others (mark RightBrace ∷ rest) h.1.1 in (f.0, f.1.1)

@@ -1,5 +1,5 @@
 -- Components and alternatives one after another, as the walk reads them.
-use Rattle.std.proofs.Common.{◌≡◌, Bool, true, false, ◌||◌, ℕ, ◌+◌, ◌<◌, ◌≤◌, List, map, length, get_or, drop, Option, Some, None, Result, Ok, Err, refl, sym, ap, ◌∙◌}
+use Rattle.std.proofs.Common.{◌≡◌, Bool, true, false, ◌||◌, ℕ, zero, suc, ◌+◌, ◌<◌, ◌≤◌, List, [], ◌∷◌, map, length, get_or, drop, Option, Some, None, Result, Ok, Err, refl, sym, ap, subst, ◌∙◌, arith}
 use Rattle.std.proofs.lemmas.List.{at_drop_more, at_drop_all}
 use Rattle.guard_model.specs.Answer.{◌>>=◌, Refuses}
 use Rattle.guard_model.specs.declared.site.Site.{Site}
@@ -10,9 +10,8 @@ use Rattle.guard_syntax.specs.declared.tree.Collection.{Collection}
 use Rattle.guard_syntax.specs.declared.tree.CompTree.{CompTree}
 use Rattle.guard_syntax.specs.declared.tree.AlternativeTree.{AlternativeTree}
 use Rattle.guard_tagging.specs.declared.fault.TagFault.{TagFault}
-use Rattle.guard_tagging.specs.Faults.{taken_fault}
-use Rattle.guard_tagging.specs.Named.{allowed}
-use Rattle.guard_tagging.specs.ReadParts.{PartList, next_tag, with_component, with_list}
+use Rattle.guard_tagging.specs.KnownNames.{IsKnown, IsKnownForm, AreKnown, AreKnownOthers}
+use Rattle.guard_tagging.specs.ReadParts.{PartList, next_tag, with_component, taken_in}
 use Rattle.guard_tagging.specs.ReadTypes.{read_type, read_components, read_alternatives, read_entry, read_component, read_one}
 use Rattle.guard_tagging.specs.Types.{Surroundings, presence_of, is_automatic}
 
@@ -20,18 +19,13 @@ in_turn : {A B C F : Type 0} (step : Result A F) (make : A → B) (next : B → 
 in_turn (Ok x) make next = refl
 in_turn (Err f) make next = refl
 
-with_test : {A B C D F : Type 0} (step : Result A F) (test : A → Result D F) (make : A → B) (next : B → Result C F)
-    → (step >>= λ x. test x >>= λ u. next (make x)) ≡ ((step >>= λ x. test x >>= λ u. Ok (make x)) >>= next)
-with_test (Ok x) test make next = in_turn (test x) (λ u. make x) next
-with_test (Err f) test make next = refl
-
 one_entry : (around : Surroundings) (k : Collection) (automatic : Bool) (parts : PartList) (site : Site) (form : WrittenComponentForm) (others : WrittenComponents)
     → read_components around k automatic parts (component_before site form others) ≡ (read_entry around k automatic parts site form >>= λ p. read_components around k automatic p others)
 unfolding read_type
 one_entry around k automatic parts site (named name t presence) others =
     in_turn (read_type around true (next_tag automatic parts) parts.nodes t) (λ made. with_component parts site name made (presence_of presence)) (λ p. read_components around k automatic p others)
 one_entry around k automatic parts site (components_of_type t) others =
-    with_test (read_type around false None parts.nodes t) (λ made. allowed (taken_fault k (automatic || is_automatic around t) site made.ty)) (λ made. with_list parts site made) (λ p. read_components around k automatic p others)
+    in_turn (read_type around false None parts.nodes t) (λ made. taken_in parts k (automatic || is_automatic around t) site made) (λ p. read_components around k automatic p others)
 
 module _ (around : Surroundings) (k : Collection) (automatic : Bool) (parts : PartList) (trees : List CompTree) (i : ℕ) (total : Result PartList TagFault)
     (so_far : read_components around k automatic parts (components_of (map written.component_view (drop i trees))) ≡ total) where
@@ -90,3 +84,23 @@ module _ (around : Surroundings) (automatic : Bool) (parts : PartList) (trees : 
   pub no_alternative : length trees ≤ i → total ≡ Ok parts
   unfolding read_type
   no_alternative le = sym so_far ∙ ap (read_alternatives around automatic parts) (at_drop_all (λ ts. alternatives_of (map written.alternative_view ts)) trees i le)
+
+-- ---- names of types that are known
+
+form_known : (around : Surroundings) (site : Site) (form : WrittenComponentForm) (others : WrittenComponents) → AreKnown around (component_before site form others) → IsKnownForm around form × AreKnown around others
+form_known around site (named name t presence) others h = h
+form_known around site (components_of_type t) others h = h
+
+pub component_known : (around : Surroundings) (trees : List CompTree) (i : ℕ) → AreKnown around (components_of (map written.component_view trees)) → (x : CompTree) → i < length trees → x ≡ get_or trees i x
+    → IsKnownForm around (written.component_view x).form
+component_known around [] i h x lt is = absurd (omega (arith, lt))
+component_known around (c ∷ trees) zero h x lt is =
+    subst (λ (y : CompTree). IsKnownForm around (written.component_view y).form) (sym is) (form_known around (written.component_view c).site (written.component_view c).form (components_of (map written.component_view trees)) h).0
+component_known around (c ∷ trees) (suc i) h x lt is =
+    component_known around trees i (form_known around (written.component_view c).site (written.component_view c).form (components_of (map written.component_view trees)) h).1 x (omega (arith, lt)) is
+
+pub alternative_known : (around : Surroundings) (trees : List AlternativeTree) (i : ℕ) → AreKnownOthers around (alternatives_of (map written.alternative_view trees)) → (x : AlternativeTree) → i < length trees → x ≡ get_or trees i x
+    → IsKnown around (written.alternative_view x).ty
+alternative_known around [] i h x lt is = absurd (omega (arith, lt))
+alternative_known around (a ∷ trees) zero h x lt is = subst (λ (y : AlternativeTree). IsKnown around (written.alternative_view y).ty) (sym is) h.0
+alternative_known around (a ∷ trees) (suc i) h x lt is = alternative_known around trees i h.1 x (omega (arith, lt)) is

@@ -58,8 +58,8 @@ AreNumbered taken [] [] = Unit {0}
 AreNumbered taken (i ∷ items) (n ∷ ns) = (n.name ≡ i.name) × (HasNumber taken i.number n.number × AreNumbered (n.number ∷ taken) items ns)
 AreNumbered taken _ _ = ⊥
 
--- ---- named numbers
+-- ---- named numbers and named bits
 
--- a named number has the number that is written (19.1)
+-- each has the number that is written (19.1, 22.1)
 abbrev pub named_number : WrittenNamed → NamedNumber
 named_number n = record { name = n.name; number = number_of n.number }

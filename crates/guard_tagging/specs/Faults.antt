@@ -1,6 +1,6 @@
 -- What is wrong with a written type. Its parts come before the whole, in written order; of several faults at one place the first is named, in the
 -- order of their numbers.
-use Rattle.std.specs.Prelude.{ℕ, suc, ◌+◌, Bool, true, false, not, ◌&&◌, ◌||◌, List, [], ◌∷◌, ◌++◌, map, Option, Some, None, nat_lt, nat_eq, ℤ, option_map, is_some, bytes_eq, if◌then◌else◌}
+use Rattle.std.specs.Prelude.{ℕ, suc, ◌+◌, Bool, true, false, not, ◌&&◌, ◌||◌, List, [], ◌∷◌, ◌++◌, map, Option, Some, None, nat_lt, nat_le, nat_eq, ℤ, pos, negsuc, option_map, bytes_eq, if◌then◌else◌}
 use Rattle.std.specs.List.{list_any}
 use Rattle.std.specs.Option.{option_or}
 use Rattle.std.specs.Ordering.{int_eq}
@@ -11,7 +11,7 @@ use Rattle.guard_tagcheck.specs.Limits.{nesting}
 use Rattle.guard_model.specs.AbstractType as type
 use Rattle.guard_model.specs.AbstractType.{AbstractType, AbstractKind, Components, NamedNumber, type_of}
 use Rattle.guard_model.specs.Counts.{component_count}
-use Rattle.guard_model.specs.Limits.{most_components, deepest_nesting, greatest_tag_number}
+use Rattle.guard_model.specs.Limits.{most_components, deepest_nesting, greatest_tag_number, fits_128_bits, greatest_bit}
 use Rattle.guard_lexer.specs.Items.{number_value}
 use Rattle.guard_syntax.specs.declared.tree.Collection.{Collection}
 use Rattle.guard_syntax.specs.declared.tree.Collection.TheVariants as collection
@@ -19,10 +19,10 @@ use Rattle.guard_syntax.specs.declared.tree.TagClass.{TagClass}
 use Rattle.guard_syntax.specs.declared.tree.TagClass.TheVariants as word
 use Rattle.guard_syntax.specs.declared.tree.TagMode.{TagMode}
 use Rattle.guard_syntax.specs.declared.tree.TagMode.TheVariants as mode
-use Rattle.guard_syntax.specs.Trees.{WrittenTag, WrittenNamed, WrittenItem, WrittenType, type_node, WrittenBase, numbers, enumerated, structure, choice, of_type, named_type, WrittenComponents, no_components, component, components_from, WrittenAlternatives, no_alternatives, alternative}
+use Rattle.guard_syntax.specs.Trees.{WrittenTag, WrittenNamed, WrittenItem, WrittenType, type_node, WrittenBase, plain, numbers, named_bits, enumerated, structure, choice, of_type, named_type, WrittenComponents, no_components, component, components_from, WrittenAlternatives, no_alternatives, alternative}
 use Rattle.guard_tagging.specs.declared.fault.TagFault.{TagFault}
-use Rattle.guard_tagging.specs.declared.fault.TagFault.TheVariants.{UniversalTag, ImplicitChoice, TagTooLarge, ComponentsOfKind, ComponentsOfAutomatic, ComponentsOfTagged, DuplicateName, DuplicateNumber, TooManyComponents, TooDeep, SchemaTooLarge, NumberTooLarge, UndefinedName}
-use Rattle.guard_tagging.specs.Numbers.{number_of, is_number}
+use Rattle.guard_tagging.specs.declared.fault.TagFault.TheVariants.{UniversalTag, ImplicitChoice, TagTooLarge, ComponentsOfKind, ComponentsOfAutomatic, ComponentsOfTagged, DuplicateName, DuplicateNumber, TooManyComponents, TooDeep, SchemaTooLarge, NumberTooLarge}
+use Rattle.guard_tagging.specs.Numbers.{number_of}
 use Rattle.guard_tagging.specs.Tagging.{is_untagged_choice, automatic_tag, with_automatic_tag}
 use Rattle.guard_tagging.specs.Types.{Surroundings, denoted, denoted_base, denoted_components, denoted_alternatives, parts_of, is_automatic, is_automatic_list, is_automatic_choice}
 
@@ -47,7 +47,14 @@ abbrev mutual
   nodes_inside (type.choice cs) = nodes_of_components cs
   nodes_inside (type.sequence_of t) = nodes t
   nodes_inside (type.set_of t) = nodes t
-  nodes_inside _ = 0
+  nodes_inside type.boolean = 0
+  nodes_inside (type.integer ns) = 0
+  nodes_inside (type.bit_string bits) = 0
+  nodes_inside type.octet_string = 0
+  nodes_inside type.null = 0
+  nodes_inside type.object_identifier = 0
+  nodes_inside (type.enumerated ns) = 0
+  nodes_inside (type.characters c) = 0
 
   pub nodes_of_components : Components → ℕ
   nodes_of_components type.no_components = 0
@@ -59,13 +66,6 @@ nodes_within (type_of tags kind cons) = nodes_inside kind
 -- over all definitions
 abbrev pub most_nodes : ℕ
 most_nodes = 100000
-
--- ---- names
-
--- a name that no definition stands for
-abbrev pub undefined_name : Surroundings → WrittenBase → Option TagFault
-undefined_name around (named_type site name) = fault_where (not (is_some (around.meaning name))) (UndefinedName site)
-undefined_name around _ = None
 
 -- ---- tags
 
@@ -109,15 +109,33 @@ is_plain_tag _ = false
 abbrev pub is_tagged : AbstractType → Bool
 is_tagged (type_of tags kind cons) = not (is_plain_tag tags)
 
--- what is wrong with COMPONENTS OF this type, where its own list or the one that it takes in is tagged automatically or not
-abbrev pub taken_fault : Collection → Bool → Site → AbstractType → Option TagFault
-taken_fault kind automatic site t =
-    first_of (fault_where (not (is_of_kind kind t)) (ComponentsOfKind site)
-    ∷ fault_where automatic (ComponentsOfAutomatic site)
-    ∷ fault_where (is_tagged t) (ComponentsOfTagged site) ∷ [])
+-- COMPONENTS OF a type that isn't of the list's own kind
+abbrev pub takes_other_kind : Surroundings → Collection → WrittenType → Bool
+takes_other_kind around kind t = not (is_of_kind kind (denoted around t))
 
-abbrev pub entry_fault : Collection → Bool → Surroundings → Site → WrittenType → Option TagFault
-entry_fault kind automatic around site t = taken_fault kind (automatic || is_automatic around t) site (denoted around t)
+-- its own list, or the one that it takes in, is tagged automatically
+abbrev pub takes_automatic : Surroundings → Bool → WrittenType → Bool
+takes_automatic around automatic t = automatic || is_automatic around t
+
+abbrev pub takes_tagged : Surroundings → WrittenType → Bool
+takes_tagged around t = is_tagged (denoted around t)
+
+-- the first COMPONENTS OF in a list that takes in such a type: at its word
+abbrev pub first_taking : (WrittenType → Bool) → WrittenComponents → Option Site
+first_taking wrong no_components = None
+first_taking wrong (component site name t presence cs) = first_taking wrong cs
+first_taking wrong (components_from site t cs) = if wrong t then Some site else first_taking wrong cs
+
+-- What COMPONENTS OF may not take in is a fault of the list in which it stands. The number of the fault counts first, then which entry it is.
+abbrev pub taken_fault : Surroundings → Collection → Bool → WrittenComponents → Option TagFault
+taken_fault around kind automatic cs =
+    first_of (option_map (λ site. ComponentsOfKind site) (first_taking (takes_other_kind around kind) cs)
+    ∷ option_map (λ site. ComponentsOfAutomatic site) (first_taking (takes_automatic around automatic) cs)
+    ∷ option_map (λ site. ComponentsOfTagged site) (first_taking (takes_tagged around) cs) ∷ [])
+
+-- whether it takes in what it may not
+abbrev pub takes_wrongly : Surroundings → Collection → Bool → WrittenType → Bool
+takes_wrongly around kind automatic t = takes_other_kind around kind t || (takes_automatic around automatic t || takes_tagged around t)
 
 -- ---- names and numbers
 
@@ -165,31 +183,50 @@ duplicate_name ps = option_map (λ site. DuplicateName site) (repeated [] ps)
 abbrev pub duplicate_number : List Placed → Option TagFault
 duplicate_number ps = option_map (λ site. DuplicateNumber site) (repeated [] ps)
 
-abbrev pub is_too_large : Option ℤ → Bool
-is_too_large None = false
-is_too_large (Some n) = not (is_number n)
+-- the number of a named bit, which isn't negative
+abbrev pub is_bit : ℤ → Bool
+is_bit (pos n) = nat_le n greatest_bit
+is_bit (negsuc n) = false
+
+-- the first whose number isn't one that it may have
+abbrev pub is_outside : (ℤ → Bool) → Option ℤ → Bool
+is_outside may None = false
+is_outside may (Some n) = not (may n)
+
+abbrev pub first_outside : (ℤ → Bool) → List Placed → Option TagFault
+first_outside may [] = None
+first_outside may (p ∷ ps) = option_or (fault_where (is_outside may p.number) (NumberTooLarge p.site)) (first_outside may ps)
 
 abbrev pub number_too_large : List Placed → Option TagFault
-number_too_large [] = None
-number_too_large (p ∷ ps) = option_or (fault_where (is_too_large p.number) (NumberTooLarge p.site)) (number_too_large ps)
+number_too_large ps = first_outside fits_128_bits ps
 
 abbrev pub too_many : Site → Components → Option TagFault
 too_many site cs = fault_where (nat_lt most_components (component_count cs)) (TooManyComponents site)
 
 -- ---- a type, and what is in it
 
--- its names, and how many parts it has
+-- what it takes in, its names, and how many parts it has
 abbrev pub list_fault : Surroundings → Site → WrittenBase → Option TagFault
-list_fault around site (structure k cs) = option_or (duplicate_name (component_names around cs)) (too_many site (denoted_components around cs))
-list_fault around site (choice others) = option_or (duplicate_name (alternative_names others)) (too_many site (denoted_alternatives around others))
+list_fault around site (plain p) = None
 list_fault around site (numbers ns) = duplicate_number (map named_place ns)
+list_fault around site (named_bits bs) = duplicate_number (map named_place bs)
 list_fault around site (enumerated items) = duplicate_number (map item_place items)
-list_fault around site _ = None
+list_fault around site (structure k cs) =
+    option_or (taken_fault around k (is_automatic_list around.tag_default cs) cs)
+    (option_or (duplicate_name (component_names around cs)) (too_many site (denoted_components around cs)))
+list_fault around site (choice others) = option_or (duplicate_name (alternative_names others)) (too_many site (denoted_alternatives around others))
+list_fault around site (of_type k cons t) = None
+list_fault around site (named_type at name) = None
 
 abbrev pub number_fault : WrittenBase → Option TagFault
+number_fault (plain p) = None
 number_fault (numbers ns) = number_too_large (map named_place ns)
+number_fault (named_bits bs) = first_outside is_bit (map named_place bs)
 number_fault (enumerated items) = number_too_large (map item_place items)
-number_fault _ = None
+number_fault (structure k cs) = None
+number_fault (choice others) = None
+number_fault (of_type k cons t) = None
+number_fault (named_type at name) = None
 
 -- A type that gets an automatic tag, or gets none. Which number that has doesn't matter for its nesting.
 abbrev pub with_tag_there : Bool → AbstractType → AbstractType
@@ -199,8 +236,7 @@ with_tag_there false t = t
 -- What is wrong with the type itself, where it gets an automatic tag or none, and where there are so many types with it and what was written before it.
 abbrev pub own_fault : Surroundings → Bool → ℕ → WrittenType → Option TagFault
 own_fault around automatic count (type_node site tags base cons) =
-    first_of (undefined_name around base
-    ∷ universal_tag tags
+    first_of (universal_tag tags
     ∷ implicit_choice (denoted_base around base) tags
     ∷ tag_too_large tags
     ∷ list_fault around site base
@@ -208,9 +244,9 @@ own_fault around automatic count (type_node site tags base cons) =
     ∷ fault_where (nat_lt most_nodes count) (SchemaTooLarge site)
     ∷ number_fault base ∷ [])
 
--- how many types COMPONENTS OF takes in: those inside its type, not that type itself
-abbrev pub nodes_put_in : Surroundings → WrittenType → ℕ
-nodes_put_in around t = nodes_within (denoted around t)
+-- How many types COMPONENTS OF puts in: those inside its type, not that type itself; of a type that it may not take in it puts in none.
+abbrev pub nodes_put_in : Surroundings → Collection → Bool → WrittenType → ℕ
+nodes_put_in around kind automatic t = if takes_wrongly around kind automatic t then 0 else nodes_within (denoted around t)
 
 abbrev mutual
   -- The first fault in a type, with so many types before it and so many with it. Components and alternatives get automatic tags or none; no other types get any.
@@ -219,18 +255,22 @@ abbrev mutual
       option_or (fault_in_parts around before base) (own_fault around automatic count (type_node site tags base cons))
 
   pub fault_in_parts : Surroundings → ℕ → WrittenBase → Option TagFault
+  fault_in_parts around before (plain p) = None
+  fault_in_parts around before (numbers ns) = None
+  fault_in_parts around before (named_bits bs) = None
+  fault_in_parts around before (enumerated items) = None
   fault_in_parts around before (structure k cs) = fault_in_components k (is_automatic_list around.tag_default cs) around before cs
   fault_in_parts around before (choice others) = fault_in_alternatives (is_automatic_choice around.tag_default others) around before others
   fault_in_parts around before (of_type k cons t) = fault_in around false before (before + nodes (denoted around t)) t
-  fault_in_parts around before _ = None
+  fault_in_parts around before (named_type site name) = None
 
   pub fault_in_components : Collection → Bool → Surroundings → ℕ → WrittenComponents → Option TagFault
   fault_in_components k automatic around before no_components = None
   fault_in_components k automatic around before (component site name t presence cs) =
       option_or (fault_in around automatic before (before + nodes (denoted around t)) t) (fault_in_components k automatic around (before + nodes (denoted around t)) cs)
   fault_in_components k automatic around before (components_from site t cs) =
-      option_or (fault_in around false before (before + nodes_put_in around t) t)
-      (option_or (entry_fault k automatic around site t) (fault_in_components k automatic around (before + nodes_put_in around t) cs))
+      option_or (fault_in around false before (before + nodes_within (denoted around t)) t)
+      (fault_in_components k automatic around (before + nodes_put_in around k automatic t) cs)
 
   pub fault_in_alternatives : Bool → Surroundings → ℕ → WrittenAlternatives → Option TagFault
   fault_in_alternatives automatic around before no_alternatives = None

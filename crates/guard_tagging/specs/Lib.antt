@@ -20,5 +20,6 @@ pub mod ReadParts
 pub mod PartViews
 pub mod ReadBases
 pub mod ReadTypes
+pub mod KnownNames
 pub mod Spelled
 pub mod Skeletons

@@ -1,16 +1,11 @@
 -- Which refusals name a fault: all, unless memory ran out.
-use Rattle.std.specs.Prelude.{Bool, true, false, Option, Some, None, Result, Ok, Err}
+use Rattle.std.specs.Prelude.{Option, Some, None, Result, Ok, Err}
 use Rattle.guard_tagging.specs.declared.fault.TagFault.{TagFault}
 use Rattle.guard_tagging.specs.declared.fault.TagFault.TheVariants as fault
 
 abbrev pub named : TagFault → Option TagFault
 named fault.OutOfMemory = None
 named f = Some f
-
--- it is one of G1 to G12
-abbrev pub is_numbered : TagFault → Bool
-is_numbered (fault.UndefinedName site) = false
-is_numbered f = true
 
 -- this, unless there is a fault
 abbrev pub unless : {A : Type 0} → Option TagFault → A → Result A TagFault

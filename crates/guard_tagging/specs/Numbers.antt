@@ -1,5 +1,5 @@
--- The integers that are written, and which of them this profile has.
-use Rattle.std.specs.Prelude.{ℕ, zero, suc, ℤ, pos, negsuc, Bool, true, false, nat_lt, ◌^◌}
+-- The integers that are written.
+use Rattle.std.specs.Prelude.{ℕ, zero, suc, ℤ, pos, negsuc, Bool, true, false}
 use Rattle.guard_lexer.specs.Items.{number_value}
 use Rattle.guard_syntax.specs.Trees.{WrittenNumber}
 
@@ -11,8 +11,3 @@ signed true (suc n) = negsuc n
 -- X.680 19.9
 abbrev pub number_of : WrittenNumber → ℤ
 number_of n = signed n.minus (number_value n.digits)
-
--- signed 128 bits
-abbrev pub is_number : ℤ → Bool
-is_number (pos n) = nat_lt n (2 ^ 127)
-is_number (negsuc n) = nat_lt n (2 ^ 127)

@@ -1,30 +1,28 @@
 -- A type of each kind, as it is made from its parts.
-use Rattle.std.specs.Prelude.{ℕ, ◌+◌, ◌-◌, ◌^◌, min, true, false, List, [], map, Option, Some, None, Result, Ok, Err}
+use Rattle.std.specs.Prelude.{ℕ, ◌+◌, ◌-◌, ◌^◌, min, true, false, List, [], map, Result, Ok}
 use Rattle.guard_model.specs.Answer.{◌>>=◌}
 use Rattle.guard_model.specs.Each.{each}
 use Rattle.guard_model.specs.AbstractType as type
 use Rattle.guard_model.specs.AbstractType.{AbstractType, type_of}
 use Rattle.guard_model.specs.TypeView.{components_of}
-use Rattle.guard_model.specs.declared.site.Site.{Site}
 use Rattle.guard_tagcheck.specs.Limits.{nesting_inside}
 use Rattle.guard_syntax.specs.Trees.{WrittenNamed, WrittenItem}
 use Rattle.guard_syntax.specs.declared.tree.PlainType.{PlainType}
 use Rattle.guard_syntax.specs.declared.tree.Collection.{Collection}
 use Rattle.guard_tagging.specs.declared.fault.TagFault.{TagFault}
-use Rattle.guard_tagging.specs.declared.fault.TagFault.TheVariants.{UndefinedName}
 use Rattle.guard_tagging.specs.Faults.{Placed, duplicate_number, nodes_inside}
 use Rattle.guard_tagging.specs.Named.{allowed}
-use Rattle.guard_tagging.specs.ReadItems.{read_named, read_items}
+use Rattle.guard_tagging.specs.ReadItems.{read_named, read_bits, read_items}
 use Rattle.guard_tagging.specs.ReadNames.{named_place, item_place}
 use Rattle.guard_tagging.specs.ReadNodes.{Node, Whole, Made, tags_of, whole_with, made_from, made_with}
 use Rattle.guard_tagging.specs.ReadParts.{PartList, check_list}
 use Rattle.guard_tagging.specs.Tagging.{is_untagged_choice}
-use Rattle.guard_tagging.specs.Types.{Meaning, universal, plain_number, plain_kind, collection_number, structure_kind, of_kind}
+use Rattle.guard_tagging.specs.Types.{universal, plain_number, plain_kind, collection_number, structure_kind, of_kind}
 
 unfoldable pub plain_type : Node → PlainType → ℕ → Result Made TagFault
 plain_type node p before = tags_of node (universal (plain_number p)) false >>= λ tags. whole_with node tags 0 before >>= λ whole. Ok (made_with whole (plain_kind p))
 
--- named numbers, or items, at these places
+-- named numbers, named bits or items at these places
 abbrev pub differ : List Placed → Result (Unit {0}) TagFault
 differ places = allowed (duplicate_number places)
 
@@ -35,6 +33,10 @@ numbered_whole node number places before = tags_of node (universal number) false
 unfoldable pub integer_type : Node → List WrittenNamed → ℕ → Result Made TagFault
 integer_type node ns before =
     numbered_whole node 2 (map named_place ns) before >>= λ whole. each read_named ns >>= λ numbers. Ok (made_with whole (type.integer numbers))
+
+unfoldable pub bits_type : Node → List WrittenNamed → ℕ → Result Made TagFault
+bits_type node bs before =
+    numbered_whole node 3 (map named_place bs) before >>= λ whole. read_bits bs >>= λ bits. Ok (made_with whole (type.bit_string bits))
 
 unfoldable pub enumerated_type : Node → List WrittenItem → ℕ → Result Made TagFault
 enumerated_type node items before =
@@ -63,8 +65,3 @@ abbrev pub referred_to : Node → AbstractType → ℕ → Result Made TagFault
 referred_to node (type_of tags kind cons) before =
     tags_of node tags (is_untagged_choice (type_of tags kind cons)) >>= λ all.
     whole_with node all (min (nesting_inside kind) 33) (min (before + nodes_inside kind) 100001) >>= λ whole. Ok (made_from whole kind cons)
-
--- the name stands at this site
-unfoldable pub referred_type : Node → Site → Option Meaning → ℕ → Result Made TagFault
-referred_type node site None before = Err (UndefinedName site)
-referred_type node site (Some m) before = referred_to node m.ty before

@@ -1,11 +1,16 @@
--- Named numbers and items, as they are read.
-use Rattle.std.specs.Prelude.{ℕ, suc, ℤ, pos, List, [], ◌∷◌, ◌++◌, length, Option, Some, None, Result, Ok, Err}
+-- Named numbers, named bits and items, as they are read.
+use Rattle.std.specs.Prelude.{ℕ, suc, ℤ, pos, not, List, [], ◌∷◌, ◌++◌, length, Option, Some, None, Result, Ok, Err}
 use Rattle.guard_model.specs.declared.site.Site.{Site}
 use Rattle.guard_model.specs.AbstractType.{NamedNumber}
 use Rattle.guard_model.specs.Answer.{◌>>=◌}
 use Rattle.guard_syntax.specs.Trees.{WrittenNumber, WrittenNamed, WrittenItem}
 use Rattle.guard_tagging.specs.declared.fault.TagFault.{TagFault}
 use Rattle.guard_tagging.specs.declared.fault.TagFault.TheVariants.{NumberTooLarge}
+use Rattle.guard_model.specs.Each.{each}
+use Rattle.guard_tagging.specs.Faults.{fault_where, is_bit}
+use Rattle.guard_tagging.specs.Named.{allowed}
+use Rattle.guard_tagging.specs.Numbers.{number_of}
+use Rattle.std.specs.Option.{option_or}
 use Rattle.guard_tagging.specs.Enumerations.{free_from}
 use Rattle.guard_tagging.specs.ReadNumbers.{read_integer}
 use Rattle.guard_tagging.specs.ReadNames.{text_octets}
@@ -23,6 +28,15 @@ numbered_name name z = record { name = text_octets name; number = z }
 
 abbrev pub read_named : WrittenNamed → Result NamedNumber TagFault
 read_named n = read_at n.site n.number >>= λ z. Ok (numbered_name n.name z)
+
+-- ---- named bits: first whether each number is one of a bit
+
+abbrev pub bits_fault : List WrittenNamed → Option TagFault
+bits_fault [] = None
+bits_fault (b ∷ bs) = option_or (fault_where (not (is_bit (number_of b.number))) (NumberTooLarge b.site)) (bits_fault bs)
+
+unfoldable pub read_bits : List WrittenNamed → Result (List NamedNumber) TagFault
+read_bits bs = allowed (bits_fault bs) >>= λ _. each read_named bs
 
 -- ---- items: first the numbers that are written, then the number of each
 

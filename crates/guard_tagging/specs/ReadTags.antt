@@ -28,7 +28,7 @@ abbrev pub in_front : Option Tag → List Tag
 in_front None = []
 in_front (Some tag) = tag ∷ []
 
--- what is left of these tags behind one that replaces the outermost, or doesn't
+-- what is left of these tags after one that replaces the outermost, or doesn't
 abbrev pub kept : Bool → List Tag → List Tag
 kept true [] = []
 kept true (outermost ∷ tags) = tags
@@ -38,7 +38,7 @@ abbrev pub unless_replaced : Bool → List Tag → Tag → List Tag
 unless_replaced true front tag = front
 unless_replaced false front tag = front ++ tag ∷ []
 
--- the tags in front, then those that are written, then those of the type behind them
+-- the tags in front, then those that are written, then those of the type itself
 unfoldable pub read_tags : TagDefault → Bool → List Tag → List WrittenTag → List Tag → Result (List Tag) TagFault
 read_tags default replaced front [] base = Ok (front ++ kept replaced base)
 read_tags default replaced front (w ∷ ws) base = read_tag w >>= λ tag. read_tags default (not (is_explicit w.mode default false)) (unless_replaced replaced front tag) ws base

@@ -5,14 +5,12 @@ use Rattle.guard_model.specs.declared.site.Site.{Site}
 use Rattle.guard_model.specs.declared.tag.Tag.{Tag}
 use Rattle.guard_model.specs.AbstractType as type
 use Rattle.guard_syntax.specs.declared.tree.Collection.{Collection}
-use Rattle.guard_syntax.specs.Trees.{WrittenType, type_node, WrittenBase, plain, numbers, enumerated, structure, choice, of_type, named_type, WrittenComponents, no_components, component, components_from, WrittenAlternatives, no_alternatives, alternative, WrittenComponentForm, named, components_of_type, WrittenComponent, WrittenAlternative}
+use Rattle.guard_syntax.specs.Trees.{WrittenType, type_node, WrittenBase, plain, numbers, named_bits, enumerated, structure, choice, of_type, named_type, WrittenComponents, no_components, component, components_from, WrittenAlternatives, no_alternatives, alternative, WrittenComponentForm, named, components_of_type, WrittenComponent, WrittenAlternative}
 use Rattle.guard_tagging.specs.declared.fault.TagFault.{TagFault}
-use Rattle.guard_tagging.specs.Faults.{taken_fault}
-use Rattle.guard_tagging.specs.Named.{allowed}
 use Rattle.guard_tagging.specs.ReadBases as make
 use Rattle.guard_tagging.specs.ReadNodes.{Node, Made}
-use Rattle.guard_tagging.specs.ReadParts.{PartList, no_parts, next_tag, with_component, with_list}
-use Rattle.guard_tagging.specs.Types.{Surroundings, presence_of, begins_with_tag, is_automatic, is_automatic_list, is_automatic_choice}
+use Rattle.guard_tagging.specs.ReadParts.{PartList, no_parts, next_tag, with_component, taken_in}
+use Rattle.guard_tagging.specs.Types.{Surroundings, meant, presence_of, begins_with_tag, is_automatic, is_automatic_list, is_automatic_choice}
 
 abbrev pub is_tagged_entry : WrittenComponentForm → Bool
 is_tagged_entry (named name t presence) = begins_with_tag t
@@ -26,19 +24,19 @@ unfoldable mutual
   pub read_base : Surroundings → Node → ℕ → WrittenBase → Result Made TagFault
   read_base around node before (plain p) = make.plain_type node p before
   read_base around node before (numbers ns) = make.integer_type node ns before
+  read_base around node before (named_bits bs) = make.bits_type node bs before
   read_base around node before (enumerated items) = make.enumerated_type node items before
   read_base around node before (structure k cs) = read_components around k (is_automatic_list around.tag_default cs) (no_parts before) cs >>= λ parts. make.structure_type node k parts
   read_base around node before (choice others) = read_alternatives around (is_automatic_choice around.tag_default others) (no_parts before) others >>= λ parts. make.choice_type node parts
   read_base around node before (of_type k cons t) = read_type around true None before t >>= λ element. make.of_type node k element
-  read_base around node before (named_type site name) = make.referred_type node site (around.meaning name) before
+  read_base around node before (named_type site name) = make.referred_to node (meant (around.meaning name)) before
 
   pub read_components : Surroundings → Collection → Bool → PartList → WrittenComponents → Result PartList TagFault
   read_components around k automatic parts no_components = Ok parts
   read_components around k automatic parts (component site name t presence cs) =
       read_type around true (next_tag automatic parts) parts.nodes t >>= λ made. read_components around k automatic (with_component parts site name made (presence_of presence)) cs
   read_components around k automatic parts (components_from site t cs) =
-      read_type around false None parts.nodes t >>= λ made. allowed (taken_fault k (automatic || is_automatic around t) site made.ty) >>= λ _.
-      read_components around k automatic (with_list parts site made) cs
+      read_type around false None parts.nodes t >>= λ made. read_components around k automatic (taken_in parts k (automatic || is_automatic around t) site made) cs
 
   pub read_alternatives : Surroundings → Bool → PartList → WrittenAlternatives → Result PartList TagFault
   read_alternatives around automatic parts no_alternatives = Ok parts
@@ -60,7 +58,7 @@ abbrev pub read_entry : Surroundings → Collection → Bool → PartList → Si
 read_entry around k automatic parts site (named name t presence) =
     read_type around true (next_tag automatic parts) parts.nodes t >>= λ made. Ok (with_component parts site name made (presence_of presence))
 read_entry around k automatic parts site (components_of_type t) =
-    read_type around false None parts.nodes t >>= λ made. allowed (taken_fault k (automatic || is_automatic around t) site made.ty) >>= λ _. Ok (with_list parts site made)
+    read_type around false None parts.nodes t >>= λ made. Ok (taken_in parts k (automatic || is_automatic around t) site made)
 
 abbrev pub read_component : Surroundings → Collection → Bool → PartList → WrittenComponent → Result PartList TagFault
 read_component around k automatic parts c = read_entry around k automatic parts c.site c.form

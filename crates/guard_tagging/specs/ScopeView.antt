@@ -2,12 +2,11 @@
 use Rattle.std.specs.Prelude.{Bool, List, [], ◌∷◌, map}
 use Rattle.guard_model.specs.AbstractType.{AbstractType}
 use Rattle.guard_model.specs.TypeView.{type_view}
-use Rattle.guard_names.specs.Declarations.{declarations, definition_of, origin_there}
 use Rattle.guard_names.specs.NamesView.{modules_of, order_of}
+use Rattle.guard_names.specs.Places.{known_meant}
 use Rattle.guard_tagging.specs.declared.scope.Done.{Done}
 use Rattle.guard_tagging.specs.declared.scope.Known.{Known}
 use Rattle.guard_tagging.specs.declared.scope.Scope.{Scope}
-use Rattle.guard_tagging.specs.Surroundings.{known_meant}
 use Rattle.guard_tagging.specs.Types.{Meaning, Surroundings}
 
 abbrev pub meaning_view : Known → Meaning
@@ -25,5 +24,5 @@ done_view d = known_list (map type_view d.types.now) d.automatic.now
 abbrev pub scope_view : Scope → Surroundings
 scope_view s = record {
   tag_default = s.tag_default;
-  meaning = λ name. known_meant (order_of s.names.now) (done_view s.done) (definition_of (origin_there (declarations (modules_of s.names.now))) s.home.now name);
+  meaning = λ name. known_meant (modules_of s.names.now) (order_of s.names.now) (done_view s.done) s.home.now name;
 }

@@ -1,7 +1,7 @@
--- Written types whose names and numbers are tokens: names are texts, and the numbers of items and named numbers have 128 bits at most.
+-- Written types whose names and numbers are tokens: names are texts, and the numbers of items, named numbers and named bits have 128 bits at most.
 use Rattle.std.specs.Prelude.{ℕ, ◌<◌, ◌^◌, List, [], ◌∷◌, IfSome, IsUtf8}
 use Rattle.guard_lexer.specs.Items.{number_value}
-use Rattle.guard_syntax.specs.Trees.{WrittenNumber, WrittenNamed, WrittenItem, WrittenType, type_node, WrittenBase, plain, numbers, enumerated, structure, choice, of_type, named_type, WrittenComponents, no_components, component, components_from, WrittenAlternatives, no_alternatives, alternative, WrittenAssignment, WrittenModule}
+use Rattle.guard_syntax.specs.Trees.{WrittenNumber, WrittenNamed, WrittenItem, WrittenType, type_node, WrittenBase, plain, numbers, named_bits, enumerated, structure, choice, of_type, named_type, WrittenComponents, no_components, component, components_from, WrittenAlternatives, no_alternatives, alternative, WrittenAssignment, WrittenModule}
 use Rattle.guard_syntax.specs.Lexemes.{lexemes_of}
 use Rattle.guard_syntax.specs.Parses.{IsWritten}
 use Rattle.guard_lexer.specs.declared.token.Token.{Token}
@@ -24,6 +24,7 @@ abbrev mutual
   pub IsSpelledInside : WrittenBase → Type 0
   IsSpelledInside (plain p) = Unit {0}
   IsSpelledInside (numbers ns) = AreNamed ns
+  IsSpelledInside (named_bits bs) = AreNamed bs
   IsSpelledInside (enumerated items) = AreItems items
   IsSpelledInside (structure k cs) = AreSpelled cs
   IsSpelledInside (choice others) = AreSpelledOthers others

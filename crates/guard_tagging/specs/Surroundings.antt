@@ -1,10 +1,11 @@
 -- What names of types mean in a module, where some definitions are built, those before one in the order of definitions.
-use Rattle.std.specs.Prelude.{ℕ, ◌+◌, Bool, false, List, [], ◌∷◌, ◌++◌, Option, Some, None, nat_eq, slice_get, if◌then◌else◌}
+use Rattle.std.specs.Prelude.{ℕ, ◌+◌, Bool, false, List, [], ◌∷◌, ◌++◌, Option, Some, None, slice_get}
 use Rattle.guard_model.specs.AbstractType.{AbstractType}
 use Rattle.guard_syntax.specs.declared.tree.TagDefault.{TagDefault}
 use Rattle.guard_syntax.specs.declared.tree.TagDefault.TheVariants as by_default
 use Rattle.guard_syntax.specs.Trees.{WrittenModule}
-use Rattle.guard_names.specs.Declarations.{Definition, definitions, declarations, definition_of, origin_there}
+use Rattle.guard_names.specs.Declarations.{Definition, definitions}
+use Rattle.guard_names.specs.Places.{known_meant}
 use Rattle.guard_tagging.specs.Faults.{nodes}
 use Rattle.guard_tagging.specs.Types.{Meaning, Surroundings, is_automatic}
 
@@ -13,21 +14,11 @@ abbrev pub tag_default_of : Option TagDefault → TagDefault
 tag_default_of None = by_default.Explicit
 tag_default_of (Some default) = default
 
--- what is known of the definition with this number: `known` is what is known of the first ones in the order
-abbrev pub known_of : List ℕ → List Meaning → ℕ → Option Meaning
-known_of [] known number = None
-known_of (n ∷ order) [] number = None
-known_of (n ∷ order) (m ∷ known) number = if nat_eq n number then Some m else known_of order known number
-
-abbrev pub known_meant : List ℕ → List Meaning → Option ℕ → Option Meaning
-known_meant order known None = None
-known_meant order known (Some number) = known_of order known number
-
--- What a type is written under is its own module's: the tag default, and what its names mean.
+-- What a type is written under is its own module's: the tag default, and what its names mean, where so much is known of the first definitions in the order.
 abbrev pub surroundings : List WrittenModule → List ℕ → List Meaning → WrittenModule → Surroundings
 surroundings ms order known home = record {
   tag_default = tag_default_of home.tag_default;
-  meaning = λ name. known_meant order known (definition_of (origin_there (declarations ms)) home.name name);
+  meaning = λ name. known_meant ms order known home.name name;
 }
 
 -- whether a definition is a list of components or alternatives that was tagged automatically

@@ -13,7 +13,7 @@ use Rattle.guard_syntax.specs.declared.tree.Collection.{Collection}
 use Rattle.guard_syntax.specs.declared.tree.Collection.TheVariants as collection
 use Rattle.guard_syntax.specs.declared.tree.TagDefault.{TagDefault}
 use Rattle.guard_syntax.specs.declared.tree.TagDefault.TheVariants as by_default
-use Rattle.guard_syntax.specs.Trees.{WrittenPresence, mandatory, optional, default, WrittenType, type_node, WrittenBase, plain, numbers, enumerated, structure, choice, of_type, named_type, WrittenComponents, no_components, component, components_from, WrittenAlternatives, no_alternatives, alternative}
+use Rattle.guard_syntax.specs.Trees.{WrittenPresence, mandatory, optional, default, WrittenType, type_node, WrittenBase, plain, numbers, named_bits, enumerated, structure, choice, of_type, named_type, WrittenComponents, no_components, component, components_from, WrittenAlternatives, no_alternatives, alternative}
 use Rattle.guard_tagging.specs.Tagging.{with_tags, with_automatic_tags}
 use Rattle.guard_tagging.specs.Enumerations.{numbered, named_number}
 
@@ -27,11 +27,6 @@ pub record Surroundings : Type 0 where
   pub tag_default : TagDefault
   pub meaning : List ℕ → Option Meaning
 
--- A name that means nothing is a fault, and then it doesn't matter what stands here.
-abbrev pub meant : Option Meaning → AbstractType
-meant (Some m) = m.ty
-meant None = type_of [] type.null type.no_constraints
-
 abbrev pub is_meant_automatic : Option Meaning → Bool
 is_meant_automatic (Some m) = m.is_automatic
 is_meant_automatic None = false
@@ -44,9 +39,13 @@ universal_tag n = record { class = Universal; number = n }
 abbrev pub universal : ℕ → List Tag
 universal n = universal_tag n ∷ []
 
+-- What a name means. One that means nothing is a fault of names, so that it doesn't matter what stands here.
+abbrev pub meant : Option Meaning → AbstractType
+meant (Some m) = m.ty
+meant None = type_of (universal 5) type.null type.no_constraints
+
 abbrev pub plain_number : PlainType → ℕ
 plain_number plain_type.Boolean = 1
-plain_number plain_type.BitString = 3
 plain_number plain_type.OctetString = 4
 plain_number plain_type.Null = 5
 plain_number plain_type.ObjectIdentifier = 6
@@ -64,7 +63,6 @@ collection_number collection.Set = 17
 
 abbrev pub plain_kind : PlainType → AbstractKind
 plain_kind plain_type.Boolean = type.boolean
-plain_kind plain_type.BitString = type.bit_string
 plain_kind plain_type.OctetString = type.octet_string
 plain_kind plain_type.Null = type.null
 plain_kind plain_type.ObjectIdentifier = type.object_identifier
@@ -87,7 +85,7 @@ presence_of mandatory = type.mandatory
 presence_of optional = type.optional
 presence_of (default v) = type.pending
 
--- ---- lists that are tagged automatically: under AUTOMATIC TAGS, where no component's type begins with a tag as it is written. The type behind
+-- ---- lists that are tagged automatically: under AUTOMATIC TAGS, where no component's type begins with a tag as it is written. The type after
 -- COMPONENTS OF is none of them (clauses 25, 27 and 29).
 
 abbrev pub begins_with_tag : WrittenType → Bool
@@ -116,10 +114,14 @@ is_automatic_choice tag_default others = is_automatic_default tag_default && not
 
 -- whether the list of components that a written type stands for was tagged automatically, where it stands for one
 abbrev pub is_automatic_base : Surroundings → WrittenBase → Bool
+is_automatic_base around (plain p) = false
+is_automatic_base around (numbers ns) = false
+is_automatic_base around (named_bits bs) = false
+is_automatic_base around (enumerated items) = false
+is_automatic_base around (of_type k cons t) = false
 is_automatic_base around (structure kind cs) = is_automatic_list around.tag_default cs
 is_automatic_base around (choice others) = is_automatic_choice around.tag_default others
 is_automatic_base around (named_type site name) = is_meant_automatic (around.meaning name)
-is_automatic_base around _ = false
 
 abbrev pub is_automatic : Surroundings → WrittenType → Bool
 is_automatic around (type_node site tags base cons) = is_automatic_base around base
@@ -142,11 +144,13 @@ abbrev mutual
   pub denoted : Surroundings → WrittenType → AbstractType
   denoted around (type_node site tags base cons) = with_tags around.tag_default tags (denoted_base around base)
 
-  -- Types that are written with words alone (18, 22 to 24, 32, 41); INTEGER with its named numbers (19) and ENUMERATED with its items (20); SEQUENCE and SET with
-  -- their components (25, 27), CHOICE with its alternatives (29), SEQUENCE OF and SET OF (26, 28); a name, which is the type that it is assigned (14).
+  -- Types that are written with words alone (18, 23, 24, 32, 41); INTEGER with its named numbers (19), BIT STRING with its named bits (22) and ENUMERATED with its
+  -- items (20); SEQUENCE and SET with their components (25, 27), CHOICE with its alternatives (29), SEQUENCE OF and SET OF (26, 28); a name, which is the type that
+  -- it is assigned (14).
   pub denoted_base : Surroundings → WrittenBase → AbstractType
   denoted_base around (plain p) = type_of (universal (plain_number p)) (plain_kind p) type.no_constraints
   denoted_base around (numbers ns) = type_of (universal 2) (type.integer (map named_number ns)) type.no_constraints
+  denoted_base around (named_bits bs) = type_of (universal 3) (type.bit_string (map named_number bs)) type.no_constraints
   denoted_base around (enumerated items) = type_of (universal 10) (type.enumerated (numbered items)) type.no_constraints
   denoted_base around (structure k cs) =
       type_of (universal (collection_number k)) (structure_kind k (tagged_where (is_automatic_list around.tag_default cs) (denoted_components around cs))) type.no_constraints

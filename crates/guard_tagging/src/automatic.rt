@@ -1,21 +1,13 @@
-//! Which lists are tagged automatically (X.680 clauses 25, 27 and 29), and what COMPONENTS OF may take in.
+//! Which lists are tagged automatically (X.680 clauses 25, 27 and 29).
 ghost use Rattle.std.specs.Prelude.{◌≡◌, map};
-ghost use Rattle.guard_model.specs.Answer.{Gives};
-ghost use Rattle.guard_model.specs.TypeView as model;
 ghost use Rattle.guard_syntax.specs.Trees.{components_of, alternatives_of};
 ghost use Rattle.guard_syntax.specs.TypeViews as written;
-ghost use Rattle.guard_tagging.specs.Faults as faults;
-ghost use Rattle.guard_tagging.specs.Named.{named, allowed};
 ghost use Rattle.guard_tagging.specs.ReadTypes as reading;
 ghost use Rattle.guard_tagging.specs.ScopeView.{scope_view};
 ghost use Rattle.guard_tagging.specs.Types as types;
 
-use crate::fault::TagFault;
 use crate::scope::Scope;
-use guard_model::{Class, Kind, Site, Tag, Ty};
-use guard_syntax::{
-    AlternativeTree, BaseTree, Collection, CompForm, CompTree, TagDefault, TypeTree,
-};
+use guard_syntax::{AlternativeTree, BaseTree, CompForm, CompTree, TagDefault, TypeTree};
 
 /// Whether the list of components that the type stands for was tagged automatically.
 pub fn is_automatic(scope: &Scope, base: &BaseTree) -> bool
@@ -25,7 +17,11 @@ pub fn is_automatic(scope: &Scope, base: &BaseTree) -> bool
         BaseTree::Structure(_, comps) => is_automatic_list(scope.tag_default, comps),
         BaseTree::Choice(alternatives) => is_automatic_choice(scope.tag_default, alternatives),
         BaseTree::Reference(name) => is_known_automatic(scope, name.name),
-        _ => false,
+        BaseTree::Plain(_)
+        | BaseTree::Integer(_)
+        | BaseTree::BitString(_)
+        | BaseTree::Enumerated(_)
+        | BaseTree::Of(..) => false,
     }
 }
 
@@ -68,7 +64,7 @@ fn has_tagged_component(comps: &[CompTree]) -> bool
     false
 }
 
-/// The type behind COMPONENTS OF doesn't count.
+/// The type after COMPONENTS OF doesn't count.
 fn is_tagged_component(form: &CompForm) -> bool
     ensures { result ≡ reading.is_tagged_entry (written.component_form_view form.now) }
 {
@@ -93,43 +89,4 @@ fn begins_with_tag(ty: &TypeTree) -> bool
     ensures { result ≡ types.begins_with_tag (written.type_view ty.now) }
 {
     !ty.tags.is_empty()
-}
-
-/// COMPONENTS OF takes a SEQUENCE, in a SET a SET, that has no tag of its own; and neither list may be tagged automatically.
-pub fn check_taken(
-    collection: Collection,
-    automatic: bool,
-    site: Site,
-    ty: &Ty,
-) -> Result<(), TagFault>
-    ensures { Gives (λ u. u) named result (allowed (faults.taken_fault collection automatic site (model.type_view ty.now))) }
-{
-    if !is_of_kind(collection, &ty.kind) {
-        return Err(TagFault::ComponentsOfKind(site));
-    }
-    if automatic {
-        return Err(TagFault::ComponentsOfAutomatic(site));
-    }
-    if !is_plain_tag(&ty.tags) {
-        return Err(TagFault::ComponentsOfTagged(site));
-    }
-    Ok(())
-}
-
-fn is_of_kind(collection: Collection, kind: &Kind) -> bool
-    ensures { result ≡ faults.is_kind_of collection (model.kind_view kind.now) }
-{
-    match collection {
-        Collection::Sequence => matches!(kind, Kind::Sequence(_)),
-        Collection::Set => matches!(kind, Kind::Set(_)),
-    }
-}
-
-fn is_plain_tag(tags: &[Tag]) -> bool
-    ensures { result ≡ faults.is_plain_tag tags.now }
-{
-    match tags {
-        [tag] => tag.class == Class::Universal,
-        _ => false,
-    }
 }

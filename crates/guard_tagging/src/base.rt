@@ -1,5 +1,5 @@
 //! A type of each kind, from its parts.
-ghost use Rattle.std.specs.Prelude.{◌≡◌, map, option_map};
+ghost use Rattle.std.specs.Prelude.{◌≡◌, map};
 ghost use Rattle.guard_model.specs.Answer.{Gives};
 ghost use Rattle.guard_model.specs.TypeView as model;
 ghost use Rattle.guard_syntax.specs.TypeViews as written;
@@ -8,7 +8,6 @@ ghost use Rattle.guard_tagging.specs.NodeViews.{node_view, whole_view, made_view
 ghost use Rattle.guard_tagging.specs.PartViews.{parts_view};
 ghost use Rattle.guard_tagging.specs.ReadBases as reading;
 ghost use Rattle.guard_tagging.specs.Tagging as tagging;
-ghost use Rattle.guard_tagging.specs.ScopeView.{meaning_view};
 ghost use Rattle.guard_tagging.specs.Views.{place_view};
 
 use crate::fault::TagFault;
@@ -19,10 +18,9 @@ use crate::made::{Made, Node, Parts, Whole};
 use crate::measure::{nesting_inside, nodes_inside};
 use crate::names::{Placed, first_repeated, item_places, named_places};
 use crate::node::{new_type, tags_of, whole_with};
-use crate::numbering::{items, named_numbers};
+use crate::numbering::{items, named_bits, named_numbers};
 use crate::parts::check_list;
-use crate::scope::Known;
-use guard_model::{Kind, Site, Ty};
+use guard_model::{Kind, Ty};
 use guard_syntax::{Collection, ItemTree, NamedTree, PlainType};
 use std::alloc::Global;
 
@@ -57,6 +55,22 @@ pub fn integer_type(
     Ok(new_type(alloc, whole, Kind::Int(numbers))?)
 }
 
+/// BIT STRING with its named bits.
+#[tactic(auto, unfolding(crate::specs::ReadBases::bits_type))]
+pub fn bits_type(
+    alloc: Global,
+    node: &Node,
+    trees: &[NamedTree],
+    before: usize,
+) -> Result<Box<Made>, TagFault>
+    ensures { Gives (λ m. made_view m.value) named result (reading.bits_type (node_view node.now) (map written.named_view trees.now) before) }
+{
+    let places = named_places(alloc, trees)?;
+    let whole = numbered_whole(alloc, node, 3, &places, before)?;
+    let bits = named_bits(alloc, trees)?;
+    Ok(new_type(alloc, whole, Kind::Bits(bits))?)
+}
+
 /// ENUMERATED with its items.
 #[tactic(auto, unfolding(crate::specs::ReadBases::enumerated_type))]
 pub fn enumerated_type(
@@ -73,7 +87,7 @@ pub fn enumerated_type(
     Ok(new_type(alloc, whole, Kind::Enumerated(numbered))?)
 }
 
-/// What a type with this universal tag has beside its named numbers or items, which stand at these places.
+/// What a type with this universal tag has beside its named numbers, named bits or items, which stand at these places.
 #[tactic(auto, unfolding(crate::specs::ReadBases::numbered_whole))]
 fn numbered_whole(
     alloc: Global,
@@ -89,7 +103,7 @@ fn numbered_whole(
     whole_with(node, tags, 0, before)
 }
 
-/// Named numbers, and items, must differ in their names and in the numbers that are written (X.680 19.5, 19.6, 20.4, 20.5).
+/// Named numbers, named bits and items must differ in their names and in the numbers that are written (X.680 19.5, 19.6, 20.4, 20.5, 22.2, 22.3).
 fn check_differ(alloc: Global, places: &[Placed]) -> Result<(), TagFault>
     ensures { Gives (λ u. u) named result (reading.differ (map place_view places.now)) }
 {
@@ -155,24 +169,13 @@ pub fn of_type(
     Ok(new_type(alloc, whole, kind)?)
 }
 
-/// A copy of the type that the name at this site means, with the tags that are written before it. It is copied once it is known to keep the limits.
-#[tactic(auto, unfolding(crate::specs::ReadBases::referred_type))]
-pub fn referred_type(
+/// A copy of a type that a name means, with the tags that are written before the name. It is copied once it is known to keep the limits.
+pub fn referred_to(
     alloc: Global,
     node: &Node,
-    site: Site,
-    known: Option<Known>,
+    ty: &Ty,
     before: usize,
 ) -> Result<Box<Made>, TagFault>
-    ensures { Gives (λ m. made_view m.value) named result (reading.referred_type (node_view node.now) site (option_map meaning_view known.entry) before) }
-{
-    let Some(known) = known else {
-        return Err(TagFault::UndefinedName(site));
-    };
-    referred_to(alloc, node, known.ty, before)
-}
-
-fn referred_to(alloc: Global, node: &Node, ty: &Ty, before: usize) -> Result<Box<Made>, TagFault>
     ensures { Gives (λ m. made_view m.value) named result (reading.referred_to (node_view node.now) (model.type_view ty.now) before) }
 {
     let tags = tags_of(alloc, node, &ty.tags, is_untagged_choice(ty))?;

@@ -6,7 +6,7 @@ ghost use Rattle.guard_names.specs.NamesView.{modules_of, order_of};
 ghost use Rattle.guard_syntax.specs.ModuleViews.{module_view};
 ghost use Rattle.guard_tagcheck.specs.Limits.{is_within_limits};
 ghost use Rattle.guard_tagging.specs.Faults as faults;
-ghost use Rattle.guard_tagging.specs.Named.{named, is_numbered};
+ghost use Rattle.guard_tagging.specs.Named.{named};
 ghost use Rattle.guard_tagging.specs.ScopeView.{scope_view, done_view, known_list};
 ghost use Rattle.guard_tagging.specs.Skeletons.{IsTypeOf, IsFaultOf};
 ghost use Rattle.guard_tagging.specs.Spelled.{IsSpelledModule};
@@ -44,8 +44,6 @@ pub fn skeleton(alloc: Global, names: &Names, done: &[Ty], id: Id) -> Result<Ty,
     requires spelled { All IsSpelledModule (modules_of names.now) }
     ensures tagged { IfOk result (λ ty. IsTypeOf (modules_of names.now) (order_of names.now) (map type_view done.now) id (type_view ty)) }
     ensures refused { IfErr result (λ f. IfSome (named f) (IsFaultOf (modules_of names.now) (order_of names.now) (map type_view done.now) id)) }
-    // It has one of the numbers G1 to G12.
-    ensures numbered { IfErr result (λ f. IfSome (named f) (λ g. IsTrue (is_numbered g))) }
     // So the tags can be checked, and the next definition follows.
     ensures limits { IfOk result (λ ty. IsTrue (is_within_limits (type_view ty))) }
     ensures few { IfOk result (λ ty. nodes_of_all (map type_view done.now) + faults.nodes (type_view ty) ≤ faults.most_nodes) }
@@ -75,7 +73,6 @@ pub fn skeleton_behind(
     requires spelled { All IsSpelledModule (modules_of names.now) }
     ensures tagged { IfOk result (λ s. IsTypeOf (modules_of names.now) (order_of names.now) (map type_view done.now.types.now) id (type_view s.ty)) }
     ensures refused { IfErr result (λ f. IfSome (named f) (IsFaultOf (modules_of names.now) (order_of names.now) (map type_view done.now.types.now) id)) }
-    ensures numbered { IfErr result (λ f. IfSome (named f) (λ g. IsTrue (is_numbered g))) }
     ensures limits { IfOk result (λ s. IsTrue (is_within_limits (type_view s.ty))) }
     // What is kept for the next one: how many types there are with it, and what is known of it, whatever constraints and defaults it gets.
     ensures counted { IfOk result (λ s. s.nodes ≡ done.now.nodes + faults.nodes (type_view s.ty)) }

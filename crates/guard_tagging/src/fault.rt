@@ -27,7 +27,7 @@ pub enum TagFault {
     /// Two components or alternatives have one name: at the later name, or at the word COMPONENTS that puts it in.
     #[error("G7 DuplicateName {0}")]
     DuplicateName(Site),
-    /// Two items or named numbers have one name or one number: at the later one's name.
+    /// Two items, named numbers or named bits have one name or one number: at the later one's name.
     #[error("G8 DuplicateNumber {0}")]
     DuplicateNumber(Site),
     /// More than 64 components or alternatives: at the type's first token.
@@ -39,12 +39,9 @@ pub enum TagFault {
     /// More than 100,000 types over all definitions: at the first token of the type with which it is above that.
     #[error("G11 SchemaTooLarge {0}")]
     SchemaTooLarge(Site),
-    /// The number of an item or a named number is outside signed 128 bits: at its name.
+    /// The number of an item or a named number is outside signed 128 bits, or that of a named bit is above 65,535: at its name.
     #[error("G12 NumberTooLarge {0}")]
     NumberTooLarge(Site),
-    /// A name of a type that no definition stands for: at that name. Where names were resolved before it never comes.
-    #[error("UndefinedName {0}")]
-    UndefinedName(Site),
     #[error("OutOfMemory")]
     OutOfMemory,
 }

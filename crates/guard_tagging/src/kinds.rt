@@ -1,4 +1,4 @@
-//! Kinds and universal tags (X.680 8.4), and what stands behind a component.
+//! Kinds and universal tags (X.680 8.4), and what is written after a component.
 ghost use Rattle.std.specs.Prelude.{◌≡◌, map, IfOk};
 ghost use Rattle.guard_model.specs.TypeView as model;
 ghost use Rattle.guard_syntax.specs.TypeViews as written;
@@ -22,7 +22,6 @@ pub fn plain_number(plain: PlainType) -> u32
 {
     match plain {
         PlainType::Boolean => 1,
-        PlainType::BitString => 3,
         PlainType::OctetString => 4,
         PlainType::Null => 5,
         PlainType::ObjectIdentifier => 6,
@@ -49,7 +48,6 @@ pub fn plain_kind(plain: PlainType) -> Kind
 {
     match plain {
         PlainType::Boolean => Kind::Bool,
-        PlainType::BitString => Kind::Bits,
         PlainType::OctetString => Kind::Octets,
         PlainType::Null => Kind::Null,
         PlainType::ObjectIdentifier => Kind::Oid,

@@ -6,7 +6,8 @@
 //! | Which type does a written type denote? | `walk.rt`, the parts of a list in `parts.rt`, a type of each kind in `base.rt` | `specs/Types.antt`; as it is read `specs/ReadTypes.antt`, `specs/ReadParts.antt`, `specs/ReadBases.antt` |
 //! | Which fault is the first, and how do faults print? | `fault.rt` | `specs/Faults.antt` |
 //! | Which tags does a type get from those that are written? | `tags.rt` | `specs/Tagging.antt`, `specs/ReadTags.antt` |
-//! | Which lists are tagged automatically, and what may COMPONENTS OF take in? | `automatic.rt` | `specs/Types.antt`, `specs/Faults.antt` |
+//! | Which lists are tagged automatically? | `automatic.rt` | `specs/Types.antt` |
+//! | What may COMPONENTS OF take in? | `taken.rt` | `specs/Faults.antt`, `specs/ReadParts.antt` |
 //! | Which numbers do items and named numbers have? | `numbering.rt`, `number.rt` | `specs/Enumerations.antt`, `specs/Numbers.antt`, `specs/ReadItems.antt` |
 //! | Which names and numbers stand twice? | `names.rt` | `specs/Faults.antt`, `specs/ReadNames.antt` |
 //! | What is too deep or too large? | `node.rt`, of a finished type `measure.rt` | `specs/Faults.antt`, `specs/ReadNodes.antt` |
@@ -29,6 +30,7 @@ mod numbering;
 mod parts;
 mod scope;
 mod tags;
+mod taken;
 mod walk;
 
 pub use definition::{TaggedType, skeleton, skeleton_behind};

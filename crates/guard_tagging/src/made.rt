@@ -12,7 +12,7 @@ pub struct Node<'t> {
     pub tags: &'t [TagTree<'t>],
     /// The tag default of its module.
     pub tag_default: TagDefault,
-    /// Whether it counts as a type. The type behind COMPONENTS OF doesn't.
+    /// Whether it counts as a type. The type after COMPONENTS OF doesn't.
     pub counts: bool,
     /// The tag that it gets as a component or alternative of a list that is tagged automatically.
     pub automatic: Option<Tag>,
@@ -38,6 +38,17 @@ pub struct Made {
     ghost shallow: { nesting ≤ 32 },
 }
 
+/// Where COMPONENTS OF took in what it may not, the first of a list in each regard: at its word.
+#[derive(Clone, Copy)]
+pub struct Refused {
+    /// It is no SEQUENCE, in a SET no SET.
+    pub kind: Option<Site>,
+    /// It or the list in which it stands is tagged automatically.
+    pub automatic: Option<Site>,
+    /// It has a tag of its own.
+    pub tagged: Option<Site>,
+}
+
 /// Components so far.
 #[derive(Drop)]
 pub struct Parts {
@@ -48,5 +59,7 @@ pub struct Parts {
     pub deepest: usize,
     /// The types up to their end, over all definitions.
     pub nodes: usize,
+    /// What COMPONENTS OF may not take in. It counts for nothing else.
+    pub refused: Refused,
     ghost paired: { length sites.items ≡ length comps.items },
 }

@@ -13,7 +13,7 @@ use crate::tags::{check_implicit, check_universal, with_written};
 use guard_model::{DEEPEST_NESTING, Kind, Tag, Ty};
 use std::alloc::{AllocError, Global};
 
-/// The tags of a type, of which these stand behind those that are written.
+/// The tags of a type: those that are written, and then these.
 #[tactic(auto, unfolding(crate::specs::ReadNodes::tags_of))]
 pub fn tags_of(
     alloc: Global,

@@ -1,4 +1,4 @@
-//! Named numbers (X.680 19.1), and the numbers of items (X.680 20).
+//! Named numbers (X.680 19.1), named bits (X.680 22.1), and the numbers of items (X.680 20).
 ghost use Rattle.std.specs.Prelude.{◌≡◌, ◌≤◌, ◌<◌, ◌+◌, ◌^◌, ◌++◌, ℤ, [], length, map, IfOk};
 ghost use Rattle.std.specs.List.{list_any};
 ghost use Rattle.std.specs.Ordering.{int_eq};
@@ -8,17 +8,22 @@ ghost use Rattle.guard_model.specs.TypeView.{named_view};
 ghost use Rattle.guard_syntax.specs.TypeViews as written;
 ghost use Rattle.guard_syntax.specs.Views.{number_view};
 ghost use Rattle.guard_tagging.specs.Enumerations.{free_from};
-ghost use Rattle.guard_tagging.specs.Named.{named};
+ghost use Rattle.guard_tagging.specs.Faults as faults;
+ghost use Rattle.guard_tagging.specs.Named.{named, allowed};
+ghost use Rattle.guard_tagging.specs.Numbers.{number_of};
 ghost use Rattle.guard_tagging.specs.ReadItems as reading;
 ghost use Rattle.guard_tagging.specs.ReadItems.{read_at, read_named, read_written, read_numbered, read_items};
 
 use crate::fault::TagFault;
 use crate::names::name_text;
-use crate::number::integer;
+use crate::number::{integer, magnitude};
 use guard_model::{Named, Site};
 use guard_syntax::{ItemTree, NamedTree, NumberTree};
 use std::alloc::{AllocError, Global};
 use std::collections::BTreeSet;
+
+/// The greatest number of a named bit.
+const GREATEST_BIT: u128 = 65535;
 
 /// The named numbers of an INTEGER.
 pub fn named_numbers(alloc: Global, trees: &[NamedTree]) -> Result<Vec<Named>, TagFault>
@@ -38,6 +43,35 @@ fn named_number(alloc: Global, tree: &NamedTree) -> Result<Named, TagFault>
     let number = number_at(tree.site, &tree.number)?;
     let name = name_text(alloc, tree.name)?;
     Ok(Named { name, number })
+}
+
+/// The named bits of a BIT STRING.
+#[tactic(auto, unfolding(crate::specs::ReadItems::read_bits))]
+pub fn named_bits(alloc: Global, trees: &[NamedTree]) -> Result<Vec<Named>, TagFault>
+    ensures { Gives (λ v. map named_view v.items) named result (reading.read_bits (map written.named_view trees.now)) }
+{
+    check_bits(trees)?;
+    named_numbers(alloc, trees)
+}
+
+/// The number of each is one of a bit.
+fn check_bits(trees: &[NamedTree]) -> Result<(), TagFault>
+    ensures { Gives (λ u. u) named result (allowed (reading.bits_fault (map written.named_view trees.now))) }
+{
+    for tree in trees {
+        if !is_bit(&tree.number) {
+            return Err(TagFault::NumberTooLarge(tree.site));
+        }
+    }
+    Ok(())
+}
+
+/// Whether it is a number from 0 to 65,535.
+fn is_bit(number: &NumberTree) -> bool
+    ensures { result ≡ faults.is_bit (number_of (number_view number.now)) }
+{
+    let greatest = if number.minus { 0 } else { GREATEST_BIT };
+    magnitude(number.digits) <= greatest
 }
 
 /// The number of the item or named number whose name stands there.

@@ -12,6 +12,7 @@ ghost use Rattle.guard_tagging.specs.Tagging as tagging;
 use crate::fault::TagFault;
 use crate::made::{Made, Parts};
 use crate::names::{component_places, first_repeated, name_text};
+use crate::taken::{check_taken, none_refused};
 use guard_model::{Class, Comp, Kind, MOST_COMPONENTS, Presence, Site, Tag, Ty};
 use std::alloc::{AllocError, Global};
 
@@ -24,6 +25,7 @@ pub fn no_parts(alloc: Global, before: usize) -> Parts
         comps: Vec::new(alloc),
         deepest: 0,
         nodes: before,
+        refused: none_refused(),
     }
 }
 
@@ -86,6 +88,7 @@ fn pushed(
         mut sites,
         mut comps,
         deepest,
+        refused,
         ..
     } = Box::into_inner(parts);
     sites.push(site)?;
@@ -97,6 +100,7 @@ fn pushed(
             comps,
             deepest: deepest.max(nesting),
             nodes,
+            refused,
         },
     )?)
 }
@@ -130,6 +134,7 @@ fn appended(
         sites,
         mut comps,
         deepest,
+        refused,
         ..
     } = Box::into_inner(parts);
     let mut put_in = put_in;
@@ -142,6 +147,7 @@ fn appended(
             comps,
             deepest: deepest.max(nesting),
             nodes,
+            refused,
         },
     )?)
 }
@@ -169,11 +175,12 @@ fn with_sites(sites: Vec<Site>, site: Site, count: usize) -> Result<Vec<Site>, A
     Ok(sites)
 }
 
-/// The names of a list must differ, and there may be 64 at most.
+/// A list takes in nothing that it may not, its names differ, and there are 64 parts at most.
 #[tactic(auto, unfolding(crate::specs::ReadParts::check_list))]
 pub fn check_list(alloc: Global, site: Site, parts: &Parts) -> Result<(), TagFault>
     ensures { Gives (λ u. u) named result (reading.check_list site (parts_view parts.now)) }
 {
+    check_taken(parts.refused)?;
     let places = component_places(alloc, &parts.sites, &parts.comps)?;
     match first_repeated(alloc, &places)? {
         Some(name) => Err(TagFault::DuplicateName(name)),

@@ -52,7 +52,7 @@ fn is_implicit(mode: Option<TagMode>) -> bool
 }
 
 /// The tags of a type with those that are written before it and the automatic one before these, the outermost first. An implicit tag replaces the
-/// outermost one behind it, and so does an automatic one. A CHOICE without tags has none to replace, so that a tag on it is explicit.
+/// outermost one after it, and so does an automatic one. A CHOICE without tags has none to replace, so that a tag on it is explicit.
 pub fn with_written(alloc: Global, node: &Node, base: &[Tag]) -> Result<Vec<Tag>, TagFault>
     ensures { Gives (λ v. v.items) named result (read_tags node.now.tag_default (is_some node.now.automatic) (in_front node.now.automatic) (node_view node.now).tags base.now) }
 {
@@ -79,7 +79,7 @@ fn in_front(alloc: Global, automatic: Option<Tag>) -> Result<Vec<Tag>, AllocErro
     Ok(tags)
 }
 
-/// What is left of the tags of a type behind a tag that replaces the outermost one, or doesn't.
+/// What is left of the tags of a type after a tag that replaces the outermost one, or doesn't.
 fn kept(base: &[Tag], replaced: bool) -> &[Tag]
     ensures { result.now ≡ kept replaced base.now }
 {

@@ -3,26 +3,29 @@ ghost use Rattle.std.specs.Prelude.{◌≡◌, map};
 ghost use Rattle.guard_model.specs.Answer.{Gives};
 ghost use Rattle.guard_syntax.specs.Trees.{structure, choice, components_of, alternatives_of};
 ghost use Rattle.guard_syntax.specs.TypeViews as written;
+ghost use Rattle.guard_tagging.specs.KnownNames.{IsKnown, IsKnownInside, IsKnownForm, AreKnown, AreKnownOthers};
 ghost use Rattle.guard_tagging.specs.Named.{named};
 ghost use Rattle.guard_tagging.specs.NodeViews.{node_view, made_view};
 ghost use Rattle.guard_tagging.specs.PartViews.{parts_view};
 ghost use Rattle.guard_tagging.specs.ReadTypes as reading;
 ghost use Rattle.guard_tagging.specs.ScopeView.{scope_view};
 
-use crate::automatic::{check_taken, is_automatic, is_automatic_choice, is_automatic_list};
+use crate::automatic::{is_automatic, is_automatic_choice, is_automatic_list};
 use crate::base::{
-    choice_type, enumerated_type, integer_type, of_type, plain_type, referred_type, structure_type,
+    bits_type, choice_type, enumerated_type, integer_type, of_type, plain_type, referred_to,
+    structure_type,
 };
 use crate::fault::TagFault;
 use crate::kinds::presence_of;
 use crate::made::{Made, Node, Parts};
-use crate::parts::{next_tag, no_parts, with_component, with_list};
+use crate::parts::{next_tag, no_parts, with_component};
 use crate::scope::Scope;
+use crate::taken::take;
 use guard_model::{Presence, Tag};
 use guard_syntax::{AlternativeTree, BaseTree, Collection, CompForm, CompTree, TypeTree};
 use std::alloc::Global;
 
-/// The type that is written, with so many types before it and with the automatic tag that it gets. The type behind COMPONENTS OF doesn't count itself.
+/// The type that is written, with so many types before it and with the automatic tag that it gets. The type after COMPONENTS OF doesn't count itself.
 #[cycle(walk)]
 #[tactic(auto, unfolding(crate::specs::ReadTypes::read_type))]
 pub fn type_of(
@@ -33,6 +36,7 @@ pub fn type_of(
     automatic: Option<Tag>,
     before: usize,
 ) -> Result<Box<Made>, TagFault>
+    requires known { IsKnown (scope_view scope.now) (written.type_view tree.now) }
     ensures { Gives (λ m. made_view m.value) named result (reading.read_type (scope_view scope.now) counts automatic before (written.type_view tree.now)) }
 {
     let node = Node {
@@ -54,11 +58,13 @@ fn type_with(
     base: &BaseTree,
     before: usize,
 ) -> Result<Box<Made>, TagFault>
+    requires known { IsKnownInside (scope_view scope.now) (written.base_view base.now) }
     ensures { Gives (λ m. made_view m.value) named result (reading.read_base (scope_view scope.now) (node_view node.now) before (written.base_view base.now)) }
 {
     match base {
         BaseTree::Plain(plain) => plain_type(alloc, node, *plain, before),
         BaseTree::Integer(named) => integer_type(alloc, node, named, before),
+        BaseTree::BitString(named) => bits_type(alloc, node, named, before),
         BaseTree::Enumerated(items) => enumerated_type(alloc, node, items, before),
         BaseTree::Structure(collection, comps) => {
             structure(alloc, scope, node, *collection, comps, before)
@@ -68,7 +74,10 @@ fn type_with(
             elements(alloc, scope, node, *collection, element, before)
         }
         BaseTree::Reference(name) => {
-            referred_type(alloc, node, name.site, scope.referred(name.name), before)
+            let Some(known) = scope.referred(name.name) else {
+                unreachable!();
+            };
+            referred_to(alloc, node, known.ty, before)
         }
     }
 }
@@ -83,6 +92,7 @@ fn structure(
     comps: &[CompTree],
     before: usize,
 ) -> Result<Box<Made>, TagFault>
+    requires known { AreKnown (scope_view scope.now) (components_of (map written.component_view comps.now)) }
     ensures { Gives (λ m. made_view m.value) named result (reading.read_base (scope_view scope.now) (node_view node.now) before (structure collection (components_of (map written.component_view comps.now)))) }
 {
     let parts = components(alloc, scope, collection, comps, before)?;
@@ -98,6 +108,7 @@ fn choice(
     trees: &[AlternativeTree],
     before: usize,
 ) -> Result<Box<Made>, TagFault>
+    requires known { AreKnownOthers (scope_view scope.now) (alternatives_of (map written.alternative_view trees.now)) }
     ensures { Gives (λ m. made_view m.value) named result (reading.read_base (scope_view scope.now) (node_view node.now) before (choice (alternatives_of (map written.alternative_view trees.now)))) }
 {
     let parts = alternatives(alloc, scope, trees, before)?;
@@ -113,6 +124,7 @@ fn elements(
     tree: &TypeTree,
     before: usize,
 ) -> Result<Box<Made>, TagFault>
+    requires known { IsKnown (scope_view scope.now) (written.type_view tree.now) }
     ensures { Gives (λ m. made_view m.value) named result (reading.read_elements (scope_view scope.now) (node_view node.now) collection before (written.type_view tree.now)) }
 {
     let element = type_of(alloc, scope, tree, true, None, before)?;
@@ -127,6 +139,7 @@ fn components(
     trees: &[CompTree],
     before: usize,
 ) -> Result<Box<Parts>, TagFault>
+    requires known { AreKnown (scope_view scope.now) (components_of (map written.component_view trees.now)) }
     ensures { Gives (λ p. parts_view p.value) named result (reading.read_list (scope_view scope.now) collection before (components_of (map written.component_view trees.now))) }
 {
     let automatic = is_automatic_list(scope.tag_default, trees);
@@ -147,6 +160,7 @@ fn entry(
     tree: &CompTree,
     parts: Box<Parts>,
 ) -> Result<Box<Parts>, TagFault>
+    requires known { IsKnownForm (scope_view scope.now) (written.component_view tree.now).form }
     ensures { Gives (λ p. parts_view p.value) named result (reading.read_component (scope_view scope.now) collection automatic (parts_view parts.value) (written.component_view tree.now)) }
 {
     match &tree.form {
@@ -159,8 +173,7 @@ fn entry(
         CompForm::ComponentsOf(ty) => {
             let made = type_of(alloc, scope, ty, false, None, parts.nodes)?;
             let automatic = automatic || is_automatic(scope, &ty.base);
-            check_taken(collection, automatic, tree.site, &made.ty)?;
-            Ok(with_list(parts, alloc, tree.site, made)?)
+            Ok(take(parts, alloc, collection, automatic, tree.site, made)?)
         }
     }
 }
@@ -172,6 +185,7 @@ fn alternatives(
     trees: &[AlternativeTree],
     before: usize,
 ) -> Result<Box<Parts>, TagFault>
+    requires known { AreKnownOthers (scope_view scope.now) (alternatives_of (map written.alternative_view trees.now)) }
     ensures { Gives (λ p. parts_view p.value) named result (reading.read_choice (scope_view scope.now) before (alternatives_of (map written.alternative_view trees.now))) }
 {
     let automatic = is_automatic_choice(scope.tag_default, trees);
@@ -190,6 +204,7 @@ fn alternative(
     tree: &AlternativeTree,
     parts: Box<Parts>,
 ) -> Result<Box<Parts>, TagFault>
+    requires known { IsKnown (scope_view scope.now) (written.alternative_view tree.now).ty }
     ensures { Gives (λ p. parts_view p.value) named result (reading.read_one (scope_view scope.now) automatic (parts_view parts.value) (written.alternative_view tree.now)) }
 {
     let tag = next_tag(automatic, &parts);

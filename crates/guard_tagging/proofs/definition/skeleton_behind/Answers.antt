@@ -18,7 +18,8 @@ use Rattle.guard_tagcheck.specs.Limits.{is_within_limits}
 use Rattle.guard_tagging.specs.declared.fault.TagFault.{TagFault}
 use Rattle.guard_tagging.specs.declared.made.Made.{Made}
 use Rattle.guard_tagging.specs.Faults.{nodes, most_nodes}
-use Rattle.guard_tagging.specs.Named.{named, is_numbered}
+use Rattle.guard_tagging.specs.KnownNames.{IsKnown}
+use Rattle.guard_tagging.specs.Named.{named}
 use Rattle.guard_tagging.specs.NodeViews.{made_view}
 use Rattle.guard_tagging.specs.ReadTypes.{read_type}
 use Rattle.guard_tagging.specs.ScopeView.{scope_view}
@@ -28,8 +29,8 @@ use Rattle.guard_tagging.specs.Surroundings.{surroundings}
 use Rattle.guard_tagging.specs.Tagged.{KeepLimits}
 use Rattle.guard_tagging.specs.Types.{Surroundings}
 use Rattle.guard_tagging.proofs.Builds.{no_such, known_kept}
-use Rattle.guard_tagging.proofs.KnownNames.{type_meant}
-use Rattle.guard_tagging.proofs.Skeletons.{all_spelled, all_kept, tagged_so, counted_so, few_so, within_so, refused_so, numbered_so}
+use Rattle.guard_tagging.proofs.KnownNames.{known_in_type}
+use Rattle.guard_tagging.proofs.Skeletons.{all_spelled, all_kept, tagged_so, counted_so, few_so, within_so, refused_so}
 use Rattle.guard_tagging.proofs.definition.skeleton_behind.Goals as goal
 use Rattle.guard_tagging.proofs.definition.skeleton_behind.Goals.{After-deref}
 
@@ -76,16 +77,18 @@ module _ (c : After-deref) where
   tree : c.deref.result.now ≡ c.in-Some.assignment.now.ty.value
   tree = cc (c.deref.ensures)
 
-  -- the fault that the walk met
-  refusal : (f : Option TagFault) → Refuses f (read_type around true None before (written.type_view c.deref.result.now)) → IfSome f (IsFaultOf ms order types c.args.id) × IfSome f (λ g. is_numbered g ≡ true)
-  refusal f met =
+  -- the names in its type
+  known : IsKnown around (written.type_view c.deref.result.now)
+  known =
       let many : length types ≡ length c.args.done.now.types.now = length-map c.args.done.now.types.now type_view in
       let next : slice_get order (length types) ≡ Some c.args.id = ap (slice_get order) many ∙ c.requires.next in
-      let meant = type_meant ms (none_is (fault_of_names ms) c.args.names.now.faultless) order c.args.names.now.ordered types c.args.id next d (sym is) in
-      let read = subst (λ (t : TypeTree). Refuses f (read_type around true None before (written.type_view t))) tree met in (
-        refused_so ms order types c.args.id d is around same before c.requires.counted spelled kept f read,
-        numbered_so ms order types c.args.id d is around same before c.requires.counted spelled kept meant f read,
-      )
+      let here = known_in_type ms (none_is (fault_of_names ms) c.args.names.now.faultless) order c.args.names.now.ordered types c.args.id next d (sym is) in
+      subst (λ (t : TypeTree). IsKnown around (written.type_view t)) (sym tree) (subst (λ (a : Surroundings). IsKnown a d.assignment.ty) (sym same) here)
+
+  -- the fault that the walk met
+  refusal : (f : Option TagFault) → Refuses f (read_type around true None before (written.type_view c.deref.result.now)) → IfSome f (IsFaultOf ms order types c.args.id)
+  refusal f met =
+      refused_so ms order types c.args.id d is around same before c.requires.counted spelled kept f (subst (λ (t : TypeTree). Refuses f (read_type around true None before (written.type_view t))) tree met)
 
   -- the type that it made
   answer : (m : Made) → read_type around true None before (written.type_view c.deref.result.now) ≡ Ok (made_view m)
@@ -98,15 +101,13 @@ module _ (c : After-deref) where
         few_so ms order types c.args.id d is around same before c.requires.counted spelled kept (made_view m) made,
       )
 
+pub type_of-requires : goal.type_of-requires
+type_of-requires c = record { known = known (goal.at.type_of-requires c).After-deref }
+
 pub returns-in_err-made-clause-refused : goal.returns-in_err-made-clause-refused
 returns-in_err-made-clause-refused c =
     let p = err_from_is_err_and c.from_residual.result c.from_residual.ensures.1 in
-    rw (p.1, p.2) (refusal (goal.at.returns-in_err-made-clause-refused c).After-deref (named c.in_err-made.field-0.0) c.in_err-made.ensures).0
-
-pub returns-in_err-made-clause-numbered : goal.returns-in_err-made-clause-numbered
-returns-in_err-made-clause-numbered c =
-    let p = err_from_is_err_and c.from_residual.result c.from_residual.ensures.1 in
-    rw (p.1, p.2) (refusal (goal.at.returns-in_err-made-clause-numbered c).After-deref (named c.in_err-made.field-0.0) c.in_err-made.ensures).1
+    rw (p.1, p.2) (refusal (goal.at.returns-in_err-made-clause-refused c).After-deref (named c.in_err-made.field-0.0) c.in_err-made.ensures)
 
 read_so : (c : goal.After-into_inner-ty) → read_type (scope_view c.scope_in-scope.result) true None c.args.done.now.nodes (written.type_view c.deref.result.now) ≡ Ok (made_view c.into_inner-ty.result)
 read_so c = c.in_ok-made.ensures ∙ ap (λ (m : Made). Ok (made_view m)) (sym c.into_inner-ty.ensures)

@@ -1,13 +1,20 @@
-use Rattle.std.proofs.Common.{map}
+use Rattle.std.proofs.Common.{map, rules}
 use Rattle.std.proofs.lemmas.Result.{err_from_is_err_and}
+use Rattle.guard_syntax.specs.declared.tree.BaseTree.{the_lemmas}
 use Rattle.guard_syntax.specs.Trees.{components_of, alternatives_of}
 use Rattle.guard_syntax.specs.TypeViews as written
 use Rattle.guard_tagging.specs.Named.{named}
 use Rattle.guard_tagging.specs.PartViews.{parts_view}
 use Rattle.guard_tagging.specs.ReadTypes.{read_list, read_choice}
 use Rattle.guard_tagging.specs.ScopeView.{scope_view}
-use Rattle.guard_tagging.proofs.WalkLoops.{component_stops, next_component, no_component, alternative_stops, next_alternative, no_alternative}
+use Rattle.guard_tagging.proofs.WalkLoops.{component_stops, next_component, no_component, component_known, alternative_stops, next_alternative, no_alternative, alternative_known}
 use Rattle.guard_tagging.proofs.walk.+walk.Goals as goal
+
+pub components-entry-requires : goal.components-entry-requires
+components-entry-requires t c = (
+  search (rules, the_lemmas),
+  component_known (scope_view c.args.scope.now) c.args.trees.now c.loop-tree.tree-index c.requires.known c.tree-item.result c.loop-tree-test.true c.tree-item.is,
+)
 
 pub components-returns-in_err-parts-2 : goal.components-returns-in_err-parts-2
 components-returns-in_err-parts-2 t c =
@@ -21,6 +28,12 @@ components-loop-tree-preserved t c =
 pub components-returns : goal.components-returns
 components-returns t c =
     no_component (scope_view c.args.scope.now) c.args.collection c.is_automatic_list-automatic.result (parts_view c.loop-tree.parts.value) c.args.trees.now c.loop-tree.tree-index (read_list (scope_view c.args.scope.now) c.args.collection c.args.before (components_of (map written.component_view c.args.trees.now))) c.loop-tree.invariant c.loop-tree-test.false
+
+pub alternatives-alternative-requires : goal.alternatives-alternative-requires
+alternatives-alternative-requires t c = (
+  search (rules, the_lemmas),
+  alternative_known (scope_view c.args.scope.now) c.args.trees.now c.loop-tree.tree-index c.requires.known c.tree-item.result c.loop-tree-test.true c.tree-item.is,
+)
 
 pub alternatives-returns-in_err-parts-2 : goal.alternatives-returns-in_err-parts-2
 alternatives-returns-in_err-parts-2 t c =

@@ -19,7 +19,9 @@ use Rattle.guard_syntax.specs.Trees.{WrittenNumber, WrittenArc, WrittenValue, Wr
 use Rattle.guard_values.specs.declared.fault.ValueFault.{ValueFault}
 use Rattle.guard_values.specs.declared.fault.ValueFault.TheVariants.{WrongNotation, UnknownName, BadObjectId, TooLarge}
 use Rattle.guard_values.specs.ObjectIdentifiers.{arc_numbers, too_large_arc, are_arcs}
-use Rattle.guard_values.specs.Meanings.{Governed, Meaning, own_number, kind_of}
+use Rattle.guard_values.specs.Meanings.{Governed, Meaning, own_number}
+use Rattle.guard_model.specs.Kinds.{kind_of}
+use Rattle.guard_values.proofs.NamedBits.{places_again}
 use Rattle.guard_values.specs.Simple.{integer_value, within_limits, arcs_value, named_value}
 use Rattle.guard_values.specs.Places.{Located, located, entry_place, entry_places, is_among, are_in_order, are_different, FieldsDenote}
 use Rattle.guard_values.specs.Arrangement.{arranged, are_short}
@@ -117,7 +119,7 @@ abbrev pub WantedEntries : Meaning → Components → WrittenEntries → Fields 
 WantedEntries m cs es target = (j : ℕ) (u : AbstractType) → component_type j cs ≡ Some u → is_among j (entry_places cs es) ≡ true → (v : AbstractValue) × (field_at j target ≡ Some v) × EntrySays m cs es j u v
 
 -- where one place comes once, the entry for it is the one behind
-behind_first : (m : Meaning) (cs : Components) (site : Site) (name : Option (List ℕ)) (tree : WrittenValue) (rest : WrittenEntries) (p j : ℕ) (u : AbstractType) (v : AbstractValue)
+pub behind_first : (m : Meaning) (cs : Components) (site : Site) (name : Option (List ℕ)) (tree : WrittenValue) (rest : WrittenEntries) (p j : ℕ) (u : AbstractType) (v : AbstractValue)
     → entry_place cs name ≡ Some p → nat_eq j p ≡ false → EntrySays m cs (entry site name tree rest) j u v → EntrySays m cs rest j u v
 behind_first m cs site name tree rest p j u v e other (inl h) =
     let same : ◌≡◌ {A = Option ℕ} (Some p) (Some j) = sym e ∙ h.0 in
@@ -125,22 +127,22 @@ behind_first m cs site name tree rest p j u v e other (inl h) =
     absurd (grind (arith, common_steps))
 behind_first m cs site name tree rest p j u v e other (inr h) = h
 
-at_first : (m : Meaning) (cs : Components) (site : Site) (name : Option (List ℕ)) (tree : WrittenValue) (rest : WrittenEntries) (p : ℕ) (u : AbstractType) (v : AbstractValue)
+pub at_first : (m : Meaning) (cs : Components) (site : Site) (name : Option (List ℕ)) (tree : WrittenValue) (rest : WrittenEntries) (p : ℕ) (u : AbstractType) (v : AbstractValue)
     → is_among p (entry_places cs rest) ≡ false → EntrySays m cs (entry site name tree rest) p u v → Says m u tree v
 at_first m cs site name tree rest p u v once (inl h) = h.1
 at_first m cs site name tree rest p u v once (inr h) = let later = entry_among m cs rest p u v h in absurd cc
 
-not_true : (b : Bool) → not b ≡ true → b ≡ false
+pub not_true : (b : Bool) → not b ≡ true → b ≡ false
 not_true true e = absurd cc
 not_true false e = refl
 
-place_tells : (j p : ℕ) (ps : List (Option ℕ)) → is_among p ps ≡ false → is_among j ps ≡ true → nat_eq j p ≡ false
+pub place_tells : (j p : ℕ) (ps : List (Option ℕ)) → is_among p ps ≡ false → is_among j ps ≡ true → nat_eq j p ≡ false
 place_tells j p ps once among = elim (eqb_tells j p) [
   | inl h ↦ let P : ℕ → Type 0 = λ n. is_among n ps ≡ true in let both : is_among p ps ≡ true = subst P h.1 among in absurd cc
   | inr h ↦ h.0
 ]
 
-or_second : (a b : Bool) → b ≡ true → (a || b) ≡ true
+pub or_second : (a b : Bool) → b ≡ true → (a || b) ≡ true
 or_second true b e = refl
 or_second false b e = e
 
@@ -193,7 +195,7 @@ order_from next i (Some p ∷ ps) e among =
       | inr h ↦ let behind : is_among i ps ≡ true = rw h.0 at among in let far : nat_le (suc p) i ≡ true = order_from (suc p) i ps parts.1 behind in let near = parts.0 in grind (arith, common_steps)
     ]
 
-ordered_differ : (next : ℕ) (ps : List (Option ℕ)) → are_in_order next ps ≡ true → are_different ps ≡ true
+pub ordered_differ : (next : ℕ) (ps : List (Option ℕ)) → are_in_order next ps ≡ true → are_different ps ≡ true
 ordered_differ next [] e = refl
 ordered_differ next (None ∷ ps) e = absurd cc
 ordered_differ next (Some p ∷ ps) e = once (is_among p ps) refl (ordered_differ (suc p) ps parts.1) where
@@ -230,6 +232,8 @@ module _ (m : Meaning) (es : WrittenEntries)
   braces_again (type.set cs) site v h = fields_again site false cs h.1.0 h.0 (λ e. absurd cc) h.1.1 ∙ ap Ok (sym h.1.2)
   braces_again (type.sequence_of u) site v h = listed_again site false u h.0 (λ ws. value.items (items_of ws)) h.1 (λ e. absurd cc) h.2 ∙ ap Ok (sym h.3)
   braces_again (type.set_of u) site v h = listed_again site true u h.0 (λ ws. value.items (items_of (arranged u ws))) h.1 (λ _. h.3) h.2 ∙ ap Ok (sym h.4)
+  braces_again (type.bit_string []) site v h = absurd h
+  braces_again (type.bit_string (name ∷ names)) site v h = rw (places_again (name ∷ names) es h.0 h.1) (ap Ok (sym h.2))
   braces_again _ site v h = absurd h
 
 -- ---- all trees

@@ -1,5 +1,5 @@
 -- Digits in octets.
-use Rattle.std.proofs.Common.{◌≡◌, ℕ, zero, suc, ◌+◌, ◌-◌, ◌*◌, ◌^◌, ◌<◌, ◌≤◌, List, [], ◌∷◌, ◌++◌, length, drop, refl, sym, ap, ◌∙◌, subst, add-one, arith}
+use Rattle.std.proofs.Common.{◌≡◌, ℕ, zero, suc, ◌+◌, ◌-◌, ◌*◌, ◌/◌, ◌%◌, ◌^◌, ◌<◌, ◌≤◌, List, [], ◌∷◌, ◌++◌, length, drop, refl, sym, ap, ◌∙◌, subst, add-one, arith}
 use Rattle.std.proofs.Common.{true, false, inl, inr, append_assoc, length-drop}
 use Rattle.std.specs.Prelude.{slice_index, All}
 use Rattle.std.proofs.Math.Nat.{pow-zero, pow-suc, pow-le-pow_right, mul-le-mul_right}
@@ -108,6 +108,10 @@ binary_below o e = grind (arith, common_steps)
 
 pub hexadecimal_below : (o : ℕ) → is_hexadecimal_digit o ≡ true → digit_value o < 16
 hexadecimal_below o e = grind (arith, common_steps)
+
+-- each bit of a hexadecimal digit
+pub bits_below : (d : ℕ) → d < 16 → (d / 8 < 2) × (d / 4 % 2 < 2) × (d / 2 % 2 < 2) × (d % 2 < 2)
+bits_below d lt = (omega (arith, lt), omega arith, omega arith, omega arith)
 
 -- ---- strings in double quotes
 

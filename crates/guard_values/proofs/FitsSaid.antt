@@ -16,7 +16,9 @@ use Rattle.guard_model.proofs.Components.{item_count_is}
 use Rattle.guard_tagcheck.specs.Distinct.{component_type}
 use Rattle.guard_der.specs.Der.{der, item_encodings}
 use Rattle.guard_der.specs.Fits as fitting
-use Rattle.guard_der.specs.Fits.{fits_128_bits, is_item, fits_characters, every_fits, descends, ascend_from, are_ascending, fits_items, fits_set, fits, fits_kind, fits_fields, fits_alternative, may_be_absent}
+use Rattle.guard_der.specs.Fits.{is_item, every_fits, descends, ascend_from, are_ascending, fits_items, fits_set, fits, fits_kind, fits_fields, fits_alternative, may_be_absent}
+use Rattle.guard_model.specs.Alphabets.{fits_characters}
+use Rattle.guard_model.specs.Limits.{fits_128_bits}
 use Rattle.guard_der.specs.ProperConstraints.{is_short}
 use Rattle.guard_der.specs.Sound.{is_proper, is_proper_kind, is_proper_presence, are_proper}
 use Rattle.guard_der.proofs.Types.BareTypes.{same_base_fits}
@@ -25,8 +27,9 @@ use Rattle.guard_syntax.specs.declared.tree.StringKind.TheVariants as string
 use Rattle.guard_syntax.specs.Trees as written
 use Rattle.guard_syntax.specs.Trees.{WrittenNumber, WrittenArc, WrittenValue, WrittenValueForm, WrittenEntries, value_node, no_entries, entry}
 use Rattle.guard_values.specs.Numbers.{number_of}
-use Rattle.guard_values.specs.Strings.{quoted}
-use Rattle.guard_values.specs.Meanings.{Governed, Meaning, AreFitting, number_named, own_number, kind_of}
+use Rattle.guard_values.specs.Strings.{binary_digits, hexadecimal_bits, quoted}
+use Rattle.guard_values.specs.Meanings.{Governed, Meaning, AreFitting, number_named, own_number}
+use Rattle.guard_model.specs.Kinds.{kind_of}
 use Rattle.guard_values.specs.Simple.{boolean_value, null_value, integer_value, text_value, characters_value, arcs_value, numbered_value, visible_value, named_value}
 use Rattle.guard_values.specs.Places.{entry_places, is_among, FieldDenotes, FieldsDenote}
 use Rattle.guard_values.specs.Arrangement.{octets_in, encoding_in, comes_behind, inserted, arranged, are_short}
@@ -35,7 +38,7 @@ use Rattle.guard_values.proofs.AgainFields.{located_type}
 use Rattle.guard_values.proofs.Proper.{proper_parts, proper_there, choice_parts}
 use Rattle.guard_values.proofs.Sorting.{insert_by, sorted_by, Follow, Ascend, ascend_sorted}
 use Rattle.guard_values.proofs.Ascending.{one_way, chain}
-use Rattle.guard_values.proofs.FitsBits.{bits_fit, hexadecimal_bits_fit, octets_of_bits_fit, octets_of_hexadecimal_fit}
+use Rattle.guard_values.proofs.FitsBits.{binary_small, hexadecimal_small, octets_fit, kept_fit, named_fit}
 use Rattle.guard_values.proofs.FitsArcs.{arcs_fit}
 use Rattle.std.specs.Cmp.{IsStrictWeakOrder}
 
@@ -76,10 +79,10 @@ characters_fit k octets v e =
     subst (λ w. fits_kind (type.characters k) w ≡ true) h.1 (and_parts (is_utf8 octets) (fits_characters k (chars octets)) h.0).1
 
 text_fits : (kind : AbstractKind) (k : StringKind) (spelling : List ℕ) (v : AbstractValue) → text_value kind k spelling ≡ Some v → fits_kind kind v ≡ true
-text_fits type.bit_string string.Bits spelling v e = carried (λ w. fits_kind type.bit_string w ≡ true) _ v e (bits_fit spelling)
-text_fits type.bit_string string.Hexadecimal spelling v e = carried (λ w. fits_kind type.bit_string w ≡ true) _ v e (hexadecimal_bits_fit spelling)
-text_fits type.octet_string string.Bits spelling v e = carried (λ w. fits_kind type.octet_string w ≡ true) _ v e (octets_of_bits_fit spelling)
-text_fits type.octet_string string.Hexadecimal spelling v e = carried (λ w. fits_kind type.octet_string w ≡ true) _ v e (octets_of_hexadecimal_fit spelling)
+text_fits (type.bit_string names) string.Bits spelling v e = carried (λ w. fits_kind (type.bit_string names) w ≡ true) _ v e (kept_fit names (binary_digits spelling) (binary_small spelling))
+text_fits (type.bit_string names) string.Hexadecimal spelling v e = carried (λ w. fits_kind (type.bit_string names) w ≡ true) _ v e (kept_fit names (hexadecimal_bits spelling) (hexadecimal_small spelling))
+text_fits type.octet_string string.Bits spelling v e = carried (λ w. fits_kind type.octet_string w ≡ true) _ v e (octets_fit (binary_digits spelling) (binary_small spelling))
+text_fits type.octet_string string.Hexadecimal spelling v e = carried (λ w. fits_kind type.octet_string w ≡ true) _ v e (octets_fit (hexadecimal_bits spelling) (hexadecimal_small spelling))
 text_fits (type.characters k) string.Characters spelling v e = characters_fit k (quoted spelling) v e
 text_fits _ _ spelling v e = absurd cc
 
@@ -279,6 +282,8 @@ module _ (m : Meaning) (es : WrittenEntries)
   braces_fit (type.sequence_of u) v proper h =
       subst (λ w. fits_kind (type.sequence_of u) w ≡ true) (sym h.3) (and_from (fitting.are_few (items_of h.0)) (every_fits (fits u) (items_of h.0)) (few_items h.0 h.2) (elements u h.0 proper h.1))
   braces_fit (type.set_of u) v proper h = subst (λ w. fits_kind (type.set_of u) w ≡ true) (sym h.4) (set_fits u h.0 (elements u h.0 proper h.1) h.2 h.3)
+  braces_fit (type.bit_string []) v proper h = absurd h
+  braces_fit (type.bit_string (name ∷ names)) v proper h = subst (λ w. fits_kind (type.bit_string (name ∷ names)) w ≡ true) (sym h.2) (named_fit name names h.0)
   braces_fit _ v proper h = absurd h
 
 -- ---- all trees

@@ -3,6 +3,7 @@ pub mod ReadNumbers
 pub mod Digits
 pub mod Texts
 pub mod ReadArcs
+pub mod NamedBits
 -- ---- elements of a SET OF
 pub mod Sorting
 pub mod Ascending
@@ -27,6 +28,9 @@ pub mod FitsArcs
 pub mod FitsSaid
 -- ---- whole values
 pub mod Whole
+-- ---- one answer
+pub mod Lengths
+pub mod Exact
 -- ---- laws
 pub mod AnyOrder
 -- ---- names

@@ -20,12 +20,15 @@ use Rattle.guard_syntax.specs.Trees.{WrittenNumber, WrittenArc, WrittenValue, Wr
 use Rattle.guard_values.specs.declared.fault.ValueFault.{ValueFault}
 use Rattle.guard_values.specs.declared.fault.ValueFault.TheVariants.{WrongNotation, UnknownName, RepeatedComponent, OutOfOrder, BadObjectId, TooLarge}
 use Rattle.guard_values.specs.ObjectIdentifiers.{arc_numbers, too_large_arc, are_arcs}
-use Rattle.guard_values.specs.Meanings.{Governed, Meaning, own_number, kind_of}
-use Rattle.guard_values.specs.Simple.{boolean_value, null_value, integer_value, text_value, within_limits, arcs_value, numbered_value, visible_value, named_value}
+use Rattle.guard_values.specs.Meanings.{Governed, Meaning, own_number}
+use Rattle.guard_model.specs.Kinds.{kind_of}
+use Rattle.guard_values.specs.NamedBits.{ones_at}
+use Rattle.guard_values.proofs.NamedBits.{places_said}
+use Rattle.guard_values.specs.Simple.{bits_value, boolean_value, null_value, integer_value, text_value, within_limits, arcs_value, numbered_value, visible_value, named_value}
 use Rattle.guard_values.specs.Places.{Located, located, entry_place, entry_places, is_among, are_in_order, are_different, LeftOut, FieldDenotes, FieldsDenote}
 use Rattle.guard_values.specs.Arrangement.{arranged, are_short}
 use Rattle.guard_values.specs.Denotes.{alternatives_of, ChosenDenotes, are_few, BracesDenote, Says, FormSays, EntrySays, EntriesSay}
-use Rattle.guard_values.specs.Reading.{Read, answered, read_integer, string_fault, limited_arcs, read_arcs, read_named, placed, entry_at, settled, completed, limited, few, read_chosen, read_fields, read_braces, perhaps_limited, site_of, element_at, read, read_form, read_entries, read_elements}
+use Rattle.guard_values.specs.Reading.{Read, answered, read_places, read_integer, string_fault, limited_arcs, read_arcs, read_named, placed, entry_at, settled, completed, limited, few, read_chosen, read_fields, read_braces, perhaps_limited, site_of, element_at, read, read_form, read_entries, read_elements}
 use Rattle.guard_values.specs.Faults.{are_too_few_arcs}
 use Rattle.guard_values.proofs.AgainFields.{field_at, HasFields, has_absent, has_filled, nothing_at, filled_there, kept_elsewhere, unfilled_elsewhere, located_type}
 
@@ -302,6 +305,9 @@ module _ (m : Meaning) (es : WrittenEntries)
   braces_said (type.sequence_of u) site v e = let l = listed_said site false u (λ ws. value.items (items_of ws)) v e in (l.0, l.1, l.2, l.4)
   braces_said (type.set_of u) site v e = let l = listed_said site true u (λ ws. value.items (items_of (arranged u ws))) v e in (l.0, l.1, l.2, l.3 refl, l.4)
   braces_said type.object_identifier site v e = absurd (too_few_fault (are_too_few_arcs es) (BadObjectId site) (WrongNotation site) v e)
+  braces_said (type.bit_string []) site v e = absurd cc
+  braces_said (type.bit_string (name ∷ names)) site v e =
+      let c = made_ok (read_places (name ∷ names) es) (λ places. bits_value (ones_at places)) v e in (c.0, places_said (name ∷ names) es c.0 c.1, sym c.2)
   braces_said _ site v e = absurd cc
 
 -- ---- all trees

@@ -6,12 +6,12 @@ use Rattle.guard_model.specs.Answer.{◌>>=◌}
 use Rattle.guard_model.proofs.Results.{same_Err, bind_ok, bind_err}
 use Rattle.guard_model.specs.declared.site.Site.{Site}
 use Rattle.guard_model.specs.AbstractType as type
-use Rattle.guard_model.specs.AbstractType.{AbstractType, AbstractKind, Components, Constraints, type_of}
+use Rattle.guard_model.specs.AbstractType.{AbstractType, AbstractKind, Components, Constraints, NamedNumber, type_of}
 use Rattle.guard_model.specs.declared.tag.Tag.{Tag}
 use Rattle.guard_model.specs.AbstractValue.{AbstractValue}
 use Rattle.guard_model.specs.SameType.{same_base}
 use Rattle.guard_der.specs.Der.{der}
-use Rattle.guard_der.specs.Fits.{fits_128_bits}
+use Rattle.guard_model.specs.Limits.{fits_128_bits}
 use Rattle.guard_der.specs.ProperConstraints.{is_short}
 use Rattle.guard_syntax.specs.declared.tree.StringKind.{StringKind}
 use Rattle.guard_syntax.specs.declared.tree.StringKind.TheVariants as string
@@ -21,12 +21,14 @@ use Rattle.guard_values.specs.declared.fault.ValueFault.{ValueFault}
 use Rattle.guard_values.specs.declared.fault.ValueFault.TheVariants.{WrongNotation, UnknownName, MissingComponent, RepeatedComponent, OutOfOrder, BadCharacter, BadObjectId, TooLarge}
 use Rattle.guard_values.specs.Numbers.{number_of}
 use Rattle.guard_values.specs.ObjectIdentifiers.{arc_numbers, too_large_arc, are_arcs}
-use Rattle.guard_values.specs.Meanings.{Governed, Meaning, own_number, kind_of}
+use Rattle.guard_values.specs.Meanings.{Governed, Meaning, own_number}
+use Rattle.guard_model.specs.Kinds.{kind_of, is_integer, is_string}
+use Rattle.guard_values.specs.NamedBits.{name_alone, named_bit}
 use Rattle.guard_values.specs.Simple.{integer_value, text_value}
 use Rattle.guard_values.specs.Places.{Located, located, entry_place, entry_places, is_among}
 use Rattle.guard_values.specs.Denotes.{alternatives_of, Denotes}
-use Rattle.guard_values.specs.Faults.{entry_type, Somewhere, InEntry, takes, may_stand, HasWrongEntry, HasUnknownEntry, misses, HasRepeatedEntry, is_below_some, HasLateEntry, are_few_entries, is_of_characters, is_integer, HasLongEncoding, Condition, Stands}
-use Rattle.guard_values.specs.FirstFault.{unless, fault_of_name, fault_of_place, fault_behind, fault_of_count, fault_of_list, fault_there, fault_of, fault_of_form, fault_of_entries, fault_of_elements, IsFirstFault}
+use Rattle.guard_values.specs.Faults.{entry_type, Somewhere, InEntry, takes, may_stand, HasWrongEntry, HasUnknownEntry, HasUnknownBit, misses, HasRepeatedEntry, is_below_some, HasLateEntry, are_few_entries, HasLongEncoding, Condition, Stands}
+use Rattle.guard_values.specs.FirstFault.{unless, fault_of_name, fault_of_place, fault_behind, fault_of_bit, fault_of_bits, fault_of_count, fault_of_list, fault_there, fault_of, fault_of_form, fault_of_entries, fault_of_elements, IsFirstFault}
 use Rattle.guard_values.specs.Reading.{Read, limited, site_of, read, read_first_fault, sorted_or, read_sorted, read_whole}
 use Rattle.guard_values.proofs.Again.{says_read}
 use Rattle.guard_values.proofs.Said.{read_said, limited_ok}
@@ -70,17 +72,17 @@ number_large : (kind : AbstractKind) (n : WrittenNumber) → takes kind (written
 number_large (type.integer ns) n taken e = (refl, no_value (fits_128_bits (number_of n)) _ e)
 number_large kind n taken e = absurd cc
 
-characters_only : (kind : AbstractKind) (spelling : List ℕ) → takes kind (written.text string.Characters spelling) ≡ true → IsTrue (is_of_characters kind)
+characters_only : (kind : AbstractKind) (spelling : List ℕ) → takes kind (written.text string.Characters spelling) ≡ true → IsTrue (is_string kind)
 characters_only (type.characters k) spelling taken = refl
 characters_only kind spelling taken = absurd cc
 
 bits_said : (kind : AbstractKind) (spelling : List ℕ) → takes kind (written.text string.Bits spelling) ≡ true → text_value kind string.Bits spelling ≡ None → ⊥
-bits_said type.bit_string spelling taken e = absurd cc
+bits_said (type.bit_string names) spelling taken e = absurd cc
 bits_said type.octet_string spelling taken e = absurd cc
 bits_said kind spelling taken e = absurd cc
 
 digits_said : (kind : AbstractKind) (spelling : List ℕ) → takes kind (written.text string.Hexadecimal spelling) ≡ true → text_value kind string.Hexadecimal spelling ≡ None → ⊥
-digits_said type.bit_string spelling taken e = absurd cc
+digits_said (type.bit_string names) spelling taken e = absurd cc
 digits_said type.octet_string spelling taken e = absurd cc
 digits_said kind spelling taken e = absurd cc
 
@@ -135,7 +137,7 @@ both_true true b e = (refl, e)
 both_true false b e = absurd cc
 
 module _ (m : Meaning) (kind : AbstractKind) (ordered : Bool) (cs : Components) (f : ValueFault)
-    (none : may_stand kind None ≡ false) (typed : (name : List ℕ) → entry_type kind (Some name) ≡ option_map (λ l. l.ty) (located name cs)) where
+    (none : (tree : WrittenValue) → may_stand kind None tree ≡ false) (typed : (name : List ℕ) → entry_type kind (Some name) ≡ option_map (λ l. l.ty) (located name cs)) where
   later_entry : (before : List (Option ℕ)) (site : Site) (name : Option (List ℕ)) (tree : WrittenValue) (rest : WrittenEntries)
       → EntryFault m kind ordered cs (entry_place cs name ∷ before) rest f → EntryFault m kind ordered cs before (entry site name tree rest) f
   later_entry before site None tree rest (wrong s is h) = wrong s is (inr h)
@@ -165,6 +167,30 @@ module _ (m : Meaning) (kind : AbstractKind) (ordered : Bool) (cs : Components) 
       again true g h = repeated site (same_Some (RepeatedComponent site) f h) (inl (refl, (l.place, place, g)))
       again false g h = order (ordered && is_below_some l.place before) refl h
 
+-- ---- named bits
+
+module _ (name : NamedNumber) (names : List NamedNumber) where
+  abbrev BitFault : WrittenEntries → ValueFault → Type 0
+  BitFault es f = ((s : Site) × (WrongNotation s ≡ f) × HasWrongEntry (type.bit_string (name ∷ names)) es s) ⊎ ((s : Site) × (UnknownName s ≡ f) × HasUnknownBit (name ∷ names) es s)
+
+  later_bit : (site : Site) (label : Option (List ℕ)) (tree : WrittenValue) (rest : WrittenEntries) (f : ValueFault) → BitFault rest f → BitFault (entry site label tree rest) f
+  later_bit site label tree rest f (inl h) = inl (h.0, h.1, inr h.2)
+  later_bit site label tree rest f (inr h) = inr (h.0, h.1, inr h.2)
+
+  bit_stands : (site : Site) (label : Option (List ℕ)) (tree : WrittenValue) (rest : WrittenEntries) (f : ValueFault) (found : Option (List ℕ)) → name_alone label tree ≡ found
+      → fault_of_bit (name ∷ names) site found ≡ Some f → BitFault (entry site label tree rest) f
+  bit_stands site label tree rest f None is e = inl (site, same_Some (WrongNotation site) f e, inl (refl, ap (λ (o : Option (List ℕ)). is_some o) is))
+  bit_stands site label tree rest f (Some n) is e =
+      let h = unless_found (is_some (named_bit (name ∷ names) n)) (UnknownName site) f e in
+      inr (site, h.1, inl (refl, (n, is, none_there (named_bit (name ∷ names) n) h.0)))
+
+  bits_stand : (es : WrittenEntries) (f : ValueFault) → fault_of_bits (name ∷ names) es ≡ Some f → BitFault es f
+  bits_stand no_entries f e = absurd cc
+  bits_stand (entry site label tree rest) f e = elim (or_found (fault_of_bit (name ∷ names) site (name_alone label tree)) (fault_of_bits (name ∷ names) rest) f e) [
+    | inl h ↦ bit_stands site label tree rest f (name_alone label tree) refl h
+    | inr h ↦ later_bit site label tree rest f (bits_stand rest f h.1)
+  ]
+
 -- ---- values in braces
 
 module _ (m : Meaning) (site : Site) (es : WrittenEntries) (f : ValueFault) (tags : List Tag) (cons : Constraints) where
@@ -176,14 +202,14 @@ module _ (m : Meaning) (site : Site) (es : WrittenEntries) (f : ValueFault) (tag
 
   sequence_stands : (cs : Components) → EntryFault m (type.sequence cs) true cs [] es f → There (type.sequence cs)
   sequence_stands cs (wrong s is h) = inl (subst (Here (type.sequence cs)) is (inr h))
-  sequence_stands cs (unknown s is h) = inl (subst (Here (type.sequence cs)) is (cs, refl, h))
+  sequence_stands cs (unknown s is h) = inl (subst (Here (type.sequence cs)) is h)
   sequence_stands cs (repeated s is h) = inl (subst (Here (type.sequence cs)) is (cs, refl, h))
   sequence_stands cs (late s is o h) = inl (subst (Here (type.sequence cs)) is (cs, refl, h))
   sequence_stands cs (inside h) = inr h
 
   set_stands : (cs : Components) → EntryFault m (type.set cs) false cs [] es f → There (type.set cs)
   set_stands cs (wrong s is h) = inl (subst (Here (type.set cs)) is (inr h))
-  set_stands cs (unknown s is h) = inl (subst (Here (type.set cs)) is (cs, refl, h))
+  set_stands cs (unknown s is h) = inl (subst (Here (type.set cs)) is h)
   set_stands cs (repeated s is h) = inl (subst (Here (type.set cs)) is (cs, refl, h))
   set_stands cs (late s is o h) = absurd cc
   set_stands cs (inside h) = inr h
@@ -200,28 +226,33 @@ module _ (m : Meaning) (site : Site) (es : WrittenEntries) (f : ValueFault) (tag
   element_stands kind (inr h) = inr h
 
   module _
-      (elements : (kind : AbstractKind) (u : AbstractType) → entry_type kind None ≡ Some u → ((name : List ℕ) → may_stand kind (Some name) ≡ false) → fault_of_elements m u es ≡ Some f
+      (elements : (kind : AbstractKind) (u : AbstractType) → entry_type kind None ≡ Some u → ((name : List ℕ) (tree : WrittenValue) → may_stand kind (Some name) tree ≡ false) → fault_of_elements m u es ≡ Some f
       → ((s : Site) × (WrongNotation s ≡ f) × HasWrongEntry kind es s) ⊎ InEntry (Condition m f) kind es)
-      (entries : (kind : AbstractKind) (ordered : Bool) (cs : Components) → may_stand kind None ≡ false → ((name : List ℕ) → entry_type kind (Some name) ≡ option_map (λ l. l.ty) (located name cs))
+      (entries : (kind : AbstractKind) (ordered : Bool) (cs : Components) → ((tree : WrittenValue) → may_stand kind None tree ≡ false) → ((name : List ℕ) → entry_type kind (Some name) ≡ option_map (λ l. l.ty) (located name cs))
       → fault_of_entries m ordered cs [] es ≡ Some f → EntryFault m kind ordered cs [] es f) where
     braces_stand : (kind : AbstractKind) → takes kind (written.list es) ≡ true → fault_of_list site kind es (λ ordered cs. fault_of_entries m ordered cs [] es) (λ u. fault_of_elements m u es) ≡ Some f → There kind
     braces_stand (type.sequence cs) taken e = elim (or_found (fault_of_entries m true cs [] es) (fault_behind site cs es) f e) [
-      | inl h ↦ sequence_stands cs (entries (type.sequence cs) true cs refl (λ name. refl) h)
+      | inl h ↦ sequence_stands cs (entries (type.sequence cs) true cs (λ tree. refl) (λ name. refl) h)
       | inr h ↦ behind_stands (type.sequence cs) cs (λ missed. (refl, (cs, refl, missed))) h.1
     ]
     braces_stand (type.set cs) taken e = elim (or_found (fault_of_entries m false cs [] es) (fault_behind site cs es) f e) [
-      | inl h ↦ set_stands cs (entries (type.set cs) false cs refl (λ name. refl) h)
+      | inl h ↦ set_stands cs (entries (type.set cs) false cs (λ tree. refl) (λ name. refl) h)
       | inr h ↦ behind_stands (type.set cs) cs (λ missed. (refl, (cs, refl, missed))) h.1
     ]
     braces_stand (type.sequence_of u) taken e = elim (or_found (fault_of_elements m u es) (fault_of_count site es) f e) [
-      | inl h ↦ element_stands (type.sequence_of u) (elements (type.sequence_of u) u refl (λ name. refl) h)
+      | inl h ↦ element_stands (type.sequence_of u) (elements (type.sequence_of u) u refl (λ name tree. refl) h)
       | inr h ↦ count_stands (type.sequence_of u) u refl h.1
     ]
     braces_stand (type.set_of u) taken e = elim (or_found (fault_of_elements m u es) (fault_of_count site es) f e) [
-      | inl h ↦ element_stands (type.set_of u) (elements (type.set_of u) u refl (λ name. refl) h)
+      | inl h ↦ element_stands (type.set_of u) (elements (type.set_of u) u refl (λ name tree. refl) h)
       | inr h ↦ count_stands (type.set_of u) u refl h.1
     ]
     braces_stand type.object_identifier taken e = inl (subst (Here type.object_identifier) (same_Some (BadObjectId site) f e) (refl, refl, taken))
+    braces_stand (type.bit_string []) taken e = absurd cc
+    braces_stand (type.bit_string (name ∷ names)) taken e = elim (bits_stand name names es f e) [
+      | inl h ↦ element_stands (type.bit_string (name ∷ names)) (inl h)
+      | inr h ↦ inl (subst (Here (type.bit_string (name ∷ names))) h.1 h.2)
+    ]
     braces_stand kind taken e = absurd cc
 
 -- ---- all trees
@@ -263,7 +294,7 @@ mutual
       list_at m site es f t (λ tags cons kind taken g. braces_stand m site es f tags cons (λ k u is alone h. elements_stand m es k u f is alone h) (λ k ordered cs none typed h. entries_stand m es k ordered cs f none typed [] h) kind taken g) taken e
   form_stands m (written.arcs arcs) site t f taken e = inl (arcs_stand m t site arcs (too_large_arc arcs) f (identifier_is (kind_of t) arcs taken) refl e)
 
-  elements_stand : (m : Meaning) (es : WrittenEntries) (kind : AbstractKind) (u : AbstractType) (f : ValueFault) → entry_type kind None ≡ Some u → ((name : List ℕ) → may_stand kind (Some name) ≡ false)
+  elements_stand : (m : Meaning) (es : WrittenEntries) (kind : AbstractKind) (u : AbstractType) (f : ValueFault) → entry_type kind None ≡ Some u → ((name : List ℕ) (tree : WrittenValue) → may_stand kind (Some name) tree ≡ false)
       → fault_of_elements m u es ≡ Some f → ((s : Site) × (WrongNotation s ≡ f) × HasWrongEntry kind es s) ⊎ InEntry (Condition m f) kind es
   elements_stand m no_entries kind u f is alone e = absurd cc
   elements_stand m (entry site None tree rest) kind u f is alone e = elim (or_found (fault_of m u tree) (fault_of_elements m u rest) f e) [
@@ -274,12 +305,12 @@ mutual
         → ((s : Site) × (WrongNotation s ≡ f) × HasWrongEntry kind (entry site None tree rest) s) ⊎ InEntry (Condition m f) kind (entry site None tree rest)
     later (inl h) = inl (h.0, h.1, inr h.2)
     later (inr h) = inr (inr h)
-  elements_stand m (entry site (Some name) tree rest) kind u f is alone e = inl (site, same_Some (WrongNotation site) f e, inl (refl, alone name))
+  elements_stand m (entry site (Some name) tree rest) kind u f is alone e = inl (site, same_Some (WrongNotation site) f e, inl (refl, alone name tree))
 
-  entries_stand : (m : Meaning) (es : WrittenEntries) (kind : AbstractKind) (ordered : Bool) (cs : Components) (f : ValueFault) → may_stand kind None ≡ false
+  entries_stand : (m : Meaning) (es : WrittenEntries) (kind : AbstractKind) (ordered : Bool) (cs : Components) (f : ValueFault) → ((tree : WrittenValue) → may_stand kind None tree ≡ false)
       → ((name : List ℕ) → entry_type kind (Some name) ≡ option_map (λ l. l.ty) (located name cs)) → (before : List (Option ℕ)) → fault_of_entries m ordered cs before es ≡ Some f → EntryFault m kind ordered cs before es f
   entries_stand m no_entries kind ordered cs f none typed before e = absurd cc
-  entries_stand m (entry site None tree rest) kind ordered cs f none typed before e = wrong site (same_Some (WrongNotation site) f e) (inl (refl, none))
+  entries_stand m (entry site None tree rest) kind ordered cs f none typed before e = wrong site (same_Some (WrongNotation site) f e) (inl (refl, none tree))
   entries_stand m (entry site (Some name) tree rest) kind ordered cs f none typed before e =
       elim (or_found (fault_of_place ordered before site (located name cs)) (option_or (fault_there (λ u. fault_of m u tree) (located name cs)) (fault_of_entries m ordered cs (entry_place cs (Some name) ∷ before) rest)) f e) [
         | inl h ↦ place_stands m kind ordered cs f none typed before site name tree rest (located name cs) refl h

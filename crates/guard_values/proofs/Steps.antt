@@ -20,7 +20,7 @@ use Rattle.guard_syntax.specs.declared.tree.ValueForm as variant
 use Rattle.guard_syntax.specs.declared.tree.ValueForm.{ValueForm}
 use Rattle.guard_syntax.specs.declared.tree.ValueForm.TheOpen.{ValueForm-F}
 use Rattle.guard_syntax.specs.declared.tree.ValueForm.TheVariants.{rolls-List}
-use Rattle.guard_values.specs.Meanings.{kind_of}
+use Rattle.guard_model.specs.Kinds.{kind_of}
 use Rattle.guard_values.specs.Places.{Located}
 use Rattle.guard_values.proofs.Slots.{field_filled}
 use Rattle.guard_syntax.specs.Trees.{WrittenValue, WrittenEntry, WrittenEntries, no_entries, entry, entries_of}

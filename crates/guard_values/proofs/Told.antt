@@ -8,13 +8,13 @@ use Rattle.guard_model.specs.Answer.{◌>>=◌}
 use Rattle.guard_model.proofs.Results.{same_Ok, bind_ok, made_ok}
 use Rattle.guard_model.specs.declared.site.Site.{Site}
 use Rattle.guard_model.specs.AbstractType as type
-use Rattle.guard_model.specs.AbstractType.{AbstractType, AbstractKind, AbstractPresence, Components, no_components, component}
+use Rattle.guard_model.specs.AbstractType.{AbstractType, AbstractKind, AbstractPresence, Components, NamedNumber, no_components, component}
 use Rattle.guard_model.specs.AbstractValue as value
 use Rattle.guard_model.specs.AbstractValue.{AbstractValue, Fields, items_of}
 use Rattle.guard_model.specs.SameType.{same_base}
 use Rattle.guard_tagcheck.specs.Distinct.{component_type}
 use Rattle.guard_der.specs.Der.{der}
-use Rattle.guard_der.specs.Fits.{fits_128_bits}
+use Rattle.guard_model.specs.Limits.{fits_128_bits}
 use Rattle.guard_der.specs.ProperConstraints.{is_short}
 use Rattle.guard_der.specs.Reading.{all_absent, is_filled, fill, field_before}
 use Rattle.guard_syntax.specs.declared.tree.StringKind.{StringKind}
@@ -25,14 +25,16 @@ use Rattle.guard_values.specs.declared.fault.ValueFault.{ValueFault}
 use Rattle.guard_values.specs.declared.fault.ValueFault.TheVariants.{WrongNotation, UnknownName, MissingComponent, RepeatedComponent, OutOfOrder, BadCharacter, BadObjectId, TooLarge}
 use Rattle.guard_values.specs.Numbers.{number_of}
 use Rattle.guard_values.specs.ObjectIdentifiers.{arc_numbers, too_large_arc, are_arcs}
-use Rattle.guard_values.specs.Meanings.{Governed, Meaning, own_number, kind_of}
-use Rattle.guard_values.specs.Simple.{boolean_value, null_value, text_value}
+use Rattle.guard_values.specs.Meanings.{Governed, Meaning, own_number}
+use Rattle.guard_model.specs.Kinds.{kind_of}
+use Rattle.guard_values.specs.NamedBits.{name_alone, named_bit, ones_at}
+use Rattle.guard_values.specs.Simple.{bits_value, boolean_value, null_value, text_value}
 use Rattle.guard_values.specs.Places.{Located, located, entry_place, entry_places, is_among}
 use Rattle.guard_values.specs.Arrangement.{arranged}
 use Rattle.guard_values.specs.Denotes.{alternatives_of, are_few}
 use Rattle.guard_values.specs.Faults.{entry_type, Somewhere, InEntry, takes, are_too_few_arcs, may_be_left_out, misses, is_below_some, entry_count, HasLongEncoding}
-use Rattle.guard_values.specs.FirstFault.{unless, fault_of_name, fault_of_arcs, fault_of_place, fault_behind, fault_of_count, fault_of_list, fault_there, fault_of, fault_of_entries, fault_of_elements}
-use Rattle.guard_values.specs.Reading.{Read, answered, read_integer, read_text, limited_arcs, read_arcs, read_named, placed, entry_at, settled, completed, few, read_chosen, read_fields, read_set_of, read_braces, perhaps_limited, site_of, element_at, read, read_form, read_entries, read_elements}
+use Rattle.guard_values.specs.FirstFault.{unless, fault_of_name, fault_of_arcs, fault_of_place, fault_behind, fault_of_bit, fault_of_bits, fault_of_count, fault_of_list, fault_there, fault_of, fault_of_entries, fault_of_elements}
+use Rattle.guard_values.specs.Reading.{Read, answered, read_bit, read_places, read_integer, read_text, limited_arcs, read_arcs, read_named, placed, entry_at, settled, completed, few, read_chosen, read_fields, read_set_of, read_braces, perhaps_limited, site_of, element_at, read, read_form, read_entries, read_elements}
 use Rattle.guard_values.proofs.AgainFields.{field_at, HasFields, has_absent, has_filled, none_filled, filled_there, unfilled_elsewhere, located_type}
 use Rattle.guard_values.proofs.Said.{read_said, entry_ok}
 
@@ -88,8 +90,8 @@ module _ (Long : Type 0) where
     text_tells : (kind : AbstractKind) (k : StringKind) (spelling : List ℕ)
         → Tells Long (option_or (unless (takes kind (written.text k spelling)) (WrongNotation site)) (unless (is_some (text_value kind k spelling)) (BadCharacter site))) (read_text site kind k spelling)
     text_tells (type.characters c) string.Characters spelling = some_tells (BadCharacter site) (text_value (type.characters c) string.Characters spelling)
-    text_tells type.bit_string string.Bits spelling = refl
-    text_tells type.bit_string string.Hexadecimal spelling = refl
+    text_tells (type.bit_string names) string.Bits spelling = refl
+    text_tells (type.bit_string names) string.Hexadecimal spelling = refl
     text_tells type.octet_string string.Bits spelling = refl
     text_tells type.octet_string string.Hexadecimal spelling = refl
     text_tells kind string.Characters spelling = inl refl
@@ -126,6 +128,19 @@ module _ (Long : Type 0) where
           (option_or (unless (is_some (located name (alternatives_of kind))) (UnknownName site)) (fault_there find (located name (alternatives_of kind))))) (read_chosen site kind name value_read)
       chosen_tells (type.choice cs) name tree inside = found_tells (located name cs) inside
       chosen_tells kind name tree inside = inl refl
+
+-- ---- named bits
+
+module _ (Long : Type 0) (names : List NamedNumber) where
+  bit_tells : (site : Site) (name : Option (List ℕ)) → Tells Long (fault_of_bit names site name) (read_bit names site name)
+  bit_tells site None = inl refl
+  bit_tells site (Some name) = some_tells Long (UnknownName site) (named_bit names name)
+
+  bits_tell : (es : WrittenEntries) → Tells Long (fault_of_bits names es) (read_places names es)
+  bits_tell no_entries = refl
+  bits_tell (entry site label tree rest) =
+      tells_then Long (fault_of_bit names site (name_alone label tree)) (fault_of_bits names rest) (read_bit names site (name_alone label tree)) (λ place. read_places names rest >>= λ places. Ok (place ∷ places))
+      (bit_tells site (name_alone label tree)) (λ place is. tells_made Long (fault_of_bits names rest) (read_places names rest) (λ places. place ∷ places) (bits_tell rest))
 
 -- ---- entries for components
 
@@ -358,6 +373,8 @@ module _ (m : Meaning) (sorted : Bool) (site : Site) (es : WrittenEntries) (Long
     braces_tell (type.sequence_of u) wider = items_tell (type.sequence_of u) wider false u (λ ws. value.items (items_of ws)) (elements (type.sequence_of u) false u (λ e. absurd cc) refl)
     braces_tell (type.set_of u) wider = set_of_tells u wider sorted refl
     braces_tell type.object_identifier wider = arcs_or_form (are_too_few_arcs es)
+    braces_tell (type.bit_string []) wider = inl refl
+    braces_tell (type.bit_string (name ∷ names)) wider = tells_made Long (fault_of_bits (name ∷ names) es) (read_places (name ∷ names) es) (λ places. bits_value (ones_at places)) (bits_tell Long (name ∷ names) es)
     braces_tell kind wider = inl refl
 
 -- ---- all trees

@@ -10,9 +10,9 @@ use Rattle.guard_model.specs.AbstractValue.{AbstractValue}
 use Rattle.guard_model.specs.ValueView.{value_view}
 use Rattle.guard_model.specs.declared.value.Value.{Value}
 use Rattle.guard_tagcheck.specs.Limits.{nesting}
-use Rattle.guard_tagcheck.specs.Search.{first_clash}
 use Rattle.guard_der.specs.Fits.{fits}
-use Rattle.guard_der.specs.Sound.{is_sound, is_proper, none_clash}
+use Rattle.guard_der.specs.Sound.{is_sound, is_proper, has_distinct_tags}
+use Rattle.guard_model.specs.Limits.{deepest_nesting}
 use Rattle.guard_syntax.specs.Trees.{WrittenValue, WrittenEntry}
 use Rattle.guard_values.specs.declared.fault.ValueFault.{ValueFault}
 use Rattle.guard_values.specs.Meanings.{Meaning, AreFitting}
@@ -26,7 +26,7 @@ use Rattle.guard_values.proofs.FitsSaid.{says_fits}
 use Rattle.guard_values.proofs.Standing.{whole_first, whole_stands, sorted_ok, whole_denotes, whole_denotes_none}
 
 pub sound_proper : (t : AbstractType) → is_sound t ≡ true → is_proper t ≡ true
-sound_proper t sound = (and_parts (is_proper t) (none_clash (first_clash t)) (and_parts (is_proper t && none_clash (first_clash t)) (nat_le (nesting t) 32) sound).0).0
+sound_proper t sound = (and_parts (is_proper t) (has_distinct_tags t) (and_parts (is_proper t && has_distinct_tags t) (nat_le (nesting t) deepest_nesting) sound).0).0
 
 -- ---- what is read fits
 

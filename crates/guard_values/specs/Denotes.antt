@@ -8,8 +8,10 @@ use Rattle.guard_der.specs.Der.{der}
 use Rattle.guard_der.specs.ProperConstraints.{is_short}
 use Rattle.guard_syntax.specs.Trees as written
 use Rattle.guard_syntax.specs.Trees.{WrittenValue, WrittenValueForm, WrittenEntries, value_node, no_entries, entry}
-use Rattle.guard_values.specs.Meanings.{Meaning, kind_of}
-use Rattle.guard_values.specs.Simple.{boolean_value, null_value, integer_value, text_value, arcs_value, reference_value}
+use Rattle.guard_values.specs.Meanings.{Meaning}
+use Rattle.guard_model.specs.Kinds.{kind_of}
+use Rattle.guard_values.specs.NamedBits.{places_named, ones_at}
+use Rattle.guard_values.specs.Simple.{bits_value, boolean_value, null_value, integer_value, text_value, arcs_value, reference_value}
 use Rattle.guard_values.specs.Places.{Located, located, entry_place, entry_places, are_in_order, are_different, FieldsDenote}
 use Rattle.guard_values.specs.Arrangement.{arranged, are_short}
 
@@ -42,7 +44,18 @@ BracesDenote (type.sequence_of t) es ForPlace Listed v =
 -- clause 28: in any order; a value has them as their encodings ascend
 BracesDenote (type.set_of t) es ForPlace Listed v =
     (ws : List AbstractValue) × Listed t ws × IsTrue (are_few ws) × IsTrue (are_short t ws) × (v ≡ value.items (items_of (arranged t ws)))
-BracesDenote _ es ForPlace Listed v = ⊥
+-- 22.6: ones at the bits that are named; braces aren't taken where no bit is
+BracesDenote (type.bit_string (name ∷ names)) es ForPlace Listed v =
+    (places : List ℕ) × (places_named (name ∷ names) es ≡ Some places) × (v ≡ bits_value (ones_at places))
+BracesDenote (type.bit_string []) es ForPlace Listed v = ⊥
+BracesDenote type.boolean es ForPlace Listed v = ⊥
+BracesDenote (type.integer ns) es ForPlace Listed v = ⊥
+BracesDenote type.octet_string es ForPlace Listed v = ⊥
+BracesDenote type.null es ForPlace Listed v = ⊥
+BracesDenote type.object_identifier es ForPlace Listed v = ⊥
+BracesDenote (type.enumerated items) es ForPlace Listed v = ⊥
+BracesDenote (type.characters k) es ForPlace Listed v = ⊥
+BracesDenote (type.choice cs) es ForPlace Listed v = ⊥
 
 abbrev mutual
   -- limits on encodings of the whole aside

@@ -1,9 +1,9 @@
 -- Why a written value denotes nothing: for each fault, the condition that stands at its site.
-use Rattle.std.specs.Prelude.{◌≡◌, ℕ, suc, ℤ, Bool, true, false, ◌&&◌, ◌||◌, not, List, [], ◌∷◌, nat_lt, nat_le, Option, Some, None, IsTrue, ◌⊎◌}
-use Rattle.std.specs.Option.{option_map}
+use Rattle.std.specs.Prelude.{◌≡◌, ℕ, suc, ℤ, Bool, true, false, ◌&&◌, ◌||◌, not, List, [], ◌∷◌, nat_lt, nat_le, Option, Some, None, is_some, IsTrue, ◌⊎◌}
+use Rattle.std.specs.Option.{option_map, is_none}
 use Rattle.guard_model.specs.declared.site.Site.{Site}
 use Rattle.guard_model.specs.AbstractType as type
-use Rattle.guard_model.specs.AbstractType.{AbstractType, AbstractKind, AbstractPresence, Components, no_components, component}
+use Rattle.guard_model.specs.AbstractType.{AbstractType, AbstractKind, AbstractPresence, Components, NamedNumber, no_components, component}
 use Rattle.guard_model.specs.AbstractValue.{AbstractValue}
 use Rattle.guard_der.specs.Der.{der}
 use Rattle.guard_der.specs.ProperConstraints.{is_short}
@@ -13,7 +13,9 @@ use Rattle.guard_syntax.specs.Trees.{WrittenValue, WrittenValueForm, WrittenEntr
 use Rattle.guard_values.specs.declared.fault.ValueFault.{ValueFault}
 use Rattle.guard_values.specs.declared.fault.ValueFault.TheVariants as fault
 use Rattle.guard_values.specs.ObjectIdentifiers.{arc_numbers, too_large_arc, are_arcs}
-use Rattle.guard_values.specs.Meanings.{Governed, Meaning, own_number, kind_of}
+use Rattle.guard_values.specs.Meanings.{Governed, Meaning, own_number}
+use Rattle.guard_model.specs.Kinds.{kind_of, is_integer, is_string}
+use Rattle.guard_values.specs.NamedBits.{name_alone, named_bit}
 use Rattle.guard_values.specs.Simple.{integer_value, text_value, numbered_value, visible_value}
 use Rattle.guard_values.specs.Places.{located, entry_place, entry_places, is_among}
 use Rattle.guard_values.specs.Denotes.{alternatives_of, Says}
@@ -56,17 +58,27 @@ are_too_few_arcs _ = false
 
 -- strings of digits for BIT STRING and OCTET STRING (clauses 22 and 23), those in double quotes for character strings (clause 41)
 abbrev pub takes_string : AbstractKind → Bool → Bool
-takes_string type.bit_string in_digits = in_digits
+takes_string (type.bit_string names) in_digits = in_digits
 takes_string type.octet_string in_digits = in_digits
 takes_string (type.characters k) in_digits = not in_digits
 takes_string _ in_digits = false
 
-abbrev pub is_collection : AbstractKind → Bool
-is_collection (type.sequence cs) = true
-is_collection (type.set cs) = true
-is_collection (type.sequence_of t) = true
-is_collection (type.set_of t) = true
-is_collection _ = false
+-- Braces for components, elements and named bits; those of an object identifier have too few arcs to be one.
+abbrev pub takes_braces : AbstractKind → WrittenEntries → Bool
+takes_braces type.boolean es = false
+takes_braces (type.integer ns) es = false
+takes_braces (type.bit_string []) es = false
+takes_braces (type.bit_string (name ∷ names)) es = true
+takes_braces type.octet_string es = false
+takes_braces type.null es = false
+takes_braces type.object_identifier es = are_too_few_arcs es
+takes_braces (type.enumerated items) es = false
+takes_braces (type.characters k) es = false
+takes_braces (type.sequence cs) es = true
+takes_braces (type.set cs) es = true
+takes_braces (type.choice cs) es = false
+takes_braces (type.sequence_of t) es = true
+takes_braces (type.set_of t) es = true
 
 -- The forms of notation that a kind has, references aside.
 abbrev pub takes : AbstractKind → WrittenValueForm → Bool
@@ -76,25 +88,33 @@ takes type.null written.null = true
 takes (type.integer ns) (written.integer n) = true
 takes (type.choice cs) (written.chosen name tree) = true
 takes type.object_identifier (written.arcs arcs) = true
-takes type.object_identifier (written.list es) = are_too_few_arcs es
 takes kind (written.text string.Characters spelling) = takes_string kind false
 takes kind (written.text string.Bits spelling) = takes_string kind true
 takes kind (written.text string.Hexadecimal spelling) = takes_string kind true
-takes kind (written.list es) = is_collection kind
+takes kind (written.list es) = takes_braces kind es
 takes _ _ = false
 
--- An entry for a component has a name (clause 25), one of an OF type none (clauses 26 and 28).
-abbrev pub may_stand : AbstractKind → Option (List ℕ) → Bool
-may_stand (type.sequence cs) None = false
-may_stand (type.set cs) None = false
-may_stand (type.sequence_of t) (Some name) = false
-may_stand (type.set_of t) (Some name) = false
-may_stand _ _ = true
+-- An entry for a component has a name before its value (clause 25), one of an OF type none (clauses 26 and 28), and one for a bit is a name alone (22.5).
+abbrev pub may_stand : AbstractKind → Option (List ℕ) → WrittenValue → Bool
+may_stand (type.sequence cs) label tree = is_some label
+may_stand (type.set cs) label tree = is_some label
+may_stand (type.sequence_of t) label tree = is_none label
+may_stand (type.set_of t) label tree = is_none label
+may_stand (type.bit_string []) label tree = true
+may_stand (type.bit_string (name ∷ names)) label tree = is_some (name_alone label tree)
+may_stand type.boolean label tree = true
+may_stand (type.integer ns) label tree = true
+may_stand type.octet_string label tree = true
+may_stand type.null label tree = true
+may_stand type.object_identifier label tree = true
+may_stand (type.enumerated items) label tree = true
+may_stand (type.characters k) label tree = true
+may_stand (type.choice cs) label tree = true
 
 -- an entry at the site that may not stand there
 abbrev pub HasWrongEntry : AbstractKind → WrittenEntries → Site → Type 0
 HasWrongEntry kind no_entries s = ⊥
-HasWrongEntry kind (entry site name tree rest) s = ((s ≡ site) × (may_stand kind name ≡ false)) ⊎ HasWrongEntry kind rest s
+HasWrongEntry kind (entry site name tree rest) s = ((s ≡ site) × (may_stand kind name tree ≡ false)) ⊎ HasWrongEntry kind rest s
 
 -- a visible value whose type has another base
 abbrev pub HasOtherBase : Meaning → AbstractType → List ℕ → Type 0
@@ -121,11 +141,33 @@ HasUnknownEntry cs no_entries s = ⊥
 HasUnknownEntry cs (entry site None tree rest) s = HasUnknownEntry cs rest s
 HasUnknownEntry cs (entry site (Some name) tree rest) s = ((s ≡ site) × (located name cs ≡ None)) ⊎ HasUnknownEntry cs rest s
 
--- V2, at the name: it is neither in the type's own list nor visible, or no alternative, or no component
+abbrev pub HasUnknownBit : List NamedNumber → WrittenEntries → Site → Type 0
+HasUnknownBit names no_entries s = ⊥
+HasUnknownBit names (entry site label tree rest) s =
+    ((s ≡ site) × ((name : List ℕ) × (name_alone label tree ≡ Some name) × (named_bit names name ≡ None))) ⊎ HasUnknownBit names rest s
+
+-- in braces: no component, or no named bit
+abbrev pub HasUnknownName : AbstractKind → WrittenEntries → Site → Type 0
+HasUnknownName (type.sequence cs) es s = HasUnknownEntry cs es s
+HasUnknownName (type.set cs) es s = HasUnknownEntry cs es s
+HasUnknownName (type.bit_string []) es s = ⊥
+HasUnknownName (type.bit_string (name ∷ names)) es s = HasUnknownBit (name ∷ names) es s
+HasUnknownName type.boolean es s = ⊥
+HasUnknownName (type.integer ns) es s = ⊥
+HasUnknownName type.octet_string es s = ⊥
+HasUnknownName type.null es s = ⊥
+HasUnknownName type.object_identifier es s = ⊥
+HasUnknownName (type.enumerated items) es s = ⊥
+HasUnknownName (type.characters k) es s = ⊥
+HasUnknownName (type.choice cs) es s = ⊥
+HasUnknownName (type.sequence_of t) es s = ⊥
+HasUnknownName (type.set_of t) es s = ⊥
+
+-- V2, at the name: it is neither in the type's own list nor visible, or no alternative, no component or no bit
 abbrev pub IsUnknownName : Meaning → Site → AbstractType → WrittenValue → Type 0
 IsUnknownName m s t (value_node site (written.reference name)) = (s ≡ site) × (own_number (kind_of t) name ≡ None) × (m name ≡ None)
 IsUnknownName m s t (value_node site (written.chosen name tree)) = (s ≡ site) × ((cs : Components) × (kind_of t ≡ type.choice cs) × (located name cs ≡ None))
-IsUnknownName m s t (value_node site (written.list es)) = (cs : Components) × (has_components (kind_of t) ≡ Some cs) × HasUnknownEntry cs es s
+IsUnknownName m s t (value_node site (written.list es)) = HasUnknownName (kind_of t) es s
 IsUnknownName m s t _ = ⊥
 
 -- ---- V3, V4 and V5: components
@@ -178,14 +220,10 @@ IsOutOfOrder s t _ = ⊥
 
 -- ---- V6 and V7
 
-abbrev pub is_of_characters : AbstractKind → Bool
-is_of_characters (type.characters k) = true
-is_of_characters _ = false
-
 -- V6, at the string: a character outside the alphabet (clause 41)
 abbrev pub IsBadCharacter : Site → AbstractType → WrittenValue → Type 0
 IsBadCharacter s t (value_node site (written.text string.Characters spelling)) =
-    (s ≡ site) × IsTrue (is_of_characters (kind_of t)) × (text_value (kind_of t) string.Characters spelling ≡ None)
+    (s ≡ site) × IsTrue (is_string (kind_of t)) × (text_value (kind_of t) string.Characters spelling ≡ None)
 IsBadCharacter s t _ = ⊥
 
 -- V7, at the brace: fewer than two arcs, or two that no object identifier begins with
@@ -195,10 +233,6 @@ IsBadObjectId s t (value_node site (written.list es)) = (s ≡ site) × (kind_of
 IsBadObjectId s t _ = ⊥
 
 -- ---- V8
-
-abbrev pub is_integer : AbstractKind → Bool
-is_integer (type.integer ns) = true
-is_integer _ = false
 
 abbrev pub entry_count : WrittenEntries → ℕ
 entry_count no_entries = 0

@@ -4,16 +4,18 @@ use Rattle.std.specs.Prelude.{◌≡◌, ℕ, ℤ, Bool, true, false, not, ◌&&
 use Rattle.std.specs.Option.{option_map, option_or}
 use Rattle.guard_model.specs.declared.site.Site.{Site}
 use Rattle.guard_model.specs.AbstractType as type
-use Rattle.guard_model.specs.AbstractType.{AbstractType, AbstractKind, Components}
+use Rattle.guard_model.specs.AbstractType.{AbstractType, AbstractKind, Components, NamedNumber}
 use Rattle.guard_model.specs.SameType.{same_base}
-use Rattle.guard_der.specs.Fits.{fits_128_bits}
+use Rattle.guard_model.specs.Limits.{fits_128_bits}
 use Rattle.guard_syntax.specs.Trees as written
 use Rattle.guard_syntax.specs.Trees.{WrittenArc, WrittenValue, WrittenValueForm, WrittenEntries, value_node, no_entries, entry}
 use Rattle.guard_values.specs.declared.fault.ValueFault.{ValueFault}
 use Rattle.guard_values.specs.declared.fault.ValueFault.TheVariants.{WrongNotation, UnknownName, MissingComponent, RepeatedComponent, OutOfOrder, BadCharacter, BadObjectId, TooLarge}
 use Rattle.guard_values.specs.Numbers.{number_of}
 use Rattle.guard_values.specs.ObjectIdentifiers.{arc_numbers, too_large_arc, are_arcs}
-use Rattle.guard_values.specs.Meanings.{Governed, Meaning, own_number, kind_of}
+use Rattle.guard_values.specs.Meanings.{Governed, Meaning, own_number}
+use Rattle.guard_model.specs.Kinds.{kind_of}
+use Rattle.guard_values.specs.NamedBits.{name_alone, named_bit}
 use Rattle.guard_values.specs.Simple.{text_value}
 use Rattle.guard_values.specs.Places.{Located, located, entry_place, entry_places, is_among}
 use Rattle.guard_values.specs.Denotes.{alternatives_of}
@@ -60,13 +62,30 @@ fault_behind site cs es = unless (not (misses (entry_places cs es) 0 cs)) (Missi
 abbrev pub fault_of_count : Site → WrittenEntries → Option ValueFault
 fault_of_count site es = unless (are_few_entries es) (TooLarge site)
 
--- in braces, given the faults in entries for components and in elements
+-- a bit's entry: no name alone, or no bit's name
+abbrev pub fault_of_bit : List NamedNumber → Site → Option (List ℕ) → Option ValueFault
+fault_of_bit names site None = Some (WrongNotation site)
+fault_of_bit names site (Some name) = unless (is_some (named_bit names name)) (UnknownName site)
+
+abbrev pub fault_of_bits : List NamedNumber → WrittenEntries → Option ValueFault
+fault_of_bits names no_entries = None
+fault_of_bits names (entry site label tree rest) = option_or (fault_of_bit names site (name_alone label tree)) (fault_of_bits names rest)
+
+-- in braces that the kind takes, given the faults in entries for components and in elements
 abbrev pub fault_of_list : Site → AbstractKind → WrittenEntries → (Bool → Components → Option ValueFault) → (AbstractType → Option ValueFault) → Option ValueFault
 fault_of_list site (type.sequence cs) es in_entries in_elements = option_or (in_entries true cs) (fault_behind site cs es)
 fault_of_list site (type.set cs) es in_entries in_elements = option_or (in_entries false cs) (fault_behind site cs es)
 fault_of_list site (type.sequence_of t) es in_entries in_elements = option_or (in_elements t) (fault_of_count site es)
 fault_of_list site (type.set_of t) es in_entries in_elements = option_or (in_elements t) (fault_of_count site es)
-fault_of_list site _ es in_entries in_elements = Some (BadObjectId site)
+fault_of_list site (type.bit_string names) es in_entries in_elements = fault_of_bits names es
+fault_of_list site type.object_identifier es in_entries in_elements = Some (BadObjectId site)
+fault_of_list site type.boolean es in_entries in_elements = None
+fault_of_list site (type.integer ns) es in_entries in_elements = None
+fault_of_list site type.octet_string es in_entries in_elements = None
+fault_of_list site type.null es in_entries in_elements = None
+fault_of_list site (type.enumerated items) es in_entries in_elements = None
+fault_of_list site (type.characters k) es in_entries in_elements = None
+fault_of_list site (type.choice cs) es in_entries in_elements = None
 
 -- ---- all forms
 

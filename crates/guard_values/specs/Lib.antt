@@ -3,6 +3,7 @@ pub mod Numbers
 pub mod Strings
 pub mod ObjectIdentifiers
 pub mod Meanings
+pub mod NamedBits
 pub mod Simple
 -- ---- values in braces
 pub mod Places

@@ -1,7 +1,7 @@
 -- What lower-case names say: names of the type's own list, and visible names.
 use Rattle.std.specs.Prelude.{ℕ, ℤ, List, [], ◌∷◌, Option, Some, None, if◌then◌else◌, bytes_eq, IsTrue, IfSome}
 use Rattle.guard_model.specs.AbstractType as type
-use Rattle.guard_model.specs.AbstractType.{AbstractType, AbstractKind, NamedNumber, type_of}
+use Rattle.guard_model.specs.AbstractType.{AbstractType, AbstractKind, NamedNumber}
 use Rattle.guard_model.specs.AbstractValue as value
 use Rattle.guard_model.specs.AbstractValue.{AbstractValue}
 use Rattle.guard_der.specs.Fits.{fits}
@@ -13,11 +13,21 @@ abbrev pub number_named : List ℕ → List NamedNumber → Option ℤ
 number_named name [] = None
 number_named name (n ∷ ns) = if bytes_eq name n.name then Some n.number else number_named name ns
 
--- A named number of an INTEGER (X.680 clause 19), or an item of an ENUMERATED (clause 20). Other kinds have no list.
+-- A named number of an INTEGER (X.680 clause 19), or an item of an ENUMERATED (clause 20). Other kinds have none: a named bit stands in braces alone (22.5).
 abbrev pub own_number : AbstractKind → List ℕ → Option ℤ
 own_number (type.integer ns) name = number_named name ns
 own_number (type.enumerated ns) name = number_named name ns
-own_number _ name = None
+own_number type.boolean name = None
+own_number (type.bit_string ns) name = None
+own_number type.octet_string name = None
+own_number type.null name = None
+own_number type.object_identifier name = None
+own_number (type.characters k) name = None
+own_number (type.sequence cs) name = None
+own_number (type.set cs) name = None
+own_number (type.choice cs) name = None
+own_number (type.sequence_of t) name = None
+own_number (type.set_of t) name = None
 
 abbrev pub value_of_number : AbstractKind → ℤ → AbstractValue
 value_of_number (type.enumerated ns) z = value.enumerated z
@@ -37,6 +47,3 @@ Meaning = List ℕ → Option Governed
 -- each is a value of its type
 abbrev pub AreFitting : Meaning → Type 0
 AreFitting meaning = (name : List ℕ) → IfSome (meaning name) (λ g. IsTrue (fits g.ty g.value))
-
-abbrev pub kind_of : AbstractType → AbstractKind
-kind_of (type_of tags kind cons) = kind

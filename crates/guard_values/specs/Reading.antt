@@ -3,7 +3,7 @@ use Rattle.std.specs.Prelude.{ℕ, suc, ℤ, Bool, true, false, ◌&&◌, List, 
 use Rattle.guard_model.specs.Answer.{◌>>=◌}
 use Rattle.guard_model.specs.declared.site.Site.{Site}
 use Rattle.guard_model.specs.AbstractType as type
-use Rattle.guard_model.specs.AbstractType.{AbstractType, AbstractKind, AbstractPresence, Components, component}
+use Rattle.guard_model.specs.AbstractType.{AbstractType, AbstractKind, AbstractPresence, Components, NamedNumber, component}
 use Rattle.guard_model.specs.AbstractValue as value
 use Rattle.guard_model.specs.AbstractValue.{AbstractValue, Fields, items_of}
 use Rattle.guard_der.specs.Der.{der}
@@ -12,12 +12,14 @@ use Rattle.guard_der.specs.Reading.{all_absent, is_filled, fill, field_before}
 use Rattle.guard_syntax.specs.declared.tree.StringKind.{StringKind}
 use Rattle.guard_syntax.specs.declared.tree.StringKind.TheVariants as string
 use Rattle.guard_syntax.specs.Trees as written
-use Rattle.guard_syntax.specs.Trees.{WrittenNumber, WrittenArc, WrittenValue, WrittenValueForm, WrittenEntries, value_node, no_entries, entry}
+use Rattle.guard_syntax.specs.Trees.{WrittenNumber, WrittenArc, WrittenEntry, WrittenValue, WrittenValueForm, WrittenEntries, value_node, no_entries, entry}
 use Rattle.guard_values.specs.declared.fault.ValueFault.{ValueFault}
 use Rattle.guard_values.specs.declared.fault.ValueFault.TheVariants.{WrongNotation, UnknownName, MissingComponent, RepeatedComponent, OutOfOrder, BadCharacter, BadObjectId, TooLarge}
 use Rattle.guard_values.specs.ObjectIdentifiers.{arc_number, arc_numbers, is_large, too_large_arc, are_arcs}
-use Rattle.guard_values.specs.Meanings.{Governed, Meaning, own_number, kind_of}
-use Rattle.guard_values.specs.Simple.{boolean_value, null_value, integer_value, text_value, numbered_value, visible_value}
+use Rattle.guard_values.specs.Meanings.{Governed, Meaning, own_number}
+use Rattle.guard_model.specs.Kinds.{kind_of}
+use Rattle.guard_values.specs.NamedBits.{name_alone, named_bit, ones_at}
+use Rattle.guard_values.specs.Simple.{bits_value, boolean_value, null_value, integer_value, text_value, numbered_value, visible_value}
 use Rattle.guard_values.specs.Places.{Located, located}
 use Rattle.guard_values.specs.Arrangement.{arranged}
 use Rattle.guard_values.specs.Denotes.{are_few}
@@ -70,6 +72,24 @@ read_named site t None visible = read_visible site t visible
 
 abbrev pub read_reference : Meaning → AbstractType → Site → List ℕ → Read AbstractValue
 read_reference m t site name = read_named site t (own_number (kind_of t) name) (m name)
+
+-- ---- named bits
+
+-- the bit that an entry names
+abbrev pub read_bit : List NamedNumber → Site → Option (List ℕ) → Read ℕ
+read_bit names site None = Err (WrongNotation site)
+read_bit names site (Some name) = answered (UnknownName site) (named_bit names name)
+
+abbrev pub read_place : List NamedNumber → WrittenEntry → Read ℕ
+read_place names e = read_bit names e.site (name_alone e.name e.value)
+
+abbrev pub read_places : List NamedNumber → WrittenEntries → Read (List ℕ)
+read_places names no_entries = Ok []
+read_places names (entry site label tree rest) = read_bit names site (name_alone label tree) >>= λ place. read_places names rest >>= λ places. Ok (place ∷ places)
+
+abbrev pub read_named_bits : Site → List NamedNumber → WrittenEntries → Read AbstractValue
+read_named_bits site [] es = Err (WrongNotation site)
+read_named_bits site (name ∷ names) es = read_places (name ∷ names) es >>= λ places. Ok (bits_value (ones_at places))
 
 -- ---- components
 
@@ -139,7 +159,14 @@ read_braces sorted site (type.set cs) es entries elements = read_fields site cs 
 read_braces sorted site (type.sequence_of t) es entries elements = elements false t >>= λ vs. listed site vs
 read_braces sorted site (type.set_of t) es entries elements = read_set_of sorted site t elements
 read_braces sorted site type.object_identifier es entries elements = if are_too_few_arcs es then Err (BadObjectId site) else Err (WrongNotation site)
-read_braces sorted site _ es entries elements = Err (WrongNotation site)
+read_braces sorted site (type.bit_string names) es entries elements = read_named_bits site names es
+read_braces sorted site type.boolean es entries elements = Err (WrongNotation site)
+read_braces sorted site (type.integer ns) es entries elements = Err (WrongNotation site)
+read_braces sorted site type.octet_string es entries elements = Err (WrongNotation site)
+read_braces sorted site type.null es entries elements = Err (WrongNotation site)
+read_braces sorted site (type.enumerated items) es entries elements = Err (WrongNotation site)
+read_braces sorted site (type.characters k) es entries elements = Err (WrongNotation site)
+read_braces sorted site (type.choice cs) es entries elements = Err (WrongNotation site)
 
 abbrev pub perhaps_limited : Bool → Site → AbstractType → AbstractValue → Read AbstractValue
 perhaps_limited true site t v = limited site t v

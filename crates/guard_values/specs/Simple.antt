@@ -1,5 +1,5 @@
 -- Which value a form of the notation says under a type, where no value stands inside it.
-use Rattle.std.specs.Prelude.{ℕ, ◌-◌, ◌*◌, ◌%◌, ℤ, Bool, ◌&&◌, List, length, Option, Some, None, if◌then◌else◌, chars}
+use Rattle.std.specs.Prelude.{ℕ, ◌-◌, ◌%◌, ℤ, Bool, ◌&&◌, List, length, Option, Some, None, if◌then◌else◌, chars}
 use Rattle.std.specs.Str.{is_utf8}
 use Rattle.guard_model.specs.declared.site.Site.{Site}
 use Rattle.guard_model.specs.declared.ty.CharKind.{CharKind}
@@ -8,14 +8,17 @@ use Rattle.guard_model.specs.AbstractType.{AbstractType, AbstractKind}
 use Rattle.guard_model.specs.AbstractValue as value
 use Rattle.guard_model.specs.AbstractValue.{AbstractValue}
 use Rattle.guard_model.specs.SameType.{same_base}
-use Rattle.guard_der.specs.Fits.{fits_128_bits, fits_characters}
+use Rattle.guard_model.specs.Alphabets.{fits_characters}
+use Rattle.guard_model.specs.Limits.{fits_128_bits}
 use Rattle.guard_syntax.specs.declared.tree.StringKind.{StringKind}
 use Rattle.guard_syntax.specs.declared.tree.StringKind.TheVariants as string
 use Rattle.guard_syntax.specs.Trees.{WrittenNumber, WrittenArc}
 use Rattle.guard_values.specs.Numbers.{number_of}
-use Rattle.guard_values.specs.Strings.{binary_digits, hexadecimal_digits, octets_of_bits, octets_of_hexadecimal, quoted}
+use Rattle.guard_values.specs.Strings.{binary_digits, hexadecimal_bits, octets_of_bits, quoted}
+use Rattle.guard_values.specs.NamedBits.{bits_kept}
 use Rattle.guard_values.specs.ObjectIdentifiers.{arc_numbers, too_large_arc, are_arcs}
-use Rattle.guard_values.specs.Meanings.{Governed, Meaning, own_number, value_of_number, kind_of}
+use Rattle.guard_values.specs.Meanings.{Governed, Meaning, own_number, value_of_number}
+use Rattle.guard_model.specs.Kinds.{kind_of}
 
 -- TRUE and FALSE for BOOLEAN (clause 18)
 abbrev pub boolean_value : AbstractKind → Bool → Option AbstractValue
@@ -34,12 +37,9 @@ integer_value _ n = None
 
 -- ---- strings
 
--- The bits of a string of bits, and four bits for each hexadecimal digit (clause 22). Unused are those that the last octet has besides.
+-- these bits (clause 22); unused are those that the last octet has besides
 abbrev pub bits_value : List ℕ → AbstractValue
 bits_value bits = value.bit_string (octets_of_bits bits) ((8 - length bits % 8) % 8)
-
-abbrev pub hexadecimal_bits_value : List ℕ → AbstractValue
-hexadecimal_bits_value digits = value.bit_string (octets_of_hexadecimal digits) (4 * (length digits % 2))
 
 -- what is quoted, where all its characters are of the alphabet (clause 41)
 abbrev pub characters_value : CharKind → List ℕ → Option AbstractValue
@@ -47,10 +47,10 @@ characters_value k octets = if is_utf8 octets && fits_characters k (chars octets
 
 -- strings of digits for BIT STRING (clause 22) and OCTET STRING (clause 23), those in double quotes for character strings
 abbrev pub text_value : AbstractKind → StringKind → List ℕ → Option AbstractValue
-text_value type.bit_string string.Bits spelling = Some (bits_value (binary_digits spelling))
-text_value type.bit_string string.Hexadecimal spelling = Some (hexadecimal_bits_value (hexadecimal_digits spelling))
+text_value (type.bit_string names) string.Bits spelling = Some (bits_value (bits_kept names (binary_digits spelling)))
+text_value (type.bit_string names) string.Hexadecimal spelling = Some (bits_value (bits_kept names (hexadecimal_bits spelling)))
 text_value type.octet_string string.Bits spelling = Some (value.octet_string (octets_of_bits (binary_digits spelling)))
-text_value type.octet_string string.Hexadecimal spelling = Some (value.octet_string (octets_of_hexadecimal (hexadecimal_digits spelling)))
+text_value type.octet_string string.Hexadecimal spelling = Some (value.octet_string (octets_of_bits (hexadecimal_bits spelling)))
 text_value (type.characters k) string.Characters spelling = characters_value k (quoted spelling)
 text_value _ _ spelling = None
 

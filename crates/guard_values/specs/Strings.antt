@@ -1,5 +1,5 @@
 -- What strings say: those of bits and of hexadecimal digits (X.680 clauses 22 and 23), and those in double quotes (clause 41).
-use Rattle.std.specs.Prelude.{ℕ, zero, suc, ◌+◌, ◌-◌, ◌*◌, ◌^◌, Bool, ◌||◌, ◌&&◌, ◌==◌, List, [], ◌∷◌, map, filter, length, drop, nat_le, if◌then◌else◌}
+use Rattle.std.specs.Prelude.{ℕ, zero, suc, ◌+◌, ◌-◌, ◌*◌, ◌/◌, ◌%◌, ◌^◌, Bool, ◌||◌, ◌&&◌, ◌==◌, List, [], ◌∷◌, ◌++◌, map, filter, length, drop, nat_le, if◌then◌else◌}
 use Rattle.guard_lexer.specs.Octets.{is_digit, is_quote}
 
 -- ---- strings of digits
@@ -21,7 +21,18 @@ binary_digits spelling = map digit_value (filter is_binary_digit spelling)
 abbrev pub hexadecimal_digits : List ℕ → List ℕ
 hexadecimal_digits spelling = map digit_value (filter is_hexadecimal_digit spelling)
 
--- ---- digits in octets
+-- Four bits for a hexadecimal digit, the first the highest (clauses 22 and 23).
+abbrev pub four_bits : ℕ → List ℕ
+four_bits d = d / 8 ∷ d / 4 % 2 ∷ d / 2 % 2 ∷ d % 2 ∷ []
+
+abbrev pub bits_of_digits : List ℕ → List ℕ
+bits_of_digits [] = []
+bits_of_digits (d ∷ ds) = four_bits d ++ bits_of_digits ds
+
+abbrev pub hexadecimal_bits : List ℕ → List ℕ
+hexadecimal_bits spelling = bits_of_digits (hexadecimal_digits spelling)
+
+-- ---- bits in octets
 
 -- The number of so many digits, the highest first. Where digits are missing behind the last, they are zeros.
 abbrev pub filled : ℕ → ℕ → List ℕ → ℕ
@@ -38,10 +49,6 @@ packed base places (suc octets) (d ∷ ds) = filled base places (d ∷ ds) ∷ p
 -- Eight bits to an octet, the first bit the highest (clauses 22 and 23): the last octet is filled with zero bits.
 abbrev pub octets_of_bits : List ℕ → List ℕ
 octets_of_bits bits = packed 2 8 (length bits) bits
-
--- Two hexadecimal digits to an octet, the first the higher (clauses 22 and 23): a last one alone is followed by a zero digit.
-abbrev pub octets_of_hexadecimal : List ℕ → List ℕ
-octets_of_hexadecimal digits = packed 16 2 (length digits) digits
 
 -- ---- strings in double quotes
 

@@ -11,10 +11,11 @@ use Rattle.guard_values.specs.declared.scope.Known.{Known}
 use Rattle.guard_values.specs.declared.scope.Scope.{Scope}
 use Rattle.guard_values.specs.declared.scope.VisibleValue.{VisibleValue}
 use Rattle.guard_values.specs.Meanings.{Governed, Meaning}
-use Rattle.guard_values.specs.Visible.{visible_definition, placed_definition}
 use Rattle.guard_names.specs.declared.names.Names.{Names}
 use Rattle.guard_names.specs.Declarations.{Definition, definitions}
+use Rattle.guard_names.specs.Meanings.{number_meant}
 use Rattle.guard_names.specs.NamesView.{modules_of, order_of}
+use Rattle.guard_names.specs.Places.{place_meant}
 use Rattle.guard_der.specs.Fits.{fits}
 use Rattle.guard_values.specs.declared.arrangement.Encoded.{Encoded}
 use Rattle.guard_values.specs.Places.{Located}
@@ -51,10 +52,10 @@ known_definition known (Some place) = known_at known place
 
 -- the definition that the scope's name means
 abbrev pub definition_of : Scope → List ℕ → Option ℕ
-definition_of scope name = visible_definition (modules_of scope.names.now) scope.home.now name
+definition_of scope name = number_meant (modules_of scope.names.now) scope.home.now name
 
 abbrev pub place_of : Scope → List ℕ → Option ℕ
-place_of scope name = placed_definition (order_of scope.names.now) (definition_of scope name)
+place_of scope name = place_meant (modules_of scope.names.now) (order_of scope.names.now) scope.home.now name
 
 abbrev pub meaning_of : Scope → Meaning
 meaning_of scope name = known_definition scope.known.now (place_of scope name)
@@ -69,7 +70,7 @@ home_name (Some d) = d.home.name
 -- what names mean in the module of this definition
 abbrev pub visible_from : Names → Known → ℕ → Meaning
 visible_from names known id name =
-    known_definition known (placed_definition (order_of names) (visible_definition (modules_of names) (home_name (slice_get (definitions (modules_of names)) id)) name))
+    known_definition known (place_meant (modules_of names) (order_of names) (home_name (slice_get (definitions (modules_of names)) id)) name)
 
 -- each known value is one of its governor's
 abbrev pub AreKnownFitting : Known → Type 0

@@ -1,5 +1,5 @@
 //! Laws of written values, over the definitions alone. Each is carried by a function that does nothing when it runs.
-ghost use Rattle.std.specs.Prelude.{◌≡◌, ◌↔◌, ℕ, List, Some, IsTrue};
+ghost use Rattle.std.specs.Prelude.{◌≡◌, ◌⊎◌, List, IsTrue};
 ghost use Rattle.std.specs.List.Sorted.{IsPermutation};
 ghost use Rattle.guard_model.specs.declared.site.Site.{Site};
 ghost use Rattle.guard_model.specs.declared.tag.Tag.{Tag};
@@ -7,14 +7,11 @@ ghost use Rattle.guard_model.specs.AbstractType.{Constraints, type_of, set_of};
 ghost use Rattle.guard_model.specs.AbstractValue.{AbstractValue};
 ghost use Rattle.guard_model.specs.TypeView.{type_view};
 ghost use Rattle.guard_der.specs.Sound.{is_sound};
-ghost use Rattle.guard_names.specs.Meanings.{Means};
-ghost use Rattle.guard_names.specs.NamesView.{modules_of};
 ghost use Rattle.guard_syntax.specs.Trees.{WrittenEntry, value_node, list, entries_of};
 ghost use Rattle.guard_syntax.specs.Views as trees;
 ghost use Rattle.guard_values.specs.Denotes.{Denotes};
 ghost use Rattle.guard_values.specs.FirstFault.{IsFirstFault};
 ghost use Rattle.guard_values.specs.declared.fault.ValueFault.{ValueFault};
-ghost use Rattle.guard_values.specs.Visible.{visible_definition};
 ghost use Rattle.guard_values.specs.Views.{visible_from, AreKnownFitting};
 
 use crate::scope::Known;
@@ -32,6 +29,17 @@ pub fn law_one_fault(names: &Names, known: &Known, id: Id, ty: &Ty, tree: &Value
     ensures { (f g : ValueFault) → IsFirstFault (visible_from names.now known.now id) (type_view ty.now) (trees.value_view tree.now) f → IsFirstFault (visible_from names.now known.now id) (type_view ty.now) (trees.value_view tree.now) g → f ≡ g }
 {}
 
+/// A tree denotes a value or has a first fault.
+pub fn law_one_answer(names: &Names, known: &Known, id: Id, ty: &Ty, tree: &ValueTree)
+    ensures { ((v : AbstractValue) × Denotes (visible_from names.now known.now id) (type_view ty.now) (trees.value_view tree.now) v) ⊎ ((f : ValueFault) × IsFirstFault (visible_from names.now known.now id) (type_view ty.now) (trees.value_view tree.now) f) }
+{}
+
+/// It hasn't both: where there is a first fault, nothing is denoted.
+pub fn law_fault_or_value(names: &Names, known: &Known, id: Id, ty: &Ty, tree: &ValueTree)
+    requires sound { IsTrue (is_sound (type_view ty.now)) }
+    ensures { (f : ValueFault) (v : AbstractValue) → IsFirstFault (visible_from names.now known.now id) (type_view ty.now) (trees.value_view tree.now) f → Denotes (visible_from names.now known.now id) (type_view ty.now) (trees.value_view tree.now) v → ⊥ }
+{}
+
 /// The elements of a SET OF may be written in any order: the value is the same.
 pub fn law_any_order(names: &Names, known: &Known, id: Id, element: &Ty)
     requires sound { IsTrue (is_sound (type_view element.now)) }
@@ -39,9 +47,4 @@ pub fn law_any_order(names: &Names, known: &Known, id: Id, element: &Ty)
     ensures { (es others : List WrittenEntry) (tags : List Tag) (cons : Constraints) (site : Site) (v : AbstractValue) → IsPermutation es others
         → Denotes (visible_from names.now known.now id) (type_of tags (set_of (type_view element.now)) cons) (value_node site (list (entries_of es))) v
         → Denotes (visible_from names.now known.now id) (type_of tags (set_of (type_view element.now)) cons) (value_node site (list (entries_of others))) v }
-{}
-
-/// A name stands for the definition that it means (X.680 13.1).
-pub fn law_visible(names: &Names, home: &[u8], name: &[u8])
-    ensures { (number : ℕ) → (visible_definition (modules_of names.now) home.now name.now ≡ Some number) ↔ Means (modules_of names.now) home.now name.now number }
 {}

@@ -5,6 +5,7 @@
 //! | Which value does a tree denote, and why none? | `values.rt` (`value`), `fault.rt` | `specs/Denotes.antt`, `specs/Faults.antt`, `specs/FirstFault.antt` |
 //! | What do visible names mean? | `scope.rt` (`Known`, `Scope`) | `specs/Visible.antt`, `specs/Views.antt` |
 //! | How are trees read by their types? | `written.rt` | `specs/Reading.antt` |
+//! | What do names in braces say for a BIT STRING, and where do its values end? | `named_bits.rt` | `specs/NamedBits.antt` |
 //! | What do forms without a value inside say? | `simple.rt`, `numbers.rt`, `strings.rt` (`quoted`), `object_identifiers.rt`, `names.rt` | `specs/Simple.antt` |
 //! | For which component is an entry, and what are those without one? | `components.rt` | `specs/Places.antt` |
 //! | How many elements may there be, and in which order does a SET OF have them? | `elements.rt`, `arrangement.rt` | `specs/Arrangement.antt` |
@@ -16,6 +17,7 @@ mod components;
 mod elements;
 mod fault;
 pub mod laws;
+mod named_bits;
 mod names;
 mod numbers;
 mod object_identifiers;

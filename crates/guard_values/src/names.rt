@@ -3,7 +3,7 @@ ghost use Rattle.std.specs.Prelude.{◌≡◌, map, option_map};
 ghost use Rattle.guard_model.specs.Answer.{Gives};
 ghost use Rattle.guard_model.specs.TypeView.{type_view, kind_view, named_view};
 ghost use Rattle.guard_model.specs.ValueView.{value_view};
-ghost use Rattle.guard_der.specs.Fits.{fits_128_bits};
+ghost use Rattle.guard_model.specs.Limits.{fits_128_bits};
 ghost use Rattle.guard_values.specs.Meanings as meanings;
 ghost use Rattle.guard_values.specs.Simple.{numbered_value};
 ghost use Rattle.guard_values.specs.Reading.{read_reference, read_visible, answered};
@@ -41,7 +41,8 @@ fn own_number(kind: &Kind, name: &[u8]) -> Option<i128>
     }
 }
 
-fn number_named(name: &[u8], numbers: &[Named]) -> Option<i128>
+/// The number with this name in a list.
+pub fn number_named(name: &[u8], numbers: &[Named]) -> Option<i128>
     ensures { result ≡ meanings.number_named name.now (map named_view numbers.now) }
 {
     for number in numbers {

@@ -1,7 +1,7 @@
 //! Numbers as they are written.
 ghost use Rattle.std.specs.Prelude.{◌≡◌, ◌^◌, ◌<◌, SomeIff, if◌then◌else◌, Some, None};
 ghost use Rattle.guard_lexer.specs.Items.{number_value};
-ghost use Rattle.guard_der.specs.Fits.{fits_128_bits};
+ghost use Rattle.guard_model.specs.Limits.{fits_128_bits};
 ghost use Rattle.guard_syntax.specs.Views.{number_view};
 ghost use Rattle.guard_values.specs.Numbers.{number_of};
 

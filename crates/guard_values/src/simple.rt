@@ -1,11 +1,12 @@
 //! Values without a value inside.
 ghost use Rattle.std.specs.Prelude.{◌≡◌, ◌&&◌, map, chars, if◌then◌else◌, Some, None, option_map, string_bytes};
 ghost use Rattle.guard_model.specs.Answer.{Gives};
-ghost use Rattle.guard_model.specs.TypeView.{kind_view};
+ghost use Rattle.guard_model.specs.TypeView.{kind_view, named_view};
 ghost use Rattle.guard_model.specs.ValueView.{value_view};
-ghost use Rattle.guard_der.specs.Fits.{fits_characters, all_characters};
+ghost use Rattle.guard_model.specs.Alphabets.{fits_characters};
 ghost use Rattle.guard_syntax.specs.Views.{number_view, arc_view};
-ghost use Rattle.guard_values.specs.Simple.{boolean_value, null_value, bits_value, hexadecimal_bits_value, characters_value};
+ghost use Rattle.guard_values.specs.NamedBits.{bits_kept};
+ghost use Rattle.guard_values.specs.Simple.{boolean_value, null_value, bits_value, characters_value};
 ghost use Rattle.guard_values.specs.Strings as written;
 ghost use Rattle.std.specs.Str.{is_utf8};
 ghost use Rattle.guard_values.specs.Reading.{answered, read_integer, read_text, read_arcs};
@@ -13,12 +14,11 @@ ghost use Rattle.guard_values.specs.Views.{named};
 ghost use Rattle.guard_model.specs.AbstractValue.{octet_string};
 
 use crate::fault::ValueFault;
+use crate::named_bits::bits_kept;
 use crate::numbers;
 use crate::object_identifiers::object_identifier;
-use crate::strings::{
-    binary_digits, hexadecimal_digits, octets_of_bits, octets_of_hexadecimal, quoted,
-};
-use guard_model::{Bits, CharKind, Kind, Site, Value};
+use crate::strings::{binary_digits, bit_string, hexadecimal_bits, octets_of_bits, quoted};
+use guard_model::{CharKind, Kind, Named, Site, Value};
 use guard_syntax::{ArcTree, NumberTree, StringKind};
 use std::alloc::Global;
 
@@ -76,8 +76,8 @@ pub fn text(
     ensures { Gives value_view named result (read_text site (kind_view kind.now) string spelling.now) }
 {
     match (kind, string) {
-        (Kind::Bits, StringKind::Bits) => bits(alloc, spelling),
-        (Kind::Bits, StringKind::Hexadecimal) => hexadecimal_bits(alloc, spelling),
+        (Kind::Bits(names), StringKind::Bits) => bits(alloc, names, spelling),
+        (Kind::Bits(names), StringKind::Hexadecimal) => bits_of_digits(alloc, names, spelling),
         (Kind::Octets, StringKind::Bits) => octets(alloc, spelling),
         (Kind::Octets, StringKind::Hexadecimal) => hexadecimal_octets(alloc, spelling),
         (Kind::Chars(kind), StringKind::Characters) => characters(alloc, *kind, site, spelling),
@@ -85,22 +85,18 @@ pub fn text(
     }
 }
 
-fn bits(alloc: Global, spelling: &[u8]) -> Result<Value, ValueFault>
-    ensures { Gives value_view named result (Ok (bits_value (written.binary_digits spelling.now))) }
+fn bits(alloc: Global, names: &[Named], spelling: &[u8]) -> Result<Value, ValueFault>
+    ensures { Gives value_view named result (Ok (bits_value (bits_kept (map named_view names.now) (written.binary_digits spelling.now)))) }
 {
     let bits = binary_digits(alloc, spelling)?;
-    let octets = octets_of_bits(alloc, &bits)?;
-    let unused = ((8 - bits.len() % 8) % 8) as u8;
-    Ok(Value::Bits(Bits { octets, unused }))
+    bit_string(alloc, bits_kept(names, &bits))
 }
 
-fn hexadecimal_bits(alloc: Global, spelling: &[u8]) -> Result<Value, ValueFault>
-    ensures { Gives value_view named result (Ok (hexadecimal_bits_value (written.hexadecimal_digits spelling.now))) }
+fn bits_of_digits(alloc: Global, names: &[Named], spelling: &[u8]) -> Result<Value, ValueFault>
+    ensures { Gives value_view named result (Ok (bits_value (bits_kept (map named_view names.now) (written.hexadecimal_bits spelling.now)))) }
 {
-    let digits = hexadecimal_digits(alloc, spelling)?;
-    let octets = octets_of_hexadecimal(alloc, &digits)?;
-    let unused = (4 * (digits.len() % 2)) as u8;
-    Ok(Value::Bits(Bits { octets, unused }))
+    let bits = hexadecimal_bits(alloc, spelling)?;
+    bit_string(alloc, bits_kept(names, &bits))
 }
 
 fn octets(alloc: Global, spelling: &[u8]) -> Result<Value, ValueFault>
@@ -111,10 +107,10 @@ fn octets(alloc: Global, spelling: &[u8]) -> Result<Value, ValueFault>
 }
 
 fn hexadecimal_octets(alloc: Global, spelling: &[u8]) -> Result<Value, ValueFault>
-    ensures { Gives value_view named result (Ok (octet_string (written.octets_of_hexadecimal (written.hexadecimal_digits spelling.now)))) }
+    ensures { Gives value_view named result (Ok (octet_string (written.octets_of_bits (written.hexadecimal_bits spelling.now)))) }
 {
-    let digits = hexadecimal_digits(alloc, spelling)?;
-    Ok(Value::Octets(octets_of_hexadecimal(alloc, &digits)?))
+    let bits = hexadecimal_bits(alloc, spelling)?;
+    Ok(Value::Octets(octets_of_bits(alloc, &bits)?))
 }
 
 /// A string in double quotes, of characters of the kind's alphabet.
@@ -139,32 +135,9 @@ fn text_of(kind: CharKind, octets: Vec<u8>) -> Option<String>
     let Ok(text) = String::from_utf8(octets) else {
         return None;
     };
-    if characters_fit(kind, &text) {
+    if kind.has_all(&text) {
         Some(text)
     } else {
         None
     }
-}
-
-fn characters_fit(kind: CharKind, text: &str) -> bool
-    ensures { result ≡ fits_characters kind (chars text.now) }
-{
-    match kind {
-        CharKind::Numeric => are_characters(kind, text),
-        CharKind::Printable => are_characters(kind, text),
-        CharKind::Ia5 => are_characters(kind, text),
-        CharKind::Visible => are_characters(kind, text),
-        CharKind::Utf8 => true,
-    }
-}
-
-fn are_characters(kind: CharKind, text: &str) -> bool
-    ensures { result ≡ all_characters kind (chars text.now) }
-{
-    for character in text.chars() {
-        if !kind.has(u32::from(character)) {
-            return false;
-        }
-    }
-    true
 }

@@ -1,8 +1,14 @@
 //! What strings of bits and hexadecimal digits say (X.680 clauses 22 and 23), and those in double quotes.
-ghost use Rattle.std.specs.Prelude.{◌≡◌, ◌∷◌, [], ◌^◌, ◌<◌, ◌≤◌, ◌*◌, ◌+◌, ◌-◌, length, drop, slice_index, All, IfOk};
+ghost use Rattle.std.specs.Prelude.{◌≡◌, ◌∷◌, [], ◌^◌, ◌<◌, ◌≤◌, ◌*◌, ◌+◌, ◌-◌, length, drop, slice_index, All, IfOk, Ok};
+ghost use Rattle.guard_model.specs.Answer.{Gives};
+ghost use Rattle.guard_model.specs.ValueView.{value_view};
+ghost use Rattle.guard_values.specs.Simple.{bits_value};
+ghost use Rattle.guard_values.specs.Views.{named};
 ghost use Rattle.guard_values.specs.Strings as written;
-ghost use Rattle.guard_values.specs.Strings.{filled, packed, octets_of_bits, octets_of_hexadecimal, quoted, up_to_quote};
+ghost use Rattle.guard_values.specs.Strings.{filled, packed, octets_of_bits, quoted, up_to_quote};
 
+use crate::fault::ValueFault;
+use guard_model::{Bits, Value};
 use std::alloc::{AllocError, Global};
 
 /// The bits of a string of bits, in written order.
@@ -19,8 +25,38 @@ pub fn binary_digits(alloc: Global, spelling: &[u8]) -> Result<Vec<u8>, AllocErr
     Ok(digits)
 }
 
+/// The bits of a hexadecimal string, four for each digit, in written order.
+pub fn hexadecimal_bits(alloc: Global, spelling: &[u8]) -> Result<Vec<u8>, AllocError>
+    ensures bits { IfOk result (λ v. v.items ≡ written.hexadecimal_bits spelling.now) }
+    ensures small { IfOk result (λ v. All (λ b. b < 2) v.items) }
+{
+    let digits = hexadecimal_digits(alloc, spelling)?;
+    bits_of_digits(alloc, &digits)
+}
+
+fn bits_of_digits(alloc: Global, digits: &[u8]) -> Result<Vec<u8>, AllocError>
+    requires { All (λ d. d < 16) digits.now }
+    ensures bits { IfOk result (λ v. v.items ≡ written.bits_of_digits digits.now) }
+    ensures small { IfOk result (λ v. All (λ b. b < 2) v.items) }
+{
+    let mut bits = Vec::new(alloc);
+    for digit in digits {
+        bits.extend_from_slice(&four_bits(*digit))?;
+    }
+    Ok(bits)
+}
+
+/// The bits of a hexadecimal digit, the highest first.
+fn four_bits(digit: u8) -> [u8; 4]
+    requires { digit < 16 }
+    ensures bits { result ≡ written.four_bits digit }
+    ensures small { All (λ b. b < 2) result }
+{
+    [digit / 8, digit / 4 % 2, digit / 2 % 2, digit % 2]
+}
+
 /// The digits of a hexadecimal string, in written order.
-pub fn hexadecimal_digits(alloc: Global, spelling: &[u8]) -> Result<Vec<u8>, AllocError>
+fn hexadecimal_digits(alloc: Global, spelling: &[u8]) -> Result<Vec<u8>, AllocError>
     ensures digits { IfOk result (λ v. v.items ≡ written.hexadecimal_digits spelling.now) }
     ensures small { IfOk result (λ v. All (λ d. d < 16) v.items) }
 {
@@ -64,12 +100,14 @@ pub fn octets_of_bits(alloc: Global, bits: &[u8]) -> Result<Vec<u8>, AllocError>
     packed(alloc, 2, 8, bits)
 }
 
-/// Two digits to an octet, the first one the higher. A last one alone is followed by a zero digit.
-pub fn octets_of_hexadecimal(alloc: Global, digits: &[u8]) -> Result<Vec<u8>, AllocError>
-    requires { All (λ d. d < 16) digits.now }
-    ensures { IfOk result (λ v. v.items ≡ octets_of_hexadecimal digits.now) }
+/// The BIT STRING of these bits.
+pub fn bit_string(alloc: Global, bits: &[u8]) -> Result<Value, ValueFault>
+    requires { All (λ d. d < 2) bits.now }
+    ensures { Gives value_view named result (Ok (bits_value bits.now)) }
 {
-    packed(alloc, 16, 2, digits)
+    let octets = octets_of_bits(alloc, bits)?;
+    let unused = ((8 - bits.len() % 8) % 8) as u8;
+    Ok(Value::Bits(Bits { octets, unused }))
 }
 
 /// The fewest octets with so many places each for all digits to this base.

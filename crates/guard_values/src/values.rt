@@ -1,6 +1,5 @@
 //! The value that a tree of the notation denotes under its type (X.680 clause 17).
 ghost use Rattle.std.specs.Prelude.{◌≡◌, slice_get, IsTrue, IfOk, IfErr, IfSome};
-ghost use Rattle.guard_model.specs.Answer.{Gives};
 ghost use Rattle.guard_model.specs.AbstractValue.{AbstractValue};
 ghost use Rattle.guard_model.specs.TypeView.{type_view};
 ghost use Rattle.guard_model.specs.ValueView.{value_view};
@@ -12,7 +11,6 @@ ghost use Rattle.guard_syntax.specs.Views as trees;
 ghost use Rattle.guard_values.specs.Denotes.{Denotes};
 ghost use Rattle.guard_values.specs.Faults.{Stands};
 ghost use Rattle.guard_values.specs.FirstFault.{IsFirstFault};
-ghost use Rattle.guard_values.specs.Reading.{read_whole};
 ghost use Rattle.guard_values.specs.Views.{named, visible_from, home_name, AreKnownFitting};
 
 use crate::fault::ValueFault;
@@ -43,8 +41,6 @@ pub fn value(
     ensures none { IfErr result (λ e. IfSome (named e) (λ f. (v : AbstractValue) → Denotes (visible_from names.now known.now id) (type_view ty.now) (trees.value_view tree.now) v → ⊥)) }
     // It is the first one.
     ensures first { IfErr result (λ e. IfSome (named e) (IsFirstFault (visible_from names.now known.now id) (type_view ty.now) (trees.value_view tree.now))) }
-    // The same step by step, for what reads values inside: the fault is the first one that is met.
-    ensures read { Gives value_view named result (read_whole (visible_from names.now known.now id) (type_view ty.now) (trees.value_view tree.now)) }
 {
     let home = home(names, id);
     whole(alloc, Scope { names, known, home }, tree, ty)

@@ -18,6 +18,7 @@ use crate::arrangement::Encoded;
 use crate::components::{absent_fields, alternative, completed, place_of, put};
 use crate::elements::{encoded, listed, listed_set, object_identifier_fault};
 use crate::fault::ValueFault;
+use crate::named_bits::value_of_names;
 use crate::names::reference;
 use crate::scope::Scope;
 use crate::simple::{arcs, boolean, integer, null, text};
@@ -142,6 +143,7 @@ fn braces(
         Kind::SequenceOf(ty) => items(alloc, scope, sorted, entries, site, ty),
         Kind::SetOf(ty) => set_items(alloc, scope, sorted, entries, site, ty),
         Kind::Oid => Err(object_identifier_fault(site, entries)),
+        Kind::Bits(names) => value_of_names(alloc, names, site, entries),
         _ => Err(ValueFault::WrongNotation(site)),
     }
 }

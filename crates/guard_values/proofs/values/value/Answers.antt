@@ -11,9 +11,6 @@ whole-requires-clause-proper c = sound_proper (type_view c.args.ty.now) c.requir
 pub whole-requires-clause-fitting : goal.whole-requires-clause-fitting
 whole-requires-clause-fitting c = meanings_fit (record { names = c.args.names; known = c.args.known; home = c.home-home.result }) c.requires.fitting
 
-pub returns-clause-read : goal.returns-clause-read
-returns-clause-read c = rw c.home-home.ensures at c.whole.ensures
-
 pub returns-clause-denoted : goal.returns-clause-denoted
 returns-clause-denoted c =
     gives_denoted (visible_from c.args.names.now c.args.known.now c.args.id) (type_view c.args.ty.now) (trees.value_view c.args.tree.now) c.whole.result (rw c.home-home.ensures at c.whole.ensures)

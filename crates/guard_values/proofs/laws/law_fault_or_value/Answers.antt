@@ -1,0 +1,8 @@
+use Rattle.guard_model.specs.TypeView.{type_view}
+use Rattle.guard_syntax.specs.Views as trees
+use Rattle.guard_values.specs.Views.{visible_from}
+use Rattle.guard_values.proofs.Exact.{first_excludes}
+use Rattle.guard_values.proofs.laws.law_fault_or_value.Goals as goal
+
+pub returns : goal.returns
+returns c = λ f v first denoted. first_excludes (visible_from c.args.names.now c.args.known.now c.args.id) (trees.value_view c.args.tree.now) (type_view c.args.ty.now) f v c.requires.sound first denoted

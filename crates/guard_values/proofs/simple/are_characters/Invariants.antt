@@ -1,7 +1,0 @@
-use Rattle.std.proofs.Common.{◌≡◌, length, drop}
-use Rattle.std.specs.Str.{chars}
-use Rattle.guard_der.specs.Fits.{all_characters}
-use Rattle.guard_values.proofs.simple.are_characters.Given as goal
-
-abbrev pub invariant-loop-character : goal.invariant-loop-character
-invariant-loop-character l = all_characters l.kind (drop (length l.yielded) (chars l.text)) ≡ all_characters l.kind (chars l.text)

@@ -1,0 +1,14 @@
+use Rattle.std.proofs.Common.{◌<◌, map, sym, ap, ◌∙◌, subst}
+use Rattle.std.specs.Prelude.{All}
+use Rattle.guard_model.specs.TypeView.{named_view}
+use Rattle.guard_values.specs.NamedBits.{bits_kept}
+use Rattle.guard_values.specs.Strings.{hexadecimal_bits}
+use Rattle.guard_values.proofs.FitsBits.{hexadecimal_small}
+use Rattle.guard_values.proofs.NamedBits.{kept_small}
+use Rattle.guard_values.proofs.simple.bits_of_digits.Goals as goal
+
+pub bit_string-requires : goal.bit_string-requires
+bit_string-requires c =
+    let names = map named_view c.args.names.now in
+    let kept = c.bits_kept.ensures ∙ ap (bits_kept names) (c.deref.ensures.value ∙ c.in_ok-bits.ensures.bits) in
+    subst (All (λ b. b < 2)) (sym kept) (kept_small names (hexadecimal_bits c.args.spelling.now) (hexadecimal_small c.args.spelling.now))

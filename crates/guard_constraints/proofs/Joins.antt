@@ -18,7 +18,7 @@ use Rattle.guard_constraints.specs.Visible.{Visible}
 use Rattle.guard_constraints.specs.Denotes.{joined}
 use Rattle.guard_constraints.specs.ListedParts.{PartHead, Placed, heads, head_of, named_in, word_of}
 use Rattle.guard_constraints.specs.Views.{head_view}
-use Rattle.guard_der.specs.ProperConstraints.{kind_of}
+use Rattle.guard_model.specs.Kinds.{kind_of}
 use Rattle.guard_syntax.specs.SetViews.{part_view, joined_intersection_view, joined_difference_view}
 use Rattle.guard_syntax.specs.declared.tree.JoinedIntersection.{JoinedIntersection}
 use Rattle.guard_syntax.specs.declared.tree.JoinedDifference.{JoinedDifference}

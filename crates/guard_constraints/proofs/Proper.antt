@@ -1,6 +1,6 @@
 -- What a constraint tree denotes on a sound type may stand on it.
 use Rattle.std.proofs.Common.{◌≡◌, ℕ, Bool, true, false, cond, List, Option, Some, None, refl, ap}
-use Rattle.std.specs.Prelude.{IsTrue, bytes_eq}
+use Rattle.std.specs.Prelude.{IsTrue, bytes_eq, not}
 use Rattle.std.specs.Option.{option_map, is_some}
 use Rattle.std.proofs.lemmas.Bool.{and_from}
 use Rattle.guard_model.specs.declared.site.Site.{Site}
@@ -12,7 +12,8 @@ use Rattle.guard_model.specs.TypeView.{OneComponent}
 use Rattle.guard_der.specs.Der.{der}
 use Rattle.guard_der.specs.Fits.{fits}
 use Rattle.guard_der.specs.Sound.{is_sound, is_proper_constraint, are_proper_constraints, are_proper_parts}
-use Rattle.guard_der.specs.ProperConstraints.{is_short, kind_of, has_size, has_parts, type_of_size, element_of, part_of, is_there_and}
+use Rattle.guard_der.specs.ProperConstraints.{is_short, is_there_and, takes_size}
+use Rattle.guard_model.specs.Kinds.{kind_of, has_size, has_parts, type_of_size, element_of, part_of, has_named_bits}
 use Rattle.guard_model.specs.SameType.{same_base}
 use Rattle.guard_syntax.specs.Trees as written
 use Rattle.guard_syntax.specs.Trees.{WrittenValue, WrittenSet, WrittenSetForm, WrittenUnited, WrittenIntersection, WrittenMet, WrittenDifference, WrittenElement, WrittenElementForm, WrittenConstraint, WrittenParts, set_node, all_except, union, none_united, united, intersection, none_met, met, element_alone, element_except, element_node, constraint, no_parts, part, part_in}
@@ -101,7 +102,9 @@ module _ (names : Visible) (fit : (t : AbstractType) (tree : WrittenValue) (v : 
     form_proper t site (written.value tree) c sound h = rw h.2 (and_from (fits t h.0) (is_short (der t h.0)) (fit t tree h.0 sound h.1) h.1.1)
     form_proper t site (written.contained includes name_site name) c sound h = rw h.3 (and_from (same_base h.0 t) (is_sound h.0) h.2 (known name h.0 h.1))
     form_proper t site (written.range r) c sound h = rw h.2.4 h.0
-    form_proper t site (written.size inner) c sound h = rw h.1.2 (and_from (has_size (kind_of t)) (is_proper_constraint h.1.0 type_of_size) h.0 (proper type_of_size inner h.1.0 size_sound h.1.1))
+    form_proper t site (written.size inner) c sound h =
+        rw h.2.2 (and_from (takes_size (kind_of t)) (is_proper_constraint h.2.0 type_of_size)
+        (and_from (has_size (kind_of t)) (not (has_named_bits (kind_of t))) h.0 h.1) (proper type_of_size inner h.2.0 size_sound h.2.1))
     form_proper t site (written.from (constraint inner set)) c sound h = rw h.1.3 h.0
     form_proper t site (written.with_component inner) c sound h =
         rw h.4 (there_and (is_proper_constraint h.1) (element_of (kind_of t)) h.0 h.2 (proper h.0 inner h.1 (element_sound t h.0 sound h.2) h.3))

@@ -1,6 +1,6 @@
 -- What a constraint tree denotes is what is read. So it denotes one constraint at most.
-use Rattle.std.proofs.Common.{◌≡◌, Bool, List, Option, Some, None, Ok, refl, sym, ap}
-use Rattle.std.specs.Prelude.{IsTrue}
+use Rattle.std.proofs.Common.{◌≡◌, Bool, List, Option, Some, None, Ok, refl, sym, ap, ◌∙◌}
+use Rattle.std.specs.Prelude.{IsTrue, not}
 use Rattle.std.specs.Option.{option_map}
 use Rattle.guard_model.specs.declared.site.Site.{Site}
 use Rattle.guard_model.specs.declared.ty.Limit.{Limit}
@@ -9,11 +9,10 @@ use Rattle.guard_model.specs.AbstractType.{AbstractType, AbstractKind, Constrain
 use Rattle.guard_model.specs.AbstractValue as value
 use Rattle.guard_model.specs.AbstractValue.{AbstractValue}
 use Rattle.guard_model.specs.Answer.{◌>>=◌}
-use Rattle.guard_der.specs.ProperConstraints.{is_integer, has_size, type_of_size, is_string, element_of, has_parts}
+use Rattle.guard_model.specs.Kinds.{is_integer, has_size, type_of_size, is_string, element_of, has_parts, kind_of, has_named_bits}
 use Rattle.guard_syntax.specs.Trees as written
 use Rattle.guard_syntax.specs.Trees.{WrittenValue, WrittenEnd, WrittenRange, WrittenSet, WrittenSetForm, WrittenUnited, WrittenIntersection, WrittenMet, WrittenDifference, WrittenElement, WrittenElementForm, WrittenConstraint, WrittenParts, set_node, all_except, union, none_united, united, intersection, none_met, met, element_alone, element_except, element_node, constraint, no_parts, part, part_in}
 use Rattle.guard_values.specs.Meanings.{Meaning}
-use Rattle.guard_der.specs.ProperConstraints.{kind_of}
 use Rattle.guard_values.specs.Denotes as values
 use Rattle.guard_constraints.specs.declared.fault.ConsFault.{ConsFault}
 use Rattle.guard_constraints.specs.declared.fault.ConsFault.TheVariants.{NotApplicable, ExclusiveLimit, AlphabetForm, UnknownComponent}
@@ -24,7 +23,7 @@ use Rattle.guard_constraints.specs.ListedParts.{PartHead, heads, word_of, named_
 use Rattle.guard_constraints.specs.PartFaults.{part_fault}
 use Rattle.guard_constraints.specs.Faults.{characters_fault}
 use Rattle.guard_constraints.specs.Denotes.{RangeDenotes, Denotes, SetDenotes, SetFormDenotes, UnitedDenote, IntersectionDenotes, MetDenote, DifferenceDenotes, ElementDenotes, FormDenotes, ListedDenote, joined}
-use Rattle.guard_constraints.specs.Reading.{Read, demanded, unless_fault, found, read_value, integer_in, read_end, read_limit, read_range, size_type, checked, read, read_set, read_set_form, read_united, read_intersection, read_met, read_difference, read_element, read_element_form, read_parts}
+use Rattle.guard_constraints.specs.Reading.{Read, demanded, unless_fault, found, read_value, integer_in, read_end, read_limit, read_range, size_type, sized, checked, read, read_set, read_set_form, read_united, read_intersection, read_met, read_difference, read_element, read_element_form, read_parts}
 
 -- What is denoted by a written value is read of it: guard_values proves it of its reading.
 abbrev pub ValuesSaid : Meaning → Type 0
@@ -44,8 +43,11 @@ faultless fault next y h e = rw h e
 there : {A B : Type 0} (fault : ConsFault) (o : Option A) (next : A → Read B) (x : A) (y : B) → o ≡ Some x → next x ≡ Ok y → (found fault o >>= next) ≡ Ok y
 there fault o next x y h e = rw h e
 
-sized : (t : AbstractType) (site : Site) → IsTrue (has_size (kind_of t)) → size_type t site ≡ Ok type_of_size
-sized t site h = rw h refl
+counted : (t : AbstractType) (site : Site) → IsTrue (has_size (kind_of t)) → size_type t site ≡ Ok type_of_size
+counted t site h = rw h refl
+
+size_said : (t : AbstractType) (site : Site) (d : Constraint) → IsTrue (not (has_named_bits (kind_of t))) → sized t site d ≡ Ok (at site (type.size d))
+size_said t site d h = rw h refl
 
 pub checked_said : (t : AbstractType) (site : Site) (hs : List PartHead) → IsTrue (has_parts (kind_of t)) → part_fault (kind_of t) hs ≡ None → checked t site hs ≡ Ok tt
 checked_said t site hs h e = rw (h, e) refl
@@ -119,8 +121,8 @@ mutual
   element_form_said names t site (written.contained includes name_site name) c said h = rw (h.1, h.2) (ap Ok (sym h.3))
   element_form_said names t site (written.range r) c said h = range_said names t site r c said h
   element_form_said names t site (written.size inner) c said h =
-      two (size_type t site) (λ u. read names u inner >>= λ d. Ok (at site (type.size d))) type_of_size c (sized t site h.0)
-      (two (read names type_of_size inner) (λ d. Ok (at site (type.size d))) h.1.0 c (denotes_read names type_of_size inner h.1.0 said h.1.1) (ap Ok (sym h.1.2)))
+      two (size_type t site) (λ u. read names u inner >>= λ d. sized t site d) type_of_size c (counted t site h.0)
+      (two (read names type_of_size inner) (λ d. sized t site d) h.2.0 c (denotes_read names type_of_size inner h.2.0 said h.2.1) (size_said t site h.2.0 h.1 ∙ ap Ok (sym h.2.2)))
   element_form_said names t site (written.from (constraint inner tree)) c said h =
       granted (is_string (kind_of t)) (NotApplicable site)
       (λ _. found (AlphabetForm site) (items_of tree) >>= λ items. unless_fault (option_map characters_fault (first_bad (kind_of t) items)) >>= λ _. Ok (at site (type.permitted_alphabet (ranges_of items)))) c h.0

@@ -14,8 +14,7 @@ use Rattle.guard_tagcheck.specs.Distinct.{AbstractClash}
 use Rattle.guard_tagcheck.specs.Search.{first_clash, first_pair, here, inside, clash_inside}
 use Rattle.guard_tagcheck.specs.Limits.{nesting, deepest}
 use Rattle.guard_der.specs.Sound.{is_sound, is_proper, are_proper, is_proper_presence, none_clash}
-use Rattle.guard_der.specs.ProperConstraints.{type_of_size, element_of}
-use Rattle.guard_der.specs.ProperConstraints.{kind_of}
+use Rattle.guard_model.specs.Kinds.{type_of_size, element_of, kind_of}
 use Rattle.guard_constraints.specs.ListedParts.{Placed, further, component_named, named_in}
 
 pub size_sound : IsTrue (is_sound type_of_size)

@@ -12,7 +12,7 @@ use Rattle.guard_model.specs.declared.ty.Ty.{Ty}
 use Rattle.guard_model.specs.declared.ty.Kind.TheViews.{out-Ty, out-Comp}
 use Rattle.guard_model.proofs.TypeViews.{component_view_is, type_view_is}
 use Rattle.guard_model.proofs.Components.{in_view, component_count_view}
-use Rattle.guard_der.specs.ProperConstraints.{kind_of, has_size, type_of_size, element_of, has_parts}
+use Rattle.guard_model.specs.Kinds.{kind_of, has_size, type_of_size, element_of, has_parts}
 use Rattle.guard_der.specs.Sound.{is_sound}
 use Rattle.guard_constraints.specs.declared.fault.ConsFault.TheVariants.{NotApplicable, UnknownComponent}
 use Rattle.guard_constraints.specs.ListedParts.{PartHead, component_named, named_in}

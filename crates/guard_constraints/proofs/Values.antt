@@ -1,5 +1,5 @@
 -- What guard_values proves of written values, as constraints need it, and what is known of visible names.
-use Rattle.std.proofs.Common.{◌≡◌, ℕ, ◌&&◌, List, Option, Some, None, Result, Ok, Err, option_map, slice_get, refl, IfSome, IsTrue, subst}
+use Rattle.std.proofs.Common.{◌≡◌, ℕ, ◌&&◌, List, [], ◌∷◌, Option, Some, None, Result, Ok, Err, inl, slice_get, refl, IfSome, IsTrue, subst}
 use Rattle.std.specs.Prelude.{nat_le}
 use Rattle.std.proofs.lemmas.Bool.{and_parts}
 use Rattle.guard_model.specs.AbstractType.{AbstractType}
@@ -11,6 +11,7 @@ use Rattle.guard_der.specs.Sound.{is_sound, is_proper, none_clash}
 use Rattle.guard_syntax.specs.Trees.{WrittenValue}
 use Rattle.guard_names.specs.Declarations.{definitions}
 use Rattle.guard_names.specs.NamesView.{modules_of, order_of}
+use Rattle.guard_names.specs.Places.{place_meant}
 use Rattle.guard_names.specs.declared.names.Names.{Names}
 use Rattle.guard_values.specs.declared.fault.ValueFault.{ValueFault}
 use Rattle.guard_values.specs.declared.scope.Known.{Known}
@@ -18,12 +19,12 @@ use Rattle.guard_values.specs.Meanings.{Meaning, AreFitting}
 use Rattle.guard_values.specs.Denotes as values
 use Rattle.guard_values.specs.Reading.{read_whole}
 use Rattle.guard_values.specs.Views.{visible_from, known_definition, home_name, AreKnownFitting}
-use Rattle.guard_values.specs.Visible.{visible_definition, placed_definition}
 use Rattle.guard_values.proofs.Again.{says_read}
-use Rattle.guard_values.proofs.Standing.{whole_denotes}
+use Rattle.guard_values.proofs.Exact.{first_excludes}
+use Rattle.guard_values.proofs.Standing.{whole_denotes, whole_first}
 use Rattle.guard_values.proofs.FitsSaid.{says_fits}
-use Rattle.guard_constraints.specs.declared.fault.ConsFault.TheVariants as fault
-use Rattle.guard_constraints.specs.Faults.{error_of}
+use Rattle.guard_values.specs.FirstFault.{IsFirstFault}
+use Rattle.guard_constraints.specs.FirstFault.{value_under}
 use Rattle.guard_constraints.specs.Reading.{of_value}
 use Rattle.guard_constraints.specs.Views.{types_from, placed_type, AreKnownSound}
 use Rattle.guard_constraints.proofs.Agreement.{Agrees}
@@ -42,9 +43,11 @@ pub denoted_fits : (m : Meaning) → AreFitting m → (t : AbstractType) (tree :
 denoted_fits m fit t tree v sound h = says_fits m fit tree t v (sound_proper t sound) h.0
 
 value_agrees : (m : Meaning) → AreFitting m → (t : AbstractType) (tree : WrittenValue) → IsTrue (is_sound t) → (r : Result AbstractValue ValueFault) → read_whole m t tree ≡ r
-    → Agrees (DenotesFitting m t tree) (of_value r) (option_map fault.Value (error_of r))
-value_agrees m fit t tree sound (Ok v) e = let h = whole_denotes m tree t v e in (refl, (h, denoted_fits m fit t tree v sound h))
-value_agrees m fit t tree sound (Err f) e = refl
+    → Agrees m (DenotesFitting m t tree) (of_value r) (value_under t tree ∷ [])
+value_agrees m fit t tree sound (Ok v) e =
+    let h = whole_denotes m tree t v e in
+    (((λ k. first_excludes m tree t k.0 v sound k.1 h), tt), (h, denoted_fits m fit t tree v sound h))
+value_agrees m fit t tree sound (Err f) e = inl (f, whole_first m tree t f e, refl)
 
 pub values_agree : (m : Meaning) → AreFitting m → ValuesAgree m
 values_agree m fit = λ t tree sound. value_agrees m fit t tree sound (read_whole m t tree) refl
@@ -53,7 +56,7 @@ values_agree m fit = λ t tree sound. value_agrees m fit t tree sound (read_whol
 
 module _ (names : Names) (known : Known) (id : ℕ) where
   abbrev place : List ℕ → Option ℕ
-  place name = placed_definition (order_of names) (visible_definition (modules_of names) (home_name (slice_get (definitions (modules_of names)) id)) name)
+  place name = place_meant (modules_of names) (order_of names) (home_name (slice_get (definitions (modules_of names)) id)) name
 
   pub visible_fit : AreKnownFitting known → AreFitting (visible_from names known id)
   visible_fit fit = λ name. at (place name) where

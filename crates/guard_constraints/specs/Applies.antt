@@ -2,7 +2,7 @@
 use Rattle.std.specs.Prelude.{Bool, true}
 use Rattle.std.specs.Option.{is_some}
 use Rattle.guard_model.specs.AbstractType.{AbstractKind}
-use Rattle.guard_der.specs.ProperConstraints.{is_integer, has_size, is_string, element_of, has_parts}
+use Rattle.guard_model.specs.Kinds.{is_integer, has_size, is_string, element_of, has_parts}
 use Rattle.guard_syntax.specs.Trees as written
 use Rattle.guard_syntax.specs.Trees.{WrittenElementForm}
 

@@ -1,17 +1,16 @@
 -- The constraint that a tree of the notation denotes on its parent type (X.680 clauses 49 to 51). Each node of the constraint has
 -- the site of the first token of what is written: a set in parentheses that of the set inside, but what is joined or taken away
 -- there has that of its own first token, which may be a parenthesis.
-use Rattle.std.specs.Prelude.{◌≡◌, ℕ, Bool, List, Some, None, IsTrue}
+use Rattle.std.specs.Prelude.{◌≡◌, ℕ, Bool, not, List, Some, None, IsTrue}
 use Rattle.std.specs.Option.{option_map}
 use Rattle.guard_model.specs.declared.site.Site.{Site}
 use Rattle.guard_model.specs.declared.ty.Limit.{Limit}
 use Rattle.guard_model.specs.AbstractType as type
 use Rattle.guard_model.specs.AbstractType.{AbstractType, AbstractKind, Constraint, Constraints, Element, Parts, at, no_constraints}
 use Rattle.guard_model.specs.AbstractValue.{AbstractValue}
-use Rattle.guard_der.specs.ProperConstraints.{is_integer, has_size, type_of_size, is_string, element_of, has_parts}
+use Rattle.guard_model.specs.Kinds.{is_integer, has_size, type_of_size, is_string, element_of, has_parts, kind_of, has_named_bits}
 use Rattle.guard_syntax.specs.Trees as written
 use Rattle.guard_syntax.specs.Trees.{WrittenValue, WrittenRange, WrittenSet, WrittenSetForm, WrittenUnited, WrittenIntersection, WrittenMet, WrittenDifference, WrittenElement, WrittenElementForm, WrittenConstraint, WrittenParts, set_node, all_except, union, none_united, united, intersection, none_met, met, element_alone, element_except, element_node, constraint, no_parts, part, part_in}
-use Rattle.guard_der.specs.ProperConstraints.{kind_of}
 use Rattle.guard_values.specs.Denotes as values
 use Rattle.guard_constraints.specs.Visible.{Visible, has_base_of}
 use Rattle.guard_constraints.specs.RangeEnds.{has_proper_ends, LimitDenotes}
@@ -45,9 +44,11 @@ AlphabetDenotes t site (constraint inner set) c =
 
 -- ---- elements with a constraint inside, given what that denotes under a type
 
--- a constraint on the size, which is an INTEGER (51.5)
+-- a constraint on the size, which is an INTEGER (51.5); this profile has none of a BIT STRING with named bits
 abbrev pub SizeDenotes : AbstractType → Site → (AbstractType → Constraint → Type 0) → Constraint → Type 0
-SizeDenotes t site Inner c = IsTrue (has_size (kind_of t)) × ((d : Constraint) × Inner type_of_size d × (c ≡ at site (type.size d)))
+SizeDenotes t site Inner c =
+    IsTrue (has_size (kind_of t)) × IsTrue (not (has_named_bits (kind_of t)))
+    × ((d : Constraint) × Inner type_of_size d × (c ≡ at site (type.size d)))
 
 -- a constraint on the elements (51.8.4)
 abbrev pub EachDenotes : AbstractType → Site → (AbstractType → Constraint → Type 0) → Constraint → Type 0

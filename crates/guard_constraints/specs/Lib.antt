@@ -12,9 +12,11 @@ pub mod PartFaults
 -- ---- which constraint a tree denotes, and why one denotes none
 pub mod Denotes
 pub mod Faults
--- ---- what private contracts cite
-pub mod Computing
+pub mod FirstFault
+-- ---- what the code's results and arguments stand for
 pub mod Views
+-- ---- what private contracts alone cite
+pub mod Computing
 pub mod Reading
 -- ---- worked examples
 pub mod Rows

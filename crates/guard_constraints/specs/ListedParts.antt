@@ -7,7 +7,7 @@ use Rattle.guard_model.specs.declared.ty.Word.TheVariants as word
 use Rattle.guard_model.specs.AbstractType.{AbstractKind, AbstractPresence, Components, no_components, component}
 use Rattle.guard_model.specs.Components.{components_in}
 use Rattle.guard_model.specs.TypeView.{OneComponent}
-use Rattle.guard_tagcheck.specs.Limits.{is_choice}
+use Rattle.guard_model.specs.Kinds.{is_choice}
 use Rattle.guard_der.specs.Fits.{may_be_absent}
 use Rattle.guard_syntax.specs.declared.tree.PresenceWord.{PresenceWord}
 use Rattle.guard_syntax.specs.declared.tree.PresenceWord.TheVariants.{Present, Absent, Optional}
@@ -61,9 +61,12 @@ named_in kind name = component_named name (components_in kind)
 -- That none may stand at a component with a DEFAULT is this profile's rule.
 abbrev pub may_say : Bool → AbstractPresence → Option PresenceWord → Bool
 may_say choice presence None = true
+may_say true presence (Some Present) = true
+may_say true presence (Some Absent) = true
 may_say true presence (Some Optional) = false
-may_say true presence (Some w) = true
-may_say false presence (Some w) = may_be_absent presence
+may_say false presence (Some Present) = may_be_absent presence
+may_say false presence (Some Absent) = may_be_absent presence
+may_say false presence (Some Optional) = may_be_absent presence
 
 -- a word at a component or alternative that it can't speak of
 abbrev pub is_misused : Bool → Option PresenceWord → Option Placed → Bool
@@ -77,8 +80,10 @@ abbrev pub is_unknown : AbstractKind → PartHead → Bool
 is_unknown kind h = is_none (named_in kind h.name)
 
 abbrev pub says_present : Option PresenceWord → Bool
+says_present None = false
 says_present (Some Present) = true
-says_present _ = false
+says_present (Some Absent) = false
+says_present (Some Optional) = false
 
 abbrev pub is_present : PartHead → Bool
 is_present h = says_present h.presence

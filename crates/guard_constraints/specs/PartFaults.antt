@@ -2,7 +2,7 @@
 use Rattle.std.specs.Prelude.{List, [], Option}
 use Rattle.std.specs.Option.{option_map, option_or}
 use Rattle.guard_model.specs.AbstractType.{AbstractKind}
-use Rattle.guard_tagcheck.specs.Limits.{is_choice}
+use Rattle.guard_model.specs.Kinds.{is_choice}
 use Rattle.guard_constraints.specs.declared.fault.ConsFault.{ConsFault}
 use Rattle.guard_constraints.specs.declared.fault.ConsFault.TheVariants as fault
 use Rattle.guard_constraints.specs.ListedParts.{PartHead, has_bad_word, is_unknown, first_where, first_repeated, second_present}

@@ -36,20 +36,24 @@ abbrev pub quoted_codes : List ℕ → Option (List ℕ)
 quoted_codes spelling = if is_utf8 (quoted spelling) then Some (chars (quoted spelling)) else None
 
 abbrev pub one_alone : Option (List ℕ) → Option ℕ
+one_alone None = None
+one_alone (Some []) = None
 one_alone (Some (c ∷ [])) = Some c
-one_alone _ = None
+one_alone (Some (c ∷ d ∷ cs)) = None
 
 abbrev pub code_end_of : Site → WrittenEndForm → Option CodeEnd
+code_end_of site (written.end_integer n) = None
+code_end_of site (written.end_reference name) = None
 code_end_of site (written.end_characters spelling) = option_map (character site) (one_alone (quoted_codes spelling))
-code_end_of site _ = None
 
 abbrev pub code_end : Option WrittenEnd → Option CodeEnd
 code_end None = Some open_end
 code_end (Some e) = code_end_of e.site e.form
 
 abbrev pub between_both : Option CodeEnd → Option CodeEnd → Option AlphabetItem
+between_both None high = None
+between_both (Some low) None = None
 between_both (Some low) (Some high) = Some (between low high)
-between_both _ _ = None
 
 -- a range without `<`
 abbrev pub item_of_range : WrittenRange → Option AlphabetItem
@@ -57,8 +61,16 @@ item_of_range r = if r.above_low || r.below_high then None else between_both (co
 
 -- a string in double quotes
 abbrev pub item_of_value : WrittenValue → Option AlphabetItem
+item_of_value (value_node site (written.boolean b)) = None
+item_of_value (value_node site written.null) = None
+item_of_value (value_node site (written.integer n)) = None
+item_of_value (value_node site (written.text string.Bits spelling)) = None
+item_of_value (value_node site (written.text string.Hexadecimal spelling)) = None
 item_of_value (value_node site (written.text string.Characters spelling)) = option_map (λ codes. all_of (record { site = site; codes = codes })) (quoted_codes spelling)
-item_of_value _ = None
+item_of_value (value_node site (written.reference name)) = None
+item_of_value (value_node site (written.chosen name tree)) = None
+item_of_value (value_node site (written.list es)) = None
+item_of_value (value_node site (written.arcs arcs)) = None
 
 abbrev pub item_alone : Option AlphabetItem → Option (List AlphabetItem)
 item_alone found = option_map (λ i. i ∷ []) found
@@ -96,8 +108,12 @@ unfoldable mutual
   pub items_of_element_form : WrittenElementForm → Option (List AlphabetItem)
   items_of_element_form (written.parentheses set) = items_of set
   items_of_element_form (written.value tree) = item_alone (item_of_value tree)
+  items_of_element_form (written.contained includes site name) = None
   items_of_element_form (written.range r) = item_alone (item_of_range r)
-  items_of_element_form _ = None
+  items_of_element_form (written.size inner) = None
+  items_of_element_form (written.from inner) = None
+  items_of_element_form (written.with_component inner) = None
+  items_of_element_form (written.with_components partial ps) = None
 
 -- ---- which characters are permitted
 
@@ -128,8 +144,19 @@ ranges_of (i ∷ others) = ranges_of_item i ++ ranges_of others
 -- ---- characters that are written and aren't of the type's alphabet (41)
 
 abbrev pub is_of_alphabet : AbstractKind → ℕ → Bool
+is_of_alphabet type.boolean code = false
+is_of_alphabet (type.integer names) code = false
+is_of_alphabet (type.bit_string names) code = false
+is_of_alphabet type.octet_string code = false
+is_of_alphabet type.null code = false
+is_of_alphabet type.object_identifier code = false
+is_of_alphabet (type.enumerated items) code = false
 is_of_alphabet (type.characters k) code = is_character k code
-is_of_alphabet _ code = false
+is_of_alphabet (type.sequence cs) code = false
+is_of_alphabet (type.set cs) code = false
+is_of_alphabet (type.choice cs) code = false
+is_of_alphabet (type.sequence_of t) code = false
+is_of_alphabet (type.set_of t) code = false
 
 abbrev pub are_of_alphabet : AbstractKind → List ℕ → Bool
 are_of_alphabet kind [] = true

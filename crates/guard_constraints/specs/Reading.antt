@@ -11,13 +11,12 @@ use Rattle.guard_model.specs.AbstractType.{AbstractType, AbstractKind, Constrain
 use Rattle.guard_model.specs.AbstractValue as value
 use Rattle.guard_model.specs.AbstractValue.{AbstractValue}
 use Rattle.guard_model.specs.TypeView.{OnePart, constraints_of}
-use Rattle.guard_der.specs.ProperConstraints.{is_integer, has_size, type_of_size, is_string, element_of, has_parts}
+use Rattle.guard_model.specs.Kinds.{is_integer, has_size, type_of_size, is_string, element_of, has_parts, kind_of}
 use Rattle.guard_syntax.specs.Trees as written
 use Rattle.guard_syntax.specs.Trees.{WrittenValue, WrittenEnd, WrittenRange, WrittenSet, WrittenSetForm, WrittenUnited, WrittenIntersection, WrittenMet, WrittenDifference, WrittenElement, WrittenElementForm, WrittenConstraint, WrittenParts, WrittenPart, WrittenJoinedIntersection, WrittenJoinedDifference, set_node, all_except, union, none_united, united, intersection, none_met, met, element_alone, element_except, element_node, constraint, no_parts, part, part_in}
 use Rattle.guard_values.specs.declared.fault.ValueFault.{ValueFault}
 use Rattle.guard_values.specs.declared.fault.ValueFault.TheVariants.{WrongNotation}
 use Rattle.guard_values.specs.Meanings.{Meaning}
-use Rattle.guard_der.specs.ProperConstraints.{kind_of}
 use Rattle.guard_values.specs.Reading.{read_whole}
 use Rattle.guard_constraints.specs.declared.fault.ConsFault.{ConsFault}
 use Rattle.guard_constraints.specs.declared.fault.ConsFault.TheVariants.{NotApplicable, ExclusiveLimit, AlphabetForm, UnknownComponent, ContainedMismatch, Value}
@@ -27,7 +26,7 @@ use Rattle.guard_constraints.specs.PermittedAlphabets.{AlphabetItem, items_of, f
 use Rattle.guard_constraints.specs.ListedParts.{PartHead, heads, word_of, named_in}
 use Rattle.guard_constraints.specs.PartFaults.{part_fault}
 use Rattle.guard_constraints.specs.Denotes.{joined}
-use Rattle.guard_constraints.specs.Faults.{characters_fault}
+use Rattle.guard_constraints.specs.Faults.{characters_fault, named_bits_fault}
 
 abbrev pub Read : Type 0 → Type 0
 Read A = Result A ConsFault
@@ -95,8 +94,12 @@ read_contained t site (Some u) = if has_base_of t (Some u) then Ok (at site (typ
 abbrev pub size_type : AbstractType → Site → Read AbstractType
 size_type t site = if has_size (kind_of t) then Ok type_of_size else Err (NotApplicable site)
 
+-- a size that was read, unless the type has named bits
+abbrev pub sized : AbstractType → Site → Constraint → Read Constraint
+sized t site c = unless_fault (named_bits_fault (kind_of t) site) >>= λ _. Ok (at site (type.size c))
+
 abbrev pub read_size : AbstractType → Site → (AbstractType → Read Constraint) → Read Constraint
-read_size t site inner = size_type t site >>= λ u. inner u >>= λ c. Ok (at site (type.size c))
+read_size t site inner = size_type t site >>= λ u. inner u >>= λ c. sized t site c
 
 -- the type of its elements
 abbrev pub element_type : AbstractType → Site → Read AbstractType

@@ -1,6 +1,7 @@
 -- Worked examples of constraint trees: which elements apply, the first fault, and what is read. That the definition says what is
 -- read is a law.
-use Rattle.std.specs.Prelude.{◌≡◌, ℕ, ◌+◌, true, false, List, [], ◌∷◌, codes, Option, Some, None, Ok, refl}
+use Rattle.std.specs.Prelude.{◌≡◌, ℕ, ◌+◌, pos, true, false, List, [], ◌∷◌, codes, Option, Some, None, Ok, refl}
+use Rattle.std.proofs.Common.{inl}
 use Rattle.guard_model.specs.declared.site.Site.{Site}
 use Rattle.guard_model.specs.declared.ty.CharKind.TheVariants.{Ia5}
 use Rattle.guard_model.specs.declared.tag.Class.TheVariants.{Universal}
@@ -12,12 +13,14 @@ use Rattle.guard_syntax.specs.declared.tree.PresenceWord.TheVariants as says
 use Rattle.guard_syntax.specs.declared.tree.StringKind.TheVariants as string
 use Rattle.guard_syntax.specs.Trees as written
 use Rattle.guard_syntax.specs.Trees.{WrittenSet, WrittenDifference, WrittenElementForm, WrittenConstraint, WrittenParts, value_node, set_node, all_except, union, none_united, united, intersection, none_met, met, element_alone, element_node, constraint, no_parts, part}
+use Rattle.guard_values.specs.declared.fault.ValueFault.TheVariants as value_fault
 use Rattle.guard_constraints.specs.declared.fault.ConsFault.TheVariants as fault
 use Rattle.guard_constraints.specs.Visible.{Visible}
 use Rattle.guard_constraints.specs.PermittedAlphabets.{items_of, items_of_form}
 use Rattle.guard_constraints.specs.ListedParts.{heads}
 use Rattle.guard_constraints.specs.PartFaults.{part_fault}
-use Rattle.guard_constraints.specs.Faults.{own_fault, fault_of}
+use Rattle.guard_constraints.specs.Faults.{own_fault}
+use Rattle.guard_constraints.specs.FirstFault.{IsFirstConstraintFault}
 use Rattle.guard_constraints.specs.Reading.{read, read_set, read_set_form, read_united, read_intersection, read_met, read_difference, read_element, read_element_form}
 
 -- ---- notation
@@ -158,5 +161,26 @@ unfolding read read_set read_set_form read_united read_intersection read_met rea
 parenthesis_first = refl
 
 -- the same on BOOLEAN: C8 at the first
-other_base : fault_of levels (tagged 1 type.boolean) met_levels ≡ Some (fault.ContainedMismatch (column 17))
+other_base : IsFirstConstraintFault levels (tagged 1 type.boolean) met_levels (fault.ContainedMismatch (column 17))
 other_base = refl
+
+-- ---- values, and what comes after them
+
+abbrev truth_at : ℕ → WrittenElementForm
+truth_at n = written.value (value_node (column n) (written.boolean true))
+
+-- BIT STRING { read(0) }
+abbrev flags : AbstractType
+flags = tagged 3 (type.bit_string (record { name = codes "read"; number = pos 0 } ∷ []))
+
+-- SIZE of it may not stand, but what is inside is looked at before: C9, V1 at TRUE
+size_of_truth : IsFirstConstraintFault nothing flags (in_parentheses 14 (written.size (in_parentheses 20 (truth_at 21))))
+    (fault.Value (value_fault.WrongNotation (column 21)))
+size_of_truth = inl (value_fault.WrongNotation (column 21), inl refl, refl)
+
+-- (SIZE (L)) of it, where L is INTEGER: C10 at SIZE
+abbrev size_of_level : WrittenElementForm
+size_of_level = written.size (in_parentheses 20 (written.contained false (column 21) (codes "L")))
+
+size_of_flags : IsFirstConstraintFault levels flags (in_parentheses 14 size_of_level) (fault.SizeOnNamedBits (column 15))
+size_of_flags = refl

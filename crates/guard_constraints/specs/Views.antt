@@ -11,11 +11,11 @@ use Rattle.guard_syntax.specs.declared.tree.ComponentConsTree.{ComponentConsTree
 use Rattle.guard_values.specs.declared.fault.ValueFault.{ValueFault}
 use Rattle.guard_values.specs.declared.fault.ValueFault.TheVariants as value_fault
 use Rattle.guard_values.specs.declared.scope.Known.{Known}
-use Rattle.guard_values.specs.Visible.{visible_definition, placed_definition}
 use Rattle.guard_values.specs.Views.{home_name, visible_from}
 use Rattle.guard_names.specs.declared.names.Names.{Names}
 use Rattle.guard_names.specs.Declarations.{definitions}
 use Rattle.guard_names.specs.NamesView.{modules_of, order_of}
+use Rattle.guard_names.specs.Places.{place_meant}
 use Rattle.guard_der.specs.Sound.{is_sound}
 use Rattle.guard_constraints.specs.declared.context.Context.{Context}
 use Rattle.guard_constraints.specs.declared.fault.ConsFault.{ConsFault}
@@ -53,7 +53,7 @@ placed_type known (Some place) = type_at known place
 -- what upper-case names mean in the module of this definition
 abbrev pub types_from : Names → Known → ℕ → List ℕ → Option AbstractType
 types_from names known id name =
-    placed_type known (placed_definition (order_of names) (visible_definition (modules_of names) (home_name (slice_get (definitions (modules_of names)) id)) name))
+    placed_type known (place_meant (modules_of names) (order_of names) (home_name (slice_get (definitions (modules_of names)) id)) name)
 
 abbrev pub visible_at : Names → Known → ℕ → Visible
 visible_at names known id = record { values = visible_from names known id; types = types_from names known id }

@@ -37,6 +37,9 @@ pub enum ConsFault {
     /// A value in the constraint is at fault.
     #[error("C9 Value {0}")]
     Value(ValueFault),
+    /// SIZE of a BIT STRING with named bits; at the word SIZE, after all faults inside it.
+    #[error("C10 SizeOnNamedBits {0}")]
+    SizeOnNamedBits(Site),
     /// A growth was refused.
     #[error("OutOfMemory")]
     OutOfMemory,

@@ -3,9 +3,11 @@
 //!
 //! | question | file |
 //! |---|---|
-//! | what does `constraint` promise | `written.rt`, `specs/Denotes.antt`, `specs/Faults.antt`; that a tree denotes one constraint at most, and then has no fault: `laws.rt` |
+//! | what does `constraint` promise | `written.rt`, `specs/Denotes.antt`, `specs/FirstFault.antt`; that a tree denotes one constraint at most, has one first fault at most, and never both: `laws.rt` |
 //! | which element applies to which kind | `specs/Applies.antt`, `kinds.rt` |
-//! | what is a fault, and how does it print | `fault.rt`; which one comes first: `specs/Faults.antt`, in WITH COMPONENTS `specs/PartFaults.antt` |
+//! | what is a fault, and how does it print | `specs/Faults.antt`, in WITH COMPONENTS `specs/PartFaults.antt`; `fault.rt` |
+//! | which fault comes first | `specs/FirstFault.antt` |
+//! | how are values read | `written_values.rt` |
 //! | how are ends of ranges read | `range_ends.rt`, `specs/RangeEnds.antt` |
 //! | what may stand inside FROM | `alphabets.rt`, `specs/PermittedAlphabets.antt` |
 //! | what may WITH COMPONENTS list | `listed_parts.rt`, `specs/ListedParts.antt` |
@@ -25,6 +27,7 @@ mod listed_parts;
 mod range_ends;
 mod ranges;
 mod written;
+mod written_values;
 
 pub use fault::ConsFault;
 pub use int_set::IntSet;

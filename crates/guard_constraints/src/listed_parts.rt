@@ -3,7 +3,7 @@ ghost use Rattle.std.specs.Prelude.{◌≡◌, ◌<◌, [], length, map, option_
 ghost use Rattle.guard_model.specs.Answer.{Gives};
 ghost use Rattle.guard_model.specs.TypeView.{type_view, kind_view, component_view, components_of, presence_view};
 ghost use Rattle.guard_der.specs.Fits.{may_be_absent};
-ghost use Rattle.guard_der.specs.ProperConstraints.{kind_of};
+ghost use Rattle.guard_model.specs.Kinds.{kind_of};
 ghost use Rattle.guard_der.specs.Sound.{is_sound};
 ghost use Rattle.guard_constraints.specs.ListedParts as listing;
 ghost use Rattle.guard_constraints.specs.PartFaults.{part_fault};
@@ -11,7 +11,6 @@ ghost use Rattle.guard_constraints.specs.Reading as reading;
 ghost use Rattle.guard_constraints.specs.Views.{named, head_view, placed_view, located_view};
 
 use crate::fault::ConsFault;
-use crate::kinds::{components_in, has_parts, is_choice};
 use guard_model::{Comp, Kind, Presence, Site, Ty, Word};
 use guard_syntax::{ComponentConsTree, PresenceWord};
 
@@ -45,7 +44,7 @@ pub fn located<'a>(name: &[u8], ty: &'a Ty, site: Site) -> Result<(u8, &'a Ty), 
     ensures sound { IfOk result (λ x. IsTrue (is_sound (type_view x.1.now))) }
     ensures given { Gives located_view named result (reading.located site (kind_of (type_view ty.now)) name.now) }
 {
-    match component_named(name, components_in(&ty.kind)) {
+    match component_named(name, ty.kind.components()) {
         Some((place, comp)) => Ok((place as u8, &comp.ty)),
         None => Err(ConsFault::UnknownComponent(site)),
     }
@@ -55,7 +54,7 @@ pub fn located<'a>(name: &[u8], ty: &'a Ty, site: Site) -> Result<(u8, &'a Ty), 
 pub fn check_parts(parts: &[ComponentConsTree], ty: &Ty, site: Site) -> Result<(), ConsFault>
     ensures { Gives (λ u. tt) named result (reading.checked (type_view ty.now) site (map head_view parts.now)) }
 {
-    if !has_parts(&ty.kind) {
+    if !ty.kind.has_parts() {
         return Err(ConsFault::NotApplicable(site));
     }
     check_each(&ty.kind, parts)
@@ -74,7 +73,7 @@ fn check_each(kind: &Kind, parts: &[ComponentConsTree]) -> Result<(), ConsFault>
     if let Some(site) = first_repeated(parts) {
         return Err(ConsFault::RepeatedComponent(site));
     }
-    match second_present(is_choice(kind), parts) {
+    match second_present(kind.is_choice(), parts) {
         Some(site) => Err(ConsFault::TwoPresent(site)),
         None => Ok(()),
     }
@@ -97,8 +96,8 @@ fn first_bad_word(kind: &Kind, parts: &[ComponentConsTree]) -> Option<Site>
 fn has_bad_word(kind: &Kind, part: &ComponentConsTree) -> bool
     ensures { result ≡ listing.has_bad_word (kind_view kind.now) (head_view part.now) }
 {
-    match component_named(part.name, components_in(kind)) {
-        Some((_, comp)) => !may_say(is_choice(kind), &comp.presence, part.presence),
+    match component_named(part.name, kind.components()) {
+        Some((_, comp)) => !may_say(kind.is_choice(), &comp.presence, part.presence),
         None => false,
     }
 }
@@ -130,7 +129,7 @@ fn first_unknown(kind: &Kind, parts: &[ComponentConsTree]) -> Option<Site>
     ensures { result ≡ listing.first_where (listing.is_unknown (kind_view kind.now)) (map head_view parts.now) }
 {
     for part in parts {
-        if component_named(part.name, components_in(kind)).is_none() {
+        if component_named(part.name, kind.components()).is_none() {
             return Some(part.site);
         }
     }

@@ -13,10 +13,10 @@ ghost use Rattle.guard_constraints.specs.Views.{named};
 
 use crate::context::Context;
 use crate::fault::ConsFault;
-use crate::kinds::is_integer;
+use crate::written_values::written_value;
 use guard_model::{Cons, Limit, Rule, Site, Ty, Value};
 use guard_syntax::{EndForm, EndTree, RangeTree, StringKind, ValueForm, ValueTree};
-use guard_values::{ValueFault, value};
+use guard_values::ValueFault;
 use std::alloc::Global;
 
 /// The integers between two ends.
@@ -31,7 +31,7 @@ pub fn range(
     requires fitting { AreKnownFitting context.known.now }
     ensures { Gives constraint_view named result (read_range (visible_from context.entry.names.now context.entry.known.now context.entry.id) (type_view ty.now) site (range_view tree.now)) }
 {
-    if !is_integer(&ty.kind) {
+    if !ty.kind.is_integer() {
         return Err(ConsFault::NotApplicable(site));
     }
     if !has_proper_ends(tree) {
@@ -83,14 +83,7 @@ fn number_at(alloc: Global, context: Context, end: &EndTree, ty: &Ty) -> Result<
     requires fitting { AreKnownFitting context.known.now }
     ensures { Gives (λ n. n) named result (read_end (visible_from context.entry.names.now context.entry.known.now context.entry.id) (type_view ty.now) (end_view end.now)) }
 {
-    let number = value(
-        alloc,
-        context.names,
-        context.known,
-        context.id,
-        ty,
-        &value_of_end(end),
-    )?;
+    let number = written_value(alloc, context, &value_of_end(end), ty)?;
     integer_in(end.site, &number)
 }
 

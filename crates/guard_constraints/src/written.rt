@@ -9,10 +9,11 @@ ghost use Rattle.guard_der.specs.Sound.{is_sound, is_proper_constraint};
 ghost use Rattle.guard_syntax.specs.Trees as trees;
 ghost use Rattle.guard_syntax.specs.SetViews as views;
 ghost use Rattle.guard_syntax.specs.Views as values;
-ghost use Rattle.guard_der.specs.ProperConstraints.{kind_of};
+ghost use Rattle.guard_model.specs.Kinds.{kind_of};
 ghost use Rattle.guard_values.specs.Views.{AreKnownFitting};
 ghost use Rattle.guard_constraints.specs.Denotes.{Denotes};
-ghost use Rattle.guard_constraints.specs.Faults.{fault_of};
+ghost use Rattle.guard_constraints.specs.declared.fault.ConsFault.{ConsFault};
+ghost use Rattle.guard_constraints.specs.FirstFault.{IsFirstConstraintFault};
 ghost use Rattle.guard_constraints.specs.Reading as reading;
 ghost use Rattle.guard_constraints.specs.Views.{named, visible_at, visible_in, AreKnownSound};
 
@@ -23,13 +24,14 @@ use crate::fault::ConsFault;
 use crate::kinds::{element_type, size_type};
 use crate::listed_parts::{check_parts, located, word_of};
 use crate::range_ends::range;
+use crate::written_values::written_value;
 use guard_model::{Cons, Part, Rule, Site, Ty};
 use guard_names::{Id, Names};
 use guard_syntax::{
     ComponentConsTree, ConsTree, DifferenceTree, ElementForm, ElementTree, IntersectionTree,
     JoinedDifference, JoinedIntersection, SetForm, SetTree, ValueTree,
 };
-use guard_values::{Known, value};
+use guard_values::Known;
 use std::alloc::{AllocError, Global};
 
 /// The constraint that a tree denotes on a type, where it stands in this definition; or the first fault. The type and each known type
@@ -48,9 +50,9 @@ pub fn constraint(
     // The constraint is the one denoted, with the sites of its nodes, and it may stand on the type.
     ensures denoted { IfOk result (λ c. Denotes (visible_at names.now known.now id) (type_view ty.now) (views.constraint_view tree.now) (constraint_view c)) }
     ensures proper { IfOk result (λ c. IsTrue (is_proper_constraint (constraint_view c) (type_view ty.now))) }
-    ensures faultless { IfOk result (λ c. fault_of (visible_at names.now known.now id) (type_view ty.now) (views.constraint_view tree.now) ≡ None) }
+    ensures faultless { IfOk result (λ c. (f : ConsFault) → IsFirstConstraintFault (visible_at names.now known.now id) (type_view ty.now) (views.constraint_view tree.now) f → ⊥) }
     // A fault that is named is the first, and then nothing is denoted.
-    ensures first { IfErr result (λ e. IfSome (named e) (λ f. fault_of (visible_at names.now known.now id) (type_view ty.now) (views.constraint_view tree.now) ≡ Some f)) }
+    ensures first { IfErr result (λ e. IfSome (named e) (λ f. IsFirstConstraintFault (visible_at names.now known.now id) (type_view ty.now) (views.constraint_view tree.now) f)) }
     ensures none { IfErr result (λ e. IfSome (named e) (λ f. (c : Constraint) → Denotes (visible_at names.now known.now id) (type_view ty.now) (views.constraint_view tree.now) c → ⊥)) }
 {
     on_type(alloc, Context { names, known, id }, tree, ty)
@@ -288,7 +290,7 @@ fn single_value(
     requires fitting { AreKnownFitting context.known.now }
     ensures { Gives constraint_view named result (reading.read_element_form (visible_in context.entry) (type_view ty.now) site (trees.value (values.value_view tree.now))) }
 {
-    let single = value(alloc, context.names, context.known, context.id, ty, tree)?;
+    let single = written_value(alloc, context, tree, ty)?;
     Ok(Cons {
         site,
         rule: Rule::One(single),
@@ -310,7 +312,18 @@ fn size(
     ensures { Gives constraint_view named result (reading.read_element_form (visible_in context.entry) (type_view ty.now) site (trees.size (views.constraint_view inner.now))) }
 {
     let number = size_type(alloc, ty, site)?;
-    let size = Box::new(alloc, on_type(alloc, context, inner, &number)?)?;
+    let size = on_type(alloc, context, inner, &number)?;
+    of_size(alloc, site, size, ty)
+}
+
+/// The size, unless the type has named bits.
+fn of_size(alloc: Global, site: Site, size: Cons, ty: &Ty) -> Result<Cons, ConsFault>
+    ensures { Gives constraint_view named result (reading.sized (type_view ty.now) site (constraint_view size)) }
+{
+    if ty.kind.has_named_bits() {
+        return Err(ConsFault::SizeOnNamedBits(site));
+    }
+    let size = Box::new(alloc, size)?;
     Ok(Cons {
         site,
         rule: Rule::Size(size),

@@ -22,7 +22,7 @@ use Rattle.guard_model.specs.declared.value.Value.{Value}
 use Rattle.guard_model.proofs.TypeViews.{type_view_is, component_view_is}
 use Rattle.guard_model.specs.declared.site.Site.{Site}
 use Rattle.guard_model.specs.declared.ty.Word.{Word}
-use Rattle.guard_der.specs.ProperConstraints.{kind_of}
+use Rattle.guard_model.specs.Kinds.{kind_of}
 use Rattle.guard_eval.specs.Presence.{field_at, is_listed, is_there}
 use Rattle.guard_eval.specs.Violations.{AbstractViolation}
 use Rattle.guard_eval.specs.Failures.{failure, failure_from, failure_of_chosen, first_part_failure, part_failure, placing_failure}

@@ -4,7 +4,7 @@ use Rattle.std.specs.Option.{is_none, is_some}
 use Rattle.guard_model.specs.AbstractType.{AbstractType, AbstractKind, Constraint}
 use Rattle.guard_model.specs.AbstractValue.{AbstractValue}
 use Rattle.guard_der.specs.Fits.{fits}
-use Rattle.guard_der.specs.ProperConstraints.{kind_of}
+use Rattle.guard_model.specs.Kinds.{kind_of}
 use Rattle.guard_eval.specs.declared.violation.Violation.{Violation}
 use Rattle.guard_eval.specs.Member.{is_member, holds}
 use Rattle.guard_eval.specs.Violations.{violation_view, violation}

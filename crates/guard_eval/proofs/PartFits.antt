@@ -10,7 +10,7 @@ use Rattle.guard_model.specs.AbstractValue.{AbstractValue, Fields}
 use Rattle.guard_model.specs.Components.{components_in, component_at}
 use Rattle.guard_model.specs.TypeView.{OneComponent}
 use Rattle.guard_der.specs.Fits.{fits, fits_kind, fits_fields, fits_alternative, may_be_absent}
-use Rattle.guard_der.specs.ProperConstraints.{kind_of}
+use Rattle.guard_model.specs.Kinds.{kind_of}
 use Rattle.guard_eval.specs.Presence.{kind_at, kind_found, field_at, part_at}
 
 pub fits_of : (t : AbstractType) (v : AbstractValue) → fits t v ≡ fits_kind (kind_of t) v

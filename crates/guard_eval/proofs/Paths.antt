@@ -19,7 +19,7 @@ use Rattle.guard_model.specs.Counts.{component_count, item_count}
 use Rattle.guard_model.specs.TypeView.{OneComponent}
 use Rattle.guard_tagcheck.specs.Limits.{nesting, nesting_inside, deepest, is_tagged, is_formed, has_few_components, every_part, every_component, keeps_limits, is_within_limits}
 use Rattle.guard_der.specs.Fits.{fits, fits_kind, fits_fields, fits_alternative, every_fits, are_few, fits_items, may_be_absent}
-use Rattle.guard_der.specs.ProperConstraints.{kind_of}
+use Rattle.guard_model.specs.Kinds.{kind_of}
 use Rattle.guard_eval.specs.Presence.{element_kind, kind_at, kind_found, has_parts, part_at, is_there, is_placed, is_ruled_out, first_ruled_out, first_intruder}
 use Rattle.guard_eval.specs.Member.{holds}
 use Rattle.guard_eval.specs.Violations.{AbstractViolation, below, here, unless, first_among, blame_in_items, misplaced, blame_in_part, blame_intruder, violation, violation_inside, violation_from, violation_of_chosen, first_failing, blame, first_failing_part}

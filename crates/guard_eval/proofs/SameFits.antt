@@ -2,12 +2,12 @@
 use Rattle.std.proofs.Common.{◌≡◌, refl, sym, ◌∙◌, ap, ℕ, zero, suc, List, [], ◌∷◌, Bool, ◌&&◌, Option, Some}
 use Rattle.guard_model.specs.declared.tag.Tag.{Tag}
 use Rattle.guard_model.specs.AbstractType as type
-use Rattle.guard_model.specs.AbstractType.{AbstractType, AbstractKind, AbstractPresence, Components, type_of, no_components, component}
+use Rattle.guard_model.specs.AbstractType.{AbstractType, AbstractKind, AbstractPresence, Components, NamedNumber, type_of, no_components, component}
 use Rattle.guard_model.specs.AbstractValue as value
 use Rattle.guard_model.specs.AbstractValue.{AbstractValue, Fields, Items}
-use Rattle.guard_model.specs.SameBase.{bare, bare_kind, bare_components}
+use Rattle.guard_model.specs.SameBase.{bare, bare_kind, bare_components, bare_names}
 use Rattle.guard_der.specs.Der.{◌>>=◌, Part, der, contents_octets, alternative_octets, parts_of, part_unless, is_left_out, item_encodings, outermost, outermost_inside, outermost_alternative, is_constructed, joined, parts_joined, ascending}
-use Rattle.guard_der.specs.Fits.{fits, fits_kind, fits_fields, fits_alternative, every_fits, are_few, are_ascending, may_be_absent}
+use Rattle.guard_der.specs.Fits.{fits, fits_kind, fits_fields, fits_alternative, every_fits, are_few, are_ascending, may_be_absent, fits_bits, ends_as_named}
 
 and_same : {a b c d : Bool} → a ≡ c → b ≡ d → (a && b) ≡ (c && d)
 and_same e f = cc
@@ -77,11 +77,17 @@ every_same : (f g : AbstractValue → Bool) → ((v : AbstractValue) → f v ≡
 every_same f g same value.no_items = refl
 every_same f g same (value.item v vs) = and_same (same v) (every_same f g same vs)
 
+-- of named bits it counts whether there are any
+named_alike : (names : List NamedNumber) (os : List ℕ) (unused : ℕ) → ends_as_named (bare_names names) os unused ≡ ends_as_named names os unused
+named_alike [] os unused = refl
+named_alike (n ∷ ns) os unused = refl
+
 mutual
   fits_bare : (t : AbstractType) (v : AbstractValue) → fits (bare t) v ≡ fits t v
   fits_bare (type_of tags kind cons) v = kind_bare kind v
 
   pub kind_bare : (kind : AbstractKind) (v : AbstractValue) → fits_kind (bare_kind kind) v ≡ fits_kind kind v
+  kind_bare (type.bit_string names) (value.bit_string os unused) = and_same {a = fits_bits os unused} refl (named_alike names os unused)
   kind_bare (type.sequence cs) (value.fields fs) = fields_bare cs fs
   kind_bare (type.set cs) (value.fields fs) = fields_bare cs fs
   kind_bare (type.choice cs) (value.chosen i v) = chosen_bare cs i v

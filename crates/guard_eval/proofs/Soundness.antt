@@ -16,7 +16,8 @@ use Rattle.guard_tagcheck.specs.Search.{first_clash}
 use Rattle.guard_tagcheck.specs.Limits.{nesting, is_tagged, are_low, has_few_components, every_part, every_component, keeps_limits, is_within_limits}
 use Rattle.guard_tagcheck.specs.Limits as limits
 use Rattle.guard_der.specs.Sound.{is_sound, is_proper, is_proper_kind, is_proper_presence, are_proper, are_proper_constraints, is_proper_constraint, are_proper_parts, none_clash}
-use Rattle.guard_der.specs.ProperConstraints.{type_of_size, has_size, has_parts, part_of, is_there_and, kind_of}
+use Rattle.guard_der.specs.ProperConstraints.{is_there_and, takes_size}
+use Rattle.guard_model.specs.Kinds.{type_of_size, has_parts, part_of, kind_of}
 use Rattle.guard_eval.proofs.Bases.{KeepsBase, PartsKeepBase, ComponentsKeepBase, AllKeepBase, ConstraintKeepsBase, ListedKeepBase}
 use Rattle.guard_eval.specs.Presence.{kind_found}
 
@@ -88,7 +89,7 @@ mutual
       let b = and_parts (is_proper u && none_clash (first_clash u)) (nat_le (nesting u) 32) a.1 in
       (same_from u (type_of tags kind cons) a.0, (proper_keeps u (and_parts (is_proper u) (none_clash (first_clash u)) b.0).0).1)
   constraint_keeps (at site (type.range low high)) t h = tt
-  constraint_keeps (at site (type.size c)) (type_of tags kind cons) h = constraint_keeps c type_of_size (and_parts (has_size kind) (is_proper_constraint c type_of_size) h).1
+  constraint_keeps (at site (type.size c)) (type_of tags kind cons) h = constraint_keeps c type_of_size (and_parts (takes_size kind) (is_proper_constraint c type_of_size) h).1
   constraint_keeps (at site (type.permitted_alphabet ranges)) t h = tt
   constraint_keeps (at site (type.with_component c)) (type_of tags (type.sequence_of u) cons) h = constraint_keeps c u h
   constraint_keeps (at site (type.with_component c)) (type_of tags (type.set_of u) cons) h = constraint_keeps c u h

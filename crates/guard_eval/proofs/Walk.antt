@@ -12,7 +12,8 @@ use Rattle.guard_model.specs.AbstractValue as value
 use Rattle.guard_model.specs.AbstractValue.{AbstractValue, Fields, Items}
 use Rattle.guard_model.specs.Components.{components_in, component_at}
 use Rattle.guard_model.specs.TypeView.{OneComponent}
-use Rattle.guard_der.specs.Fits.{fits, fits_kind, fits_fields, fits_alternative, every_fits, are_few, fits_items, fits_128_bits, may_be_absent}
+use Rattle.guard_der.specs.Fits.{fits, fits_kind, fits_fields, fits_alternative, every_fits, are_few, fits_items, may_be_absent}
+use Rattle.guard_model.specs.Limits.{fits_128_bits}
 use Rattle.guard_eval.specs.Elements.{size_of, some_passes}
 use Rattle.guard_eval.specs.Presence.{element_kind, kind_at, has_parts, part_at, is_there, is_placed, first_intruder}
 use Rattle.guard_eval.specs.Member.{holds, some_hold}

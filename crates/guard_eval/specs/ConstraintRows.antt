@@ -83,7 +83,7 @@ one_character : is_member (tagged 12 (type.characters Utf8) (alone (at (column 1
 one_character = refl
 
 -- BIT STRING (SIZE (3))
-three_bits : is_member (tagged 3 type.bit_string (alone (at (column 12) (type.size (number_at 18 3))))) (value.bit_string (0xA0 ∷ []) 5) ≡ true
+three_bits : is_member (tagged 3 (type.bit_string []) (alone (at (column 12) (type.size (number_at 18 3))))) (value.bit_string (0xA0 ∷ []) 5) ≡ true
 three_bits = refl
 
 -- SIZE applies to no INTEGER

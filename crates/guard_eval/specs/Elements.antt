@@ -7,7 +7,7 @@ use Rattle.guard_model.specs.declared.ty.Limit.TheVariants.{Free, At, Past}
 use Rattle.guard_model.specs.AbstractValue as value
 use Rattle.guard_model.specs.AbstractValue.{AbstractValue, Items}
 use Rattle.guard_model.specs.Counts.{item_count}
-use Rattle.guard_der.specs.Fits.{fits_128_bits}
+use Rattle.guard_model.specs.Limits.{fits_128_bits}
 
 -- MIN is no end, and `<` leaves the end out (X.680 51.4.2, 51.4.3)
 abbrev pub is_above : Limit → ℤ → Bool
@@ -25,7 +25,8 @@ abbrev pub is_between : Limit → Limit → AbstractValue → Bool
 is_between low high (value.integer z) = is_above low z && is_under high z
 is_between low high _ = false
 
--- the size of a value in bits, octets, characters or elements (51.5); other kinds have none
+-- The size of a value in bits, octets, characters or elements (51.5); other kinds have none. A string of bits that fits its type has at
+-- most 7 unused bits, and none without an octet: so the difference is never cut off at 0.
 abbrev pub size_of : AbstractValue → Option ℕ
 size_of (value.bit_string os unused) = Some (8 * length os - unused)
 size_of (value.octet_string os) = Some (length os)

@@ -9,9 +9,8 @@ use Rattle.guard_model.specs.AbstractValue as value
 use Rattle.guard_model.specs.AbstractValue.{AbstractValue, Fields}
 use Rattle.guard_model.specs.Components.{components_in, component_at}
 use Rattle.guard_model.specs.TypeView.{OneComponent}
-use Rattle.guard_tagcheck.specs.Limits.{is_choice}
+use Rattle.guard_model.specs.Kinds.{is_choice, kind_of}
 use Rattle.guard_der.specs.Fits.{may_be_absent}
-use Rattle.guard_der.specs.ProperConstraints.{kind_of}
 
 -- ---- parts of a type and of a value
 

@@ -101,7 +101,7 @@ below_low_end = refl
 truth : violation (plain 1 type.boolean) (value.boolean true) ≡ None
 truth = refl
 
-bits : violation (plain 3 type.bit_string) (value.bit_string (0xA0 ∷ []) 5) ≡ None
+bits : violation (plain 3 (type.bit_string [])) (value.bit_string (0xA0 ∷ []) 5) ≡ None
 bits = refl
 
 octets : violation (plain 4 type.octet_string) (value.octet_string (1 ∷ 2 ∷ [])) ≡ None

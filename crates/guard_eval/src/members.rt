@@ -4,7 +4,7 @@ ghost use Rattle.guard_model.specs.TypeView.{type_view, constraint_view};
 ghost use Rattle.guard_model.specs.ValueView.{value_view};
 ghost use Rattle.guard_der.specs.Fits.{fits};
 ghost use Rattle.guard_der.specs.Sound.{is_sound, is_proper_constraint};
-ghost use Rattle.guard_der.specs.ProperConstraints.{kind_of};
+ghost use Rattle.guard_model.specs.Kinds.{kind_of};
 ghost use Rattle.guard_eval.specs.Member.{holds, is_member};
 
 use super::search::{failure, failure_by};

@@ -1,9 +1,7 @@
 //! What WITH COMPONENTS says of the presence of components and alternatives (X.680 51.8.5 to 51.8.9).
 ghost use Rattle.std.specs.Prelude.{◌≡◌, map, option_map};
-ghost use Rattle.guard_model.specs.Components.{components_in, component_at};
-ghost use Rattle.guard_model.specs.TypeView.{kind_view, component_view, components_of, part_view, parts_of, presence_view};
+ghost use Rattle.guard_model.specs.TypeView.{kind_view, component_view, part_view, parts_of, presence_view};
 ghost use Rattle.guard_model.specs.ValueView.{value_view, field_view, fields_view};
-ghost use Rattle.guard_tagcheck.specs.Limits.{is_choice};
 ghost use Rattle.guard_der.specs.Fits.{may_be_absent};
 ghost use Rattle.guard_eval.specs.Presence.{element_kind, kind_at, has_parts, field_at, part_at, is_there, is_as_said, is_listed, is_ruled_out, first_ruled_out, first_intruder};
 
@@ -20,30 +18,11 @@ pub fn element_kind(kind: &Kind) -> &Kind
     }
 }
 
-/// The components of a SEQUENCE or SET, or the alternatives of a CHOICE.
-pub fn components_in(kind: &Kind) -> &[Comp]
-    ensures { components_of (map component_view result.now) ≡ components_in (kind_view kind.now) }
-{
-    match kind {
-        Kind::Sequence(comps) => comps,
-        Kind::Set(comps) => comps,
-        Kind::Choice(comps) => comps,
-        _ => &[],
-    }
-}
-
-/// The component or alternative at this place.
-pub fn component_at(kind: &Kind, at: u8) -> Option<&Comp>
-    ensures { option_map (λ c. component_view c.now) result ≡ component_at at (components_in (kind_view kind.now)) }
-{
-    components_in(kind).get(usize::from(at))
-}
-
-/// Its kind.
+/// The kind of the component or alternative at this place.
 pub fn kind_at(kind: &Kind, at: u8) -> &Kind
     ensures { kind_view result.now ≡ kind_at at (kind_view kind.now) }
 {
-    match component_at(kind, at) {
+    match kind.component(at) {
         Some(comp) => &comp.ty.kind,
         None => kind,
     }
@@ -118,7 +97,7 @@ pub fn first_intruder(partial: bool, parts: &[Part], kind: &Kind, value: &Value)
     if partial {
         return None;
     }
-    let comps = components_in(kind);
+    let comps = kind.components();
     for (index, comp) in comps.iter().enumerate() {
         if is_ruled_out(parts, kind, index, &comp.presence) && is_there(value, index) {
             return Some(index);
@@ -131,7 +110,7 @@ pub fn first_intruder(partial: bool, parts: &[Part], kind: &Kind, value: &Value)
 fn is_ruled_out(parts: &[Part], kind: &Kind, at: usize, presence: &Presence) -> bool
     ensures { result ≡ is_ruled_out (kind_view kind.now) (parts_of (map part_view parts.now)) at (presence_view presence.now) }
 {
-    !is_listed(parts, at) && (is_choice(kind) || is_optional(presence))
+    !is_listed(parts, at) && (kind.is_choice() || is_optional(presence))
 }
 
 fn is_listed(parts: &[Part], at: usize) -> bool
@@ -143,13 +122,4 @@ fn is_listed(parts: &[Part], at: usize) -> bool
         }
     }
     false
-}
-
-fn is_choice(kind: &Kind) -> bool
-    ensures { result ≡ is_choice (kind_view kind.now) }
-{
-    match kind {
-        Kind::Choice(_) => true,
-        _ => false,
-    }
 }

@@ -12,7 +12,7 @@ ghost use Rattle.guard_eval.specs.Failures.{under, failure, failure_inside, fail
 
 use super::elements::{is_between, is_spelled_in, size_of};
 use super::presence::{
-    component_at, element_kind, first_intruder, has_parts, is_as_said, is_there, kind_at, part_at,
+    element_kind, first_intruder, has_parts, is_as_said, is_there, kind_at, part_at,
 };
 use super::violation::Violation;
 use guard_model::{Comp, Cons, Kind, Part, Rule, Site, Ty, Value};
@@ -229,7 +229,7 @@ fn first_part_failure(
 fn part_failure(part: &Part, partial: bool, kind: &Kind, value: &Value) -> Option<Violation>
     ensures { option_map violation_view result ≡ part_failure (part_view part.now) partial (kind_view kind.now) (value_view value.now) }
 {
-    let comp = component_at(kind, part.at);
+    let comp = kind.component(part.at);
     let there = is_there(value, usize::from(part.at));
     match placing_failure(part, partial, comp, there) {
         Some(violation) => Some(violation),

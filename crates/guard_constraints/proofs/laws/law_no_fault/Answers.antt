@@ -3,4 +3,4 @@ use Rattle.guard_constraints.proofs.Values.{values_said, values_agree}
 use Rattle.guard_constraints.proofs.laws.law_no_fault.Goals as goal
 
 pub returns : goal.returns
-returns c = λ names t tree x fit sound h. no_fault names t tree x (values_said names.values) (values_agree names.values fit) sound h
+returns c = λ names t tree x f fit sound h k. no_fault names t tree x f (values_said names.values) (values_agree names.values fit) sound h k

@@ -3,7 +3,7 @@ use Rattle.std.proofs.lemmas.Result.{err_from_is_err_and}
 use Rattle.guard_model.specs.Each.{each}
 use Rattle.guard_model.specs.TypeView.{type_view, constraint_view, part_view}
 use Rattle.guard_model.proofs.Loops.{stops_at, ends_there}
-use Rattle.guard_der.specs.ProperConstraints.{kind_of}
+use Rattle.guard_model.specs.Kinds.{kind_of}
 use Rattle.guard_syntax.specs.Trees.{WrittenJoinedIntersection, WrittenJoinedDifference}
 use Rattle.guard_syntax.specs.SetViews as views
 use Rattle.guard_syntax.specs.declared.tree.ElementForm.TheViews.{out-DifferenceTree, out-ElementTree, out-IntersectionTree, out-SetTree}

@@ -14,13 +14,13 @@ use Rattle.guard_syntax.specs.Trees.{WrittenModule}
 use Rattle.guard_syntax.specs.declared.tree.Assignment.{Assignment}
 use Rattle.guard_syntax.specs.declared.tree.Module.{Module}
 use Rattle.guard_names.specs.Declarations.{Definition, definitions, defined_in}
-use Rattle.guard_values.specs.Visible.{placed_definition}
+use Rattle.guard_names.specs.Places.{place_in}
 use Rattle.guard_schema.specs.Entries.{Entry, entries_from, place_named, unvalued}
 use Rattle.guard_schema.specs.Known.{built_at}
 use Rattle.guard_schema.specs.Pairs.{paired, built_view}
 use Rattle.guard_schema.specs.Schemas.{AbstractSchema, assigns, number_assigned, assigned_type, schema_of}
 use Rattle.guard_schema.specs.Views.{entry_view, unvalued_at, type_place}
-use Rattle.guard_schema.specs.declared.naming.NamedDefinition.{NamedDefinition}
+use Rattle.guard_schema.specs.declared.build.NamedDefinition.{NamedDefinition}
 
 -- ---- entries, one definition after another
 
@@ -112,13 +112,13 @@ module _ (order : List ℕ) (ts : List Ty) (vs : List (Option Value)) where
   placed None = refl
   placed (Some p) = kept p (slice_get vs p) ∙ sym (at_place ts vs p)
 
-  numbered : (o : Option ℕ) → option_map type_view (option_and_then (slice_get ts) (option_and_then (type_place order vs) o)) ≡ assigned_type (built_at (paired ts vs) (placed_definition order o))
+  numbered : (o : Option ℕ) → option_map type_view (option_and_then (slice_get ts) (option_and_then (type_place order vs) o)) ≡ assigned_type (built_at (paired ts vs) (option_and_then (place_in order) o))
   numbered None = refl
-  numbered (Some n) = placed (placed_definition order (Some n))
+  numbered (Some n) = placed (place_in order n)
 
   module _ (ms : List WrittenModule) (names : List (List ℕ)) (es : List Entry) (named : names ≡ map (λ m. m.name) ms) (are : es ≡ entries_from (type_place order vs) 0 (definitions ms)) where
     by_name : (home name : List ℕ) → option_map type_view (option_and_then (slice_get ts) (place_named home name es))
-        ≡ assigned_type (built_at (paired ts vs) (placed_definition order (number_assigned home name (definitions ms))))
+        ≡ assigned_type (built_at (paired ts vs) (option_and_then (place_in order) (number_assigned home name (definitions ms))))
     by_name home name =
         ap (λ xs. option_map type_view (option_and_then (slice_get ts) (place_named home name xs))) are
         ∙ ap (λ o. option_map type_view (option_and_then (slice_get ts) o)) (found (type_place order vs) home name (definitions ms))
@@ -128,7 +128,7 @@ module _ (order : List ℕ) (ts : List Ty) (vs : List (Option Value)) where
         (schema_of (record { modules = ms; order = order; built = paired ts vs }))
     schema_is =
         let types : (λ (home name : List ℕ). option_map type_view (option_and_then (slice_get ts) (place_named home name es)))
-        ≡ (λ (home name : List ℕ). assigned_type (built_at (paired ts vs) (placed_definition order (number_assigned home name (definitions ms))))) =
+        ≡ (λ (home name : List ℕ). assigned_type (built_at (paired ts vs) (option_and_then (place_in order) (number_assigned home name (definitions ms))))) =
         fun_ext (λ home. fun_ext (λ name. by_name home name)) in
         ap (λ (ns : List (List ℕ)). record { modules = ns; types = λ home name. option_map type_view (option_and_then (slice_get ts) (place_named home name es)) }) named
         ∙ ap (λ (f : List ℕ → List ℕ → Option AbstractType). record { modules = map (λ m. m.name) ms; types = f }) types

@@ -13,7 +13,8 @@ use Rattle.guard_schema.specs.Outcomes.{Is, Then, RefusesBy}
 use Rattle.guard_schema.specs.Faults.{AbstractFault, Outcome}
 use Rattle.guard_schema.specs.Known.{Known, with_built}
 use Rattle.guard_schema.specs.Building.{BuildsNumber, BuildsAll}
-use Rattle.guard_schema.specs.Finishing.{Filling, AddsOne, Adds, Fills, FillsEntry, FillsOthers, FillsAlternative}
+use Rattle.guard_schema.specs.Finishing.{AddsOne, Adds}
+use Rattle.guard_schema.specs.InTurn.{Filling, FillsInTurn, EntryInTurn, OthersInTurn, AlternativeInTurn}
 use Rattle.guard_schema.proofs.Entries as entries
 use Rattle.guard_schema.proofs.Outcomes.{flattened}
 
@@ -39,43 +40,43 @@ abbrev components : List CompTree → WrittenComponents
 components ts = components_of (map written.component_view ts)
 
 pub one_entry : (names : Visible) (site : Site) (form : WrittenComponentForm) (cs : WrittenComponents) (f : Filling) (answer : Outcome Filling)
-    → Then (FillsEntry names form f) (Fills names cs) answer → Fills names (component_before site form cs) f answer
+    → Then (EntryInTurn names form f) (FillsInTurn names cs) answer → FillsInTurn names (component_before site form cs) f answer
 one_entry names site (named name t presence) cs f answer h = h
 one_entry names site (components_of_type t) cs f answer h = h
 
 module _ (names : Visible) (trees : List CompTree) (start : Filling) where
   abbrev pub ComponentsSoFar : ℕ → Filling → Type 0
-  ComponentsSoFar i f = entries.SoFar (λ ts. components_of (map written.component_view ts)) (Fills names) (λ tree g. FillsEntry names (written.component_view tree).form g) (λ g. g) (λ g. refl)
+  ComponentsSoFar i f = entries.SoFar (λ ts. components_of (map written.component_view ts)) (FillsInTurn names) (λ tree g. EntryInTurn names (written.component_view tree).form g) (λ g. g) (λ g. refl)
       (λ tree ts g answer h. one_entry names (written.component_view tree).site (written.component_view tree).form (components_of (map written.component_view ts)) g answer h) trees start i f
 
-  pub next_component : (i : ℕ) (f : Filling) (x : CompTree) → i < length trees → x ≡ get_or trees i x → ComponentsSoFar i f → (g : Filling) → FillsEntry names (written.component_view x).form f (Ok g) → ComponentsSoFar (i + 1) g
-  next_component = entries.next (λ ts. components_of (map written.component_view ts)) (Fills names) (λ tree g. FillsEntry names (written.component_view tree).form g) (λ g. g) (λ g. refl)
+  pub next_component : (i : ℕ) (f : Filling) (x : CompTree) → i < length trees → x ≡ get_or trees i x → ComponentsSoFar i f → (g : Filling) → EntryInTurn names (written.component_view x).form f (Ok g) → ComponentsSoFar (i + 1) g
+  next_component = entries.next (λ ts. components_of (map written.component_view ts)) (FillsInTurn names) (λ tree g. EntryInTurn names (written.component_view tree).form g) (λ g. g) (λ g. refl)
       (λ tree ts g answer h. one_entry names (written.component_view tree).site (written.component_view tree).form (components_of (map written.component_view ts)) g answer h) trees start
 
-  pub component_stops : (i : ℕ) (f : Filling) (x : CompTree) → i < length trees → x ≡ get_or trees i x → ComponentsSoFar i f → (fault : Option AbstractFault) → RefusesBy fault (FillsEntry names (written.component_view x).form f)
-      → RefusesBy fault (Fills names (components_of (map written.component_view trees)) start)
-  component_stops = entries.stops (λ ts. components_of (map written.component_view ts)) (Fills names) (λ tree g. FillsEntry names (written.component_view tree).form g) (λ g. g) (λ g. refl)
+  pub component_stops : (i : ℕ) (f : Filling) (x : CompTree) → i < length trees → x ≡ get_or trees i x → ComponentsSoFar i f → (fault : Option AbstractFault) → RefusesBy fault (EntryInTurn names (written.component_view x).form f)
+      → RefusesBy fault (FillsInTurn names (components_of (map written.component_view trees)) start)
+  component_stops = entries.stops (λ ts. components_of (map written.component_view ts)) (FillsInTurn names) (λ tree g. EntryInTurn names (written.component_view tree).form g) (λ g. g) (λ g. refl)
       (λ tree ts g answer h. one_entry names (written.component_view tree).site (written.component_view tree).form (components_of (map written.component_view ts)) g answer h) trees start
 
-  pub no_component : (i : ℕ) (f : Filling) → length trees ≤ i → ComponentsSoFar i f → Fills names (components_of (map written.component_view trees)) start (Ok f)
-  no_component = entries.ends (λ ts. components_of (map written.component_view ts)) (Fills names) (λ tree g. FillsEntry names (written.component_view tree).form g) (λ g. g) (λ g. refl)
+  pub no_component : (i : ℕ) (f : Filling) → length trees ≤ i → ComponentsSoFar i f → FillsInTurn names (components_of (map written.component_view trees)) start (Ok f)
+  no_component = entries.ends (λ ts. components_of (map written.component_view ts)) (FillsInTurn names) (λ tree g. EntryInTurn names (written.component_view tree).form g) (λ g. g) (λ g. refl)
       (λ tree ts g answer h. one_entry names (written.component_view tree).site (written.component_view tree).form (components_of (map written.component_view ts)) g answer h) trees start
 
 -- ---- alternatives
 
 module _ (names : Visible) (trees : List AlternativeTree) (start : Filling) where
   abbrev pub AlternativesSoFar : ℕ → Filling → Type 0
-  AlternativesSoFar i f = entries.SoFar (λ ts. alternatives_of (map written.alternative_view ts)) (FillsOthers names) (λ tree g. FillsAlternative names (written.alternative_view tree) g) (λ g. g) (λ g. refl) (λ tree ts g answer h. h) trees start i f
+  AlternativesSoFar i f = entries.SoFar (λ ts. alternatives_of (map written.alternative_view ts)) (OthersInTurn names) (λ tree g. AlternativeInTurn names (written.alternative_view tree) g) (λ g. g) (λ g. refl) (λ tree ts g answer h. h) trees start i f
 
-  pub next_alternative : (i : ℕ) (f : Filling) (x : AlternativeTree) → i < length trees → x ≡ get_or trees i x → AlternativesSoFar i f → (g : Filling) → FillsAlternative names (written.alternative_view x) f (Ok g) → AlternativesSoFar (i + 1) g
-  next_alternative = entries.next (λ ts. alternatives_of (map written.alternative_view ts)) (FillsOthers names) (λ tree g. FillsAlternative names (written.alternative_view tree) g) (λ g. g) (λ g. refl) (λ tree ts g answer h. h) trees start
+  pub next_alternative : (i : ℕ) (f : Filling) (x : AlternativeTree) → i < length trees → x ≡ get_or trees i x → AlternativesSoFar i f → (g : Filling) → AlternativeInTurn names (written.alternative_view x) f (Ok g) → AlternativesSoFar (i + 1) g
+  next_alternative = entries.next (λ ts. alternatives_of (map written.alternative_view ts)) (OthersInTurn names) (λ tree g. AlternativeInTurn names (written.alternative_view tree) g) (λ g. g) (λ g. refl) (λ tree ts g answer h. h) trees start
 
-  pub alternative_stops : (i : ℕ) (f : Filling) (x : AlternativeTree) → i < length trees → x ≡ get_or trees i x → AlternativesSoFar i f → (fault : Option AbstractFault) → RefusesBy fault (FillsAlternative names (written.alternative_view x) f)
-      → RefusesBy fault (FillsOthers names (alternatives_of (map written.alternative_view trees)) start)
-  alternative_stops = entries.stops (λ ts. alternatives_of (map written.alternative_view ts)) (FillsOthers names) (λ tree g. FillsAlternative names (written.alternative_view tree) g) (λ g. g) (λ g. refl) (λ tree ts g answer h. h) trees start
+  pub alternative_stops : (i : ℕ) (f : Filling) (x : AlternativeTree) → i < length trees → x ≡ get_or trees i x → AlternativesSoFar i f → (fault : Option AbstractFault) → RefusesBy fault (AlternativeInTurn names (written.alternative_view x) f)
+      → RefusesBy fault (OthersInTurn names (alternatives_of (map written.alternative_view trees)) start)
+  alternative_stops = entries.stops (λ ts. alternatives_of (map written.alternative_view ts)) (OthersInTurn names) (λ tree g. AlternativeInTurn names (written.alternative_view tree) g) (λ g. g) (λ g. refl) (λ tree ts g answer h. h) trees start
 
-  pub no_alternative : (i : ℕ) (f : Filling) → length trees ≤ i → AlternativesSoFar i f → FillsOthers names (alternatives_of (map written.alternative_view trees)) start (Ok f)
-  no_alternative = entries.ends (λ ts. alternatives_of (map written.alternative_view ts)) (FillsOthers names) (λ tree g. FillsAlternative names (written.alternative_view tree) g) (λ g. g) (λ g. refl) (λ tree ts g answer h. h) trees start
+  pub no_alternative : (i : ℕ) (f : Filling) → length trees ≤ i → AlternativesSoFar i f → OthersInTurn names (alternatives_of (map written.alternative_view trees)) start (Ok f)
+  no_alternative = entries.ends (λ ts. alternatives_of (map written.alternative_view ts)) (OthersInTurn names) (λ tree g. AlternativeInTurn names (written.alternative_view tree) g) (λ g. g) (λ g. refl) (λ tree ts g answer h. h) trees start
 
 -- ---- definitions
 

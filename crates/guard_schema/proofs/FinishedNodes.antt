@@ -5,11 +5,12 @@ use Rattle.guard_model.specs.AbstractType as type
 use Rattle.guard_model.specs.AbstractType.{AbstractType, AbstractKind, Components, Constraint, type_of}
 use Rattle.guard_model.specs.TypeView.{OneComponent, components_of}
 use Rattle.guard_model.specs.declared.site.Site.{Site}
-use Rattle.guard_syntax.specs.Trees.{WrittenConstraint, WrittenOfConstraint, WrittenPresence, mandatory, WrittenType, type_node, WrittenBase, plain, numbers, enumerated, structure, choice, of_type, named_type, WrittenComponents, no_components, component, components_from, WrittenAlternatives, no_alternatives, alternative}
+use Rattle.guard_syntax.specs.Trees.{WrittenConstraint, WrittenOfConstraint, WrittenPresence, mandatory, WrittenType, type_node, WrittenBase, plain, numbers, named_bits, enumerated, structure, choice, of_type, named_type, WrittenComponents, no_components, component, components_from, WrittenAlternatives, no_alternatives, alternative}
 use Rattle.guard_tagging.specs.Faults.{nodes, nodes_inside, nodes_of_components}
 use Rattle.guard_constraints.specs.Visible.{Visible}
 use Rattle.guard_schema.specs.Faults.{Outcome}
-use Rattle.guard_schema.specs.Finishing.{Filling, listed, moved, put_in, with_constraint, constraint_before, site_of_type, Adds, Constrains, ConstrainsByOne, ConstrainsBefore, Finishes, FinishesKind, FinishesList, FinishesChoice, FinishesElement, FillsAll, Fills, FillsNext, FillsFrom, FillsFromBase, FillsOthers}
+use Rattle.guard_schema.specs.Finishing.{count_of_meant, with_constraint, constraint_before, site_of_type, Adds, Constrains, ConstrainsByOne, ConstrainsBefore}
+use Rattle.guard_schema.specs.InTurn.{Filling, listed, moved, FinishesInTurn, KindInTurn, ListInTurn, ChoiceInTurn, ElementInTurn, FillsAll, FillsInTurn, FillsNext, FromInTurn, FromBaseInTurn, OthersInTurn}
 
 -- ---- of lists
 
@@ -110,7 +111,7 @@ module _ (Fill : Filling → Outcome Filling → Type 0) (keeps : Keeps Fill) wh
   parts_nodes : (bare : Components) (parts : List OneComponent) → FillsAll Fill (listed bare) (Ok parts) → nodes_of_components (components_of parts) ≤ nodes_of_components bare
   parts_nodes bare parts h = chain (nodes_of_components (components_of parts)) (total parts) (total (listed bare)) (nodes_of_components bare) (total_parts parts) (all_nodes (listed bare) parts h) (total_listed bare)
 
-  list_nodes : (kind k : AbstractKind) → FinishesList Fill kind (Ok k) → nodes_inside k ≤ nodes_inside kind
+  list_nodes : (kind k : AbstractKind) → ListInTurn Fill kind (Ok k) → nodes_inside k ≤ nodes_inside kind
   list_nodes (type.sequence bare) k (inl (parts, h, e)) =
       chain (nodes_inside k) (nodes_of_components (components_of parts)) (nodes_of_components bare) (nodes_of_components bare) (ap nodes_inside (same_Ok k (type.sequence (components_of parts)) e)) (parts_nodes bare parts h) refl
   list_nodes (type.sequence bare) k (inr (f, h, e)) = absurd cc
@@ -119,7 +120,7 @@ module _ (Fill : Filling → Outcome Filling → Type 0) (keeps : Keeps Fill) wh
   list_nodes (type.set bare) k (inr (f, h, e)) = absurd cc
   list_nodes type.boolean k e = same_kind k type.boolean e
   list_nodes (type.integer ns) k e = same_kind k (type.integer ns) e
-  list_nodes type.bit_string k e = same_kind k type.bit_string e
+  list_nodes (type.bit_string ns) k e = same_kind k (type.bit_string ns) e
   list_nodes type.octet_string k e = same_kind k type.octet_string e
   list_nodes type.null k e = same_kind k type.null e
   list_nodes type.object_identifier k e = same_kind k type.object_identifier e
@@ -129,13 +130,13 @@ module _ (Fill : Filling → Outcome Filling → Type 0) (keeps : Keeps Fill) wh
   list_nodes (type.sequence_of t) k e = same_kind k (type.sequence_of t) e
   list_nodes (type.set_of t) k e = same_kind k (type.set_of t) e
 
-  choice_nodes : (kind k : AbstractKind) → FinishesChoice Fill kind (Ok k) → nodes_inside k ≤ nodes_inside kind
+  choice_nodes : (kind k : AbstractKind) → ChoiceInTurn Fill kind (Ok k) → nodes_inside k ≤ nodes_inside kind
   choice_nodes (type.choice bare) k (inl (parts, h, e)) =
       chain (nodes_inside k) (nodes_of_components (components_of parts)) (nodes_of_components bare) (nodes_of_components bare) (ap nodes_inside (same_Ok k (type.choice (components_of parts)) e)) (parts_nodes bare parts h) refl
   choice_nodes (type.choice bare) k (inr (f, h, e)) = absurd cc
   choice_nodes type.boolean k e = same_kind k type.boolean e
   choice_nodes (type.integer ns) k e = same_kind k (type.integer ns) e
-  choice_nodes type.bit_string k e = same_kind k type.bit_string e
+  choice_nodes (type.bit_string ns) k e = same_kind k (type.bit_string ns) e
   choice_nodes type.octet_string k e = same_kind k type.octet_string e
   choice_nodes type.null k e = same_kind k type.null e
   choice_nodes type.object_identifier k e = same_kind k type.object_identifier e
@@ -147,14 +148,14 @@ module _ (Fill : Filling → Outcome Filling → Type 0) (keeps : Keeps Fill) wh
   choice_nodes (type.set_of t) k e = same_kind k (type.set_of t) e
 
 module _ (Finish : AbstractType → Outcome AbstractType → Type 0) (no_more : NoMore Finish) where
-  element_nodes : (kind k : AbstractKind) → FinishesElement Finish kind (Ok k) → nodes_inside k ≤ nodes_inside kind
+  element_nodes : (kind k : AbstractKind) → ElementInTurn Finish kind (Ok k) → nodes_inside k ≤ nodes_inside kind
   element_nodes (type.sequence_of bare) k (inl (u, h, e)) = chain (nodes_inside k) (nodes u) (nodes bare) (nodes bare) (ap nodes_inside (same_Ok k (type.sequence_of u) e)) (no_more bare u h) refl
   element_nodes (type.sequence_of bare) k (inr (f, h, e)) = absurd cc
   element_nodes (type.set_of bare) k (inl (u, h, e)) = chain (nodes_inside k) (nodes u) (nodes bare) (nodes bare) (ap nodes_inside (same_Ok k (type.set_of u) e)) (no_more bare u h) refl
   element_nodes (type.set_of bare) k (inr (f, h, e)) = absurd cc
   element_nodes type.boolean k e = same_kind k type.boolean e
   element_nodes (type.integer ns) k e = same_kind k (type.integer ns) e
-  element_nodes type.bit_string k e = same_kind k type.bit_string e
+  element_nodes (type.bit_string ns) k e = same_kind k (type.bit_string ns) e
   element_nodes type.octet_string k e = same_kind k type.octet_string e
   element_nodes type.null k e = same_kind k type.null e
   element_nodes type.object_identifier k e = same_kind k type.object_identifier e
@@ -187,43 +188,45 @@ same_filling f g e = equal (whole g) (whole f) (ap whole (same_Ok g f e))
 
 module _ (names : Visible) where
   mutual
-    pub finished_nodes : (w : WrittenType) (t u : AbstractType) → Finishes names w t (Ok u) → nodes u ≤ nodes t
+    pub finished_nodes : (w : WrittenType) (t u : AbstractType) → FinishesInTurn names w t (Ok u) → nodes u ≤ nodes t
     finished_nodes (type_node site tags base cs) (type_of ts kind cons) u (inl (k, h, inl (v, b, l))) =
         one_up (nodes u) (nodes_inside k) (nodes_inside kind) (constrains_nodes names site cs v u l ∙ before_nodes names site (constraint_before base) (type_of ts k cons) v b) (kind_nodes base kind k h)
     finished_nodes (type_node site tags base cs) (type_of ts kind cons) u (inl (k, h, inr (f, b, e))) = absurd cc
     finished_nodes (type_node site tags base cs) (type_of ts kind cons) u (inr (f, h, e)) = absurd cc
 
-    kind_nodes : (base : WrittenBase) (kind k : AbstractKind) → FinishesKind names base kind (Ok k) → nodes_inside k ≤ nodes_inside kind
-    kind_nodes (structure c cs) kind k h = list_nodes (Fills names cs) (fills_nodes cs) kind k h
-    kind_nodes (choice others) kind k h = choice_nodes (FillsOthers names others) (others_nodes others) kind k h
-    kind_nodes (of_type c b w) kind k h = element_nodes (Finishes names w) (finished_nodes w) kind k h
+    kind_nodes : (base : WrittenBase) (kind k : AbstractKind) → KindInTurn names base kind (Ok k) → nodes_inside k ≤ nodes_inside kind
+    kind_nodes (structure c cs) kind k h = list_nodes (FillsInTurn names cs) (fills_nodes cs) kind k h
+    kind_nodes (choice others) kind k h = choice_nodes (OthersInTurn names others) (others_nodes others) kind k h
+    kind_nodes (of_type c b w) kind k h = element_nodes (FinishesInTurn names w) (finished_nodes w) kind k h
     kind_nodes (plain p) kind k e = same_kind k kind e
     kind_nodes (numbers ns) kind k e = same_kind k kind e
+    kind_nodes (named_bits ns) kind k e = same_kind k kind e
     kind_nodes (enumerated items) kind k e = same_kind k kind e
     kind_nodes (named_type site name) kind k e = same_kind k kind e
 
-    fills_nodes : (cs : WrittenComponents) (f g : Filling) → Fills names cs f (Ok g) → whole g ≤ whole f
+    fills_nodes : (cs : WrittenComponents) (f g : Filling) → FillsInTurn names cs f (Ok g) → whole g ≤ whole f
     fills_nodes no_components f g e = same_filling f g e
     fills_nodes (component site name t presence cs) f g (inl (m, h, k)) =
-        further (whole g) (whole m) (whole f) (fills_nodes cs m g k) (next_nodes (Finishes names t) (finished_nodes t) names (site_of_type t) presence f.done f.left m h)
+        further (whole g) (whole m) (whole f) (fills_nodes cs m g k) (next_nodes (FinishesInTurn names t) (finished_nodes t) names (site_of_type t) presence f.done f.left m h)
     fills_nodes (component site name t presence cs) f g (inr (fault, h, e)) = absurd cc
     fills_nodes (components_from site t cs) f g (inl (m, h, k)) = further (whole g) (whole m) (whole f) (fills_nodes cs m g k) (from_nodes t f m h)
     fills_nodes (components_from site t cs) f g (inr (fault, h, e)) = absurd cc
 
-    from_nodes : (w : WrittenType) (f g : Filling) → FillsFrom names w f (Ok g) → whole g ≤ whole f
+    from_nodes : (w : WrittenType) (f g : Filling) → FromInTurn names w f (Ok g) → whole g ≤ whole f
     from_nodes (type_node site tags base cs) f g h = from_base_nodes base f g h
 
-    from_base_nodes : (base : WrittenBase) (f g : Filling) → FillsFromBase names base f (Ok g) → whole g ≤ whole f
+    from_base_nodes : (base : WrittenBase) (f g : Filling) → FromBaseInTurn names base f (Ok g) → whole g ≤ whole f
     from_base_nodes (structure c cs) f g h = fills_nodes cs f g h
-    from_base_nodes (named_type site name) f g e = moved_nodes (put_in (names.types name)) f g (same_Ok g (moved (put_in (names.types name)) f) e)
+    from_base_nodes (named_type site name) f g e = moved_nodes (count_of_meant (names.types name)) f g (same_Ok g (moved (count_of_meant (names.types name)) f) e)
     from_base_nodes (choice others) f g e = same_filling f g e
     from_base_nodes (of_type c b w) f g e = same_filling f g e
     from_base_nodes (plain p) f g e = same_filling f g e
     from_base_nodes (numbers ns) f g e = same_filling f g e
+    from_base_nodes (named_bits ns) f g e = same_filling f g e
     from_base_nodes (enumerated items) f g e = same_filling f g e
 
-    others_nodes : (others : WrittenAlternatives) (f g : Filling) → FillsOthers names others f (Ok g) → whole g ≤ whole f
+    others_nodes : (others : WrittenAlternatives) (f g : Filling) → OthersInTurn names others f (Ok g) → whole g ≤ whole f
     others_nodes no_alternatives f g e = same_filling f g e
     others_nodes (alternative site name t others) f g (inl (m, h, k)) =
-        further (whole g) (whole m) (whole f) (others_nodes others m g k) (next_nodes (Finishes names t) (finished_nodes t) names (site_of_type t) mandatory f.done f.left m h)
+        further (whole g) (whole m) (whole f) (others_nodes others m g k) (next_nodes (FinishesInTurn names t) (finished_nodes t) names (site_of_type t) mandatory f.done f.left m h)
     others_nodes (alternative site name t others) f g (inr (fault, h, e)) = absurd cc

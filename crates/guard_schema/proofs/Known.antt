@@ -16,7 +16,7 @@ use Rattle.guard_model.specs.declared.value.Value.{Value}
 use Rattle.guard_names.specs.Declarations.{definitions}
 use Rattle.guard_names.specs.NamesView.{modules_of, order_of}
 use Rattle.guard_values.specs.Meanings.{Meaning}
-use Rattle.guard_values.specs.Visible.{visible_definition, placed_definition}
+use Rattle.guard_names.specs.Places.{place_meant}
 use Rattle.guard_values.specs.Views.{known_pair, known_definition, home_name, visible_from, AreKnownFitting}
 use Rattle.guard_constraints.specs.Views.{visible_at, placed_type, types_from, AreKnownSound}
 use Rattle.guard_schema.specs.declared.progress.Progress.{Progress}
@@ -64,7 +64,7 @@ module _ (p : Progress) where
   visible_same id =
       let home = home_name (slice_get (definitions (modules_of p.names.now)) id) in
       let k = known_view p in
-      let place : List ℕ → Option ℕ = λ name. placed_definition (order_of p.names.now) (visible_definition (modules_of p.names.now) home name) in
+      let place : List ℕ → Option ℕ = λ name. place_meant (modules_of p.names.now) (order_of p.names.now) home name in
       let values : visible_from p.names.now p.known id ≡ (λ name. governed (meant k home name)) = fun_ext (λ name. values_found (place name)) in
       let types : types_from p.names.now p.known id ≡ (λ name. type_alone (meant k home name)) = fun_ext (λ name. types_found (place name)) in
       ap (λ (m : Meaning). record { values = m; types = types_from p.names.now p.known id }) values

@@ -2,6 +2,7 @@
 pub mod Outcomes
 pub mod Entries
 -- ---- there is one schema at most
+pub mod OneClash
 pub mod Decided
 pub mod OneSchema
 pub mod Lexed
@@ -11,11 +12,15 @@ pub mod Lists
 pub mod NodeCounts
 pub mod Moves
 pub mod FinishedTypes
+pub mod BareTypes
+pub mod FilledTypes
 pub mod OneMore
 pub mod Filling
 pub mod Known
+pub mod Meant
 pub mod Read
 pub mod FinishedNodes
+pub mod Unfinished
 pub mod OneDefinition
 pub mod AllDefinitions
 -- ---- the schema

@@ -9,7 +9,8 @@ use Rattle.guard_model.proofs.TypeViews.{type_view_is}
 use Rattle.guard_model.specs.declared.ty.Ty.{Ty}
 use Rattle.guard_model.specs.declared.value.Value.{Value}
 use Rattle.guard_schema.specs.Counting.{all_held, held_by}
-use Rattle.guard_schema.specs.Finishing.{add, listed, with_constraint}
+use Rattle.guard_schema.specs.Finishing.{add, with_constraint}
+use Rattle.guard_schema.specs.InTurn.{listed}
 use Rattle.guard_schema.specs.Known.{Built}
 use Rattle.guard_schema.specs.Pairs.{built_view, paired}
 

@@ -28,7 +28,8 @@ use Rattle.guard_schema.specs.declared.progress.Definition as code
 use Rattle.guard_schema.specs.Outcomes.{RefusesBy, Answers}
 use Rattle.guard_schema.specs.Faults.{AbstractFault, Tag, Outcome, IsNamed, named}
 use Rattle.guard_schema.specs.Known.{Built, Known, types_of, visible, around}
-use Rattle.guard_schema.specs.Building.{HasTags, TellsApart, Assigns, KeepsLimit, HasValue, BuildsNumber, TagsNumber, TagsApart, Completes}
+use Rattle.guard_schema.specs.Building.{HasTags, TellsApart, Assigns, KeepsLimit, HasValue, BuildsNumber}
+use Rattle.guard_schema.specs.InTurn.{FinishesInTurn, TagsNumber, TagsApart, CompletesInTurn}
 use Rattle.guard_schema.specs.Counting.{all_held}
 use Rattle.guard_syntax.specs.Trees.{WrittenAssignment}
 use Rattle.guard_der.specs.Sound.{is_sound}
@@ -36,6 +37,9 @@ use Rattle.guard_schema.specs.Finishing.{Finishes}
 use Rattle.guard_schema.specs.Pairs.{paired}
 use Rattle.guard_schema.specs.Views.{built_in, known_view, definition_view}
 use Rattle.guard_schema.proofs.Outcomes.{led}
+use Rattle.guard_schema.proofs.BareTypes.{bare_of}
+use Rattle.guard_schema.proofs.FilledTypes.{type_filled}
+use Rattle.guard_schema.proofs.Meant.{types_agree}
 
 pub types_same : (ts : List Ty) (vs : List (Option Value)) → length vs ≡ length ts → types_of (paired ts vs) ≡ map type_view ts
 types_same [] vs e = refl
@@ -59,7 +63,6 @@ tag_named (tag_fault.TooManyComponents site) g e = subst (IsNamed tagging.named)
 tag_named (tag_fault.TooDeep site) g e = subst (IsNamed tagging.named) (same_Some (tag_fault.TooDeep site) g e) refl
 tag_named (tag_fault.SchemaTooLarge site) g e = subst (IsNamed tagging.named) (same_Some (tag_fault.SchemaTooLarge site) g e) refl
 tag_named (tag_fault.NumberTooLarge site) g e = subst (IsNamed tagging.named) (same_Some (tag_fault.NumberTooLarge site) g e) refl
-tag_named (tag_fault.UndefinedName site) g e = subst (IsNamed tagging.named) (same_Some (tag_fault.UndefinedName site) g e) refl
 
 -- what comes of its type, with its value
 module _ (k : Known) (names : Visible) (a : WrittenAssignment) (t : AbstractType) (v : Option AbstractValue) (sound : IsTrue (is_sound t)) (read : Assigns names t a.value (Ok v)) where
@@ -104,11 +107,11 @@ module _ (p : Progress) (id : ℕ) where
 -- ---- its constraints and its value
 
 module _ (k : Known) (names : Visible) (a : WrittenAssignment) (bare : AbstractType) where
-  pub finishing_refused : (fault : Option AbstractFault) → RefusesBy fault (Finishes names a.ty bare) → RefusesBy fault (Completes k names a bare)
+  pub finishing_refused : (fault : Option AbstractFault) → RefusesBy fault (FinishesInTurn names a.ty bare) → RefusesBy fault (CompletesInTurn k names a bare)
   finishing_refused None h = tt
   finishing_refused (Some f) h = inr (f, h, refl)
 
-  pub value_refused : (t : AbstractType) → Finishes names a.ty bare (Ok t) → (fault : Option AbstractFault) → RefusesBy fault (HasValue k names a t) → RefusesBy fault (Completes k names a bare)
+  pub value_refused : (t : AbstractType) → FinishesInTurn names a.ty bare (Ok t) → (fault : Option AbstractFault) → RefusesBy fault (HasValue k names a t) → RefusesBy fault (CompletesInTurn k names a bare)
   value_refused t finished None h = tt
   value_refused t finished (Some f) h = inl (t, finished, h)
 
@@ -137,9 +140,13 @@ module _ (p : Progress) (id : ℕ) (d : Definition) (is : Some d ≡ slice_get (
   built_refused (Some f) h = by_tags f h
 
   module _ (bare : AbstractType) (tagged : HasTags (around (known_view p) d) (nodes_of_all (types_of (built_in p))) d.assignment.ty (Ok bare)) (apart : TellsApart d.assignment.site bare (Ok tt)) where
-    completed_so : (answer : Outcome Built) → Completes (known_view p) (visible (known_view p) d.home.name) d.assignment bare answer → BuildsNumber (known_view p) id answer
-    completed_so answer (inl (t, finished, value)) = (d, sym is, inl (bare, tagged, inl (tt, apart, inl (t, finished, value))))
-    completed_so answer (inr (f, finished, e)) = (d, sym is, inl (bare, tagged, inl (tt, apart, inr (f, finished, e))))
+    finished_so : (answer : Outcome AbstractType) → FinishesInTurn (visible (known_view p) d.home.name) d.assignment.ty bare answer → Finishes (visible (known_view p) d.home.name) d.assignment.ty bare answer
+    finished_so = type_filled (visible (known_view p) d.home.name) d.assignment.ty bare
+        (bare_of (visible (known_view p) d.home.name) (around (known_view p) d) (types_agree (known_view p) d) (nodes_of_all (types_of (built_in p))) d.assignment.ty bare tagged)
+
+    completed_so : (answer : Outcome Built) → CompletesInTurn (known_view p) (visible (known_view p) d.home.name) d.assignment bare answer → BuildsNumber (known_view p) id answer
+    completed_so answer (inl (t, finished, value)) = (d, sym is, inl (bare, tagged, inl (tt, apart, inl (t, finished_so (Ok t) finished, value))))
+    completed_so answer (inr (f, finished, e)) = (d, sym is, inl (bare, tagged, inl (tt, apart, inr (f, finished_so (Err f) finished, e))))
 
   parts_there : (bare : AbstractType) → TagsApart (known_view p) id d.assignment.site (Ok bare)
       → HasTags (around (known_view p) d) (nodes_of_all (types_of (built_in p))) d.assignment.ty (Ok bare) × TellsApart d.assignment.site bare (Ok tt)
@@ -152,12 +159,12 @@ module _ (p : Progress) (id : ℕ) (d : Definition) (is : Some d ≡ slice_get (
   parts_there bare (inr (f, tagged, e)) = absurd cc
 
   pub built_whole : (bare : AbstractType) → TagsApart (known_view p) id d.assignment.site (Ok bare) → (result : Result code.Definition SchemaFault)
-      → Answers definition_view named result (Completes (known_view p) (visible (known_view p) (home_name (slice_get (definitions (modules_of p.names.now)) id))) d.assignment bare)
+      → Answers definition_view named result (CompletesInTurn (known_view p) (visible (known_view p) (home_name (slice_get (definitions (modules_of p.names.now)) id))) d.assignment bare)
       → Answers definition_view named result (BuildsNumber (known_view p) id)
   built_whole bare h result completes =
       let parts = parts_there bare h in
-      led definition_view named result (Completes (known_view p) (visible (known_view p) (home_name (slice_get (definitions (modules_of p.names.now)) id))) d.assignment bare) (BuildsNumber (known_view p) id)
-      (λ answer c. completed_so bare parts.0 parts.1 answer (subst (λ (m : Visible). Completes (known_view p) m d.assignment bare answer) here c)) completes
+      led definition_view named result (CompletesInTurn (known_view p) (visible (known_view p) (home_name (slice_get (definitions (modules_of p.names.now)) id))) d.assignment bare) (BuildsNumber (known_view p) id)
+      (λ answer c. completed_so bare parts.0 parts.1 answer (subst (λ (m : Visible). CompletesInTurn (known_view p) m d.assignment bare answer) here c)) completes
 
 -- ---- types before it keep the limits
 

@@ -1,8 +1,10 @@
 -- Outcomes of steps: how they are reached, and that there is one at most.
 use Rattle.std.proofs.Common.{◌≡◌, inl, inr, Bool, true, false, Option, Some, None, Result, Ok, Err, refl, sym, subst, ◌∙◌}
 use Rattle.std.specs.Prelude.{IsTrue}
-use Rattle.guard_model.proofs.Results.{same_Ok}
-use Rattle.guard_schema.specs.Outcomes.{Is, Passes, Then, RefusesBy, Answers, IsDecided}
+use Rattle.guard_model.proofs.Results.{same_Ok, same_Err}
+use Rattle.guard_schema.specs.Outcomes.{Is, Passes, Then, RefusesBy, Answers}
+use Rattle.guard_schema.specs.Faults.{AbstractFault, Outcome}
+use Rattle.guard_schema.specs.OneAnswer.{SameFault, IsDecided}
 
 -- ---- reached
 
@@ -43,25 +45,40 @@ flattened First make Next answer (inr (g, inr (f, h, e), k)) = inr (f, h, k ∙ 
 
 -- ---- one at most
 
-pub is_decided : {A F : Type 0} (x : A) → IsDecided {A = A} {F = F} (Is x)
-is_decided x = record { one = λ y z h k. same_Ok _ _ (h ∙ sym k); alone = λ y f h k. absurd cc }
+pub is_decided : {A : Type 0} (x : A) → IsDecided {A = A} (Is x)
+is_decided x = record { one = λ y z h k. same_Ok _ _ (h ∙ sym k); alone = λ y f h k. absurd cc; first = λ f g h k. absurd cc }
 
-pub passes_decided : {F : Type 0} (test : Bool) (fault : F) → IsDecided (Passes test fault)
-passes_decided test fault = record { one = λ x y h k. refl; alone = λ x f h k. absurd (differ test h k.1) }
+pub passes_decided : (test : Bool) (fault : AbstractFault) → IsDecided (Passes test fault)
+passes_decided test fault = record { one = λ x y h k. refl; alone = λ x f h k. absurd (differ test h k.1); first = λ f g h k. inl (h.0 ∙ sym k.0) }
   where
     differ : (b : Bool) → IsTrue b → b ≡ false → ⊥
     differ true h e = cc
     differ false h e = cc
 
-pub then_decided : {A B F : Type 0} (First : Result A F → Type 0) (Next : A → Result B F → Type 0) → IsDecided First → ((x : A) → IsDecided (Next x)) → IsDecided (Then First Next)
-then_decided {A} {B} {F} First Next first next = record { one = one; alone = alone }
+pub then_decided : {A B : Type 0} (First : Outcome A → Type 0) (Next : A → Outcome B → Type 0) → IsDecided First → ((x : A) → IsDecided (Next x)) → IsDecided (Then First Next)
+then_decided {A} {B} First Next decided next = record { one = one; alone = alone; first = first }
   where
     one : (x y : B) → Then First Next (Ok x) → Then First Next (Ok y) → x ≡ y
-    one x y (inl (a, h, k)) (inl (b, i, l)) = (next b).one x y (subst (λ c. Next c (Ok x)) (first.one a b h i) k) l
+    one x y (inl (a, h, k)) (inl (b, i, l)) = (next b).one x y (subst (λ c. Next c (Ok x)) (decided.one a b h i) k) l
     one x y (inl _) (inr (f, h, e)) = absurd cc
     one x y (inr (f, h, e)) _ = absurd cc
 
-    alone : (x : B) (f : F) → Then First Next (Ok x) → Then First Next (Err f) → ⊥
-    alone x f (inl (a, h, k)) (inl (b, i, l)) = (next b).alone x f (subst (λ c. Next c (Ok x)) (first.one a b h i) k) l
-    alone x f (inl (a, h, k)) (inr (g, i, e)) = first.alone a g h i
+    alone : (x : B) (f : AbstractFault) → Then First Next (Ok x) → Then First Next (Err f) → ⊥
+    alone x f (inl (a, h, k)) (inl (b, i, l)) = (next b).alone x f (subst (λ c. Next c (Ok x)) (decided.one a b h i) k) l
+    alone x f (inl (a, h, k)) (inr (g, i, e)) = decided.alone a g h i
     alone x f (inr (g, h, e)) _ = absurd cc
+
+    first : (f g : AbstractFault) → Then First Next (Err f) → Then First Next (Err g) → SameFault f g
+    first f g (inl (a, h, k)) (inl (b, i, l)) = (next b).first f g (subst (λ c. Next c (Err f)) (decided.one a b h i) k) l
+    first f g (inl (a, h, k)) (inr (m, i, e)) = absurd (decided.alone a m h i)
+    first f g (inr (n, h, d)) (inl (b, i, l)) = absurd (decided.alone b n i h)
+    first f g (inr (n, h, d)) (inr (m, i, e)) = subst (λ x. SameFault x g) (sym (same_Err f n d)) (subst (λ x. SameFault n x) (sym (same_Err g m e)) (decided.first n m h i))
+
+-- what is found in one way at most, and then is decided
+pub found_decided : {X A : Type 0} (Found : X → Type 0) (Answer : X → Outcome A → Type 0) → ((x y : X) → Found x → Found y → x ≡ y) → ((x : X) → IsDecided (Answer x))
+    → IsDecided {A = A} (λ answer. (x : X) × Found x × Answer x answer)
+found_decided {X} {A} Found Answer same decided = record {
+  one = λ a b h k. (decided k.0).one a b (subst (λ x. Answer x (Ok a)) (same h.0 k.0 h.1 k.1) h.2) k.2;
+  alone = λ a f h k. (decided k.0).alone a f (subst (λ x. Answer x (Ok a)) (same h.0 k.0 h.1 k.1) h.2) k.2;
+  first = λ f g h k. (decided k.0).first f g (subst (λ x. Answer x (Err f)) (same h.0 k.0 h.1 k.1) h.2) k.2;
+}

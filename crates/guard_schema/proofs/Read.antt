@@ -22,7 +22,7 @@ use Rattle.guard_constraints.specs.declared.fault.ConsFault.{ConsFault}
 use Rattle.guard_constraints.specs.declared.fault.ConsFault.TheVariants as cons_fault
 use Rattle.guard_constraints.specs.Visible.{Visible}
 use Rattle.guard_constraints.specs.Denotes as constraints
-use Rattle.guard_constraints.specs.Faults.{fault_of}
+use Rattle.guard_constraints.specs.FirstFault.{IsFirstConstraintFault}
 use Rattle.guard_constraints.specs.Views as constraint_views
 use Rattle.guard_constraints.specs.Views.{visible_at}
 use Rattle.guard_schema.specs.declared.fault.SchemaFault.{SchemaFault}
@@ -56,6 +56,7 @@ constraint_named (cons_fault.RepeatedComponent site) g e = subst (IsNamed constr
 constraint_named (cons_fault.TwoPresent site) g e = subst (IsNamed constraint_views.named) (same_Some (cons_fault.TwoPresent site) g e) refl
 constraint_named (cons_fault.ContainedMismatch site) g e = subst (IsNamed constraint_views.named) (same_Some (cons_fault.ContainedMismatch site) g e) refl
 constraint_named (cons_fault.Value f) g e = subst (IsNamed constraint_views.named) (same_Some (cons_fault.Value f) g e) refl
+constraint_named (cons_fault.SizeOnNamedBits site) g e = subst (IsNamed constraint_views.named) (same_Some (cons_fault.SizeOnNamedBits site) g e) refl
 
 module _ (p : Progress) (id : ℕ) where
   abbrev names : Visible
@@ -86,18 +87,18 @@ module _ (p : Progress) (id : ℕ) where
   constraint_read t tree c h = subst (λ (m : Visible). constraints.Denotes m t tree c) (visible_same p id) h
 
   constraint_faulty : (t : AbstractType) (tree : WrittenConstraint) (f : ConsFault) (o : Option ConsFault) → constraint_views.named f ≡ o
-      → IfSome o (λ g. fault_of (visible_at p.names.now p.known id) t tree ≡ Some g)
+      → IfSome o (λ g. IsFirstConstraintFault (visible_at p.names.now p.known id) t tree g)
       → IfSome o (λ g. (c : Constraint) → constraints.Denotes (visible_at p.names.now p.known id) t tree c → ⊥)
       → RefusesBy (option_map Cons o) (ReadsConstraint names t tree)
   constraint_faulty t tree f None e h k = tt
   constraint_faulty t tree f (Some g) e h k = (
     constraint_named f g e,
-    subst (λ (m : Visible). fault_of m t tree ≡ Some g) (visible_same p id) h,
+    subst (λ (m : Visible). IsFirstConstraintFault m t tree g) (visible_same p id) h,
     subst (λ (m : Visible). (c : Constraint) → constraints.Denotes m t tree c → ⊥) (visible_same p id) k,
   )
 
   pub constraint_refused : (t : AbstractType) (tree : WrittenConstraint) (f : ConsFault) (y : SchemaFault) → named y ≡ option_map Cons (constraint_views.named f)
-      → IfSome (constraint_views.named f) (λ g. fault_of (visible_at p.names.now p.known id) t tree ≡ Some g)
+      → IfSome (constraint_views.named f) (λ g. IsFirstConstraintFault (visible_at p.names.now p.known id) t tree g)
       → IfSome (constraint_views.named f) (λ g. (c : Constraint) → constraints.Denotes (visible_at p.names.now p.known id) t tree c → ⊥)
       → RefusesBy (named y) (ReadsConstraint (visible (known_view p) (home_name (slice_get (definitions (modules_of p.names.now)) id))) t tree)
   constraint_refused t tree f y is h k = subst (λ o. RefusesBy o (ReadsConstraint names t tree)) (sym is) (constraint_faulty t tree f (constraint_views.named f) refl h k)

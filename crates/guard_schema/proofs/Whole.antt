@@ -26,7 +26,8 @@ use Rattle.guard_schema.specs.Accepts.{OrdersNames, Denotes, Accepts, IsRefused}
 use Rattle.guard_schema.specs.Building.{BuildsAll}
 use Rattle.guard_schema.specs.Faults.{AbstractFault, Name, named}
 use Rattle.guard_schema.specs.Known.{Built, none_known}
-use Rattle.guard_schema.specs.Outcomes.{RefusesBy, Answers, IsDecided}
+use Rattle.guard_schema.specs.Outcomes.{RefusesBy, Answers}
+use Rattle.guard_schema.specs.OneAnswer.{IsDecided}
 use Rattle.guard_schema.specs.Schemas.{AbstractSchema, schema_of, module_named}
 use Rattle.guard_schema.specs.Texts.{ReadsTexts, CountsTexts}
 use Rattle.guard_schema.specs.Views.{schema_view, place_in, built_in, known_view}

@@ -55,17 +55,6 @@ Builds k d =
     Then (Finishes (visible k d.home.name) d.assignment.ty bare) (λ t.
     HasValue k (visible k d.home.name) d.assignment t)))
 
--- the tags and parts of the definition of this number, which tags tell apart; its name stands at the site
-abbrev pub TagsNumber : Known → ℕ → Outcome AbstractType → Type 0
-TagsNumber k number answer = (d : Definition) × (slice_get (definitions k.modules) number ≡ Some d) × HasTags (around k d) (nodes_of_all (types_of k.built)) d.assignment.ty answer
-
-abbrev pub TagsApart : Known → ℕ → Site → Outcome AbstractType → Type 0
-TagsApart k number site = Then (TagsNumber k number) (λ bare. Then (TellsApart site bare) (λ _. Is bare))
-
--- a definition of these tags and parts
-abbrev pub Completes : Known → Visible → WrittenAssignment → AbstractType → Outcome Built → Type 0
-Completes k names a bare = Then (Finishes names a.ty bare) (λ t. HasValue k names a t)
-
 -- the definition of this number
 abbrev pub BuildsNumber : Known → ℕ → Outcome Built → Type 0
 BuildsNumber k number answer = (d : Definition) × (slice_get (definitions k.modules) number ≡ Some d) × Builds k d answer

@@ -15,7 +15,14 @@ abbrev mutual
   value_nodes (value.fields fs) = suc (nodes_of_fields fs)
   value_nodes (value.items vs) = suc (nodes_of_items vs)
   value_nodes (value.chosen i v) = suc (value_nodes v)
-  value_nodes _ = 1
+  value_nodes (value.boolean b) = 1
+  value_nodes (value.integer n) = 1
+  value_nodes (value.enumerated n) = 1
+  value_nodes value.null = 1
+  value_nodes (value.bit_string os unused) = 1
+  value_nodes (value.octet_string os) = 1
+  value_nodes (value.object_identifier arcs) = 1
+  value_nodes (value.characters cs) = 1
 
   pub nodes_of_fields : Fields → ℕ
   nodes_of_fields value.no_fields = 0
@@ -27,8 +34,10 @@ abbrev mutual
   nodes_of_items (value.item v vs) = value_nodes v + nodes_of_items vs
 
 abbrev pub nodes_of_presence : AbstractPresence → ℕ
+nodes_of_presence type.mandatory = 0
+nodes_of_presence type.optional = 0
+nodes_of_presence type.pending = 0
 nodes_of_presence (type.default v) = value_nodes v
-nodes_of_presence _ = 0
 
 abbrev mutual
   -- what a type holds beside types: its own constraints, those of its parts, and its defaults
@@ -41,7 +50,14 @@ abbrev mutual
   held_in_kind (type.choice cs) = held_in_components cs
   held_in_kind (type.sequence_of t) = held t
   held_in_kind (type.set_of t) = held t
-  held_in_kind _ = 0
+  held_in_kind type.boolean = 0
+  held_in_kind (type.integer ns) = 0
+  held_in_kind (type.bit_string ns) = 0
+  held_in_kind type.octet_string = 0
+  held_in_kind type.null = 0
+  held_in_kind type.object_identifier = 0
+  held_in_kind (type.enumerated ns) = 0
+  held_in_kind (type.characters c) = 0
 
   pub held_in_components : Components → ℕ
   held_in_components type.no_components = 0

@@ -1,5 +1,6 @@
 -- What is known where a definition is built: what names mean there, of what is built before it.
 use Rattle.std.specs.Prelude.{ℕ, List, [], ◌∷◌, ◌++◌, map, Option, Some, None, slice_get}
+use Rattle.std.specs.Option.{option_and_then}
 use Rattle.guard_model.specs.AbstractType.{AbstractType}
 use Rattle.guard_model.specs.AbstractValue.{AbstractValue}
 use Rattle.guard_syntax.specs.Trees.{WrittenModule}
@@ -7,7 +8,7 @@ use Rattle.guard_names.specs.Declarations.{Definition}
 use Rattle.guard_tagging.specs.Types.{Surroundings}
 use Rattle.guard_tagging.specs.Skeletons.{surroundings_of}
 use Rattle.guard_values.specs.Meanings.{Governed}
-use Rattle.guard_values.specs.Visible.{visible_definition, placed_definition}
+use Rattle.guard_names.specs.Places.{known_meant}
 use Rattle.guard_constraints.specs.Visible.{Visible}
 
 -- what is built of a definition: its type, which governs its value where it assigns one
@@ -34,12 +35,11 @@ types_of bs = map (λ b. b.ty) bs
 
 -- what is built of the definition at this place in the order
 abbrev pub built_at : List Built → Option ℕ → Option Built
-built_at bs None = None
-built_at bs (Some place) = slice_get bs place
+built_at bs place = option_and_then (slice_get bs) place
 
 -- of the definition that a name means in the module of a name (X.680 13.1)
 abbrev pub meant : Known → List ℕ → List ℕ → Option Built
-meant k home name = built_at k.built (placed_definition k.order (visible_definition k.modules home name))
+meant k home name = known_meant k.modules k.order k.built home name
 
 -- a value with its governor
 abbrev pub governed_value : AbstractType → Option AbstractValue → Option Governed

@@ -3,13 +3,17 @@ pub mod Outcomes
 pub mod Faults
 pub mod Texts
 pub mod Known
+pub mod LongValues
 pub mod Readings
 pub mod Finishing
 pub mod Counting
 pub mod Building
 pub mod Schemas
 pub mod Accepts
+pub mod OneAnswer
+pub mod Unfinished
 -- what the values of the code stand for
 pub mod Pairs
 pub mod Entries
+pub mod InTurn
 pub mod Views

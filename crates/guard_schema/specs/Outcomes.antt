@@ -23,8 +23,3 @@ RefusesBy (Some f) Outcome = Outcome (Err f)
 abbrev pub Answers : {X Y E F : Type 0} → (X → Y) → (E → Option F) → Result X E → (Result Y F → Type 0) → Type 0
 Answers value fault (Ok x) Outcome = Outcome (Ok (value x))
 Answers value fault (Err e) Outcome = RefusesBy (fault e) Outcome
-
--- there is one Ok at most, and no fault beside it
-pub record IsDecided {A F : Type 0} (Outcome : Result A F → Type 0) : Type 0 where
-  pub one : (x y : A) → Outcome (Ok x) → Outcome (Ok y) → x ≡ y
-  pub alone : (x : A) (f : F) → Outcome (Ok x) → Outcome (Err f) → ⊥

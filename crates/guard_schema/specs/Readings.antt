@@ -1,5 +1,5 @@
 -- What a written value and a written constraint are, or their first fault.
-use Rattle.std.specs.Prelude.{◌≡◌, Some, Ok, Err}
+use Rattle.std.specs.Prelude.{◌≡◌, Some, Ok, Err, unwrap_or}
 use Rattle.guard_model.specs.declared.site.Site.{Site}
 use Rattle.guard_model.specs.AbstractType.{AbstractType, Constraint}
 use Rattle.guard_model.specs.AbstractValue.{AbstractValue}
@@ -12,15 +12,16 @@ use Rattle.guard_values.specs.FirstFault.{IsFirstFault}
 use Rattle.guard_values.specs.Views as value_views
 use Rattle.guard_constraints.specs.Visible.{Visible}
 use Rattle.guard_constraints.specs.Denotes as constraints
-use Rattle.guard_constraints.specs.Faults.{fault_of}
+use Rattle.guard_constraints.specs.FirstFault.{IsFirstConstraintFault}
 use Rattle.guard_constraints.specs.Views as constraint_views
+use Rattle.guard_schema.specs.LongValues.{first_long}
 use Rattle.guard_schema.specs.Outcomes.{Is, Passes, Then}
 use Rattle.guard_schema.specs.Faults.{Value, Cons, DefaultOutside, Outcome, IsNamed}
 
--- The type that is written there is sound. Only a value can keep it from that: one that stands alone in a constraint of a type that is
--- referred to, and whose encoding is longer than may be under the tags before the reference (V8).
+-- V8: The type that is written there is sound. A single value can keep it from that, in a constraint of a type that is
+-- referred to: the fault is where that value stands.
 abbrev pub IsSoundAt : Site → AbstractType → Outcome (Unit {0}) → Type 0
-IsSoundAt site t = Passes (is_sound t) (Value (value_fault.TooLarge site))
+IsSoundAt site t = Passes (is_sound t) (Value (value_fault.TooLarge (unwrap_or (first_long t) site)))
 
 -- the value that a tree denotes, or its first fault, where it denotes none
 abbrev pub ReadsValue : Visible → AbstractType → WrittenValue → Outcome AbstractValue → Type 0
@@ -40,5 +41,5 @@ ReadsMember names t tree =
 -- the constraint that a tree denotes on a type, or its first fault
 abbrev pub ReadsConstraint : Visible → AbstractType → WrittenConstraint → Outcome Constraint → Type 0
 ReadsConstraint names t tree (Ok c) = constraints.Denotes names t tree c
-ReadsConstraint names t tree (Err (Cons f)) = IsNamed constraint_views.named f × (fault_of names t tree ≡ Some f) × ((c : Constraint) → ¬ (constraints.Denotes names t tree c))
+ReadsConstraint names t tree (Err (Cons f)) = IsNamed constraint_views.named f × IsFirstConstraintFault names t tree f × ((c : Constraint) → ¬ (constraints.Denotes names t tree c))
 ReadsConstraint names t tree (Err _) = ⊥

@@ -1,9 +1,10 @@
 -- Schemas as the definitions see them.
 use Rattle.std.specs.Prelude.{ℕ, zero, suc, Bool, ◌&&◌, List, [], ◌∷◌, map, Option, Some, None, option_map, bytes_eq, slice_get, if◌then◌else◌}
+use Rattle.std.specs.Option.{option_and_then}
 use Rattle.guard_model.specs.AbstractType.{AbstractType}
 use Rattle.guard_model.specs.AbstractValue.{AbstractValue}
 use Rattle.guard_names.specs.Declarations.{Definition, definitions}
-use Rattle.guard_values.specs.Visible.{placed_definition}
+use Rattle.guard_names.specs.Places.{place_in}
 use Rattle.guard_schema.specs.Known.{Built, Known, built_at}
 
 -- The names of the modules in the order of their texts, and the type of each name to which the module of a name assigns one. A name that a module
@@ -37,7 +38,7 @@ assigned_type (Some b) = type_unless b.ty b.value
 abbrev pub schema_of : Known → AbstractSchema
 schema_of k = record {
   modules = map (λ m. m.name) k.modules;
-  types = λ home name. assigned_type (built_at k.built (placed_definition k.order (number_assigned home name (definitions k.modules))));
+  types = λ home name. assigned_type (built_at k.built (option_and_then (place_in k.order) (number_assigned home name (definitions k.modules))));
 }
 
 -- the name of the module at this place of the list of texts, from 1

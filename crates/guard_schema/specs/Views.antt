@@ -12,14 +12,14 @@ use Rattle.guard_constraints.specs.Visible.{Visible}
 use Rattle.guard_schema.specs.declared.progress.Progress.{Progress}
 use Rattle.guard_schema.specs.declared.progress.Definition as code_definition
 use Rattle.guard_schema.specs.declared.schema.Schema.{Schema}
-use Rattle.guard_schema.specs.declared.naming.NamedDefinition.{NamedDefinition}
+use Rattle.guard_schema.specs.declared.build.NamedDefinition.{NamedDefinition}
 use Rattle.guard_schema.specs.declared.index.TypeIndex.{TypeIndex}
 use Rattle.guard_schema.specs.declared.scope.Scope.{Scope}
 use Rattle.guard_schema.specs.declared.finishing.Filling as code_filling
 use Rattle.guard_schema.specs.Known.{Built, Known, visible}
 use Rattle.guard_schema.specs.Pairs.{built_view, paired}
-use Rattle.guard_schema.specs.Finishing.{Filling}
-use Rattle.guard_values.specs.Visible.{placed_definition}
+use Rattle.guard_schema.specs.InTurn.{Filling}
+use Rattle.guard_names.specs.Places as places
 use Rattle.guard_schema.specs.Entries.{Entry, looked_up, unvalued}
 use Rattle.guard_schema.specs.Schemas.{AbstractSchema}
 
@@ -63,7 +63,7 @@ unvalued_at values (Some place) = unvalued place (slice_get values place)
 
 -- the place of the definition of this number, where it assigns a type
 abbrev pub type_place : List ℕ → List (Option Value) → ℕ → Option ℕ
-type_place order values number = unvalued_at values (placed_definition order (Some number))
+type_place order values number = unvalued_at values (places.place_in order number)
 
 abbrev pub schema_view : Schema → AbstractSchema
 schema_view s = record {

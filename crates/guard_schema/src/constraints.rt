@@ -1,20 +1,20 @@
 //! The constraints that are written at a type, put behind those that it has.
 ghost use Rattle.std.specs.Prelude.{◌≡◌, map, IsTrue, IfOk};
-ghost use Rattle.guard_der.specs.ProperConstraints.{type_of_size};
 ghost use Rattle.guard_der.specs.Sound.{is_sound};
 ghost use Rattle.guard_model.specs.AbstractType.{type_of};
 ghost use Rattle.guard_model.specs.TypeView.{type_view, kind_view, constraint_view, constraints_of};
 ghost use Rattle.guard_syntax.specs.SetViews as sets;
 ghost use Rattle.guard_syntax.specs.TypeViews as written;
 ghost use Rattle.guard_schema.specs.Faults.{named};
-ghost use Rattle.guard_schema.specs.Finishing.{with_constraint, AddsOne, Adds, Constrains, Sizes, ConstrainsBefore, ConstrainsByOne, ConstrainsWritten, constraint_before};
+ghost use Rattle.guard_schema.specs.Finishing.{with_constraint, AddsOne, Adds, Constrains, Sizes, ConstrainsBefore, ConstrainsByOne, constraint_before};
+ghost use Rattle.guard_schema.specs.InTurn.{ConstrainsWritten};
 ghost use Rattle.guard_schema.specs.Outcomes.{Answers};
 ghost use Rattle.guard_schema.specs.Views.{visible_of, before_view};
 
 use crate::fault::SchemaFault;
-use crate::readings::{check_sound, constraint_written};
+use crate::readings::{check_sound, read_constraint};
 use crate::scope::Scope;
-use guard_model::{Class, Cons, Kind, OutOfMemory, Rule, Site, Tag, Ty};
+use guard_model::{Cons, Kind, Rule, Site, Tag, Ty};
 use guard_syntax::{BaseTree, ConsTree, OfConsTree, TypeTree};
 use std::alloc::{AllocError, Global};
 
@@ -67,7 +67,7 @@ fn with_constraint(alloc: Global, scope: Scope, tree: &ConsTree, ty: Ty) -> Resu
     ensures added { Answers type_view named result (AddsOne (visible_of scope.entry) (sets.constraint_view tree.now) (type_view ty)) }
     ensures sound { IfOk result (λ t. IsTrue (is_sound (type_view t))) }
 {
-    let cons = constraint_written(alloc, scope, &ty, tree)?;
+    let cons = read_constraint(alloc, scope, &ty, tree)?;
     Ok(with(ty, cons)?)
 }
 
@@ -129,27 +129,11 @@ fn by_one(
 fn sized(alloc: Global, scope: Scope, before: &OfConsTree, ty: Ty) -> Result<Ty, SchemaFault>
     ensures { Answers type_view named result (Sizes (visible_of scope.entry) (before_view before.now) (type_view ty)) }
 {
-    let number = integer(alloc)?;
-    let size = constraint_written(alloc, scope, &number, &before.cons)?;
+    let number = Ty::integer(alloc)?;
+    let size = read_constraint(alloc, scope, &number, &before.cons)?;
     let cons = Cons {
         site: before.site,
         rule: Rule::Size(Box::new(alloc, size)?),
     };
     Ok(with(ty, cons)?)
-}
-
-/// INTEGER, of which a size is a value.
-fn integer(alloc: Global) -> Result<Ty, OutOfMemory>
-    ensures { IfOk result (λ t. type_view t ≡ type_of_size) }
-{
-    let mut tags = Vec::new(alloc);
-    tags.push(Tag {
-        class: Class::Universal,
-        number: 2,
-    })?;
-    Ok(Ty {
-        tags,
-        kind: Kind::Int(Vec::new(alloc)),
-        cons: Vec::new(alloc),
-    })
 }

@@ -12,7 +12,8 @@ ghost use Rattle.guard_tagging.specs.Faults as tagging;
 ghost use Rattle.guard_tagging.specs.ScopeView.{known_list};
 ghost use Rattle.guard_tagging.specs.Spelled.{IsSpelledModule};
 ghost use Rattle.guard_tagging.specs.Surroundings.{known_from, is_automatic_definition};
-ghost use Rattle.guard_schema.specs.Building.{BuildsNumber, BuildsAll, TagsApart, Completes, HasValue, TellsApart, Assigns, KeepsLimit};
+ghost use Rattle.guard_schema.specs.Building.{BuildsNumber, BuildsAll, HasValue, TellsApart, Assigns, KeepsLimit};
+ghost use Rattle.guard_schema.specs.InTurn.{TagsApart, CompletesInTurn};
 ghost use Rattle.guard_schema.specs.Counting.{held_by, most_held};
 ghost use Rattle.guard_schema.specs.Faults.{named};
 ghost use Rattle.guard_schema.specs.Known.{none_known};
@@ -24,7 +25,7 @@ use crate::counting::{held_by, type_nodes};
 use crate::fault::SchemaFault;
 use crate::finishing::finished;
 use crate::progress::{Definition, Progress};
-use crate::readings::{check_sound, member_written};
+use crate::readings::{check_sound, read_member};
 use crate::scope::Scope;
 use guard_model::{Site, Ty, Value};
 use guard_names::{Id, Names};
@@ -101,7 +102,7 @@ fn completed(
     tagged: TaggedType,
 ) -> Result<Definition, SchemaFault>
     requires counted { scope.progress.now.nodes + tagging.nodes (type_view tagged.ty) ≤ tagging.most_nodes }
-    ensures built { Answers definition_view named result (Completes (known_view scope.entry.progress.now) (visible_of scope.entry) (assignment_view assignment.now) (type_view tagged.ty)) }
+    ensures built { Answers definition_view named result (CompletesInTurn (known_view scope.entry.progress.now) (visible_of scope.entry) (assignment_view assignment.now) (type_view tagged.ty)) }
     ensures sound { IfOk result (λ d. IsTrue (is_sound (definition_view d).ty)) }
     ensures fits { IfOk result (λ d. IfSome (definition_view d).value (λ v. IsTrue (fits (definition_view d).ty v))) }
     ensures nodes { IfOk result (λ d. (d.nodes ≡ scope.entry.progress.now.nodes + tagging.nodes (definition_view d).ty) × (d.nodes ≤ tagging.most_nodes)) }
@@ -168,7 +169,7 @@ fn assigned(
 {
     match value {
         None => Ok(None),
-        Some(tree) => Ok(Some(member_written(alloc, scope, ty, tree)?)),
+        Some(tree) => Ok(Some(read_member(alloc, scope, ty, tree)?)),
     }
 }
 

@@ -2,7 +2,6 @@
 //!
 //! The type is taken by value and handed back: nothing is copied. A list of components moves once into a list of its own length.
 ghost use Rattle.std.specs.Prelude.{◌≡◌, [], map, IfOk, option_map, string_bytes};
-ghost use Rattle.guard_model.specs.Components.{components_in};
 ghost use Rattle.guard_model.specs.Counts.{component_count};
 ghost use Rattle.guard_model.specs.TypeView as model;
 ghost use Rattle.guard_model.specs.TypeView.{type_view, kind_view, component_view, presence_view};
@@ -11,12 +10,13 @@ ghost use Rattle.guard_syntax.specs.TypeViews as written;
 ghost use Rattle.guard_tagging.specs.Types.{parts_of};
 ghost use Rattle.guard_schema.specs.Faults.{named};
 ghost use Rattle.guard_schema.specs.Finishing as finishing;
+ghost use Rattle.guard_schema.specs.InTurn as in_turn;
 ghost use Rattle.guard_schema.specs.Outcomes.{Answers, Is};
 ghost use Rattle.guard_schema.specs.Views.{visible_of, filling_view};
 
 use crate::constraints::{whole, with_written};
 use crate::fault::SchemaFault;
-use crate::readings::{check_sound, member_written};
+use crate::readings::{check_sound, read_member};
 use crate::scope::Scope;
 use guard_model::{Comp, Kind, Presence, Site, Ty};
 use guard_syntax::{AlternativeTree, BaseTree, CompForm, CompTree, PresenceTree, TypeTree};
@@ -33,7 +33,7 @@ pub struct Filling {
 /// The finished type.
 #[cycle(finishing)]
 pub fn finished(alloc: Global, scope: Scope, tree: &TypeTree, bare: Ty) -> Result<Ty, SchemaFault>
-    ensures { Answers type_view named result (finishing.Finishes (visible_of scope.entry) (written.type_view tree.now) (type_view bare)) }
+    ensures { Answers type_view named result (in_turn.FinishesInTurn (visible_of scope.entry) (written.type_view tree.now) (type_view bare)) }
 {
     let filled = with_parts(alloc, scope, &tree.base, bare)?;
     with_written(alloc, scope, tree, filled)
@@ -42,7 +42,7 @@ pub fn finished(alloc: Global, scope: Scope, tree: &TypeTree, bare: Ty) -> Resul
 /// The type with its parts finished.
 #[cycle(finishing)]
 fn with_parts(alloc: Global, scope: Scope, base: &BaseTree, bare: Ty) -> Result<Ty, SchemaFault>
-    ensures { Answers type_view named result (finishing.FinishesParts (visible_of scope.entry) (written.base_view base.now) (type_view bare)) }
+    ensures { Answers type_view named result (in_turn.PartsInTurn (visible_of scope.entry) (written.base_view base.now) (type_view bare)) }
 {
     let Ty { tags, kind, cons } = bare;
     let inside = finished_kind(alloc, scope, base, kind)?;
@@ -56,7 +56,7 @@ fn finished_kind(
     base: &BaseTree,
     kind: Kind,
 ) -> Result<Kind, SchemaFault>
-    ensures { Answers kind_view named result (finishing.FinishesKind (visible_of scope.entry) (written.base_view base.now) (kind_view kind)) }
+    ensures { Answers kind_view named result (in_turn.KindInTurn (visible_of scope.entry) (written.base_view base.now) (kind_view kind)) }
 {
     match base {
         BaseTree::Structure(_, trees) => list(alloc, scope, trees, kind),
@@ -69,7 +69,7 @@ fn finished_kind(
 /// A SEQUENCE or SET.
 #[cycle(finishing)]
 fn list(alloc: Global, scope: Scope, trees: &[CompTree], kind: Kind) -> Result<Kind, SchemaFault>
-    ensures { Answers kind_view named result (finishing.FinishesList (finishing.Fills (visible_of scope.entry) (components_of (map written.component_view trees.now))) (kind_view kind)) }
+    ensures { Answers kind_view named result (in_turn.ListInTurn (in_turn.FillsInTurn (visible_of scope.entry) (components_of (map written.component_view trees.now))) (kind_view kind)) }
 {
     match kind {
         Kind::Sequence(bare) => Ok(Kind::Sequence(components(alloc, scope, trees, bare)?)),
@@ -85,7 +85,7 @@ fn choice(
     trees: &[AlternativeTree],
     kind: Kind,
 ) -> Result<Kind, SchemaFault>
-    ensures { Answers kind_view named result (finishing.FinishesChoice (finishing.FillsOthers (visible_of scope.entry) (alternatives_of (map written.alternative_view trees.now))) (kind_view kind)) }
+    ensures { Answers kind_view named result (in_turn.ChoiceInTurn (in_turn.OthersInTurn (visible_of scope.entry) (alternatives_of (map written.alternative_view trees.now))) (kind_view kind)) }
 {
     match kind {
         Kind::Choice(bare) => Ok(Kind::Choice(alternatives(alloc, scope, trees, bare)?)),
@@ -96,7 +96,7 @@ fn choice(
 /// SEQUENCE OF or SET OF.
 #[cycle(finishing)]
 fn elements(alloc: Global, scope: Scope, tree: &TypeTree, kind: Kind) -> Result<Kind, SchemaFault>
-    ensures { Answers kind_view named result (finishing.FinishesElement (finishing.Finishes (visible_of scope.entry) (written.type_view tree.now)) (kind_view kind)) }
+    ensures { Answers kind_view named result (in_turn.ElementInTurn (in_turn.FinishesInTurn (visible_of scope.entry) (written.type_view tree.now)) (kind_view kind)) }
 {
     match kind {
         Kind::SequenceOf(bare) => Ok(Kind::SequenceOf(boxed(alloc, scope, tree, bare)?)),
@@ -112,7 +112,7 @@ fn boxed(
     tree: &TypeTree,
     bare: Box<Ty>,
 ) -> Result<Box<Ty>, SchemaFault>
-    ensures { Answers (λ b. type_view b.value) named result (finishing.Finishes (visible_of scope.entry) (written.type_view tree.now) (type_view bare.value)) }
+    ensures { Answers (λ b. type_view b.value) named result (in_turn.FinishesInTurn (visible_of scope.entry) (written.type_view tree.now) (type_view bare.value)) }
 {
     let element = finished(alloc, scope, tree, Box::into_inner(bare))?;
     Ok(Box::new(alloc, element)?)
@@ -127,7 +127,7 @@ fn components(
     trees: &[CompTree],
     bare: Vec<Comp>,
 ) -> Result<Vec<Comp>, SchemaFault>
-    ensures { Answers (λ v. map component_view v.items) named result (finishing.FillsAll (finishing.Fills (visible_of scope.entry) (components_of (map written.component_view trees.now))) (finishing.listed (model.components_of (map component_view bare.items)))) }
+    ensures { Answers (λ v. map component_view v.items) named result (in_turn.FillsAll (in_turn.FillsInTurn (visible_of scope.entry) (components_of (map written.component_view trees.now))) (in_turn.listed (model.components_of (map component_view bare.items)))) }
 {
     let start = unfilled(alloc, bare)?;
     let filling = fill(alloc, scope, trees, start)?;
@@ -141,10 +141,10 @@ fn alternatives(
     trees: &[AlternativeTree],
     bare: Vec<Comp>,
 ) -> Result<Vec<Comp>, SchemaFault>
-    ensures { Answers (λ v. map component_view v.items) named result (finishing.FillsAll (finishing.FillsOthers (visible_of scope.entry) (alternatives_of (map written.alternative_view trees.now))) (finishing.listed (model.components_of (map component_view bare.items)))) }
+    ensures { Answers (λ v. map component_view v.items) named result (in_turn.FillsAll (in_turn.OthersInTurn (visible_of scope.entry) (alternatives_of (map written.alternative_view trees.now))) (in_turn.listed (model.components_of (map component_view bare.items)))) }
 {
     let start = unfilled(alloc, bare)?;
-    let filling = fill_others(alloc, scope, trees, start)?;
+    let filling = fill_alternatives(alloc, scope, trees, start)?;
     Ok(filling.done)
 }
 
@@ -166,7 +166,7 @@ fn fill(
     trees: &[CompTree],
     filling: Filling,
 ) -> Result<Filling, SchemaFault>
-    ensures { Answers filling_view named result (finishing.Fills (visible_of scope.entry) (components_of (map written.component_view trees.now)) (filling_view filling)) }
+    ensures { Answers filling_view named result (in_turn.FillsInTurn (visible_of scope.entry) (components_of (map written.component_view trees.now)) (filling_view filling)) }
 {
     let mut so_far = filling;
     for tree in trees {
@@ -182,7 +182,7 @@ fn fill_entry(
     tree: &CompTree,
     filling: Filling,
 ) -> Result<Filling, SchemaFault>
-    ensures { Answers filling_view named result (finishing.FillsEntry (visible_of scope.entry) (written.component_view tree.now).form (filling_view filling)) }
+    ensures { Answers filling_view named result (in_turn.EntryInTurn (visible_of scope.entry) (written.component_view tree.now).form (filling_view filling)) }
 {
     match &tree.form {
         CompForm::Named(_, ty, presence) => fill_next(alloc, scope, ty, presence, filling),
@@ -192,13 +192,13 @@ fn fill_entry(
 
 /// The alternatives that are written, in turn.
 #[cycle(finishing)]
-fn fill_others(
+fn fill_alternatives(
     alloc: Global,
     scope: Scope,
     trees: &[AlternativeTree],
     filling: Filling,
 ) -> Result<Filling, SchemaFault>
-    ensures { Answers filling_view named result (finishing.FillsOthers (visible_of scope.entry) (alternatives_of (map written.alternative_view trees.now)) (filling_view filling)) }
+    ensures { Answers filling_view named result (in_turn.OthersInTurn (visible_of scope.entry) (alternatives_of (map written.alternative_view trees.now)) (filling_view filling)) }
 {
     let mut so_far = filling;
     for tree in trees {
@@ -214,7 +214,7 @@ fn fill_alternative(
     tree: &AlternativeTree,
     filling: Filling,
 ) -> Result<Filling, SchemaFault>
-    ensures { Answers filling_view named result (finishing.FillsAlternative (visible_of scope.entry) (written.alternative_view tree.now) (filling_view filling)) }
+    ensures { Answers filling_view named result (in_turn.AlternativeInTurn (visible_of scope.entry) (written.alternative_view tree.now) (filling_view filling)) }
 {
     fill_next(alloc, scope, &tree.ty, &PresenceTree::Mandatory, filling)
 }
@@ -228,7 +228,7 @@ fn fill_next(
     presence: &PresenceTree,
     filling: Filling,
 ) -> Result<Filling, SchemaFault>
-    ensures { Answers filling_view named result (finishing.FillsNext (visible_of scope.entry) (finishing.site_of_type (written.type_view tree.now)) (finishing.Finishes (visible_of scope.entry) (written.type_view tree.now)) (written.presence_view presence.now) (filling_view filling).done (filling_view filling).left) }
+    ensures { Answers filling_view named result (in_turn.FillsNext (visible_of scope.entry) (finishing.site_of_type (written.type_view tree.now)) (in_turn.FinishesInTurn (visible_of scope.entry) (written.type_view tree.now)) (written.presence_view presence.now) (filling_view filling).done (filling_view filling).left) }
 {
     let mut filling = filling;
     match filling.left.pop_front() {
@@ -247,7 +247,7 @@ fn fill_one(
     bare: Comp,
     filling: Filling,
 ) -> Result<Filling, SchemaFault>
-    ensures { Answers filling_view named result (finishing.FillsOne (visible_of scope.entry) (finishing.site_of_type (written.type_view tree.now)) (finishing.Finishes (visible_of scope.entry) (written.type_view tree.now)) (written.presence_view presence.now) (component_view bare) (filling_view filling)) }
+    ensures { Answers filling_view named result (in_turn.FillsOne (visible_of scope.entry) (finishing.site_of_type (written.type_view tree.now)) (in_turn.FinishesInTurn (visible_of scope.entry) (written.type_view tree.now)) (written.presence_view presence.now) (component_view bare) (filling_view filling)) }
 {
     let comp = finished_component(alloc, scope, tree, presence, bare)?;
     Ok(with_done(comp, filling)?)
@@ -255,7 +255,7 @@ fn fill_one(
 
 /// One more that is finished.
 fn with_done(comp: Comp, filling: Filling) -> Result<Filling, AllocFailed<Comp>>
-    ensures { IfOk result (λ f. filling_view f ≡ finishing.with_done (component_view comp) (filling_view filling)) }
+    ensures { IfOk result (λ f. filling_view f ≡ in_turn.with_done (component_view comp) (filling_view filling)) }
 {
     let Filling { mut done, left } = filling;
     done.push(comp)?;
@@ -271,7 +271,7 @@ fn finished_component(
     presence: &PresenceTree,
     bare: Comp,
 ) -> Result<Comp, SchemaFault>
-    ensures { Answers component_view named result (finishing.FinishesComponent (visible_of scope.entry) (finishing.site_of_type (written.type_view tree.now)) (finishing.Finishes (visible_of scope.entry) (written.type_view tree.now)) (written.presence_view presence.now) (component_view bare)) }
+    ensures { Answers component_view named result (in_turn.OneInTurn (visible_of scope.entry) (finishing.site_of_type (written.type_view tree.now)) (in_turn.FinishesInTurn (visible_of scope.entry) (written.type_view tree.now)) (written.presence_view presence.now) (component_view bare)) }
 {
     let Comp { name, ty, .. } = bare;
     let filled = finished(alloc, scope, tree, ty)?;
@@ -287,7 +287,7 @@ fn with_presence(
     name: String,
     ty: Ty,
 ) -> Result<Comp, SchemaFault>
-    ensures { Answers component_view named result (finishing.FinishesPresence (visible_of scope.entry) site (written.presence_view presence.now) (string_bytes name) (type_view ty)) }
+    ensures { Answers component_view named result (in_turn.WithPresence (visible_of scope.entry) site (written.presence_view presence.now) (string_bytes name) (type_view ty)) }
 {
     let presence = presence_of(alloc, scope, site, &ty, presence)?;
     Ok(Comp { name, ty, presence })
@@ -308,7 +308,7 @@ fn presence_of(
         PresenceTree::Optional => Ok(Presence::Optional),
         PresenceTree::Default(tree) => {
             check_sound(alloc, site, ty)?;
-            Ok(Presence::Default(member_written(alloc, scope, ty, tree)?))
+            Ok(Presence::Default(read_member(alloc, scope, ty, tree)?))
         }
     }
 }
@@ -323,7 +323,7 @@ fn fill_from(
     base: &BaseTree,
     filling: Filling,
 ) -> Result<Filling, SchemaFault>
-    ensures { Answers filling_view named result (finishing.FillsFromBase (visible_of scope.entry) (written.base_view base.now) (filling_view filling)) }
+    ensures { Answers filling_view named result (in_turn.FromBaseInTurn (visible_of scope.entry) (written.base_view base.now) (filling_view filling)) }
 {
     match base {
         BaseTree::Structure(_, trees) => fill(alloc, scope, trees, filling),
@@ -334,7 +334,7 @@ fn fill_from(
 
 /// Those of the type of this name need nothing.
 fn passed(scope: Scope, name: &[u8], filling: Filling) -> Result<Filling, SchemaFault>
-    ensures { Answers filling_view named result (Is (finishing.moved (finishing.put_in ((visible_of scope.entry).types name.now)) (filling_view filling))) }
+    ensures { Answers filling_view named result (Is (in_turn.moved (finishing.count_of_meant ((visible_of scope.entry).types name.now)) (filling_view filling))) }
 {
     let count = put_in(scope.type_named(name));
     Ok(moved(filling, count)?)
@@ -342,7 +342,7 @@ fn passed(scope: Scope, name: &[u8], filling: Filling) -> Result<Filling, Schema
 
 /// How many components COMPONENTS OF the type puts in.
 fn put_in(ty: Option<&Ty>) -> usize
-    ensures { result ≡ finishing.put_in (option_map (λ t. type_view t.now) ty.entry) }
+    ensures { result ≡ finishing.count_of_meant (option_map (λ t. type_view t.now) ty.entry) }
 {
     match ty {
         None => 0,
@@ -353,24 +353,12 @@ fn put_in(ty: Option<&Ty>) -> usize
 fn part_count(ty: &Ty) -> usize
     ensures { result ≡ component_count (parts_of (type_view ty.now)) }
 {
-    parts_in(&ty.kind).len()
-}
-
-/// The components of a SEQUENCE or SET, or the alternatives of a CHOICE.
-fn parts_in(kind: &Kind) -> &[Comp]
-    ensures { model.components_of (map component_view result.now) ≡ components_in (kind_view kind.now) }
-{
-    match kind {
-        Kind::Sequence(comps) => comps,
-        Kind::Set(comps) => comps,
-        Kind::Choice(comps) => comps,
-        _ => &[],
-    }
+    ty.kind.components().len()
 }
 
 /// So many of those that are left need nothing.
 fn moved(filling: Filling, count: usize) -> Result<Filling, AllocFailed<Comp>>
-    ensures { IfOk result (λ f. filling_view f ≡ finishing.moved count (filling_view filling)) }
+    ensures { IfOk result (λ f. filling_view f ≡ in_turn.moved count (filling_view filling)) }
 {
     let mut so_far = filling;
     for _ in 0..count {
@@ -381,7 +369,7 @@ fn moved(filling: Filling, count: usize) -> Result<Filling, AllocFailed<Comp>>
 
 /// The next one, where one is left.
 fn moved_one(filling: Filling) -> Result<Filling, AllocFailed<Comp>>
-    ensures { IfOk result (λ f. filling_view f ≡ finishing.moved 1 (filling_view filling)) }
+    ensures { IfOk result (λ f. filling_view f ≡ in_turn.moved 1 (filling_view filling)) }
 {
     let mut filling = filling;
     match filling.left.pop_front() {

@@ -4,7 +4,7 @@ ghost use Rattle.std.specs.Option.{option_or};
 ghost use Rattle.guard_schema.specs.Entries.{first_named, looked_up, place_if, entry_if};
 ghost use Rattle.guard_schema.specs.Views.{entry_view, found_in, place_in};
 
-use crate::naming::NamedDefinition;
+use crate::build::NamedDefinition;
 use indexmap::IndexMap;
 use std::alloc::{AllocError, Global};
 

@@ -9,11 +9,15 @@
 //! | What does a definition denote, each in turn? | `definitions.rt` | `specs/Building.antt` |
 //! | Which constraints and defaults are filled into a type? | `finishing.rt`, `constraints.rt` | `specs/Finishing.antt` |
 //! | What are a written value and a written constraint? | `readings.rt` | `specs/Readings.antt` |
-//! | By what are types found? | `index.rt` (`TypeIndex`), `naming.rt` | `specs/Entries.antt`, `specs/Views.antt` |
+//! | Which value keeps a type from being sound? | `long_values.rt` | `specs/LongValues.antt` |
+//! | By what are types found? | `index.rt` (`TypeIndex`), `build.rt` | `specs/Entries.antt`, `specs/Views.antt` |
 //! | How much may a schema hold? | `counting.rt` | `specs/Counting.antt` |
-//! | Is there one schema, or one fault? | `laws.rt` | `specs/Accepts.antt` |
+//! | Is there one schema, or one fault? | `laws.rt` | `specs/OneAnswer.antt` |
+//! | Is a schema's type what its tree says, with its constraints and defaults filled in? | `laws.rt` | `specs/Unfinished.antt` |
+//! | How does the code fill a type, component by component? | `finishing.rt` | `specs/InTurn.antt` (private) |
 #![tactic(auto)]
 
+mod build;
 mod constraints;
 mod counting;
 mod definitions;
@@ -21,8 +25,8 @@ mod fault;
 mod finishing;
 mod index;
 pub mod laws;
+mod long_values;
 mod names;
-mod naming;
 mod progress;
 mod readings;
 mod schema;

@@ -12,6 +12,7 @@ ghost use Rattle.guard_schema.specs.Readings.{IsSoundAt, ReadsValue, ReadsMember
 ghost use Rattle.guard_schema.specs.Views.{visible_of};
 
 use crate::fault::SchemaFault;
+use crate::long_values::first_long;
 use crate::scope::Scope;
 use guard_constraints::constraint;
 use guard_der::sound;
@@ -21,21 +22,21 @@ use guard_syntax::{ConsTree, ValueTree};
 use guard_values::{ValueFault, value};
 use std::alloc::Global;
 
-/// The type that is written there must be sound. Only a single value in a constraint of a type that is referred to can keep it from that: under the tags
-/// before the reference its encoding may be longer than 1,048,576 octets (`ValueFault::TooLarge`).
+/// The type that is written there must be sound. A single value in a constraint of a type that is referred to can keep it from that: under the tags
+/// before the reference its encoding may be longer than 1,048,576 octets (`ValueFault::TooLarge`, where that value stands).
 pub fn check_sound(alloc: Global, site: Site, ty: &Ty) -> Result<(), SchemaFault>
     ensures answers { Answers (λ u. u) named result (IsSoundAt site (type_view ty.now)) }
     ensures sound { IfOk result (λ _. IsTrue (is_sound (type_view ty.now))) }
 {
     if sound(alloc, ty)? {
-        Ok(())
-    } else {
-        Err(SchemaFault::Value(ValueFault::TooLarge(site)))
+        return Ok(());
     }
+    let long = first_long(alloc, ty)?;
+    Err(SchemaFault::Value(ValueFault::TooLarge(long.unwrap_or(site))))
 }
 
 /// The value that is written, a member of its type: of a DEFAULT, or of a value assignment.
-pub fn member_written(
+pub fn read_member(
     alloc: Global,
     scope: Scope,
     ty: &Ty,
@@ -45,7 +46,7 @@ pub fn member_written(
     ensures read { Answers value_view named result (ReadsMember (visible_of scope.entry) (type_view ty.now) (values.value_view tree.now)) }
     ensures fits { IfOk result (λ v. IsTrue (fits (type_view ty.now) (value_view v))) }
 {
-    let value = value_written(alloc, scope, ty, tree)?;
+    let value = read_value(alloc, scope, ty, tree)?;
     if member(ty, &value) {
         Ok(value)
     } else {
@@ -53,7 +54,8 @@ pub fn member_written(
     }
 }
 
-fn value_written(
+/// The value that is written, whether or not it is a member of its type.
+pub fn read_value(
     alloc: Global,
     scope: Scope,
     ty: &Ty,
@@ -68,7 +70,7 @@ fn value_written(
 }
 
 /// The constraint that is written on a type.
-pub fn constraint_written(
+pub fn read_constraint(
     alloc: Global,
     scope: Scope,
     ty: &Ty,

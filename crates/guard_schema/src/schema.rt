@@ -4,10 +4,10 @@ ghost use Rattle.std.proofs.Props.{props};
 ghost use Rattle.guard_der.specs.Sound.{is_sound};
 ghost use Rattle.guard_model.specs.TypeView as model;
 
+use crate::build::schema_of;
 use crate::fault::SchemaFault;
 use crate::index::TypeIndex;
 use crate::laws::law_one_schema;
-use crate::naming::schema_of;
 use guard_model::Ty;
 use std::alloc::Global;
 
@@ -32,9 +32,9 @@ impl Schema {
     /// The schema that texts denote, each the text of one module.
     ///
     /// Faults are looked for in this order, and the first is answered: more than 64 texts; in each text in turn its tokens (L1 to L7) and how they follow
-    /// one another (P1 to P3); names over all modules (N1 to N6, in the order of `resolve`); then one definition after the other, each behind those that it
+    /// one another (P1 to P3); names over all modules (N1 to N6, in the order of `resolve`); then one definition after the other, each after those that it
     /// uses: tags and parts (G1 to G12), tags that don't tell parts apart (S1), constraints and defaults, inside out in written order (C1 to C10,
-    /// V1 to V8, and S2 directly behind the default's value), the value that is assigned (V1 to V8, S2), the limit on constraints and values (S3).
+    /// V1 to V8, and S2 directly after the default's value), the value that is assigned (V1 to V8, S2), the limit on constraints and values (S3).
     /// OutOfMemory may stand in place of any answer.
     pub fn build(alloc: Global, texts: &[&[u8]]) -> Result<Schema, SchemaFault>
         // What is answered is what the texts denote.

@@ -51,7 +51,7 @@ mutual
   inside_ways types way (type.set_of t) = from_ways types (way ++ 0 ∷ []) t ∙ through types way 0 (ways t)
   inside_ways types way type.boolean = refl
   inside_ways types way (type.integer names) = refl
-  inside_ways types way type.bit_string = refl
+  inside_ways types way (type.bit_string names) = refl
   inside_ways types way type.octet_string = refl
   inside_ways types way type.null = refl
   inside_ways types way type.object_identifier = refl

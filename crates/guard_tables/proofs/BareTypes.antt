@@ -2,19 +2,20 @@
 use Rattle.std.proofs.Common.{◌≡◌, ℕ, zero, suc, ◌&&◌, List, [], ◌∷◌, Some, refl, sym, ap, ◌∙◌}
 use Rattle.std.proofs.Math.Path.{fun_ext}
 use Rattle.guard_model.specs.AbstractType as type
-use Rattle.guard_model.specs.AbstractType.{AbstractType, AbstractKind, Components, Constraints, type_of, no_components, component, no_constraints}
+use Rattle.guard_model.specs.AbstractType.{AbstractType, AbstractKind, Components, Constraints, NamedNumber, type_of, no_components, component, no_constraints}
 use Rattle.guard_model.specs.AbstractValue as value
 use Rattle.guard_model.specs.AbstractValue.{AbstractValue, Fields}
-use Rattle.guard_model.specs.SameBase.{bare, bare_kind, bare_components, HasSameBase}
+use Rattle.guard_model.specs.SameBase.{bare, bare_kind, bare_components, bare_names, HasSameBase}
 use Rattle.guard_model.specs.declared.tag.Tag.{Tag}
 use Rattle.guard_der.specs.Der.{der, contents_octets, alternative_octets, parts_of, parts_joined, ascending, joined, item_encodings, outermost, outermost_inside, outermost_alternative, is_constructed, ◌>>=◌}
 use Rattle.guard_der.specs.Element.{tagged}
-use Rattle.guard_der.specs.Fits.{fits, fits_kind, fits_fields, fits_alternative, fits_items, fits_set, may_be_absent}
+use Rattle.guard_der.specs.Fits.{fits, fits_kind, fits_fields, fits_alternative, fits_items, fits_set, may_be_absent, fits_bits, ends_as_named}
 
 -- ---- encodings
 
 constructed_bare : (kind : AbstractKind) → is_constructed (bare_kind kind) ≡ is_constructed kind
 constructed_bare (type.integer names) = refl
+constructed_bare (type.bit_string names) = refl
 constructed_bare (type.sequence cs) = refl
 constructed_bare (type.set cs) = refl
 constructed_bare (type.choice cs) = refl
@@ -64,11 +65,17 @@ mutual
 
 -- ---- values
 
+-- of named bits it counts whether there are any
+named_alike : (names : List NamedNumber) (os : List ℕ) (unused : ℕ) → ends_as_named (bare_names names) os unused ≡ ends_as_named names os unused
+named_alike [] os unused = refl
+named_alike (n ∷ ns) os unused = refl
+
 mutual
   fits_bare : (t : AbstractType) (v : AbstractValue) → fits (bare t) v ≡ fits t v
   fits_bare (type_of tags kind cons) v = fits_kind_bare kind v
 
   fits_kind_bare : (kind : AbstractKind) (v : AbstractValue) → fits_kind (bare_kind kind) v ≡ fits_kind kind v
+  fits_kind_bare (type.bit_string names) (value.bit_string os unused) = ap (λ b. fits_bits os unused && b) (named_alike names os unused)
   fits_kind_bare (type.sequence cs) (value.fields fs) = fields_bare cs fs
   fits_kind_bare (type.set cs) (value.fields fs) = fields_bare cs fs
   fits_kind_bare (type.choice cs) (value.chosen i v) = fits_alternative_bare cs i v

@@ -31,7 +31,14 @@ abbrev mutual
   of_kind (type.choice cs) way = inside 1 (of_component cs) way
   of_kind (type.sequence_of t) way = inside 1 (λ place. of_type t) way
   of_kind (type.set_of t) way = inside 1 (λ place. of_type t) way
-  of_kind _ way = here way
+  of_kind type.boolean way = here way
+  of_kind (type.integer names) way = here way
+  of_kind (type.bit_string names) way = here way
+  of_kind type.octet_string way = here way
+  of_kind type.null way = here way
+  of_kind type.object_identifier way = here way
+  of_kind (type.enumerated items) way = here way
+  of_kind (type.characters kind) way = here way
 
   -- of the component or alternative at this place
   pub of_component : Components → ℕ → List ℕ → ℕ
@@ -59,9 +66,12 @@ abbrev mutual
   of_element (type.intersection cs) way = of_constraints cs way
   of_element (type.except c d) way = of_constraint c way + of_constraint d way
   of_element (type.all_except c) way = of_constraint c way
-  -- What stands in SIZE (51.5) speaks of a number and isn't counted. Single values (51.2), ranges (51.4) and alphabets (51.7) have
-  -- nothing inside.
-  of_element _ way = 0
+  -- 51.5: what stands in SIZE speaks of a number and isn't counted
+  of_element (type.size c) way = 0
+  -- 51.2, 51.4, 51.7: nothing stands inside
+  of_element (type.single_value v) way = 0
+  of_element (type.range low high) way = 0
+  of_element (type.permitted_alphabet ranges) way = 0
 
   -- of those that speak of the part at this place
   pub of_parts : Parts → ℕ → List ℕ → ℕ

@@ -15,7 +15,14 @@ abbrev mutual
   ways_inside (type.choice cs) = ways_among 0 cs
   ways_inside (type.sequence_of t) = map (λ way. 0 ∷ way) (ways t)
   ways_inside (type.set_of t) = map (λ way. 0 ∷ way) (ways t)
-  ways_inside _ = []
+  ways_inside type.boolean = []
+  ways_inside (type.integer names) = []
+  ways_inside (type.bit_string names) = []
+  ways_inside type.octet_string = []
+  ways_inside type.null = []
+  ways_inside type.object_identifier = []
+  ways_inside (type.enumerated items) = []
+  ways_inside (type.characters kind) = []
 
   -- through these components, the first of which stands at this place
   pub ways_among : ℕ → Components → List (List ℕ)

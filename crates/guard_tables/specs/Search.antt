@@ -14,7 +14,14 @@ abbrev mutual
   crowded_inside types way (type.choice cs) = crowded_among types way 0 cs
   crowded_inside types way (type.sequence_of t) = crowded_from types (way ++ 0 ∷ []) t
   crowded_inside types way (type.set_of t) = crowded_from types (way ++ 0 ∷ []) t
-  crowded_inside types way _ = false
+  crowded_inside types way type.boolean = false
+  crowded_inside types way (type.integer names) = false
+  crowded_inside types way (type.bit_string names) = false
+  crowded_inside types way type.octet_string = false
+  crowded_inside types way type.null = false
+  crowded_inside types way type.object_identifier = false
+  crowded_inside types way (type.enumerated items) = false
+  crowded_inside types way (type.characters kind) = false
 
   -- of these components, the first of which stands at this place
   pub crowded_among : List AbstractType → List ℕ → ℕ → Components → Bool

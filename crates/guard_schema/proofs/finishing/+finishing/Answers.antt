@@ -4,7 +4,8 @@ use Rattle.guard_model.specs.TypeView.{type_view, kind_view, component_view}
 use Rattle.guard_syntax.specs.Trees.{components_of, alternatives_of}
 use Rattle.guard_syntax.specs.TypeViews as written
 use Rattle.guard_schema.specs.Faults.{named}
-use Rattle.guard_schema.specs.Finishing.{Finishes, Fills, FillsOthers, site_of_type}
+use Rattle.guard_schema.specs.Finishing.{site_of_type}
+use Rattle.guard_schema.specs.InTurn.{FinishesInTurn, FillsInTurn, OthersInTurn}
 use Rattle.guard_schema.specs.Views.{visible_of, filling_view}
 use Rattle.guard_schema.proofs.Filling.{next_component, component_stops, no_component, next_alternative, alternative_stops, no_alternative}
 use Rattle.guard_schema.proofs.FinishedTypes.{parts_refused, parts_finished, kind_refused, kind_finished, element_finished, taken_in, filling_refused, all_filled, one_refused, component_refused, component_finished}
@@ -47,20 +48,20 @@ boxed-returns t c = rw c.in_ok-new.ensures.ok (rw c.into_inner.ensures at c.in_o
 pub components-returns-in_err-filling : goal.components-returns-in_err-filling
 components-returns-in_err-filling t c =
     let p = err_from_is_err_and c.from_residual-in_err-filling.result c.from_residual-in_err-filling.ensures.1 in
-    rw (p.1, p.2) (filling_refused (Fills (visible_of c.args.scope) (components_of (map written.component_view c.args.trees.now))) (map component_view c.args.bare.items) (filling_view c.in_ok-start.start) c.in_ok-start.ensures (named c.in_err-filling.field-0.0) c.in_err-filling.ensures)
+    rw (p.1, p.2) (filling_refused (FillsInTurn (visible_of c.args.scope) (components_of (map written.component_view c.args.trees.now))) (map component_view c.args.bare.items) (filling_view c.in_ok-start.start) c.in_ok-start.ensures (named c.in_err-filling.field-0.0) c.in_err-filling.ensures)
 
 pub components-returns : goal.components-returns
 components-returns t c =
-    all_filled (Fills (visible_of c.args.scope) (components_of (map written.component_view c.args.trees.now))) (map component_view c.args.bare.items) (filling_view c.in_ok-start.start) c.in_ok-start.ensures (filling_view c.in_ok-filling.filling) c.in_ok-filling.ensures
+    all_filled (FillsInTurn (visible_of c.args.scope) (components_of (map written.component_view c.args.trees.now))) (map component_view c.args.bare.items) (filling_view c.in_ok-start.start) c.in_ok-start.ensures (filling_view c.in_ok-filling.filling) c.in_ok-filling.ensures
 
 pub alternatives-returns-in_err-filling : goal.alternatives-returns-in_err-filling
 alternatives-returns-in_err-filling t c =
     let p = err_from_is_err_and c.from_residual-in_err-filling.result c.from_residual-in_err-filling.ensures.1 in
-    rw (p.1, p.2) (filling_refused (FillsOthers (visible_of c.args.scope) (alternatives_of (map written.alternative_view c.args.trees.now))) (map component_view c.args.bare.items) (filling_view c.in_ok-start.start) c.in_ok-start.ensures (named c.in_err-filling.field-0.0) c.in_err-filling.ensures)
+    rw (p.1, p.2) (filling_refused (OthersInTurn (visible_of c.args.scope) (alternatives_of (map written.alternative_view c.args.trees.now))) (map component_view c.args.bare.items) (filling_view c.in_ok-start.start) c.in_ok-start.ensures (named c.in_err-filling.field-0.0) c.in_err-filling.ensures)
 
 pub alternatives-returns : goal.alternatives-returns
 alternatives-returns t c =
-    all_filled (FillsOthers (visible_of c.args.scope) (alternatives_of (map written.alternative_view c.args.trees.now))) (map component_view c.args.bare.items) (filling_view c.in_ok-start.start) c.in_ok-start.ensures (filling_view c.in_ok-filling.filling) c.in_ok-filling.ensures
+    all_filled (OthersInTurn (visible_of c.args.scope) (alternatives_of (map written.alternative_view c.args.trees.now))) (map component_view c.args.bare.items) (filling_view c.in_ok-start.start) c.in_ok-start.ensures (filling_view c.in_ok-filling.filling) c.in_ok-filling.ensures
 
 pub fill-loop-tree-init : goal.fill-loop-tree-init
 fill-loop-tree-init t c = λ answer h. h
@@ -76,19 +77,19 @@ fill-loop-tree-preserved t c = next_component (visible_of c.args.scope) c.args.t
 pub fill-returns : goal.fill-returns
 fill-returns t c = no_component (visible_of c.args.scope) c.args.trees.now (filling_view c.args.filling) c.loop-tree.tree-index (filling_view c.loop-tree.so_far) c.loop-tree-test.false c.loop-tree.invariant
 
-pub fill_others-loop-tree-init : goal.fill_others-loop-tree-init
-fill_others-loop-tree-init t c = λ answer h. h
+pub fill_alternatives-loop-tree-init : goal.fill_alternatives-loop-tree-init
+fill_alternatives-loop-tree-init t c = λ answer h. h
 
-pub fill_others-returns-in_err-so_far : goal.fill_others-returns-in_err-so_far
-fill_others-returns-in_err-so_far t c =
+pub fill_alternatives-returns-in_err-so_far : goal.fill_alternatives-returns-in_err-so_far
+fill_alternatives-returns-in_err-so_far t c =
     let p = err_from_is_err_and c.from_residual.result c.from_residual.ensures.1 in
     rw (p.1, p.2) (alternative_stops (visible_of c.args.scope) c.args.trees.now (filling_view c.args.filling) c.loop-tree.tree-index (filling_view c.loop-tree.so_far) c.tree-item.result c.loop-tree-test.true c.tree-item.is c.loop-tree.invariant (named c.in_err-so_far.field-0.0) c.in_err-so_far.ensures)
 
-pub fill_others-loop-tree-preserved : goal.fill_others-loop-tree-preserved
-fill_others-loop-tree-preserved t c = next_alternative (visible_of c.args.scope) c.args.trees.now (filling_view c.args.filling) c.loop-tree.tree-index (filling_view c.loop-tree.so_far) c.tree-item.result c.loop-tree-test.true c.tree-item.is c.loop-tree.invariant _ c.in_ok-so_far.ensures
+pub fill_alternatives-loop-tree-preserved : goal.fill_alternatives-loop-tree-preserved
+fill_alternatives-loop-tree-preserved t c = next_alternative (visible_of c.args.scope) c.args.trees.now (filling_view c.args.filling) c.loop-tree.tree-index (filling_view c.loop-tree.so_far) c.tree-item.result c.loop-tree-test.true c.tree-item.is c.loop-tree.invariant _ c.in_ok-so_far.ensures
 
-pub fill_others-returns : goal.fill_others-returns
-fill_others-returns t c = no_alternative (visible_of c.args.scope) c.args.trees.now (filling_view c.args.filling) c.loop-tree.tree-index (filling_view c.loop-tree.so_far) c.loop-tree-test.false c.loop-tree.invariant
+pub fill_alternatives-returns : goal.fill_alternatives-returns
+fill_alternatives-returns t c = no_alternative (visible_of c.args.scope) c.args.trees.now (filling_view c.args.filling) c.loop-tree.tree-index (filling_view c.loop-tree.so_far) c.loop-tree-test.false c.loop-tree.invariant
 
 pub fill_entry-returns-in-ComponentsOf : goal.fill_entry-returns-in-ComponentsOf
 fill_entry-returns-in-ComponentsOf t c =
@@ -98,18 +99,18 @@ fill_entry-returns-in-ComponentsOf t c =
 
 pub fill_next-returns-in-Some : goal.fill_next-returns-in-Some
 fill_next-returns-in-Some t c =
-    next_filled (visible_of c.args.scope) (site_of_type (written.type_view c.args.tree.now)) (Finishes (visible_of c.args.scope) (written.type_view c.args.tree.now)) (written.presence_view c.args.presence.now)
+    next_filled (visible_of c.args.scope) (site_of_type (written.type_view c.args.tree.now)) (FinishesInTurn (visible_of c.args.scope) (written.type_view c.args.tree.now)) (written.presence_view c.args.presence.now)
     c.args.filling.done.items c.args.filling.left.items c.pop_front.new.self.items c.pop_front.result c.pop_front.ensures.items c.in-Some.bare c.in-Some.is c.fill_one.result c.fill_one.ensures
 
 pub fill_next-returns-in-None : goal.fill_next-returns-in-None
 fill_next-returns-in-None t c =
-    nothing_filled (visible_of c.args.scope) (site_of_type (written.type_view c.args.tree.now)) (Finishes (visible_of c.args.scope) (written.type_view c.args.tree.now)) (written.presence_view c.args.presence.now)
+    nothing_filled (visible_of c.args.scope) (site_of_type (written.type_view c.args.tree.now)) (FinishesInTurn (visible_of c.args.scope) (written.type_view c.args.tree.now)) (written.presence_view c.args.presence.now)
     c.args.filling.done.items c.args.filling.left.items c.pop_front.new.self.items c.pop_front.result c.pop_front.ensures.items c.in-None.is c.pop_front.ensures.rest
 
 pub fill_one-returns-in_err-comp : goal.fill_one-returns-in_err-comp
 fill_one-returns-in_err-comp t c =
     let p = err_from_is_err_and c.from_residual.result c.from_residual.ensures.1 in
-    rw (p.1, p.2) (one_refused (visible_of c.args.scope) (site_of_type (written.type_view c.args.tree.now)) (Finishes (visible_of c.args.scope) (written.type_view c.args.tree.now)) (written.presence_view c.args.presence.now)
+    rw (p.1, p.2) (one_refused (visible_of c.args.scope) (site_of_type (written.type_view c.args.tree.now)) (FinishesInTurn (visible_of c.args.scope) (written.type_view c.args.tree.now)) (written.presence_view c.args.presence.now)
     (component_view c.args.bare) (filling_view c.args.filling) (named c.in_err-comp.field-0.0) c.in_err-comp.ensures)
 
 pub fill_one-returns : goal.fill_one-returns

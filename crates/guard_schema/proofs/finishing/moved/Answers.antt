@@ -1,5 +1,5 @@
 use Rattle.std.proofs.Common.{◌≡◌, ℕ, ap, ◌∙◌, arith}
-use Rattle.guard_schema.specs.Finishing as finishing
+use Rattle.guard_schema.specs.InTurn as in_turn
 use Rattle.guard_schema.specs.Views.{filling_view}
 use Rattle.guard_schema.proofs.Moves.{none_yet, moved_more}
 use Rattle.guard_schema.proofs.finishing.moved.Goals as goal
@@ -10,10 +10,10 @@ loop-init c = record { reached = omega arith; so_far = none_yet (filling_view c.
 pub loop-preserved : goal.loop-preserved
 loop-preserved c = record {
   reached = omega (arith, c.loop-test.true);
-  so_far = c.in_ok-so_far.ensures ∙ ap (λ (f : finishing.Filling). finishing.moved 1 f) c.loop.invariant.so_far ∙ moved_more c.loop.counter (filling_view c.args.filling);
+  so_far = c.in_ok-so_far.ensures ∙ ap (λ (f : in_turn.Filling). in_turn.moved 1 f) c.loop.invariant.so_far ∙ moved_more c.loop.counter (filling_view c.args.filling);
 }
 
 pub returns : goal.returns
 returns c =
     let there : c.loop.counter ≡ c.args.count = omega (arith, c.loop.invariant.reached, c.loop-test.false) in
-    c.loop.invariant.so_far ∙ ap (λ (n : ℕ). finishing.moved n (filling_view c.args.filling)) there
+    c.loop.invariant.so_far ∙ ap (λ (n : ℕ). in_turn.moved n (filling_view c.args.filling)) there

@@ -1,10 +1,10 @@
 use Rattle.std.proofs.Common.{◌≡◌, ◌≤◌}
-use Rattle.guard_schema.specs.Finishing as finishing
+use Rattle.guard_schema.specs.InTurn as in_turn
 use Rattle.guard_schema.specs.Views.{filling_view}
 use Rattle.guard_schema.proofs.finishing.moved.Given as goal
 
 abbrev pub invariant-loop : goal.invariant-loop
 invariant-loop l = record {
   reached : l.counter ≤ l.count;
-  so_far : filling_view l.so_far ≡ finishing.moved l.counter (filling_view l.fn.filling);
+  so_far : filling_view l.so_far ≡ in_turn.moved l.counter (filling_view l.fn.filling);
 }

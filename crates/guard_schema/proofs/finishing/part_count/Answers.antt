@@ -3,4 +3,4 @@ use Rattle.guard_schema.proofs.FinishedTypes.{parts_counted}
 use Rattle.guard_schema.proofs.finishing.part_count.Goals as goal
 
 pub returns : goal.returns
-returns c = parts_counted c.args.ty.now c.parts_in.result.now c.parts_in.ensures _ refl
+returns c = parts_counted c.args.ty.now c.components.result.now c.components.ensures _ refl

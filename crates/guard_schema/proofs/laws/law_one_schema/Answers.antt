@@ -9,4 +9,4 @@ one_value : OneValue
 one_value names t tree v w h k = same_Ok v w (sym (says_read names.values tree t v h.0) ∙ says_read names.values tree t w k.0)
 
 pub returns : goal.returns
-returns c = one_schema one_value c.law_one_constraint.ensures (map (λ t. t.now) c.args.texts.now)
+returns c = one_schema one_value c.law_one_constraint.ensures c.law_one_fault.ensures (map (λ t. t.now) c.args.texts.now)

@@ -1,0 +1,8 @@
+use Rattle.guard_schema.proofs.Unfinished.{bare_again, tagged_again}
+use Rattle.guard_schema.proofs.laws.law_unfinished.Goals as goal
+
+pub returns-clause-bare : goal.returns-clause-bare
+returns-clause-bare c = bare_again
+
+pub returns-clause-tagged : goal.returns-clause-tagged
+returns-clause-tagged c = tagged_again

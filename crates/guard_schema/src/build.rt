@@ -1,0 +1,144 @@
+//! What texts denote, as one answer, and the names by which a schema finds its types.
+ghost use Rattle.std.specs.Prelude.{◌≡◌, ◌++◌, All, map, slice_get, length, IfOk, IsUtf8, string_bytes};
+ghost use Rattle.guard_names.specs.Declarations.{definitions, defined_in};
+ghost use Rattle.guard_names.specs.NamesView.{modules_of, order_of};
+ghost use Rattle.guard_syntax.specs.ModuleViews.{module_view};
+ghost use Rattle.guard_schema.specs.Accepts.{Denotes};
+ghost use Rattle.guard_schema.specs.Entries as entries;
+ghost use Rattle.guard_schema.specs.Entries.{entries_from};
+ghost use Rattle.guard_schema.specs.Faults.{named};
+ghost use Rattle.guard_schema.specs.Outcomes.{Answers};
+ghost use Rattle.guard_schema.specs.Schemas as schemas;
+ghost use Rattle.guard_schema.specs.Views.{entry_view, type_place, schema_view, known_view};
+
+use crate::definitions::all_built;
+use crate::fault::SchemaFault;
+use crate::index::TypeIndex;
+use crate::names::name_text;
+use crate::progress::Progress;
+use crate::schema::Schema;
+use crate::texts::{check_count, modules};
+use guard_model::Value;
+use guard_names::{Id, Names, resolve};
+use guard_syntax::Module;
+use guard_values::Known;
+use std::alloc::{AllocError, Global};
+
+/// The names of a definition.
+#[derive(Drop)]
+pub struct NamedDefinition {
+    /// The name of the module in which it stands.
+    pub home: Vec<u8>,
+    pub name: Vec<u8>,
+    /// The place of its type, where it assigns one.
+    pub place: Option<usize>,
+}
+
+/// What texts denote, as one answer.
+pub fn schema_of(alloc: Global, texts: &[&[u8]]) -> Result<Schema, SchemaFault>
+    ensures { Answers schema_view named result (Denotes (map (λ t. t.now) texts.now)) }
+{
+    check_count(texts)?;
+    let modules = modules(alloc, texts)?;
+    let names = resolve(alloc, &modules)?;
+    let progress = all_built(alloc, &names)?;
+    Ok(with_names(alloc, &modules, progress)?)
+}
+
+/// The types by their names. They move.
+fn with_names(alloc: Global, modules: &[Module], progress: Progress) -> Result<Schema, AllocError>
+    requires modules { modules_of progress.names.now ≡ map module_view modules.now }
+    requires texts { All (λ m. IsUtf8 m.name) (map module_view modules.now) }
+    ensures { IfOk result (λ s. schema_view s ≡ schemas.schema_of (known_view progress.entry)) }
+{
+    let Progress { names, known, .. } = progress;
+    let Known { types, values } = known;
+    let definitions = definitions(alloc, names, &values, modules)?;
+    let index = TypeIndex::of(alloc, &definitions)?;
+    let modules = module_names(alloc, modules)?;
+    Ok(Schema {
+        modules,
+        index,
+        types,
+    })
+}
+
+fn module_names(alloc: Global, modules: &[Module]) -> Result<Vec<String>, AllocError>
+    requires { All (λ m. IsUtf8 m.name) (map module_view modules.now) }
+    ensures { IfOk result (λ v. map string_bytes v.items ≡ map (λ m. m.name) (map module_view modules.now)) }
+{
+    let mut names = Vec::with_capacity(alloc, modules.len())?;
+    for module in modules {
+        names.push(name_text(alloc, module.name)?)?;
+    }
+    Ok(names)
+}
+
+// ---- definitions
+
+/// The names of all definitions.
+fn definitions(
+    alloc: Global,
+    names: &Names,
+    values: &[Option<Value>],
+    modules: &[Module],
+) -> Result<Vec<NamedDefinition>, AllocError>
+    ensures { IfOk result (λ v. map entry_view v.items ≡ entries_from (type_place (order_of names.now) values.now) 0 (definitions (map module_view modules.now))) }
+{
+    let mut all = Vec::new(alloc);
+    for module in modules {
+        all = with_module(alloc, names, values, module, all)?;
+    }
+    Ok(all)
+}
+
+/// Those of a module behind those before it.
+fn with_module(
+    alloc: Global,
+    names: &Names,
+    values: &[Option<Value>],
+    tree: &Module,
+    before: Vec<NamedDefinition>,
+) -> Result<Vec<NamedDefinition>, AllocError>
+    ensures { IfOk result (λ v. map entry_view v.items ≡ map entry_view before.items ++ entries_from (type_place (order_of names.now) values.now) (length before.items) (defined_in (module_view tree.now))) }
+{
+    let mut all = before;
+    for assignment in &tree.assignments {
+        let place = place_of(names, values, all.len());
+        all.push(definition_named(alloc, tree.name, assignment.name, place)?)?;
+    }
+    Ok(all)
+}
+
+fn definition_named(
+    alloc: Global,
+    home: &[u8],
+    name: &[u8],
+    place: Option<usize>,
+) -> Result<NamedDefinition, AllocError>
+    ensures { IfOk result (λ n. entry_view n ≡ record { home = home.now; name = name.now; place = place }) }
+{
+    let home = Vec::from_slice(alloc, home)?;
+    let name = Vec::from_slice(alloc, name)?;
+    Ok(NamedDefinition { home, name, place })
+}
+
+/// The place of the type of the definition with this number, where it assigns one.
+fn place_of(names: &Names, values: &[Option<Value>], id: Id) -> Option<usize>
+    ensures { result ≡ type_place (order_of names.now) values.now id }
+{
+    match names.place(id) {
+        Some(place) => unvalued(values, place),
+        None => None,
+    }
+}
+
+/// The place, where what stands there has no value.
+fn unvalued(values: &[Option<Value>], place: usize) -> Option<usize>
+    ensures { result ≡ entries.unvalued place (slice_get values.now place) }
+{
+    match values.get(place) {
+        Some(None) => Some(place),
+        _ => None,
+    }
+}

@@ -1,0 +1,109 @@
+//! Single values in constraints whose encodings are longer than may be: of a type that is referred to under more tags, or under another one.
+ghost use Rattle.std.specs.Prelude.{◌≡◌, IsTrue, IfOk, map};
+ghost use Rattle.guard_der.specs.Der.{der};
+ghost use Rattle.guard_der.specs.Fits.{fits};
+ghost use Rattle.guard_der.specs.ProperConstraints.{is_short};
+ghost use Rattle.guard_model.specs.TypeView.{type_view, kind_view, component_view, components_of, constraint_view, constraints_of};
+ghost use Rattle.guard_model.specs.ValueView.{value_view};
+ghost use Rattle.guard_schema.specs.LongValues as long_values;
+
+use guard_der::{EncodeFault, encode, fits};
+use guard_model::{Comp, Cons, Kind, OutOfMemory, Rule, Site, Ty, Value};
+use std::alloc::Global;
+
+/// Where the first one stands in a type, its parts before the whole.
+#[cycle(first_long)]
+pub fn first_long(alloc: Global, ty: &Ty) -> Result<Option<Site>, OutOfMemory>
+    ensures { IfOk result (λ site. site ≡ long_values.first_long (type_view ty.now)) }
+{
+    match long_inside(alloc, &ty.kind)? {
+        Some(site) => Ok(Some(site)),
+        None => long_in_all(alloc, &ty.cons, ty),
+    }
+}
+
+#[cycle(first_long)]
+fn long_inside(alloc: Global, kind: &Kind) -> Result<Option<Site>, OutOfMemory>
+    ensures { IfOk result (λ site. site ≡ long_values.long_inside (kind_view kind.now)) }
+{
+    match kind {
+        Kind::Sequence(comps) => long_in_parts(alloc, comps),
+        Kind::Set(comps) => long_in_parts(alloc, comps),
+        Kind::Choice(comps) => long_in_parts(alloc, comps),
+        Kind::SequenceOf(element) => first_long(alloc, element),
+        Kind::SetOf(element) => first_long(alloc, element),
+        _ => Ok(None),
+    }
+}
+
+#[cycle(first_long)]
+fn long_in_parts(alloc: Global, comps: &[Comp]) -> Result<Option<Site>, OutOfMemory>
+    ensures { IfOk result (λ site. site ≡ long_values.long_in_parts (components_of (map component_view comps.now))) }
+{
+    for comp in comps {
+        if let Some(site) = first_long(alloc, &comp.ty)? {
+            return Ok(Some(site));
+        }
+    }
+    Ok(None)
+}
+
+// ---- constraints on a type
+
+#[cycle(long_in)]
+fn long_in_all(alloc: Global, all: &[Cons], ty: &Ty) -> Result<Option<Site>, OutOfMemory>
+    ensures { IfOk result (λ site. site ≡ long_values.long_in_all (type_view ty.now) (constraints_of (map constraint_view all.now))) }
+{
+    for cons in all {
+        if let Some(site) = long_in(alloc, cons, ty)? {
+            return Ok(Some(site));
+        }
+    }
+    Ok(None)
+}
+
+#[cycle(long_in)]
+fn long_in(alloc: Global, cons: &Cons, ty: &Ty) -> Result<Option<Site>, OutOfMemory>
+    ensures { IfOk result (λ site. site ≡ long_values.long_in (type_view ty.now) (constraint_view cons.now)) }
+{
+    match &cons.rule {
+        Rule::One(value) => long_value(alloc, cons.site, ty, value),
+        Rule::Any(all) => long_in_all(alloc, all, ty),
+        Rule::Both(all) => long_in_all(alloc, all, ty),
+        Rule::Minus(first, second) => match long_in(alloc, first, ty)? {
+            Some(site) => Ok(Some(site)),
+            None => long_in(alloc, second, ty),
+        },
+        Rule::Other(inner) => long_in(alloc, inner, ty),
+        _ => Ok(None),
+    }
+}
+
+/// The site, where the value that stands there is one of the type's and too long.
+fn long_value(
+    alloc: Global,
+    site: Site,
+    ty: &Ty,
+    value: &Value,
+) -> Result<Option<Site>, OutOfMemory>
+    ensures { IfOk result (λ found. found ≡ long_values.site_where (long_values.is_long (type_view ty.now) (value_view value.now)) site) }
+{
+    if !fits(alloc, ty, value)? {
+        return Ok(None);
+    }
+    if is_short(alloc, ty, value)? {
+        return Ok(None);
+    }
+    Ok(Some(site))
+}
+
+fn is_short(alloc: Global, ty: &Ty, value: &Value) -> Result<bool, OutOfMemory>
+    requires { IsTrue (fits (type_view ty.now) (value_view value.now)) }
+    ensures { IfOk result (λ b. b ≡ is_short (der (type_view ty.now) (value_view value.now))) }
+{
+    match encode(alloc, ty, value) {
+        Ok(_octets) => Ok(true),
+        Err(EncodeFault::TooLong) => Ok(false),
+        Err(EncodeFault::OutOfMemory) => Err(OutOfMemory),
+    }
+}

@@ -12,8 +12,11 @@ use Rattle.guard_model.specs.AbstractValue.{AbstractValue}
 use Rattle.guard_der.specs.Fits.{fits}
 use Rattle.guard_der.specs.Sound.{is_sound}
 use Rattle.guard_policy.specs.declared.policy.Rule.{Rule}
-use Rattle.guard_policy.specs.Policies.{AbstractMessage, AbstractRule, AbstractRoute, rule_view, declared_among, IsConsistent}
-use Rattle.guard_policy.specs.Decisions.{speaks_of, AreApplicable}
+use Rattle.guard_policy.specs.Consistency.{IsConsistent}
+use Rattle.guard_policy.specs.Policies.{AbstractMessage, AbstractRule, AbstractRoute, rule_view, declared_among}
+use Rattle.guard_policy.specs.Applicable.{AreApplicable}
+use Rattle.guard_policy.specs.Decisions.{speaks_of}
+use Rattle.guard_policy.specs.Names.{is_meant}
 use Rattle.guard_policy.proofs.Consistent.{Fit, rules_fit}
 use Rattle.std.proofs.lemmas.Option.{same_Some, slice_get_within, get_or_from_slice_get}
 
@@ -41,7 +44,7 @@ message_of false b c e = absurd cc
 
 speaks_of-message : (route : AbstractRoute) (r : AbstractRule) → speaks_of route r ≡ true → r.message ≡ route.message
 speaks_of-message route r e =
-    (bytes_eq-Decides r.message route.message).0 (message_of (bytes_eq r.from route.from) (bytes_eq r.to route.to) (bytes_eq r.message route.message) e)
+    (bytes_eq-Decides r.message route.message).0 (message_of (is_meant r.from route.from) (is_meant r.to route.to) (bytes_eq r.message route.message) e)
 
 applicable_rules : (messages : List AbstractMessage) (route : AbstractRoute) (t : AbstractType) (v : AbstractValue) (rules : List AbstractRule)
     → declared_among messages route.message ≡ Some t → IsTrue (fits t v)

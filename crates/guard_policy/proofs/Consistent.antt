@@ -18,7 +18,8 @@ use Rattle.guard_tables.specs.declared.fault.TableFault.{TableFault}
 use Rattle.guard_tables.proofs.Faultless.{faultless_alike}
 use Rattle.guard_policy.specs.EntryFaults.{tables_fault}
 use Rattle.guard_policy.specs.PolicyFaults.{bad_table}
-use Rattle.guard_policy.specs.Policies.{AbstractMessage, AbstractRule, declared_among, types_for, MakesTable, IsConsistent}
+use Rattle.guard_policy.specs.Consistency.{types_for, MakesTable, IsConsistent}
+use Rattle.guard_policy.specs.Policies.{AbstractMessage, AbstractRule, declared_among}
 
 -- ---- from the faults of tables
 

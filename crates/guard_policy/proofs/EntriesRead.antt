@@ -26,7 +26,8 @@ use Rattle.guard_policy.specs.declared.entry.Key.TheVariants.{Name, Effect as Ef
 use Rattle.guard_policy.specs.Documents.{text_of}
 use Rattle.guard_policy.specs.Entries.{AbstractTypes, before_all, those_there, message_in, rule_in, rule_of, type_in, effect_named}
 use Rattle.guard_policy.specs.EntryFaults.{entries_fault, tables_fault}
-use Rattle.guard_policy.specs.Policies.{AbstractMessage, AbstractRule, message_view, types_for}
+use Rattle.guard_policy.specs.Consistency.{types_for}
+use Rattle.guard_policy.specs.Policies.{AbstractMessage, AbstractRule, message_view}
 use Rattle.guard_policy.specs.PolicyFaults.{AbstractFault, bad_table}
 
 -- what is left of a list begins with the item at its place

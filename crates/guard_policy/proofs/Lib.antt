@@ -1,5 +1,6 @@
 -- ---- the rules that are asked
 pub mod Consistent
+pub mod Misnamed
 pub mod Applicable
 pub mod Listed
 pub mod Denials

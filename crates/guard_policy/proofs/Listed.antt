@@ -12,6 +12,7 @@ use Rattle.indexmap.specs.IndexMap.{insert_entry}
 use Rattle.guard_model.specs.AbstractType.{AbstractType}
 use Rattle.guard_policy.specs.declared.index.Listed.{Listed}
 use Rattle.guard_policy.specs.Decisions.{NumberedRule, speaks_of, speaking}
+use Rattle.guard_policy.specs.Names.{is_meant}
 use Rattle.guard_policy.specs.Listings.{AbstractListed, place_among, numbers_for, listing, listed_view, rules_at, heard}
 use Rattle.guard_policy.specs.Policies.{AbstractMessage, AbstractRule, AbstractRoute, declared_among}
 
@@ -57,7 +58,8 @@ taken_length view (x ∷ xs) (suc i) lt = ap suc (taken_length view xs i (omega 
 -- ---- the rules that speak of the message are those that its name leads to
 
 speaks_not : (route : AbstractRoute) (r : AbstractRule) → bytes_eq r.message route.message ≡ false → speaks_of route r ≡ false
-speaks_not route r e = ap (λ b. bytes_eq r.from route.from && bytes_eq r.to route.to && b) e ∙ neither (bytes_eq r.from route.from) (bytes_eq r.to route.to)
+speaks_not route r e =
+    ap (λ b. is_meant r.from route.from && is_meant r.to route.to && b) e ∙ neither (is_meant r.from route.from) (is_meant r.to route.to)
   where
     neither : (a b : Bool) → (a && b && false) ≡ false
     neither true true = refl

@@ -8,7 +8,8 @@ use Rattle.guard_der.specs.Fits.{fits}
 use Rattle.guard_der.specs.Breach.{AbstractBreach, IsBreach}
 use Rattle.guard_der.proofs.Types.Messages.{never_both, one_breach, one_encoding}
 use Rattle.guard_policy.specs.Verdicts.{AbstractVerdict, undecodable, unknown_message}
-use Rattle.guard_policy.specs.Policies.{AbstractPolicy, AbstractRoute, IsConsistent, declared_type}
+use Rattle.guard_policy.specs.Consistency.{IsConsistent}
+use Rattle.guard_policy.specs.Policies.{AbstractPolicy, AbstractRoute, declared_type}
 use Rattle.guard_policy.specs.Decisions.{rules_of, judged, IsReason}
 use Rattle.guard_policy.proofs.Applicable.{declared_sound}
 use Rattle.guard_policy.proofs.Reasons.{value_read, breach_read, reason_of_value, reason_of_breach}

@@ -1,17 +1,17 @@
 -- What goes, and the reason why something else doesn't.
-use Rattle.std.specs.Prelude.{◌≡◌, ℕ, ◌+◌, Bool, true, false, not, ◌&&◌, List, [], ◌∷◌, All, Option, Some, None, IsTrue, ◌⊎◌, if◌then◌else◌}
+use Rattle.std.specs.Prelude.{◌≡◌, ℕ, ◌+◌, Bool, true, false, not, ◌&&◌, List, [], ◌∷◌, Option, Some, None, IsTrue, ◌⊎◌, if◌then◌else◌}
 use Rattle.std.specs.List.{list_any, list_all}
 use Rattle.std.specs.Str.{bytes_eq}
 use Rattle.guard_model.specs.AbstractType.{AbstractType}
 use Rattle.guard_model.specs.AbstractValue.{AbstractValue}
 use Rattle.guard_der.specs.Der.{der}
 use Rattle.guard_der.specs.Fits.{fits}
-use Rattle.guard_der.specs.Sound.{is_sound}
 use Rattle.guard_der.specs.Breach.{AbstractBreach, IsBreach}
 use Rattle.guard_policy.specs.declared.policy.Effect.{Effect}
 use Rattle.guard_policy.specs.declared.policy.Effect.TheVariants.{Allow, Deny}
 use Rattle.guard_eval.specs.Member.{is_member}
 use Rattle.guard_eval.specs.Violations.{AbstractViolation, violation}
+use Rattle.guard_policy.specs.Names.{is_meant}
 use Rattle.guard_policy.specs.Policies.{AbstractPolicy, AbstractRule, AbstractRoute, declared_type}
 use Rattle.guard_policy.specs.Verdicts.{AbstractVerdict, pass, unknown_message, undecodable, outside_type, denied_by, not_allowed, no_rule}
 
@@ -20,9 +20,9 @@ pub record NumberedRule : Type 0 where
   pub number : ℕ
   pub rule : AbstractRule
 
--- the rule speaks of this sender, receiver and message
+-- The rule speaks of this sender, receiver and message. A route's own sender or receiver `*` is no other's: only a rule for `*` speaks of it.
 abbrev pub speaks_of : AbstractRoute → AbstractRule → Bool
-speaks_of route r = bytes_eq r.from route.from && bytes_eq r.to route.to && bytes_eq r.message route.message
+speaks_of route r = is_meant r.from route.from && is_meant r.to route.to && bytes_eq r.message route.message
 
 -- those of the rules that speak of the route, in order; the first of the list has this number
 abbrev pub speaking : AbstractRoute → ℕ → List AbstractRule → List NumberedRule
@@ -96,7 +96,3 @@ abbrev pub IsReason : AbstractPolicy → AbstractRoute → List ℕ → Abstract
 IsReason p route octets w =
     ((declared_type p route.message ≡ None) × (w ≡ unknown_message))
     ⊎ ((t : AbstractType) × (declared_type p route.message ≡ Some t) × DeclaredReason t (rules_of p route) octets w)
-
--- Each rule's type is sound, and has the value where the rule speaks of the route.
-abbrev pub AreApplicable : AbstractRoute → AbstractValue → List AbstractRule → Type 0
-AreApplicable route v rules = All (λ r. IsTrue (is_sound r.ty) × (IsTrue (speaks_of route r) → IsTrue (fits r.ty v))) rules

@@ -10,8 +10,9 @@ use Rattle.guard_policy.specs.declared.entry.Key.{Key}
 use Rattle.guard_policy.specs.declared.entry.Key.TheVariants.{Name, Effect, From, To, Message}
 use Rattle.guard_policy.specs.Documents.{text_of, messages_in, rules_in}
 use Rattle.guard_policy.specs.Entries.{AbstractTypes, effect_named, type_in, policy_in}
-use Rattle.guard_policy.specs.Names.{is_name}
-use Rattle.guard_policy.specs.Policies.{AbstractMessage, AbstractRule, message_names, types_for}
+use Rattle.guard_policy.specs.Names.{is_name, is_party}
+use Rattle.guard_policy.specs.Consistency.{types_for}
+use Rattle.guard_policy.specs.Policies.{AbstractMessage, AbstractRule, message_names}
 use Rattle.guard_policy.specs.PolicyFaults.{AbstractFault, first_of, unless, unknown_in, missing_in, top_fault, message_keys, rule_keys, bad_name, duplicate_name, no_such_type, no_such_message, bad_effect, bad_table}
 
 -- ---- keys
@@ -33,8 +34,9 @@ message_fault s before number entry = first_of (
     ∷ unless (is_some (type_in s entry)) (no_such_type (place.Message number))
     ∷ [])
 
+-- the rule's own name and that of its message are names, and its sender and its receiver are names or `*`
 abbrev pub has_names : Members → Bool
-has_names entry = is_name (text_of Name entry) && is_name (text_of From entry) && is_name (text_of To entry) && is_name (text_of Message entry)
+has_names entry = is_name (text_of Name entry) && is_party (text_of From entry) && is_party (text_of To entry) && is_name (text_of Message entry)
 
 -- with the names of all messages
 abbrev pub rule_fault : AbstractTypes → List (List ℕ) → List (List ℕ) → ℕ → Members → Option AbstractFault
@@ -52,6 +54,24 @@ abbrev pub entries_fault : (List (List ℕ) → ℕ → Members → Option Abstr
 entries_fault fault before number [] = None
 entries_fault fault before number (entry ∷ others) =
     option_or (fault before number entry) (entries_fault fault (before ++ text_of Name entry ∷ []) (suc number) others)
+
+-- ---- the names of messages and rules that no text gave
+
+-- of the first message, from this number on, whose name is none
+abbrev pub messages_misnamed : ℕ → List AbstractMessage → Option AbstractFault
+messages_misnamed number [] = None
+messages_misnamed number (m ∷ ms) = option_or (unless (is_name m.name) (bad_name (place.Message number))) (messages_misnamed (suc number) ms)
+
+abbrev pub is_well_named : AbstractRule → Bool
+is_well_named r = is_name r.name && is_party r.from && is_party r.to && is_name r.message
+
+-- of the first rule, from this number on, one of whose names is none
+abbrev pub rules_misnamed : ℕ → List AbstractRule → Option AbstractFault
+rules_misnamed number [] = None
+rules_misnamed number (r ∷ rs) = option_or (unless (is_well_named r) (bad_name (place.Rule number))) (rules_misnamed (suc number) rs)
+
+abbrev pub misnamed : List AbstractMessage → List AbstractRule → Option AbstractFault
+misnamed messages rules = option_or (messages_misnamed 1 messages) (rules_misnamed 1 rules)
 
 -- ---- tables
 

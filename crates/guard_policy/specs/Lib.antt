@@ -2,6 +2,7 @@
 pub mod Policies
 pub mod PolicyView
 pub mod Names
+pub mod Consistency
 -- ---- verdicts
 pub mod Verdicts
 pub mod Decisions
@@ -14,6 +15,7 @@ pub mod Loads
 -- ---- what private contracts cite
 pub mod Answers
 pub mod Listings
+pub mod Applicable
 -- ---- worked examples
 pub mod Rows
 pub mod LoadRows

@@ -1,10 +1,8 @@
 -- Policies as the definitions see them.
-use Rattle.std.specs.Prelude.{◌≡◌, ℕ, ◌-◌, nat_eq, List, [], ◌∷◌, All, map, option_map, slice_get, string_bytes, Option, Some, None, IsTrue, if◌then◌else◌}
+use Rattle.std.specs.Prelude.{ℕ, ◌-◌, nat_eq, List, [], ◌∷◌, map, option_map, slice_get, string_bytes, Option, Some, None, if◌then◌else◌}
 use Rattle.std.specs.Str.{bytes_eq}
 use Rattle.guard_model.specs.AbstractType.{AbstractType}
 use Rattle.guard_model.specs.TypeView.{type_view}
-use Rattle.guard_der.specs.Sound.{is_sound}
-use Rattle.guard_tables.specs.Tables.{first_fault}
 use Rattle.guard_policy.specs.declared.policy.Effect.{Effect}
 use Rattle.guard_policy.specs.declared.policy.Message.{Message}
 use Rattle.guard_policy.specs.declared.policy.Rule.{Rule}
@@ -13,6 +11,7 @@ pub record AbstractMessage : Type 0 where
   pub name : List ℕ
   pub ty : AbstractType
 
+-- its sender and its receiver may each be `*`, for every one
 pub record AbstractRule : Type 0 where
   pub name : List ℕ
   pub effect : Effect
@@ -59,18 +58,3 @@ rule_name_of p i = option_map (λ r. r.name) (slice_get p.rules i)
 -- the name of the module at this place of the list of texts, from 1
 abbrev pub module_name : AbstractPolicy → ℕ → Option (List ℕ)
 module_name p text = if nat_eq text 0 then None else slice_get p.modules (text - 1)
-
--- the types of the rules of this message, whoever sends it to whom, in file order
-abbrev pub types_for : List ℕ → List AbstractRule → List AbstractType
-types_for name [] = []
-types_for name (r ∷ rs) = if bytes_eq r.message name then r.ty ∷ types_for name rs else types_for name rs
-
--- The message's declared type and the types of its rules make a table: they have the same tags and base, and stay within the limits.
-abbrev pub MakesTable : List AbstractRule → AbstractMessage → Type 0
-MakesTable rules m = first_fault m.ty (types_for m.name rules) ≡ None
-
--- Each type is sound, and those of each message and its rules make a table.
-pub record IsConsistent (messages : List AbstractMessage) (rules : List AbstractRule) : Type 0 where
-  pub messages_sound : All (λ m. IsTrue (is_sound m.ty)) messages
-  pub rules_sound : All (λ r. IsTrue (is_sound r.ty)) rules
-  pub tables : All (MakesTable rules) messages

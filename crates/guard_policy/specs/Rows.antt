@@ -5,7 +5,7 @@ use Rattle.toml.specs.Parse.{parse_document}
 use Rattle.toml.proofs.OnLiterals.{toml_on_literals}
 use Rattle.guard_policy.specs.declared.entry.Entry.TheVariants.{Top}
 use Rattle.guard_policy.specs.declared.entry.Key.TheVariants as key
-use Rattle.guard_policy.specs.Names.{is_name}
+use Rattle.guard_policy.specs.Names.{is_name, is_party, is_meant}
 use Rattle.guard_policy.specs.Documents.{files_in}
 use Rattle.guard_policy.specs.PolicyFaults.{top_fault, unknown_key, missing_key}
 
@@ -19,6 +19,22 @@ no_space = refl
 
 pub no_star : is_name (codes "*") ≡ false
 no_star = refl
+
+pub any_sender : is_party (codes "*") ≡ true
+any_sender = refl
+
+pub two_stars : is_party (codes "**") ≡ false
+two_stars = refl
+
+pub star_and_letter : is_party (codes "*x") ≡ false
+star_and_letter = refl
+
+pub a_star_means_each : is_meant (codes "*") (codes "north") ≡ true
+a_star_means_each = refl
+
+-- a route's sender `*` is none of the named ones
+pub a_star_is_not_north : is_meant (codes "north") (codes "*") ≡ false
+a_star_is_not_north = refl
 
 pub not_empty : is_name [] ≡ false
 not_empty = refl

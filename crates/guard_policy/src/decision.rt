@@ -7,11 +7,13 @@ ghost use Rattle.guard_der.specs.Sound.{is_sound};
 ghost use Rattle.guard_policy.specs.Policies.{rule_view};
 ghost use Rattle.guard_policy.specs.PolicyView.{route_view};
 ghost use Rattle.guard_policy.specs.Verdicts.{verdict_view};
-ghost use Rattle.guard_policy.specs.Decisions.{speaks_of, is_allowing, denies, first_denying, by_allowing, judged, AreApplicable};
+ghost use Rattle.guard_policy.specs.Applicable.{AreApplicable};
+ghost use Rattle.guard_policy.specs.Decisions.{speaks_of, is_allowing, denies, first_denying, by_allowing, judged};
+ghost use Rattle.guard_policy.specs.Names.{is_meant};
 ghost use Rattle.guard_policy.specs.Listings.{rules_at, heard, denies_at, allowing_at};
 
 use super::policy::{Effect, Rule};
-use super::route::Route;
+use super::route::{Route, is_anyone};
 use super::verdict::Verdict;
 use guard_eval::{first_violation, member};
 use guard_model::{OutOfMemory, Ty, Value};
@@ -125,7 +127,14 @@ fn rule_may_allow(route: &Route, rule: &Rule) -> bool
 fn rule_speaks_of(route: &Route, rule: &Rule) -> bool
     ensures { result ≡ speaks_of (route_view route.now) (rule_view rule.now) }
 {
-    rule.from.as_bytes() == route.from
-        && rule.to.as_bytes() == route.to
+    is_meant(&rule.from, route.from)
+        && is_meant(&rule.to, route.to)
         && rule.message.as_bytes() == route.message
+}
+
+/// Whether what a rule gives for its sender or its receiver is this name, or `*`.
+fn is_meant(given: &str, name: &[u8]) -> bool
+    ensures { result ≡ is_meant given.now name.now }
+{
+    given.as_bytes() == name || is_anyone(given)
 }

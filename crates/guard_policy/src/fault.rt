@@ -22,7 +22,8 @@ pub enum PolicyFault {
     /// The entry lacks this key, or something of another kind stands there.
     #[error("Q3 MissingKey {0} {1}")]
     MissingKey(Entry, Key),
-    /// A name in the entry hasn't 1 to 63 letters, digits, hyphens, low lines and full stops.
+    /// A name in the entry hasn't 1 to 63 letters, digits, hyphens, low lines and full stops. The sender and the receiver of a rule may
+    /// each be `*` too.
     #[error("Q4 BadName {0}")]
     BadName(Entry),
     /// A message, or a rule, before it has the same name.

@@ -2,13 +2,13 @@
 //!
 //! | question | code | definition |
 //! |---|---|---|
-//! | Which messages and rules has a policy, and what is asked of them? | `policy.rt` | `specs/Policies.antt`, `specs/PolicyView.antt` |
+//! | Which messages and rules has a policy, and what is asked of them? | `policy.rt` | `specs/Policies.antt`, `specs/PolicyView.antt`, `specs/Consistency.antt` |
 //! | What does the name of a message lead to? | `index.rt` | `specs/Listings.antt` |
 //! | Who sends what to whom? | `route.rt` | `specs/Policies.antt`, `specs/PolicyView.antt` |
 //! | Which verdicts are there? | `verdict.rt` | `specs/Verdicts.antt` |
 //! | Which verdict stands, and when does a message go? | `policy.rt` (`verdict`), `decision.rt` | `specs/Decisions.antt` |
 //! | What holds of every message? | `laws.rt` | `specs/Decisions.antt` |
-//! | Which octets are names? | `route.rt` (`is_name`, `Route::is_plain`) | `specs/Names.antt` |
+//! | Which octets are names, and what may a rule give for its sender and receiver? | `route.rt` (`is_name`, `is_party`, `Route::is_plain`) | `specs/Names.antt` |
 //! | What stands in the text of a policy? | `document.rt`, `entry.rt` | `specs/Documents.antt` |
 //! | What may be wrong with it? | `fault.rt` | `specs/PolicyFaults.antt` |
 //! | Which files of modules does it list? | `files.rt` (`module_files`) | `specs/Loads.antt` |
@@ -25,6 +25,7 @@ mod index;
 pub mod laws;
 mod load;
 mod messages;
+mod names;
 mod policy;
 mod route;
 mod rules;

@@ -32,6 +32,6 @@ impl Policy {
         let messages = messages_of(alloc, schema, &listed.messages)?;
         let rules = rules_of(alloc, schema, &messages, &listed.rules)?;
         let modules = module_names(alloc, schema)?;
-        Policy::new(alloc, messages, rules, modules)
+        Policy::of_named(alloc, messages, rules, modules)
     }
 }

@@ -2,12 +2,14 @@
 ghost use Rattle.std.specs.Prelude.{◌≡◌, map, option_map};
 ghost use Rattle.std.proofs.Props.{props};
 ghost use Rattle.guard_model.specs.TypeView.{type_view};
-ghost use Rattle.guard_policy.specs.Policies.{message_view, rule_view, IsConsistent};
+ghost use Rattle.guard_policy.specs.Consistency.{IsConsistent};
+ghost use Rattle.guard_policy.specs.Policies.{message_view, rule_view};
 ghost use Rattle.guard_policy.specs.Listings.{IsIndex};
 
 use super::decision::judge;
 use super::fault::PolicyFault;
 use super::index::Index;
+use super::names::check_names;
 use super::route::Route;
 use super::tables::check_tables;
 use super::verdict::Verdict;
@@ -34,7 +36,9 @@ pub struct Message {
 pub struct Rule {
     pub name: String,
     pub effect: Effect,
+    /// The sender's name, or `*` for every sender.
     pub from: String,
+    /// The receiver's name, or `*` for every receiver.
     pub to: String,
     pub message: String,
     /// The subtype whose values the rule allows or denies.
@@ -58,16 +62,42 @@ impl Policy {
     ghost use Rattle.guard_model.specs.AbstractType.{AbstractType};
     ghost use Rattle.guard_der.specs.Sound.{is_sound};
     ghost use Rattle.guard_policy.specs.Answers.{Meets};
-    ghost use Rattle.guard_policy.specs.EntryFaults.{tables_fault};
+    ghost use Rattle.std.specs.Option.{option_or};
+    ghost use Rattle.guard_policy.specs.EntryFaults.{misnamed, tables_fault};
     ghost use Rattle.guard_policy.specs.PolicyView.{policy_view};
     ghost use Rattle.guard_policy.specs.Policies.{declared_type, rule_name_of, module_name};
     ghost use Rattle.guard_policy.specs.Listings.{numbers_for};
 
     /// A policy of these messages and rules, over a schema whose modules have these names.
     ///
+    /// It refuses with BadName for the first message, and then for the first rule, a name of which is none; and then with Table, and the number
+    /// of the first message whose type and those of its rules make no table. OutOfMemory may stand in place of any answer. What was given is
+    /// dropped where it refuses.
+    pub fn new(
+        alloc: Global,
+        messages: Vec<Message>,
+        rules: Vec<Rule>,
+        modules: Vec<String>,
+    ) -> Result<Policy, PolicyFault>
+        requires messages_sound { All (λ m. IsTrue (is_sound m.ty)) (map message_view messages.items) }
+        requires rules_sound { All (λ r. IsTrue (is_sound r.ty)) (map rule_view rules.items) }
+        ensures made { IfOk result (λ p. policy_view p ≡ record {
+          messages = map message_view messages.items;
+          rules = map rule_view rules.items;
+          modules = map string_bytes modules.items;
+        }) }
+        ensures met { Meets (option_or (misnamed (map message_view messages.items) (map rule_view rules.items))
+            (tables_fault (map rule_view rules.items) 1 (map message_view messages.items))) result }
+    {
+        check_names(&messages, &rules)?;
+        Policy::of_named(alloc, messages, rules, modules)
+    }
+
+    /// A policy of messages and rules whose names were looked at.
+    ///
     /// It refuses with Table, and the number of the first message whose type and those of its rules make no table. OutOfMemory may stand in place
     /// of any answer.
-    pub fn new(
+    pub(crate) fn of_named(
         alloc: Global,
         messages: Vec<Message>,
         rules: Vec<Rule>,

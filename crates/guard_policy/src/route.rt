@@ -1,8 +1,8 @@
 //! Who sends what to whom.
-ghost use Rattle.std.specs.Prelude.{◌≡◌};
+ghost use Rattle.std.specs.Prelude.{◌≡◌, bytes_eq};
 ghost use Rattle.std.specs.List.{list_all};
 ghost use Rattle.guard_policy.specs.PolicyView.{route_view};
-ghost use Rattle.guard_policy.specs.Names.{is_name, is_name_octet, is_plain};
+ghost use Rattle.guard_policy.specs.Names.{is_name, is_name_octet, is_party, is_plain, anyone};
 
 /// The most octets of a name.
 const LONGEST_NAME: usize = 63;
@@ -29,6 +29,20 @@ pub fn is_name(octets: &[u8]) -> bool
     ensures { result ≡ is_name octets.now }
 {
     1 <= octets.len() && octets.len() <= LONGEST_NAME && are_name_octets(octets)
+}
+
+/// Whether the text may be the sender or the receiver of a rule: a name, or `*`.
+pub(crate) fn is_party(text: &str) -> bool
+    ensures { result ≡ is_party text.now }
+{
+    is_name(text.as_bytes()) || is_anyone(text)
+}
+
+/// Whether the text is `*`, which is every sender, or every receiver, in a rule.
+pub(crate) fn is_anyone(text: &str) -> bool
+    ensures { result ≡ bytes_eq text.now anyone }
+{
+    text == "*"
 }
 
 fn are_name_octets(octets: &[u8]) -> bool

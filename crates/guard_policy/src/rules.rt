@@ -14,7 +14,7 @@ use super::entry::{Entry, Key};
 use super::fault::PolicyFault;
 use super::messages::is_declared;
 use super::policy::{Effect, Message, Rule};
-use super::route::is_name;
+use super::route::{is_name, is_party};
 use super::types::{Types, type_named};
 use guard_model::Ty;
 use std::alloc::{AllocError, Global};
@@ -98,13 +98,13 @@ fn rule_said(alloc: Global, table: &Table, effect: Effect, ty: Ty) -> Result<Rul
     })
 }
 
-/// Whether the rule's own name and those that it speaks of are names.
+/// Whether the rule's own name and that of its message are names, and its sender and its receiver are names or `*`.
 fn has_names(table: &Table) -> bool
     ensures { result ≡ has_names (table_view table.now) }
 {
     is_name(text_of(table, Key::Name).as_bytes())
-        && is_name(text_of(table, Key::From).as_bytes())
-        && is_name(text_of(table, Key::To).as_bytes())
+        && is_party(text_of(table, Key::From))
+        && is_party(text_of(table, Key::To))
         && is_name(text_of(table, Key::Message).as_bytes())
 }
 

@@ -5,7 +5,8 @@ ghost use Rattle.guard_model.specs.TypeView.{type_view};
 ghost use Rattle.guard_tables.specs.Tables.{types_view, first_fault};
 ghost use Rattle.guard_policy.specs.Answers.{Meets};
 ghost use Rattle.guard_policy.specs.EntryFaults.{tables_fault};
-ghost use Rattle.guard_policy.specs.Policies.{message_view, rule_view, types_for};
+ghost use Rattle.guard_policy.specs.Consistency.{types_for};
+ghost use Rattle.guard_policy.specs.Policies.{message_view, rule_view};
 ghost use Rattle.guard_policy.specs.PolicyFaults.{bad_table};
 
 use super::fault::PolicyFault;

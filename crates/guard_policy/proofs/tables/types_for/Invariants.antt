@@ -1,6 +1,7 @@
 use Rattle.std.proofs.Common.{◌≡◌, ◌++◌, map, drop}
 use Rattle.guard_tables.specs.Tables.{types_view}
-use Rattle.guard_policy.specs.Policies.{rule_view, types_for}
+use Rattle.guard_policy.specs.Consistency.{types_for}
+use Rattle.guard_policy.specs.Policies.{rule_view}
 use Rattle.guard_policy.proofs.tables.types_for.Given as goal
 
 abbrev pub invariant-loop-rule : goal.invariant-loop-rule

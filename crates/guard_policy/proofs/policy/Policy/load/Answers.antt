@@ -27,7 +27,7 @@ returns-clause-loads g c =
     (record { faultless = rw c.deref.ensures.value at c.in_ok-messages.ensures.met; said = rw c.deref.ensures.value at c.in_ok-messages.ensures.made })
     (map rule_view c.in_ok-rules.rules.items)
     (record { faultless = rw c.deref-3.ensures.value at (rw c.deref-2.ensures.value at c.in_ok-rules.ensures.met); said = rw c.deref-3.ensures.value at c.in_ok-rules.ensures.made })
-    (map string_bytes c.in_ok-modules.modules.items) c.in_ok-modules.ensures c.new.result c.new.ensures.made c.new.ensures.met)
+    (map string_bytes c.in_ok-modules.modules.items) c.in_ok-modules.ensures c.of_named.result c.of_named.ensures.made c.of_named.ensures.met)
 
 pub returns-clause-only : goal.returns-clause-only
 returns-clause-only g c =
@@ -38,7 +38,7 @@ returns-clause-only g c =
     (record { faultless = rw c.deref.ensures.value at c.in_ok-messages.ensures.met; said = rw c.deref.ensures.value at c.in_ok-messages.ensures.made })
     (map rule_view c.in_ok-rules.rules.items)
     (record { faultless = rw c.deref-3.ensures.value at (rw c.deref-2.ensures.value at c.in_ok-rules.ensures.met); said = rw c.deref-3.ensures.value at c.in_ok-rules.ensures.made })
-    (map string_bytes c.in_ok-modules.modules.items) c.in_ok-modules.ensures c.new.result c.new.ensures.made c.new.ensures.met)
+    (map string_bytes c.in_ok-modules.modules.items) c.in_ok-modules.ensures c.of_named.result c.of_named.ensures.made c.of_named.ensures.met)
 
 pub returns-clause-refused : goal.returns-clause-refused
 returns-clause-refused g c =
@@ -49,4 +49,4 @@ returns-clause-refused g c =
     (record { faultless = rw c.deref.ensures.value at c.in_ok-messages.ensures.met; said = rw c.deref.ensures.value at c.in_ok-messages.ensures.made })
     (map rule_view c.in_ok-rules.rules.items)
     (record { faultless = rw c.deref-3.ensures.value at (rw c.deref-2.ensures.value at c.in_ok-rules.ensures.met); said = rw c.deref-3.ensures.value at c.in_ok-rules.ensures.made })
-    c.new.result c.new.ensures.met)
+    c.of_named.result c.of_named.ensures.met)

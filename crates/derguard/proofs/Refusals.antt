@@ -11,7 +11,7 @@ use Rattle.guard_frames.specs.Texts.{SayPolicy, SayNone}
 use Rattle.derguard.specs.declared.fault.Fault.{Fault}
 use Rattle.derguard.specs.declared.fault.Fault.TheVariants.{BadHex, CannotRead, Schema, Policy, Run, NoMemory}
 use Rattle.derguard.specs.Faults.{StandsForPolicy, of_texts}
-use Rattle.derguard.specs.Files.{Told, HasText}
+use Rattle.derguard.specs.Files.{Told, after_read, HasText}
 use Rattle.derguard.specs.Reading.{folder, AreTexts, SayNothing, IsNoPolicyAt}
 use Rattle.derguard.specs.Texts.{CannotBeRead, CannotAllBeRead}
 
@@ -36,7 +36,7 @@ module _ (told : Told) (path : List ℕ) where
     lists_none p f is h = by_top p f (policy.named p) refl is h
 
     -- the files of its modules
-    pub modules_unread : (files : List (List ℕ)) → ListsFiles text files → (f : Fault) → CannotAllBeRead told (folder path) files f → IsNoPolicyAt told path f
+    pub modules_unread : (files : List (List ℕ)) → ListsFiles text files → (f : Fault) → CannotAllBeRead (after_read told) (folder path) files f → IsNoPolicyAt told path f
     modules_unread files listed (CannotRead file) h = inl (inr (text, files, has, listed, h))
     modules_unread files listed NoMemory h = inr (inr refl)
     modules_unread files listed BadHex h = absurd h

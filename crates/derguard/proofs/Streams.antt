@@ -1,8 +1,10 @@
 -- What comes of a stream under texts, said of the path at which they stand.
-use Rattle.std.proofs.Common.{◌≡◌, ◌⊎◌, ℕ, Bool, true, false, List, Option, Ok, Err, inl, inr, refl, subst}
+use Rattle.std.proofs.Common.{◌≡◌, ◌⊎◌, ℕ, Bool, true, false, List, Option, Result, Ok, Err, inl, inr, refl, subst}
 use Rattle.guard_frames.specs.declared.totals.Totals.{Totals}
 use Rattle.guard_frames.specs.declared.texts.TextsFault.{TextsFault}
 use Rattle.guard_frames.specs.declared.texts.TextsFault.TheVariants as texts
+use Rattle.std.specs.Io.KnownBytes.{IsAtEnd}
+use Rattle.guard_frames.specs.Added.{Moves}
 use Rattle.guard_frames.specs.RunsTexts.{RunsTexts, IsNoRun}
 use Rattle.guard_frames.specs.Runs.{ReadToLimit}
 use Rattle.guard_frames.specs.declared.running.RunFault.TheVariants.{FrameTooLong, WriteFailed, TornFrame, ReadFailed, OutOfMemory}
@@ -14,34 +16,58 @@ use Rattle.derguard.specs.Files.{Told}
 use Rattle.derguard.specs.Reading.{AreTexts, IsNoPolicyAt}
 use Rattle.derguard.specs.Meeting.{GuardsAt, IsDeviceFault}
 
+-- what comes of the stream under texts
+abbrev pub GuardsTexts : List (List ℕ) → List ℕ → Input → Device → Device → Result Totals TextsFault → Type 0
+GuardsTexts modules text input out reports result =
+    Moves input.before input.after out.before out.after reports.before reports.after
+    (λ read added. RunsTexts modules text read (IsAtEnd input.after) result added)
+
+-- nothing was read, sent or reported
+abbrev pub AreIdle : Input → Device → Device → Type 0
+AreIdle input out reports = IsUnread input × IsUntouched out × IsUntouched reports
+
 module _ (told : Told) (path : List ℕ) (input : Input) (out reports : Device) where
   module _ (text : List ℕ) (modules : List (List ℕ)) (are : AreTexts told path text modules) where
-    pub guarded : (totals : Totals) → RunsTexts modules text input.before input.after (Ok totals) out.before out.after reports.before reports.after
-        → GuardsAt told path input out reports (Ok totals)
-    guarded totals (p, said, runs) = (p, (text, modules, are, said), runs)
-
-    pub stopped : (f : TextsFault) → RunsTexts modules text input.before input.after (Err f) out.before out.after reports.before reports.after
-        → (IsNoRun f → input.asked_after ≡ input.asked_before) → GuardsAt told path input out reports (Err (of_texts f))
-    stopped (texts.Run f) (p, said, runs) unasked = (p, (text, modules, are, said), runs)
-    stopped (texts.Schema f) (none, same) unasked = (inr (inl (text, modules, are, none)), (same.0, unasked tt), same.1, same.2)
-    stopped (texts.Policy f) (none, same) unasked = (inr (inl (text, modules, are, none)), (same.0, unasked tt), same.1, same.2)
-    stopped texts.OutOfMemory same unasked = (inr (inr refl), (same.0, unasked tt), same.1, same.2)
+    guarded : (totals : Totals) → GuardsTexts modules text input out reports (Ok totals) → GuardsAt told path input out reports (Ok totals)
+    guarded totals m =
+        let p = m.holds.texts.0 in
+        let said = m.holds.texts.1 in
+        (p, (text, modules, are, said), record { read = m.read; added = m.added; given = m.given; taken = m.taken; holds = m.holds.under p said })
 
     -- by texts that are these
+    pub guarded_at : (text₁ : List ℕ) (modules₁ : List (List ℕ)) → text₁ ≡ text → modules₁ ≡ modules → (totals : Totals)
+        → GuardsTexts modules₁ text₁ input out reports (Ok totals) → GuardsAt told path input out reports (Ok totals)
+    guarded_at text₁ modules₁ same_text same_modules totals m =
+        guarded totals
+        (subst (λ (t : List ℕ). GuardsTexts modules t input out reports (Ok totals)) same_text
+        (subst (λ (ms : List (List ℕ)). GuardsTexts ms text₁ input out reports (Ok totals)) same_modules m))
+
+    stopped : (f : TextsFault) → GuardsTexts modules text input out reports (Err f) → (IsNoRun f → AreIdle input out reports)
+        → GuardsAt told path input out reports (Err (of_texts f))
+    stopped (texts.Run f) m idle =
+        let p = m.holds.texts.0 in
+        let said = m.holds.texts.1 in
+        let runs = m.holds.under p said in
+        (p, (text, modules, are, said), runs.0, record { read = m.read; added = m.added; given = m.given; taken = m.taken; holds = runs.1 })
+    stopped (texts.Schema f) m idle = (inr (inl (text, modules, are, m.holds.texts)), (idle tt).0, (idle tt).1, (idle tt).2)
+    stopped (texts.Policy f) m idle = (inr (inl (text, modules, are, m.holds.texts)), (idle tt).0, (idle tt).1, (idle tt).2)
+    stopped texts.OutOfMemory m idle = (inr (inr refl), (idle tt).0, (idle tt).1, (idle tt).2)
+
     pub stopped_at : (text₁ : List ℕ) (modules₁ : List (List ℕ)) → text₁ ≡ text → modules₁ ≡ modules → (f : TextsFault)
-        → RunsTexts modules₁ text₁ input.before input.after (Err f) out.before out.after reports.before reports.after
-        → (IsNoRun f → input.asked_after ≡ input.asked_before) → GuardsAt told path input out reports (Err (of_texts f))
-    stopped_at text₁ modules₁ same_text same_modules f runs =
+        → GuardsTexts modules₁ text₁ input out reports (Err f) → (IsNoRun f → AreIdle input out reports) → GuardsAt told path input out reports (Err (of_texts f))
+    stopped_at text₁ modules₁ same_text same_modules f m =
         stopped f
-        (subst (λ (t : List ℕ). RunsTexts modules t input.before input.after (Err f) out.before out.after reports.before reports.after) same_text
-        (subst (λ (ms : List (List ℕ)). RunsTexts ms text₁ input.before input.after (Err f) out.before out.after reports.before reports.after) same_modules runs))
+        (subst (λ (t : List ℕ). GuardsTexts modules t input out reports (Err f)) same_text
+        (subst (λ (ms : List (List ℕ)). GuardsTexts ms text₁ input out reports (Err f)) same_modules m))
 
   -- without the policy nothing is read
   pub unguarded : (f : Fault) → IsNoPolicyAt told path f → IsUnread input → IsUntouched out → IsUntouched reports → GuardsAt told path input out reports (Err f)
   unguarded (Run f) (inl h) i o r = absurd h
   unguarded (Run f) (inr (inl (text, modules, are, h))) i o r = absurd h
   unguarded (Run f) (inr (inr e)) i o r = absurd cc
-  unguarded BadHex h i o r = (h, i, o, r)
+  unguarded BadHex (inl h) i o r = absurd h
+  unguarded BadHex (inr (inl (text, modules, are, h))) i o r = absurd h
+  unguarded BadHex (inr (inr e)) i o r = absurd cc
   unguarded (CannotRead file) h i o r = (h, i, o, r)
   unguarded (Schema f) h i o r = (h, i, o, r)
   unguarded (Policy f) h i o r = (h, i, o, r)

@@ -1,19 +1,24 @@
--- What files tell of a path.
-use Rattle.std.specs.Prelude.{◌≡◌, ℕ, List, Option, Some, None}
+-- What reads of files find at a path.
+use Rattle.std.specs.Prelude.{◌≡◌, ℕ, suc, List, Option, Some, None}
 
--- What can be read at a path, a text or nothing, where the files tell it: those of a disk tell nothing.
+-- What each of the reads to come finds at a path, a text or nothing, where the files tell it; the next read is number 0. A file may change from one read to
+-- another. Those of a disk tell nothing.
 abbrev pub Told : Type 0
-Told = List ℕ → Option (Option (List ℕ))
+Told = ℕ → List ℕ → Option (Option (List ℕ))
+
+-- what the reads after the next one find
+abbrev pub after_read : Told → Told
+after_read told = λ n. told (suc n)
 
 -- it is what was told, or nothing was told of it
 abbrev pub IsAsTold : Option (Option (List ℕ)) → Option (List ℕ) → Type 0
 IsAsTold None found = Unit {0}
 IsAsTold (Some told) found = found ≡ told
 
--- the path has this text
+-- the next read finds this text at the path
 abbrev pub HasText : Told → List ℕ → List ℕ → Type 0
-HasText told path text = IsAsTold (told path) (Some text)
+HasText told path text = IsAsTold (told 0 path) (Some text)
 
--- nothing can be read there
+-- it can read nothing there
 abbrev pub HasNone : Told → List ℕ → Type 0
-HasNone told path = IsAsTold (told path) None
+HasNone told path = IsAsTold (told 0 path) None

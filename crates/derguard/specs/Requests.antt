@@ -27,4 +27,6 @@ request_view (code.Run policy) = run policy.now
 -- it is of the policy at some path, as each request is that words write
 abbrev pub HasPath : AbstractRequest → Type 0
 HasPath first = ⊥
-HasPath _ = Unit {0}
+HasPath (check path) = Unit {0}
+HasPath (decide path route digits) = Unit {0}
+HasPath (run path) = Unit {0}

@@ -1,7 +1,7 @@
 -- Why a file isn't read, as the parts of the code answer it.
 use Rattle.std.specs.Prelude.{◌≡◌, ℕ, List, string_bytes}
 use Rattle.derguard.specs.declared.fault.Fault.{Fault}
-use Rattle.derguard.specs.declared.fault.Fault.TheVariants.{CannotRead, NoMemory}
+use Rattle.derguard.specs.declared.fault.Fault.TheVariants.{BadHex, CannotRead, Schema, Policy, Run, NoMemory}
 use Rattle.derguard.specs.Files.{Told, HasNone}
 use Rattle.derguard.specs.Reading.{FirstMissing}
 
@@ -9,7 +9,10 @@ use Rattle.derguard.specs.Reading.{FirstMissing}
 abbrev pub NamesFile : (List ℕ → Type 0) → Fault → Type 0
 NamesFile IsPath (CannotRead file) = IsPath (string_bytes file)
 NamesFile IsPath NoMemory = Unit {0}
-NamesFile IsPath _ = ⊥
+NamesFile IsPath BadHex = ⊥
+NamesFile IsPath (Schema f) = ⊥
+NamesFile IsPath (Policy f) = ⊥
+NamesFile IsPath (Run f) = ⊥
 
 -- nothing can be read at the path, and it is named; or memory ran out
 abbrev pub CannotBeRead : Told → List ℕ → Fault → Type 0

@@ -1,6 +1,6 @@
 //! Where the texts of policies and modules come from.
 ghost use Rattle.std.specs.Prelude.{◌≡◌, Option, Some, None, List, ℕ, IfOk, IfErr};
-ghost use Rattle.derguard.specs.Files.{Told, HasText, HasNone};
+ghost use Rattle.derguard.specs.Files.{Told, HasText, HasNone, after_read};
 ghost use Rattle.derguard.specs.declared.files.FilesFault.TheVariants.{CannotRead, OutOfMemory as NoMemory};
 
 use std::alloc::AllocError;
@@ -25,12 +25,12 @@ impl From<AllocError> for FilesFault {
 
 /// Files by their paths.
 pub trait Files {
-    // what can be read at each path, where that is told: of a disk it isn't
+    // what each read to come finds at a path, where that is told: of a disk it isn't
     ghost told: { Self → Told };
 
-    /// The text at this path. OutOfMemory may stand in place of any answer. Reading changes nothing.
+    /// The text that is at this path now. It may be another one at the next read. OutOfMemory may stand in place of any answer.
     fn read(&mut self, path: &str) -> Result<Vec<u8>, FilesFault>
         ensures text { IfOk result (λ text. HasText (told self.old) path.now text.items) }
         ensures nothing { IfErr result (λ f. f ≡ CannotRead → HasNone (told self.old) path.now) }
-        ensures same { told self.new ≡ told self.old };
+        ensures next { told self.new ≡ after_read (told self.old) };
 }

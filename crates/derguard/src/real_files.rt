@@ -18,7 +18,7 @@ impl<'a> RealFiles<'a> {
 }
 
 impl Files for RealFiles<'_> {
-    ghost told = { λ files path. None };
+    ghost told = { λ files n path. None };
 
     fn read(&mut self, path: &str) -> Result<Vec<u8>, FilesFault> {
         match fs::read(self.rt, path) {

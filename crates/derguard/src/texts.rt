@@ -1,6 +1,6 @@
 //! The texts of a policy and of its modules.
 ghost use Rattle.std.specs.Prelude.{◌≡◌, ◌++◌, map, string_bytes, IfOk, IfErr};
-ghost use Rattle.derguard.specs.Files.{HasText};
+ghost use Rattle.derguard.specs.Files.{HasText, after_read};
 ghost use Rattle.derguard.specs.Reading.{folder, HaveTexts, AreTexts, IsNoPolicyAt};
 ghost use Rattle.derguard.specs.Texts.{CannotBeRead, CannotAllBeRead};
 
@@ -23,7 +23,6 @@ impl Texts {
     pub fn read<F: Files>(alloc: Global, path: &str, files: &mut F) -> Result<Texts, Fault>
         ensures read { IfOk result (λ texts. AreTexts (F.told files.old) path.now texts.policy.items (map (λ text. text.items) texts.modules.items)) }
         ensures missing { IfErr result (IsNoPolicyAt (F.told files.old) path.now) }
-        ensures same { F.told files.new ≡ F.told files.old }
     {
         let policy = read(alloc, path, files)?;
         let listed = module_files(alloc, &policy)?;
@@ -52,7 +51,6 @@ fn read_modules<F: Files>(
 ) -> Result<Vec<Vec<u8>>, Fault>
     ensures read { IfOk result (λ texts. HaveTexts (F.told files.old) (folder path.now) (map string_bytes listed.now) (map (λ text. text.items) texts.items)) }
     ensures missing { IfErr result (CannotAllBeRead (F.told files.old) (folder path.now) (map string_bytes listed.now)) }
-    ensures same { F.told files.new ≡ F.told files.old }
 {
     let mut texts = Vec::with_capacity(alloc, listed.len())?;
     for name in listed {
@@ -67,7 +65,7 @@ fn read_modules<F: Files>(
 fn read<F: Files>(alloc: Global, path: &str, files: &mut F) -> Result<Vec<u8>, Fault>
     ensures text { IfOk result (λ text. HasText (F.told files.old) path.now text.items) }
     ensures missing { IfErr result (CannotBeRead (F.told files.old) path.now) }
-    ensures same { F.told files.new ≡ F.told files.old }
+    ensures next { F.told files.new ≡ after_read (F.told files.old) }
 {
     match files.read(path) {
         Ok(text) => Ok(text),

@@ -10,9 +10,9 @@ use Rattle.guard_frames.specs.Cut.{IsRest}
 use Rattle.guard_frames.specs.declared.totals.Totals.{Totals}
 use Rattle.guard_frames.specs.Totals.{later, next_number, counted}
 use Rattle.guard_frames.specs.Outcomes.{Decision, Outcome, frames_of}
-use Rattle.guard_frames.specs.Guarding.{text_out, AllAdd, InPart, BothTook, AfterFailure}
+use Rattle.guard_frames.specs.Guarding.{text_out, AllAdd, InPart}
+use Rattle.guard_frames.specs.IntoSinks.{BothTook, AfterFailure, TakesAll, TakesUntilTooLong}
 use Rattle.guard_frames.specs.Decided.{Decided, IsDecided}
-use Rattle.guard_frames.specs.Feeding.{TakesAll, TakesUntilTooLong}
 use Rattle.guard_frames.specs.declared.deciding.Whole.{Whole}
 use Rattle.guard_frames.specs.declared.cut.Rest.TheVariants.{Unfinished, TooLong}
 use Rattle.guard_frames.proofs.Appending.{Appends_trans, Appends_is}

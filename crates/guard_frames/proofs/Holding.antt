@@ -11,9 +11,8 @@ use Rattle.guard_frames.specs.declared.deciding.Whole.{Whole}
 use Rattle.guard_frames.specs.declared.totals.Totals.{Totals}
 use Rattle.guard_frames.specs.Totals.{next_number}
 use Rattle.guard_frames.specs.Outcomes.{Decision, Outcome, frames_of}
-use Rattle.guard_frames.specs.Guarding.{AfterFailure}
+use Rattle.guard_frames.specs.IntoSinks.{AfterFailure, TakesAll, TakesUntilTooLong, Feeds}
 use Rattle.guard_frames.specs.Decided.{Decided, IsDecided}
-use Rattle.guard_frames.specs.Feeding.{TakesAll, TakesUntilTooLong, Feeds}
 use Rattle.guard_frames.specs.LinkView.{AbstractLink}
 use Rattle.guard_frames.specs.declared.link.LinkFault.{LinkFault}
 use Rattle.guard_frames.specs.declared.link.LinkFault.TheVariants.{FrameTooLong, WriteFailed, Closed, TornFrame}

@@ -17,6 +17,7 @@ pub mod Progress
 pub mod Steps
 pub mod Composing
 pub mod Holding
+pub mod AsAdded
 -- ---- laws
 pub mod WentExactly
 -- ---- texts

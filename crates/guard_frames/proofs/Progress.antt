@@ -13,7 +13,8 @@ use Rattle.guard_frames.specs.Prefix.{IsProperPrefix}
 use Rattle.guard_frames.specs.declared.totals.Totals.{Totals}
 use Rattle.guard_frames.specs.Totals.{later, after_passing, after_denying, next_number, counted}
 use Rattle.guard_frames.specs.Outcomes.{Decision, Goes, Outcome, that_went, that_stayed, all_went, frames_of}
-use Rattle.guard_frames.specs.Guarding.{text_out, Adds, AllAdd, AfterFailure}
+use Rattle.guard_frames.specs.Guarding.{text_out, Adds, AllAdd}
+use Rattle.guard_frames.specs.IntoSinks.{AfterFailure}
 use Rattle.guard_frames.specs.Decided.{Decided, AllGo}
 use Rattle.guard_frames.proofs.Elements.{All_none, All_first, All_rest, All_more, All_front, All_back}
 use Rattle.guard_frames.proofs.Counting.{counted-append, numbers_on}

@@ -10,7 +10,8 @@ use Rattle.guard_frames.specs.SideBySide.{IsNext, IsPassing}
 use Rattle.guard_frames.specs.declared.totals.Totals.{Totals}
 use Rattle.guard_frames.specs.Totals.{after_denying, next_number, counted}
 use Rattle.guard_frames.specs.Outcomes.{Decision, Outcome, that_stayed, all_went}
-use Rattle.guard_frames.specs.Guarding.{Adds, AfterFailure}
+use Rattle.guard_frames.specs.Guarding.{Adds}
+use Rattle.guard_frames.specs.IntoSinks.{AfterFailure}
 use Rattle.guard_frames.specs.Rulings.{report_line}
 use Rattle.guard_frames.specs.Decided.{Decided, AllGo}
 use Rattle.guard_frames.specs.declared.report.Report.{Report}

@@ -6,7 +6,7 @@ use Rattle.guard_frames.specs.declared.deciding.Whole.{Whole}
 use Rattle.guard_frames.specs.Frames.{IsFrame}
 use Rattle.guard_frames.specs.Totals.{next_number, counted}
 use Rattle.guard_frames.specs.Outcomes.{Decision, Goes, Outcome, frames_of}
-use Rattle.guard_frames.specs.Guarding.{BothTook}
+use Rattle.guard_frames.specs.IntoSinks.{BothTook}
 use Rattle.guard_frames.specs.Cut.{IsRest}
 
 -- these octets are whole frames, decided in order; n and m are the totals before and after them

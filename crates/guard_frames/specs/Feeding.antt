@@ -1,35 +1,34 @@
--- What one piece does to a link and its two sinks.
-use Rattle.std.specs.Prelude.{◌≡◌, ℕ, true, false, List, Option, Result, Ok, Err}
+-- What one piece does to an open link, and what it adds.
+use Rattle.std.specs.Prelude.{◌≡◌, ℕ, false, List, Result, Ok, Err}
 use Rattle.guard_frames.specs.declared.totals.Totals.{Totals}
-use Rattle.guard_frames.specs.LinkView.{AbstractLink}
+use Rattle.guard_frames.specs.Added.{Added}
+use Rattle.guard_frames.specs.LinkView.{AbstractLink, IsShut}
 use Rattle.guard_frames.specs.declared.link.LinkFault.{LinkFault}
 use Rattle.guard_frames.specs.declared.link.LinkFault.TheVariants.{FrameTooLong, WriteFailed, Closed, TornFrame}
 use Rattle.guard_frames.specs.Frames.{IsUnfinished, IsTooLong, ConsistsOf}
 use Rattle.guard_frames.specs.Totals.{next_number, counted}
 use Rattle.guard_frames.specs.Outcomes.{Decision, Outcome, frames_of}
-use Rattle.guard_frames.specs.Guarding.{BothTook, AfterFailure}
+use Rattle.guard_frames.specs.Guarding.{text_out, AllAdd, BreaksOff}
 
--- the frames of the stream were decided, and the rest is less than a frame; n and m are the totals before and after
-pub record TakesAll (d : Decision) (n : Totals) (stream : List ℕ) (m : Totals) (held : List ℕ) (out_old out_new reports_old reports_new : Option (List ℕ)) : Type 0 where
+-- The frames of the stream were decided, and this is the rest; n and m are the totals before and after.
+pub record Decides (d : Decision) (n : Totals) (stream rest : List ℕ) (m : Totals) (added : Added) : Type 0 where
   pub outcomes : List Outcome
-  pub split : ConsistsOf stream (frames_of outcomes) held
-  pub rest : IsUnfinished held
-  pub passed : BothTook d (next_number n) outcomes out_old out_new reports_old reports_new
-  pub totals : m ≡ counted n outcomes
-
--- the frames were decided up to a length that no frame may have; n and m are the totals before and after
-pub record TakesUntilTooLong (d : Decision) (n : Totals) (stream : List ℕ) (m : Totals) (out_old out_new reports_old reports_new : Option (List ℕ)) : Type 0 where
-  pub outcomes : List Outcome
-  pub rest : List ℕ
   pub split : ConsistsOf stream (frames_of outcomes) rest
-  pub too_long : IsTooLong rest
-  pub passed : BothTook d (next_number n) outcomes out_old out_new reports_old reports_new
+  pub out : added.out ≡ text_out outcomes
+  pub reports : AllAdd d (next_number n) outcomes added.reports
   pub totals : m ≡ counted n outcomes
 
--- what an open link does with a stream that it has come to, by its answer; n are the totals before the stream
-abbrev pub Feeds : Decision → Totals → List ℕ → AbstractLink → Result (Unit {0}) LinkFault → Option (List ℕ) → Option (List ℕ) → Option (List ℕ) → Option (List ℕ) → Type 0
-Feeds d n stream new (Ok done) o o₁ r r₁ = TakesAll d n stream new.totals new.held o o₁ r r₁ × (new.closed ≡ false)
-Feeds d n stream new (Err FrameTooLong) o o₁ r r₁ = TakesUntilTooLong d n stream new.totals o o₁ r r₁ × (new.closed ≡ true)
-Feeds d n stream new (Err WriteFailed) o o₁ r r₁ = AfterFailure d (next_number n) stream o o₁ r r₁ × (new.closed ≡ true)
-Feeds d n stream new (Err Closed) o o₁ r r₁ = ⊥
-Feeds d n stream new (Err TornFrame) o o₁ r r₁ = ⊥
+-- They were decided up to a length that no frame may have.
+pub record DecidesUntilTooLong (d : Decision) (n : Totals) (stream : List ℕ) (m : Totals) (added : Added) : Type 0 where
+  pub rest : List ℕ
+  pub decided : Decides d n stream rest m added
+  pub too_long : IsTooLong rest
+
+-- What an open link does with the stream that it has come to, by its answer; n are the totals before that stream. After a fault it takes no more and
+-- holds nothing.
+abbrev pub Takes : Decision → Totals → List ℕ → AbstractLink → Result (Unit {0}) LinkFault → Added → Type 0
+Takes d n stream new (Ok done) added = Decides d n stream new.held new.totals added × IsUnfinished new.held × (new.closed ≡ false)
+Takes d n stream new (Err FrameTooLong) added = DecidesUntilTooLong d n stream new.totals added × IsShut new
+Takes d n stream new (Err WriteFailed) added = BreaksOff d (next_number n) stream added.out added.reports × IsShut new
+Takes d n stream new (Err Closed) added = ⊥
+Takes d n stream new (Err TornFrame) added = ⊥

@@ -1,7 +1,6 @@
 -- What comes of frames: what goes out, and what is reported. This is the page to read first.
-use Rattle.std.specs.Prelude.{◌≡◌, ◌⊎◌, ℕ, true, false, List, [], ◌∷◌, ◌++◌, drop, length, if◌then◌else◌, Option, codes, decimal}
+use Rattle.std.specs.Prelude.{◌≡◌, ◌⊎◌, ℕ, true, false, List, [], ◌∷◌, ◌++◌, drop, length, if◌then◌else◌, codes, decimal}
 use Rattle.std.specs.List.{concat, All, filter}
-use Rattle.std.specs.Io.KnownBytes.{Appends}
 use Rattle.guard_frames.specs.declared.totals.Totals.{Totals}
 use Rattle.guard_frames.specs.Frames.{IsFrame}
 use Rattle.guard_frames.specs.Bodies.{AbstractBody, IsBody}
@@ -54,14 +53,7 @@ abbrev pub AllAdd : Decision → ℕ → List Outcome → List ℕ → Type 0
 AllAdd d n [] text = text ≡ []
 AllAdd d n (o ∷ outcomes) text = (line : List ℕ) × (lines : List ℕ) × (text ≡ line ++ lines) × Adds d n o line × AllAdd d (later n 1) outcomes lines
 
--- ---- both sinks
-
--- they took what these frames, numbered on from n, add
-pub record BothTook (d : Decision) (n : ℕ) (outcomes : List Outcome) (out_old out_new reports_old reports_new : Option (List ℕ)) : Type 0 where
-  pub sent : Appends out_old out_new (text_out outcomes)
-  pub text : List ℕ
-  pub lines : AllAdd d n outcomes text
-  pub reported : Appends reports_old reports_new text
+-- ---- how many
 
 -- how many frames there are, how many of them went, and how many stayed
 pub record Counts (outcomes : List Outcome) (t : Totals) : Type 0 where
@@ -92,11 +84,3 @@ pub record BreaksOff (d : Decision) (n : ℕ) (stream sent reported : List ℕ) 
   pub last : InPart d (later n (length first)) next part told
   pub out : sent ≡ text_out first ++ part
   pub reports : reported ≡ text ++ told
-
--- both sinks took what the stream's frames add up to a failure
-pub record AfterFailure (d : Decision) (n : ℕ) (stream : List ℕ) (out_old out_new reports_old reports_new : Option (List ℕ)) : Type 0 where
-  pub sent : List ℕ
-  pub reported : List ℕ
-  pub out : Appends out_old out_new sent
-  pub reports : Appends reports_old reports_new reported
-  pub stopped : BreaksOff d n stream sent reported

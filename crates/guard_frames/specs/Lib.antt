@@ -7,6 +7,7 @@ pub mod Outcomes
 pub mod Totals
 pub mod Prefix
 pub mod Guarding
+pub mod Added
 -- ---- what the calls do
 pub mod ThroughView
 pub mod KeptView
@@ -21,6 +22,7 @@ pub mod Texts
 pub mod RunsTexts
 -- ---- what the parts of the code do
 pub mod Cut
+pub mod IntoSinks
 pub mod Rulings
 pub mod SideBySide
 pub mod Decided

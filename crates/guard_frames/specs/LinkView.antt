@@ -1,5 +1,5 @@
 -- What contracts see of a link.
-use Rattle.std.specs.Prelude.{ℕ, Bool, false, List, []}
+use Rattle.std.specs.Prelude.{◌≡◌, ℕ, Bool, true, false, List, []}
 use Rattle.guard_frames.specs.declared.totals.Totals.{Totals}
 use Rattle.guard_frames.specs.declared.link.Link.{Link}
 use Rattle.guard_frames.specs.Totals.{no_frames}
@@ -12,6 +12,11 @@ pub record AbstractLink : Type 0 where
 
 abbrev pub link_view : Link → AbstractLink
 link_view l = record { held = l.held.items; totals = l.totals; closed = l.closed }
+
+-- it takes no more, and holds nothing
+pub record IsShut (l : AbstractLink) : Type 0 where
+  pub closed : l.closed ≡ true
+  pub empty : l.held ≡ []
 
 -- open, with nothing held, before the first frame
 abbrev pub new_link : AbstractLink

@@ -1,49 +1,48 @@
--- What a run of one stream reads and writes, by its answer. With `Guarding.antt` this is all that the contract of a run says.
+-- What a run of one stream adds, by its answer. With `Guarding.antt` this is all that the contract of a run says.
 use Rattle.std.specs.Prelude.{◌≡◌, ◌<◌, ◌≤◌, ◌+◌, ◌^◌, ℕ, List, [], length, Option, Result, Ok, Err}
 use Rattle.std.specs.List.{concat, All}
-use Rattle.std.specs.Io.KnownBytes.{Consumes, IsAtEnd}
+use Rattle.std.specs.Io.KnownBytes.{Consumes}
 use Rattle.guard_frames.specs.declared.totals.Totals.{Totals}
 use Rattle.guard_frames.specs.declared.running.RunFault.{RunFault}
 use Rattle.guard_frames.specs.declared.running.RunFault.TheVariants.{FrameTooLong, WriteFailed, TornFrame, ReadFailed, OutOfMemory}
 use Rattle.guard_frames.specs.Frames.{IsTooLong, IsUnfinished, ConsistsOf}
 use Rattle.guard_frames.specs.Totals.{WentUpBy}
 use Rattle.guard_frames.specs.Outcomes.{Decision, Outcome, frames_of}
-use Rattle.guard_frames.specs.Guarding.{Counts, BothTook, AfterFailure}
+use Rattle.guard_frames.specs.Guarding.{Counts, text_out, AllAdd, BreaksOff}
+use Rattle.guard_frames.specs.Added.{Added, nothing}
 
--- The source gave these octets. They are frames and a rest, and the frames, numbered from 1, are out or reported.
-pub record RunsAll (d : Decision) (source_old source_new out_old out_new reports_old reports_new : Option (List ℕ)) (Last : List ℕ → Type 0) : Type 0 where
-  pub read : List ℕ
-  pub consumed : Consumes source_old source_new read
+-- What was read is frames and a rest, and the frames, numbered from 1, are out or reported.
+pub record RunsAll (d : Decision) (read : List ℕ) (added : Added) (Last : List ℕ → Type 0) : Type 0 where
   pub outcomes : List Outcome
   pub rest : List ℕ
   pub split : ConsistsOf read (frames_of outcomes) rest
-  pub passed : BothTook d 1 outcomes out_old out_new reports_old reports_new
+  pub out : added.out ≡ text_out outcomes
+  pub reports : AllAdd d 1 outcomes added.reports
   pub last : Last rest
 
--- It gave all, and no rest; the totals are those of the frames.
-pub record RunsToEnd (d : Decision) (source_old source_new out_old out_new reports_old reports_new : Option (List ℕ)) (totals : Totals) : Type 0 where
-  pub all : RunsAll d source_old source_new out_old out_new reports_old reports_new (λ rest. rest ≡ [])
+-- No rest is left; the totals are those of the frames.
+pub record RunsToEnd (d : Decision) (read : List ℕ) (totals : Totals) (added : Added) : Type 0 where
+  pub all : RunsAll d read added (λ rest. rest ≡ [])
   pub counts : Counts all.outcomes totals
-  pub end : IsAtEnd source_new
 
 -- A length that no frame may have, at which reading stops: behind its first three octets no more was read than one piece of 65,536.
 pub record IsFoundTooLong (rest : List ℕ) : Type 0 where
   pub too_long : IsTooLong rest
   pub at_once : length rest < 4 + 65536
 
--- It gave these octets, and the outputs are theirs up to a failure.
-pub record RunsUntilFailure (d : Decision) (source_old source_new out_old out_new reports_old reports_new : Option (List ℕ)) : Type 0 where
-  pub read : List ℕ
-  pub consumed : Consumes source_old source_new read
-  pub outputs : AfterFailure d 1 read out_old out_new reports_old reports_new
+-- The end came inside a frame: something is left, and it is less than one. It doesn't begin with a length that no frame may have.
+pub record IsTorn (rest : List ℕ) : Type 0 where
+  pub some : 0 < length rest
+  pub unfinished : IsUnfinished rest
 
-abbrev pub Runs : Decision → Option (List ℕ) → Option (List ℕ) → Result Totals RunFault → Option (List ℕ) → Option (List ℕ) → Option (List ℕ) → Option (List ℕ) → Type 0
-Runs d s s₁ (Ok totals) o o₁ r r₁ = RunsToEnd d s s₁ o o₁ r r₁ totals
-Runs d s s₁ (Err FrameTooLong) o o₁ r r₁ = RunsAll d s s₁ o o₁ r r₁ IsFoundTooLong
-Runs d s s₁ (Err TornFrame) o o₁ r r₁ = RunsAll d s s₁ o o₁ r r₁ (λ rest. 0 < length rest) × IsAtEnd s₁
-Runs d s s₁ (Err ReadFailed) o o₁ r r₁ = RunsAll d s s₁ o o₁ r r₁ IsUnfinished
-Runs d s s₁ (Err WriteFailed) o o₁ r r₁ = RunsUntilFailure d s s₁ o o₁ r r₁
-Runs d s s₁ (Err OutOfMemory) o o₁ r r₁ = (s₁ ≡ s) × (o₁ ≡ o) × (r₁ ≡ r)
+-- What is added of the octets that were read, by the answer; `Ended` says that the source had no more to give.
+abbrev pub Runs : Decision → List ℕ → Type 0 → Result Totals RunFault → Added → Type 0
+Runs d read Ended (Ok totals) added = RunsToEnd d read totals added × Ended
+Runs d read Ended (Err FrameTooLong) added = RunsAll d read added IsFoundTooLong
+Runs d read Ended (Err TornFrame) added = RunsAll d read added IsTorn × Ended
+Runs d read Ended (Err ReadFailed) added = RunsAll d read added IsUnfinished
+Runs d read Ended (Err WriteFailed) added = BreaksOff d 1 read added.out added.reports
+Runs d read Ended (Err OutOfMemory) added = (read ≡ []) × (added ≡ nothing)
 
 -- ---- how often a source was asked
 

@@ -2,7 +2,7 @@
 
 ghost use Rattle.std.specs.Prelude.{◌≡◌, ◌⊎◌, true, IfOk, OnErr};
 ghost use Rattle.guard_frames.specs.Totals.{next_number};
-ghost use Rattle.guard_frames.specs.Guarding.{AfterFailure};
+ghost use Rattle.guard_frames.specs.IntoSinks.{AfterFailure};
 ghost use Rattle.guard_frames.specs.Decided.{IsDecided};
 
 use crate::cut::Rest;

@@ -3,7 +3,7 @@
 ghost use Rattle.std.specs.Prelude.{◌≡◌, ◌⊎◌, true, false, [], IsErrOf};
 ghost use Rattle.guard_frames.specs.Frames.{IsUnfinished};
 ghost use Rattle.guard_frames.specs.LinkView.{link_view};
-ghost use Rattle.guard_frames.specs.Feeding.{Feeds};
+ghost use Rattle.guard_frames.specs.IntoSinks.{Feeds};
 ghost use Rattle.guard_frames.specs.declared.link.LinkFault.TheVariants.{WriteFailed};
 
 use crate::cut::{Cut, Rest, first_cut};
@@ -17,7 +17,8 @@ use std::alloc::Global;
 impl Link {
     ghost use Rattle.std.specs.Prelude.{◌≡◌, ◌⊎◌, true, false, ◌++◌, Err, IsErrOf};
     ghost use Rattle.guard_frames.specs.LinkView.{link_view};
-    ghost use Rattle.guard_frames.specs.Feeding.{Feeds};
+    ghost use Rattle.guard_frames.specs.Added.{Added, BothAppend};
+    ghost use Rattle.guard_frames.specs.Feeding.{Takes};
     ghost use Rattle.guard_frames.specs.declared.link.LinkFault.TheVariants.{Closed, WriteFailed};
 
     /// Feeds it one more piece of its stream. Of what it holds, only the frame that an earlier piece began is put together; a frame that
@@ -30,9 +31,9 @@ impl Link {
         out: &mut O,
         reports: &mut R,
     ) -> Result<(), LinkFault>
-        ensures open { (link_view self.old).closed ≡ false → Feeds (D.decides policy.now) (link_view self.old).totals
-            ((link_view self.old).held ++ piece.now) (link_view self.new) result
-            (O.taken out.old) (O.taken out.new) (R.taken reports.old) (R.taken reports.new) }
+        ensures open { (link_view self.old).closed ≡ false → (added : Added)
+            × Takes (D.decides policy.now) (link_view self.old).totals ((link_view self.old).held ++ piece.now) (link_view self.new) result added
+            × BothAppend (O.taken out.old) (O.taken out.new) (R.taken reports.old) (R.taken reports.new) added }
         ensures shut { (link_view self.old).closed ≡ true → (result ≡ Err Closed) × (self.new ≡ self.old)
             × (out.new ≡ out.old) × (reports.new ≡ reports.old) }
         ensures failed { IsErrOf result WriteFailed → (O.has_failed out.new ≡ true) ⊎ (R.has_failed reports.new ≡ true) }
@@ -106,6 +107,7 @@ fn feed_rest<D: Decide, O: Sink, R: Sink>(
 /// Holds the octets of an unfinished frame.
 fn hold(link: &mut Link, rest: &[u8])
     requires nothing { link.old.held.items ≡ [] }
+    requires open { link.old.closed ≡ false }
     requires unfinished { IsUnfinished rest.now }
     ensures held { link.new.held.items ≡ rest.now }
     ensures totals { link.new.totals ≡ link.old.totals }

@@ -2,6 +2,8 @@
 
 ghost use Rattle.std.specs.Prelude.{◌≡◌, ◌⊎◌, true, IsErrOf};
 ghost use Rattle.guard_policy.specs.PolicyView.{policy_view};
+ghost use Rattle.std.specs.Io.KnownBytes.{IsAtEnd};
+ghost use Rattle.guard_frames.specs.Added.{Moves};
 ghost use Rattle.guard_frames.specs.OfPolicy.{decision_of};
 ghost use Rattle.guard_frames.specs.Runs.{Runs, ReadToLimit};
 ghost use Rattle.guard_frames.specs.declared.running.RunFault.TheVariants.{WriteFailed, ReadFailed, OutOfMemory as NoMemory};
@@ -22,8 +24,8 @@ pub fn run<S: Source, O: Sink, R: Sink>(
     policy: &Policy,
 ) -> Result<Totals, RunFault>
     // What is read, goes out and is reported, by the answer;
-    ensures runs { Runs (decision_of (policy_view policy.now)) (S.tells source.old) (S.tells source.new) result
-        (O.taken out.old) (O.taken out.new) (R.taken reports.old) (R.taken reports.new) }
+    ensures runs { Moves (S.tells source.old) (S.tells source.new) (O.taken out.old) (O.taken out.new) (R.taken reports.old) (R.taken reports.new)
+        (λ read added. Runs (decision_of (policy_view policy.now)) read (IsAtEnd (S.tells source.new)) result added) }
     // a fault of a device is answered only where it has failed, or where the source was asked 2^40 times;
     ensures failed { IsErrOf result WriteFailed → (O.has_failed out.new ≡ true) ⊎ (R.has_failed reports.new ≡ true) }
     ensures unread { IsErrOf result ReadFailed → (S.has_failed source.new ≡ true)

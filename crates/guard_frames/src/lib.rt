@@ -12,8 +12,8 @@
 //! | How are a file or pipe, or a list in memory, a source or a sink? | `through.rt` (`Through`), `kept.rt` (`Kept`) | |
 //! | Which frames of some octets go side by side, and how are all of them decided where they lie? | `passing.rt`, `deciding.rt` | `specs/SideBySide.antt`, `specs/Decided.antt` |
 //! | What does a link hold, and how does the next piece complete it? | `link.rt` (`Link`), `filling.rt` | `specs/LinkView.antt`, `specs/Frames.antt` (`IsUnfinished`) |
-//! | What does a piece, or the end, do to a link? | `feeding.rt` (`Link::feed`), `link.rt` (`Link::end`) | `specs/Feeding.antt` |
-//! | What does a whole run read and write, and what when a device fails? | `running.rt` (`decide_stream`) | `specs/Runs.antt` |
+//! | What does a piece, or the end, do to a link? | `feeding.rt` (`Link::feed`), `link.rt` (`Link::end`) | `specs/Feeding.antt`, `specs/Added.antt` |
+//! | What does a whole run read and add, and what when a device fails? | `running.rt` (`decide_stream`) | `specs/Runs.antt`, `specs/Added.antt` |
 //! | How does a policy decide, and what comes of a stream under it? | `policies.rt`, `guarding.rt` (`run`) | `specs/OfPolicy.antt`, `specs/Runs.antt` |
 //! | On which modules does a policy stand? | `modules.rt` (`Modules`) | `specs/ModulesView.antt` |
 //! | What do texts say, and what comes of a stream under it? | `texts.rt` (`load_texts`, `run_texts`) | `specs/Texts.antt`, `specs/RunsTexts.antt` |

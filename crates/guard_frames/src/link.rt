@@ -1,7 +1,8 @@
 //! A link: what comes of a stream of octets that arrives in pieces.
 
 ghost use Rattle.guard_frames.specs.Frames.{IsUnfinished};
-ghost use Rattle.std.specs.Prelude.{◌≤◌, vec_capacity};
+ghost use Rattle.std.proofs.Props.{props};
+ghost use Rattle.std.specs.Prelude.{◌≡◌, ◌≤◌, [], true, vec_capacity};
 
 use crate::filling::LONGEST_FRAME;
 use crate::totals::Totals;
@@ -22,8 +23,8 @@ pub enum LinkFault {
     TornFrame,
 }
 
-/// Cuts one stream into frames. It holds the octets of the frame that has begun and isn't whole yet; room for the longest one is
-/// reserved once.
+/// Cuts one stream into frames. It holds the octets of the frame that has begun and isn't whole yet, and nothing once it is closed; room
+/// for the longest one is reserved once.
 #[derive(Drop)]
 pub struct Link {
     pub(crate) held: Vec<u8>,
@@ -31,11 +32,12 @@ pub struct Link {
     pub(crate) closed: bool,
     pub(crate) ghost room: { 1048580 ≤ vec_capacity held },
     pub(crate) ghost unfinished: { IsUnfinished held.items },
+    pub(crate) ghost shut: { closed ≡ true → held.items ≡ [] } by { Prim.hlevel props },
 }
 
 impl Link {
     ghost use Rattle.std.specs.Prelude.{◌≡◌, ◌<◌, [], true, false, length, IfOk, Ok, Err};
-    ghost use Rattle.guard_frames.specs.LinkView.{link_view, new_link};
+    ghost use Rattle.guard_frames.specs.LinkView.{link_view, new_link, IsShut};
     ghost use Rattle.guard_frames.specs.declared.link.LinkFault.TheVariants.{Closed, TornFrame};
 
     /// An open link that holds nothing; its frames are numbered from 1.
@@ -50,22 +52,24 @@ impl Link {
         })
     }
 
-    /// The end of its stream. Whatever it answers, the link is closed then.
+    /// The end of its stream. Whatever it answers, the link is closed then, and holds nothing.
     pub fn end(&mut self) -> Result<(), LinkFault>
         ensures torn { (link_view self.old).closed ≡ false → 0 < length (link_view self.old).held → result ≡ Err TornFrame }
         ensures whole { (link_view self.old).closed ≡ false → (link_view self.old).held ≡ [] → result ≡ Ok tt }
         ensures shut { (link_view self.old).closed ≡ true → (result ≡ Err Closed) × (self.new ≡ self.old) }
-        ensures closes { (link_view self.new).closed ≡ true }
+        ensures closes { IsShut (link_view self.new) }
         ensures totals { (link_view self.new).totals ≡ (link_view self.old).totals }
     {
         if self.closed {
             return Err(LinkFault::Closed);
         }
+        let is_torn = !self.held.is_empty();
+        self.held.clear();
         self.closed = true;
-        if self.held.is_empty() {
-            Ok(())
-        } else {
+        if is_torn {
             Err(LinkFault::TornFrame)
+        } else {
+            Ok(())
         }
     }
 }

@@ -2,6 +2,7 @@
 
 ghost use Rattle.std.specs.Prelude.{◌≡◌, ◌<◌, ◌≤◌, ◌⊎◌, true, [], length, take, IfOk, OnErr, IsErrOf};
 ghost use Rattle.std.specs.Io.KnownBytes.{Consumes, IsAtEnd};
+ghost use Rattle.guard_frames.specs.Added.{Moves};
 ghost use Rattle.guard_frames.specs.Totals.{WentUpBy};
 ghost use Rattle.guard_frames.specs.Runs.{Runs, ReadToLimit};
 ghost use Rattle.guard_frames.specs.declared.running.RunFault.TheVariants.{WriteFailed, ReadFailed, OutOfMemory as NoMemory};
@@ -66,8 +67,8 @@ pub fn decide_stream<S: Source, D: Decide, O: Sink, R: Sink>(
     reports: &mut R,
     policy: &D,
 ) -> Result<Totals, RunFault>
-    ensures runs { Runs (D.decides policy.now) (S.tells source.old) (S.tells source.new) result
-        (O.taken out.old) (O.taken out.new) (R.taken reports.old) (R.taken reports.new) }
+    ensures runs { Moves (S.tells source.old) (S.tells source.new) (O.taken out.old) (O.taken out.new) (R.taken reports.old) (R.taken reports.new)
+        (λ read added. Runs (D.decides policy.now) read (IsAtEnd (S.tells source.new)) result added) }
     ensures failed { IsErrOf result WriteFailed → (O.has_failed out.new ≡ true) ⊎ (R.has_failed reports.new ≡ true) }
     ensures unread { IsErrOf result ReadFailed → (S.has_failed source.new ≡ true)
         ⊎ ReadToLimit (S.takes source.old) (S.takes source.new) (S.tells source.old) (S.tells source.new) }

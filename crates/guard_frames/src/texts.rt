@@ -4,9 +4,11 @@ ghost use Rattle.std.specs.Prelude.{◌≡◌, ◌⊎◌, true, map, Ok, IfOk, I
 ghost use Rattle.guard_model.specs.Answer.{Gives};
 ghost use Rattle.guard_policy.specs.Policies.{AbstractPolicy};
 ghost use Rattle.guard_policy.specs.PolicyView.{policy_view};
+ghost use Rattle.std.specs.Io.KnownBytes.{IsAtEnd};
+ghost use Rattle.guard_frames.specs.Added.{Moves};
 ghost use Rattle.guard_frames.specs.Runs.{ReadToLimit};
 ghost use Rattle.guard_frames.specs.Texts.{SayPolicy, SayNone, named, of_schema, of_policy, of_run};
-ghost use Rattle.guard_frames.specs.RunsTexts.{RunsTexts, RunsUnder, IsNoRun};
+ghost use Rattle.guard_frames.specs.RunsTexts.{RunsTexts, IsNoRun};
 ghost use Rattle.guard_frames.specs.declared.running.RunFault.TheVariants.{WriteFailed, ReadFailed};
 ghost use Rattle.guard_frames.specs.declared.texts.TextsFault.TheVariants.{Run};
 
@@ -95,15 +97,12 @@ pub fn run_texts<S: Source, O: Sink, R: Sink>(
     reports: &mut R,
 ) -> Result<Totals, TextsFault>
     // What comes of the stream is what comes of it under the policy that the texts say, or they say none;
-    ensures runs { RunsTexts (map (λ t. t.now) modules.now) text.now (S.tells source.old) (S.tells source.new) result
-        (O.taken out.old) (O.taken out.new) (R.taken reports.old) (R.taken reports.new) }
-    // and where they say one, it is that one, and no fault is answered but those of the run.
-    ensures only { (p : AbstractPolicy) → SayPolicy (map (λ t. t.now) modules.now) text.now p → RunsUnder p (S.tells source.old) (S.tells source.new) result
-        (O.taken out.old) (O.taken out.new) (R.taken reports.old) (R.taken reports.new) }
+    ensures runs { Moves (S.tells source.old) (S.tells source.new) (O.taken out.old) (O.taken out.new) (R.taken reports.old) (R.taken reports.new)
+        (λ read added. RunsTexts (map (λ t. t.now) modules.now) text.now read (IsAtEnd (S.tells source.new)) result added) }
     ensures failed { IsErrOf result (Run WriteFailed) → (O.has_failed out.new ≡ true) ⊎ (R.has_failed reports.new ≡ true) }
     ensures unread { IsErrOf result (Run ReadFailed) → (S.has_failed source.new ≡ true)
         ⊎ ReadToLimit (S.takes source.old) (S.takes source.new) (S.tells source.old) (S.tells source.new) }
-    // Where the texts say none, and where there is no memory to begin, nothing is done.
+    // and where they say none, or there is no memory to begin, nothing is done.
     ensures untouched { IfErr result (λ f. IsNoRun f → (source.new ≡ source.old) × (out.new ≡ out.old) × (reports.new ≡ reports.old)) }
 {
     let policy = load_texts(alloc, modules, text)?;

@@ -1,10 +1,12 @@
-use Rattle.std.proofs.Common.{◌≡◌, ◌+◌, ◌<◌, ◌≤◌, ◌^◌, ℕ, [], ◌++◌, ◌∙◌, ap, inr, subst, take, length, length-take, rules, arith}
+use Rattle.std.proofs.Common.{◌≡◌, ◌+◌, ◌<◌, ◌≤◌, ◌^◌, ℕ, [], ◌++◌, ◌∙◌, ap, inr, refl, subst, take, length, length-take, rules, arith}
 use Rattle.std.specs.Prelude.{Err}
 use Rattle.guard_frames.specs.declared.link.LinkFault.TheVariants.{FrameTooLong, WriteFailed}
 use Rattle.guard_frames.specs.Totals.{no_frames, WentUpBy}
 use Rattle.guard_frames.specs.Outcomes.{frames_of}
 use Rattle.guard_frames.specs.LinkView.{AbstractLink, link_view}
 use Rattle.guard_frames.specs.Runs.{CameInPieces}
+use Rattle.guard_frames.specs.Guarding.{text_out}
+use Rattle.guard_frames.proofs.AsAdded.{feeds_of}
 use Rattle.guard_frames.proofs.Counting.{counts}
 use Rattle.guard_frames.proofs.Reading.{Consumes_none, Consumes_trans, Consumes_zero, is_empty_list, no_pieces, one_more_piece}
 use Rattle.guard_frames.proofs.Holding.{begins_empty, feeds_more, fed_ok, fed_too_long, fed_failed, found_soon}
@@ -26,34 +28,47 @@ returns-then-is_empty-clause-runs g c =
     let zero : c.in-Ok-read_piece.count ≡ 0 = omega arith in
     let none : length c.loop.link.held.items ≡ 0 = search rules in
     record {
-      all = record {
-        read = h.0;
-        consumed = Consumes_zero _ _ _ h.0 c.in-Ok-read_piece.count c.read_piece.new.buffer.items zero h.1 c.in-Ok-read_piece.ensures.given;
-        outcomes = h.2.outcomes;
-        rest = c.loop.link.held.items;
-        split = h.2.split;
-        passed = h.2.passed;
-        last = is_empty_list c.loop.link.held.items none;
-      };
-      counts = counts h.2.outcomes c.loop.link.totals h.2.totals;
-      end = c.in-Ok-read_piece.ensures.end zero;
+      read = h.0;
+      added = record { out = text_out h.2.outcomes; reports = h.2.passed.text };
+      given = Consumes_zero _ _ _ h.0 c.in-Ok-read_piece.count c.read_piece.new.buffer.items zero h.1 c.in-Ok-read_piece.ensures.given;
+      taken = record { out = h.2.passed.sent; reports = h.2.passed.reported };
+      holds = (
+        record {
+          all = record {
+            outcomes = h.2.outcomes;
+            rest = c.loop.link.held.items;
+            split = h.2.split;
+            out = refl;
+            reports = h.2.passed.lines;
+            last = is_empty_list c.loop.link.held.items none;
+          };
+          counts = counts h.2.outcomes c.loop.link.totals h.2.totals;
+        },
+        c.in-Ok-read_piece.ensures.end zero,
+      );
     }
 
 pub returns-then-count-eq0-clause-runs : goal.returns-then-count-eq0-clause-runs
 returns-then-count-eq0-clause-runs g c =
     let h = c.loop.invariant.so_far in
-    let zero : c.in-Ok-read_piece.count ≡ 0 = omega arith in (
-      record {
-        read = h.0;
-        consumed = Consumes_zero _ _ _ h.0 c.in-Ok-read_piece.count c.read_piece.new.buffer.items zero h.1 c.in-Ok-read_piece.ensures.given;
-        outcomes = h.2.outcomes;
-        rest = c.loop.link.held.items;
-        split = h.2.split;
-        passed = h.2.passed;
-        last = search rules;
-      },
-      c.in-Ok-read_piece.ensures.end zero,
-    )
+    let zero : c.in-Ok-read_piece.count ≡ 0 = omega arith in
+    record {
+      read = h.0;
+      added = record { out = text_out h.2.outcomes; reports = h.2.passed.text };
+      given = Consumes_zero _ _ _ h.0 c.in-Ok-read_piece.count c.read_piece.new.buffer.items zero h.1 c.in-Ok-read_piece.ensures.given;
+      taken = record { out = h.2.passed.sent; reports = h.2.passed.reported };
+      holds = (
+        record {
+          outcomes = h.2.outcomes;
+          rest = c.loop.link.held.items;
+          split = h.2.split;
+          out = refl;
+          reports = h.2.passed.lines;
+          last = record { some = search rules; unfinished = h.2.rest };
+        },
+        c.in-Ok-read_piece.ensures.end zero,
+      );
+    }
 
 pub returns-in-Err-FrameTooLong-clause-runs : goal.returns-in-Err-FrameTooLong-clause-runs
 returns-in-Err-FrameTooLong-clause-runs g c =
@@ -64,8 +79,11 @@ returns-in-Err-FrameTooLong-clause-runs g c =
     let o₁ = g.O.Sink.taken c.feed.new.out in
     let r = g.R.Sink.taken c.args.reports.now in
     let r₁ = g.R.Sink.taken c.feed.new.reports in
+    let takes = c.feed.ensures.open c.loop.invariant.open_still in
+    let feeds = feeds_of d c.loop.link.totals (c.loop.link.held.items ++ p) (link_view c.feed.new.self) c.feed.result (g.O.Sink.taken c.loop.out) o₁ (g.R.Sink.taken c.loop.reports) r₁
+    takes.0 takes.1 takes.2 in
     let fed = feeds_more d no_frames c.loop.link.totals h.0 c.loop.link.held.items p (link_view c.feed.new.self) c.feed.result
-    o (g.O.Sink.taken c.loop.out) o₁ r (g.R.Sink.taken c.loop.reports) r₁ h.2 (c.feed.ensures.open c.loop.invariant.open_still) in
+    o (g.O.Sink.taken c.loop.out) o₁ r (g.R.Sink.taken c.loop.reports) r₁ h.2 feeds in
     let given = rw (← c.deref.ensures.value) at c.in-Ok-read_piece.ensures.given in
     let consumed = Consumes_trans _ _ _ h.0 p h.1 given in
     let is : c.feed.result ≡ Err FrameTooLong = cc in
@@ -75,12 +93,17 @@ returns-in-Err-FrameTooLong-clause-runs g c =
     let soon : length x.rest < 4 + length p = found_soon h.0 c.loop.link.held.items p x.rest (frames_of h.2.outcomes) (frames_of x.outcomes) h.2.split h.2.rest x.split x.too_long in
     record {
       read = h.0 ++ p;
-      consumed = consumed;
-      outcomes = x.outcomes;
-      rest = x.rest;
-      split = x.split;
-      passed = x.passed;
-      last = record { too_long = x.too_long; at_once = omega (arith, soon, most) };
+      added = record { out = text_out x.outcomes; reports = x.passed.text };
+      given = consumed;
+      taken = record { out = x.passed.sent; reports = x.passed.reported };
+      holds = record {
+        outcomes = x.outcomes;
+        rest = x.rest;
+        split = x.split;
+        out = refl;
+        reports = x.passed.lines;
+        last = record { too_long = x.too_long; at_once = omega (arith, soon, most) };
+      };
     }
 
 pub returns-in-Err-WriteFailed-clause-runs : goal.returns-in-Err-WriteFailed-clause-runs
@@ -92,12 +115,22 @@ returns-in-Err-WriteFailed-clause-runs g c =
     let o₁ = g.O.Sink.taken c.feed.new.out in
     let r = g.R.Sink.taken c.args.reports.now in
     let r₁ = g.R.Sink.taken c.feed.new.reports in
+    let takes = c.feed.ensures.open c.loop.invariant.open_still in
+    let feeds = feeds_of d c.loop.link.totals (c.loop.link.held.items ++ p) (link_view c.feed.new.self) c.feed.result (g.O.Sink.taken c.loop.out) o₁ (g.R.Sink.taken c.loop.reports) r₁
+    takes.0 takes.1 takes.2 in
     let fed = feeds_more d no_frames c.loop.link.totals h.0 c.loop.link.held.items p (link_view c.feed.new.self) c.feed.result
-    o (g.O.Sink.taken c.loop.out) o₁ r (g.R.Sink.taken c.loop.reports) r₁ h.2 (c.feed.ensures.open c.loop.invariant.open_still) in
+    o (g.O.Sink.taken c.loop.out) o₁ r (g.R.Sink.taken c.loop.reports) r₁ h.2 feeds in
     let given = rw (← c.deref.ensures.value) at c.in-Ok-read_piece.ensures.given in
     let consumed = Consumes_trans _ _ _ h.0 p h.1 given in
     let is : c.feed.result ≡ Err WriteFailed = cc in
-    record { read = h.0 ++ p; consumed = consumed; outputs = fed_failed d no_frames (h.0 ++ p) (link_view c.feed.new.self) c.feed.result o o₁ r r₁ is fed }
+    let x = fed_failed d no_frames (h.0 ++ p) (link_view c.feed.new.self) c.feed.result o o₁ r r₁ is fed in
+    record {
+      read = h.0 ++ p;
+      added = record { out = x.sent; reports = x.reported };
+      given = consumed;
+      taken = record { out = x.out; reports = x.reports };
+      holds = x.stopped;
+    }
 
 pub loop-preserved : goal.loop-preserved
 loop-preserved g c =
@@ -108,8 +141,11 @@ loop-preserved g c =
     let o₁ = g.O.Sink.taken c.feed.new.out in
     let r = g.R.Sink.taken c.args.reports.now in
     let r₁ = g.R.Sink.taken c.feed.new.reports in
+    let takes = c.feed.ensures.open c.loop.invariant.open_still in
+    let feeds = feeds_of d c.loop.link.totals (c.loop.link.held.items ++ p) (link_view c.feed.new.self) c.feed.result (g.O.Sink.taken c.loop.out) o₁ (g.R.Sink.taken c.loop.reports) r₁
+    takes.0 takes.1 takes.2 in
     let fed = feeds_more d no_frames c.loop.link.totals h.0 c.loop.link.held.items p (link_view c.feed.new.self) c.feed.result
-    o (g.O.Sink.taken c.loop.out) o₁ r (g.R.Sink.taken c.loop.reports) r₁ h.2 (c.feed.ensures.open c.loop.invariant.open_still) in
+    o (g.O.Sink.taken c.loop.out) o₁ r (g.R.Sink.taken c.loop.reports) r₁ h.2 feeds in
     let given = rw (← c.deref.ensures.value) at c.in-Ok-read_piece.ensures.given in
     let consumed = Consumes_trans _ _ _ h.0 p h.1 given in
     let size : length c.deref.result.now ≡ 65536 = ap length c.deref.ensures.value ∙ c.in-Ok-read_piece.ensures.room ∙ c.loop.invariant.room in
@@ -129,3 +165,25 @@ returns-clause-unread g c = λ _.
     let h = c.loop.invariant.so_far in
     let all : c.loop.counter ≡ 2 ^ 40 = omega arith in
     inr (record { asked = subst (λ (k : ℕ). WentUpBy (g.S.Source.takes c.args.source.now) k (g.S.Source.takes c.loop.source)) all c.loop.invariant.asked; read = h.0; consumed = h.1; pieces = subst (λ (k : ℕ). CameInPieces k h.0) all h.3 })
+
+pub returns-clause-runs : goal.returns-clause-runs
+returns-clause-runs g c =
+    let h = c.loop.invariant.so_far in
+    record {
+      read = h.0;
+      added = record { out = text_out h.2.outcomes; reports = h.2.passed.text };
+      given = h.1;
+      taken = record { out = h.2.passed.sent; reports = h.2.passed.reported };
+      holds = record { outcomes = h.2.outcomes; rest = c.loop.link.held.items; split = h.2.split; out = refl; reports = h.2.passed.lines; last = h.2.rest };
+    }
+
+pub returns-in_default-read_piece-clause-runs : goal.returns-in_default-read_piece-clause-runs
+returns-in_default-read_piece-clause-runs g c =
+    let h = c.loop.invariant.so_far in
+    record {
+      read = h.0;
+      added = record { out = text_out h.2.outcomes; reports = h.2.passed.text };
+      given = Consumes_zero _ _ _ h.0 0 [] refl h.1 c.in_default-read_piece.ensures.none;
+      taken = record { out = h.2.passed.sent; reports = h.2.passed.reported };
+      holds = record { outcomes = h.2.outcomes; rest = c.loop.link.held.items; split = h.2.split; out = refl; reports = h.2.passed.lines; last = h.2.rest };
+    }

@@ -1,7 +1,7 @@
 use Rattle.std.proofs.Common.{◌≡◌, ℕ, false, List, length}
 use Rattle.std.specs.Io.KnownBytes.{Consumes}
 use Rattle.guard_frames.specs.Totals.{no_frames, WentUpBy}
-use Rattle.guard_frames.specs.Feeding.{TakesAll}
+use Rattle.guard_frames.specs.IntoSinks.{TakesAll}
 use Rattle.guard_frames.specs.Runs.{CameInPieces}
 use Rattle.guard_frames.proofs.running.decide_stream.Given as goal
 

@@ -6,7 +6,7 @@ use guard_model::{Path, Site, Step};
 use guard_policy::Verdict;
 use std::alloc::{AllocError, Global};
 
-const CODES: [(&str, Code); 22] = [
+const CODES: [(&str, Code); 23] = [
     ("Truncated", Code::Truncated),
     ("TagForm", Code::TagForm),
     ("IndefiniteLength", Code::IndefiniteLength),
@@ -22,6 +22,7 @@ const CODES: [(&str, Code); 22] = [
     ("NullContents", Code::NullContents),
     ("BitStringContents", Code::BitStringContents),
     ("UnusedBits", Code::UnusedBits),
+    ("TrailingZeroBit", Code::TrailingZeroBit),
     ("ObjectIdContents", Code::ObjectIdContents),
     ("ObjectIdTooLong", Code::ObjectIdTooLong),
     ("Characters", Code::Characters),

@@ -195,16 +195,16 @@ impl Words<'_> {
             "INTEGER" => (2, Kind::Int(self.named(alloc)?)),
             "NULL" => (5, Kind::Null),
             "ENUMERATED" => (10, Kind::Enumerated(self.named(alloc)?)),
-            _ => self.string(word)?,
+            _ => self.string(alloc, word)?,
         };
         tagged(alloc, number, kind)
     }
 
-    fn string(&mut self, word: &str) -> Result<(u32, Kind), Unread> {
+    fn string(&mut self, alloc: Global, word: &str) -> Result<(u32, Kind), Unread> {
         match word {
             "BIT" => {
                 self.expect("STRING")?;
-                Ok((3, Kind::Bits))
+                Ok((3, Kind::Bits(self.named(alloc)?)))
             }
             "OCTET" => {
                 self.expect("STRING")?;
@@ -221,7 +221,7 @@ impl Words<'_> {
         }
     }
 
-    /// Named numbers or items in braces. One without a number has its place as number.
+    /// Named numbers, items or named bits in braces. One without a number has its place as number.
     fn named(&mut self, alloc: Global) -> Result<Vec<Named>, Unread> {
         let mut named = Vec::new(alloc);
         if !self.take("{") {

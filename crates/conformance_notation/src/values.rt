@@ -104,7 +104,7 @@ impl Words<'_> {
             Kind::Null if self.take("NULL") => Ok(Value::Null),
             Kind::Int(named) => Ok(Value::Int(self.number_of(named)?)),
             Kind::Enumerated(items) => Ok(Value::Enumerated(number_of(items, self.word())?)),
-            Kind::Bits => Ok(Value::Bits(self.bits(alloc)?)),
+            Kind::Bits(_) => Ok(Value::Bits(self.bits(alloc)?)),
             Kind::Octets => Ok(Value::Octets(self.octets(alloc)?)),
             Kind::Oid => Ok(Value::Oid(self.arcs(alloc)?)),
             Kind::Chars(_) => Ok(Value::Chars(self.characters(alloc)?)),

@@ -61,7 +61,7 @@ fn words_of(kind: &Kind) -> &'static str {
     match kind {
         Kind::Bool => "BOOLEAN",
         Kind::Int(_) => "INTEGER",
-        Kind::Bits => "BIT STRING",
+        Kind::Bits(_) => "BIT STRING",
         Kind::Octets => "OCTET STRING",
         Kind::Null => "NULL",
         Kind::Oid => "OBJECT IDENTIFIER",

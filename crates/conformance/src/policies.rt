@@ -6,7 +6,7 @@ ghost use Rattle.guard_policy.specs.Policies.{message_view, rule_view};
 
 use guard_der::sound;
 use guard_model::{OutOfMemory, Ty};
-use guard_policy::{Effect, Message, Policy, PolicyFault, Rule};
+use guard_policy::{Effect, Message, Policy, PolicyFault, Refused, Rule};
 use std::alloc::{AllocError, Global};
 
 /// Messages and rules that a policy may have.
@@ -86,7 +86,10 @@ impl Draft {
     /// The policy, over modules of these names, or why there is none.
     pub fn policy(self, alloc: Global, modules: Vec<String>) -> Result<Policy, PolicyFault> {
         let Draft { messages, rules } = self;
-        Policy::new(alloc, messages, rules, modules)
+        match Policy::new(alloc, messages, rules, modules) {
+            Ok(policy) => Ok(policy),
+            Err(Refused { fault, .. }) => Err(fault),
+        }
     }
 }
 

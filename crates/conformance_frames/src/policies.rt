@@ -6,7 +6,7 @@ ghost use Rattle.guard_der.specs.Sound.{is_sound};
 use conformance_notation::{Unread, type_of};
 use guard_der::sound;
 use guard_model::{OutOfMemory, Ty};
-use guard_policy::{Effect, Message, Policy, PolicyFault, Rule};
+use guard_policy::{Effect, Message, Policy, PolicyFault, Refused, Rule};
 use std::alloc::Global;
 
 /// What the rows write of a policy.
@@ -78,7 +78,10 @@ fn one_rule(
     modules.push(module)?;
     match Policy::new(alloc, messages, rules, modules) {
         Ok(policy) => Ok(Some(policy)),
-        Err(PolicyFault::OutOfMemory) => Err(OutOfMemory),
+        Err(Refused {
+            fault: PolicyFault::OutOfMemory,
+            ..
+        }) => Err(OutOfMemory),
         Err(_) => Ok(None),
     }
 }

@@ -3,7 +3,6 @@ use Rattle.std.proofs.Common.{◌≡◌, ℕ, suc, ◌+◌, List, ◌∷◌, Boo
 use Rattle.std.specs.Option.{option_or}
 use Rattle.guard_policy.specs.declared.entry.Entry.TheVariants as place
 use Rattle.guard_policy.specs.declared.fault.PolicyFault.{PolicyFault}
-use Rattle.guard_policy.specs.declared.policy.Policy.{Policy}
 use Rattle.guard_policy.specs.Answers.{Meets}
 use Rattle.guard_policy.specs.EntryFaults.{is_well_named, messages_misnamed, rules_misnamed}
 use Rattle.guard_policy.specs.Names.{is_name}
@@ -12,7 +11,7 @@ use Rattle.guard_policy.specs.PolicyFaults.{AbstractFault, bad_name, unless, nam
 
 -- ---- one after another
 
-pub meets_second : (first second : Option AbstractFault) (result : Result Policy PolicyFault) → first ≡ None → Meets second result → Meets (option_or first second) result
+pub meets_second : {T : Type 0} (first second : Option AbstractFault) (result : Result T PolicyFault) → first ≡ None → Meets second result → Meets (option_or first second) result
 meets_second first second (Ok p) none h = ap (λ (o : Option AbstractFault). option_or o second) none ∙ h
 meets_second first second (Err e) none h = second_named first second (named e) none h
   where

@@ -81,6 +81,10 @@ tables_fault rules number [] = None
 tables_fault rules number (m ∷ ms) =
     option_or (option_map (bad_table number) (first_fault m.ty (types_for m.name rules))) (tables_fault rules (suc number) ms)
 
+-- Why messages and rules, of sound types, make no policy: a name that is none, or else the types of a message that make no table.
+abbrev pub parts_fault : List AbstractMessage → List AbstractRule → Option AbstractFault
+parts_fault messages rules = option_or (misnamed messages rules) (tables_fault rules 1 messages)
+
 -- ---- all of it
 
 -- The first fault of a document: of the top, of each message, of each rule, of each message's table.

@@ -36,7 +36,7 @@ mod verdict;
 pub use entry::{Entry, Key};
 pub use fault::PolicyFault;
 pub use files::module_files;
-pub use policy::{Effect, Message, Policy, Rule};
+pub use policy::{Effect, Message, Policy, Refused, Rule};
 pub use route::{Route, is_name};
 pub use types::Types;
 pub use verdict::Verdict;

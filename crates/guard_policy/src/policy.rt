@@ -1,8 +1,11 @@
 //! The messages and rules of a policy.
-ghost use Rattle.std.specs.Prelude.{◌≡◌, map, option_map};
+ghost use Rattle.std.specs.Prelude.{◌≡◌, All, IsTrue, IfOk, None, map, option_map};
 ghost use Rattle.std.proofs.Props.{props};
 ghost use Rattle.guard_model.specs.TypeView.{type_view};
+ghost use Rattle.guard_der.specs.Sound.{is_sound};
+ghost use Rattle.guard_policy.specs.Answers.{Meets};
 ghost use Rattle.guard_policy.specs.Consistency.{IsConsistent};
+ghost use Rattle.guard_policy.specs.EntryFaults.{tables_fault, parts_fault};
 ghost use Rattle.guard_policy.specs.Policies.{message_view, rule_view};
 ghost use Rattle.guard_policy.specs.Listings.{IsIndex};
 
@@ -45,6 +48,15 @@ pub struct Rule {
     pub ty: Ty,
 }
 
+/// What was given for a policy, and why there is none.
+#[derive(Drop)]
+pub struct Refused {
+    pub fault: PolicyFault,
+    pub messages: Vec<Message>,
+    pub rules: Vec<Rule>,
+    pub modules: Vec<String>,
+}
+
 /// A policy over a schema: messages and rules in file order, and the names of the schema's modules. All types are sound, and those of a message
 /// and its rules make a table: no rule's type has other tags or another base than the declared type of its message.
 #[derive(Drop)]
@@ -58,12 +70,12 @@ pub struct Policy {
 }
 
 impl Policy {
-    ghost use Rattle.std.specs.Prelude.{string_bytes, length, All, IsTrue, IfOk, List, ℕ};
+    ghost use Rattle.std.specs.Prelude.{string_bytes, length, All, IsTrue, IfOk, IfErr, IfSome, None, Some, List, ℕ};
     ghost use Rattle.guard_model.specs.AbstractType.{AbstractType};
     ghost use Rattle.guard_der.specs.Sound.{is_sound};
     ghost use Rattle.guard_policy.specs.Answers.{Meets};
-    ghost use Rattle.std.specs.Option.{option_or};
-    ghost use Rattle.guard_policy.specs.EntryFaults.{misnamed, tables_fault};
+    ghost use Rattle.guard_policy.specs.EntryFaults.{tables_fault, parts_fault};
+    ghost use Rattle.guard_policy.specs.PolicyFaults.{named};
     ghost use Rattle.guard_policy.specs.PolicyView.{policy_view};
     ghost use Rattle.guard_policy.specs.Policies.{declared_type, rule_name_of, module_name};
     ghost use Rattle.guard_policy.specs.Listings.{numbers_for};
@@ -71,14 +83,14 @@ impl Policy {
     /// A policy of these messages and rules, over a schema whose modules have these names.
     ///
     /// It refuses with BadName for the first message, and then for the first rule, a name of which is none; and then with Table, and the number
-    /// of the first message whose type and those of its rules make no table. OutOfMemory may stand in place of any answer. What was given is
-    /// dropped where it refuses.
+    /// of the first message whose type and those of its rules make no table. OutOfMemory may stand in place of any answer. A refusal hands back
+    /// what was given.
     pub fn new(
         alloc: Global,
         messages: Vec<Message>,
         rules: Vec<Rule>,
         modules: Vec<String>,
-    ) -> Result<Policy, PolicyFault>
+    ) -> Result<Policy, Refused>
         requires messages_sound { All (λ m. IsTrue (is_sound m.ty)) (map message_view messages.items) }
         requires rules_sound { All (λ r. IsTrue (is_sound r.ty)) (map rule_view rules.items) }
         ensures made { IfOk result (λ p. policy_view p ≡ record {
@@ -86,11 +98,24 @@ impl Policy {
           rules = map rule_view rules.items;
           modules = map string_bytes modules.items;
         }) }
-        ensures met { Meets (option_or (misnamed (map message_view messages.items) (map rule_view rules.items))
-            (tables_fault (map rule_view rules.items) 1 (map message_view messages.items))) result }
+        ensures faultless { IfOk result (λ p. parts_fault (map message_view messages.items) (map rule_view rules.items) ≡ None) }
+        ensures refused { IfErr result (λ r. IfSome (named r.fault) (λ f. parts_fault (map message_view messages.items) (map rule_view rules.items) ≡ Some f)) }
+        ensures back { IfErr result (λ r. (r.messages ≡ messages) × (r.rules ≡ rules) × (r.modules ≡ modules)) }
     {
-        check_names(&messages, &rules)?;
-        Policy::of_named(alloc, messages, rules, modules)
+        match indexed(alloc, &messages, &rules) {
+            Ok(index) => Ok(Policy {
+                messages,
+                rules,
+                modules,
+                index,
+            }),
+            Err(fault) => Err(Refused {
+                fault,
+                messages,
+                rules,
+                modules,
+            }),
+        }
     }
 
     /// A policy of messages and rules whose names were looked at.
@@ -112,8 +137,7 @@ impl Policy {
         }) }
         ensures met { Meets (tables_fault (map rule_view rules.items) 1 (map message_view messages.items)) result }
     {
-        check_tables(alloc, &messages, &rules)?;
-        let index = Index::of(alloc, &messages, &rules)?;
+        let index = tabled(alloc, &messages, &rules)?;
         Ok(Policy {
             messages,
             rules,
@@ -200,4 +224,27 @@ impl Policy {
             Err(DecodeFault::OutOfMemory) => Err(OutOfMemory),
         }
     }
+}
+
+/// The index of messages and rules, where all their names are names and the types of each message and its rules make a table.
+fn indexed(alloc: Global, messages: &[Message], rules: &[Rule]) -> Result<Index, PolicyFault>
+    requires messages_sound { All (λ m. IsTrue (is_sound m.ty)) (map message_view messages.now) }
+    requires rules_sound { All (λ r. IsTrue (is_sound r.ty)) (map rule_view rules.now) }
+    ensures met { Meets (parts_fault (map message_view messages.now) (map rule_view rules.now)) result }
+    ensures tables { IfOk result (λ index. tables_fault (map rule_view rules.now) 1 (map message_view messages.now) ≡ None) }
+    ensures index { IfOk result (IsIndex (map message_view messages.now) (map rule_view rules.now)) }
+{
+    check_names(messages, rules)?;
+    tabled(alloc, messages, rules)
+}
+
+/// The index of messages and rules, where the types of each message and its rules make a table.
+fn tabled(alloc: Global, messages: &[Message], rules: &[Rule]) -> Result<Index, PolicyFault>
+    requires messages_sound { All (λ m. IsTrue (is_sound m.ty)) (map message_view messages.now) }
+    requires rules_sound { All (λ r. IsTrue (is_sound r.ty)) (map rule_view rules.now) }
+    ensures met { Meets (tables_fault (map rule_view rules.now) 1 (map message_view messages.now)) result }
+    ensures index { IfOk result (IsIndex (map message_view messages.now) (map rule_view rules.now)) }
+{
+    check_tables(alloc, messages, rules)?;
+    Ok(Index::of(alloc, messages, rules)?)
 }

@@ -6,6 +6,6 @@ use Rattle.guard_policy.proofs.policy.Policy.of_named.Goals as goal
 pub invariant_of-result : goal.invariant_of-result
 invariant_of-result c = record {
   consistent = consistent (map message_view c.args.messages.items) (map rule_view c.args.rules.items) c.requires.messages_sound c.requires.rules_sound
-      (rw c.deref-2.ensures.value at (rw c.deref.ensures.value at c.in_ok-check_tables.ensures));
-  indexed = rw c.deref-4.ensures.value at (rw c.deref-3.ensures.value at c.in_ok-index.ensures);
+      (rw c.deref-2.ensures.value at (rw c.deref.ensures.value at c.in_ok-index.ensures.met));
+  indexed = rw c.deref-2.ensures.value at (rw c.deref.ensures.value at c.in_ok-index.ensures.index);
 }

@@ -1,5 +1,5 @@
-//! Sources and sinks in memory that fail when they are told to. Their failures are what is tried: of the octets they tell nothing to the
-//! prover, and what was taken is compared when they run.
+//! Sources and sinks in memory that fail where they are made to. Their failures are what is tried: the prover is given
+//! nothing of their octets, and what was taken is compared when they run.
 ghost use Rattle.std.specs.Prelude.{None, ◌^◌, ◌-◌};
 
 use guard_frames::{Failed, Kept, Sink, Source};

@@ -3,7 +3,7 @@
 //! | question | file |
 //! |---|---|
 //! | what answers the rows | `streams.rt`, `texts.rt` |
-//! | which messages pass there | `signs.rt` (`Signs`), `policies.rt` |
+//! | which messages go there | `signs.rt` (`Signs`), `policies.rt` |
 //! | which source gives the stream, and which sinks take the outputs | `devices.rt` (`Pieces`, `Room`) |
 //! | how a file of rows is read and compared | the crate `conformance_rows` |
 #![tactic(auto)]

@@ -3,30 +3,33 @@ ghost use Rattle.std.specs.Prelude.{◌≡◌, true, IfOk};
 ghost use Rattle.guard_frames.specs.Bodies.{body_view};
 ghost use Rattle.conformance_frames.specs.Signs.{begins_with, is_marked, denied_line};
 
-use guard_frames::{Body, Decide, Ruling};
+use guard_frames::{Body, Decide, Report, Ruling};
 use guard_model::OutOfMemory;
 use itoa::Buffer;
 use std::alloc::Global;
 
-/// A message that begins with `+` passes. Of one that begins with `?` it says that there is no memory to decide it.
+/// A message that begins with `+` goes. Of one that begins with `?` it says that there is no memory to decide it.
 #[derive(Clone, Copy)]
 pub struct Signs;
 
 impl Decide for Signs {
     ghost decides = { λ _. record {
-      Passes = λ b. is_marked b.message ≡ true;
+      Goes = λ b. is_marked b.message ≡ true;
       Reports = λ n b text. text ≡ denied_line n b;
       takes_memory = true;
     } };
 
-    fn decide(&self, alloc: Global, number: u64, body: &Body) -> Result<Ruling, OutOfMemory> {
+    fn decide(&self, alloc: Global, number: u64, body: &Body) -> Ruling {
         if begins_with(b'?', body.message) {
-            return Err(OutOfMemory);
+            return Ruling::Stays(Report::NoMemory);
         }
         if begins_with(b'+', body.message) {
-            return Ok(Ruling::Pass);
+            return Ruling::Goes;
         }
-        Ok(Ruling::Stop(denied_line(alloc, number, body)?))
+        match denied_line(alloc, number, body) {
+            Ok(line) => Ruling::Stays(Report::Line(line)),
+            Err(_) => Ruling::Stays(Report::NoMemory),
+        }
     }
 }
 

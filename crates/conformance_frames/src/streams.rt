@@ -19,11 +19,13 @@ enum Asked {
     Pieces(usize),
     /// The same of a run on each stream in two pieces, or where two of them differ.
     EachCut,
-    /// How many runs end with F2 where the sink for frames fails after so many octets, for each number, with what the first frames report.
+    /// How many runs end with F2 where the sink for frames fails after so many octets, for each number, with what the
+    /// first frames report.
     EachOut,
     /// The same where the sink for reports fails, with what the first frames put.
     EachReport,
-    /// How many runs end with F5 where the source fails after so many octets, for each number, with the outputs of those octets.
+    /// How many runs end with F5 where the source fails after so many octets, for each number, with the outputs of
+    /// those octets.
     EachRead,
     /// How a run ends through a reader and writers of std, and what comes out.
     Through,
@@ -33,8 +35,10 @@ enum Asked {
     Left,
     /// How runs end where a reader or a writer of std answers an error.
     Errors,
-    /// What a link answers to the stream, to one more octet, and to its end, twice.
+    /// What a link answers to the stream, to one more octet, to its end, twice, and to one more octet.
     Link,
+    /// The same where the sink for frames has no room.
+    FullLink,
     /// What a sink in memory holds when it took the octets, and when it was emptied.
     Kept,
 }
@@ -273,7 +277,8 @@ fn through(alloc: Global, stream: &[u8]) -> Result<String, AllocError> {
     text_of_run(alloc, end, &out.inner, &reports.inner)
 }
 
-/// How a run ends, what the writer with room for ten octets holds, what is reported, and whether the source and the sinks have failed.
+/// How a run ends, what the writer with room for ten octets holds, what is reported, and whether the source and the
+/// sinks have failed.
 fn into_ten(alloc: Global, stream: &[u8]) -> Result<String, AllocError> {
     let mut room = [b'.'; 10];
     let mut source = Through::new(stream);
@@ -299,7 +304,8 @@ fn left(alloc: Global, stream: &[u8]) -> Result<String, AllocError> {
     format!(in alloc; "{text} {}", source.left().len())
 }
 
-/// How a run ends whose reader ends with an error, and one whose writer for frames answers one, and whether the source and the sinks have failed.
+/// How a run ends whose reader ends with an error, and one whose writer for frames answers one, and whether the source
+/// and the sinks have failed.
 fn errors(alloc: Global, stream: &[u8]) -> Result<String, AllocError> {
     let mut source = Through::new(Breaking(stream));
     let mut out = Through::new(Vec::new(alloc));
@@ -341,19 +347,20 @@ fn kept(alloc: Global, octets: &[u8]) -> Result<String, AllocError> {
     format!(in alloc; "<{once}> <{twice}> <{emptied}> {}", Sink::failed(&sink))
 }
 
-/// What a link answers to the stream, to one more octet, and to its end, twice.
-fn of_link(alloc: Global, stream: &[u8]) -> Result<String, AllocError> {
+/// What a link answers to the stream, to one more octet, to its end, twice, and to one more octet.
+fn of_link(alloc: Global, stream: &[u8], out: Room) -> Result<String, AllocError> {
     let Ok(mut link) = Link::new(alloc) else {
         return String::from_str(alloc, "no link");
     };
-    let mut out = Room::ample(alloc);
+    let mut out = out;
     let mut reports = Room::ample(alloc);
     let fed = link.feed(alloc, &Signs, stream, &mut out, &mut reports);
     let more = link.feed(alloc, &Signs, b"\0", &mut out, &mut reports);
     let ended = link.end();
     let again = link.end();
+    let late = link.feed(alloc, &Signs, b"\0", &mut out, &mut reports);
     let mut text = String::new(alloc);
-    for answer in [fed, more, ended, again] {
+    for answer in [fed, more, ended, again, late] {
         add_answer(&mut text, answer)?;
     }
     Ok(text)
@@ -389,7 +396,8 @@ impl Layer for Streams {
             Asked::EachRead => each_read(alloc, by, input),
             Asked::Through => through(alloc, input),
             Asked::Ten => into_ten(alloc, input),
-            Asked::Link => of_link(alloc, input),
+            Asked::Link => of_link(alloc, input, Room::ample(alloc)),
+            Asked::FullLink => of_link(alloc, input, Room::new(alloc, usize::MAX, 0)),
             Asked::Left => left(alloc, input),
             Asked::Errors => errors(alloc, input),
             Asked::Kept => kept(alloc, input),
@@ -397,7 +405,8 @@ impl Layer for Streams {
     }
 
     /// `@ask run`, `@ask each cut`, `@ask each out`, `@ask each report`, `@ask each read`, `@ask through`,
-    /// `@ask ten`, `@ask left`, `@ask errors`, `@ask link`, `@ask kept`; `@pieces SIZE`. A policy decides the rows behind `@message` and `@rule`.
+    /// `@ask ten`, `@ask left`, `@ask errors`, `@ask link`, `@ask full link`, `@ask kept`; `@pieces SIZE`. A policy
+    /// decides the rows after `@message` and `@rule`.
     fn set(&mut self, alloc: Global, name: &str, text: &[u8]) -> Result<String, AllocError> {
         match name {
             "message" => return self.declare(alloc, text_of(text)),
@@ -413,6 +422,7 @@ impl Layer for Streams {
             ("ask", "through") => Asked::Through,
             ("ask", "ten") => Asked::Ten,
             ("ask", "link") => Asked::Link,
+            ("ask", "full link") => Asked::FullLink,
             ("ask", "left") => Asked::Left,
             ("ask", "errors") => Asked::Errors,
             ("ask", "kept") => Asked::Kept,

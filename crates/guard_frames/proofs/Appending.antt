@@ -5,6 +5,7 @@ use Rattle.std.specs.Io.KnownBytes.{Appends, Keeps}
 use Rattle.std.proofs.lemmas.Grind.{common_steps}
 use Rattle.std.proofs.Math.Seq.{take-add}
 use Rattle.std.proofs.lemmas.List.{take_rest, take-append-drop}
+use Rattle.guard_frames.specs.Added.{Added, nothing, BothAppend}
 use Rattle.guard_frames.specs.Prefix.{IsProperPrefix}
 
 pub Appends_none : (a : Option (List ℕ)) → Appends a a []
@@ -53,3 +54,33 @@ Prefix_second part first second h = record {
   joined = append_assoc first part h.more ∙ ap (λ x. first ++ x) h.joined;
   missing = h.missing;
 }
+
+-- ---- both sinks
+
+-- what was added first and then, and what was added to one of the two
+abbrev pub joined : Added → Added → Added
+joined a b = record { out = a.out ++ b.out; reports = a.reports ++ b.reports }
+
+abbrev pub sent_more : Added → List ℕ → Added
+sent_more a s = record { out = a.out ++ s; reports = a.reports }
+
+abbrev pub reported_more : Added → List ℕ → Added
+reported_more a s = record { out = a.out; reports = a.reports ++ s }
+
+pub both_none : (o r : Option (List ℕ)) → BothAppend (o, o) (r, r) nothing
+both_none o r = record { sent = Appends_none o; reported = Appends_none r }
+
+pub both_joined : (o o₁ o₂ r r₁ r₂ : Option (List ℕ)) (a b : Added) → BothAppend (o, o₁) (r, r₁) a →
+    BothAppend (o₁, o₂) (r₁, r₂) b → BothAppend (o, o₂) (r, r₂) (joined a b)
+both_joined o o₁ o₂ r r₁ r₂ a b h k = record {
+  sent = Appends_trans o o₁ o₂ a.out b.out h.sent k.sent;
+  reported = Appends_trans r r₁ r₂ a.reports b.reports h.reported k.reported;
+}
+
+pub both_sent : (o o₁ o₂ r r₁ : Option (List ℕ)) (a : Added) (s : List ℕ) → BothAppend (o, o₁) (r, r₁) a →
+    Appends o₁ o₂ s → BothAppend (o, o₂) (r, r₁) (sent_more a s)
+both_sent o o₁ o₂ r r₁ a s h p = record { sent = Appends_trans o o₁ o₂ a.out s h.sent p; reported = h.reported }
+
+pub both_reported : (o o₁ r r₁ r₂ : Option (List ℕ)) (a : Added) (s : List ℕ) → BothAppend (o, o₁) (r, r₁) a →
+    Appends r₁ r₂ s → BothAppend (o, o₁) (r, r₂) (reported_more a s)
+both_reported o o₁ r r₁ r₂ a s h p = record { sent = h.sent; reported = Appends_trans r r₁ r₂ a.reports s h.reported p }

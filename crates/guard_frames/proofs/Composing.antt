@@ -1,132 +1,85 @@
 -- Feeding a stream after some of its frames were decided.
-use Rattle.std.proofs.Common.{◌≡◌, ◌<◌, ℕ, ◌^◌, List, ◌++◌, ◌∙◌, ap, sym, subst, drop, length, inl, inr, append_assoc, length-append, arith}
-use Rattle.std.specs.Prelude.{Option}
+use Rattle.std.proofs.Common.{◌≡◌, ℕ, List, ◌++◌, ◌∙◌, ap, sym, subst, length, append_assoc, length-append, arith}
+use Rattle.std.specs.Prelude.{Result, Ok, Err}
 use Rattle.std.specs.List.{concat, All}
-use Rattle.std.proofs.lemmas.List.{take-append-drop}
 use Rattle.std.proofs.lemmas.List.Elements.{All-append}
 use Rattle.std.proofs.lemmas.List.Folds.{concat-append}
-use Rattle.guard_frames.specs.Frames.{IsFrame, IsTooLong, ConsistsOf}
-use Rattle.guard_frames.specs.Cut.{IsRest}
+use Rattle.guard_frames.specs.Frames.{IsFrame, ConsistsOf}
 use Rattle.guard_frames.specs.declared.totals.Totals.{Totals}
 use Rattle.guard_frames.specs.Totals.{later, next_number, counted}
 use Rattle.guard_frames.specs.Outcomes.{Decision, Outcome, frames_of}
-use Rattle.guard_frames.specs.Guarding.{text_out, AllAdd, InPart}
-use Rattle.guard_frames.specs.IntoSinks.{BothTook, AfterFailure, TakesAll, TakesUntilTooLong}
-use Rattle.guard_frames.specs.Decided.{Decided, IsDecided}
-use Rattle.guard_frames.specs.declared.deciding.Whole.{Whole}
-use Rattle.guard_frames.specs.declared.cut.Rest.TheVariants.{Unfinished, TooLong}
-use Rattle.guard_frames.proofs.Appending.{Appends_trans, Appends_is}
+use Rattle.guard_frames.specs.Added.{Added}
+use Rattle.guard_frames.specs.Guarding.{text_out, AllAdd, InPart, BreaksOff}
+use Rattle.guard_frames.specs.Feeding.{Decides, Takes}
+use Rattle.guard_frames.specs.LinkView.{AbstractLink}
+use Rattle.guard_frames.specs.declared.link.LinkFault.{LinkFault}
+use Rattle.guard_frames.specs.declared.link.LinkFault.TheVariants.{FrameTooLong, WriteFailed, Closed, TornFrame}
+use Rattle.guard_frames.proofs.Appending.{joined}
 use Rattle.guard_frames.proofs.Counting.{later_later, counted-append}
-use Rattle.guard_frames.proofs.Went.{frames_of-append, text_out-append}
+use Rattle.guard_frames.proofs.Going.{frames_of-append, text_out-append}
 use Rattle.guard_frames.proofs.Progress.{AllAdd-append, number_after}
+use Rattle.guard_frames.proofs.Readings.{any_cut}
 
-pub BothTook-append : (d : Decision) (n : ℕ) (os ps : List Outcome) (o o₁ o₂ r r₁ r₂ : Option (List ℕ)) → n < 2 ^ 64 →
-    BothTook d n os o o₁ r r₁ → BothTook d (later n (length os)) ps o₁ o₂ r₁ r₂ → BothTook d n (os ++ ps) o o₂ r r₂
-BothTook-append d n os ps o o₁ o₂ r r₁ r₂ fits x y = record {
-  sent = Appends_is o o₂ (text_out os ++ text_out ps) (text_out (os ++ ps)) (sym (text_out-append os ps))
-      (Appends_trans o o₁ o₂ (text_out os) (text_out ps) x.sent y.sent);
-  text = x.text ++ y.text;
-  lines = AllAdd-append d n os ps x.text y.text fits x.lines y.lines;
-  reported = Appends_trans r r₁ r₂ x.text y.text x.reported y.reported;
-}
+text_joined : (os ps : List Outcome) (s t : List ℕ) → s ≡ text_out os → t ≡ text_out ps → s ++ t ≡ text_out (os ++ ps)
+text_joined os ps s t p q = ap (λ x. x ++ t) p ∙ ap (λ x. text_out os ++ x) q ∙ sym (text_out-append os ps)
 
-joined_after : (os ps : List Outcome) (s t more : List ℕ) → s ≡ concat (frames_of os) → t ≡ concat (frames_of ps) ++ more →
-    s ++ t ≡ concat (frames_of (os ++ ps)) ++ more
-joined_after os ps s t more p q =
-    rw (p, q, frames_of-append os ps, concat-append (frames_of os) (frames_of ps))
-    (sym (append_assoc (concat (frames_of os)) (concat (frames_of ps)) more))
+-- the frames of a stream were decided, and then those of its rest with a piece after it
+pub decides_on : (d : Decision) (n m k : Totals) (s held piece rest : List ℕ) (a b : Added) → Decides d n s held m a → Decides d m (held ++ piece) rest k b →
+    Decides d n (s ++ piece) rest k (joined a b)
+decides_on d n m k s held piece rest a b x y =
+    let os : List Outcome = x.outcomes in
+    let ps : List Outcome = y.outcomes in
+    let lines : AllAdd (λ _. d) (later (next_number n) (length os)) ps b.reports =
+    subst (λ (j : ℕ). AllAdd (λ _. d) j ps b.reports) (number_after n m os x.totals) y.reports in
+    record {
+      outcomes = os ++ ps;
+      split = subst (λ (fs : List (List ℕ)). ConsistsOf (s ++ piece) fs rest) (sym (frames_of-append os ps))
+          (any_cut s piece (frames_of os) (frames_of ps) held rest x.split y.split);
+      out = text_joined os ps a.out b.out x.out y.out;
+      reports = AllAdd-append d (next_number n) os ps a.reports b.reports (omega arith) x.reports lines;
+      totals = y.totals ∙ ap (λ j. counted j ps) x.totals ∙ counted-append n os ps;
+    }
 
-each_after : (os ps : List Outcome) → All IsFrame (frames_of os) → All IsFrame (frames_of ps) → All IsFrame (frames_of (os ++ ps))
-each_after os ps p q = subst (All IsFrame) (sym (frames_of-append os ps)) (All-append IsFrame (frames_of os) (frames_of ps) p q)
+begins_on : (os ps : List Outcome) (s held piece more : List ℕ) → s ≡ concat (frames_of os) ++ held → held ++ piece ≡ concat (frames_of ps) ++ more →
+    s ++ piece ≡ concat (frames_of (os ++ ps)) ++ more
+begins_on os ps s held piece more p q =
+    ap (λ x. x ++ piece) p ∙ append_assoc (concat (frames_of os)) held piece ∙ ap (λ x. concat (frames_of os) ++ x) q
+    ∙ sym (append_assoc (concat (frames_of os)) (concat (frames_of ps)) more)
+    ∙ ap (λ x. x ++ more) (sym (concat-append (frames_of os) (frames_of ps)) ∙ ap concat (sym (frames_of-append os ps)))
 
-pub split_after : (d : Decision) (n m : Totals) (s t rest : List ℕ) (os ps : List Outcome) (o o₁ r r₁ : Option (List ℕ)) →
-    Decided d n m s os o o₁ r r₁ → ConsistsOf t (frames_of ps) rest → ConsistsOf (s ++ t) (frames_of (os ++ ps)) rest
-split_after d n m s t rest os ps o o₁ r r₁ x y = record {
-  whole = joined_after os ps s t rest x.whole y.whole;
-  each = each_after os ps x.each y.each;
-  left = y.left;
-}
-
-passed_after : (d : Decision) (n m : Totals) (s : List ℕ) (os ps : List Outcome) (o o₁ o₂ r r₁ r₂ : Option (List ℕ)) →
-    Decided d n m s os o o₁ r r₁ → BothTook d (next_number m) ps o₁ o₂ r₁ r₂ → BothTook d (next_number n) (os ++ ps) o o₂ r r₂
-passed_after d n m s os ps o o₁ o₂ r r₁ r₂ x y =
-    let y₁ : BothTook d (later (next_number n) (length os)) ps o₁ o₂ r₁ r₂ =
-    subst (λ (k : ℕ). BothTook d k ps o₁ o₂ r₁ r₂) (number_after d n m s os o o₁ r r₁ x) y in
-    BothTook-append d (next_number n) os ps o o₁ o₂ r r₁ r₂ (omega arith) x.passed y₁
-
-pub all_after : (d : Decision) (n m : Totals) (s t : List ℕ) (totals : Totals) (held : List ℕ) (os : List Outcome) (o o₁ o₂ r r₁ r₂ : Option (List ℕ)) →
-    Decided d n m s os o o₁ r r₁ → TakesAll d m t totals held o₁ o₂ r₁ r₂ → TakesAll d n (s ++ t) totals held o o₂ r r₂
-all_after d n m s t totals held os o o₁ o₂ r r₁ r₂ x y = record {
-  outcomes = os ++ y.outcomes;
-  split = split_after d n m s t held os y.outcomes o o₁ r r₁ x y.split;
-  rest = y.rest;
-  passed = passed_after d n m s os y.outcomes o o₁ o₂ r r₁ r₂ x y.passed;
-  totals = y.totals ∙ ap (λ k. counted k y.outcomes) x.totals ∙ counted-append n os y.outcomes;
-}
-
-pub too_long_after : (d : Decision) (n m : Totals) (s t : List ℕ) (totals : Totals) (os : List Outcome) (o o₁ o₂ r r₁ r₂ : Option (List ℕ)) →
-    Decided d n m s os o o₁ r r₁ → TakesUntilTooLong d m t totals o₁ o₂ r₁ r₂ → TakesUntilTooLong d n (s ++ t) totals o o₂ r r₂
-too_long_after d n m s t totals os o o₁ o₂ r r₁ r₂ x y = record {
-  outcomes = os ++ y.outcomes;
-  rest = y.rest;
-  split = split_after d n m s t y.rest os y.outcomes o o₁ r r₁ x y.split;
-  too_long = y.too_long;
-  passed = passed_after d n m s os y.outcomes o o₁ o₂ r r₁ r₂ x y.passed;
-  totals = y.totals ∙ ap (λ k. counted k y.outcomes) x.totals ∙ counted-append n os y.outcomes;
-}
-
-pub failure_after : (d : Decision) (n m : Totals) (s t : List ℕ) (os : List Outcome) (o o₁ o₂ r r₁ r₂ : Option (List ℕ)) →
-    Decided d n m s os o o₁ r r₁ → AfterFailure d (next_number m) t o₁ o₂ r₁ r₂ → AfterFailure d (next_number n) (s ++ t) o o₂ r r₂
-failure_after d n m s t os o o₁ o₂ r r₁ r₂ x y =
-    let z = y.stopped in
+-- and a sink failed at them
+pub breaks_on : (d : Decision) (n m : Totals) (s held piece : List ℕ) (a b : Added) → Decides d n s held m a → BreaksOff (λ _. d) (next_number m) (held ++ piece) b →
+    BreaksOff (λ _. d) (next_number n) (s ++ piece) (joined a b)
+breaks_on d n m s held piece a b x z =
+    let os : List Outcome = x.outcomes in
     let k : ℕ = next_number n in
-    let after = number_after d n m s os o o₁ r r₁ x in
-    let lines : AllAdd d (later k (length os)) z.first z.text = subst (λ (j : ℕ). AllAdd d j z.first z.text) after z.lines in
+    let after : next_number m ≡ later k (length os) = number_after n m os x.totals in
+    let all : AllAdd (λ _. d) (later k (length os)) z.first z.lines = subst (λ (j : ℕ). AllAdd (λ _. d) j z.first z.lines) after z.all in
     let number : later (next_number m) (length z.first) ≡ later k (length (os ++ z.first)) =
     ap (λ j. later j (length z.first)) after ∙ rw (length-append os z.first) (later_later k (length os) (length z.first)) in
     record {
-      sent = text_out os ++ y.sent;
-      reported = x.passed.text ++ y.reported;
-      out = Appends_trans o o₁ o₂ (text_out os) y.sent x.passed.sent y.out;
-      reports = Appends_trans r r₁ r₂ x.passed.text y.reported x.passed.reported y.reports;
-      stopped = record {
-        first = os ++ z.first;
-        next = z.next;
-        more = z.more;
-        begins = joined_after os z.first s t (z.next ++ z.more) x.whole z.begins;
-        each = each_after os z.first x.each z.each;
-        frame = z.frame;
-        text = x.passed.text ++ z.text;
-        lines = AllAdd-append d k os z.first x.passed.text z.text (omega arith) x.passed.lines lines;
-        part = z.part;
-        told = z.told;
-        last = subst (λ (j : ℕ). InPart d j z.next z.part z.told) number z.last;
-        out = ap (λ a. text_out os ++ a) z.out ∙ sym (append_assoc (text_out os) (text_out z.first) z.part)
-            ∙ ap (λ a. a ++ z.part) (sym (text_out-append os z.first));
-        reports = ap (λ a. x.passed.text ++ a) z.reports ∙ sym (append_assoc x.passed.text z.text z.told);
-      };
+      first = os ++ z.first;
+      next = z.next;
+      more = z.more;
+      begins = begins_on os z.first s held piece (z.next ++ z.more) x.split.whole z.begins;
+      each = subst (All IsFrame) (sym (frames_of-append os z.first)) (All-append IsFrame (frames_of os) (frames_of z.first) x.split.each z.each);
+      frame = z.frame;
+      lines = a.reports ++ z.lines;
+      all = AllAdd-append d k os z.first a.reports z.lines (omega arith) x.reports all;
+      part = z.part;
+      last = subst (λ (j : ℕ). InPart d j z.next z.part) number z.last;
+      out = ap (λ t. a.out ++ t) z.out ∙ sym (append_assoc a.out (text_out z.first) z.part.out)
+          ∙ ap (λ t. t ++ z.part.out) (ap (λ t. t ++ text_out z.first) x.out ∙ sym (text_out-append os z.first));
+      reports = ap (λ t. a.reports ++ t) z.reports ∙ sym (append_assoc a.reports z.lines z.part.reports);
     }
 
--- what `decide` says, as a feed
-pub all_of : (d : Decision) (n : Totals) (end : ℕ) (totals : Totals) (s : List ℕ) (o o₁ r r₁ : Option (List ℕ)) →
-    (x : IsDecided d n s (record { end = end; totals = totals; rest = Unfinished }) o o₁ r r₁) → TakesAll d n s totals (drop end s) o o₁ r r₁
-all_of d n end totals s o o₁ r r₁ x = record {
-  outcomes = x.outcomes;
-  split = record { whole = sym (take-append-drop end s) ∙ ap (λ z. z ++ drop end s) x.decided.whole; each = x.decided.each; left = inl x.next };
-  rest = x.next;
-  passed = x.decided.passed;
-  totals = x.decided.totals;
-}
-
-pub too_long_of : (d : Decision) (n : Totals) (w : Whole) (s : List ℕ) (o o₁ r r₁ : Option (List ℕ)) →
-    IsDecided d n s w o o₁ r r₁ → w.rest ≡ TooLong → TakesUntilTooLong d n s w.totals o o₁ r r₁
-too_long_of d n w s o o₁ r r₁ x is =
-    let long : IsTooLong (drop w.end s) = subst (IsRest (drop w.end s)) is x.next in
-    record {
-      outcomes = x.outcomes;
-      rest = drop w.end s;
-      split = record { whole = sym (take-append-drop w.end s) ∙ ap (λ z. z ++ drop w.end s) x.decided.whole; each = x.decided.each; left = inr long };
-      too_long = long;
-      passed = x.decided.passed;
-      totals = x.decided.totals;
-    }
+-- a link that holds the rest of what it was fed takes one more piece
+pub takes_on : (d : Decision) (n m : Totals) (s held piece : List ℕ) (new : AbstractLink) (result : Result (Unit {0}) LinkFault) (a b : Added) →
+    Decides d n s held m a → Takes d m (held ++ piece) new result b → Takes d n (s ++ piece) new result (joined a b)
+takes_on d n m s held piece new (Ok done) a b x y = (decides_on d n m new.totals s held piece new.held a b x y.0, y.1, y.2)
+takes_on d n m s held piece new (Err FrameTooLong) a b x y =
+    let z = y.0 in
+    (record { rest = z.rest; decided = decides_on d n m new.totals s held piece z.rest a b x z.decided; too_long = z.too_long }, y.1)
+takes_on d n m s held piece new (Err WriteFailed) a b x y = (breaks_on d n m s held piece a b x y.0, y.1)
+takes_on d n m s held piece new (Err Closed) a b x y = absurd y
+takes_on d n m s held piece new (Err TornFrame) a b x y = absurd y

@@ -2,7 +2,7 @@
 use Rattle.std.proofs.Common.{◌≡◌, ◌<◌, ℕ, ◌+◌, ◌^◌, List, [], ◌∷◌, ◌++◌, ◌∙◌, ap, refl, length, Bool, true, false, cond, arith}
 use Rattle.std.specs.List.{filter}
 use Rattle.guard_frames.specs.declared.totals.Totals.{Totals}
-use Rattle.guard_frames.specs.Totals.{later, no_frames, after_passing, after_denying, next_number, counted_one, counted}
+use Rattle.guard_frames.specs.Totals.{later, no_frames, after_going, after_staying, next_number, counted_one, counted}
 use Rattle.guard_frames.specs.Outcomes.{Outcome}
 use Rattle.guard_frames.specs.Guarding.{Counts}
 
@@ -13,17 +13,17 @@ pub counted-append : (t : Totals) (os ps : List Outcome) → counted (counted t 
 counted-append t [] ps = refl
 counted-append t (o ∷ os) ps = counted-append (counted_one t o) os ps
 
-one_numbered : (b : Bool) (t : Totals) → next_number (cond b (after_passing t) (after_denying t)) ≡ later (next_number t) 1
+one_numbered : (b : Bool) (t : Totals) → next_number (cond b (after_going t) (after_staying t)) ≡ later (next_number t) 1
 one_numbered true t = refl
 one_numbered false t = refl
 
--- a number counts all frames before it, those that went and the others
+-- a number counts all frames before it, those that go and the others
 pub numbers_on : (t : Totals) (os : List Outcome) → next_number (counted t os) ≡ later (next_number t) (length os)
 numbers_on t [] = omega arith
 numbers_on t (o ∷ os) =
     let rest : next_number (counted (counted_one t o) os) ≡ later (next_number (counted_one t o)) (length os) = numbers_on (counted_one t o) os in
     let last : later (later (next_number t) 1) (length os) ≡ later (next_number t) (length (o ∷ os)) = omega arith in
-    rest ∙ ap (λ n. later n (length os)) (one_numbered o.went t) ∙ last
+    rest ∙ ap (λ n. later n (length os)) (one_numbered o.goes t) ∙ last
 
 -- ---- how many there are of each kind, from no frames on
 
@@ -31,37 +31,37 @@ frames_counted : (t : Totals) (os : List Outcome) → t.frames < 2 ^ 64 → (cou
 frames_counted t [] fits = omega (arith, fits)
 frames_counted t (o ∷ os) fits =
     let last : later (later t.frames 1) (length os) ≡ later t.frames (length (o ∷ os)) = omega arith in
-    elim o.went as (λ b. (counted (cond b (after_passing t) (after_denying t)) os).frames ≡ later t.frames (length (o ∷ os))) [
-      | true ↦ frames_counted (after_passing t) os (omega arith) ∙ last
-      | false ↦ frames_counted (after_denying t) os (omega arith) ∙ last
+    elim o.goes as (λ b. (counted (cond b (after_going t) (after_staying t)) os).frames ≡ later t.frames (length (o ∷ os))) [
+      | true ↦ frames_counted (after_going t) os (omega arith) ∙ last
+      | false ↦ frames_counted (after_staying t) os (omega arith) ∙ last
     ]
 
 passed_counted : (t : Totals) (os : List Outcome) → t.passed < 2 ^ 64 →
-    (counted t os).passed ≡ later t.passed (length (filter (λ (o : Outcome). o.went) os))
+    (counted t os).passed ≡ later t.passed (length (filter (λ (o : Outcome). o.goes) os))
 passed_counted t [] fits = omega (arith, fits)
 passed_counted t (o ∷ os) fits =
-    let going : List Outcome = filter (λ (o : Outcome). o.went) os in
+    let going : List Outcome = filter (λ (o : Outcome). o.goes) os in
     let last : later (later t.passed 1) (length going) ≡ later t.passed (length (o ∷ going)) = omega arith in
-    elim o.went as (λ b. (counted (cond b (after_passing t) (after_denying t)) os).passed ≡ later t.passed (length (cond b (o ∷ going) going))) [
-      | true ↦ passed_counted (after_passing t) os (omega arith) ∙ last
-      | false ↦ passed_counted (after_denying t) os fits
+    elim o.goes as (λ b. (counted (cond b (after_going t) (after_staying t)) os).passed ≡ later t.passed (length (cond b (o ∷ going) going))) [
+      | true ↦ passed_counted (after_going t) os (omega arith) ∙ last
+      | false ↦ passed_counted (after_staying t) os fits
     ]
 
 denied_counted : (t : Totals) (os : List Outcome) → t.denied < 2 ^ 64 →
-    (counted t os).denied ≡ later t.denied (length (filter (λ (o : Outcome). cond o.went false true) os))
+    (counted t os).denied ≡ later t.denied (length (filter (λ (o : Outcome). cond o.goes false true) os))
 denied_counted t [] fits = omega (arith, fits)
 denied_counted t (o ∷ os) fits =
-    let staying : List Outcome = filter (λ (o : Outcome). cond o.went false true) os in
+    let staying : List Outcome = filter (λ (o : Outcome). cond o.goes false true) os in
     let last : later (later t.denied 1) (length staying) ≡ later t.denied (length (o ∷ staying)) = omega arith in
-    elim o.went as (λ b. (counted (cond b (after_passing t) (after_denying t)) os).denied
+    elim o.goes as (λ b. (counted (cond b (after_going t) (after_staying t)) os).denied
     ≡ later t.denied (length (cond (cond b false true) (o ∷ staying) staying))) [
-      | true ↦ denied_counted (after_passing t) os fits
-      | false ↦ denied_counted (after_denying t) os (omega arith) ∙ last
+      | true ↦ denied_counted (after_going t) os fits
+      | false ↦ denied_counted (after_staying t) os (omega arith) ∙ last
     ]
 
 pub counts : (os : List Outcome) (t : Totals) → t ≡ counted no_frames os → Counts os t
 counts os t e = record {
   all = ap (λ (x : Totals). x.frames) e ∙ frames_counted no_frames os (omega arith);
-  went = ap (λ (x : Totals). x.passed) e ∙ passed_counted no_frames os (omega arith);
-  stayed = ap (λ (x : Totals). x.denied) e ∙ denied_counted no_frames os (omega arith);
+  go = ap (λ (x : Totals). x.passed) e ∙ passed_counted no_frames os (omega arith);
+  stay = ap (λ (x : Totals). x.denied) e ∙ denied_counted no_frames os (omega arith);
 }

@@ -8,7 +8,7 @@ use Rattle.guard_schema.specs.Accepts.{Accepts}
 use Rattle.guard_schema.specs.Schemas.{AbstractSchema}
 use Rattle.guard_schema.specs.Texts.{ReadsTexts}
 
--- each text is one module, behind those before
+-- each text is one module, after those before
 read_count : (before : List WrittenModule) (texts : List (List ℕ)) (modules : List WrittenModule) → ReadsTexts before texts (Ok modules)
     → length modules ≡ length before + length texts
 read_count before [] modules e = rw (same_Ok modules before e) (omega arith)

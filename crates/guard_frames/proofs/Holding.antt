@@ -1,26 +1,31 @@
 -- A frame that came in several pieces.
-use Rattle.std.proofs.Common.{◌≡◌, ◌<◌, ◌≤◌, ◌⊎◌, ℕ, ◌+◌, List, [], ◌∷◌, ◌++◌, ◌∙◌, ap, sym, refl, subst, take, drop, length, false, inl, inr, append_assoc, length-append, length-take, arith}
-use Rattle.std.specs.Prelude.{Option, Result, Ok, Err}
+use Rattle.std.proofs.Common.{◌≡◌, ◌<◌, ◌≤◌, ℕ, ◌+◌, List, [], ◌∷◌, ◌++◌, ◌∙◌, ap, sym, refl, subst, take, drop, length, false, inl, inr, append_assoc, length-append, length-drop, arith}
+use Rattle.std.specs.Prelude.{Result, Ok, Err}
 use Rattle.std.specs.List.{concat}
-use Rattle.std.proofs.lemmas.List.{take-append-drop, take_all, append-nil}
+use Rattle.std.proofs.lemmas.List.{take-append-drop, take_all}
 use Rattle.guard_frames.specs.Frames.{stated_length, IsFrame, IsUnfinished, IsTooLong, ConsistsOf}
-use Rattle.guard_frames.specs.Cut.{IsRest}
+use Rattle.guard_frames.specs.Inner.Cut.{IsRest}
+use Rattle.guard_frames.specs.Inner.Putting.{ArePut}
 use Rattle.guard_frames.specs.declared.cut.Rest.{Rest}
 use Rattle.guard_frames.specs.declared.cut.Rest.TheVariants.{Unfinished, TooLong}
-use Rattle.guard_frames.specs.declared.deciding.Whole.{Whole}
+use Rattle.guard_frames.specs.declared.putting.Whole.{Whole}
 use Rattle.guard_frames.specs.declared.totals.Totals.{Totals}
-use Rattle.guard_frames.specs.Totals.{next_number}
-use Rattle.guard_frames.specs.Outcomes.{Decision, Outcome, frames_of}
-use Rattle.guard_frames.specs.IntoSinks.{AfterFailure, TakesAll, TakesUntilTooLong, Feeds}
-use Rattle.guard_frames.specs.Decided.{Decided, IsDecided}
+use Rattle.guard_frames.specs.Totals.{no_frames, next_number}
+use Rattle.guard_frames.specs.Outcomes.{Decision, frames_of}
+use Rattle.guard_frames.specs.Added.{Added, nothing}
+use Rattle.guard_frames.specs.Guarding.{BreaksOff}
+use Rattle.guard_frames.specs.Feeding.{Decides, DecidesUntilTooLong, Takes}
 use Rattle.guard_frames.specs.LinkView.{AbstractLink}
 use Rattle.guard_frames.specs.declared.link.LinkFault.{LinkFault}
-use Rattle.guard_frames.specs.declared.link.LinkFault.TheVariants.{FrameTooLong, WriteFailed, Closed, TornFrame}
-use Rattle.guard_frames.proofs.Elements.{All_none, All_first, All_more}
-use Rattle.guard_frames.proofs.Progress.{le_or_gt, Decided_none}
+use Rattle.guard_frames.specs.declared.link.LinkFault.TheVariants.{FrameTooLong, WriteFailed}
+use Rattle.guard_frames.specs.Runs.{RunsAll}
+use Rattle.guard_frames.proofs.Appending.{joined}
+use Rattle.guard_frames.proofs.Composing.{takes_on}
+use Rattle.guard_frames.proofs.Elements.{All_none, All_first}
+use Rattle.guard_frames.proofs.Progress.{le_or_gt}
+use Rattle.guard_frames.proofs.Reading.{is_empty_list}
 use Rattle.guard_frames.proofs.Readings.{stated_length-append, too_long-append, any_cut, one_split}
 use Rattle.guard_frames.proofs.Splitting.{a_reading}
-use Rattle.guard_frames.proofs.Composing.{all_after, too_long_after, failure_after}
 
 -- the octets held now and what is left of the piece
 pub held_splits : (h p now : List ℕ) (at : ℕ) → now ≡ h ++ take at p → h ++ p ≡ now ++ drop at p
@@ -38,130 +43,128 @@ no_more_after h x now body most k e header b small room =
     let long : length now ≡ length h + length x = ap length e ∙ length-append h x in
     omega (arith, same, long, b, small, room)
 
-pub keeps_all : (d : Decision) (n : Totals) (h p now : List ℕ) (at : ℕ) (o r : Option (List ℕ)) →
-    now ≡ h ++ take at p → at ≡ length p → IsUnfinished now → TakesAll d n (h ++ p) n now o o r r
-keeps_all d n h p now at o r e all rest =
-    let whole : h ++ p ≡ now = ap (λ x. h ++ x) (sym (take_whole at p all)) ∙ sym e in
+-- ---- held octets that were put
+
+pub not_too_long : (rest : Rest) → (rest ≡ TooLong → ⊥) → rest ≡ Unfinished
+not_too_long Unfinished h = refl
+not_too_long TooLong h = absurd (h refl)
+
+-- where nothing of them is a whole frame, the link holds them with the piece
+pub still_unfinished : (d : Decision) (n : Totals) (w : Whole) (h p now : List ℕ) (used : ℕ) (a : Added) → now ≡ h ++ take used p →
+    (IsUnfinished now → used ≡ length p) → ArePut d n now w a → w.rest ≡ Unfinished → w.end ≡ 0 → Decides d n (h ++ p) now w.totals a × IsUnfinished now
+still_unfinished d n w h p now used a e all x is none =
+    let rest : IsUnfinished (drop w.end now) = subst (IsRest (drop w.end now)) is x.next in
+    let here : drop w.end now ≡ now = ap (λ k. drop k now) none in
+    let rest₁ : IsUnfinished now = subst IsUnfinished here rest in
+    let whole : now ≡ h ++ p = e ∙ ap (λ x. h ++ x) (take_whole used p (all rest₁)) in
+    let decided : Decides d n now now w.totals a = subst (λ (r : List ℕ). Decides d n now r w.totals a) here x.decided in
+    (subst (λ (s : List ℕ). Decides d n s now w.totals a) whole decided, rest₁)
+
+decides_longer : (d : Decision) (n m : Totals) (s rest more : List ℕ) (a : Added) → Decides d n s rest m a → IsTooLong rest → DecidesUntilTooLong d n (s ++ more) m a
+decides_longer d n m s rest more a x long =
+    let long₁ : IsTooLong (rest ++ more) = too_long-append rest more long in
     record {
-      outcomes = [];
-      split = record { whole = whole; each = All_none IsFrame; left = inl rest };
-      rest = rest;
-      passed = (Decided_none d n o r).passed;
-      totals = refl;
-    }
-
-pub too_long_now : (d : Decision) (n : Totals) (h p now : List ℕ) (at : ℕ) (o r : Option (List ℕ)) →
-    now ≡ h ++ take at p → IsTooLong now → TakesUntilTooLong d n (h ++ p) n o o r r
-too_long_now d n h p now at o r e long =
-    let long₁ : IsTooLong (h ++ p) = subst IsTooLong (sym (held_splits h p now at e)) (too_long-append now (drop at p) long) in
-    record {
-      outcomes = [];
-      rest = h ++ p;
-      split = record { whole = refl; each = All_none IsFrame; left = inr long₁ };
-      too_long = long₁;
-      passed = (Decided_none d n o r).passed;
-      totals = refl;
-    }
-
--- held octets that begin with a frame and have no more than one are that frame
-pub is_whole : (now : List ℕ) (k : ℕ) → k ≤ length now → IsFrame (take k now) →
-    (4 ≤ length now → stated_length now ≤ 1048576 → length now ≤ stated_length now + 4) → IsFrame now
-is_whole now k within frame no_more =
-    let front : length (take k now) ≡ k = omega (arith, length-take k now, within) in
-    let same : stated_length now ≡ stated_length (take k now) =
-    ap stated_length (sym (take-append-drop k now)) ∙ stated_length-append (take k now) (drop k now) frame.header in
-    let header : 4 ≤ length now = omega (arith, frame.header, front, within) in
-    let allowed : stated_length now ≤ 1048576 = omega (arith, same, frame.allowed) in
-    let most : length now ≤ stated_length now + 4 = no_more header allowed in
-    record { header = header; allowed = allowed; exact = omega (arith, most, same, frame.exact, front, within) }
-
-left_of : (s : List ℕ) (rest : Rest) → IsRest s rest → IsUnfinished s ⊎ IsTooLong s
-left_of s Unfinished h = inl h
-left_of s TooLong h = inr h
-
--- octets that are one frame have been decided whole
-pub decided_whole : (d : Decision) (n : Totals) (w : Whole) (s : List ℕ) (o o₁ r r₁ : Option (List ℕ)) → IsFrame s →
-    (x : IsDecided d n s w o o₁ r r₁) → Decided d n w.totals s x.outcomes o o₁ r r₁
-decided_whole d n w s o o₁ r r₁ frame x =
-    let front = x.decided.whole in
-    let split : s ≡ take w.end s ++ drop w.end s = sym (take-append-drop w.end s) in
-    let read : ConsistsOf s (frames_of x.outcomes) (drop w.end s) =
-    record { whole = split ∙ ap (λ z. z ++ drop w.end s) front; each = x.decided.each; left = left_of (drop w.end s) w.rest x.next } in
-    let alone : ConsistsOf s (s ∷ []) [] = record {
-      whole = sym (append-nil (s ++ []) ∙ append-nil s);
-      each = All_more IsFrame [] s (All_none IsFrame) frame;
-      left = inl (record { allowed = λ h. absurd (omega (arith, h)); short = λ h. absurd (omega (arith, h)) });
-    } in
-    let none : drop w.end s ≡ [] = (one_split s (frames_of x.outcomes) (s ∷ []) (drop w.end s) [] read alone).1 in
-    let all : s ≡ take w.end s = split ∙ ap (λ z. take w.end s ++ z) none ∙ append-nil (take w.end s) in
-    record { whole = all ∙ front; each = x.decided.each; passed = x.decided.passed; totals = x.decided.totals }
-
-pub failure_before : (d : Decision) (n : ℕ) (s t : List ℕ) (o o₁ r r₁ : Option (List ℕ)) → AfterFailure d n s o o₁ r r₁ → AfterFailure d n (s ++ t) o o₁ r r₁
-failure_before d n s t o o₁ r r₁ x =
-    let z = x.stopped in
-    record {
-      sent = x.sent;
-      reported = x.reported;
-      out = x.out;
-      reports = x.reports;
-      stopped = record {
-        first = z.first;
-        next = z.next;
-        more = z.more ++ t;
-        begins = rw z.begins (simp append_assoc);
-        each = z.each;
-        frame = z.frame;
-        text = z.text;
-        lines = z.lines;
-        part = z.part;
-        told = z.told;
-        last = z.last;
-        out = z.out;
-        reports = z.reports;
+      rest = rest ++ more;
+      decided = record {
+        outcomes = x.outcomes;
+        split = record {
+          whole = ap (λ z. z ++ more) x.split.whole ∙ append_assoc (concat (frames_of x.outcomes)) rest more;
+          each = x.split.each;
+          left = inr long₁;
+        };
+        out = x.out;
+        reports = x.reports;
+        totals = x.totals;
       };
+      too_long = long₁;
     }
 
--- frames were decided, and what follows them fed to a link that holds nothing of them
-pub feeds_after : (d : Decision) (n m : Totals) (s t : List ℕ) (os : List Outcome) (new : AbstractLink) (result : Result (Unit {0}) LinkFault) (o o₁ o₂ r r₁ r₂ : Option (List ℕ)) →
-    Decided d n m s os o o₁ r r₁ → Feeds d m t new result o₁ o₂ r₁ r₂ → Feeds d n (s ++ t) new result o o₂ r r₂
-feeds_after d n m s t os new (Ok done) o o₁ o₂ r r₁ r₂ x y =
-    (all_after d n m s t new.totals new.held os o o₁ o₂ r r₁ r₂ x y.0, y.1)
-feeds_after d n m s t os new (Err FrameTooLong) o o₁ o₂ r r₁ r₂ x y = (too_long_after d n m s t new.totals os o o₁ o₂ r r₁ r₂ x y.0, y.1)
-feeds_after d n m s t os new (Err WriteFailed) o o₁ o₂ r r₁ r₂ x y = (failure_after d n m s t os o o₁ o₂ r r₁ r₂ x y.0, y.1)
-feeds_after d n m s t os new (Err Closed) o o₁ o₂ r r₁ r₂ x y = absurd y
-feeds_after d n m s t os new (Err TornFrame) o o₁ o₂ r r₁ r₂ x y = absurd y
+-- where they go on with a length that no frame may have, so does the stream
+pub too_long_now : (d : Decision) (n : Totals) (w : Whole) (h p now : List ℕ) (used : ℕ) (a : Added) → now ≡ h ++ take used p →
+    ArePut d n now w a → w.rest ≡ TooLong → DecidesUntilTooLong d n (h ++ p) w.totals a
+too_long_now d n w h p now used a e x is =
+    let long : IsTooLong (drop w.end now) = subst (IsRest (drop w.end now)) is x.next in
+    subst (λ (s : List ℕ). DecidesUntilTooLong d n s w.totals a) (sym (held_splits h p now used e))
+    (decides_longer d n w.totals now (drop w.end now) (drop used p) a x.decided long)
 
-pub decided_of : (d : Decision) (n m : Totals) (s held : List ℕ) (o o₁ r r₁ : Option (List ℕ)) →
-    (x : TakesAll d n s m held o o₁ r r₁) → Decided d n m (concat (frames_of x.outcomes)) x.outcomes o o₁ r r₁
-decided_of d n m s held o o₁ r r₁ x = record { whole = refl; each = x.split.each; passed = x.passed; totals = x.totals }
+breaks_longer : (d : Decision) (n : ℕ) (s more : List ℕ) (a : Added) → BreaksOff (λ _. d) n s a → BreaksOff (λ _. d) n (s ++ more) a
+breaks_longer d n s more a z = record {
+  first = z.first;
+  next = z.next;
+  more = z.more ++ more;
+  begins = rw z.begins (simp append_assoc);
+  each = z.each;
+  frame = z.frame;
+  lines = z.lines;
+  all = z.all;
+  part = z.part;
+  last = z.last;
+  out = z.out;
+  reports = z.reports;
+}
 
--- a link that holds the rest of what it was fed is fed one more piece
-pub feeds_more : (d : Decision) (n m : Totals) (s held piece : List ℕ) (new : AbstractLink) (result : Result (Unit {0}) LinkFault) (o o₁ o₂ r r₁ r₂ : Option (List ℕ)) →
-    TakesAll d n s m held o o₁ r r₁ → Feeds d m (held ++ piece) new result o₁ o₂ r₁ r₂ → Feeds d n (s ++ piece) new result o o₂ r r₂
-feeds_more d n m s held piece new result o o₁ o₂ r r₁ r₂ x y =
-    let e : concat (frames_of x.outcomes) ++ (held ++ piece) ≡ s ++ piece = sym (append_assoc (concat (frames_of x.outcomes)) held piece) ∙ ap (λ z. z ++ piece) (sym x.split.whole) in
-    subst (λ (z : List ℕ). Feeds d n z new result o o₂ r r₂) e
-    (feeds_after d n m (concat (frames_of x.outcomes)) (held ++ piece) x.outcomes new result o o₁ o₂ r r₁ r₂ (decided_of d n m s held o o₁ r r₁ x) y)
+-- where a sink failed at them, it failed at the stream
+pub breaks_now : (d : Decision) (n : ℕ) (h p now : List ℕ) (used : ℕ) (a : Added) → now ≡ h ++ take used p → BreaksOff (λ _. d) n now a → BreaksOff (λ _. d) n (h ++ p) a
+breaks_now d n h p now used a e x =
+    subst (λ (s : List ℕ). BreaksOff (λ _. d) n s a) (sym (held_splits h p now used e)) (breaks_longer d n now (drop used p) a x)
 
-pub begins_empty : (d : Decision) (n : Totals) (o r : Option (List ℕ)) → TakesAll d n [] n [] o o r r
-begins_empty d n o r = keeps_all d n [] [] [] 0 o r refl refl (record { allowed = λ h. absurd (omega (arith, h)); short = λ h. absurd (omega (arith, h)) })
+-- octets that begin with a frame and have no more than one are that frame
+nothing_left : (now rest : List ℕ) (fs : List (List ℕ)) → ConsistsOf now fs rest → length rest < length now →
+    (4 ≤ length now → stated_length now ≤ 1048576 → length now ≤ stated_length now + 4) → rest ≡ []
+nothing_left now rest [] x less no_more = absurd (omega (arith, ap length x.whole, less))
+nothing_left now rest (f ∷ fs) x less no_more =
+    let frame : IsFrame f = All_first IsFrame f fs x.each in
+    let whole : now ≡ f ++ (concat fs ++ rest) = x.whole ∙ append_assoc f (concat fs) rest in
+    let size : length now ≡ length f + (length (concat fs) + length rest) =
+    ap length whole ∙ length-append f (concat fs ++ rest) ∙ ap (λ k. length f + k) (length-append (concat fs) rest) in
+    let same : stated_length now ≡ stated_length f = ap stated_length whole ∙ stated_length-append f (concat fs ++ rest) frame.header in
+    let most : length now ≤ stated_length now + 4 = no_more (omega (arith, size, frame.header)) (omega (arith, same, frame.allowed)) in
+    is_empty_list rest (omega (arith, size, same, most, frame.exact))
 
--- what it has fed, at each answer
-pub fed_ok : (d : Decision) (n : Totals) (s : List ℕ) (new : AbstractLink) (result : Result (Unit {0}) LinkFault) (o o₁ r r₁ : Option (List ℕ)) (x : Unit {0}) →
-    result ≡ Ok x → Feeds d n s new result o o₁ r r₁ → TakesAll d n s new.totals new.held o o₁ r r₁ × (new.closed ≡ false)
-fed_ok d n s new result o o₁ r r₁ x is h = subst (λ (e : Result (Unit {0}) LinkFault). Feeds d n s new e o o₁ r r₁) is h
+-- where a frame of them was put, the link takes what is left of the piece
+pub takes_left : (d : Decision) (n : Totals) (w : Whole) (h p now : List ℕ) (used : ℕ) (new : AbstractLink) (result : Result (Unit {0}) LinkFault) (a b : Added) →
+    now ≡ h ++ take used p → (4 ≤ length now → stated_length now ≤ 1048576 → length now ≤ stated_length now + 4) → ArePut d n now w a → 0 < w.end →
+    Takes d w.totals (drop used p) new result b → Takes d n (h ++ p) new result (joined a b)
+takes_left d n w h p now used new result a b e no_more x some y =
+    let less : length (drop w.end now) < length now = omega (arith, length-drop w.end now, x.within, some) in
+    let none : drop w.end now ≡ [] = nothing_left now (drop w.end now) (frames_of x.decided.outcomes) x.decided.split less no_more in
+    let decided : Decides d n now [] w.totals a = subst (λ (r : List ℕ). Decides d n now r w.totals a) none x.decided in
+    subst (λ (s : List ℕ). Takes d n s new result (joined a b)) (sym (held_splits h p now used e))
+    (takes_on d n w.totals now [] (drop used p) new result a b decided y)
 
-pub fed_too_long : (d : Decision) (n : Totals) (s : List ℕ) (new : AbstractLink) (result : Result (Unit {0}) LinkFault) (o o₁ r r₁ : Option (List ℕ)) →
-    result ≡ Err FrameTooLong → Feeds d n s new result o o₁ r r₁ → TakesUntilTooLong d n s new.totals o o₁ r r₁
-fed_too_long d n s new result o o₁ r r₁ is h = (subst (λ (e : Result (Unit {0}) LinkFault). Feeds d n s new e o o₁ r r₁) is h).0
+-- ---- a run, from its first piece on
 
-pub fed_failed : (d : Decision) (n : Totals) (s : List ℕ) (new : AbstractLink) (result : Result (Unit {0}) LinkFault) (o o₁ r r₁ : Option (List ℕ)) →
-    result ≡ Err WriteFailed → Feeds d n s new result o o₁ r r₁ → AfterFailure d (next_number n) s o o₁ r r₁
-fed_failed d n s new result o o₁ r r₁ is h = (subst (λ (e : Result (Unit {0}) LinkFault). Feeds d n s new e o o₁ r r₁) is h).0
+pub empty_unfinished : IsUnfinished []
+empty_unfinished = record { allowed = λ h. absurd (omega (arith, h)); short = λ h. absurd (omega (arith, h)) }
+
+pub begins_empty : (d : Decision) (n : Totals) → Decides d n [] [] n nothing
+begins_empty d n = record {
+  outcomes = [];
+  split = record { whole = refl; each = All_none IsFrame; left = inl empty_unfinished };
+  out = refl;
+  reports = refl;
+  totals = refl;
+}
+
+pub runs_all : (d : Decision) (read rest : List ℕ) (m : Totals) (a : Added) (Last : List ℕ → Type 0) → Decides d no_frames read rest m a → Last rest → RunsAll d read a Last
+runs_all d read rest m a Last x last = record { outcomes = x.outcomes; rest = rest; split = x.split; out = x.out; reports = x.reports; last = last }
+
+-- what it takes, at each answer
+pub took_ok : (d : Decision) (n : Totals) (s : List ℕ) (new : AbstractLink) (result : Result (Unit {0}) LinkFault) (a : Added) (x : Unit {0}) →
+    result ≡ Ok x → Takes d n s new result a → Decides d n s new.held new.totals a × IsUnfinished new.held × (new.closed ≡ false)
+took_ok d n s new result a x is h = subst (λ (e : Result (Unit {0}) LinkFault). Takes d n s new e a) is h
+
+pub took_too_long : (d : Decision) (n : Totals) (s : List ℕ) (new : AbstractLink) (result : Result (Unit {0}) LinkFault) (a : Added) →
+    result ≡ Err FrameTooLong → Takes d n s new result a → DecidesUntilTooLong d n s new.totals a
+took_too_long d n s new result a is h = (subst (λ (e : Result (Unit {0}) LinkFault). Takes d n s new e a) is h).0
+
+pub took_failed : (d : Decision) (n : Totals) (s : List ℕ) (new : AbstractLink) (result : Result (Unit {0}) LinkFault) (a : Added) →
+    result ≡ Err WriteFailed → Takes d n s new result a → BreaksOff (λ _. d) (next_number n) s a
+took_failed d n s new result a is h = (subst (λ (e : Result (Unit {0}) LinkFault). Takes d n s new e a) is h).0
 
 -- ---- a length that no frame may have is found as soon as it is there
 
--- behind octets that are less than a frame, it begins within three octets of the piece
+-- after octets that are less than a frame, it begins within three octets of the piece
 soon : (held piece rest : List ℕ) (fs : List (List ℕ)) → IsUnfinished held → ConsistsOf (held ++ piece) fs rest → IsTooLong rest → length rest < 4 + length piece
 soon held piece rest [] h x long =
     let whole : held ++ piece ≡ rest = x.whole in

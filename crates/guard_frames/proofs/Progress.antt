@@ -1,8 +1,6 @@
 -- What frames add to the outputs, as they are decided one after another.
 use Rattle.std.proofs.Common.{◌≡◌, ◌<◌, ◌≤◌, ◌⊎◌, ℕ, ◌^◌, List, [], ◌∷◌, ◌++◌, ◌∙◌, ap, sym, refl, subst, take, drop, length, inl, inr, append_assoc, length-append, length-drop, arith}
-use Rattle.std.specs.Prelude.{Option}
 use Rattle.std.specs.List.{concat, All}
-use Rattle.std.specs.Io.KnownBytes.{Appends}
 use Rattle.std.proofs.lemmas.Grind.{common_steps}
 use Rattle.std.proofs.lemmas.List.Elements.{All-append}
 use Rattle.std.proofs.lemmas.List.Folds.{concat-append}
@@ -11,15 +9,28 @@ use Rattle.std.proofs.Math.Seq.{take-append_seam}
 use Rattle.guard_frames.specs.Frames.{IsFrame}
 use Rattle.guard_frames.specs.Prefix.{IsProperPrefix}
 use Rattle.guard_frames.specs.declared.totals.Totals.{Totals}
-use Rattle.guard_frames.specs.Totals.{later, after_passing, after_denying, next_number, counted}
-use Rattle.guard_frames.specs.Outcomes.{Decision, Goes, Outcome, that_went, that_stayed, all_went, frames_of}
-use Rattle.guard_frames.specs.Guarding.{text_out, Adds, AllAdd}
-use Rattle.guard_frames.specs.IntoSinks.{AfterFailure}
-use Rattle.guard_frames.specs.Decided.{Decided, AllGo}
+use Rattle.guard_frames.specs.Totals.{later, after_going, after_staying, next_number, counted}
+use Rattle.guard_frames.specs.Outcomes.{Decision, Goes, Outcome, going, staying, frames_of}
+use Rattle.guard_frames.specs.Added.{Added, nothing}
+use Rattle.guard_frames.specs.Guarding.{text_out, Adds, AllAdd, BreaksOff}
 use Rattle.guard_frames.proofs.Elements.{All_none, All_first, All_rest, All_more, All_front, All_back}
 use Rattle.guard_frames.proofs.Counting.{counted-append, numbers_on}
-use Rattle.guard_frames.proofs.Went.{frames_of-append, all_went_more, text_out_stayed, frames_then_went, text_then_went}
-use Rattle.guard_frames.proofs.Appending.{Appends_none, Appends_trans, Appends_is}
+use Rattle.guard_frames.proofs.Going.{all_going, frames_of-append, all_going_more, text_out_staying, frames_then_going, text_then_going}
+use Rattle.guard_frames.proofs.Appending.{sent_more, reported_more}
+
+-- these octets are whole frames, decided in order, and this is what they add; n and m are the totals before and after them
+pub record Decided (d : Decision) (n m : Totals) (octets : List ℕ) (outcomes : List Outcome) (added : Added) : Type 0 where
+  pub whole : octets ≡ concat (frames_of outcomes)
+  pub each : All IsFrame (frames_of outcomes)
+  pub out : added.out ≡ text_out outcomes
+  pub reports : AllAdd (λ _. d) (next_number n) outcomes added.reports
+  pub totals : m ≡ counted n outcomes
+
+-- these octets are whole frames that all go
+pub record AllGo (d : Decision) (octets : List ℕ) (frames : List (List ℕ)) : Type 0 where
+  pub whole : octets ≡ concat frames
+  pub each : All IsFrame frames
+  pub go : All (Goes d) frames
 
 pub nothing_after : (s : List ℕ) → s ++ [] ≡ s
 nothing_after s = grind (arith, common_steps)
@@ -27,25 +38,25 @@ nothing_after s = grind (arith, common_steps)
 pub concat_more : (fs : List (List ℕ)) (f : List ℕ) → concat (fs ++ f ∷ []) ≡ concat fs ++ f
 concat_more fs f = concat-append fs (f ∷ []) ∙ ap (λ x. concat fs ++ x) (nothing_after f)
 
-pub AllAdd_went : (d : Decision) (n : ℕ) (fs : List (List ℕ)) → All (Goes d) fs → AllAdd d n (all_went fs) []
-AllAdd_went d n [] go = refl
-AllAdd_went d n (f ∷ fs) go = (
+AllAdd_going : (d : Decision) (n : ℕ) (fs : List (List ℕ)) → All (Goes d) fs → AllAdd (λ _. d) n (all_going fs) []
+AllAdd_going d n [] go = refl
+AllAdd_going d n (f ∷ fs) go = (
   [],
   [],
   refl,
-  inl (record { went = refl; goes = All_first (Goes d) f fs go; text = refl }),
-  AllAdd_went d (later n 1) fs (All_rest (Goes d) f fs go),
+  inl (record { out = refl; goes = All_first (Goes d) f fs go; text = refl }),
+  AllAdd_going d (later n 1) fs (All_rest (Goes d) f fs go),
 )
 
 pub AllAdd-append : (d : Decision) (n : ℕ) (os ps : List Outcome) (s t : List ℕ) → n < 2 ^ 64 →
-    AllAdd d n os s → AllAdd d (later n (length os)) ps t → AllAdd d n (os ++ ps) (s ++ t)
+    AllAdd (λ _. d) n os s → AllAdd (λ _. d) (later n (length os)) ps t → AllAdd (λ _. d) n (os ++ ps) (s ++ t)
 AllAdd-append d n [] ps s t fits p q =
     let e : later n 0 ≡ n = omega (arith, fits) in
-    let q₁ : AllAdd d n ps t = subst (λ (k : ℕ). AllAdd d k ps t) e q in
+    let q₁ : AllAdd (λ _. d) n ps t = subst (λ (k : ℕ). AllAdd (λ _. d) k ps t) e q in
     rw p q₁
 AllAdd-append d n (o ∷ os) ps s t fits (a, b, joined, first, others) q =
     let e : later n (length (o ∷ os)) ≡ later (later n 1) (length os) = omega arith in
-    let q₁ : AllAdd d (later (later n 1) (length os)) ps t = subst (λ (k : ℕ). AllAdd d k ps t) e q in (
+    let q₁ : AllAdd (λ _. d) (later (later n 1) (length os)) ps t = subst (λ (k : ℕ). AllAdd (λ _. d) k ps t) e q in (
       a,
       b ++ t,
       rw joined (append_assoc a b t),
@@ -53,12 +64,12 @@ AllAdd-append d n (o ∷ os) ps s t fits (a, b, joined, first, others) q =
       AllAdd-append d (later n 1) os ps b t (omega arith) others q₁,
     )
 
--- frames that went add nothing to the reports of those before them
-AllAdd_then_went : (d : Decision) (n : ℕ) (os : List Outcome) (fs : List (List ℕ)) (s : List ℕ) → n < 2 ^ 64 → All (Goes d) fs →
-    AllAdd d n os s → AllAdd d n (os ++ all_went fs) s
-AllAdd_then_went d n os fs s fits go p =
-    subst (AllAdd d n (os ++ all_went fs)) (nothing_after s)
-    (AllAdd-append d n os (all_went fs) s [] fits p (AllAdd_went d (later n (length os)) fs go))
+-- frames that go add nothing to the reports of those before them
+AllAdd_then_going : (d : Decision) (n : ℕ) (os : List Outcome) (fs : List (List ℕ)) (s : List ℕ) → n < 2 ^ 64 → All (Goes d) fs →
+    AllAdd (λ _. d) n os s → AllAdd (λ _. d) n (os ++ all_going fs) s
+AllAdd_then_going d n os fs s fits go p =
+    subst (AllAdd (λ _. d) n (os ++ all_going fs)) (nothing_after s)
+    (AllAdd-append d n os (all_going fs) s [] fits p (AllAdd_going d (later n (length os)) fs go))
 
 -- a proper prefix of joined frames is whole frames and a proper prefix of the next
 pub record CutsInside (fs : List (List ℕ)) (part : List ℕ) : Type 0 where
@@ -121,122 +132,96 @@ AllGo_more d s f fs a frame go = record {
 }
 
 -- one more frame that goes
-pub went_counted : (n m k : Totals) (fs : List (List ℕ)) (f : List ℕ) → m ≡ counted n (all_went fs) → k ≡ after_passing m → k ≡ counted n (all_went (fs ++ f ∷ []))
-went_counted n m k fs f e e₁ = e₁ ∙ ap after_passing e ∙ counted-append n (all_went fs) (that_went f ∷ []) ∙ ap (counted n) (sym (all_went_more fs f))
+pub going_counted : (n m k : Totals) (fs : List (List ℕ)) (f : List ℕ) → m ≡ counted n (all_going fs) → k ≡ after_going m → k ≡ counted n (all_going (fs ++ f ∷ []))
+going_counted n m k fs f e e₁ = e₁ ∙ ap after_going e ∙ counted-append n (all_going fs) (going f ∷ []) ∙ ap (counted n) (sym (all_going_more fs f))
 
-pub Decided_none : (d : Decision) (n : Totals) (o r : Option (List ℕ)) → Decided d n n [] [] o o r r
-Decided_none d n o r = record {
-  whole = refl;
-  each = All_none IsFrame;
-  passed = record { sent = Appends_none o; text = []; lines = refl; reported = Appends_none r };
-  totals = refl;
-}
+pub decided_none : (d : Decision) (n : Totals) → Decided d n n [] [] nothing
+decided_none d n = record { whole = refl; each = All_none IsFrame; out = refl; reports = refl; totals = refl }
 
 -- the number of the frame after these
-pub number_after : (d : Decision) (n m : Totals) (s : List ℕ) (os : List Outcome) (o o₁ r r₁ : Option (List ℕ)) →
-    Decided d n m s os o o₁ r r₁ → next_number m ≡ later (next_number n) (length os)
-number_after d n m s os o o₁ r r₁ x = ap next_number x.totals ∙ numbers_on n os
+pub number_after : (n m : Totals) (os : List Outcome) → m ≡ counted n os → next_number m ≡ later (next_number n) (length os)
+number_after n m os e = ap next_number e ∙ numbers_on n os
 
-pub Decided_go : (d : Decision) (n m : Totals) (s t : List ℕ) (os : List Outcome) (fs : List (List ℕ)) (o o₁ o₂ r r₁ : Option (List ℕ)) →
-    Decided d n m s os o o₁ r r₁ → AllGo d t fs → Appends o₁ o₂ t →
-    Decided d n (counted m (all_went fs)) (s ++ t) (os ++ all_went fs) o o₂ r r₁
-Decided_go d n m s t os fs o o₁ o₂ r r₁ h a p =
-    let sent : Appends o o₂ (text_out os ++ concat fs) =
-    Appends_trans o o₁ o₂ (text_out os) (concat fs) h.passed.sent (Appends_is o₁ o₂ t (concat fs) a.whole p) in
-    record {
-      whole = rw (h.whole, a.whole, frames_then_went os fs) (sym (concat-append (frames_of os) fs));
-      each = subst (All IsFrame) (sym (frames_then_went os fs)) (All-append IsFrame (frames_of os) fs h.each a.each);
-      passed = record {
-        sent = Appends_is o o₂ (text_out os ++ concat fs) (text_out (os ++ all_went fs)) (sym (text_then_went os fs)) sent;
-        text = h.passed.text;
-        lines = AllAdd_then_went d (next_number n) os fs h.passed.text (omega arith) a.go h.passed.lines;
-        reported = h.passed.reported;
-      };
-      totals = ap (λ x. counted x (all_went fs)) h.totals ∙ counted-append n os (all_went fs);
-    }
+-- frames that all go are put after them
+pub decided_going : (d : Decision) (n m : Totals) (s t : List ℕ) (os : List Outcome) (fs : List (List ℕ)) (a : Added) →
+    Decided d n m s os a → AllGo d t fs → Decided d n (counted m (all_going fs)) (s ++ t) (os ++ all_going fs) (sent_more a t)
+decided_going d n m s t os fs a h g = record {
+  whole = rw (h.whole, g.whole, frames_then_going os fs) (sym (concat-append (frames_of os) fs));
+  each = subst (All IsFrame) (sym (frames_then_going os fs)) (All-append IsFrame (frames_of os) fs h.each g.each);
+  out = ap (λ x. x ++ t) h.out ∙ ap (λ x. text_out os ++ x) g.whole ∙ sym (text_then_going os fs);
+  reports = AllAdd_then_going d (next_number n) os fs a.reports (omega arith) g.go h.reports;
+  totals = ap (λ x. counted x (all_going fs)) h.totals ∙ counted-append n os (all_going fs);
+}
 
-pub Decided_stay : (d : Decision) (n m : Totals) (s f line : List ℕ) (os : List Outcome) (o o₁ r r₁ r₂ : Option (List ℕ)) →
-    Decided d n m s os o o₁ r r₁ → IsFrame f → Adds d (next_number m) (that_stayed f) line → Appends r₁ r₂ line →
-    Decided d n (after_denying m) (s ++ f) (os ++ that_stayed f ∷ []) o o₁ r r₂
-Decided_stay d n m s f line os o o₁ r r₁ r₂ h frame told p =
-    let one : AllAdd d (later (next_number n) (length os)) (that_stayed f ∷ []) line =
-    (line, [], sym (nothing_after line), subst (λ (k : ℕ). Adds d k (that_stayed f) line) (number_after d n m s os o o₁ r r₁ h) told, refl) in
-    let frames : frames_of (os ++ that_stayed f ∷ []) ≡ frames_of os ++ f ∷ [] = frames_of-append os (that_stayed f ∷ []) in
+-- one that stays is reported after them
+pub decided_staying : (d : Decision) (n m : Totals) (s f line : List ℕ) (os : List Outcome) (a : Added) →
+    Decided d n m s os a → IsFrame f → Adds d (next_number m) (staying f) line →
+    Decided d n (after_staying m) (s ++ f) (os ++ staying f ∷ []) (reported_more a line)
+decided_staying d n m s f line os a h frame adds =
+    let one : AllAdd (λ _. d) (later (next_number n) (length os)) (staying f ∷ []) line =
+    (line, [], sym (nothing_after line), subst (λ (k : ℕ). Adds d k (staying f) line) (number_after n m os h.totals) adds, refl) in
+    let frames : frames_of (os ++ staying f ∷ []) ≡ frames_of os ++ f ∷ [] = frames_of-append os (staying f ∷ []) in
     record {
       whole = rw (h.whole, frames) (sym (concat_more (frames_of os) f));
       each = subst (All IsFrame) (sym frames) (All_more IsFrame (frames_of os) f h.each frame);
-      passed = record {
-        sent = Appends_is o o₁ (text_out os) (text_out (os ++ that_stayed f ∷ [])) (sym (text_out_stayed os f)) h.passed.sent;
-        text = h.passed.text ++ line;
-        lines = AllAdd-append d (next_number n) os (that_stayed f ∷ []) h.passed.text line (omega arith) h.passed.lines one;
-        reported = Appends_trans r r₁ r₂ h.passed.text line h.passed.reported p;
-      };
-      totals = ap (λ x. counted x (that_stayed f ∷ [])) h.totals ∙ counted-append n os (that_stayed f ∷ []);
+      out = h.out ∙ sym (text_out_staying os f);
+      reports = AllAdd-append d (next_number n) os (staying f ∷ []) a.reports line (omega arith) h.reports one;
+      totals = ap (λ x. counted x (staying f ∷ [])) h.totals ∙ counted-append n os (staying f ∷ []);
     }
 
-pub BreaksOff_stay : (d : Decision) (n m : Totals) (s f line part more : List ℕ) (os : List Outcome) (o o₁ r r₁ r₂ : Option (List ℕ)) →
-    Decided d n m s os o o₁ r r₁ → IsFrame f → Adds d (next_number m) (that_stayed f) line → IsProperPrefix part line →
-    Appends r₁ r₂ part → AfterFailure d (next_number n) (s ++ (f ++ more)) o o₁ r r₂
-BreaksOff_stay d n m s f line part more os o o₁ r r₁ r₂ h frame told inside p =
-    let told₁ : Adds d (later (next_number n) (length os)) (that_stayed f) line =
-    subst (λ (k : ℕ). Adds d k (that_stayed f) line) (number_after d n m s os o o₁ r r₁ h) told in
+-- ---- a sink fails after them
+
+-- at the report of one that stays
+pub breaks_staying : (d : Decision) (n m : Totals) (s f line part more : List ℕ) (os : List Outcome) (a : Added) →
+    Decided d n m s os a → IsFrame f → Adds d (next_number m) (staying f) line → IsProperPrefix part line →
+    BreaksOff (λ _. d) (next_number n) (s ++ (f ++ more)) (reported_more a part)
+breaks_staying d n m s f line part more os a h frame adds inside =
+    let adds₁ : Adds d (later (next_number n) (length os)) (staying f) line =
+    subst (λ (k : ℕ). Adds d k (staying f) line) (number_after n m os h.totals) adds in
     record {
-      sent = text_out os;
-      reported = h.passed.text ++ part;
-      out = h.passed.sent;
-      reports = Appends_trans r r₁ r₂ h.passed.text part h.passed.reported p;
-      stopped = record {
-        first = os;
-        next = f;
-        more = more;
-        begins = rw h.whole refl;
-        each = h.each;
-        frame = frame;
-        text = h.passed.text;
-        lines = h.passed.lines;
-        part = [];
-        told = part;
-        last = inr (line, told₁, inside, refl);
-        out = sym (nothing_after (text_out os));
-        reports = refl;
-      };
+      first = os;
+      next = f;
+      more = more;
+      begins = rw h.whole refl;
+      each = h.each;
+      frame = frame;
+      lines = a.reports;
+      all = h.reports;
+      part = record { out = []; reports = part };
+      last = inr (line, adds₁, inside, refl);
+      out = h.out ∙ sym (nothing_after (text_out os));
+      reports = refl;
     }
 
-pub BreaksOff_go : (d : Decision) (n m : Totals) (s t part more : List ℕ) (os : List Outcome) (fs : List (List ℕ)) (o o₁ o₂ r r₁ : Option (List ℕ)) →
-    Decided d n m s os o o₁ r r₁ → AllGo d t fs → IsProperPrefix part t → Appends o₁ o₂ part →
-    AfterFailure d (next_number n) (s ++ (t ++ more)) o o₂ r r₁
-BreaksOff_go d n m s t part more os fs o o₁ o₂ r r₁ h a inside p =
-    let inside₁ : IsProperPrefix part (concat fs) = subst (IsProperPrefix part) a.whole inside in
+-- at frames that all go
+pub breaks_going : (d : Decision) (n m : Totals) (s t part more : List ℕ) (os : List Outcome) (fs : List (List ℕ)) (a : Added) →
+    Decided d n m s os a → AllGo d t fs → IsProperPrefix part t →
+    BreaksOff (λ _. d) (next_number n) (s ++ (t ++ more)) (sent_more a part)
+breaks_going d n m s t part more os fs a h g inside =
+    let inside₁ : IsProperPrefix part (concat fs) = subst (IsProperPrefix part) g.whole inside in
     let cut : CutsInside fs part = cuts_inside fs part inside₁ in
-    let each : All IsFrame (cut.first ++ cut.next ∷ cut.others) = subst (All IsFrame) cut.split a.each in
-    let go : All (Goes d) (cut.first ++ cut.next ∷ cut.others) = subst (All (Goes d)) cut.split a.go in
+    let each : All IsFrame (cut.first ++ cut.next ∷ cut.others) = subst (All IsFrame) cut.split g.each in
+    let go : All (Goes d) (cut.first ++ cut.next ∷ cut.others) = subst (All (Goes d)) cut.split g.go in
     let go_first : All (Goes d) cut.first = All_front (Goes d) cut.first (cut.next ∷ cut.others) go in
     let t_is : t ≡ concat cut.first ++ (cut.next ++ concat cut.others) =
-    a.whole ∙ ap concat cut.split ∙ concat-append cut.first (cut.next ∷ cut.others) in
+    g.whole ∙ ap concat cut.split ∙ concat-append cut.first (cut.next ∷ cut.others) in
     record {
-      sent = text_out os ++ part;
-      reported = h.passed.text;
-      out = Appends_trans o o₁ o₂ (text_out os) part h.passed.sent p;
-      reports = h.passed.reported;
-      stopped = record {
-        first = os ++ all_went cut.first;
-        next = cut.next;
-        more = concat cut.others ++ more;
-        begins = rw (h.whole, t_is, frames_then_went os cut.first, concat-append (frames_of os) cut.first) (simp append_assoc);
-        each = subst (All IsFrame) (sym (frames_then_went os cut.first))
-            (All-append IsFrame (frames_of os) cut.first h.each (All_front IsFrame cut.first (cut.next ∷ cut.others) each));
-        frame = All_first IsFrame cut.next cut.others (All_back IsFrame cut.first (cut.next ∷ cut.others) each);
-        text = h.passed.text;
-        lines = AllAdd_then_went d (next_number n) os cut.first h.passed.text (omega arith) go_first h.passed.lines;
-        part = cut.rest;
-        told = [];
-        last = inl (
-          All_first (Goes d) cut.next cut.others (All_back (Goes d) cut.first (cut.next ∷ cut.others) go),
-          cut.inside,
-          refl,
-        );
-        out = rw (text_then_went os cut.first)
-            (ap (λ x. text_out os ++ x) cut.part_is ∙ sym (append_assoc (text_out os) (concat cut.first) cut.rest));
-        reports = sym (nothing_after h.passed.text);
-      };
+      first = os ++ all_going cut.first;
+      next = cut.next;
+      more = concat cut.others ++ more;
+      begins = rw (h.whole, t_is, frames_then_going os cut.first, concat-append (frames_of os) cut.first) (simp append_assoc);
+      each = subst (All IsFrame) (sym (frames_then_going os cut.first))
+          (All-append IsFrame (frames_of os) cut.first h.each (All_front IsFrame cut.first (cut.next ∷ cut.others) each));
+      frame = All_first IsFrame cut.next cut.others (All_back IsFrame cut.first (cut.next ∷ cut.others) each);
+      lines = a.reports;
+      all = AllAdd_then_going d (next_number n) os cut.first a.reports (omega arith) go_first h.reports;
+      part = record { out = cut.rest; reports = [] };
+      last = inl (
+        All_first (Goes d) cut.next cut.others (All_back (Goes d) cut.first (cut.next ∷ cut.others) go),
+        cut.inside,
+        refl,
+      );
+      out = ap (λ x. x ++ part) h.out ∙ ap (λ x. text_out os ++ x) cut.part_is ∙ sym (append_assoc (text_out os) (concat cut.first) cut.rest)
+          ∙ ap (λ x. x ++ cut.rest) (sym (text_then_going os cut.first));
+      reports = sym (nothing_after a.reports);
     }

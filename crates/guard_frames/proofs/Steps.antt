@@ -1,106 +1,194 @@
--- What each step of the loop over some octets adds, in the terms of the loop's reads.
-use Rattle.std.proofs.Common.{◌≡◌, ◌≤◌, ℕ, ◌+◌, ◌-◌, List, [], ◌∷◌, ◌++◌, ◌∙◌, ap, sym, subst, take, drop, length, length-drop, arith}
-use Rattle.std.specs.Prelude.{Option, Result, OnErr, Ok, Err}
-use Rattle.std.specs.Io.KnownBytes.{Appends}
+-- What the loop over some octets has put and what waits to be put, in the terms of the loop's reads.
+use Rattle.std.proofs.Common.{◌≡◌, ◌≤◌, ◌⊎◌, ℕ, ◌+◌, ◌-◌, List, [], ◌∷◌, ◌++◌, ◌∙◌, ap, sym, refl, subst, inl, inr, take, drop, length, length-drop, arith}
+use Rattle.std.specs.Prelude.{Result, OnErr, Ok, Err}
 use Rattle.std.proofs.lemmas.List.{take_rest, take-append-drop, drop-drop}
 use Rattle.std.proofs.Math.Seq.{take-add}
-use Rattle.guard_frames.specs.Frames.{IsFrame}
+use Rattle.guard_frames.specs.Frames.{IsFrame, IsUnfinished, IsTooLong}
 use Rattle.guard_frames.specs.Prefix.{IsProperPrefix}
-use Rattle.guard_frames.specs.SideBySide.{IsNext, IsPassing}
+use Rattle.guard_frames.specs.declared.cut.Frame.{Frame}
+use Rattle.guard_frames.specs.declared.cut.Rest.{Rest}
+use Rattle.guard_frames.specs.declared.cut.Rest.TheVariants.{Unfinished, TooLong}
 use Rattle.guard_frames.specs.declared.totals.Totals.{Totals}
-use Rattle.guard_frames.specs.Totals.{after_denying, next_number, counted}
-use Rattle.guard_frames.specs.Outcomes.{Decision, Outcome, that_stayed, all_went}
-use Rattle.guard_frames.specs.Guarding.{Adds}
-use Rattle.guard_frames.specs.IntoSinks.{AfterFailure}
-use Rattle.guard_frames.specs.Rulings.{report_line}
-use Rattle.guard_frames.specs.Decided.{Decided, AllGo}
-use Rattle.guard_frames.specs.declared.report.Report.{Report}
-use Rattle.guard_frames.specs.declared.passing.Next.{Next}
-use Rattle.guard_frames.specs.declared.passing.Next.TheVariants.{Stays}
-use Rattle.guard_frames.specs.declared.passing.Passing.{Passing}
-use Rattle.guard_frames.proofs.Appending.{Appends_is}
-use Rattle.guard_frames.proofs.Ranges.{range_is}
-use Rattle.guard_frames.proofs.Progress.{Decided_go, Decided_stay, BreaksOff_go, BreaksOff_stay}
+use Rattle.guard_frames.specs.Totals.{after_going, after_staying, next_number, counted}
+use Rattle.guard_frames.specs.Outcomes.{Decision, Goes, Outcome, staying}
+use Rattle.guard_frames.specs.Added.{Added, nothing}
+use Rattle.guard_frames.specs.Guarding.{Adds, BreaksOff}
+use Rattle.guard_frames.specs.Inner.Cut.{IsRest, IsFirst}
+use Rattle.guard_frames.specs.Inner.Putting.{ArePut}
+use Rattle.guard_frames.proofs.Appending.{sent_more, reported_more}
+use Rattle.guard_frames.proofs.Going.{all_going}
+use Rattle.guard_frames.proofs.Progress.{Decided, AllGo, AllGo_none, AllGo_more, going_counted, decided_none, decided_going, decided_staying, breaks_going, breaks_staying}
 
 pub on_err_of : {A E P : Type 0} (r : Result A E) → P → OnErr r P
 on_err_of (Ok x) p = tt
 on_err_of (Err e) p = p
 
--- the frames that go from n on
-pub record RunAt (d : Decision) (m : Totals) (n : ℕ) (s : List ℕ) (p : Passing) : Type 0 where
-  pub within : n + p.end ≤ length s
-  pub frames : List (List ℕ)
-  pub front : AllGo d (take p.end (drop n s)) frames
-  pub totals : p.totals ≡ counted m (all_went frames)
-  pub next : IsNext d (next_number p.totals) (drop (n + p.end) s) p.next
+-- ---- the frame at `end`
 
-pub run_at : (d : Decision) (m : Totals) (n : ℕ) (s : List ℕ) (p : Passing) → n ≤ length s →
-    IsPassing d m (take (length s - n) (drop n s)) p → RunAt d m n s p
-run_at d m n s p h run =
-    let run₁ : IsPassing d m (drop n s) p = subst (λ (x : List ℕ). IsPassing d m x p) (take_rest s n) run in
-    let there : drop p.end (drop n s) ≡ drop (n + p.end) s = drop-drop p.end n s in
+pub record IsAt (s : List ℕ) (end : ℕ) (f : List ℕ) : Type 0 where
+  pub frame : IsFrame f
+  pub within : end + length f ≤ length s
+  pub front : f ≡ take (length f) (drop end s)
+
+-- the first frame of `&s[end..]`
+pub first_at : (s : List ℕ) (end : ℕ) (f : Frame) → end ≤ length s → IsFirst (take (length s - end) (drop end s)) f → IsAt s end f.octets.now
+first_at s end f within h =
+    let h₁ : IsFirst (drop end s) f = subst (λ (x : List ℕ). IsFirst x f) (take_rest s end) h in
+    record { frame = h₁.is; within = omega (arith, h₁.within, length-drop end s, within); front = h₁.front }
+
+-- ---- how the octets lie
+
+-- up to `end`
+up_to : (sent end : ℕ) (s : List ℕ) → sent ≤ end → take end s ≡ take sent s ++ take (end - sent) (drop sent s)
+up_to sent end s le =
+    let e : sent + (end - sent) ≡ end = omega (arith, le) in
+    ap (λ k. take k s) (sym e) ∙ take-add sent (end - sent) s
+
+-- from `end` on
+from_end : (sent end : ℕ) (s : List ℕ) → sent ≤ end → drop (end - sent) (drop sent s) ≡ drop end s
+from_end sent end s le =
+    let e : sent + (end - sent) ≡ end = omega (arith, le) in
+    drop-drop (end - sent) sent s ∙ ap (λ k. drop k s) e
+
+-- up to the end of the frame at `end`
+up_to_more : (end : ℕ) (s f : List ℕ) → IsAt s end f → take (end + length f) s ≡ take end s ++ f
+up_to_more end s f at = take-add end (length f) s ∙ ap (λ x. take end s ++ x) (sym at.front)
+
+-- between them, to the end of the frame at `end`
+between_more : (sent end : ℕ) (s f : List ℕ) → sent ≤ end → IsAt s end f →
+    take (end + length f - sent) (drop sent s) ≡ take (end - sent) (drop sent s) ++ f
+between_more sent end s f le at =
+    let e : end + length f - sent ≡ (end - sent) + length f = omega (arith, le) in
+    ap (λ k. take k (drop sent s)) e ∙ take-add (end - sent) (length f) (drop sent s)
+    ∙ ap (λ x. take (end - sent) (drop sent s) ++ x) (ap (take (length f)) (from_end sent end s le) ∙ sym at.front)
+
+all_of : (sent end : ℕ) (s : List ℕ) → sent ≤ end → s ≡ take sent s ++ (take (end - sent) (drop sent s) ++ drop end s)
+all_of sent end s le =
+    sym (take-append-drop sent s)
+    ∙ ap (λ x. take sent s ++ x) (sym (take-append-drop (end - sent) (drop sent s)) ∙ ap (λ x. take (end - sent) (drop sent s) ++ x) (from_end sent end s le))
+
+all_at : (end : ℕ) (s f : List ℕ) → IsAt s end f → s ≡ take end s ++ (f ++ drop (length f) (drop end s))
+all_at end s f at =
+    sym (take-append-drop end s)
+    ∙ ap (λ x. take end s ++ x) (sym (take-append-drop (length f) (drop end s)) ∙ ap (λ x. x ++ drop (length f) (drop end s)) (sym at.front))
+
+-- ---- how far the loop has come
+
+-- Of the octets up to `end`, those up to `sent` are frames that were put; the others are frames that go and wait to be put.
+pub record SoFar (d : Decision) (n m : Totals) (s : List ℕ) (sent end : ℕ) (added : Added) : Type 0 where
+  pub ordered : sent ≤ end
+  pub within : end ≤ length s
+  pub between : Totals
+  pub outcomes : List Outcome
+  pub put : Decided d n between (take sent s) outcomes added
+  pub frames : List (List ℕ)
+  pub waiting : AllGo d (take (end - sent) (drop sent s)) frames
+  pub totals : m ≡ counted between (all_going frames)
+
+pub at_first : (d : Decision) (n : Totals) (s : List ℕ) → SoFar d n n s 0 0 nothing
+at_first d n s = record {
+  ordered = omega arith;
+  within = omega arith;
+  between = n;
+  outcomes = [];
+  put = decided_none d n;
+  frames = [];
+  waiting = AllGo_none d;
+  totals = refl;
+}
+
+-- one more frame goes
+pub one_goes : (d : Decision) (n m k : Totals) (s f : List ℕ) (sent end : ℕ) (a : Added) → SoFar d n m s sent end a → IsAt s end f → Goes d f →
+    k ≡ after_going m → SoFar d n k s sent (end + length f) a
+one_goes d n m k s f sent end a h at goes counts =
+    let more : AllGo d (take (end - sent) (drop sent s) ++ f) (h.frames ++ f ∷ []) =
+    AllGo_more d (take (end - sent) (drop sent s)) f h.frames h.waiting at.frame goes in
     record {
-      within = omega (arith, run₁.within, length-drop n s, h);
-      frames = run₁.frames;
-      front = run₁.front;
-      totals = run₁.totals;
-      next = subst (λ (x : List ℕ). IsNext d (next_number p.totals) x p.next) there run₁.next;
+      ordered = omega (arith, h.ordered);
+      within = at.within;
+      between = h.between;
+      outcomes = h.outcomes;
+      put = h.put;
+      frames = h.frames ++ f ∷ [];
+      waiting = subst (λ (x : List ℕ). AllGo d x (h.frames ++ f ∷ [])) (sym (between_more sent end s f h.ordered at)) more;
+      totals = going_counted h.between m k h.frames f h.totals counts;
     }
 
-pub next_is : (d : Decision) (n : ℕ) (s : List ℕ) (a b : Next) → a ≡ b → IsNext d n s a → IsNext d n s b
-next_is d n s a b e h = subst (IsNext d n s) e h
+-- those that wait are put
+all_put : (d : Decision) (n m : Totals) (s : List ℕ) (sent end : ℕ) (a : Added) → (h : SoFar d n m s sent end a) →
+    Decided d n m (take end s) (h.outcomes ++ all_going h.frames) (sent_more a (take (end - sent) (drop sent s)))
+all_put d n m s sent end a h =
+    let os : List Outcome = h.outcomes ++ all_going h.frames in
+    let b : Added = sent_more a (take (end - sent) (drop sent s)) in
+    let put : Decided d n (counted h.between (all_going h.frames)) (take sent s ++ take (end - sent) (drop sent s)) os b =
+    decided_going d n h.between (take sent s) (take (end - sent) (drop sent s)) h.outcomes h.frames a h.put h.waiting in
+    let there : Decided d n (counted h.between (all_going h.frames)) (take end s) os b =
+    subst (λ (x : List ℕ). Decided d n (counted h.between (all_going h.frames)) x os b) (sym (up_to sent end s h.ordered)) put in
+    subst (λ (k : Totals). Decided d n k (take end s) os b) (sym h.totals) there
 
-pub splits_at : (n k : ℕ) (s : List ℕ) → s ≡ take n s ++ (take k (drop n s) ++ drop k (drop n s))
-splits_at n k s = sym (ap (λ x. take n s ++ x) (take-append-drop k (drop n s)) ∙ take-append-drop n s)
+-- and one that stays is reported after them
+pub one_stays : (d : Decision) (n m k : Totals) (s f line : List ℕ) (sent end : ℕ) (a : Added) → SoFar d n m s sent end a → IsAt s end f →
+    Adds d (next_number m) (staying f) line → k ≡ after_staying m →
+    SoFar d n k s (end + length f) (end + length f) (reported_more (sent_more a (take (end - sent) (drop sent s))) line)
+one_stays d n m k s f line sent end a h at adds counts =
+    let b : Added = sent_more a (take (end - sent) (drop sent s)) in
+    let os : List Outcome = (h.outcomes ++ all_going h.frames) ++ staying f ∷ [] in
+    let put : Decided d n (after_staying m) (take end s ++ f) os (reported_more b line) =
+    decided_staying d n m (take end s) f line (h.outcomes ++ all_going h.frames) b (all_put d n m s sent end a h) at.frame adds in
+    let there : Decided d n (after_staying m) (take (end + length f) s) os (reported_more b line) =
+    subst (λ (x : List ℕ). Decided d n (after_staying m) x os (reported_more b line)) (sym (up_to_more end s f at)) put in
+    let none : end + length f - (end + length f) ≡ 0 = omega arith in
+    record {
+      ordered = omega arith;
+      within = at.within;
+      between = k;
+      outcomes = os;
+      put = subst (λ (t : Totals). Decided d n t (take (end + length f) s) os (reported_more b line)) (sym counts) there;
+      frames = [];
+      waiting = subst (λ (j : ℕ). AllGo d (take j (drop (end + length f) s)) []) (sym none) (AllGo_none d);
+      totals = refl;
+    }
 
-pub step_go : (d : Decision) (first m : Totals) (n : ℕ) (s : List ℕ) (os : List Outcome) (p : Passing) (o o₁ o₂ r r₁ : Option (List ℕ)) →
-    Decided d first m (take n s) os o o₁ r r₁ → (run : RunAt d m n s p) → Appends o₁ o₂ (take (n + p.end - n) (drop n s)) →
-    Decided d first p.totals (take (n + p.end) s) (os ++ all_went run.frames) o o₂ r r₁
-step_go d first m n s os p o o₁ o₂ r r₁ h run put =
-    let put₁ : Appends o₁ o₂ (take p.end (drop n s)) = Appends_is o₁ o₂ _ _ (range_is n p.end s) put in
-    rw (take-add n p.end s, run.totals)
-    (Decided_go d first m (take n s) (take p.end (drop n s)) os run.frames o o₁ o₂ r r₁ h run.front put₁)
+left_of : (s : List ℕ) (rest : Rest) → IsRest s rest → IsUnfinished s ⊎ IsTooLong s
+left_of s Unfinished h = inl h
+left_of s TooLong h = inr h
 
-pub stop_go : (d : Decision) (first m : Totals) (n : ℕ) (s part : List ℕ) (os : List Outcome) (p : Passing) (o o₁ o₂ r r₁ : Option (List ℕ)) →
-    Decided d first m (take n s) os o o₁ r r₁ → RunAt d m n s p → IsProperPrefix part (take (n + p.end - n) (drop n s)) → Appends o₁ o₂ part →
-    AfterFailure d (next_number first) s o o₂ r r₁
-stop_go d first m n s part os p o o₁ o₂ r r₁ h run inside put =
-    let inside₁ : IsProperPrefix part (take p.end (drop n s)) = subst (IsProperPrefix part) (range_is n p.end s) inside in
-    subst (λ (x : List ℕ). AfterFailure d (next_number first) x o o₂ r r₁) (sym (splits_at n p.end s))
-    (BreaksOff_go d first m (take n s) (take p.end (drop n s)) part (drop p.end (drop n s)) os run.frames o o₁ o₂ r r₁ h run.front inside₁ put)
+-- no whole frame is left, and those that wait are put
+pub at_last : (d : Decision) (n m : Totals) (s : List ℕ) (sent end : ℕ) (rest : Rest) (a : Added) → SoFar d n m s sent end a →
+    IsRest (take (length s - end) (drop end s)) rest →
+    ArePut d n s (record { end = end; totals = m; rest = rest }) (sent_more a (take (end - sent) (drop sent s)))
+at_last d n m s sent end rest a h left =
+    let left₁ : IsRest (drop end s) rest = subst (λ (x : List ℕ). IsRest x rest) (take_rest s end) left in
+    let put = all_put d n m s sent end a h in
+    record {
+      within = h.within;
+      decided = record {
+        outcomes = h.outcomes ++ all_going h.frames;
+        split = record {
+          whole = sym (take-append-drop end s) ∙ ap (λ x. x ++ drop end s) put.whole;
+          each = put.each;
+          left = left_of (drop end s) rest left₁;
+        };
+        out = put.out;
+        reports = put.reports;
+        totals = put.totals;
+      };
+      next = left₁;
+    }
 
-pub step_stay : (d : Decision) (first m : Totals) (n k : ℕ) (s line : List ℕ) (os : List Outcome) (o o₁ r r₁ r₂ : Option (List ℕ)) →
-    Decided d first m (take n s) os o o₁ r r₁ → IsFrame (take k (drop n s)) → Adds d (next_number m) (that_stayed (take k (drop n s))) line →
-    Appends r₁ r₂ line → Decided d first (after_denying m) (take (n + k) s) (os ++ that_stayed (take k (drop n s)) ∷ []) o o₁ r r₂
-step_stay d first m n k s line os o o₁ r r₁ r₂ h frame told put =
-    rw (take-add n k s) (Decided_stay d first m (take n s) (take k (drop n s)) line os o o₁ r r₁ r₂ h frame told put)
+-- ---- a sink fails
 
-pub stop_stay : (d : Decision) (first m : Totals) (n k : ℕ) (s line part : List ℕ) (os : List Outcome) (o o₁ r r₁ r₂ : Option (List ℕ)) →
-    Decided d first m (take n s) os o o₁ r r₁ → IsFrame (take k (drop n s)) → Adds d (next_number m) (that_stayed (take k (drop n s))) line →
-    IsProperPrefix part line → Appends r₁ r₂ part → AfterFailure d (next_number first) s o o₁ r r₂
-stop_stay d first m n k s line part os o o₁ r r₁ r₂ h frame told inside put =
-    subst (λ (x : List ℕ). AfterFailure d (next_number first) x o o₁ r r₂) (sym (splits_at n k s))
-    (BreaksOff_stay d first m (take n s) (take k (drop n s)) line part (drop k (drop n s)) os o o₁ r r₁ r₂ h frame told inside put)
+pub breaks_waiting : (d : Decision) (n m : Totals) (s part : List ℕ) (sent end : ℕ) (a : Added) → SoFar d n m s sent end a →
+    IsProperPrefix part (take (end - sent) (drop sent s)) → BreaksOff (λ _. d) (next_number n) s (sent_more a part)
+breaks_waiting d n m s part sent end a h inside =
+    subst (λ (x : List ℕ). BreaksOff (λ _. d) (next_number n) x (sent_more a part)) (sym (all_of sent end s h.ordered))
+    (breaks_going d n h.between (take sent s) (take (end - sent) (drop sent s)) part (drop end s) h.outcomes h.frames a h.put h.waiting inside)
 
--- the frames that go from n on, and the one behind them that stays
-pub step_both : (d : Decision) (first m : Totals) (n k : ℕ) (s : List ℕ) (os : List Outcome) (p : Passing) (report : Report) (o o₁ o₂ r r₁ r₂ : Option (List ℕ)) →
-    Decided d first m (take n s) os o o₁ r r₁ → RunAt d m n s p → p.next ≡ Stays k report → Appends o₁ o₂ (take (n + p.end - n) (drop n s)) →
-    Appends r₁ r₂ (report_line (next_number p.totals) report) →
-    (n + p.end + k ≤ length s) × ((outcomes : List Outcome) × Decided d first (after_denying p.totals) (take (n + p.end + k) s) outcomes o o₂ r r₂)
-step_both d first m n k s os p report o o₁ o₂ r r₁ r₂ h run is put told =
-    let go = step_go d first m n s os p o o₁ o₂ r r₁ h run put in
-    let next : IsNext d (next_number p.totals) (drop (n + p.end) s) (Stays k report) = next_is d (next_number p.totals) (drop (n + p.end) s) p.next (Stays k report) is run.next in
-    let stay = step_stay d first p.totals (n + p.end) k s (report_line (next_number p.totals) report) (os ++ all_went run.frames) o o₂ r r₁ r₂ go next.1 next.2 told in
-    let room : k ≤ length (drop (n + p.end) s) = next.0 in (
-      omega (arith, room, run.within, length-drop (n + p.end) s),
-      ((os ++ all_went run.frames) ++ that_stayed (take k (drop (n + p.end) s)) ∷ [], stay),
-    )
-
--- a sink failed at the line of the one that stays
-pub stop_both : (d : Decision) (first m : Totals) (n k : ℕ) (s part : List ℕ) (os : List Outcome) (p : Passing) (report : Report) (o o₁ o₂ r r₁ r₂ : Option (List ℕ)) →
-    Decided d first m (take n s) os o o₁ r r₁ → RunAt d m n s p → p.next ≡ Stays k report → Appends o₁ o₂ (take (n + p.end - n) (drop n s)) →
-    IsProperPrefix part (report_line (next_number p.totals) report) → Appends r₁ r₂ part → AfterFailure d (next_number first) s o o₂ r r₂
-stop_both d first m n k s part os p report o o₁ o₂ r r₁ r₂ h run is put inside told =
-    let go = step_go d first m n s os p o o₁ o₂ r r₁ h run put in
-    let next : IsNext d (next_number p.totals) (drop (n + p.end) s) (Stays k report) = next_is d (next_number p.totals) (drop (n + p.end) s) p.next (Stays k report) is run.next in
-    stop_stay d first p.totals (n + p.end) k s (report_line (next_number p.totals) report) part (os ++ all_went run.frames) o o₂ r r₁ r₂ go next.1 next.2 inside told
+pub breaks_report : (d : Decision) (n m : Totals) (s f line part : List ℕ) (sent end : ℕ) (a : Added) → SoFar d n m s sent end a → IsAt s end f →
+    Adds d (next_number m) (staying f) line → IsProperPrefix part line →
+    BreaksOff (λ _. d) (next_number n) s (reported_more (sent_more a (take (end - sent) (drop sent s))) part)
+breaks_report d n m s f line part sent end a h at adds inside =
+    let b : Added = sent_more a (take (end - sent) (drop sent s)) in
+    subst (λ (x : List ℕ). BreaksOff (λ _. d) (next_number n) x (reported_more b part)) (sym (all_at end s f at))
+    (breaks_staying d n m (take end s) f line part (drop (length f) (drop end s)) (h.outcomes ++ all_going h.frames) b
+    (all_put d n m s sent end a h) at.frame adds inside)

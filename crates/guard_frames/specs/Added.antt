@@ -10,15 +10,19 @@ pub record Added : Type 0 where
 abbrev pub nothing : Added
 nothing = record { out = []; reports = [] }
 
--- both sinks took it, where they tell what they took
-pub record BothAppend (out_old out_new reports_old reports_new : Option (List ℕ)) (added : Added) : Type 0 where
-  pub out : Appends out_old out_new added.out
-  pub reports : Appends reports_old reports_new added.reports
+-- the octets of a device before a call and after it, where it says them
+abbrev pub Octets : Type 0
+Octets = Option (List ℕ) × Option (List ℕ)
+
+-- Both sinks took what was added.
+pub record BothAppend (out reports : Octets) (added : Added) : Type 0 where
+  pub sent : Appends out.0 out.1 added.out
+  pub reported : Appends reports.0 reports.1 added.reports
 
 -- The source gave some octets, both sinks took what was added, and this holds of them.
-pub record Moves (source_old source_new out_old out_new reports_old reports_new : Option (List ℕ)) (Holds : List ℕ → Added → Type 0) : Type 0 where
+pub record Moves (source out reports : Octets) (Holds : List ℕ → Added → Type 0) : Type 0 where
   pub read : List ℕ
   pub added : Added
-  pub given : Consumes source_old source_new read
-  pub taken : BothAppend out_old out_new reports_old reports_new added
+  pub given : Consumes source.0 source.1 read
+  pub taken : BothAppend out reports added
   pub holds : Holds read added

@@ -1,4 +1,5 @@
--- The body of a frame: the names of the sender, the receiver and the message, each behind one octet of length, and then the message.
+-- The body of a frame: the names of the sender, the receiver and the message, each after one octet of length, and then
+-- the message.
 use Rattle.std.specs.Prelude.{◌≡◌, ℕ, true, List, [], ◌∷◌, ◌++◌, length, take, drop, nat_lt, if◌then◌else◌, Option, Some, None}
 use Rattle.guard_policy.specs.Names.{is_name}
 use Rattle.guard_frames.specs.declared.body.Body.{Body}
@@ -15,9 +16,10 @@ body_view b = record { sender = b.sender.now; receiver = b.receiver.now; name = 
 -- so many octets that are a name, and what follows them
 abbrev pub name_of_length : ℕ → List ℕ → Option (List ℕ × List ℕ)
 name_of_length n octets =
-    if nat_lt (length octets) n then None else (if is_name (take n octets) then Some (take n octets, drop n octets) else None)
+    if nat_lt (length octets) n then None
+    else (if is_name (take n octets) then Some (take n octets, drop n octets) else None)
 
--- the name behind its length at the front, and what follows it
+-- the name after its length at the front, and what follows it
 unfoldable pub name_first : List ℕ → Option (List ℕ × List ℕ)
 name_first [] = None
 name_first (n ∷ octets) = name_of_length n octets
@@ -28,7 +30,7 @@ abbrev pub ◌>>=◌ : {A B : Type 0} → Option A → (A → Option B) → Opti
 None >>= f = None
 (Some x) >>= f = f x
 
--- the body that the octets are; none where the three names don't stand there
+-- the body that the octets are; none where the three names aren't there
 unfoldable pub body_in : List ℕ → Option AbstractBody
 body_in octets = do
   sender ← name_first octets
@@ -36,17 +38,17 @@ body_in octets = do
   name ← name_first receiver.1
   Some (record { sender = sender.0; receiver = receiver.0; name = name.0; message = name.1 })
 
--- a name as it stands in a header: one octet of length, and its octets
+-- a name as a header has it: one octet of length, and its octets
 abbrev pub named : List ℕ → List ℕ
 named name = length name ∷ name
 
--- what stands in a header as a name is one
+-- what is in the place of a name is one
 pub record HasNames (b : AbstractBody) : Type 0 where
   pub sender : is_name b.sender ≡ true
   pub receiver : is_name b.receiver ≡ true
   pub name : is_name b.name ≡ true
 
--- the octets are three names, each behind its length, and then the message
+-- the octets are three names, each after its length, and then the message
 pub record IsBody (octets : List ℕ) (b : AbstractBody) : Type 0 where
   pub joined : octets ≡ named b.sender ++ (named b.receiver ++ (named b.name ++ b.message))
   pub names : HasNames b

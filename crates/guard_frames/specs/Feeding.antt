@@ -15,7 +15,7 @@ pub record Decides (d : Decision) (n : Totals) (stream rest : List ℕ) (m : Tot
   pub outcomes : List Outcome
   pub split : ConsistsOf stream (frames_of outcomes) rest
   pub out : added.out ≡ text_out outcomes
-  pub reports : AllAdd d (next_number n) outcomes added.reports
+  pub reports : AllAdd (λ _. d) (next_number n) outcomes added.reports
   pub totals : m ≡ counted n outcomes
 
 -- They were decided up to a length that no frame may have.
@@ -24,11 +24,12 @@ pub record DecidesUntilTooLong (d : Decision) (n : Totals) (stream : List ℕ) (
   pub decided : Decides d n stream rest m added
   pub too_long : IsTooLong rest
 
--- What an open link does with the stream that it has come to, by its answer; n are the totals before that stream. After a fault it takes no more and
--- holds nothing.
+-- What an open link does with the stream that it has come to, by its answer; n are the totals before that stream. After
+-- a fault it takes no more and holds nothing.
 abbrev pub Takes : Decision → Totals → List ℕ → AbstractLink → Result (Unit {0}) LinkFault → Added → Type 0
-Takes d n stream new (Ok done) added = Decides d n stream new.held new.totals added × IsUnfinished new.held × (new.closed ≡ false)
+Takes d n stream new (Ok done) added =
+    Decides d n stream new.held new.totals added × IsUnfinished new.held × (new.closed ≡ false)
 Takes d n stream new (Err FrameTooLong) added = DecidesUntilTooLong d n stream new.totals added × IsShut new
-Takes d n stream new (Err WriteFailed) added = BreaksOff d (next_number n) stream added.out added.reports × IsShut new
+Takes d n stream new (Err WriteFailed) added = BreaksOff (λ _. d) (next_number n) stream added × IsShut new
 Takes d n stream new (Err Closed) added = ⊥
 Takes d n stream new (Err TornFrame) added = ⊥

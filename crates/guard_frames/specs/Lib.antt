@@ -6,9 +6,10 @@ pub mod Rows
 pub mod Outcomes
 pub mod Totals
 pub mod Prefix
-pub mod Guarding
 pub mod Added
+pub mod Guarding
 -- ---- what the calls do
+pub mod Rulings
 pub mod ThroughView
 pub mod KeptView
 pub mod LinkView
@@ -21,8 +22,4 @@ pub mod ModulesView
 pub mod Texts
 pub mod RunsTexts
 -- ---- what the parts of the code do
-pub mod Cut
-pub mod IntoSinks
-pub mod Rulings
-pub mod SideBySide
-pub mod Decided
+pub mod Inner

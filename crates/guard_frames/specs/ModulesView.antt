@@ -1,4 +1,4 @@
--- What contracts see of the modules that a policy stands on.
+-- What contracts see of the modules that a policy is loaded over.
 use Rattle.guard_schema.specs.Schemas.{AbstractSchema}
 use Rattle.guard_schema.specs.Views.{schema_view}
 use Rattle.guard_policy.specs.Entries.{AbstractTypes}
@@ -8,6 +8,6 @@ use Rattle.guard_frames.specs.declared.modules.Modules.{Modules}
 abbrev pub schema_of : Modules → AbstractSchema
 schema_of m = schema_view m.schema
 
--- a schema, as what a policy stands on
+-- a schema, as what a policy is loaded over
 abbrev pub types_of : AbstractSchema → AbstractTypes
 types_of s = record { modules = s.modules; types = s.types }

@@ -11,10 +11,11 @@ use Rattle.guard_frames.specs.Outcomes.{Decision}
 abbrev pub route_of : AbstractBody → AbstractRoute
 route_of b = record { from = b.sender; to = b.receiver; message = b.name }
 
--- A body passes where its message goes on its route. The report of another one is the line of its reason.
+-- A body goes where its message goes on its route. The report of one that stays is the line of its reason.
 abbrev pub decision_of : AbstractPolicy → Decision
 decision_of p = record {
-  Passes = λ b. Goes p (route_of b) b.message;
-  Reports = λ n b text. (w : AbstractVerdict) × IsReason p (route_of b) b.message w × (text ≡ line_octets p (route_of b) n w);
+  Goes = λ b. Goes p (route_of b) b.message;
+  Reports = λ n b text. (w : AbstractVerdict) × IsReason p (route_of b) b.message w
+      × (text ≡ line_octets p (route_of b) n w);
   takes_memory = true;
 }

@@ -15,7 +15,8 @@ unfolding body_in name_first
 three_names = refl
 
 -- a message of no octets
-no_message : body_in (1 ∷ 97 ∷ 1 ∷ 46 ∷ 1 ∷ 45 ∷ []) ≡ Some (record { sender = codes "a"; receiver = codes "."; name = codes "-"; message = [] })
+no_message : body_in (1 ∷ 97 ∷ 1 ∷ 46 ∷ 1 ∷ 45 ∷ [])
+    ≡ Some (record { sender = codes "a"; receiver = codes "."; name = codes "-"; message = [] })
 unfolding body_in name_first
 no_message = refl
 

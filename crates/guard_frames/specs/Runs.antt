@@ -17,7 +17,7 @@ pub record RunsAll (d : Decision) (read : List ℕ) (added : Added) (Last : List
   pub rest : List ℕ
   pub split : ConsistsOf read (frames_of outcomes) rest
   pub out : added.out ≡ text_out outcomes
-  pub reports : AllAdd d 1 outcomes added.reports
+  pub reports : AllAdd (λ _. d) 1 outcomes added.reports
   pub last : Last rest
 
 -- No rest is left; the totals are those of the frames.
@@ -25,12 +25,14 @@ pub record RunsToEnd (d : Decision) (read : List ℕ) (totals : Totals) (added :
   pub all : RunsAll d read added (λ rest. rest ≡ [])
   pub counts : Counts all.outcomes totals
 
--- A length that no frame may have, at which reading stops: behind its first three octets no more was read than one piece of 65,536.
+-- A length that no frame may have, at which reading stops: after its first three octets no more was read than one piece
+-- of 65,536.
 pub record IsFoundTooLong (rest : List ℕ) : Type 0 where
   pub too_long : IsTooLong rest
   pub at_once : length rest < 4 + 65536
 
--- The end came inside a frame: something is left, and it is less than one. It doesn't begin with a length that no frame may have.
+-- The end came inside a frame: something is left, and it is less than one. It doesn't begin with a length that no frame
+-- may have.
 pub record IsTorn (rest : List ℕ) : Type 0 where
   pub some : 0 < length rest
   pub unfinished : IsUnfinished rest
@@ -41,7 +43,7 @@ Runs d read Ended (Ok totals) added = RunsToEnd d read totals added × Ended
 Runs d read Ended (Err FrameTooLong) added = RunsAll d read added IsFoundTooLong
 Runs d read Ended (Err TornFrame) added = RunsAll d read added IsTorn × Ended
 Runs d read Ended (Err ReadFailed) added = RunsAll d read added IsUnfinished
-Runs d read Ended (Err WriteFailed) added = BreaksOff d 1 read added.out added.reports
+Runs d read Ended (Err WriteFailed) added = BreaksOff (λ _. d) 1 read added
 Runs d read Ended (Err OutOfMemory) added = (read ≡ []) × (added ≡ nothing)
 
 -- ---- how often a source was asked
@@ -54,7 +56,8 @@ pub record CameInPieces (count : ℕ) (octets : List ℕ) : Type 0 where
   pub most : All (λ piece. length piece ≤ 65536) pieces
   pub many : length pieces ≡ count
 
--- A source was asked 2^40 times, and what it gave came in as many pieces. `takes_old` and `takes_new` count how often it was asked before and after.
+-- A source was asked 2^40 times, and what it gave came in as many pieces. `takes_old` and `takes_new` count how often
+-- it was asked before and after.
 pub record ReadToLimit (takes_old takes_new : ℕ) (source_old source_new : Option (List ℕ)) : Type 0 where
   pub asked : WentUpBy takes_old (2 ^ 40) takes_new
   pub read : List ℕ

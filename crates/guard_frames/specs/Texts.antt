@@ -22,10 +22,12 @@ use Rattle.guard_frames.specs.ModulesView.{types_of}
 abbrev pub SayPolicy : List (List ℕ) → List ℕ → AbstractPolicy → Type 0
 SayPolicy modules text p = (s : AbstractSchema) × Accepts modules s × Loads text (types_of s) p
 
--- Why they say none: the first fault of the modules; or, where they have none, that of the policy's text over them. Want of memory says nothing of them.
+-- Why they say none: the first fault of the modules; or, where they have none, that of the policy's text over them.
+-- Want of memory says nothing of them.
 abbrev pub SayNone : List (List ℕ) → List ℕ → TextsFault → Type 0
 SayNone modules text (Schema f) = IsSomeAnd (schema.named f) (schema_text.IsRefused modules)
-SayNone modules text (Policy f) = (s : AbstractSchema) × Accepts modules s × IsSomeAnd (policy.named f) (policy_text.IsRefused text (types_of s))
+SayNone modules text (Policy f) =
+    (s : AbstractSchema) × Accepts modules s × IsSomeAnd (policy.named f) (policy_text.IsRefused text (types_of s))
 SayNone modules text (Run f) = ⊥
 SayNone modules text OutOfMemory = Unit {0}
 
@@ -36,7 +38,7 @@ named (Policy f) = Some (Policy f)
 named (Run f) = Some (Run f)
 named OutOfMemory = None
 
--- ---- want of memory stands by one name, whoever ran out of it
+-- ---- want of memory has one name, whoever ran out of it
 
 abbrev pub of_schema : SchemaFault → TextsFault
 of_schema schema_fault.OutOfMemory = OutOfMemory

@@ -14,13 +14,13 @@ WentUpBy old k new = later new 0 ≡ later old k
 abbrev pub no_frames : Totals
 no_frames = record { frames = 0; passed = 0; denied = 0 }
 
--- after one more frame that passes
-abbrev pub after_passing : Totals → Totals
-after_passing t = record { frames = later t.frames 1; passed = later t.passed 1; denied = t.denied }
+-- after one more frame that goes
+abbrev pub after_going : Totals → Totals
+after_going t = record { frames = later t.frames 1; passed = later t.passed 1; denied = t.denied }
 
--- after one more frame that doesn't
-abbrev pub after_denying : Totals → Totals
-after_denying t = record { frames = later t.frames 1; passed = t.passed; denied = later t.denied 1 }
+-- after one more frame that stays
+abbrev pub after_staying : Totals → Totals
+after_staying t = record { frames = later t.frames 1; passed = t.passed; denied = later t.denied 1 }
 
 -- the number of the frame that comes next, from 1
 abbrev pub next_number : Totals → ℕ
@@ -28,7 +28,7 @@ next_number t = later t.frames 1
 
 -- after one more frame, and after some
 abbrev pub counted_one : Totals → Outcome → Totals
-counted_one t o = if o.went then after_passing t else after_denying t
+counted_one t o = if o.goes then after_going t else after_staying t
 
 abbrev pub counted : Totals → List Outcome → Totals
 counted t [] = t

@@ -1,6 +1,7 @@
 //! The body of a frame.
 
-/// The names of the sender, the receiver and the message, as the header of a frame gives them, and the message behind it.
+/// The names of the sender, the receiver and the message, as the header of a frame gives them, and the message after
+/// it.
 #[derive(Clone, Copy)]
 pub struct Body<'a> {
     pub sender: &'a [u8],

@@ -1,11 +1,20 @@
-//! Where the first frame of some octets ends.
+//! The first frame of some octets.
 
-ghost use Rattle.std.specs.Prelude.{◌≡◌, ◌<◌, ◌≤◌, ◌^◌, length};
+ghost use Rattle.std.specs.Prelude.{◌≡◌, ◌<◌, ◌≤◌, ◌^◌, length, drop};
 ghost use Rattle.guard_frames.specs.Frames.{stated_length};
-ghost use Rattle.guard_frames.specs.Cut.{IsCut};
+ghost use Rattle.guard_frames.specs.Inner.Cut.{IsCut};
 
 /// The longest body that a frame may have.
 pub const LONGEST_BODY: usize = 1048576;
+
+/// A whole frame.
+#[derive(Clone, Copy)]
+pub struct Frame<'a> {
+    /// all of it
+    pub octets: &'a [u8],
+    /// what follows its four octets of length
+    pub body: &'a [u8],
+}
 
 /// Octets that begin with no whole frame.
 #[derive(Clone, Copy, Debug, PartialEq, Eq)]
@@ -17,15 +26,15 @@ pub enum Rest {
 }
 
 /// What octets begin with.
-#[derive(Clone, Copy, Debug, PartialEq, Eq)]
-pub enum Cut {
-    /// a whole frame of so many octets
-    Frame(usize),
+#[derive(Clone, Copy)]
+pub enum Cut<'a> {
+    /// a whole frame
+    Frame(Frame<'a>),
     /// no whole frame
     Rest(Rest),
 }
 
-/// The length of the body that the first four octets tell.
+/// The length of the body that the first four octets state.
 pub fn body_length(octets: &[u8]) -> usize
     requires { 4 ≤ length octets.now }
     ensures value { result ≡ stated_length octets.now }
@@ -48,6 +57,18 @@ pub fn first_cut(octets: &[u8]) -> Cut
     } else if octets.len() < body + 4 {
         Cut::Rest(Rest::Unfinished)
     } else {
-        Cut::Frame(body + 4)
+        Cut::Frame(frame_of(&octets[..body + 4]))
+    }
+}
+
+/// These octets as a frame.
+fn frame_of(octets: &[u8]) -> Frame
+    requires { 4 ≤ length octets.now }
+    ensures whole { result.octets.now ≡ octets.now }
+    ensures body { result.body.now ≡ drop 4 octets.now }
+{
+    Frame {
+        octets,
+        body: &octets[4..],
     }
 }

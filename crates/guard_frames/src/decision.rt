@@ -1,32 +1,41 @@
-//! What decides which messages pass.
+//! What decides which messages go.
 
-ghost use Rattle.std.specs.Prelude.{◌≡◌, ◌⊎◌, true, IfOk, OnErr};
+ghost use Rattle.std.specs.Prelude.{◌≡◌};
 ghost use Rattle.guard_frames.specs.Bodies.{body_view, HasNames};
 ghost use Rattle.guard_frames.specs.Outcomes.{Decision};
 ghost use Rattle.guard_frames.specs.Rulings.{IsRuling};
 
 use crate::body::Body;
-use guard_model::OutOfMemory;
 use std::alloc::Global;
 
-/// What is decided of a body.
+/// What becomes of a frame.
 #[derive(Drop)]
 pub enum Ruling {
-    /// It passes.
-    Pass,
-    /// It doesn't, and this is its report line, with the frame's number and its line feed.
-    Stop(Vec<u8>),
+    /// It goes out.
+    Goes,
+    /// It stays, and this is reported of it.
+    Stays(Report),
 }
 
-/// Decides which bodies pass.
+/// What is reported of a frame that stays.
+#[derive(Drop)]
+pub enum Report {
+    /// Its body isn't three names and a message.
+    BadHeader,
+    /// There was no memory to decide it or to write its line.
+    NoMemory,
+    /// This line, with the frame's number and its line feed.
+    Line(Vec<u8>),
+}
+
+/// Decides which bodies go.
 pub trait Decide {
-    /// which bodies pass, the report line of each other one, and whether it takes memory to decide
+    /// which bodies go, the report line of each other one, and whether it takes memory to decide
     ghost decides: { Self → Decision };
 
-    /// Whether the body of the frame of this number passes, or else its report line. Want of memory is answered of a body that passes only
-    /// where it takes memory to decide.
-    fn decide(&self, alloc: Global, number: u64, body: &Body) -> Result<Ruling, OutOfMemory>
+    /// What becomes of the frame of this number, whose header is good. Want of memory keeps a body that is decided to
+    /// go only where it takes memory to decide.
+    fn decide(&self, alloc: Global, number: u64, body: &Body) -> Ruling
         requires { HasNames (body_view body.now) }
-        ensures ruling { IfOk result (IsRuling (decides self.now) number (body_view body.now)) }
-        ensures wanting { OnErr result (((decides self.now).Passes (body_view body.now) → ⊥) ⊎ ((decides self.now).takes_memory ≡ true)) };
+        ensures { IsRuling (decides self.now) number (body_view body.now) result };
 }

@@ -2,16 +2,17 @@
 
 ghost use Rattle.std.specs.Prelude.{◌≡◌, ◌⊎◌, true, false, [], IsErrOf};
 ghost use Rattle.guard_frames.specs.Frames.{IsUnfinished};
+ghost use Rattle.guard_frames.specs.Added.{Added, BothAppend};
+ghost use Rattle.guard_frames.specs.Feeding.{Takes};
 ghost use Rattle.guard_frames.specs.LinkView.{link_view};
-ghost use Rattle.guard_frames.specs.IntoSinks.{Feeds};
 ghost use Rattle.guard_frames.specs.declared.link.LinkFault.TheVariants.{WriteFailed};
 
-use crate::cut::{Cut, Rest, first_cut};
-use crate::deciding::decide;
+use crate::cut::Rest;
 use crate::decision::Decide;
 use crate::devices::Sink;
 use crate::filling::complete;
 use crate::link::{Link, LinkFault};
+use crate::putting::put_frames;
 use std::alloc::Global;
 
 impl Link {
@@ -21,8 +22,8 @@ impl Link {
     ghost use Rattle.guard_frames.specs.Feeding.{Takes};
     ghost use Rattle.guard_frames.specs.declared.link.LinkFault.TheVariants.{Closed, WriteFailed};
 
-    /// Feeds it one more piece of its stream. Of what it holds, only the frame that an earlier piece began is put together; a frame that
-    /// lies whole in the piece is decided where it lies.
+    /// Feeds it one more piece of its stream. A frame that an earlier piece began is put together in what it holds; one
+    /// that lies whole in the piece is put from where it lies.
     pub fn feed<D: Decide, O: Sink, R: Sink>(
         &mut self,
         alloc: Global,
@@ -32,11 +33,13 @@ impl Link {
         reports: &mut R,
     ) -> Result<(), LinkFault>
         ensures open { (link_view self.old).closed ≡ false → (added : Added)
-            × Takes (D.decides policy.now) (link_view self.old).totals ((link_view self.old).held ++ piece.now) (link_view self.new) result added
-            × BothAppend (O.taken out.old) (O.taken out.new) (R.taken reports.old) (R.taken reports.new) added }
+            × Takes (D.decides policy.now) (link_view self.old).totals ((link_view self.old).held ++ piece.now)
+            (link_view self.new) result added
+            × BothAppend (O.taken out.old, O.taken out.new) (R.taken reports.old, R.taken reports.new) added }
         ensures shut { (link_view self.old).closed ≡ true → (result ≡ Err Closed) × (self.new ≡ self.old)
             × (out.new ≡ out.old) × (reports.new ≡ reports.old) }
-        ensures failed { IsErrOf result WriteFailed → (O.has_failed out.new ≡ true) ⊎ (R.has_failed reports.new ≡ true) }
+        ensures failed { IsErrOf result WriteFailed →
+            (O.has_failed out.new ≡ true) ⊎ (R.has_failed reports.new ≡ true) }
     {
         if self.closed {
             return Err(LinkFault::Closed);
@@ -44,18 +47,15 @@ impl Link {
         if self.held.is_empty() {
             return feed_rest(self, alloc, policy, piece, out, reports);
         }
-        let totals = self.totals;
-        let at = complete(&mut self.held, piece);
-        match first_cut(self.held.as_slice()) {
-            Cut::Rest(Rest::Unfinished) => return Ok(()),
-            Cut::Rest(Rest::TooLong) => {
-                self.held.clear();
-                self.closed = true;
-                return Err(LinkFault::FrameTooLong);
-            }
-            Cut::Frame(_) => {}
-        }
-        let whole = match decide(alloc, policy, self.held.as_slice(), totals, out, reports) {
+        let used = complete(&mut self.held, piece);
+        let whole = match put_frames(
+            alloc,
+            policy,
+            self.held.as_slice(),
+            self.totals,
+            out,
+            reports,
+        ) {
             Ok(whole) => whole,
             Err(_) => {
                 self.held.clear();
@@ -63,9 +63,17 @@ impl Link {
                 return Err(LinkFault::WriteFailed);
             }
         };
-        self.held.clear();
         self.totals = whole.totals;
-        feed_rest(self, alloc, policy, &piece[at..], out, reports)
+        if let Rest::TooLong = whole.rest {
+            self.held.clear();
+            self.closed = true;
+            return Err(LinkFault::FrameTooLong);
+        }
+        if whole.end == 0 {
+            return Ok(());
+        }
+        self.held.clear();
+        feed_rest(self, alloc, policy, &piece[used..], out, reports)
     }
 }
 
@@ -80,11 +88,12 @@ fn feed_rest<D: Decide, O: Sink, R: Sink>(
 ) -> Result<(), LinkFault>
     requires nothing { link.old.held.items ≡ [] }
     requires open { link.old.closed ≡ false }
-    ensures feeds { Feeds (D.decides policy.now) link.old.totals piece.now (link_view link.new) result
-        (O.taken out.old) (O.taken out.new) (R.taken reports.old) (R.taken reports.new) }
+    ensures takes { (added : Added)
+        × Takes (D.decides policy.now) link.old.totals piece.now (link_view link.new) result added
+        × BothAppend (O.taken out.old, O.taken out.new) (R.taken reports.old, R.taken reports.new) added }
     ensures failed { IsErrOf result WriteFailed → (O.has_failed out.new ≡ true) ⊎ (R.has_failed reports.new ≡ true) }
 {
-    let whole = match decide(alloc, policy, piece, link.totals, out, reports) {
+    let whole = match put_frames(alloc, policy, piece, link.totals, out, reports) {
         Ok(whole) => whole,
         Err(_) => {
             link.closed = true;

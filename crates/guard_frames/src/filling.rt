@@ -31,7 +31,8 @@ pub fn complete(held: &mut Vec<u8>, piece: &[u8]) -> usize
     ensures held { held.new.items ≡ held.old.items ++ take result piece.now }
     ensures room { 1048580 ≤ vec_capacity held.new }
     ensures all { IsUnfinished held.new.items → result ≡ length piece.now }
-    ensures no_more { 4 ≤ length held.new.items → stated_length held.new.items ≤ 1048576 → length held.new.items ≤ stated_length held.new.items + 4 }
+    ensures no_more { 4 ≤ length held.new.items → stated_length held.new.items ≤ 1048576 →
+        length held.new.items ≤ stated_length held.new.items + 4 }
 {
     let mut used = 0;
     if held.len() < 4 {

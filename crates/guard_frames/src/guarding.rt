@@ -14,8 +14,9 @@ use crate::totals::Totals;
 use guard_policy::Policy;
 use std::alloc::Global;
 
-/// Reads all that the source gives. The frames whose message goes under the policy go out, in order and octet by octet as they came, and
-/// of each other one a line is reported with the reason. It answers how many there were, or why it ended before the stream's end.
+/// Reads all that the source gives. The frames whose message goes under the policy go out, in order and octet by octet
+/// as they came, and of each other one a line is reported with the reason. It answers how many there were, or why it
+/// ended before the stream's end.
 pub fn run<S: Source, O: Sink, R: Sink>(
     alloc: Global,
     source: &mut S,
@@ -24,14 +25,16 @@ pub fn run<S: Source, O: Sink, R: Sink>(
     policy: &Policy,
 ) -> Result<Totals, RunFault>
     // What is read, goes out and is reported, by the answer;
-    ensures runs { Moves (S.tells source.old) (S.tells source.new) (O.taken out.old) (O.taken out.new) (R.taken reports.old) (R.taken reports.new)
+    ensures runs { Moves (S.tells source.old, S.tells source.new) (O.taken out.old, O.taken out.new)
+        (R.taken reports.old, R.taken reports.new)
         (λ read added. Runs (decision_of (policy_view policy.now)) read (IsAtEnd (S.tells source.new)) result added) }
     // a fault of a device is answered only where it has failed, or where the source was asked 2^40 times;
     ensures failed { IsErrOf result WriteFailed → (O.has_failed out.new ≡ true) ⊎ (R.has_failed reports.new ≡ true) }
     ensures unread { IsErrOf result ReadFailed → (S.has_failed source.new ≡ true)
         ⊎ ReadToLimit (S.takes source.old) (S.takes source.new) (S.tells source.old) (S.tells source.new) }
     // and want of memory before anything is done.
-    ensures untouched { IsErrOf result NoMemory → (source.new ≡ source.old) × (out.new ≡ out.old) × (reports.new ≡ reports.old) }
+    ensures untouched { IsErrOf result NoMemory →
+        (source.new ≡ source.old) × (out.new ≡ out.old) × (reports.new ≡ reports.old) }
 {
     decide_stream(alloc, source, out, reports, policy)
 }

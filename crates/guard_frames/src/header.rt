@@ -1,25 +1,14 @@
 //! Reads the header of a frame.
 
-ghost use Rattle.std.specs.Prelude.{◌≡◌, drop, option_map};
+ghost use Rattle.std.specs.Prelude.{◌≡◌, option_map};
 ghost use Rattle.guard_frames.specs.Bodies.{body_view, name_first, body_in};
 
 use crate::body::Body;
 use guard_policy::is_name;
 
-/// The body of a frame, or none where its header is bad.
-#[tactic(auto, using(crate::proofs::Headers::short_frame, crate::proofs::Headers::body_behind))]
-pub fn body_of(frame: &[u8]) -> Option<Body>
-    ensures { option_map body_view result ≡ body_in (drop 4 frame.now) }
-{
-    if frame.len() < 4 {
-        return None;
-    }
-    read_body(&frame[4..])
-}
-
-/// Three names, and what follows them.
+/// Three names, and the message that follows them; none where they aren't there.
 #[tactic(auto, unfolding(crate::specs::Bodies::body_in))]
-fn read_body(octets: &[u8]) -> Option<Body>
+pub fn read_body(octets: &[u8]) -> Option<Body>
     ensures { option_map body_view result ≡ body_in octets.now }
 {
     let (sender, rest) = first_name(octets)?;
@@ -33,7 +22,7 @@ fn read_body(octets: &[u8]) -> Option<Body>
     })
 }
 
-/// The name behind its length at the front, and what follows it.
+/// The name after its length at the front, and what follows it.
 #[tactic(auto, unfolding(crate::specs::Bodies::name_first))]
 fn first_name(octets: &[u8]) -> Option<(&[u8], &[u8])>
     ensures { option_map (λ found. (found.0.now, found.1.now)) result ≡ name_first octets.now }
@@ -45,9 +34,9 @@ fn first_name(octets: &[u8]) -> Option<(&[u8], &[u8])>
     if rest.len() < length {
         return None;
     }
-    let (name, behind) = rest.split_at(length);
+    let (name, others) = rest.split_at(length);
     if is_name(name) {
-        Some((name, behind))
+        Some((name, others))
     } else {
         None
     }

@@ -4,12 +4,12 @@ ghost use Rattle.std.specs.Prelude.{◌≡◌, ◌⊎◌, ℕ, List, ◌++◌, �
 ghost use Rattle.guard_frames.specs.Bodies.{AbstractBody, IsBody, body_in};
 ghost use Rattle.guard_frames.specs.Frames.{ConsistsOf};
 ghost use Rattle.guard_frames.specs.Outcomes.{Goes, Outcome};
-ghost use Rattle.guard_frames.specs.Guarding.{Adds, HadNoMemory};
+ghost use Rattle.guard_frames.specs.Guarding.{Adds, StaysNoMemory};
 
 use crate::decision::Decide;
 
-/// It doesn't matter how a stream was cut into pieces: the frames of two pieces joined are those of the first, and then those of its rest
-/// with the second behind it.
+/// It doesn't matter how a stream was cut into pieces: the frames of two pieces joined are those of the first, and then
+/// those of its rest with the second after it.
 pub fn law_any_cut()
     ensures { (a b : List ℕ) (frames others : List (List ℕ)) (rest last : List ℕ) →
         ConsistsOf a frames rest → ConsistsOf (rest ++ b) others last → ConsistsOf (a ++ b) (frames ++ others) last }
@@ -22,19 +22,20 @@ pub fn law_one_reading()
         ConsistsOf stream frames rest → ConsistsOf stream others last → (frames ≡ others) × (rest ≡ last) }
 {}
 
-/// Where it takes no memory to decide, a frame went exactly where it goes.
-pub fn law_went_exactly<D: Decide>(policy: &D)
-    ensures { (n : ℕ) (o : Outcome) (line : List ℕ) → (D.decides policy.now).takes_memory ≡ false → Adds (D.decides policy.now) n o line →
-        (o.went ≡ true) ↔ Goes (D.decides policy.now) o.frame }
+/// Where it takes no memory to decide, exactly those frames go out that are decided to go.
+pub fn law_goes_exactly<D: Decide>(policy: &D)
+    ensures { (n : ℕ) (o : Outcome) (line : List ℕ) →
+        (D.decides policy.now).takes_memory ≡ false → Adds (D.decides policy.now) n o line →
+        (o.goes ≡ true) ↔ Goes (D.decides policy.now) o.frame }
 {}
 
-/// A frame went exactly where it goes, but for one whose line says that there was no memory.
-pub fn law_went_but_for_memory<D: Decide>(policy: &D)
+/// Exactly those frames go out that are decided to go, but for one whose line says that there was no memory.
+pub fn law_goes_but_for_memory<D: Decide>(policy: &D)
     ensures { (n : ℕ) (o : Outcome) (line : List ℕ) → Adds (D.decides policy.now) n o line →
-        HadNoMemory (D.decides policy.now) n o line ⊎ ((o.went ≡ true) ↔ Goes (D.decides policy.now) o.frame) }
+        StaysNoMemory (D.decides policy.now) n o line ⊎ ((o.goes ≡ true) ↔ Goes (D.decides policy.now) o.frame) }
 {}
 
-/// A body that is read stands there, and one that stands there is read: three names, each behind its length, and the message.
+/// A body that is read is there, and one that is there is read: three names, each after its length, and the message.
 pub fn law_one_header()
     ensures read { (octets : List ℕ) (body : AbstractBody) → body_in octets ≡ Some body → IsBody octets body }
     ensures only { (octets : List ℕ) (body : AbstractBody) → IsBody octets body → body_in octets ≡ Some body }

@@ -1,28 +1,27 @@
-//! Frames: a stream of octets in, those of its frames that pass out, and a report line for each other one. What passes is decided by what
-//! implements `Decide`, as a policy does.
+//! Frames: a stream of octets in, those of its frames that go out, and a report line for each one that stays. Which
+//! frames go is decided by what implements `Decide`, as a policy does.
 //!
 //! | question | code | definition |
 //! |---|---|---|
-//! | What is a frame, and how is a stream cut into frames? | `cut.rt` (`first_cut`) | `specs/Frames.antt`, `specs/Cut.antt` |
+//! | What is a frame, and how is a stream cut into frames? | `cut.rt` (`first_cut`) | `specs/Frames.antt`, `specs/Inner/Cut.antt` |
 //! | What is the header of a frame? | `body.rt`, `header.rt` | `specs/Bodies.antt`; a name: `specs/Names.antt` of `guard_policy` |
-//! | Who decides which bodies pass, and which frames go? | `decision.rt` (`Decide`) | `specs/Outcomes.antt` (`Decision`, `Goes`), `specs/Rulings.antt` |
-//! | What goes out, and which line is reported of what doesn't? | `report.rt` | `specs/Guarding.antt` (`text_out`, `Adds`) |
+//! | Who decides which bodies go, and what may it answer? | `decision.rt` (`Decide`, `Ruling`, `Report`) | `specs/Outcomes.antt` (`Decision`, `Goes`), `specs/Rulings.antt` |
+//! | What becomes of one frame, and which line is reported of one that stays? | `report.rt` (`judge`, `put_report`) | `specs/Guarding.antt` (`Adds`), `specs/Inner/Judged.antt` |
+//! | What goes out of some octets that lie in memory, and what is reported of them? | `putting.rt` (`put_frames`) | `specs/Guarding.antt` (`text_out`, `AllAdd`, `BreaksOff`), `specs/Inner/Putting.antt` |
 //! | How many frames were there? | `totals.rt` (`Totals`) | `specs/Totals.antt`, `specs/Guarding.antt` (`Counts`) |
 //! | What is read from and written to, and what does a failure leave? | `devices.rt` (`Sink`, `Source`) | the clauses of the traits, `specs/Prefix.antt` |
 //! | How are a file or pipe, or a list in memory, a source or a sink? | `through.rt` (`Through`), `kept.rt` (`Kept`) | |
-//! | Which frames of some octets go side by side, and how are all of them decided where they lie? | `passing.rt`, `deciding.rt` | `specs/SideBySide.antt`, `specs/Decided.antt` |
 //! | What does a link hold, and how does the next piece complete it? | `link.rt` (`Link`), `filling.rt` | `specs/LinkView.antt`, `specs/Frames.antt` (`IsUnfinished`) |
 //! | What does a piece, or the end, do to a link? | `feeding.rt` (`Link::feed`), `link.rt` (`Link::end`) | `specs/Feeding.antt`, `specs/Added.antt` |
 //! | What does a whole run read and add, and what when a device fails? | `running.rt` (`decide_stream`) | `specs/Runs.antt`, `specs/Added.antt` |
 //! | How does a policy decide, and what comes of a stream under it? | `policies.rt`, `guarding.rt` (`run`) | `specs/OfPolicy.antt`, `specs/Runs.antt` |
-//! | On which modules does a policy stand? | `modules.rt` (`Modules`) | `specs/ModulesView.antt` |
+//! | Over which modules is a policy loaded? | `modules.rt` (`Modules`) | `specs/ModulesView.antt` |
 //! | What do texts say, and what comes of a stream under it? | `texts.rt` (`load_texts`, `run_texts`) | `specs/Texts.antt`, `specs/RunsTexts.antt` |
-//! | Does it matter how a stream was cut? Has each stream one reading? Which frames went? | `laws.rt` | `specs/Frames.antt`, `specs/Guarding.antt` |
+//! | Does it matter how a stream was cut? Has each stream one reading? Which frames go out? | `laws.rt` | `specs/Frames.antt`, `specs/Guarding.antt` |
 #![tactic(auto)]
 
 mod body;
 mod cut;
-mod deciding;
 mod decision;
 mod devices;
 mod feeding;
@@ -33,8 +32,8 @@ mod kept;
 pub mod laws;
 mod link;
 mod modules;
-mod passing;
 mod policies;
+mod putting;
 mod report;
 mod running;
 mod texts;
@@ -42,7 +41,7 @@ mod through;
 mod totals;
 
 pub use body::Body;
-pub use decision::{Decide, Ruling};
+pub use decision::{Decide, Report, Ruling};
 pub use devices::{Failed, Sink, Source, put_all};
 pub use guarding::run;
 pub use kept::Kept;

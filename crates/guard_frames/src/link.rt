@@ -23,8 +23,8 @@ pub enum LinkFault {
     TornFrame,
 }
 
-/// Cuts one stream into frames. It holds the octets of the frame that has begun and isn't whole yet, and nothing once it is closed; room
-/// for the longest one is reserved once.
+/// Cuts one stream into frames. It holds the octets of the frame that has begun and isn't whole yet, and nothing once
+/// it is closed; room for the longest one is reserved once.
 #[derive(Drop)]
 pub struct Link {
     pub(crate) held: Vec<u8>,
@@ -54,7 +54,8 @@ impl Link {
 
     /// The end of its stream. Whatever it answers, the link is closed then, and holds nothing.
     pub fn end(&mut self) -> Result<(), LinkFault>
-        ensures torn { (link_view self.old).closed ≡ false → 0 < length (link_view self.old).held → result ≡ Err TornFrame }
+        ensures torn { (link_view self.old).closed ≡ false → 0 < length (link_view self.old).held →
+            result ≡ Err TornFrame }
         ensures whole { (link_view self.old).closed ≡ false → (link_view self.old).held ≡ [] → result ≡ Ok tt }
         ensures shut { (link_view self.old).closed ≡ true → (result ≡ Err Closed) × (self.new ≡ self.old) }
         ensures closes { IsShut (link_view self.new) }

@@ -1,4 +1,4 @@
-//! The modules that a policy stands on.
+//! The modules that a policy is loaded over.
 
 ghost use Rattle.std.specs.Prelude.{◌≤◌, length};
 ghost use Rattle.guard_schema.specs.Views.{schema_view};
@@ -8,7 +8,7 @@ use guard_policy::Types;
 use guard_schema::{Schema, SchemaFault};
 use std::alloc::Global;
 
-/// The schema of the texts of modules, of which there are 64 at most, as what a policy stands on.
+/// The schema of the texts of modules, of which there are 64 at most, as what a policy is loaded over.
 #[derive(Drop)]
 pub struct Modules {
     schema: Schema,
@@ -27,7 +27,8 @@ impl Modules {
     pub fn build(alloc: Global, texts: &[&[u8]]) -> Result<Modules, SchemaFault>
         ensures accepted { IfOk result (λ m. Accepts (map (λ t. t.now) texts.now) (schema_of m)) }
         ensures refused { IfErr result (λ f. IfSome (named f) (IsRefused (map (λ t. t.now) texts.now))) }
-        ensures only { (s : AbstractSchema) → Accepts (map (λ t. t.now) texts.now) s → Gives schema_of named result (Ok s) }
+        ensures only { (s : AbstractSchema) → Accepts (map (λ t. t.now) texts.now) s →
+            Gives schema_of named result (Ok s) }
     {
         let schema = Schema::build(alloc, texts)?;
         Ok(Modules { schema })

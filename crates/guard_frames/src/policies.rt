@@ -1,4 +1,4 @@
-//! A policy decides which bodies pass: those whose message goes.
+//! A policy decides which bodies go: those whose message goes.
 
 ghost use Rattle.std.specs.Prelude.{◌≡◌};
 ghost use Rattle.guard_policy.specs.PolicyView.{policy_view, route_view};
@@ -6,8 +6,7 @@ ghost use Rattle.guard_frames.specs.Bodies.{body_view};
 ghost use Rattle.guard_frames.specs.OfPolicy.{route_of, decision_of};
 
 use crate::body::Body;
-use crate::decision::{Decide, Ruling};
-use guard_model::OutOfMemory;
+use crate::decision::{Decide, Report, Ruling};
 use guard_policy::{Policy, Route, Verdict};
 use guard_report::line;
 use std::alloc::Global;
@@ -15,13 +14,18 @@ use std::alloc::Global;
 impl Decide for Policy {
     ghost decides = { λ policy. decision_of (policy_view policy) };
 
-    fn decide(&self, alloc: Global, number: u64, body: &Body) -> Result<Ruling, OutOfMemory> {
+    fn decide(&self, alloc: Global, number: u64, body: &Body) -> Ruling {
         let route = route_of(body);
-        let verdict = self.verdict(alloc, &route, body.message)?;
+        let Ok(verdict) = self.verdict(alloc, &route, body.message) else {
+            return Ruling::Stays(Report::NoMemory);
+        };
         if let Verdict::Pass = verdict {
-            return Ok(Ruling::Pass);
+            return Ruling::Goes;
         }
-        Ok(Ruling::Stop(line(alloc, number, &route, &verdict, self)?))
+        match line(alloc, number, &route, &verdict, self) {
+            Ok(line) => Ruling::Stays(Report::Line(line)),
+            Err(_) => Ruling::Stays(Report::NoMemory),
+        }
     }
 }
 

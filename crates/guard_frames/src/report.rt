@@ -1,38 +1,25 @@
-//! Whether a frame goes, and the line that is reported of one that doesn't.
+//! What becomes of a frame, and the line that is reported of one that stays.
 
-ghost use Rattle.std.specs.Prelude.{◌≡◌, ◌++◌, true, List, ℕ, OnOk, OnErr, decimal};
+ghost use Rattle.std.specs.Prelude.{◌≡◌, ◌++◌, true, List, ℕ, drop, OnOk, OnErr, decimal};
 ghost use Rattle.std.specs.Io.KnownBytes.{Appends};
 ghost use Rattle.guard_frames.specs.Prefix.{IsProperPrefix};
-ghost use Rattle.guard_frames.specs.Rulings.{IsJudged, report_line};
+ghost use Rattle.guard_frames.specs.Inner.Judged.{IsJudged, report_line};
 
-use crate::decision::{Decide, Ruling};
+use crate::cut::Frame;
+use crate::decision::{Decide, Report, Ruling};
 use crate::devices::{Failed, Sink, put_all};
-use crate::header::body_of;
+use crate::header::read_body;
 use itoa::Buffer;
 use std::alloc::Global;
 
-/// Why a frame stays.
-#[derive(Drop)]
-pub enum Report {
-    /// Its body isn't three names and a message.
-    BadHeader,
-    /// There was no memory to decide it or to write its line.
-    NoMemory,
-    /// This is its line.
-    Line(Vec<u8>),
-}
-
-/// Why the frame of this number stays, or none where it goes.
-pub fn judge<D: Decide>(alloc: Global, policy: &D, number: u64, frame: &[u8]) -> Option<Report>
-    ensures { IsJudged (D.decides policy.now) number frame.now result }
+/// What becomes of the frame of this number.
+pub fn judge<D: Decide>(alloc: Global, policy: &D, number: u64, frame: &Frame) -> Ruling
+    requires { frame.now.body.now ≡ drop 4 frame.now.octets.now }
+    ensures { IsJudged (D.decides policy.now) number frame.now.octets.now result }
 {
-    let Some(body) = body_of(frame) else {
-        return Some(Report::BadHeader);
-    };
-    match policy.decide(alloc, number, &body) {
-        Ok(Ruling::Pass) => None,
-        Ok(Ruling::Stop(line)) => Some(Report::Line(line)),
-        Err(_) => Some(Report::NoMemory),
+    match read_body(frame.body) {
+        Some(body) => policy.decide(alloc, number, &body),
+        None => Ruling::Stays(Report::BadHeader),
     }
 }
 

@@ -58,8 +58,8 @@ fn read_piece<S: Source>(source: &mut S, buffer: &mut Vec<u8>) -> Result<usize, 
     source.take(buffer.as_mut_slice())
 }
 
-/// Reads all that the source gives, and decides it: the frames that pass go out, in order and octet by octet as they came, and a line is
-/// reported for each other one. It answers how many there were.
+/// Reads all that the source gives, and decides it: the frames that go are put out, in order and octet by octet as they
+/// came, and a line is reported for each one that stays. It answers how many there were.
 pub fn decide_stream<S: Source, D: Decide, O: Sink, R: Sink>(
     alloc: Global,
     source: &mut S,
@@ -67,12 +67,14 @@ pub fn decide_stream<S: Source, D: Decide, O: Sink, R: Sink>(
     reports: &mut R,
     policy: &D,
 ) -> Result<Totals, RunFault>
-    ensures runs { Moves (S.tells source.old) (S.tells source.new) (O.taken out.old) (O.taken out.new) (R.taken reports.old) (R.taken reports.new)
+    ensures runs { Moves (S.tells source.old, S.tells source.new) (O.taken out.old, O.taken out.new)
+        (R.taken reports.old, R.taken reports.new)
         (λ read added. Runs (D.decides policy.now) read (IsAtEnd (S.tells source.new)) result added) }
     ensures failed { IsErrOf result WriteFailed → (O.has_failed out.new ≡ true) ⊎ (R.has_failed reports.new ≡ true) }
     ensures unread { IsErrOf result ReadFailed → (S.has_failed source.new ≡ true)
         ⊎ ReadToLimit (S.takes source.old) (S.takes source.new) (S.tells source.old) (S.tells source.new) }
-    ensures untouched { IsErrOf result NoMemory → (source.new ≡ source.old) × (out.new ≡ out.old) × (reports.new ≡ reports.old) }
+    ensures untouched { IsErrOf result NoMemory →
+        (source.new ≡ source.old) × (out.new ≡ out.old) × (reports.new ≡ reports.old) }
 {
     let Ok(mut link) = Link::new(alloc) else {
         return Err(RunFault::OutOfMemory);

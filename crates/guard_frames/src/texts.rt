@@ -1,4 +1,4 @@
-//! From the texts of modules and of a policy to what passes of a stream.
+//! From the texts of modules and of a policy to what comes of a stream.
 
 ghost use Rattle.std.specs.Prelude.{◌≡◌, ◌⊎◌, true, map, Ok, IfOk, IfErr, IsErrOf};
 ghost use Rattle.guard_model.specs.Answer.{Gives};
@@ -22,8 +22,8 @@ use guard_schema::SchemaFault;
 use std::alloc::Global;
 use thiserror::Error;
 
-/// Why texts say no policy, or why a run under the one that they say ended before its stream's end. A fault of a layer prints as itself. OutOfMemory
-/// may stand in place of any answer, and no other variant stands for it.
+/// Why texts say no policy, or why a run under the one that they say ended before its stream's end. A fault of a layer
+/// prints as itself. OutOfMemory may come in place of any answer, and no other variant says it.
 #[derive(Debug, Drop, Error)]
 pub enum TextsFault {
     /// The modules' first fault.
@@ -74,12 +74,14 @@ impl From<RunFault> for TextsFault {
 
 /// The policy that a text says over the modules of other texts.
 ///
-/// A refusal names the first fault of the modules, or, where they have none, that of the policy's text. OutOfMemory may stand in place of any answer.
+/// A refusal names the first fault of the modules, or, where they have none, that of the policy's text. OutOfMemory may
+/// come in place of any answer.
 pub fn load_texts(alloc: Global, modules: &[&[u8]], text: &[u8]) -> Result<Policy, TextsFault>
     // What is answered is what the texts say,
     ensures said { IfOk result (λ p. SayPolicy (map (λ t. t.now) modules.now) text.now (policy_view p)) }
     // and what they say is answered, unless memory runs out.
-    ensures only { (p : AbstractPolicy) → SayPolicy (map (λ t. t.now) modules.now) text.now p → Gives policy_view named result (Ok p) }
+    ensures only { (p : AbstractPolicy) → SayPolicy (map (λ t. t.now) modules.now) text.now p →
+        Gives policy_view named result (Ok p) }
     // A refusal says why they say none.
     ensures refused { IfErr result (SayNone (map (λ t. t.now) modules.now) text.now) }
 {
@@ -87,7 +89,8 @@ pub fn load_texts(alloc: Global, modules: &[&[u8]], text: &[u8]) -> Result<Polic
     Ok(Policy::load(alloc, text, &types)?)
 }
 
-/// Guards one stream under the policy that a text says over the modules of other texts, as `run` does. Nothing is read where they say none.
+/// Guards one stream under the policy that a text says over the modules of other texts, as `run` does. Nothing is read
+/// where they say none.
 pub fn run_texts<S: Source, O: Sink, R: Sink>(
     alloc: Global,
     modules: &[&[u8]],
@@ -97,13 +100,17 @@ pub fn run_texts<S: Source, O: Sink, R: Sink>(
     reports: &mut R,
 ) -> Result<Totals, TextsFault>
     // What comes of the stream is what comes of it under the policy that the texts say, or they say none;
-    ensures runs { Moves (S.tells source.old) (S.tells source.new) (O.taken out.old) (O.taken out.new) (R.taken reports.old) (R.taken reports.new)
-        (λ read added. RunsTexts (map (λ t. t.now) modules.now) text.now read (IsAtEnd (S.tells source.new)) result added) }
-    ensures failed { IsErrOf result (Run WriteFailed) → (O.has_failed out.new ≡ true) ⊎ (R.has_failed reports.new ≡ true) }
+    ensures runs { Moves (S.tells source.old, S.tells source.new) (O.taken out.old, O.taken out.new)
+        (R.taken reports.old, R.taken reports.new)
+        (λ read added.
+        RunsTexts (map (λ t. t.now) modules.now) text.now read (IsAtEnd (S.tells source.new)) result added) }
+    ensures failed { IsErrOf result (Run WriteFailed) →
+        (O.has_failed out.new ≡ true) ⊎ (R.has_failed reports.new ≡ true) }
     ensures unread { IsErrOf result (Run ReadFailed) → (S.has_failed source.new ≡ true)
         ⊎ ReadToLimit (S.takes source.old) (S.takes source.new) (S.tells source.old) (S.tells source.new) }
     // and where they say none, or there is no memory to begin, nothing is done.
-    ensures untouched { IfErr result (λ f. IsNoRun f → (source.new ≡ source.old) × (out.new ≡ out.old) × (reports.new ≡ reports.old)) }
+    ensures untouched { IfErr result (λ f. IsNoRun f →
+        (source.new ≡ source.old) × (out.new ≡ out.old) × (reports.new ≡ reports.old)) }
 {
     let policy = load_texts(alloc, modules, text)?;
     Ok(run(alloc, source, out, reports, &policy)?)

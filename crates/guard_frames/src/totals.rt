@@ -1,6 +1,7 @@
 //! How many frames there were.
 
-/// How many whole frames there were, how many of them passed, and how many did not. Each number stays at the greatest of 64 bits.
+/// How many whole frames there were, how many of them went out, and how many stayed. Each number stays at the greatest
+/// of 64 bits.
 #[derive(Clone, Copy, Debug, PartialEq, Eq)]
 pub struct Totals {
     pub frames: u64,
@@ -10,7 +11,7 @@ pub struct Totals {
 
 impl Totals {
     ghost use Rattle.std.specs.Prelude.{◌≡◌};
-    ghost use Rattle.guard_frames.specs.Totals.{no_frames, after_passing, after_denying, next_number};
+    ghost use Rattle.guard_frames.specs.Totals.{no_frames, after_going, after_staying, next_number};
 
     /// Before the first frame.
     pub fn none() -> Totals
@@ -23,9 +24,9 @@ impl Totals {
         }
     }
 
-    /// After one more frame that passes.
-    pub fn with_passed(self) -> Totals
-        ensures { result ≡ after_passing self }
+    /// After one more frame that goes.
+    pub fn after_going(self) -> Totals
+        ensures { result ≡ after_going self }
     {
         Totals {
             frames: self.frames.saturating_add(1),
@@ -34,9 +35,9 @@ impl Totals {
         }
     }
 
-    /// After one more frame that does not.
-    pub fn with_denied(self) -> Totals
-        ensures { result ≡ after_denying self }
+    /// After one more frame that stays.
+    pub fn after_staying(self) -> Totals
+        ensures { result ≡ after_staying self }
     {
         Totals {
             frames: self.frames.saturating_add(1),

@@ -1,9 +1,9 @@
-use Rattle.std.proofs.Common.{map, [], Ok, Err}
+use Rattle.std.proofs.Common.{map, [], Ok}
 use Rattle.std.specs.Io.KnownBytes.{IsAtEnd}
 use Rattle.std.proofs.lemmas.Result.{err_from_is_err_and}
 use Rattle.guard_policy.specs.PolicyView.{policy_view}
 use Rattle.guard_frames.specs.Added.{nothing}
-use Rattle.guard_frames.proofs.Appending.{Appends_none}
+use Rattle.guard_frames.proofs.Appending.{both_none}
 use Rattle.guard_frames.proofs.Reading.{Consumes_none}
 use Rattle.guard_frames.proofs.UnderTexts.{read_failed, fault_of_texts, same_under, none_of_texts}
 use Rattle.guard_frames.proofs.texts.run_texts.Goals as goal
@@ -31,7 +31,7 @@ returns-in_err-policy-clause-runs g c =
       read = [];
       added = nothing;
       given = Consumes_none (g.S.Source.tells c.args.source.now);
-      taken = record { out = Appends_none (g.O.Sink.taken c.args.out.now); reports = Appends_none (g.R.Sink.taken c.args.reports.now) };
+      taken = both_none (g.O.Sink.taken c.args.out.now) (g.R.Sink.taken c.args.reports.now);
       holds = none_of_texts (IsAtEnd (g.S.Source.tells c.args.source.now)) (map (λ t. t.now) c.args.modules.now) c.args.text.now c.in_err-policy.field-0.0
           c.in_err-policy.ensures.refused c.in_err-policy.ensures.only;
     })

@@ -19,21 +19,18 @@ not_pass (verdict.DeniedBy i) none e = absurd cc
 not_pass (verdict.NotAllowed rules) none e = absurd cc
 not_pass verdict.NoRule none e = absurd cc
 
-pub returns : goal.returns
-returns c =
+pub returns-in-Ok-line : goal.returns-in-Ok-line
+returns-in-Ok-line c =
     let p = policy_view c.args.self.now in
     let octets = c.args.body.now.message.now in
-    let v = c.in_ok-verdict.verdict in
+    let v = c.in-Ok.verdict in
     let same : route_view c.route_of-route.result ≡ route_of (body_view c.args.body.now) = c.route_of-route.ensures in
-    let line = c.in_ok-line.field-0.items in
-    record {
-      ruling = (
-        λ go. not_pass v c.in_default.not-Pass (c.in_ok-verdict.ensures.passes.1 (subst (λ (r : AbstractRoute). Goes p r octets) (sym same) go)),
-        (
-          verdict_view v,
-          subst (λ (r : AbstractRoute). IsReason p r octets (verdict_view v)) same c.in_ok-verdict.ensures.reason,
-          subst (λ (r : AbstractRoute). line ≡ line_octets p r c.args.number (verdict_view v)) same c.in_ok-line.ensures,
-        ),
-      );
-      wanting = tt;
-    }
+    let line = c.in-Ok-line.line.items in (
+      λ go. not_pass v c.in_default-verdict.not-Pass
+          (c.in-Ok.ensures.passes.1 (subst (λ (r : AbstractRoute). Goes p r octets) (sym same) go)),
+      (
+        verdict_view v,
+        subst (λ (r : AbstractRoute). IsReason p r octets (verdict_view v)) same c.in-Ok.ensures.reason,
+        subst (λ (r : AbstractRoute). line ≡ line_octets p r c.args.number (verdict_view v)) same c.in-Ok-line.ensures,
+      ),
+    )

@@ -1,0 +1,4 @@
+-- What private contracts alone cite: the parts of the code.
+pub mod Cut
+pub mod Judged
+pub mod Putting

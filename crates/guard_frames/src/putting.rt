@@ -1,0 +1,71 @@
+//! Puts the whole frames of some octets where they go, from where they lie.
+
+ghost use Rattle.std.specs.Prelude.{◌≡◌, ◌⊎◌, true, IfOk, OnErr};
+ghost use Rattle.guard_frames.specs.Totals.{next_number};
+ghost use Rattle.guard_frames.specs.Added.{Added, BothAppend};
+ghost use Rattle.guard_frames.specs.Guarding.{BreaksOff};
+ghost use Rattle.guard_frames.specs.Inner.Putting.{ArePut};
+
+use crate::cut::{Cut, Rest, first_cut};
+use crate::decision::{Decide, Ruling};
+use crate::devices::{Failed, Sink, put_all};
+use crate::report::{judge, put_report};
+use crate::totals::Totals;
+use std::alloc::Global;
+
+/// How far the whole frames of some octets reach.
+#[derive(Clone, Copy, Debug)]
+pub struct Whole {
+    /// how many octets they take
+    pub end: usize,
+    /// the totals after them
+    pub totals: Totals,
+    /// what comes next
+    pub rest: Rest,
+}
+
+/// Decides the whole frames at the front of the octets, counted on from `totals`, and puts each one that goes, or the
+/// report of one that stays. Frames that go side by side are put in one call, before the report of a frame after them.
+pub fn put_frames<D: Decide, O: Sink, R: Sink>(
+    alloc: Global,
+    policy: &D,
+    octets: &[u8],
+    totals: Totals,
+    out: &mut O,
+    reports: &mut R,
+) -> Result<Whole, Failed>
+    ensures whole { IfOk result (λ whole. (added : Added)
+        × ArePut (D.decides policy.now) totals octets.now whole added
+        × BothAppend (O.taken out.old, O.taken out.new) (R.taken reports.old, R.taken reports.new) added) }
+    ensures failure { OnErr result ((added : Added)
+        × BreaksOff (λ _. D.decides policy.now) (next_number totals) octets.now added
+        × BothAppend (O.taken out.old, O.taken out.new) (R.taken reports.old, R.taken reports.new) added) }
+    ensures failed { OnErr result ((O.has_failed out.new ≡ true) ⊎ (R.has_failed reports.new ≡ true)) }
+{
+    let mut totals = totals;
+    let mut sent = 0;
+    let mut end = 0;
+    loop {
+        let frame = match first_cut(&octets[end..]) {
+            Cut::Frame(frame) => frame,
+            Cut::Rest(rest) => {
+                put_all(out, &octets[sent..end])?;
+                return Ok(Whole { end, totals, rest });
+            }
+        };
+        let number = totals.next_number();
+        match judge(alloc, policy, number, &frame) {
+            Ruling::Goes => {
+                end += frame.octets.len();
+                totals = totals.after_going();
+            }
+            Ruling::Stays(report) => {
+                put_all(out, &octets[sent..end])?;
+                put_report(reports, number, &report)?;
+                end += frame.octets.len();
+                totals = totals.after_staying();
+                sent = end;
+            }
+        }
+    }
+}

@@ -1,33 +1,12 @@
-//! The guard: decides messages by a policy, lets through a stream what the policy allows, and says why it stops the rest.
+//! The guard as a process: the program over the machine's files, standard input, standard output and standard error.
 //!
-//! | question | code | definition |
-//! |---|---|---|
-//! | Which words are which request? | `words.rt` | `tests/program`; a request is a value of `Request` (`request.rt`, `specs/Requests.antt`) |
-//! | What is it to meet a request? | `program.rt` (`program`, `meet`) | `specs/Meeting.antt` |
-//! | What is answered to `check` and `decide`, and which fault stands? | `checking.rt`, `deciding.rt`, `answer.rt` | `specs/Answers.antt` |
-//! | What comes of a stream? | `guarding.rt` | `specs/Meeting.antt` (`GuardsStream`) |
-//! | Which texts does a policy at a path need? | `texts.rt`, `files.rt` | `specs/Reading.antt`, `specs/Files.antt` |
-//! | What is told of a fault, and which status is it? | `fault.rt`, `outputs.rt` | `specs/Faults.antt`, `specs/Writing.antt` |
-//! | Which policy is built in, and what is printed for its messages? | `first_run.rt` | `specs/FirstRun.antt`, `specs/Printing.antt` |
+//! What it does is the library `derguard_program`; where its files come from is `real_files.rt`.
 #![tactic(auto)]
 
-mod answer;
-mod checking;
-mod deciding;
-mod fault;
-mod files;
-mod first_run;
-mod guarding;
-mod outputs;
-mod program;
 mod real_files;
-mod request;
-mod texts;
-mod words;
 
+use derguard_program::{program, tell_no_memory, tell_text};
 use guard_frames::{Sink, Through};
-use outputs::{tell_no_memory, tell_text};
-use program::program;
 use real_files::RealFiles;
 use std::alloc::{AllocError, Global};
 use std::io::ErrorKind;
@@ -37,7 +16,7 @@ use std::{env, io};
 /// The status where the words are bad.
 const BAD_WORDS: u8 = 2;
 
-/// Does what the words of the command line ask for, over the machine's files, standard input, standard output and standard error.
+/// Does what the words of the command line ask for.
 fn main(rt: HostRuntime) -> ExitCode {
     let mut err = Through::new(rt.stderr());
     let status = match words_of(&rt) {
@@ -62,7 +41,7 @@ fn started<E: Sink>(rt: &HostRuntime, words: &[String], err: &mut E) -> u8 {
     program(
         rt.alloc(),
         &words,
-        &mut RealFiles::new(rt),
+        &mut RealFiles { rt },
         &mut input,
         &mut out,
         err,

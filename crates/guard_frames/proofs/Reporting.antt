@@ -5,7 +5,7 @@ use Rattle.guard_frames.specs.Bodies.{AbstractBody, IsBody, HasNames, body_in}
 use Rattle.guard_frames.specs.Outcomes.{Decision, staying}
 use Rattle.guard_frames.specs.Guarding.{Adds}
 use Rattle.guard_frames.specs.Rulings.{IsRuling}
-use Rattle.guard_frames.specs.Inner.Judged.{IsJudged}
+use Rattle.guard_frames.specs.inside.Judged.{IsJudged}
 use Rattle.guard_frames.specs.declared.decision.Ruling.{Ruling}
 use Rattle.guard_frames.specs.declared.decision.Ruling.TheVariants as ruling
 use Rattle.guard_frames.specs.declared.decision.Report.TheVariants.{BadHeader, NoMemory, Line}

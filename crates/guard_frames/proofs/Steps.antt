@@ -13,8 +13,8 @@ use Rattle.guard_frames.specs.Totals.{after_going, after_staying, next_number, c
 use Rattle.guard_frames.specs.Outcomes.{Decision, Goes, Outcome, staying}
 use Rattle.guard_frames.specs.Added.{Added, nothing}
 use Rattle.guard_frames.specs.Guarding.{Adds, BreaksOff}
-use Rattle.guard_frames.specs.Inner.Cut.{IsRest, IsFirst}
-use Rattle.guard_frames.specs.Inner.Putting.{ArePut}
+use Rattle.guard_frames.specs.inside.Cut.{IsRest, IsFirst}
+use Rattle.guard_frames.specs.inside.Putting.{ArePut}
 use Rattle.guard_frames.proofs.Appending.{sent_more, reported_more}
 use Rattle.guard_frames.proofs.Going.{all_going}
 use Rattle.guard_frames.proofs.Progress.{Decided, AllGo, AllGo_none, AllGo_more, going_counted, decided_none, decided_going, decided_staying, breaks_going, breaks_staying}

@@ -21,5 +21,5 @@ pub mod OfPolicy
 pub mod ModulesView
 pub mod Texts
 pub mod RunsTexts
--- ---- what the parts of the code do
-pub mod Inner
+-- ---- what no public contract reaches
+pub mod inside

@@ -2,7 +2,7 @@
 
 ghost use Rattle.std.specs.Prelude.{◌≡◌, ◌<◌, ◌≤◌, ◌^◌, length, drop};
 ghost use Rattle.guard_frames.specs.Frames.{stated_length};
-ghost use Rattle.guard_frames.specs.Inner.Cut.{IsCut};
+ghost use Rattle.guard_frames.specs.inside.Cut.{IsCut};
 
 /// The longest body that a frame may have.
 pub const LONGEST_BODY: usize = 1048576;

@@ -4,7 +4,7 @@ ghost use Rattle.std.specs.Prelude.{◌≡◌, ◌⊎◌, true, IfOk, OnErr};
 ghost use Rattle.guard_frames.specs.Totals.{next_number};
 ghost use Rattle.guard_frames.specs.Added.{Added, BothAppend};
 ghost use Rattle.guard_frames.specs.Guarding.{BreaksOff};
-ghost use Rattle.guard_frames.specs.Inner.Putting.{ArePut};
+ghost use Rattle.guard_frames.specs.inside.Putting.{ArePut};
 
 use crate::cut::{Cut, Rest, first_cut};
 use crate::decision::{Decide, Ruling};

@@ -3,7 +3,7 @@
 ghost use Rattle.std.specs.Prelude.{◌≡◌, ◌++◌, true, List, ℕ, drop, OnOk, OnErr, decimal};
 ghost use Rattle.std.specs.Io.KnownBytes.{Appends};
 ghost use Rattle.guard_frames.specs.Prefix.{IsProperPrefix};
-ghost use Rattle.guard_frames.specs.Inner.Judged.{IsJudged, report_line};
+ghost use Rattle.guard_frames.specs.inside.Judged.{IsJudged, report_line};
 
 use crate::cut::Frame;
 use crate::decision::{Decide, Report, Ruling};

@@ -2,7 +2,7 @@ use Rattle.std.proofs.Common.{◌≡◌, List, ℕ, refl, subst, sym, ◌∙◌,
 use Rattle.std.proofs.lemmas.List.{take_rest}
 use Rattle.guard_frames.specs.Frames.{IsUnfinished, IsTooLong}
 use Rattle.guard_frames.specs.Feeding.{Decides}
-use Rattle.guard_frames.specs.Inner.Cut.{IsRest}
+use Rattle.guard_frames.specs.inside.Cut.{IsRest}
 use Rattle.guard_frames.proofs.feeding.feed_rest.Goals as goal
 
 pub returns-in-Err-clause-takes : goal.returns-in-Err-clause-takes

@@ -3,7 +3,7 @@ use Rattle.guard_frames.specs.Totals.{next_number}
 use Rattle.guard_frames.specs.Outcomes.{staying}
 use Rattle.guard_frames.specs.Added.{nothing}
 use Rattle.guard_frames.specs.Guarding.{Adds}
-use Rattle.guard_frames.specs.Inner.Judged.{report_line}
+use Rattle.guard_frames.specs.inside.Judged.{report_line}
 use Rattle.guard_frames.proofs.Appending.{sent_more, reported_more, both_none, both_sent, both_reported}
 use Rattle.guard_frames.proofs.Steps.{on_err_of, first_at, at_first, one_goes, one_stays, at_last, breaks_waiting, breaks_report}
 use Rattle.guard_frames.proofs.putting.put_frames.Goals as goal

@@ -1,9 +1,0 @@
-use Rattle.std.proofs.Common.{map, drop, string_bytes}
-use Rattle.derguard.specs.Reading.{folder}
-use Rattle.derguard.proofs.ReadingTexts.{ReadSoFar}
-use Rattle.derguard.proofs.texts.read_modules.Given as goal
-
-abbrev pub invariant-loop-name : goal.invariant-loop-name
-invariant-loop-name g l =
-    ReadSoFar (g.F.Files.told l.initial.files) (g.F.Files.told l.files) (folder l.path) (map string_bytes l.listed)
-    (map string_bytes (drop l.name-index l.listed)) (map (λ text. text.items) l.texts.items)

@@ -1,0 +1,320 @@
+-- Words in which nothing is wrong ask for a request.
+use Rattle.std.proofs.Common.{◌≡◌, ◌∙◌, ◌&&◌, ◌||◌, ℕ, Bool, cond, true, false, not, refl, sym, ap, arith, subst, List, [], ◌∷◌, codes, Option, Some, None, true≢false}
+use Rattle.std.specs.Prelude.{IfSome, is_some, option_and_then, option_map, slice_get, slice_index, unwrap_or}
+use Rattle.std.specs.List.{find, fold}
+use Rattle.std.specs.Option.{option_map_or}
+use Rattle.std.specs.Str.{bytes_eq}
+use Rattle.std.proofs.lemmas.Slice.Eq.{bytes_eq-Decides}
+use Rattle.clap.specs.Walk.{Held, Names, Outcome, Row, Rule, Step, Text, Waiting, Walk, after_flag, after_step, answers_to, arg_by_index, arg_by_long, bundle, done, first_of, idle, long_met, long_or_other, next, nothing_held, option, plain, plain_word, positional, refused, rows_after, short_or_plain, subcommand, subcommand_met, subcommand_or_other, to_positional, trailing, value, waits, walk, walk_from, walked, walked_from, word_met}
+use Rattle.clap.specs.Lexer.{long_of, short_of}
+use Rattle.clap.specs.Facts.{explicit_source}
+use Rattle.clap.specs.Takes.{is_given}
+use Rattle.clap.specs.Faults.{check_fault, defaults_fault, entered_fault, fault_of, level_fault, other_fault, settle_fault, step_fault, turn_fault, walk_fault, word_fault}
+use Rattle.clap.specs.Kinds.{Kinds, or_else}
+use Rattle.clap.specs.Simple.{App, Shape, argument_words, built, built_leaf, entered, filled, help_rule, help_shape, inherited, label_of, marked_built, names_of, rows_at, subcommand_of, with_index, with_leaf_noted}
+use Rattle.clap.specs.declared.error.kind.ErrorKind.TheVariants as kind
+use Rattle.derguard_program.specs.Requests.{AbstractRequest, first, check, decide, run}
+use Rattle.derguard_program.specs.Words.{Asks, IsCommand, check_shape, decide_shape, option_rule, place_rule, run_shape, the_app}
+use Rattle.derguard_program.proofs.Filled.{AllFill, Filled, Fills, IsFilled, both_none, finished_filled, help_fills, set_fills, some_kind, walk_filled}
+
+-- ---- a walk in which nothing is wrong stops at no word help
+
+abbrev pub NotHelp : Option (Text × List Text) → Type 0
+NotHelp stopped = IfSome stopped (λ p. bytes_eq p.0 (codes "help") ≡ false)
+
+abbrev PassesHelp : Step → Type 0
+PassesHelp (next waiting) = Unit {0}
+PassesHelp (trailing position) = Unit {0}
+PassesHelp (subcommand name) = bytes_eq name (codes "help") ≡ false
+PassesHelp value = Unit {0}
+
+module _ (c : List Rule) where
+  plain_passes : (waiting : Waiting) (word : Text) (h : Held) → PassesHelp (plain_word c waiting word h).1
+  plain_passes idle word h = tt
+  plain_passes (option id) word h = tt
+  plain_passes positional word h = tt
+
+  flag_passes : (waiting : Waiting) (word : Text) (h : Held) (outcome : Outcome) → PassesHelp (after_flag c waiting word h outcome).1
+  flag_passes waiting word h done = tt
+  flag_passes waiting word h (waits id) = tt
+  flag_passes waiting word h plain = plain_passes waiting word h
+  flag_passes waiting word h refused = plain_passes waiting word h
+
+  short_passes : (waiting : Waiting) (word : Text) (flags : Option Text) (h : Held) → PassesHelp (short_or_plain c waiting word flags h).1
+  short_passes waiting word None h = plain_passes waiting word h
+  short_passes waiting word (Some flags) h = flag_passes waiting word (bundle c flags h).0 (bundle c flags h).1
+
+  long_passes : (waiting : Waiting) (word : Text) (long : Option (Text × Option Text)) (h : Held) → PassesHelp (long_or_other c waiting word long h).1
+  long_passes waiting word None h = short_passes waiting word (short_of word) h
+  long_passes waiting word (Some p) h =
+      let met = long_met c (arg_by_long c p.0) p.1 h in
+      flag_passes waiting word met.0 met.1
+
+module _ (s : Shape) (names : Names) (offered : s.disable_help_subcommand ≡ false) where
+  met_passes : (name : Option Text) (waiting : Waiting) (position : ℕ) (word : Text) (h : Held) → other_fault s name word h ≡ []
+      → PassesHelp (subcommand_or_other s.rules name waiting position word h).1
+  met_passes (Some name) waiting position word h e = go (bytes_eq name (codes "help")) s.disable_help_subcommand offered e
+    where
+      go : (b d : Bool) → d ≡ false → ◌≡◌ {A = Kinds} (cond (b && not d) (kind.DisplayHelp ∷ kind.InvalidSubcommand ∷ []) []) [] → b ≡ false
+      go true true is e = is
+      go true false is e = absurd (some_kind _ _ e)
+      go false d is e = refl
+  met_passes None waiting position word h e = go (bytes_eq word (45 ∷ 45 ∷ []))
+    where
+      go : (b : Bool) → PassesHelp (cond b (h, trailing position) (long_or_other s.rules waiting word (long_of word) h)).1
+      go true = tt
+      go false = long_passes s.rules waiting word (long_of word) h
+
+  word_passes : (is_trailing : Bool) (waiting : Waiting) (position : ℕ) (word : Text) (h : Held) → word_fault s names is_trailing waiting word h ≡ []
+      → PassesHelp (word_met s.rules names is_trailing waiting position word h).1
+  word_passes true waiting position word h e = tt
+  word_passes false waiting position word h e = met_passes (subcommand_met names waiting word) waiting position word h e
+
+  positional_passes : (found : Option Rule) (word : Text) (w : Walk) (h : Held) → NotHelp w.stopped → NotHelp (to_positional s.rules found word w h).stopped
+  positional_passes None word w h is = is
+  positional_passes (Some a) word w h is = tt
+
+  after_passes : (word : Text) (w : Walk) (h : Held) (step : Step) → PassesHelp step → NotHelp w.stopped → NotHelp (after_step s.rules word w h step).stopped
+  after_passes word w h (next waiting) passes is = is
+  after_passes word w h (trailing position) passes is = is
+  after_passes word w h (subcommand name) passes is = passes
+  after_passes word w h value passes is = positional_passes (arg_by_index s.rules w.position) word w h is
+
+  turn_passes : (w : Walk) (word : Text) → turn_fault s names w word ≡ [] → NotHelp w.stopped → NotHelp (walked s.rules names w word).stopped
+  unfolding walked
+  turn_passes w word e is = go w.stopped e is
+    where
+      go : (stopped : Option (Text × List Text))
+          → cond (is_some stopped) [] (or_else (word_fault s names w.is_trailing w.waiting word w.held) (step_fault s w.position (word_met s.rules names w.is_trailing w.waiting w.position word w.held).0 (word_met s.rules names w.is_trailing w.waiting w.position word w.held).1)) ≡ []
+          → NotHelp stopped → NotHelp (walked_from s.rules names stopped w word).stopped
+      go (Some p) e now = now
+      go None e now =
+          let met = word_met s.rules names w.is_trailing w.waiting w.position word w.held in
+          after_passes word w met.0 met.1 (word_passes w.is_trailing w.waiting w.position word w.held (both_none _ _ e).0) is
+
+  pub walk_passes_help : (words : List Text) (w : Walk) → walk_fault s names w words ≡ [] → NotHelp w.stopped → NotHelp (fold (walked s.rules names) w words).stopped
+  unfolding walk_fault
+  walk_passes_help [] w e is = is
+  walk_passes_help (word ∷ words) w e is =
+      let parts = both_none _ _ e in
+      walk_passes_help words (walked s.rules names w word) parts.1 (turn_passes w word parts.0 is)
+
+-- ---- what is required has a value
+
+head_of : (vs : List Text) → IsFilled vs → (v : Text) × (slice_get vs 0 ≡ Some v)
+head_of [] h = absurd h
+head_of (v ∷ vs) h = (v, refl)
+
+found_filled : (p : Row → Bool) (rows : List Row) → Filled rows → IfSome (find p rows) (λ r. IsFilled r.values)
+found_filled p [] h = tt
+found_filled p (r ∷ rs) h = go (p r) (found_filled p rs h.1)
+  where
+    go : (b : Bool) → IfSome (find p rs) (λ r. IsFilled r.values) → IfSome (cond b (Some r) (find p rs)) (λ r. IsFilled r.values)
+    go true rest = h.0
+    go false rest = rest
+
+pub given_value : (id : Text) (rows : List Row) → Filled rows → is_given id rows ≡ true → (v : Text) × (first_of id rows ≡ Some v)
+given_value id rows h given = go (find (λ r. bytes_eq r.id id) rows) (found_filled (λ r. bytes_eq r.id id) rows h) given
+  where
+    go : (o : Option Row) → IfSome o (λ r. IsFilled r.values) → option_map_or (λ r. explicit_source r.source) o false ≡ true
+        → (v : Text) × (option_and_then (λ r. slice_get r.values 0) o ≡ Some v)
+    go None filled e = absurd (true≢false (sym e))
+    go (Some r) filled e = head_of r.values filled
+
+-- the next of the required arguments is given, and so are the others
+given_next : (a b : Bool) → ◌≡◌ {A = Kinds} (cond (not a || b) (kind.MissingRequiredArgument ∷ []) []) [] → (a ≡ true) × (◌≡◌ {A = Kinds} (cond b (kind.MissingRequiredArgument ∷ []) []) [])
+given_next true b e = (refl, e)
+given_next false b e = absurd (some_kind _ _ e)
+
+module _ (s : Shape) (names : Names) (words : List Text) (has : Bool) (below : Kinds) (e : level_fault s names nothing_held words has below ≡ []) where
+  walk_none : walk_fault s names (walk_from nothing_held) words ≡ []
+  walk_none = (both_none _ _ e).0
+
+  below_none : below ≡ []
+  below_none = (both_none _ _ (both_none (walk_fault s names (walk_from nothing_held) words) _ e).1).0
+
+  after_walk : or_else (settle_fault s.rules s.args_override_self (walk s.rules names nothing_held words).held)
+      (or_else (defaults_fault (Rattle.clap.specs.Walk.settled s.rules (walk s.rules names nothing_held words).held).rows s.rules)
+      (check_fault s (rows_after s.rules names words) has)) ≡ []
+  after_walk = (both_none below _ (both_none (walk_fault s names (walk_from nothing_held) words) _ e).1).1
+
+  check_none : check_fault s (rows_after s.rules names words) has ≡ []
+  check_none = (both_none _ _ (both_none (settle_fault s.rules s.args_override_self (walk s.rules names nothing_held words).held) _ after_walk).1).1
+
+  rows_filled : AllFill s.rules → Filled (rows_after s.rules names words)
+  rows_filled fill =
+      finished_filled s names fill (walk s.rules names nothing_held words).held (both_none _ _ after_walk).0
+      (walk_filled s names fill words (walk_from nothing_held) walk_none tt)
+
+-- ---- the commands of the program, as they are built
+
+abbrev ready : App
+ready = built the_app
+
+abbrev built_check : Shape
+built_check = built_leaf (inherited (with_leaf_noted (marked_built the_app.top)) check_shape)
+
+abbrev built_decide : Shape
+built_decide = built_leaf (inherited (with_leaf_noted (marked_built the_app.top)) decide_shape)
+
+abbrev built_run : Shape
+built_run = built_leaf (inherited (with_leaf_noted (marked_built the_app.top)) run_shape)
+
+-- each argument as it is built at a place
+abbrev ready_rule : ℕ → Rule → Rule
+ready_rule place rule = with_index place (filled rule)
+
+place_fills : (place : ℕ) (id : Text) → Fills (ready_rule place (place_rule id))
+place_fills place id = set_fills (ready_rule place (place_rule id)) refl refl
+
+option_fills : (name : Text) → Fills (ready_rule 2 (option_rule name))
+option_fills name = set_fills (ready_rule 2 (option_rule name)) refl refl
+
+flag_fills : Fills (ready_rule 2 help_rule)
+flag_fills = help_fills (ready_rule 2 help_rule) refl
+
+check_fills : AllFill built_check.rules
+check_fills = (place_fills 1 (codes "policy"), (flag_fills, tt))
+
+decide_fills : AllFill built_decide.rules
+decide_fills =
+    (place_fills 1 (codes "policy"), (option_fills (codes "from"), (option_fills (codes "to"), (option_fills (codes "message"), (place_fills 2 (codes "hex"), (flag_fills, tt))))))
+
+run_fills : AllFill built_run.rules
+run_fills = (place_fills 1 (codes "policy"), (flag_fills, tt))
+
+-- a command with these words asks for a request
+abbrev Requests : Shape → List Text → Type 0
+Requests s words = (request : AbstractRequest) × IsCommand s.name (rows_after s.rules [] words) request
+
+check_asks : (words : List Text) → level_fault built_check [] nothing_held words false [] ≡ [] → Requests built_check words
+check_asks words e =
+    let rows = rows_filled built_check [] words false [] e check_fills in
+    let policy = given_next _ _ (check_none built_check [] words false [] e) in
+    let path = given_value (codes "policy") (rows_after built_check.rules [] words) rows policy.0 in
+    (check path.0, (refl, path.1))
+
+run_asks : (words : List Text) → level_fault built_run [] nothing_held words false [] ≡ [] → Requests built_run words
+run_asks words e =
+    let rows = rows_filled built_run [] words false [] e run_fills in
+    let policy = given_next _ _ (check_none built_run [] words false [] e) in
+    let path = given_value (codes "policy") (rows_after built_run.rules [] words) rows policy.0 in
+    (run path.0, (refl, path.1))
+
+decide_asks : (words : List Text) → level_fault built_decide [] nothing_held words false [] ≡ [] → Requests built_decide words
+decide_asks words e =
+    let rows = rows_after built_decide.rules [] words in
+    let filled = rows_filled built_decide [] words false [] e decide_fills in
+    let policy = given_next _ _ (check_none built_decide [] words false [] e) in
+    let from = given_next _ _ policy.1 in
+    let to = given_next _ _ from.1 in
+    let message = given_next _ _ to.1 in
+    let hex = given_next _ _ message.1 in
+    let p = given_value (codes "policy") rows filled policy.0 in
+    let f = given_value (codes "from") rows filled from.0 in
+    let t = given_value (codes "to") rows filled to.0 in
+    let m = given_value (codes "message") rows filled message.0 in
+    let h = given_value (codes "hex") rows filled hex.0 in
+    (decide p.0 (record { from = f.0; to = t.0; message = m.0 }) h.0, (refl, p.1, f.1, t.1, m.1, h.1))
+
+-- ---- the command that the words name
+
+abbrev Enters : Text × List Text → Option Shape → Type 0
+Enters p found =
+    (request : AbstractRequest) × (name : Text) × (rows : List Row) × (option_map (λ s. rows_at s p.1) found ≡ Some (name, rows)) × IsCommand name rows request
+
+as_entered : (p : Text × List Text) (s : Shape) → Requests s p.1 → Enters p (Some s)
+as_entered p s h = (h.0, s.name, rows_after s.rules [] p.1, refl, h.1)
+
+not_help_met : (name : Text) → bytes_eq name (codes "help") ≡ false → (bytes_eq (codes "help") name || false) ≡ true → ⊥
+not_help_met name another met = go (bytes_eq (codes "help") name) refl met
+  where
+    go : (b : Bool) → bytes_eq (codes "help") name ≡ b → (b || false) ≡ true → ⊥
+    go true e is =
+        let same : codes "help" ≡ name = (bytes_eq-Decides (codes "help") name).0 e in
+        true≢false (sym ((bytes_eq-Decides name (codes "help")).1 (sym same)) ∙ another)
+    go false e is = true≢false (sym is)
+
+by_name : (p : Text × List Text) (a b c d : Bool) → (d ≡ true → ⊥)
+    → option_map_or (λ s. level_fault s [] nothing_held p.1 false []) (cond a (Some built_check) (cond b (Some built_decide) (cond c (Some built_run) (cond d (Some (built_leaf help_shape)) None)))) [] ≡ []
+    → is_some (option_map (λ s. rows_at s p.1) (cond a (Some built_check) (cond b (Some built_decide) (cond c (Some built_run) (cond d (Some (built_leaf help_shape)) None))))) ≡ true
+    → Enters p (cond a (Some built_check) (cond b (Some built_decide) (cond c (Some built_run) (cond d (Some (built_leaf help_shape)) None))))
+by_name p true b c d another e there = as_entered p built_check (check_asks p.1 e)
+by_name p false true c d another e there = as_entered p built_decide (decide_asks p.1 e)
+by_name p false false true d another e there = as_entered p built_run (run_asks p.1 e)
+by_name p false false false true another e there = absurd (another refl)
+by_name p false false false false another e there = absurd (true≢false (sym there))
+
+entered_asks : (stop : Option (Text × List Text)) → NotHelp stop → entered_fault ready stop ≡ [] → is_some (entered ready stop) ≡ true
+    → (request : AbstractRequest) × (name : Text) × (rows : List Row) × (entered ready stop ≡ Some (name, rows)) × IsCommand name rows request
+entered_asks None another e there = absurd (true≢false (sym there))
+entered_asks (Some p) another e there =
+    by_name p (answers_to p.0 (label_of built_check)) (answers_to p.0 (label_of built_decide)) (answers_to p.0 (label_of built_run)) (answers_to p.0 (label_of (built_leaf help_shape)))
+    (not_help_met p.0 another) e there
+
+command_there : (b : Bool) (others : Kinds)
+    → ◌≡◌ {A = Kinds} (cond (not b && false) (kind.DisplayHelpOnMissingArgumentOrSubcommand ∷ []) (cond (not b && true) (kind.MissingSubcommand ∷ []) others)) [] → b ≡ true
+command_there true others e = refl
+command_there false others e = absurd (some_kind _ _ e)
+
+pub asked : (words : List Text) → fault_of the_app words ≡ [] → (request : AbstractRequest) × Asks words request
+asked words e =
+    let given = argument_words the_app words in
+    let stop = (walk ready.top.rules (names_of ready) nothing_held given).stopped in
+    let has = is_some (entered ready stop) in
+    let below = entered_fault ready stop in
+    let past = walk_passes_help ready.top (names_of ready) refl given (walk_from nothing_held) (walk_none ready.top (names_of ready) given has below e) tt in
+    let found = entered_asks stop past (below_none ready.top (names_of ready) given has below e) (command_there has _ (check_none ready.top (names_of ready) given has below e)) in
+    (found.0, (e, (found.1, found.2, found.3, found.4)))
+
+-- ---- words ask for one request
+
+same_value : {A : Type 0} (a b : A) → Some a ≡ Some b → a ≡ b
+same_value a b e = ap (λ o. unwrap_or o a) e
+
+another_name : (a b : Text) → a ≡ b → slice_index a 0 ≡ slice_index b 0
+another_name a b e = ap (λ t. slice_index t 0) e
+
+module _ (rows : List Row) where
+  same_at : (id : Text) (v w : Text) → first_of id rows ≡ Some v → first_of id rows ≡ Some w → v ≡ w
+  same_at id v w a b = same_value v w (sym a ∙ b)
+
+  one_command : (name : Text) (r s : AbstractRequest) → IsCommand name rows r → IsCommand name rows s → r ≡ s
+  one_command name first s h g = absurd h
+  one_command name (check path) first h g = absurd g
+  one_command name (check path) (check other) h g = ap check (same_at (codes "policy") path other h.1 g.1)
+  one_command name (check path) (decide other route digits) h g = absurd (let bad : 99 ≡ 100 = another_name _ _ (sym h.0 ∙ g.0) in omega arith)
+  one_command name (check path) (run other) h g = absurd (let bad : 99 ≡ 114 = another_name _ _ (sym h.0 ∙ g.0) in omega arith)
+  one_command name (decide path route digits) first h g = absurd g
+  one_command name (decide path route digits) (check other) h g = absurd (let bad : 100 ≡ 99 = another_name _ _ (sym h.0 ∙ g.0) in omega arith)
+  one_command name (decide path route digits) (decide other another octets) h g =
+      let policy = same_at (codes "policy") path other h.1 g.1 in
+      let from = same_at (codes "from") route.from another.from h.2 g.2 in
+      let to = same_at (codes "to") route.to another.to h.3 g.3 in
+      let message = same_at (codes "message") route.message another.message h.4 g.4 in
+      let hex = same_at (codes "hex") digits octets h.5 g.5 in
+      λ i. decide (policy i) (record { from = from i; to = to i; message = message i }) (hex i)
+  one_command name (decide path route digits) (run other) h g = absurd (let bad : 100 ≡ 114 = another_name _ _ (sym h.0 ∙ g.0) in omega arith)
+  one_command name (run path) first h g = absurd g
+  one_command name (run path) (check other) h g = absurd (let bad : 114 ≡ 99 = another_name _ _ (sym h.0 ∙ g.0) in omega arith)
+  one_command name (run path) (decide other route digits) h g = absurd (let bad : 114 ≡ 100 = another_name _ _ (sym h.0 ∙ g.0) in omega arith)
+  one_command name (run path) (run other) h g = ap run (same_at (codes "policy") path other h.1 g.1)
+
+-- ---- the answer
+
+-- what is answered by the values of the command that is found in the words is what they ask for
+pub answered : (words : List Text) (found : Option (Text × List Row)) (answer : AbstractRequest) → fault_of the_app words ≡ [] → found ≡ subcommand_of the_app words
+    → ((name : Text) (rows : List Row) (request : AbstractRequest) → found ≡ Some (name, rows) → IsCommand name rows request → answer ≡ request)
+    → Asks words answer
+answered words found answer none is given =
+    let one = asked words none in
+    let same = given one.1.1.0 one.1.1.1 one.0 (is ∙ one.1.1.2) one.1.1.3 in
+    subst (Asks words) (sym same) one.1
+
+-- words ask for one request
+pub asks_one : (words : List Text) (r s : AbstractRequest) → Asks words r → Asks words s → r ≡ s
+asks_one words r s h g =
+    let found = same_value _ _ (sym h.1.2 ∙ g.1.2) in
+    let as_named : IsCommand h.1.0 g.1.1 r = subst (λ (rows : List Row). IsCommand h.1.0 rows r) (ap (λ (p : Text × List Row). p.1) found) h.1.3 in
+    let as_found : IsCommand g.1.0 g.1.1 r = subst (λ (name : Text). IsCommand name g.1.1 r) (ap (λ (p : Text × List Row). p.0) found) as_named in
+    one_command g.1.1 g.1.0 r s as_found g.1.3

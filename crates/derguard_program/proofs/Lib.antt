@@ -1,0 +1,12 @@
+pub mod Simple
+pub mod Commands
+pub mod Filled
+pub mod Asked
+pub mod Showing
+pub mod Lines
+pub mod Folders
+pub mod ReadingTexts
+pub mod Refusals
+pub mod Streams
+pub mod Meetings
+pub mod VerdictsFound

@@ -1,0 +1,49 @@
+-- Files that are read one after another.
+use Rattle.std.proofs.Common.{◌≡◌, ℕ, ◌+◌, ◌<◌, ◌≤◌, List, [], ◌∷◌, ◌++◌, map, length, drop, get_or, refl, sym, subst, inl, inr, append_assoc, String, string_bytes}
+use Rattle.std.proofs.lemmas.List.{append-nil, drop_all}
+use Rattle.std.specs.declared.alloc.Global.{Global}
+use Rattle.guard_policy.proofs.EntriesRead.{left_is}
+use Rattle.derguard_program.specs.Files.{Told, after_read, HasText, HasNone}
+use Rattle.derguard_program.specs.Reading.{HaveTexts, FirstMissing}
+
+-- With these texts, of the names in front of what is left: what holds of the names that are left, by the reads to come, holds of all by the first ones.
+pub record ReadSoFar (told now : Told) (beside : List ℕ) (all left done : List (List ℕ)) : Type 0 where
+  pub have : (texts : List (List ℕ)) → HaveTexts now beside left texts → HaveTexts told beside all (done ++ texts)
+  pub lack : (path : List ℕ) → FirstMissing now beside left path → FirstMissing told beside all path
+
+pub read_none : (told : Told) (beside : List ℕ) (all : List (List ℕ)) → ReadSoFar told told beside all all []
+read_none told beside all = record { have = λ texts h. h; lack = λ path h. h }
+
+pub read_one : (told now : Told) (beside : List ℕ) (all left done : List (List ℕ)) (name text : List ℕ) → HasText now (beside ++ name) text
+    → ReadSoFar told now beside all (name ∷ left) done → ReadSoFar told (after_read now) beside all left (done ++ text ∷ [])
+read_one told now beside all left done name text has so_far = record {
+  have = λ texts h.
+      subst (λ (ts : List (List ℕ)). HaveTexts told beside all ts) (sym (append_assoc done (text ∷ []) texts)) (so_far.have (text ∷ texts) (text, texts, has, h, refl));
+  lack = λ path h. so_far.lack path (inr (text, has, h));
+}
+
+pub read_all : (told now : Told) (beside : List ℕ) (all done : List (List ℕ)) → ReadSoFar told now beside all [] done → HaveTexts told beside all done
+read_all told now beside all done so_far = subst (λ (ts : List (List ℕ)). HaveTexts told beside all ts) (append-nil done) (so_far.have [] refl)
+
+pub missing_here : (told now : Told) (beside : List ℕ) (all left done : List (List ℕ)) (name : List ℕ) → HasNone now (beside ++ name)
+    → ReadSoFar told now beside all (name ∷ left) done → FirstMissing told beside all (beside ++ name)
+missing_here told now beside all left done name none so_far = so_far.lack (beside ++ name) (inl (none, refl))
+
+-- ---- as the loop reads them
+
+-- one more file is read, of the name at the place where the loop stands
+pub read_next : (told now : Told) (beside : List ℕ) (listed : List (String Global)) (i : ℕ) (name : String Global) (path text : List ℕ) (done : List (List ℕ))
+    → i < length listed → name ≡ get_or listed i name → path ≡ beside ++ string_bytes name → HasText now path text
+    → ReadSoFar told now beside (map string_bytes listed) (map string_bytes (drop i listed)) done
+    → ReadSoFar told (after_read now) beside (map string_bytes listed) (map string_bytes (drop (i + 1) listed)) (done ++ text ∷ [])
+read_next told now beside listed i name path text done lt is at has so_far =
+    read_one told now beside (map string_bytes listed) (map string_bytes (drop (i + 1) listed)) done (string_bytes name) text
+    (subst (λ (p : List ℕ). HasText now p text) at has)
+    (subst (λ (left : List (List ℕ)). ReadSoFar told now beside (map string_bytes listed) left done) (left_is string_bytes listed i name lt is) so_far)
+
+-- the loop stands behind them all
+pub read_whole : (told now : Told) (beside : List ℕ) (listed : List (String Global)) (i : ℕ) (done : List (List ℕ)) → length listed ≤ i
+    → ReadSoFar told now beside (map string_bytes listed) (map string_bytes (drop i listed)) done → HaveTexts told beside (map string_bytes listed) done
+read_whole told now beside listed i done past so_far =
+    read_all told now beside (map string_bytes listed) done
+    (subst (λ (left : List (String Global)). ReadSoFar told now beside (map string_bytes listed) (map string_bytes left) done) (drop_all i listed past) so_far)

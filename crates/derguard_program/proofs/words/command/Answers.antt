@@ -1,0 +1,16 @@
+use Rattle.std.proofs.Common.{◌≡◌, ◌∙◌, ap, codes, refl, true}
+use Rattle.std.proofs.lemmas.Result.{IfOk-weaker}
+use Rattle.clap.specs.Simple.{App, app_of, app_of_fields, new_app}
+use Rattle.derguard_program.proofs.Commands.{with_command}
+use Rattle.derguard_program.proofs.words.command.Goals as goal
+
+abbrev asks_for_a_command : App → App
+asks_for_a_command a = record a { top = record a.top { subcommand_required = true } }
+
+pub returns : goal.returns
+returns c =
+    let start : app_of c.subcommand_required.result ≡ asks_for_a_command (new_app (codes "derguard")) =
+    ap app_of_fields c.subcommand_required.ensures ∙ ap asks_for_a_command (ap app_of_fields c.after_help.ensures ∙ ap app_of_fields c.about.ensures ∙ c.new.ensures.app) in
+    let first = with_command _ _ _ _ _ c.in_ok-subcommand.ensures refl start c.in_ok-check.ensures in
+    let second = with_command _ _ _ _ _ c.in_ok-subcommand-2.ensures refl first c.in_ok-decide.ensures in
+    IfOk-weaker c.subcommand-3.result _ _ (λ r added. with_command _ _ r _ _ added refl second c.in_ok-run.ensures) c.subcommand-3.ensures

@@ -1,0 +1,9 @@
+use Rattle.std.proofs.Common.{◌∙◌, rules}
+use Rattle.clap.specs.Words.{found_of}
+use Rattle.clap.proofs.WalkLemmas.{first_value-rows}
+use Rattle.derguard_program.proofs.words.text.Goals as goal
+
+pub returns : goal.returns
+returns c value given =
+    let there = c.get_str.ensures ∙ first_value-rows (found_of c.args.matches.now) c.args.id.now ∙ given in
+    search rules

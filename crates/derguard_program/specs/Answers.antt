@@ -1,0 +1,68 @@
+-- What is answered to a request that reads no stream: what goes to standard output, and the status; or the fault that stands.
+use Rattle.std.specs.Prelude.{◌≡◌, ◌⊎◌, ℕ, List, [], ◌∷◌, ◌++◌, codes, decimal, length, Ok, Err}
+use Rattle.hex.specs.Hex.{decode_of}
+use Rattle.hex.specs.declared.error.FromHexError.{FromHexError}
+use Rattle.guard_policy.specs.Policies.{AbstractPolicy, AbstractRoute}
+use Rattle.guard_policy.specs.Verdicts.{AbstractVerdict, pass, unknown_message, undecodable, outside_type, denied_by, not_allowed, no_rule}
+use Rattle.guard_policy.specs.Decisions.{IsReason}
+use Rattle.guard_report.specs.Text.{verdict_octets}
+use Rattle.derguard_program.specs.declared.answer.Answer.{Answer}
+use Rattle.derguard_program.specs.declared.fault.Fault.{Fault}
+use Rattle.derguard_program.specs.declared.fault.Fault.TheVariants.{BadHex, NoMemory}
+use Rattle.derguard_program.specs.Files.{Told}
+use Rattle.derguard_program.specs.FirstRun.{first_module, first_policy, IsFirstRun}
+use Rattle.derguard_program.specs.Reading.{IsPolicyAt, IsNoPolicyAt, SayNothing}
+
+-- what goes to standard output, and the status
+pub record AbstractAnswer : Type 0 where
+  pub out : List ℕ
+  pub status : ℕ
+
+abbrev pub answer_view : Answer → AbstractAnswer
+answer_view a = record { out = a.out.items; status = a.status }
+
+-- ---- the messages that are built in
+
+abbrev pub IsFirst : AbstractAnswer → Type 0
+IsFirst a = IsFirstRun a.out × (a.status ≡ 0)
+
+-- The texts that are built in say no policy, which the run without words disproves; or memory ran out.
+abbrev pub IsNoFirst : Fault → Type 0
+IsNoFirst f = SayNothing (first_module ∷ []) first_policy f ⊎ (f ≡ NoMemory)
+
+-- ---- check
+
+abbrev pub counts_text : AbstractPolicy → List ℕ
+counts_text p = codes "ok: messages " ++ decimal (length p.messages) ++ codes ", rules " ++ decimal (length p.rules) ++ codes "\n"
+
+abbrev pub IsChecked : Told → List ℕ → AbstractAnswer → Type 0
+IsChecked told path a = (p : AbstractPolicy) × IsPolicyAt told path p × (a.out ≡ counts_text p) × (a.status ≡ 0)
+
+-- ---- decide
+
+-- 0 where the message passes
+abbrev pub verdict_status : AbstractVerdict → ℕ
+verdict_status pass = 0
+verdict_status unknown_message = 1
+verdict_status (undecodable breach) = 1
+verdict_status (outside_type violation) = 1
+verdict_status (denied_by rule) = 1
+verdict_status (not_allowed rules) = 1
+verdict_status no_rule = 1
+
+-- the text of the reason and a line feed
+abbrev pub IsVerdict : AbstractPolicy → AbstractRoute → List ℕ → AbstractAnswer → Type 0
+IsVerdict p route octets a =
+    (w : AbstractVerdict) × IsReason p route octets w × (a.out ≡ verdict_octets p route w ++ codes "\n") × (a.status ≡ verdict_status w)
+
+-- of the octets that the digits write, under the policy at the path
+abbrev pub IsDecided : Told → List ℕ → AbstractRoute → List ℕ → AbstractAnswer → Type 0
+IsDecided told path route digits a =
+    (octets : List ℕ) × (p : AbstractPolicy) × (decode_of digits ≡ Ok octets) × IsPolicyAt told path p × IsVerdict p route octets a
+
+-- Digits that write no octets come before what is wrong with the policy.
+abbrev pub IsUndecided : Told → List ℕ → List ℕ → Fault → Type 0
+IsUndecided told path digits f =
+    ((f ≡ BadHex) × ((e : FromHexError) × (decode_of digits ≡ Err e)))
+    ⊎ ((octets : List ℕ) × (decode_of digits ≡ Ok octets) × IsNoPolicyAt told path f)
+    ⊎ (f ≡ NoMemory)

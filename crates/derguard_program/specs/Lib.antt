@@ -1,0 +1,16 @@
+-- ---- what is asked, and the texts that it needs
+pub mod Files
+pub mod Faults
+pub mod Requests
+pub mod Words
+pub mod Reading
+-- ---- what is answered
+pub mod Printing
+pub mod FirstRun
+pub mod Answers
+-- ---- what goes to the outputs, and the status
+pub mod Devices
+pub mod Writing
+pub mod Meeting
+-- ---- what the parts of the code do
+pub mod Texts

@@ -1,0 +1,68 @@
+-- The texts that a policy at a path needs, what they say, and why they can't be had or say nothing.
+use Rattle.std.specs.Prelude.{◌≡◌, ◌⊎◌, ℕ, nat_eq, List, [], ◌∷◌, ◌++◌, string_bytes, IsSomeAnd, if◌then◌else◌}
+use Rattle.std.specs.List.{list_any}
+use Rattle.guard_policy.specs.Policies.{AbstractPolicy}
+use Rattle.guard_policy.specs.Loads.{ListsFiles, ListsNoFiles}
+use Rattle.guard_policy.specs.PolicyFaults as policy
+use Rattle.guard_frames.specs.Texts.{SayPolicy, SayNone}
+use Rattle.guard_frames.specs.declared.texts.TextsFault.TheVariants as texts
+use Rattle.derguard_program.specs.declared.fault.Fault.{Fault}
+use Rattle.derguard_program.specs.declared.fault.Fault.TheVariants.{BadHex, CannotRead, Schema, Policy, Run, NoMemory}
+use Rattle.derguard_program.specs.Files.{Told, after_read, HasText, HasNone}
+
+-- the path up to and with its last `/`, which is 47; nothing where it has none
+abbrev pub folder : List ℕ → List ℕ
+folder [] = []
+folder (o ∷ path) = if list_any (nat_eq 47) (o ∷ path) then o ∷ folder path else []
+
+-- the texts at these names in a folder, read in order
+abbrev pub HaveTexts : Told → List ℕ → List (List ℕ) → List (List ℕ) → Type 0
+HaveTexts told beside [] texts = texts ≡ []
+HaveTexts told beside (name ∷ names) texts =
+    (text : List ℕ) × (others : List (List ℕ)) × HasText told (beside ++ name) text × HaveTexts (after_read told) beside names others × (texts ≡ text ∷ others)
+
+-- the path of the first of these names at which nothing can be read
+abbrev pub FirstMissing : Told → List ℕ → List (List ℕ) → List ℕ → Type 0
+FirstMissing told beside [] path = ⊥
+FirstMissing told beside (name ∷ names) path =
+    (HasNone told (beside ++ name) × (path ≡ beside ++ name))
+    ⊎ ((text : List ℕ) × HasText told (beside ++ name) text × FirstMissing (after_read told) beside names path)
+
+-- the policy at the path has this text, and then the modules that it lists, beside it, have these
+abbrev pub AreTexts : Told → List ℕ → List ℕ → List (List ℕ) → Type 0
+AreTexts told path text modules =
+    HasText told path text × ((files : List (List ℕ)) × ListsFiles text files × HaveTexts (after_read told) (folder path) files modules)
+
+-- nothing can be read at one of the modules that the policy at the path lists, and this is its path
+abbrev pub LacksModule : Told → List ℕ → List ℕ → Type 0
+LacksModule told path file =
+    (text : List ℕ) × (files : List (List ℕ)) × HasText told path text × ListsFiles text files × FirstMissing (after_read told) (folder path) files file
+
+-- Why there are no such texts, the first of these: nothing can be read at the path; the text there lists no modules; nothing can be read at one of them.
+abbrev pub AreMissing : Told → List ℕ → Fault → Type 0
+AreMissing told path (CannotRead file) = (HasNone told path × (string_bytes file ≡ path)) ⊎ LacksModule told path (string_bytes file)
+AreMissing told path (Policy f) = (text : List ℕ) × HasText told path text × IsSomeAnd (policy.named f) (ListsNoFiles text)
+AreMissing told path BadHex = ⊥
+AreMissing told path (Schema f) = ⊥
+AreMissing told path (Run f) = ⊥
+AreMissing told path NoMemory = ⊥
+
+-- the texts of the policy at the path say it
+abbrev pub IsPolicyAt : Told → List ℕ → AbstractPolicy → Type 0
+IsPolicyAt told path p = (text : List ℕ) × (modules : List (List ℕ)) × AreTexts told path text modules × SayPolicy modules text p
+
+-- why these texts say no policy
+abbrev pub SayNothing : List (List ℕ) → List ℕ → Fault → Type 0
+SayNothing modules text (Schema f) = SayNone modules text (texts.Schema f)
+SayNothing modules text (Policy f) = SayNone modules text (texts.Policy f)
+SayNothing modules text BadHex = ⊥
+SayNothing modules text (CannotRead file) = ⊥
+SayNothing modules text (Run f) = ⊥
+SayNothing modules text NoMemory = ⊥
+
+-- Why there is no policy at the path: its texts are missing, or say none. Want of memory says nothing of either.
+abbrev pub IsNoPolicyAt : Told → List ℕ → Fault → Type 0
+IsNoPolicyAt told path f =
+    AreMissing told path f
+    ⊎ ((text : List ℕ) × (modules : List (List ℕ)) × AreTexts told path text modules × SayNothing modules text f)
+    ⊎ (f ≡ NoMemory)

@@ -1,0 +1,59 @@
+-- Which words of the command line are which request, in the terms of `clap`: its definitions say what is found in words of a command, and what is wrong with them.
+use Rattle.std.specs.Prelude.{◌≡◌, true, false, List, [], ◌∷◌, Some, codes}
+use Rattle.clap.specs.Words.{App, Rule, Row, Shape, Text, first_of, fault_of, new_rule, subcommand_of}
+use Rattle.clap.specs.Simple.{new_shape}
+use Rattle.clap.specs.declared.builder.action.ArgAction.TheVariants.{Set}
+use Rattle.derguard_program.specs.Requests.{AbstractRequest, first, check, decide, run}
+
+-- ---- the commands
+
+-- an argument that must be given, with a value
+abbrev pub required_rule : Text → Rule
+required_rule id = record (new_rule id) { action = Some Set; required = true }
+
+-- its value is a word by itself; help has one name for it
+abbrev pub place_rule : Text → Rule
+place_rule id = record (required_rule id) { value_names = 1 }
+
+-- its value is the word after `--name`, or in one word with it, `--name=value`
+abbrev pub option_rule : Text → Rule
+option_rule name = record (required_rule name) { long = Some name }
+
+abbrev pub command_shape : Text → List Rule → Shape
+command_shape name arguments = record (new_shape name) { rules = arguments }
+
+-- check POLICY
+abbrev pub check_shape : Shape
+check_shape = command_shape (codes "check") (place_rule (codes "policy") ∷ [])
+
+-- decide POLICY --from FROM --to TO --message MESSAGE HEX
+abbrev pub decide_shape : Shape
+decide_shape = command_shape (codes "decide")
+    (place_rule (codes "policy") ∷ option_rule (codes "from") ∷ option_rule (codes "to") ∷ option_rule (codes "message") ∷ place_rule (codes "hex") ∷ [])
+
+-- run POLICY
+abbrev pub run_shape : Shape
+run_shape = command_shape (codes "run") (place_rule (codes "policy") ∷ [])
+
+-- one of these commands, after the program's name
+abbrev pub the_app : App
+the_app = record {
+  top = record (new_shape (codes "derguard")) { is_leaf = false; subcommand_required = true };
+  subs = check_shape ∷ decide_shape ∷ run_shape ∷ [];
+}
+
+-- ---- the requests
+
+-- what a command with these values asks for
+abbrev pub IsCommand : Text → List Row → AbstractRequest → Type 0
+IsCommand name rows first = ⊥
+IsCommand name rows (check path) = (name ≡ codes "check") × (first_of (codes "policy") rows ≡ Some path)
+IsCommand name rows (decide path route digits) =
+    (name ≡ codes "decide") × (first_of (codes "policy") rows ≡ Some path) × (first_of (codes "from") rows ≡ Some route.from)
+    × (first_of (codes "to") rows ≡ Some route.to) × (first_of (codes "message") rows ≡ Some route.message) × (first_of (codes "hex") rows ≡ Some digits)
+IsCommand name rows (run path) = (name ≡ codes "run") × (first_of (codes "policy") rows ≡ Some path)
+
+-- Nothing is wrong with the words, and the command that is found in them asks for this.
+abbrev pub Asks : List Text → AbstractRequest → Type 0
+Asks words request =
+    (fault_of the_app words ≡ []) × ((name : Text) × (rows : List Row) × (subcommand_of the_app words ≡ Some (name, rows)) × IsCommand name rows request)

@@ -1,0 +1,57 @@
+//! Guards the stream that comes in.
+ghost use Rattle.std.specs.Prelude.{◌≡◌, IfErr};
+ghost use Rattle.derguard_program.specs.Devices.{input_of, device};
+ghost use Rattle.derguard_program.specs.Meeting.{GuardsAt, GuardsStream, IsDeviceFault, totals_status};
+
+use crate::fault::Fault;
+use crate::files::Files;
+use crate::outputs::{FAILED, tell};
+use crate::texts::Texts;
+use guard_frames::{Sink, Source, Totals, run_texts};
+use std::alloc::Global;
+
+/// Guards the stream under the policy at the path, with its reports on standard error, and answers the status: 0 where all frames passed, 1 where one
+/// didn't, 2 where there is no policy, 3 where the stream or a device failed. A fault is told behind the reports.
+pub fn run<F: Files, S: Source, O: Sink, E: Sink>(
+    alloc: Global,
+    path: &str,
+    files: &mut F,
+    input: &mut S,
+    out: &mut O,
+    err: &mut E,
+) -> u8
+    ensures { GuardsStream (F.told files.old) path.now (input_of (S.tells input.old) (S.tells input.new) (S.takes input.old) (S.takes input.new) (S.has_failed input.new))
+        (device (O.taken out.old) (O.taken out.new) (O.has_failed out.new)) (device (E.taken err.old) (E.taken err.new) (E.has_failed err.new)) result }
+{
+    match guard(alloc, path, files, input, out, err) {
+        Ok(totals) => status_of(totals),
+        // Standard error took its last line in part: there is no place to tell anything.
+        Err(_) if err.failed() => FAILED,
+        Err(fault) => tell(alloc, &fault, err),
+    }
+}
+
+/// Guards the stream under the policy at the path. Where there is none, nothing is read.
+fn guard<F: Files, S: Source, O: Sink, E: Sink>(
+    alloc: Global,
+    path: &str,
+    files: &mut F,
+    input: &mut S,
+    out: &mut O,
+    reports: &mut E,
+) -> Result<Totals, Fault>
+    ensures guards { GuardsAt (F.told files.old) path.now (input_of (S.tells input.old) (S.tells input.new) (S.takes input.old) (S.takes input.new) (S.has_failed input.new))
+        (device (O.taken out.old) (O.taken out.new) (O.has_failed out.new)) (device (E.taken reports.old) (E.taken reports.new) (E.has_failed reports.new)) result }
+    ensures devices { IfErr result (λ f. IsDeviceFault f (input_of (S.tells input.old) (S.tells input.new) (S.takes input.old) (S.takes input.new) (S.has_failed input.new))
+        (device (O.taken out.old) (O.taken out.new) (O.has_failed out.new)) (device (E.taken reports.old) (E.taken reports.new) (E.has_failed reports.new))) }
+{
+    let texts = Texts::read(alloc, path, files)?;
+    let modules = texts.module_slices(alloc)?;
+    Ok(run_texts(alloc, &modules, &texts.policy, input, out, reports)?)
+}
+
+fn status_of(totals: Totals) -> u8
+    ensures { result ≡ totals_status totals }
+{
+    if totals.denied == 0 { 0 } else { 1 }
+}

@@ -1,0 +1,30 @@
+//! The program over any files, source and sinks: decides messages by a policy, lets through a stream what the policy allows, and says why it stops the rest.
+//!
+//! | question | code | definition |
+//! |---|---|---|
+//! | Which words are which request? Is it one? | `words.rt`, `laws.rt` | `specs/Words.antt`; a request is a value of `Request` (`request.rt`, `specs/Requests.antt`) |
+//! | What is it to meet a request? | `meeting.rt` (`program`, `meet`) | `specs/Meeting.antt` |
+//! | What is answered to `check` and `decide`, and which fault stands? | `checking.rt`, `deciding.rt`, `answer.rt` | `specs/Answers.antt` |
+//! | What comes of a stream? | `guarding.rt` | `specs/Meeting.antt` (`GuardsStream`) |
+//! | Which texts does a policy at a path need? | `texts.rt`, `files.rt` | `specs/Reading.antt`, `specs/Files.antt` |
+//! | What is told of a fault, and which status is it? | `fault.rt`, `outputs.rt` | `specs/Faults.antt`, `specs/Writing.antt` |
+//! | Which policy is built in, and what is printed for its messages? | `first_run.rt` | `specs/FirstRun.antt`, `specs/Printing.antt` |
+#![tactic(auto)]
+
+mod answer;
+mod checking;
+mod deciding;
+mod fault;
+mod files;
+mod first_run;
+mod guarding;
+pub mod laws;
+mod meeting;
+mod outputs;
+mod request;
+mod texts;
+mod words;
+
+pub use files::{Files, FilesFault};
+pub use meeting::program;
+pub use outputs::{tell_no_memory, tell_text};

@@ -1,0 +1,122 @@
+//! The program over any files, source and sinks.
+ghost use Rattle.std.specs.Prelude.{◌≡◌, ◌≤◌, ◌∷◌, [], length, map, true, false, IfOk, IfErr};
+ghost use Rattle.derguard_program.specs.Requests.{request_view, first};
+ghost use Rattle.derguard_program.specs.Devices.{input_of, device, IsUntouched};
+ghost use Rattle.derguard_program.specs.Writing.{Writes, Tells, TellsNoMemory};
+ghost use Rattle.derguard_program.specs.Meeting.{Meets, Programs, Shows, is_help};
+ghost use Rattle.clap.specs.Words.{kind_of};
+ghost use Rattle.clap.specs.declared.error.kind.ErrorKind.TheVariants.{OutOfMemory};
+
+use crate::answer::Answer;
+use crate::checking::check;
+use crate::deciding::decide;
+use crate::fault::Fault;
+use crate::files::Files;
+use crate::first_run::first_run;
+use crate::guarding::run;
+use crate::outputs::{tell, tell_no_memory, tell_text, write};
+use crate::request::Request;
+use crate::words::request_in;
+use clap::Error;
+use clap::error::ErrorKind;
+use guard_frames::{Sink, Source};
+use std::alloc::Global;
+
+/// Does what the words ask for, the first of which is the program's name, and answers the status: 0 where all passed, the policy is accepted or help was
+/// asked for; 1 where something was denied; 2 for bad words, hexadecimal digits, a bad policy, bad modules or a file that can't be read; 3 where the stream or a
+/// device failed, or memory ran out. What is at fault is told on standard error, behind `derguard: `.
+///
+/// Faults are looked for in this order: the words, the hexadecimal digits, the policy's file and its top, the files of the modules in listed order, the
+/// modules, the policy, the stream.
+pub fn program<F: Files, S: Source, O: Sink, E: Sink>(
+    alloc: Global,
+    words: &[&str],
+    files: &mut F,
+    input: &mut S,
+    out: &mut O,
+    err: &mut E,
+) -> u8
+    ensures words { 2 ≤ length words.now → Programs (map (λ w. w.now) words.now) (F.told files.old) (input_of (S.tells input.old) (S.tells input.new) (S.takes input.old) (S.takes input.new) (S.has_failed input.new))
+        (device (O.taken out.old) (O.taken out.new) (O.has_failed out.new)) (device (E.taken err.old) (E.taken err.new) (E.has_failed err.new)) result }
+    // Without words behind the program's name it decides the messages that are built in.
+    ensures alone { length words.now ≤ 1 → Meets (F.told files.old) first (input_of (S.tells input.old) (S.tells input.new) (S.takes input.old) (S.takes input.new) (S.has_failed input.new))
+        (device (O.taken out.old) (O.taken out.new) (O.has_failed out.new)) (device (E.taken err.old) (E.taken err.new) (E.has_failed err.new)) result }
+{
+    if words.len() <= 1 {
+        return meet(alloc, &Request::First, files, input, out, err);
+    }
+    match request_in(alloc, words) {
+        Ok(request) => meet(alloc, &request, files, input, out, err),
+        Err(e) => show(alloc, &e, out, err),
+    }
+}
+
+/// Meets the request, and answers the status.
+pub fn meet<F: Files, S: Source, O: Sink, E: Sink>(
+    alloc: Global,
+    request: &Request,
+    files: &mut F,
+    input: &mut S,
+    out: &mut O,
+    err: &mut E,
+) -> u8
+    ensures { Meets (F.told files.old) (request_view request.now) (input_of (S.tells input.old) (S.tells input.new) (S.takes input.old) (S.takes input.new) (S.has_failed input.new))
+        (device (O.taken out.old) (O.taken out.new) (O.has_failed out.new)) (device (E.taken err.old) (E.taken err.new) (E.has_failed err.new)) result }
+{
+    match request {
+        Request::First => give(alloc, first_run(alloc), out, err),
+        Request::Check { policy } => give(alloc, check(alloc, policy, files), out, err),
+        Request::Decide(message) => give(alloc, decide(alloc, message, files), out, err),
+        Request::Run { policy } => run(alloc, policy, files, input, out, err),
+    }
+}
+
+/// Writes the answer, or tells the fault.
+fn give<O: Sink, E: Sink>(
+    alloc: Global,
+    found: Result<Answer, Fault>,
+    out: &mut O,
+    err: &mut E,
+) -> u8
+    ensures written { IfOk found (λ a. Writes a.out.items a.status (device (O.taken out.old) (O.taken out.new) (O.has_failed out.new))
+        (device (E.taken err.old) (E.taken err.new) (E.has_failed err.new)) result) }
+    ensures told { IfErr found (λ f. (O.taken out.new ≡ O.taken out.old) × Tells f (device (E.taken err.old) (E.taken err.new) (E.has_failed err.new)) result) }
+{
+    match found {
+        Ok(answer) => write(&answer.out, answer.status, out, err),
+        Err(fault) => tell(alloc, &fault, err),
+    }
+}
+
+/// Shows what `clap` says of the words: help on standard output, with status 0, and what is wrong with them on standard error, with status 2.
+fn show<O: Sink, E: Sink>(alloc: Global, said: &Error, out: &mut O, err: &mut E) -> u8
+    ensures shown { Shows (kind_of said.now ∷ []) (device (O.taken out.old) (O.taken out.new) (O.has_failed out.new))
+        (device (E.taken err.old) (E.taken err.new) (E.has_failed err.new)) result }
+    ensures memory { kind_of said.now ≡ OutOfMemory → IsUntouched (device (O.taken out.old) (O.taken out.new) (O.has_failed out.new))
+        × TellsNoMemory (device (E.taken err.old) (E.taken err.new) (E.has_failed err.new)) result }
+{
+    if is_no_memory(said.kind()) {
+        return tell_no_memory(err);
+    }
+    let Ok(text) = format!(in alloc; "{said}") else {
+        return tell_no_memory(err);
+    };
+    if is_help(said.kind()) {
+        write(text.as_bytes(), 0, out, err)
+    } else {
+        tell_text(alloc, text.trim_end(), 2, err)
+    }
+}
+
+fn is_help(said: ErrorKind) -> bool
+    ensures { result ≡ is_help said }
+{
+    matches!(said, ErrorKind::DisplayHelp | ErrorKind::DisplayVersion)
+}
+
+fn is_no_memory(said: ErrorKind) -> bool
+    ensures yes { result ≡ true → said ≡ OutOfMemory }
+    ensures no { result ≡ false → said ≡ OutOfMemory → ⊥ }
+{
+    matches!(said, ErrorKind::OutOfMemory)
+}

@@ -1,0 +1,69 @@
+//! What goes to standard output and to standard error.
+ghost use Rattle.std.specs.Prelude.{◌≡◌, IfOk, string_bytes};
+ghost use Rattle.derguard_program.specs.Devices.{device};
+ghost use Rattle.derguard_program.specs.Writing.{line_of, TellsOctets, TellsNoMemory, TellsText, Tells, Writes};
+
+use crate::fault::Fault;
+use guard_frames::{Sink, put_all};
+use std::alloc::{AllocError, Global};
+
+/// What is told where there is no memory to say anything else.
+const NO_MEMORY: &[u8] = b"derguard: no-memory\n";
+
+const WRITE_FAILED: &[u8] = b"derguard: F2 WriteFailed\n";
+
+/// The status where a stream or a device failed, or memory ran out.
+pub const FAILED: u8 = 3;
+
+/// Writes the octets to standard output, and answers the status. Where standard output fails, that is told, and the status is 3.
+pub fn write<O: Sink, E: Sink>(octets: &[u8], status: u8, out: &mut O, err: &mut E) -> u8
+    ensures { Writes octets.now status (device (O.taken out.old) (O.taken out.new) (O.has_failed out.new))
+        (device (E.taken err.old) (E.taken err.new) (E.has_failed err.new)) result }
+{
+    match put_all(out, octets) {
+        Ok(()) => status,
+        Err(_) => tell_line(WRITE_FAILED, FAILED, err),
+    }
+}
+
+/// Tells a fault behind `derguard: `, and answers its status. Where standard error fails, nothing more is written, and the status is 3.
+pub fn tell<E: Sink>(alloc: Global, fault: &Fault, err: &mut E) -> u8
+    ensures { Tells fault.now (device (E.taken err.old) (E.taken err.new) (E.has_failed err.new)) result }
+{
+    match fault.text(alloc) {
+        Ok(text) => tell_text(alloc, &text, fault.status(), err),
+        Err(_) => tell_no_memory(err),
+    }
+}
+
+/// Tells a text behind `derguard: `, with this status.
+pub fn tell_text<E: Sink>(alloc: Global, text: &str, status: u8, err: &mut E) -> u8
+    ensures { TellsText text.now status (device (E.taken err.old) (E.taken err.new) (E.has_failed err.new)) result }
+{
+    match line(alloc, text) {
+        Ok(line) => tell_line(line.as_bytes(), status, err),
+        Err(_) => tell_no_memory(err),
+    }
+}
+
+/// Tells that memory ran out, which takes none.
+pub fn tell_no_memory<E: Sink>(err: &mut E) -> u8
+    ensures { TellsNoMemory (device (E.taken err.old) (E.taken err.new) (E.has_failed err.new)) result }
+{
+    tell_line(NO_MEMORY, FAILED, err)
+}
+
+fn line(alloc: Global, text: &str) -> Result<String, AllocError>
+    ensures { IfOk result (λ line. string_bytes line ≡ line_of text.now) }
+{
+    format!(in alloc; "derguard: {text}\n")
+}
+
+fn tell_line<E: Sink>(line: &[u8], status: u8, err: &mut E) -> u8
+    ensures { TellsOctets line.now status (device (E.taken err.old) (E.taken err.new) (E.has_failed err.new)) result }
+{
+    match put_all(err, line) {
+        Ok(()) => status,
+        Err(_) => FAILED,
+    }
+}

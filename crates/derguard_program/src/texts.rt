@@ -1,0 +1,85 @@
+//! The texts of a policy and of its modules.
+ghost use Rattle.std.specs.Prelude.{◌≡◌, ◌++◌, map, string_bytes, IfOk, IfErr};
+ghost use Rattle.derguard_program.specs.Files.{HasText, after_read};
+ghost use Rattle.derguard_program.specs.Reading.{folder, HaveTexts, AreTexts, IsNoPolicyAt};
+ghost use Rattle.derguard_program.specs.Texts.{CannotBeRead, CannotAllBeRead};
+
+use crate::fault::Fault;
+use crate::files::{Files, FilesFault};
+use guard_policy::module_files;
+use std::alloc::{AllocError, Global};
+
+/// The text of a policy, and those of the modules that it lists, in order.
+#[derive(Drop)]
+pub struct Texts {
+    pub policy: Vec<u8>,
+    pub modules: Vec<Vec<u8>>,
+}
+
+impl Texts {
+    /// Reads the policy at this path, and then each module that it lists, beside it.
+    ///
+    /// It refuses with CannotRead by the path at which nothing can be read, and with Policy where the policy's text lists no modules (Q1 to Q3 of its top).
+    pub fn read<F: Files>(alloc: Global, path: &str, files: &mut F) -> Result<Texts, Fault>
+        ensures read { IfOk result (λ texts. AreTexts (F.told files.old) path.now texts.policy.items (map (λ text. text.items) texts.modules.items)) }
+        ensures missing { IfErr result (IsNoPolicyAt (F.told files.old) path.now) }
+    {
+        let policy = read(alloc, path, files)?;
+        let listed = module_files(alloc, &policy)?;
+        let modules = read_modules(alloc, path, &listed, files)?;
+        Ok(Texts { policy, modules })
+    }
+
+    /// The texts of the modules, as a schema is built from them.
+    pub fn module_slices(&self, alloc: Global) -> Result<Vec<&[u8]>, AllocError>
+        ensures { IfOk result (λ slices. map (λ s. s.now) slices.items ≡ map (λ text. text.items) self.now.modules.items) }
+    {
+        let mut slices = Vec::with_capacity(alloc, self.modules.len())?;
+        for text in &self.modules {
+            slices.push(text.as_slice())?;
+        }
+        Ok(slices)
+    }
+}
+
+/// The texts of these files, beside the policy at the path.
+fn read_modules<F: Files>(
+    alloc: Global,
+    path: &str,
+    listed: &[String],
+    files: &mut F,
+) -> Result<Vec<Vec<u8>>, Fault>
+    ensures read { IfOk result (λ texts. HaveTexts (F.told files.old) (folder path.now) (map string_bytes listed.now) (map (λ text. text.items) texts.items)) }
+    ensures missing { IfErr result (CannotAllBeRead (F.told files.old) (folder path.now) (map string_bytes listed.now)) }
+{
+    let mut texts = Vec::with_capacity(alloc, listed.len())?;
+    for name in listed {
+        let place = beside(alloc, path, name)?;
+        let text = read(alloc, &place, files)?;
+        texts.push(text)?;
+    }
+    Ok(texts)
+}
+
+/// The text at a path. What can't be read is named.
+fn read<F: Files>(alloc: Global, path: &str, files: &mut F) -> Result<Vec<u8>, Fault>
+    ensures text { IfOk result (λ text. HasText (F.told files.old) path.now text.items) }
+    ensures missing { IfErr result (CannotBeRead (F.told files.old) path.now) }
+    ensures next { F.told files.new ≡ after_read (F.told files.old) }
+{
+    match files.read(alloc, path) {
+        Ok(text) => Ok(text),
+        Err(FilesFault::CannotRead) => Err(Fault::CannotRead(String::from_str(alloc, path)?)),
+        Err(FilesFault::OutOfMemory) => Err(Fault::NoMemory),
+    }
+}
+
+/// The path of a file of this name in the folder of the other path: that one up to and with its last `/`, and then the name.
+fn beside(alloc: Global, path: &str, name: &str) -> Result<String, AllocError>
+    ensures { IfOk result (λ place. string_bytes place ≡ folder path.now ++ name.now) }
+{
+    match path.rsplit_once('/') {
+        Some((folder, _)) => format!(in alloc; "{folder}/{name}"),
+        None => String::from_str(alloc, name),
+    }
+}

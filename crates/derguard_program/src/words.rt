@@ -1,0 +1,133 @@
+//! The words of the command line. `clap` splits them.
+ghost use Rattle.std.specs.Prelude.{◌≡◌, ℕ, List, Some, codes, false, map, IfOk, IfErr};
+ghost use Rattle.clap.specs.Words.{HasKind, Row, Text, app_of, fault_of, first_of, found_of, rows_of, rule_of, shape_of, subcommand_rows_of};
+ghost use Rattle.derguard_program.specs.Requests.{AbstractRequest, request_view};
+ghost use Rattle.derguard_program.specs.Words.{Asks, IsCommand, check_shape, decide_shape, option_rule, place_rule, required_rule, run_shape, the_app};
+
+use crate::request::{Message, Request};
+use clap::{Arg, ArgAction, ArgMatches, Command, Error};
+use std::alloc::{AllocError, Global};
+
+const ABOUT: &str =
+    "Lets through the DER messages that a policy over ASN.1 types allows, and says why it stops others. Without words it decides four messages that are built in.";
+
+const EXAMPLE: &str =
+    "Example:\n  derguard check examples/orders.toml\n\nStatuses: 0 all passed, 1 something was denied, 2 bad words, policy, modules or hexadecimal digits, or a file that can't be read, 3 a stream or a device failed, or no memory.";
+
+const CHECK_EXAMPLE: &str = "Example:\n  derguard check examples/orders.toml";
+
+const DECIDE_EXAMPLE: &str =
+    "Example:\n  derguard decide examples/orders.toml --from north --to south --message order 300B800105810101A403020107\n\nA value that begins with a hyphen is given in one word with its option, as --from=-a.";
+
+const RUN_EXAMPLE: &str = "Example:\n  derguard run examples/orders.toml < examples/orders.frames";
+
+/// What the words ask for; the first is the program's name. Help is an error of `clap` too, of its own kind.
+pub fn request_in<'a>(alloc: Global, words: &'a [&'a str]) -> Result<Request<'a>, Error>
+    ensures asked { IfOk result (λ request. Asks (map (λ w. w.now) words.now) (request_view request)) }
+    ensures refused { IfErr result (HasKind (fault_of the_app (map (λ w. w.now) words.now))) }
+{
+    let matches = command(alloc)?.try_get_matches_from(words)?;
+    Ok(request_of(&matches))
+}
+
+/// What was matched. A command and each of its arguments is required, so they are there.
+fn request_of<'a>(matches: &ArgMatches<'a>) -> Request<'a>
+    ensures { (name : Text) (rows : List Row) (request : AbstractRequest) → subcommand_rows_of matches.now ≡ Some (name, rows)
+        → IsCommand name rows request → request_view result ≡ request }
+{
+    match matches.subcommand() {
+        Some(("check", found)) => Request::Check {
+            policy: text(found, "policy"),
+        },
+        Some(("run", found)) => Request::Run {
+            policy: text(found, "policy"),
+        },
+        Some((_, found)) => Request::Decide(Message {
+            policy: text(found, "policy"),
+            from: text(found, "from"),
+            to: text(found, "to"),
+            message: text(found, "message"),
+            hex: text(found, "hex"),
+        }),
+        None => Request::First,
+    }
+}
+
+fn text<'a>(matches: &ArgMatches<'a>, id: &str) -> &'a str
+    ensures { (value : List ℕ) → first_of id.now (rows_of (found_of matches.now)) ≡ Some value → result.now ≡ value }
+{
+    matches.get_str(id).unwrap_or("")
+}
+
+fn command<'a>(alloc: Global) -> Result<Command<'a>, AllocError>
+    ensures { IfOk result (λ c. app_of c ≡ the_app) }
+{
+    Command::new(alloc, "derguard")
+        .about(ABOUT)
+        .after_help(EXAMPLE)
+        .subcommand_required(true)
+        .subcommand(check(alloc)?)?
+        .subcommand(decide(alloc)?)?
+        .subcommand(run(alloc)?)
+}
+
+fn check<'a>(alloc: Global) -> Result<Command<'a>, AllocError>
+    ensures { IfOk result (λ c. shape_of c ≡ check_shape) }
+{
+    Command::new(alloc, "check")
+        .about("Says whether a policy and its modules are accepted.")
+        .after_help(CHECK_EXAMPLE)
+        .arg(policy(alloc))
+}
+
+fn decide<'a>(alloc: Global) -> Result<Command<'a>, AllocError>
+    ensures { IfOk result (λ c. shape_of c ≡ decide_shape) }
+{
+    Command::new(alloc, "decide")
+        .about("Says what becomes of one message, and why.")
+        .after_help(DECIDE_EXAMPLE)
+        .arg(policy(alloc))?
+        .arg(option(alloc, "from", "The sender's name."))?
+        .arg(option(alloc, "to", "The receiver's name."))?
+        .arg(option(alloc, "message", "The message's name in the policy."))?
+        .arg(
+            required(alloc, "hex")
+                .value_name("HEX")
+                .help("The message's octets, in hexadecimal digits."),
+        )
+}
+
+fn run<'a>(alloc: Global) -> Result<Command<'a>, AllocError>
+    ensures { IfOk result (λ c. shape_of c ≡ run_shape) }
+{
+    Command::new(alloc, "run")
+        .about(
+            "Guards a stream: frames from standard input, those that pass to standard output, a line for each other one to standard error.",
+        )
+        .after_help(RUN_EXAMPLE)
+        .arg(policy(alloc))
+}
+
+fn policy<'a>(alloc: Global) -> Arg<'a>
+    ensures rule { rule_of result ≡ place_rule (codes "policy") }
+    ensures local { result.global ≡ false }
+{
+    required(alloc, "policy").value_name("POLICY").help(
+        "The file of the policy; module files are looked for beside it.",
+    )
+}
+
+/// An option with one value.
+fn option<'a>(alloc: Global, name: &'a str, help: &'a str) -> Arg<'a>
+    ensures rule { rule_of result ≡ option_rule name.entry.now }
+    ensures local { result.global ≡ false }
+{
+    required(alloc, name).long(name).help(help)
+}
+
+fn required<'a>(alloc: Global, name: &'a str) -> Arg<'a>
+    ensures rule { rule_of result ≡ required_rule name.entry.now }
+    ensures local { result.global ≡ false }
+{
+    Arg::new(alloc, name).required(true).action(ArgAction::Set)
+}

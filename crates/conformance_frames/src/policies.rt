@@ -78,10 +78,12 @@ fn one_rule(
     modules.push(module)?;
     match Policy::new(alloc, messages, rules, modules) {
         Ok(policy) => Ok(Some(policy)),
-        Err(Refused {
-            fault: PolicyFault::OutOfMemory,
-            ..
-        }) => Err(OutOfMemory),
+        Err(
+            Refused {
+                fault: PolicyFault::OutOfMemory,
+                ..
+            },
+        ) => Err(OutOfMemory),
         Err(_) => Ok(None),
     }
 }

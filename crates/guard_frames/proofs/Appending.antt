@@ -5,7 +5,7 @@ use Rattle.std.specs.Io.KnownBytes.{Appends, Keeps}
 use Rattle.std.proofs.lemmas.Grind.{common_steps}
 use Rattle.std.proofs.Math.Seq.{take-add}
 use Rattle.std.proofs.lemmas.List.{take_rest, take-append-drop}
-use Rattle.guard_frames.specs.Added.{Added, nothing, BothAppend}
+use Rattle.guard_frames.specs.Added.{Added, nothing, joined, BothAppend}
 use Rattle.guard_frames.specs.Prefix.{IsProperPrefix}
 
 pub Appends_none : (a : Option (List ℕ)) → Appends a a []
@@ -57,10 +57,7 @@ Prefix_second part first second h = record {
 
 -- ---- both sinks
 
--- what was added first and then, and what was added to one of the two
-abbrev pub joined : Added → Added → Added
-joined a b = record { out = a.out ++ b.out; reports = a.reports ++ b.reports }
-
+-- what was added to one of the two
 abbrev pub sent_more : Added → List ℕ → Added
 sent_more a s = record { out = a.out ++ s; reports = a.reports }
 

@@ -8,13 +8,12 @@ use Rattle.guard_frames.specs.Frames.{IsFrame, ConsistsOf}
 use Rattle.guard_frames.specs.declared.totals.Totals.{Totals}
 use Rattle.guard_frames.specs.Totals.{later, next_number, counted}
 use Rattle.guard_frames.specs.Outcomes.{Decision, Outcome, frames_of}
-use Rattle.guard_frames.specs.Added.{Added}
+use Rattle.guard_frames.specs.Added.{Added, joined}
 use Rattle.guard_frames.specs.Guarding.{text_out, AllAdd, InPart, BreaksOff}
 use Rattle.guard_frames.specs.Feeding.{Decides, Takes}
 use Rattle.guard_frames.specs.LinkView.{AbstractLink}
 use Rattle.guard_frames.specs.declared.link.LinkFault.{LinkFault}
 use Rattle.guard_frames.specs.declared.link.LinkFault.TheVariants.{FrameTooLong, WriteFailed, Closed, TornFrame}
-use Rattle.guard_frames.proofs.Appending.{joined}
 use Rattle.guard_frames.proofs.Counting.{later_later, counted-append}
 use Rattle.guard_frames.proofs.Going.{frames_of-append, text_out-append}
 use Rattle.guard_frames.proofs.Progress.{AllAdd-append, number_after}

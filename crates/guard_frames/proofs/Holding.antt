@@ -12,14 +12,13 @@ use Rattle.guard_frames.specs.declared.putting.Whole.{Whole}
 use Rattle.guard_frames.specs.declared.totals.Totals.{Totals}
 use Rattle.guard_frames.specs.Totals.{no_frames, next_number}
 use Rattle.guard_frames.specs.Outcomes.{Decision, frames_of}
-use Rattle.guard_frames.specs.Added.{Added, nothing}
+use Rattle.guard_frames.specs.Added.{Added, nothing, joined}
 use Rattle.guard_frames.specs.Guarding.{BreaksOff}
 use Rattle.guard_frames.specs.Feeding.{Decides, DecidesUntilTooLong, Takes}
 use Rattle.guard_frames.specs.LinkView.{AbstractLink}
 use Rattle.guard_frames.specs.declared.link.LinkFault.{LinkFault}
 use Rattle.guard_frames.specs.declared.link.LinkFault.TheVariants.{FrameTooLong, WriteFailed}
 use Rattle.guard_frames.specs.Runs.{RunsAll}
-use Rattle.guard_frames.proofs.Appending.{joined}
 use Rattle.guard_frames.proofs.Composing.{takes_on}
 use Rattle.guard_frames.proofs.Elements.{All_none, All_first}
 use Rattle.guard_frames.proofs.Progress.{le_or_gt}

@@ -15,6 +15,8 @@ pub mod Progress
 pub mod Steps
 pub mod Composing
 pub mod Holding
+-- ---- many links
+pub mod Own
 -- ---- laws
 pub mod GoesExactly
 -- ---- texts

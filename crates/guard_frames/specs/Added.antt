@@ -1,5 +1,5 @@
 -- What a call read and added: lists of octets, and how they are joined to a source and two sinks.
-use Rattle.std.specs.Prelude.{ℕ, List, [], Option}
+use Rattle.std.specs.Prelude.{ℕ, List, [], ◌++◌, Option}
 use Rattle.std.specs.Io.KnownBytes.{Appends, Consumes}
 
 -- what was added to what the outputs and the reports took so far
@@ -9,6 +9,10 @@ pub record Added : Type 0 where
 
 abbrev pub nothing : Added
 nothing = record { out = []; reports = [] }
+
+-- the one, and then the other
+abbrev pub joined : Added → Added → Added
+joined a b = record { out = a.out ++ b.out; reports = a.reports ++ b.reports }
 
 -- the octets of a device before a call and after it, where it says them
 abbrev pub Octets : Type 0

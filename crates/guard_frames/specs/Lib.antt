@@ -17,6 +17,15 @@ pub mod Feeding
 pub mod Runs
 -- ---- under a policy
 pub mod OfPolicy
+-- ---- many links, and a policy that may be replaced
+pub mod LinkSteps
+pub mod Gateways
+pub mod GatewaySteps
+pub mod OwnPieces
+pub mod InForce
+pub mod OwnStream
+pub mod GatewayView
+pub mod Lending
 -- ---- under the policy that texts say
 pub mod ModulesView
 pub mod Texts

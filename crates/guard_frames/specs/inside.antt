@@ -2,3 +2,4 @@
 pub mod Cut
 pub mod Judged
 pub mod Putting
+pub mod Seats

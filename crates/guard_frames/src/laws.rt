@@ -1,10 +1,16 @@
 //! Laws of the definitions. The functions do nothing when they run.
 
-ghost use Rattle.std.specs.Prelude.{◌≡◌, ◌⊎◌, ℕ, List, ◌++◌, ◌↔◌, Some, true, false};
+ghost use Rattle.std.specs.Prelude.{◌≡◌, ◌⊎◌, ℕ, List, ◌++◌, ◌↔◌, Some, true, false, slice_get};
 ghost use Rattle.guard_frames.specs.Bodies.{AbstractBody, IsBody, body_in};
 ghost use Rattle.guard_frames.specs.Frames.{ConsistsOf};
 ghost use Rattle.guard_frames.specs.Outcomes.{Goes, Outcome};
 ghost use Rattle.guard_frames.specs.Guarding.{Adds, StaysNoMemory};
+ghost use Rattle.guard_frames.specs.LinkView.{new_link};
+ghost use Rattle.guard_frames.specs.Gateways.{AbstractGateway};
+ghost use Rattle.guard_frames.specs.GatewaySteps.{Turn, AreSteps};
+ghost use Rattle.guard_frames.specs.OwnPieces.{OwnPiece, own_stream, pieces_of, events_of, added_to, is_broken};
+ghost use Rattle.guard_frames.specs.InForce.{Ruled, frames_ruled, policies_of, AreInForce};
+ghost use Rattle.guard_frames.specs.OwnStream.{Gives};
 
 use crate::decision::Decide;
 
@@ -39,4 +45,22 @@ pub fn law_goes_but_for_memory<D: Decide>(policy: &D)
 pub fn law_one_header()
     ensures read { (octets : List ℕ) (body : AbstractBody) → body_in octets ≡ Some body → IsBody octets body }
     ensures only { (octets : List ℕ) (body : AbstractBody) → IsBody octets body → body_in octets ≡ Some body }
+{}
+
+/// Whatever else happens in a gateway, what its steps add to the sinks of a new link is what that link's own stream
+/// gives: each frame decided, numbered and reported by the policy in force as its last octet came, up to a failure of a
+/// sink of the link.
+pub fn law_own_stream()
+    ensures { (k : ℕ) (turns : List Turn) (before after : AbstractGateway) →
+        slice_get before.links k ≡ Some new_link → AreSteps before turns after →
+        Gives (pieces_of k before.policy (events_of turns)) (added_to k turns) (is_broken k turns) }
+{}
+
+/// A stream in pieces has one reading as frames and a rest, and each of the frames is under one policy.
+pub fn law_one_own()
+    ensures { (pieces : List OwnPiece) (ruled others : List Ruled) (rest last : List ℕ) →
+        ConsistsOf (own_stream pieces) (frames_ruled ruled) rest →
+        ConsistsOf (own_stream pieces) (frames_ruled others) last →
+        AreInForce 0 pieces 0 ruled → AreInForce 0 pieces 0 others →
+        (frames_ruled ruled ≡ frames_ruled others) × (policies_of ruled ≡ policies_of others) × (rest ≡ last) }
 {}

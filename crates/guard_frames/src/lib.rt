@@ -15,6 +15,8 @@
 //! | What does a piece, or the end, do to a link? | `feeding.rt` (`Link::feed`), `link.rt` (`Link::end`) | `specs/Feeding.antt`, `specs/Added.antt` |
 //! | What does a whole run read and add, and what when a device fails? | `running.rt` (`decide_stream`) | `specs/Runs.antt`, `specs/Added.antt` |
 //! | How does a policy decide, and what comes of a stream under it? | `policies.rt`, `guarding.rt` (`run`) | `specs/OfPolicy.antt`, `specs/Runs.antt` |
+//! | What happens to many links under one policy, which may be replaced? | `gateway.rt` (`Gateway`, `Event`), `seats.rt` | `specs/GatewaySteps.antt`, `specs/GatewayView.antt`; a link: `specs/LinkSteps.antt` |
+//! | What does one of many links give in the end? | `laws.rt` (`law_own_stream`) | `specs/OwnStream.antt`, `specs/OwnPieces.antt`, `specs/InForce.antt` |
 //! | Over which modules is a policy loaded? | `modules.rt` (`Modules`) | `specs/ModulesView.antt` |
 //! | What do texts say, and what comes of a stream under it? | `texts.rt` (`load_texts`, `run_texts`) | `specs/Texts.antt`, `specs/RunsTexts.antt` |
 //! | Does it matter how a stream was cut? Has each stream one reading? Which frames go out? | `laws.rt` | `specs/Frames.antt`, `specs/Guarding.antt` |
@@ -26,6 +28,7 @@ mod decision;
 mod devices;
 mod feeding;
 mod filling;
+mod gateway;
 mod guarding;
 mod header;
 mod kept;
@@ -36,6 +39,7 @@ mod policies;
 mod putting;
 mod report;
 mod running;
+mod seats;
 mod texts;
 mod through;
 mod totals;
@@ -43,11 +47,13 @@ mod totals;
 pub use body::Body;
 pub use decision::{Decide, Report, Ruling};
 pub use devices::{Failed, Sink, Source, put_all};
+pub use gateway::{Event, Gateway, StepFault};
 pub use guarding::run;
 pub use kept::Kept;
 pub use link::{Link, LinkFault};
 pub use modules::Modules;
 pub use running::{RunFault, decide_stream};
+pub use seats::Ends;
 pub use texts::{TextsFault, load_texts, run_texts};
 pub use through::Through;
 pub use totals::Totals;

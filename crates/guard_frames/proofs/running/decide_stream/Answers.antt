@@ -3,11 +3,11 @@ use Rattle.std.specs.Prelude.{Err}
 use Rattle.guard_frames.specs.declared.link.LinkFault.TheVariants.{FrameTooLong, WriteFailed}
 use Rattle.guard_frames.specs.Totals.{no_frames, WentUpBy}
 use Rattle.guard_frames.specs.Outcomes.{frames_of}
-use Rattle.guard_frames.specs.Added.{nothing}
+use Rattle.guard_frames.specs.Added.{nothing, joined}
 use Rattle.guard_frames.specs.Frames.{IsUnfinished}
 use Rattle.guard_frames.specs.LinkView.{AbstractLink, link_view}
 use Rattle.guard_frames.specs.Runs.{CameInPieces, IsTorn, IsFoundTooLong}
-use Rattle.guard_frames.proofs.Appending.{joined, both_none, both_joined}
+use Rattle.guard_frames.proofs.Appending.{both_none, both_joined}
 use Rattle.guard_frames.proofs.Composing.{takes_on}
 use Rattle.guard_frames.proofs.Counting.{counts}
 use Rattle.guard_frames.proofs.Reading.{Consumes_none, Consumes_trans, Consumes_zero, is_empty_list, no_pieces, one_more_piece}

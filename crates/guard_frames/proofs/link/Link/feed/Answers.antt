@@ -1,9 +1,10 @@
 use Rattle.std.proofs.Common.{◌≡◌, ◌<◌, ◌++◌, ℕ, List, refl, sym, subst, length, rules, arith}
+use Rattle.guard_frames.specs.Added.{joined}
 use Rattle.std.proofs.lemmas.List.{take_rest}
 use Rattle.guard_frames.specs.Totals.{next_number}
 use Rattle.guard_frames.specs.LinkView.{link_view}
 use Rattle.guard_frames.specs.Feeding.{Takes}
-use Rattle.guard_frames.proofs.Appending.{joined, both_joined}
+use Rattle.guard_frames.proofs.Appending.{both_joined}
 use Rattle.guard_frames.proofs.Holding.{not_too_long, still_unfinished, too_long_now, breaks_now, takes_left}
 use Rattle.guard_frames.proofs.Reading.{is_empty_list}
 use Rattle.guard_frames.proofs.link.Link.feed.Goals as goal

@@ -1,14 +1,16 @@
 //! A gateway: many links under one policy, which can be replaced while they run.
 
-ghost use Rattle.std.specs.Prelude.{◌≡◌, slice_get};
+ghost use Rattle.std.specs.Prelude.{◌≡◌, ◌≤◌, length, replicate, slice_get, IfOk, IfErr};
 ghost use Rattle.std.specs.Borrow.{sem};
 ghost use Rattle.std.specs.Option.{option_copied_mut};
 ghost use Rattle.guard_frames.specs.Lending.{lends_ends};
-ghost use Rattle.guard_frames.specs.GatewayView.{gateway_ends, IsStepOf};
+ghost use Rattle.guard_frames.specs.GatewayView.{gateway_view, gateway_ends, IsStepOf};
+ghost use Rattle.guard_frames.specs.LinkView.{new_link};
+ghost use Rattle.guard_policy.specs.PolicyView.{policy_view};
 
 use crate::devices::Sink;
 use crate::link::LinkFault;
-use crate::seats::{Ends, Seat, end_at, feed_at};
+use crate::seats::{Ends, Seat, end_at, feed_at, new_links, seated};
 use guard_policy::Policy;
 use std::alloc::Global;
 use thiserror::Error;
@@ -38,6 +40,38 @@ pub enum Event<'a> {
 pub struct Gateway<S> {
     policy: Policy,
     seats: Vec<Seat<S>>,
+}
+
+/// What was given for a gateway, where there was no memory for it.
+#[derive(Drop)]
+pub struct NoRoom<S> {
+    pub policy: Policy,
+    pub ends: Vec<Ends<S>>,
+}
+
+impl<S: Drop> Gateway<S> {
+    /// A gateway of new links, one for each pair of sinks, in their order; at most 65,535, so that each has a number.
+    ///
+    /// # Errors
+    /// Both arguments, where memory is wanting.
+    pub fn new(alloc: Global, policy: Policy, ends: Vec<Ends<S>>) -> Result<Gateway<S>, NoRoom<S>>
+        requires few { length ends.items ≤ 65535 }
+        ensures links { IfOk result (λ g. gateway_view g ≡ record {
+          policy = policy_view policy;
+          links = replicate (length ends.items) new_link;
+        }) }
+        ensures ends { IfOk result (λ g. gateway_ends g ≡ ends.items) }
+        ensures back { IfErr result (λ r. (r.policy ≡ policy) × (r.ends ≡ ends)) }
+    {
+        let Ok(links) = new_links(alloc, ends.len()) else {
+            return Err(NoRoom { policy, ends });
+        };
+        let Ok(seats) = Vec::with_capacity(alloc, ends.len()) else {
+            return Err(NoRoom { policy, ends });
+        };
+        let seats = seated(links, ends, seats);
+        Ok(Gateway { policy, seats })
+    }
 }
 
 impl<S: Sink> Gateway<S> {

@@ -47,7 +47,7 @@ mod totals;
 pub use body::Body;
 pub use decision::{Decide, Report, Ruling};
 pub use devices::{Failed, Sink, Source, put_all};
-pub use gateway::{Event, Gateway, StepFault};
+pub use gateway::{Event, Gateway, NoRoom, StepFault};
 pub use guarding::run;
 pub use kept::Kept;
 pub use link::{Link, LinkFault};

@@ -1,12 +1,15 @@
 //! Links with their sinks, by their numbers.
 
-ghost use Rattle.std.specs.Prelude.{◌≡◌, Ok, Err};
+ghost use Rattle.std.specs.Prelude.{◌≡◌, ◌≤◌, [], length, map, replicate, vec_capacity, Ok, Err, IfOk};
+ghost use Rattle.guard_frames.specs.GatewayView.{links_of, ends_of};
+ghost use Rattle.guard_frames.specs.LinkView.{link_view, new_link};
 ghost use Rattle.guard_frames.specs.inside.Seats.{IsFed, IsFedAt, IsEndedAt};
 
 use crate::decision::Decide;
 use crate::devices::Sink;
 use crate::gateway::StepFault;
 use crate::link::{Link, LinkFault};
+use guard_model::OutOfMemory;
 use std::alloc::Global;
 
 /// The two sinks of a link: what its frames that go are written to, and what is reported of the others.
@@ -73,4 +76,39 @@ pub(crate) fn end_at<S: Sink>(seats: &mut Vec<Seat<S>>, at: usize) -> Result<(),
         Ok(()) => Ok(()),
         Err(fault) => Err(StepFault::Link(fault)),
     }
+}
+
+/// Links that are open and hold nothing, so many.
+pub(crate) fn new_links(alloc: Global, count: usize) -> Result<Vec<Link>, OutOfMemory>
+    ensures { IfOk result (λ links. map link_view links.items ≡ replicate count new_link) }
+{
+    let mut links = Vec::with_capacity(alloc, count)?;
+    for _ in 0..count {
+        links.push(Link::new(alloc)?)?;
+    }
+    Ok(links)
+}
+
+/// Puts a new link to each pair of sinks. There are as many links, and the room for the seats is there, so nothing more
+/// is asked of memory.
+pub(crate) fn seated<S: Drop>(
+    mut links: Vec<Link>,
+    ends: Vec<Ends<S>>,
+    mut seats: Vec<Seat<S>>,
+) -> Vec<Seat<S>>
+    requires links { map link_view links.items ≡ replicate (length ends.items) new_link }
+    requires room { length ends.items ≤ vec_capacity seats }
+    requires empty { seats.items ≡ [] }
+    ensures links { links_of result.items ≡ replicate (length ends.items) new_link }
+    ensures ends { ends_of result.items ≡ ends.items }
+{
+    for ends in ends {
+        let Some(link) = links.pop() else {
+            unreachable!()
+        };
+        let Ok(()) = seats.push(Seat { link, ends }) else {
+            unreachable!()
+        };
+    }
+    seats
 }

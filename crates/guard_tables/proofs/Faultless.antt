@@ -38,11 +38,11 @@ alike (type_of tags kind cons) (type_of others kind_too cons_too) match v =
 
 -- ---- of types without fault
 
-neither : {A : Type 0} (test : Bool) (others : Option A) (x : A) → cond test others (Some x) ≡ None → (test ≡ true) × (others ≡ None)
+pub neither : {A : Type 0} (test : Bool) (others : Option A) (x : A) → cond test others (Some x) ≡ None → (test ≡ true) × (others ≡ None)
 neither true others x e = (refl, e)
 neither false others x e = absurd cc
 
-unmapped : {A B : Type 0} (f : A → B) (found : Option A) → option_map f found ≡ None → found ≡ None
+pub unmapped : {A B : Type 0} (f : A → B) (found : Option A) → option_map f found ≡ None → found ≡ None
 unmapped f None e = refl
 unmapped f (Some x) e = absurd cc
 

@@ -5,3 +5,40 @@ pub mod AllNodes
 -- ---- what same tags and bases come to
 pub mod BareTypes
 pub mod Faultless
+-- ---- sets of slots
+pub mod SlotSets
+pub mod SlotSums
+pub mod Adding
+-- ---- demands as tests of one node
+pub mod Bases
+pub mod Speaking
+pub mod Failing
+-- ---- demands of any form, and how many slots they take
+pub mod SlotCounts
+pub mod Forming
+pub mod FormSpeaking
+pub mod Handing
+pub mod FewSlots
+-- ---- a plan that asks all that is asked
+pub mod Telling
+pub mod Truths
+pub mod OwnTests
+pub mod FormNodes
+pub mod LaidParts
+pub mod Laying
+-- ---- what nodes stand for, and one node more
+pub mod Spots
+pub mod Growing
+-- ---- what loops gather
+pub mod Gathered
+-- ---- ranges of integers
+pub mod Pieces
+pub mod WholeSets
+pub mod RuleViews
+pub mod ScalarLaws
+-- ---- formulas from lists
+pub mod FormLists
+pub mod Folded
+pub mod SlotOfTypes
+pub mod LaidStanding
+pub mod OfTables

@@ -1,0 +1,273 @@
+-- What a node hands on to its parts is no more than what was counted there.
+use Rattle.std.proofs.Common.{◌≡◌, ℕ, zero, suc, ◌+◌, ◌<◌, ◌≤◌, Bool, true, false, cond, eqb, List, [], ◌∷◌, ◌++◌, length, Option, Some, None, refl, arith}
+use Rattle.std.specs.Prelude.{not, ◌||◌}
+use Rattle.std.proofs.lemmas.Bool.{ne_eqb}
+use Rattle.guard_model.specs.declared.ty.Word.{Word}
+use Rattle.guard_model.specs.declared.ty.Word.TheVariants.{Present, Absent, Optional}
+use Rattle.guard_model.specs.AbstractType as type
+use Rattle.guard_model.specs.AbstractType.{AbstractType, AbstractKind, Components, Constraint, Constraints, Element, Parts, type_of, no_components, component, at, no_constraints, constraint}
+use Rattle.guard_model.specs.Components.{components_in, component_at}
+use Rattle.guard_model.specs.TypeView.{OneComponent}
+use Rattle.guard_der.specs.Fits.{may_be_absent}
+use Rattle.guard_eval.specs.Presence.{is_ruled_out, kind_at}
+use Rattle.guard_tables.specs.Conditions.{of_type, of_kind, of_component, of_constraints, of_constraint, of_element, of_parts}
+use Rattle.guard_tables.specs.declared.slots.Slots.{Slots}
+use Rattle.guard_tables.specs.Slots.{only}
+use Rattle.guard_tables.specs.Demands.{Demand, by_type, by_constraint, Ask, Atom, scalar, equals, sized, spelled, each, within, sent, unsent, Term}
+use Rattle.guard_tables.specs.Spread.{term, is_scalar, placed, ruled_out, unlisted, parts_from, spread_kind, spread_type, spread_one, spread_element, spread_all, spread_parts, spread, terms_of, are_plain_asks}
+use Rattle.guard_tables.specs.Formulas.{never}
+use Rattle.guard_tables.specs.Forms.{Formula, formula, form_one, form_element, form_all, form_some, form_type, form, forms_from, forms_of}
+use Rattle.guard_tables.specs.Handed.{each_in, each_of, within_in, within_of, ask, terms_at, of_demand, of_asks, of_atom, of_terms}
+
+two : (xs ys : List Term) (p : ℕ) (w : List ℕ) → of_terms (xs ++ ys) p w ≡ of_terms xs p w + of_terms ys p w
+two [] ys p w = omega arith
+two (x ∷ xs) ys p w = let e = two xs ys p w in omega (arith, e)
+
+either_hands : (b : Bool) (xs ys : List Term) (p : ℕ) (w : List ℕ) (most : ℕ) → of_terms xs p w ≤ most → of_terms ys p w ≤ most → of_terms (cond b xs ys) p w ≤ most
+either_hands true xs ys p w most g h = g
+either_hands false xs ys p w most g h = h
+
+either_form_hands : (b : Bool) (x y : Formula) (p : ℕ) (w : List ℕ) (most : ℕ) → of_terms x.terms p w ≤ most → of_terms y.terms p w ≤ most → of_terms (cond b x y).terms p w ≤ most
+either_form_hands true x y p w most g h = g
+either_form_hands false x y p w most g h = h
+
+-- ---- words hand nothing on
+
+choice : (b : Bool) (i : ℕ) (k : Slots) (p : ℕ) (w : List ℕ) → of_terms (cond b [] (term k (sent i) ∷ [])) p w ≡ 0
+choice true i k p w = refl
+choice false i k p w = refl
+
+placed_hands : (partial : Bool) (c : Option OneComponent) (word : Option Word) (i : ℕ) (k : Slots) (p : ℕ) (w : List ℕ) → of_terms (placed partial c word i k) p w ≡ 0
+placed_hands partial None word i k p w = refl
+placed_hands partial (Some c) (Some Present) i k p w = refl
+placed_hands partial (Some c) (Some Absent) i k p w = refl
+placed_hands partial (Some c) (Some Optional) i k p w = refl
+placed_hands partial (Some c) None i k p w = choice (partial || not (may_be_absent c.presence)) i k p w
+
+gone_choice : (b : Bool) (i : ℕ) (k : Slots) (rest : List Term) (p : ℕ) (w : List ℕ) → of_terms rest p w ≡ 0 → of_terms (cond b (term k (unsent i) ∷ []) [] ++ rest) p w ≡ 0
+gone_choice true i k rest p w e = omega (arith, e)
+gone_choice false i k rest p w e = e
+
+ruled_hands : (kind : AbstractKind) (ps : Parts) (i : ℕ) (k : Slots) (cs : Components) (p : ℕ) (w : List ℕ) → of_terms (ruled_out kind ps i k cs) p w ≡ 0
+ruled_hands kind ps i k no_components p w = refl
+ruled_hands kind ps i k (component name t presence cs) p w = gone_choice (is_ruled_out kind ps i presence) i k (ruled_out kind ps (suc i) k cs) p w (ruled_hands kind ps (suc i) k cs p w)
+
+unlisted_hands : (partial : Bool) (kind : AbstractKind) (ps : Parts) (k : Slots) (p : ℕ) (w : List ℕ) → of_terms (unlisted partial kind ps k) p w ≡ 0
+unlisted_hands true kind ps k p w = refl
+unlisted_hands false kind ps k p w = ruled_hands kind ps 0 k (components_in kind) p w
+
+-- ---- what a type asks of its parts
+
+apart : (b : Bool) (x y : ℕ) → b ≡ false → cond b x y ≡ y
+apart true x y e = absurd cc
+apart false x y e = refl
+
+at_most : (b : Bool) (x : ℕ) → cond b x 0 ≤ x
+at_most true x = omega arith
+at_most false x = omega arith
+
+below : (n p : ℕ) (k : Slots) (cs : Components) (w : List ℕ) → p < n → of_terms (parts_from n k cs) p w ≡ 0
+below n p k no_components w lt = refl
+below n p k (component name t presence cs) w lt =
+    let a = apart (eqb n p) (of_type t w) 0 (ne_eqb n p (λ e. absurd (omega (arith, lt, e)))) in
+    let b = below (suc n) p k cs w (omega (arith, lt)) in
+    omega (arith, a, b)
+
+parts_hand : (cs : Components) (n i p : ℕ) (k : Slots) (w : List ℕ) → p ≡ n + i → of_terms (parts_from n k cs) p w ≤ of_component cs i w
+parts_hand no_components n i p k w e = omega arith
+parts_hand (component name t presence cs) n zero p k w e =
+    let a = at_most (eqb n p) (of_type t w) in
+    let b = below (suc n) p k cs w (omega (arith, e)) in
+    omega (arith, a, b)
+parts_hand (component name t presence cs) n (suc i) p k w e =
+    let a = apart (eqb n p) (of_type t w) 0 (ne_eqb n p (λ same. absurd (omega (arith, e, same)))) in
+    let b = parts_hand cs (suc n) i p k w (omega (arith, e)) in
+    omega (arith, a, b)
+
+kind_hands : (kind : AbstractKind) (k : Slots) (p : ℕ) (w : List ℕ) → of_terms (spread_kind k kind) p w ≤ of_kind kind (p ∷ w)
+kind_hands (type.sequence cs) k p w = parts_hand cs 0 p p k w (omega arith)
+kind_hands (type.set cs) k p w = parts_hand cs 0 p p k w (omega arith)
+kind_hands (type.choice cs) k p w = parts_hand cs 0 p p k w (omega arith)
+kind_hands (type.sequence_of t) k p w = omega arith
+kind_hands (type.set_of t) k p w = omega arith
+kind_hands _ k p w = omega arith
+
+-- ---- conjunctions
+
+parts_of_list_hand : (k : Slots) (kind : AbstractKind) (partial : Bool) (ps : Parts) (p : ℕ) (w : List ℕ) → of_terms (spread_parts k kind partial ps) p w ≤ of_parts ps p w
+parts_of_list_hand k kind partial type.no_parts p w = omega arith
+parts_of_list_hand k kind partial (type.part site i word ps) p w =
+    let e = two (placed partial (component_at i (components_in kind)) word i k) (spread_parts k kind partial ps) p w in
+    let a = placed_hands partial (component_at i (components_in kind)) word i k p w in
+    let b = parts_of_list_hand k kind partial ps p w in
+    omega (arith, e, a, b)
+parts_of_list_hand k kind partial (type.part_within site i c word ps) p w =
+    let d : Demand = by_constraint (kind_at i kind) c in
+    let e = two (placed partial (component_at i (components_in kind)) word i k) (term k (within i d) ∷ spread_parts k kind partial ps) p w in
+    let a = placed_hands partial (component_at i (components_in kind)) word i k p w in
+    let b = parts_of_list_hand k kind partial ps p w in
+    omega (arith, e, a, b)
+
+mutual
+  type_hands : (k : Slots) (t : AbstractType) (p : ℕ) (w : List ℕ) → of_terms (spread_type k t) p w ≤ of_type t (p ∷ w)
+  type_hands k (type_of tags kind cons) p w =
+      let e = two (spread_all k kind cons) (spread_kind k kind) p w in
+      let a = all_hands k kind cons p w in
+      let b = kind_hands kind k p w in
+      omega (arith, e, a, b)
+
+  one_hands : (k : Slots) (kind : AbstractKind) (c : Constraint) (p : ℕ) (w : List ℕ) → of_terms (spread_one k kind c) p w ≤ of_constraint c (p ∷ w)
+  one_hands k kind (at site e) p w =
+      let a = either_hands (is_scalar kind) (term k (scalar kind (at site e)) ∷ []) (spread_element k kind e) p w (of_element e (p ∷ w)) (omega arith) (element_hands k kind e p w) in
+      omega (arith, a)
+
+  element_hands : (k : Slots) (kind : AbstractKind) (e : Element) (p : ℕ) (w : List ℕ) → of_terms (spread_element k kind e) p w ≤ of_element e (p ∷ w)
+  element_hands k kind (type.single_value v) p w = omega arith
+  element_hands k kind (type.contained_subtype t) p w = type_hands k t p w
+  element_hands k kind (type.range low high) p w = omega arith
+  element_hands k kind (type.size c) p w = omega arith
+  element_hands k kind (type.permitted_alphabet ranges) p w = omega arith
+  element_hands k kind (type.with_component c) p w = omega arith
+  element_hands k kind (type.with_components partial ps) p w =
+      let e = two (spread_parts k kind partial ps) (unlisted partial kind ps k) p w in
+      let a = parts_of_list_hand k kind partial ps p w in
+      let b = unlisted_hands partial kind ps k p w in
+      omega (arith, e, a, b)
+  element_hands k kind (type.union cs) p w = omega arith
+  element_hands k kind (type.intersection cs) p w = all_hands k kind cs p w
+  element_hands k kind (type.except c d) p w = omega arith
+  element_hands k kind (type.all_except c) p w = omega arith
+
+  all_hands : (k : Slots) (kind : AbstractKind) (cs : Constraints) (p : ℕ) (w : List ℕ) → of_terms (spread_all k kind cs) p w ≤ of_constraints cs (p ∷ w)
+  all_hands k kind no_constraints p w = omega arith
+  all_hands k kind (constraint c cs) p w =
+      let e = two (spread_one k kind c) (spread_all k kind cs) p w in
+      let a = one_hands k kind c p w in
+      let b = all_hands k kind cs p w in
+      omega (arith, e, a, b)
+
+pub spread_hands : (k : Slots) (d : Demand) (p : ℕ) (w : List ℕ) → of_terms (spread k d) p w ≤ of_demand d (p ∷ w)
+spread_hands k (by_type t) p w = type_hands k t p w
+spread_hands k (by_constraint kind c) p w = one_hands k kind c p w
+
+-- ---- formulas
+
+mutual
+  form_hands : (k n : ℕ) (kind : AbstractKind) (c : Constraint) (p : ℕ) (w : List ℕ) → of_terms (form_one k n kind c).terms p w ≤ of_constraint c (p ∷ w)
+  form_hands k n kind (at site e) p w =
+      let a = either_form_hands (is_scalar kind) (formula (term (only k) (scalar kind (at site e)) ∷ []) never n) (form_element k n kind e) p w (of_element e (p ∷ w)) (omega arith) (form_element_hands k n kind e p w) in
+      omega (arith, a)
+
+  form_element_hands : (k n : ℕ) (kind : AbstractKind) (e : Element) (p : ℕ) (w : List ℕ) → of_terms (form_element k n kind e).terms p w ≤ of_element e (p ∷ w)
+  form_element_hands k n kind (type.single_value v) p w = element_hands (only k) kind (type.single_value v) p w
+  form_element_hands k n kind (type.contained_subtype t) p w = form_type_hands k n t p w
+  form_element_hands k n kind (type.range low high) p w = element_hands (only k) kind (type.range low high) p w
+  form_element_hands k n kind (type.size c) p w = element_hands (only k) kind (type.size c) p w
+  form_element_hands k n kind (type.permitted_alphabet rs) p w = element_hands (only k) kind (type.permitted_alphabet rs) p w
+  form_element_hands k n kind (type.with_component c) p w = element_hands (only k) kind (type.with_component c) p w
+  form_element_hands k n kind (type.with_components partial ps) p w = element_hands (only k) kind (type.with_components partial ps) p w
+  form_element_hands k n kind (type.union cs) p w = form_some_hands n kind cs p w
+  form_element_hands k n kind (type.intersection cs) p w = form_all_hands k n kind cs p w
+  form_element_hands k n kind (type.except c d) p w =
+      let m : ℕ = (form_one k n kind c).next in
+      let e = two (form_one k n kind c).terms (form_one m (suc m) kind d).terms p w in
+      let a = form_hands k n kind c p w in
+      let b = form_hands m (suc m) kind d p w in
+      omega (arith, e, a, b)
+  form_element_hands k n kind (type.all_except c) p w = form_hands n (suc n) kind c p w
+
+  form_all_hands : (k n : ℕ) (kind : AbstractKind) (cs : Constraints) (p : ℕ) (w : List ℕ) → of_terms (form_all k n kind cs).terms p w ≤ of_constraints cs (p ∷ w)
+  form_all_hands k n kind no_constraints p w = omega arith
+  form_all_hands k n kind (constraint c cs) p w =
+      let m : ℕ = (form_one k n kind c).next in
+      let e = two (form_one k n kind c).terms (form_all k m kind cs).terms p w in
+      let a = form_hands k n kind c p w in
+      let b = form_all_hands k m kind cs p w in
+      omega (arith, e, a, b)
+
+  form_some_hands : (n : ℕ) (kind : AbstractKind) (cs : Constraints) (p : ℕ) (w : List ℕ) → of_terms (form_some n kind cs).terms p w ≤ of_constraints cs (p ∷ w)
+  form_some_hands n kind no_constraints p w = omega arith
+  form_some_hands n kind (constraint c cs) p w =
+      let m : ℕ = (form_one n (suc n) kind c).next in
+      let e = two (form_one n (suc n) kind c).terms (form_some m kind cs).terms p w in
+      let a = form_hands n (suc n) kind c p w in
+      let b = form_some_hands m kind cs p w in
+      omega (arith, e, a, b)
+
+  form_type_hands : (k n : ℕ) (t : AbstractType) (p : ℕ) (w : List ℕ) → of_terms (form_type k n t).terms p w ≤ of_type t (p ∷ w)
+  form_type_hands k n (type_of tags kind cons) p w =
+      let e = two (form_all k n kind cons).terms (spread_kind (only k) kind) p w in
+      let a = form_all_hands k n kind cons p w in
+      let b = kind_hands kind (only k) p w in
+      omega (arith, e, a, b)
+
+pub form_hand_law : (k n : ℕ) (d : Demand) (p : ℕ) (w : List ℕ) → of_terms (form k n d).terms p w ≤ of_demand d (p ∷ w)
+form_hand_law k n (by_type t) p w = form_type_hands k n t p w
+form_hand_law k n (by_constraint kind c) p w = form_hands k n kind c p w
+
+-- ---- all asks of a node
+
+spread_asks_hand : (asks : List Ask) (p : ℕ) (w : List ℕ) → of_terms (terms_of asks) p w ≤ of_asks asks (p ∷ w)
+spread_asks_hand [] p w = omega arith
+spread_asks_hand (a ∷ asks) p w =
+    let e = two (spread a.slots a.demand) (terms_of asks) p w in
+    let x = spread_hands a.slots a.demand p w in
+    let y = spread_asks_hand asks p w in
+    omega (arith, e, x, y)
+
+form_asks_hand : (k n : ℕ) (asks : List Ask) (p : ℕ) (w : List ℕ) → of_terms (forms_from k n asks).terms p w ≤ of_asks asks (p ∷ w)
+form_asks_hand k n [] p w = omega arith
+form_asks_hand k n (a ∷ asks) p w =
+    let m : ℕ = (form k n a.demand).next in
+    let e = two (form k n a.demand).terms (forms_from (suc k) m asks).terms p w in
+    let x = form_hand_law k n a.demand p w in
+    let y = form_asks_hand (suc k) m asks p w in
+    omega (arith, e, x, y)
+
+terms_hand : (asks : List Ask) (p : ℕ) (w : List ℕ) → of_terms (terms_at asks) p w ≤ of_asks asks (p ∷ w)
+terms_hand asks p w =
+    either_hands (are_plain_asks asks) (terms_of asks) (forms_of asks).terms p w (of_asks asks (p ∷ w)) (spread_asks_hand asks p w) (form_asks_hand 0 (length asks) asks p w)
+
+each_step : (k : Slots) (a : Atom) (asks : List Ask) (p : ℕ) (w : List ℕ) (rest : ℕ) → of_asks asks w ≤ rest → of_asks (each_in k a ++ asks) w ≤ of_atom a p w + rest
+each_step k (each d) asks p w rest h = omega (arith, h)
+each_step k (within i d) asks p w rest h = omega (arith, h)
+each_step k (scalar kind c) asks p w rest h = omega (arith, h)
+each_step k (equals v) asks p w rest h = omega (arith, h)
+each_step k (sized c) asks p w rest h = omega (arith, h)
+each_step k (spelled ranges) asks p w rest h = omega (arith, h)
+each_step k (sent i) asks p w rest h = omega (arith, h)
+each_step k (unsent i) asks p w rest h = omega (arith, h)
+
+each_hands : (ts : List Term) (p : ℕ) (w : List ℕ) → of_asks (each_of ts) w ≤ of_terms ts p w
+each_hands [] p w = omega arith
+each_hands (t ∷ ts) p w = each_step t.slots t.atom (each_of ts) p w (of_terms ts p w) (each_hands ts p w)
+
+chosen : (b : Bool) (k : Slots) (d : Demand) (asks : List Ask) (w : List ℕ) (rest : ℕ) → of_asks asks w ≤ rest → of_asks (cond b (ask k d ∷ []) [] ++ asks) w ≤ cond b (of_demand d w) 0 + rest
+chosen true k d asks w rest h = omega (arith, h)
+chosen false k d asks w rest h = omega (arith, h)
+
+within_step : (k : Slots) (a : Atom) (asks : List Ask) (p : ℕ) (w : List ℕ) (rest : ℕ) → of_asks asks w ≤ rest → of_asks (within_in p k a ++ asks) w ≤ of_atom a p w + rest
+within_step k (within i d) asks p w rest h = chosen (eqb i p) k d asks w rest h
+within_step k (each d) asks p w rest h = omega (arith, h)
+within_step k (scalar kind c) asks p w rest h = omega (arith, h)
+within_step k (equals v) asks p w rest h = omega (arith, h)
+within_step k (sized c) asks p w rest h = omega (arith, h)
+within_step k (spelled ranges) asks p w rest h = omega (arith, h)
+within_step k (sent i) asks p w rest h = omega (arith, h)
+within_step k (unsent i) asks p w rest h = omega (arith, h)
+
+within_hands : (ts : List Term) (p : ℕ) (w : List ℕ) → of_asks (within_of p ts) w ≤ of_terms ts p w
+within_hands [] p w = omega arith
+within_hands (t ∷ ts) p w = within_step t.slots t.atom (within_of p ts) p w (of_terms ts p w) (within_hands ts p w)
+
+pub each_law : (asks : List Ask) (p : ℕ) (w : List ℕ) → of_asks (each_of (terms_at asks)) w ≤ of_asks asks (p ∷ w)
+each_law asks p w =
+    let a = terms_hand asks p w in
+    let b = each_hands (terms_at asks) p w in
+    omega (arith, a, b)
+
+pub within_law : (asks : List Ask) (p : ℕ) (w : List ℕ) → of_asks (within_of p (terms_at asks)) w ≤ of_asks asks (p ∷ w)
+within_law asks p w =
+    let a = terms_hand asks p w in
+    let b = within_hands (terms_at asks) p w in
+    omega (arith, a, b)

@@ -1,0 +1,14 @@
+use Rattle.std.proofs.Common.{◌≡◌, ◌≤◌, drop, length}
+use Rattle.guard_tables.specs.Lay.{present_of}
+use Rattle.guard_tables.specs.AskViews.{terms_view}
+use Rattle.guard_tables.proofs.presence.present_of.Given as goal
+
+abbrev pub decreases-loop-left : goal.decreases-loop-left
+decreases-loop-left l = l.left
+
+-- from the end on
+abbrev pub invariant-loop-left : goal.invariant-loop-left
+invariant-loop-left l = record {
+  gone_through : l.fails ≡ present_of l.place (terms_view (drop l.left l.terms));
+  within : l.left ≤ length l.terms;
+}

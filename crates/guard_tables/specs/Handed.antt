@@ -1,0 +1,112 @@
+-- What is asked of the parts of a node, and how many slots are needed at each node.
+use Rattle.std.specs.Prelude.{ℕ, suc, ◌+◌, ◌≤◌, nat_eq, List, [], ◌∷◌, ◌++◌, if◌then◌else◌, ⊤}
+use Rattle.guard_model.specs.AbstractType as type
+use Rattle.guard_model.specs.AbstractType.{AbstractType, AbstractKind, Components, type_of, no_components, component}
+use Rattle.guard_tables.specs.declared.slots.Slots.{Slots}
+use Rattle.guard_tables.specs.Slots.{only}
+use Rattle.guard_tables.specs.Conditions.{of_type, of_constraint, most_conditions}
+use Rattle.guard_tables.specs.Demands.{Demand, by_type, by_constraint, Ask, Atom, scalar, equals, sized, spelled, each, within, sent, unsent, Term}
+use Rattle.guard_tables.specs.Spread.{terms_of, are_plain_asks}
+use Rattle.guard_tables.specs.Forms.{forms_of}
+
+-- ---- what is asked of parts
+
+abbrev pub ask : Slots → Demand → Ask
+ask k d = record { slots = k; demand = d }
+
+-- of each element
+abbrev pub each_in : Slots → Atom → List Ask
+each_in k (each d) = ask k d ∷ []
+each_in k (within i d) = []
+each_in k (scalar kind c) = []
+each_in k (equals w) = []
+each_in k (sized c) = []
+each_in k (spelled ranges) = []
+each_in k (sent i) = []
+each_in k (unsent i) = []
+
+abbrev pub each_of : List Term → List Ask
+each_of [] = []
+each_of (t ∷ ts) = each_in t.slots t.atom ++ each_of ts
+
+-- of the component or alternative at this place
+abbrev pub within_in : ℕ → Slots → Atom → List Ask
+within_in i k (within j d) = if nat_eq j i then ask k d ∷ [] else []
+within_in i k (each d) = []
+within_in i k (scalar kind c) = []
+within_in i k (equals w) = []
+within_in i k (sized c) = []
+within_in i k (spelled ranges) = []
+within_in i k (sent j) = []
+within_in i k (unsent j) = []
+
+abbrev pub within_of : ℕ → List Term → List Ask
+within_of i [] = []
+within_of i (t ∷ ts) = within_in i t.slots t.atom ++ within_of i ts
+
+-- ---- at all nodes of a type
+
+-- Conjunctions alone are tested with their own slots; otherwise the node has slots of its own.
+abbrev pub terms_at : List Ask → List Term
+terms_at asks = if are_plain_asks asks then terms_of asks else (forms_of asks).terms
+
+-- how many slots a node has of its own
+abbrev pub slots_needed : List Ask → ℕ
+slots_needed asks = (forms_of asks).next
+
+-- at each node at most so many are needed, where this is asked of values of the type
+abbrev mutual
+  pub NeedsFew : AbstractType → List Ask → Type 0
+  NeedsFew (type_of tags kind cons) asks = (slots_needed asks ≤ most_conditions) × NeedsFewInside kind (terms_at asks)
+
+  pub NeedsFewInside : AbstractKind → List Term → Type 0
+  NeedsFewInside (type.sequence cs) terms = NeedsFewAmong 0 cs terms
+  NeedsFewInside (type.set cs) terms = NeedsFewAmong 0 cs terms
+  NeedsFewInside (type.choice cs) terms = NeedsFewAmong 0 cs terms
+  NeedsFewInside (type.sequence_of t) terms = NeedsFew t (each_of terms)
+  NeedsFewInside (type.set_of t) terms = NeedsFew t (each_of terms)
+  NeedsFewInside type.boolean terms = ⊤
+  NeedsFewInside (type.integer names) terms = ⊤
+  NeedsFewInside (type.bit_string names) terms = ⊤
+  NeedsFewInside type.octet_string terms = ⊤
+  NeedsFewInside type.null terms = ⊤
+  NeedsFewInside type.object_identifier terms = ⊤
+  NeedsFewInside (type.enumerated items) terms = ⊤
+  NeedsFewInside (type.characters kind) terms = ⊤
+
+  -- of these components, the first of which is at this place
+  pub NeedsFewAmong : ℕ → Components → List Term → Type 0
+  NeedsFewAmong i no_components terms = ⊤
+  NeedsFewAmong i (component name t presence cs) terms = NeedsFew t (within_of i terms) × NeedsFewAmong (suc i) cs terms
+
+-- ---- how many conditions these are
+
+abbrev pub of_demand : Demand → List ℕ → ℕ
+of_demand (by_type t) way = of_type t way
+of_demand (by_constraint kind c) way = of_constraint c way
+
+abbrev pub of_asks : List Ask → List ℕ → ℕ
+of_asks [] way = 0
+of_asks (a ∷ asks) way = of_demand a.demand way + of_asks asks way
+
+-- that a test hands on to the part at this place
+abbrev pub of_atom : Atom → ℕ → List ℕ → ℕ
+of_atom (each d) place way = of_demand d way
+of_atom (within i d) place way = if nat_eq i place then of_demand d way else 0
+of_atom (scalar kind c) place way = 0
+of_atom (equals w) place way = 0
+of_atom (sized c) place way = 0
+of_atom (spelled ranges) place way = 0
+of_atom (sent i) place way = 0
+of_atom (unsent i) place way = 0
+
+abbrev pub of_terms : List Term → ℕ → List ℕ → ℕ
+of_terms [] place way = 0
+of_terms (t ∷ ts) place way = of_atom t.atom place way + of_terms ts place way
+
+-- ---- what a table asks
+
+-- membership in each of these types, the first with this slot
+abbrev pub asks_from : ℕ → List AbstractType → List Ask
+asks_from n [] = []
+asks_from n (t ∷ ts) = ask (only n) (by_type t) ∷ asks_from (suc n) ts

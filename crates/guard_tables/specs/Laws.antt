@@ -1,0 +1,154 @@
+-- Laws that functions with no body carry.
+use Rattle.std.specs.Prelude.{ℕ, zero, suc, ⊤, ◌+◌, ◌^◌, ◌<◌, ◌≤◌, ◌≡◌, Bool, true, false, length, Some, None, Ok, not, ◌&&◌, ◌||◌, List, [], ◌∷◌, nat_eq, IsTrue}
+use Rattle.std.specs.List.{AllByRecursion}
+use Rattle.guard_model.specs.declared.tag.Tag.{Tag}
+use Rattle.guard_model.specs.Tags.{same_tag}
+use Rattle.guard_model.specs.AbstractType.{AbstractType, AbstractKind, type_of, no_constraints}
+use Rattle.guard_model.specs.AbstractValue.{AbstractValue}
+use Rattle.guard_model.specs.Kinds.{kind_of}
+use Rattle.guard_model.specs.SameBase.{HasSameBase}
+use Rattle.guard_tagcheck.specs.Limits.{are_low}
+use Rattle.guard_tagcheck.specs.Search.{clash_of_kind}
+use Rattle.guard_der.specs.Der.{der, contents_octets, is_constructed}
+use Rattle.guard_der.specs.Fits.{fits, fits_kind}
+use Rattle.guard_der.specs.Reading.{contents_at, untagged_at, tags_at, alone_at}
+use Rattle.guard_der.specs.Sound.{is_proper_kind, is_sound}
+use Rattle.guard_eval.specs.Member.{is_member}
+use Rattle.guard_tables.specs.declared.slots.Slots.{Slots}
+use Rattle.guard_tables.specs.Slots.{none, only, added, has}
+use Rattle.guard_tables.specs.Demands.{Demand, by_type, Ask, Term, meets, asks_fail, terms_fail}
+use Rattle.guard_tables.specs.Spread.{spread, is_plain}
+use Rattle.guard_tables.specs.Alike.{AreConsistent}
+use Rattle.guard_tables.specs.Apt.{IsApt, AreApt, AllSpeak}
+use Rattle.guard_tables.specs.Conditions.{has_crowded_node}
+use Rattle.guard_tables.specs.Formulas.{fails_where}
+use Rattle.guard_tables.specs.Forms.{form}
+use Rattle.guard_tables.specs.Handed.{each_of, within_of, terms_at, of_demand, of_asks, asks_from, NeedsFew}
+use Rattle.guard_tables.specs.Lay.{lay}
+use Rattle.guard_tables.specs.Marking.{fails_at}
+use Rattle.guard_tables.specs.Standing.{PlanFor}
+
+-- ---- sets of slots
+
+abbrev pub NoneLaw : Type 0
+NoneLaw = (slot : ℕ) → has none slot ≡ false
+
+abbrev pub OnlyLaw : Type 0
+OnlyLaw = (one slot : ℕ) → has (only one) slot ≡ nat_eq one slot
+
+abbrev pub AddedLaw : Type 0
+AddedLaw = (m k : Slots) (slot : ℕ) → has (added m k) slot ≡ (has m slot || has k slot)
+
+-- ---- demands as tests
+
+-- A conjunction fails its slots exactly where one of its tests does.
+abbrev pub SpreadLaw : Type 0
+SpreadLaw = (kind : AbstractKind) (d : Demand) → IsApt kind d → IsTrue (is_plain d)
+    → (k : Slots) (v : AbstractValue) → IsTrue (fits_kind kind v) → (slot : ℕ)
+    → terms_fail slot v (spread k d) ≡ (has k slot && not (meets d v))
+
+-- Each test is one of the values of the kind, and what it asks of a part may be asked of it.
+abbrev pub SpeakLaw : Type 0
+SpeakLaw = (kind : AbstractKind) (d : Demand) → IsApt kind d → (k : Slots) → AllSpeak kind (spread k d)
+
+-- Membership in a sound type may be asked of the values that fit it.
+abbrev pub SoundLaw : Type 0
+SoundLaw = (t : AbstractType) → IsTrue (is_sound t) → IsApt (kind_of t) (by_type t)
+
+-- ---- formulas
+
+-- the set has the slots from n on as the tests say, up to the last
+abbrev pub Agrees : (ℕ → Bool) → AbstractValue → List Term → ℕ → ℕ → Type 0
+Agrees failed v terms n last = (j : ℕ) → n ≤ j → j < last → failed j ≡ terms_fail j v terms
+
+-- A demand of any form fails where its own slot has failed or the formula says so.
+abbrev pub FormLaw : Type 0
+FormLaw = (kind : AbstractKind) (d : Demand) → IsApt kind d → (k n : ℕ) → k < n
+    → (v : AbstractValue) → IsTrue (fits_kind kind v)
+    → (failed : ℕ → Bool) → Agrees failed v (form k n d).terms n (form k n d).next
+    → (terms_fail k v (form k n d).terms || fails_where (form k n d).besides failed) ≡ not (meets d v)
+
+-- Its tests too are of the values of the kind, and ask of parts what may be asked of them.
+abbrev pub FormSpeakLaw : Type 0
+FormSpeakLaw = (kind : AbstractKind) (d : Demand) → IsApt kind d → (k n : ℕ) → AllSpeak kind (form k n d).terms
+
+-- It takes no more slots, its own among them, than conditions are counted.
+abbrev pub CountLaw : Type 0
+CountLaw = (k n : ℕ) (d : Demand) → (form k n d).next + 1 ≤ n + of_demand d []
+
+-- ---- all nodes
+
+-- What is asked of a part, counted from there on, is no more than what was asked of the whole.
+abbrev pub EachHandLaw : Type 0
+EachHandLaw = (asks : List Ask) (place : ℕ) (way : List ℕ)
+    → of_asks (each_of (terms_at asks)) way ≤ of_asks asks (place ∷ way)
+
+abbrev pub WithinHandLaw : Type 0
+WithinHandLaw = (asks : List Ask) (place : ℕ) (way : List ℕ)
+    → of_asks (within_of place (terms_at asks)) way ≤ of_asks asks (place ∷ way)
+
+-- Where no node of the declared type has too many conditions, no node needs more slots than a set can have.
+abbrev pub FewLaw : Type 0
+FewLaw = (declared : AbstractType) (types : List AbstractType) → has_crowded_node types declared ≡ false
+    → NeedsFew declared (asks_from 0 types)
+
+-- ---- plans
+
+-- Once a value of a sound type has passed the plan that is laid for what is asked, a slot has failed exactly where it
+-- is one of something that isn't met.
+abbrev pub LayLaw : Type 0
+LayLaw = (t : AbstractType) → IsTrue (is_sound t) → (asks : List Ask) → AreApt (kind_of t) asks
+    → (v : AbstractValue) → IsTrue (fits t v) → (slot : ℕ) → fails_at t (lay t asks) v slot ≡ asks_fail slot v asks
+
+-- ---- what a table's types fail
+
+-- these types are sound, and have the declared type's base
+abbrev pub AllMayJudge : AbstractType → List AbstractType → Type 0
+AllMayJudge declared [] = ⊤
+AllMayJudge declared (t ∷ ts) = HasSameBase t declared × IsTrue (is_sound t) × AllMayJudge declared ts
+
+-- the value is no member of the type with this slot
+abbrev pub has_failed : List AbstractType → AbstractValue → ℕ → Bool
+has_failed [] v slot = false
+has_failed (t ∷ ts) v zero = not (is_member t v)
+has_failed (t ∷ ts) v (suc slot) = has_failed ts v slot
+
+-- Once a value of the declared type has passed the plan of all types, a slot has failed exactly where the value is no
+-- member of its type.
+abbrev pub MemberLaw : Type 0
+MemberLaw = (declared : AbstractType) (types : List AbstractType)
+    → IsTrue (is_sound declared) → AllMayJudge declared types
+    → (v : AbstractValue) → IsTrue (fits declared v) → (slot : ℕ)
+    → fails_at declared (lay declared (asks_from 0 types)) v slot ≡ has_failed types v slot
+
+-- Of the types of a table: slot 0 is the declared type's, and slot i + 1 that of rule i.
+abbrev pub TableMembersLaw : Type 0
+TableMembersLaw = (declared : AbstractType) (rules : List AbstractType) → AreConsistent declared rules
+    → (v : AbstractValue) → IsTrue (fits declared v) → (slot : ℕ)
+    → fails_at declared (lay declared (asks_from 0 (declared ∷ rules))) v slot ≡ has_failed (declared ∷ rules) v slot
+
+-- At each node of a table there is room for all slots that are needed.
+abbrev pub TableRoomLaw : Type 0
+TableRoomLaw = (declared : AbstractType) (rules : List AbstractType) → AreConsistent declared rules
+    → NeedsFew declared (asks_from 0 (declared ∷ rules))
+
+-- ---- which type a plan stands for
+
+abbrev pub AreOctets : List ℕ → Type 0
+AreOctets os = AllByRecursion (λ o. o < 256) os
+
+-- What reading gives, of a proper kind whose tags don't clash: a value that fits, of which these are the contents
+-- octets, or, in an element of these tags, the encoding.
+pub record ReadsBack : Type 0 where
+  pub contents : (kind : AbstractKind) (at start : ℕ) (os : List ℕ) (v : AbstractValue)
+      → is_proper_kind kind ≡ true → clash_of_kind kind ≡ None → AreOctets os → length os < 2 ^ 32
+      → contents_at kind at start os ≡ Ok v → IsTrue (fits_kind kind v) × (contents_octets kind v ≡ Some os)
+  pub inside : (u : Tag) (ts : List Tag) (kind : AbstractKind) (start : ℕ) (os : List ℕ) (v : AbstractValue)
+      → are_low (u ∷ ts) ≡ true → is_proper_kind kind ≡ true → clash_of_kind kind ≡ None → AreOctets os
+      → alone_at (same_tag u) (tags_at (u ∷ ts) (is_constructed kind) (contents_at kind) (untagged_at kind)) start os
+      ≡ Ok v
+      → IsTrue (fits_kind kind v) × (der (type_of (u ∷ ts) kind no_constraints) v ≡ Some os)
+
+-- The plan that is laid for a sound type stands for the type, whatever is asked.
+abbrev pub StandsLaw : Type 0
+StandsLaw = ReadsBack → (t : AbstractType) → IsTrue (is_sound t) → (asks : List Ask) → PlanFor (lay t asks) t

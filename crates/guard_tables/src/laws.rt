@@ -1,0 +1,50 @@
+//! Laws of the definitions alone. Each is carried by a function that does nothing when it runs.
+ghost use Rattle.guard_tables.specs.Laws.{NoneLaw, OnlyLaw, AddedLaw, SpreadLaw, SpeakLaw, SoundLaw, FormLaw, FormSpeakLaw, CountLaw, EachHandLaw, WithinHandLaw, FewLaw, LayLaw, MemberLaw, TableMembersLaw, TableRoomLaw, StandsLaw};
+
+/// Which slots a set has.
+pub fn law_slots()
+    ensures none { NoneLaw }
+    ensures only { OnlyLaw }
+    ensures added { AddedLaw }
+{}
+
+/// What a type or a constraint asks of the values at a node is what some tests of the node ask, where no union and no
+/// EXCEPT is in it.
+pub fn law_spread()
+    ensures fails { SpreadLaw }
+    ensures speaks { SpeakLaw }
+    ensures sound { SoundLaw }
+{}
+
+/// What any demand asks, unions, EXCEPT and ALL EXCEPT in it, is a formula over slots of its own, and each test of
+/// these slots is one of the node.
+pub fn law_forms()
+    ensures fails { FormLaw }
+    ensures speaks { FormSpeakLaw }
+{}
+
+/// 256 slots suffice at each node of a type, whatever the depth, where no node has too many conditions.
+pub fn law_few_slots()
+    ensures one { CountLaw }
+    ensures each { EachHandLaw }
+    ensures within { WithinHandLaw }
+    ensures all { FewLaw }
+{}
+
+/// The plan that is laid for a sound type asks of each value all that is asked of it, and nothing else.
+pub fn law_lay()
+    ensures asks { LayLaw }
+    ensures members { MemberLaw }
+{}
+
+/// Once a value has passed the plan of a table's types, the slots that have failed are those of the types of which it
+/// is no member, and each node has room for the slots that it needs.
+pub fn law_table()
+    ensures members { TableMembersLaw }
+    ensures room { TableRoomLaw }
+{}
+
+/// The plan that is laid for a sound type has the type's tags, parts and defaults, whatever is asked.
+pub fn law_standing()
+    ensures { StandsLaw }
+{}

@@ -1,0 +1,182 @@
+//! What WITH COMPONENTS asks of single parts (X.680 51.8.5 to 51.8.9).
+ghost use Rattle.std.specs.Prelude.{◌≡◌, ◌++◌, map, option_map, OnOk};
+ghost use Rattle.guard_model.specs.Components.{components_in, component_at};
+ghost use Rattle.guard_model.specs.TypeView.{kind_view, component_view, part_view, parts_of, presence_view};
+ghost use Rattle.guard_der.specs.Fits.{may_be_absent};
+ghost use Rattle.guard_eval.specs.Presence.{element_kind, kind_at, is_listed, is_ruled_out};
+ghost use Rattle.guard_tables.specs.Spread.{is_scalar, placed, unlisted};
+ghost use Rattle.guard_tables.specs.OnePart.{spread_inner, spread_unlisted_one};
+ghost use Rattle.guard_tables.specs.AskViews.{terms_view};
+
+use crate::asks::{Atom, Demand, Term, push};
+use crate::slots::Slots;
+use guard_model::{Comp, Kind, OutOfMemory, Part, Presence, Word};
+
+/// Whether its values are truth values or numbers, or there is one value.
+pub(crate) fn is_scalar(kind: &Kind) -> bool
+    ensures { result ≡ is_scalar (kind_view kind.now) }
+{
+    match kind {
+        Kind::Bool => true,
+        Kind::Int(_) => true,
+        Kind::Null => true,
+        Kind::Enumerated(_) => true,
+        _ => false,
+    }
+}
+
+/// The kind of the elements of an OF type; of another kind itself.
+pub(crate) fn element_kind(kind: &Kind) -> &Kind
+    ensures { kind_view result.now ≡ element_kind (kind_view kind.now) }
+{
+    match kind {
+        Kind::SequenceOf(element) => &element.kind,
+        Kind::SetOf(element) => &element.kind,
+        _ => kind,
+    }
+}
+
+/// The kind of the component or alternative at this place; where there is none the whole's own.
+fn kind_at(kind: &Kind, at: u8) -> &Kind
+    ensures { kind_view result.now ≡ kind_at at (kind_view kind.now) }
+{
+    match kind.component(at) {
+        Some(comp) => &comp.ty.kind,
+        None => kind,
+    }
+}
+
+// ---- of what is listed
+
+/// What a listed part asks of the value that is there.
+pub(crate) fn spread_inner<'a>(
+    part: &'a Part,
+    kind: &'a Kind,
+    slots: Slots,
+    terms: &mut Vec<Term<'a>>,
+) -> Result<(), OutOfMemory>
+    ensures { OnOk result (terms_view terms.new.items
+        ≡ terms_view terms.old.items ++ spread_inner slots (kind_view kind.now) (part_view part.now).place (part_view part.now).within) }
+{
+    match &part.cons {
+        Some(constraint) => {
+            let demand = Demand::Constraint(kind_at(kind, part.at), constraint);
+            push(terms, slots, Atom::Within(usize::from(part.at), demand))
+        }
+        None => Ok(()),
+    }
+}
+
+/// What its word asks.
+pub(crate) fn spread_word<'a>(
+    kind: &Kind,
+    at: u8,
+    word: Option<Word>,
+    partial: bool,
+    slots: Slots,
+    terms: &mut Vec<Term<'a>>,
+) -> Result<(), OutOfMemory>
+    ensures { OnOk result (terms_view terms.new.items
+        ≡ terms_view terms.old.items ++ placed partial (component_at at (components_in (kind_view kind.now))) word at slots) }
+{
+    spread_said(
+        kind.component(at),
+        usize::from(at),
+        word,
+        partial,
+        slots,
+        terms,
+    )
+}
+
+/// Without a word a full list makes an OPTIONAL component PRESENT.
+fn spread_said<'a>(
+    comp: Option<&Comp>,
+    place: usize,
+    word: Option<Word>,
+    partial: bool,
+    slots: Slots,
+    terms: &mut Vec<Term<'a>>,
+) -> Result<(), OutOfMemory>
+    ensures { OnOk result (terms_view terms.new.items
+        ≡ terms_view terms.old.items ++ placed partial (option_map (λ c. component_view c.now) comp.entry) word place slots) }
+{
+    let Some(comp) = comp else {
+        return Ok(());
+    };
+    match word {
+        Some(Word::Present) => push(terms, slots, Atom::Sent(place)),
+        Some(Word::Absent) => push(terms, slots, Atom::Unsent(place)),
+        Some(Word::Optional) => Ok(()),
+        None if partial || !is_optional(&comp.presence) => Ok(()),
+        None => push(terms, slots, Atom::Sent(place)),
+    }
+}
+
+fn is_optional(presence: &Presence) -> bool
+    ensures { result ≡ may_be_absent (presence_view presence.now) }
+{
+    match presence {
+        Presence::Mandatory => false,
+        Presence::Optional => true,
+        Presence::Pending => false,
+        Presence::Default(_) => false,
+    }
+}
+
+// ---- of what isn't listed
+
+/// A full list makes each OPTIONAL component and each alternative absent that it doesn't list.
+pub(crate) fn spread_unlisted<'a>(
+    parts: &[Part],
+    kind: &Kind,
+    partial: bool,
+    slots: Slots,
+    terms: &mut Vec<Term<'a>>,
+) -> Result<(), OutOfMemory>
+    ensures { OnOk result (terms_view terms.new.items ≡ terms_view terms.old.items
+        ++ unlisted partial (kind_view kind.now) (parts_of (map part_view parts.now)) slots) }
+{
+    if partial {
+        return Ok(());
+    }
+    let comps = kind.components();
+    for (place, comp) in comps.iter().enumerate() {
+        spread_unlisted_one(parts, kind, place, &comp.presence, slots, terms)?;
+    }
+    Ok(())
+}
+
+fn spread_unlisted_one<'a>(
+    parts: &[Part],
+    kind: &Kind,
+    place: usize,
+    presence: &Presence,
+    slots: Slots,
+    terms: &mut Vec<Term<'a>>,
+) -> Result<(), OutOfMemory>
+    ensures { OnOk result (terms_view terms.new.items ≡ terms_view terms.old.items
+        ++ spread_unlisted_one slots (kind_view kind.now) (parts_of (map part_view parts.now)) place (presence_view presence.now)) }
+{
+    if is_ruled_out(parts, kind, place, presence) {
+        return push(terms, slots, Atom::Unsent(place));
+    }
+    Ok(())
+}
+
+fn is_ruled_out(parts: &[Part], kind: &Kind, at: usize, presence: &Presence) -> bool
+    ensures { result ≡ is_ruled_out (kind_view kind.now) (parts_of (map part_view parts.now)) at (presence_view presence.now) }
+{
+    !is_listed(parts, at) && (kind.is_choice() || is_optional(presence))
+}
+
+fn is_listed(parts: &[Part], at: usize) -> bool
+    ensures { result ≡ is_listed at (parts_of (map part_view parts.now)) }
+{
+    for part in parts {
+        if usize::from(part.at) == at {
+            return true;
+        }
+    }
+    false
+}

@@ -1,0 +1,49 @@
+//! Tests of a number, a size or characters, as the nodes have them.
+ghost use Rattle.std.specs.Prelude.{◌≡◌, [], pos, ◌&&◌, IfOk};
+ghost use Rattle.guard_model.specs.AbstractType as type;
+ghost use Rattle.guard_model.specs.AbstractType.{AbstractKind};
+ghost use Rattle.guard_model.specs.AbstractValue as abstract;
+ghost use Rattle.guard_model.specs.Limits.{fits_128_bits};
+ghost use Rattle.guard_model.specs.TypeView.{constraint_view};
+ghost use Rattle.guard_eval.specs.Elements.{is_in_some};
+ghost use Rattle.guard_eval.specs.Member.{holds};
+ghost use Rattle.guard_tables.specs.Lay.{no_value};
+ghost use Rattle.guard_tables.specs.Plan.{numbers, sizes, spelled};
+ghost use Rattle.guard_tables.specs.NodeViews.{test_view};
+
+use crate::node::Test;
+use crate::number_sets::numbers_of;
+use guard_model::{Cons, OutOfMemory};
+use std::alloc::Global;
+
+/// The number is one that the constraint has.
+pub(crate) fn number_test(constraint: &Cons, alloc: Global) -> Result<Test, OutOfMemory>
+    ensures { IfOk result (λ t. (kind : AbstractKind) → test_view t
+        ≡ numbers (λ z. fits_128_bits z && holds (constraint_view constraint.now) kind (abstract.integer z))) }
+{
+    let ranges = numbers_of(constraint, alloc)?;
+    Ok(Test::Numbers(ranges))
+}
+
+/// The size is one of the numbers that the constraint has.
+pub(crate) fn size_test(constraint: &Cons, alloc: Global) -> Result<Test, OutOfMemory>
+    ensures { IfOk result (λ t. test_view t ≡ sizes (λ n. fits_128_bits (pos n)
+        && holds (constraint_view constraint.now) (type.integer []) (abstract.integer (pos n)))) }
+{
+    let ranges = numbers_of(constraint, alloc)?;
+    Ok(Test::Sizes(ranges))
+}
+
+/// Each character lies in one of these ranges.
+pub(crate) fn spelling_test(ranges: &[(u32, u32)], alloc: Global) -> Result<Test, OutOfMemory>
+    ensures { IfOk result (λ t. test_view t ≡ spelled (is_in_some ranges.now)) }
+{
+    Ok(Test::Spelled(Vec::from_slice(alloc, ranges)?))
+}
+
+/// No value passes.
+pub(crate) fn no_value(alloc: Global) -> Test
+    ensures { test_view result ≡ no_value }
+{
+    Test::Numbers(Vec::new(alloc))
+}

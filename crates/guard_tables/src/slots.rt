@@ -1,0 +1,79 @@
+//! Sets of slots: one for each thing that is asked of a value.
+ghost use Rattle.std.specs.Prelude.{◌≡◌, ◌<◌, nat_eq};
+ghost use Rattle.std.specs.Int.{bit_at};
+ghost use Rattle.guard_tables.specs.Slots.{none, only, added, has};
+
+/// A set of at most 256 slots.
+#[derive(Clone, Copy, Debug, PartialEq, Eq)]
+pub struct Slots {
+    first: u64,
+    second: u64,
+    third: u64,
+    fourth: u64,
+}
+
+impl Slots {
+    /// The empty set.
+    pub fn none() -> Slots
+        ensures { result ≡ none }
+    {
+        Slots {
+            first: 0,
+            second: 0,
+            third: 0,
+            fourth: 0,
+        }
+    }
+
+    /// The set of one slot.
+    #[tactic(auto, unfolding(crate::specs::Slots::only, crate::specs::Slots::none))]
+    pub fn only(slot: u8) -> Slots
+        ensures { result ≡ only slot }
+    {
+        let mut slots = Slots::none();
+        if slot < 64 {
+            slots.first = 1 << slot;
+        } else if slot < 128 {
+            slots.second = 1 << (slot - 64);
+        } else if slot < 192 {
+            slots.third = 1 << (slot - 128);
+        } else {
+            slots.fourth = 1 << (slot - 192);
+        }
+        slots
+    }
+
+    /// Puts all slots of the other set into this one.
+    #[tactic(auto, unfolding(crate::specs::Slots::added))]
+    pub fn add(&mut self, more: &Slots)
+        ensures { self.new ≡ added self.old more.now }
+    {
+        self.first |= more.first;
+        self.second |= more.second;
+        self.third |= more.third;
+        self.fourth |= more.fourth;
+    }
+
+    /// Whether it has this slot.
+    #[tactic(auto, unfolding(crate::specs::Slots::has))]
+    pub fn has(&self, slot: u8) -> bool
+        ensures { result ≡ has self.now slot }
+    {
+        if slot < 64 {
+            is_set(self.first, slot)
+        } else if slot < 128 {
+            is_set(self.second, slot - 64)
+        } else if slot < 192 {
+            is_set(self.third, slot - 128)
+        } else {
+            is_set(self.fourth, slot - 192)
+        }
+    }
+}
+
+fn is_set(word: u64, bit: u8) -> bool
+    requires { bit < 64 }
+    ensures { result ≡ nat_eq (bit_at word bit) 1 }
+{
+    (word >> bit) & 1 == 1
+}

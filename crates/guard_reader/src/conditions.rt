@@ -1,0 +1,73 @@
+//! Conditions, defaults and formulas: what few elements need.
+ghost use Rattle.std.specs.Prelude.{◌≡◌, map, option_map};
+ghost use Rattle.std.specs.List.{list_any};
+ghost use Rattle.guard_model.specs.Same.{same_numbers};
+ghost use Rattle.guard_tables.specs.Formulas.{raised, fails_where};
+ghost use Rattle.guard_tables.specs.NodeViews.{form_view, raise_view};
+ghost use Rattle.guard_tables.specs.Marking.{is_in, is_in_one, some_passes};
+ghost use Rattle.guard_tables.specs.Slots.{has};
+ghost use Rattle.guard_tables.specs.TableNodes.{is_default};
+
+use guard_tables::{Form, Raise, Range, Slots};
+
+/// Whether contents are those of the default, where there is one.
+pub fn is_default(default: &Option<Vec<u8>>, inside: &[u8]) -> bool
+    ensures { result ≡ is_default (option_map (λ v. v.items) default.now) inside.now }
+{
+    match default {
+        Some(default) => are_same(default, inside),
+        None => false,
+    }
+}
+
+pub fn are_same(octets: &[u8], others: &[u8]) -> bool
+    ensures { result ≡ same_numbers octets.now others.now }
+{
+    octets == others
+}
+
+/// Whether a number lies in one of the ranges.
+pub fn is_in_one(ranges: &[Range], number: i128) -> bool
+    ensures { result ≡ list_any (is_in number) ranges.now }
+{
+    for range in ranges {
+        if range.low <= number && number <= range.high {
+            return true;
+        }
+    }
+    false
+}
+
+/// Whether there is a number, and it lies in one of the ranges.
+pub fn has_one(ranges: &[Range], number: Option<i128>) -> bool
+    ensures { result ≡ some_passes (is_in_one ranges.now) number }
+{
+    match number {
+        Some(number) => is_in_one(ranges, number),
+        None => false,
+    }
+}
+
+/// What fails outside by what has failed inside.
+pub fn raise(raises: &[Raise], inner: &Slots, failed: &mut Slots)
+    ensures { failed.new ≡ raised (map raise_view raises.now) inner.now failed.old }
+{
+    for raise in raises {
+        if fails(&raise.where_failed, inner) {
+            failed.add(&raise.slots);
+        }
+    }
+}
+
+fn fails(form: &Form, inner: &Slots) -> bool
+    ensures { result ≡ fails_where (form_view form.now) (has inner.now) }
+{
+    match form {
+        Form::Never => false,
+        Form::Always => true,
+        Form::Slot(slot) => inner.has(*slot),
+        Form::Both(a, b) => fails(a, inner) && fails(b, inner),
+        Form::Either(a, b) => fails(a, inner) || fails(b, inner),
+        Form::Unless(a) => !fails(a, inner),
+    }
+}

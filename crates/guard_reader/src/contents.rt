@@ -1,0 +1,166 @@
+//! Which contents octets are lawful for a simple kind.
+ghost use Rattle.std.specs.Prelude.{◌≡◌, ◌∷◌, ◌-◌, ◌*◌, ◌+◌, ◌≤◌, ◌^◌, map, pos, true, [], if◌then◌else◌};
+ghost use Rattle.std.specs.Str.{is_utf8};
+ghost use Rattle.std.specs.Option.{is_none};
+ghost use Rattle.guard_model.specs.Alphabets.{all_characters};
+ghost use Rattle.guard_der.specs.Fits.{is_item, last_octet as last_of, has_proper_end, has_zero_end, has_no_trailing_zero};
+ghost use Rattle.guard_der.specs.Simple.{simple_fault, boolean_fault, null_fault, bits_fault, enumerated_fault, object_id_fault, is_text};
+ghost use Rattle.guard_tables.specs.NodeViews.{kind_view, unnamed};
+
+use crate::numbers::{is_integer, twos_complement};
+use crate::object_id::is_object_identifier;
+use guard_model::CharKind;
+use guard_tables::SimpleKind;
+
+/// Whether contents octets are lawful for the kind; the items are those of an ENUMERATED.
+pub fn is_lawful(kind: SimpleKind, items: &[i128], inside: &[u8]) -> bool
+    ensures { result ≡ is_none (simple_fault (kind_view kind items.now) inside.now) }
+{
+    match kind {
+        SimpleKind::Boolean => is_boolean(inside),
+        SimpleKind::Integer => is_integer(inside),
+        SimpleKind::Enumerated => is_enumerated(items, inside),
+        SimpleKind::BitString => is_bit_string(false, inside),
+        SimpleKind::NamedBits => is_bit_string(true, inside),
+        SimpleKind::OctetString => true,
+        SimpleKind::Null => inside.is_empty(),
+        SimpleKind::ObjectIdentifier => is_object_identifier(inside),
+        SimpleKind::Characters(kind) => is_text(kind, inside),
+    }
+}
+
+/// 00 or FF (X.690 8.2, 11.1).
+fn is_boolean(inside: &[u8]) -> bool
+    ensures { result ≡ is_none (boolean_fault inside.now) }
+{
+    match inside {
+        [octet] => *octet == 0 || *octet == 0xFF,
+        _ => false,
+    }
+}
+
+/// The number of an item (X.690 8.4).
+fn is_enumerated(items: &[i128], inside: &[u8]) -> bool
+    ensures { result ≡ is_none (enumerated_fault (map unnamed items.now) inside.now) }
+{
+    is_integer(inside) && is_item(twos_complement(inside), items)
+}
+
+fn is_item(number: i128, items: &[i128]) -> bool
+    ensures { result ≡ is_item number (map unnamed items.now) }
+{
+    for item in items {
+        if number == *item {
+            return true;
+        }
+    }
+    false
+}
+
+/// The first octet is the count of unused bits, which are zero (X.690 8.6.2, 11.2.1); where bits are named the last one
+/// isn't (11.2.2).
+fn is_bit_string(named: bool, inside: &[u8]) -> bool
+    ensures { result ≡ is_none (bits_fault (if named then unnamed (pos 0) ∷ [] else []) inside.now) }
+{
+    match inside {
+        [unused, octets @ ..] => are_bits(named, octets, *unused),
+        [] => false,
+    }
+}
+
+fn are_bits(named: bool, octets: &[u8], unused: u8) -> bool
+    ensures { result ≡ is_none (bits_fault (if named then unnamed (pos 0) ∷ [] else []) (unused ∷ octets.now)) }
+{
+    if !has_proper_end(octets, unused) {
+        return false;
+    }
+    if !has_zero_end(octets, unused) {
+        return false;
+    }
+    !named || has_no_trailing_zero(octets, unused)
+}
+
+/// At most seven bits are unused, and without octets none (X.690 8.6.2).
+fn has_proper_end(octets: &[u8], unused: u8) -> bool
+    ensures result { result ≡ has_proper_end octets.now unused }
+    ensures few { result ≡ true → unused ≤ 7 }
+{
+    unused <= 7 && (unused == 0 || !octets.is_empty())
+}
+
+fn has_zero_end(octets: &[u8], unused: u8) -> bool
+    requires { unused ≤ 7 }
+    ensures { result ≡ has_zero_end octets.now unused }
+{
+    last_octet(octets) % power_of_two(unused) == 0
+}
+
+/// The last bit is one, or there are no bits.
+fn has_no_trailing_zero(octets: &[u8], unused: u8) -> bool
+    requires { unused ≤ 7 }
+    ensures { result ≡ has_no_trailing_zero octets.now unused }
+{
+    match octets {
+        [] => true,
+        _ => last_octet(octets) / power_of_two(unused) % 2 == 1,
+    }
+}
+
+fn last_octet(octets: &[u8]) -> u8
+    ensures { result ≡ last_of octets.now }
+{
+    if octets.is_empty() {
+        0
+    } else {
+        octets[octets.len() - 1]
+    }
+}
+
+fn power_of_two(exponent: u8) -> u8
+    requires { exponent ≤ 7 }
+    ensures { result ≡ 2 ^ exponent }
+{
+    match exponent {
+        0 => 1,
+        1 => 2,
+        2 => 4,
+        3 => 8,
+        4 => 16,
+        5 => 32,
+        6 => 64,
+        _ => 128,
+    }
+}
+
+/// UTF-8, or an octet of the kind's alphabet for each character (X.690 8.23).
+fn is_text(kind: CharKind, inside: &[u8]) -> bool
+    ensures { result ≡ is_text kind inside.now }
+{
+    match kind {
+        CharKind::Utf8 => is_spelled_utf8(inside),
+        CharKind::Numeric => are_characters(kind, inside),
+        CharKind::Printable => are_characters(kind, inside),
+        CharKind::Ia5 => are_characters(kind, inside),
+        CharKind::Visible => are_characters(kind, inside),
+    }
+}
+
+fn is_spelled_utf8(inside: &[u8]) -> bool
+    ensures { result ≡ is_utf8 inside.now }
+{
+    match str::from_utf8(inside) {
+        Ok(_) => true,
+        Err(_) => false,
+    }
+}
+
+fn are_characters(kind: CharKind, inside: &[u8]) -> bool
+    ensures { result ≡ all_characters kind inside.now }
+{
+    for octet in inside {
+        if !kind.has(u32::from(*octet)) {
+            return false;
+        }
+    }
+    true
+}

@@ -1,0 +1,34 @@
+//! Reading octets by a table, in one pass and without memory.
+//!
+//! What is read as yet: BOOLEAN, INTEGER, ENUMERATED, BIT STRING, OCTET STRING, NULL, OBJECT IDENTIFIER, character strings,
+//! SEQUENCE, SEQUENCE OF and SET OF, each type with one tag below 31, what is asked of their values as a whole, and formulas.
+//! Of a table with other nodes nothing is claimed.
+//!
+//! | question | code | definition |
+//! |---|---|---|
+//! | What fails at the value that octets encode? | `walking.rt` (`failures`), lengths `header.rt` | `specs/Judging.antt`, `specs/Covered.antt` |
+//! | Which contents octets are lawful for a simple kind, and what fails at their value? | `simple.rt`, `contents.rt`, `numbers.rt`, `object_id.rt` | `specs/Judging.antt`, and of `guard_der` `specs/Simple.antt` |
+//! | Do the elements of a SET OF ascend? | `order.rt` | of `guard_der` `specs/Fits.antt` |
+//! | What is asked of a value that has parts as a whole? | `whole.rt` | `specs/Judging.antt` |
+//! | Is it a default, and what do formulas say? | `conditions.rt` | of `guard_tables` `specs/Formulas.antt` |
+//! | Which types have the value? | `marks.rt` | of `guard_tables` `specs/Slots.antt` |
+//! | Does each octet lie in one of some ranges? | `alphabet.rt` (`all_in`) | of `guard_eval` `specs/Elements.antt` |
+//! | What does a pass tell? | `laws.rt` | `specs/Laws.antt` |
+#![tactic(auto)]
+
+mod alphabet;
+mod conditions;
+mod contents;
+mod header;
+pub mod laws;
+mod marks;
+mod numbers;
+mod object_id;
+mod order;
+mod simple;
+mod walking;
+mod whole;
+
+pub use alphabet::all_in;
+pub use marks::Marks;
+pub use walking::failures;

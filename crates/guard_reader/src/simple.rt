@@ -1,0 +1,223 @@
+//! Kinds whose contents octets spell the value alone.
+ghost use Rattle.std.specs.Prelude.{◌≡◌, ◌*◌, ◌-◌, pos, length, map, Some, None, [], true, if◌then◌else◌};
+ghost use Rattle.std.specs.List.{list_all};
+ghost use Rattle.std.specs.Option.{is_none};
+ghost use Rattle.std.specs.Str.{is_utf8, chars};
+ghost use Rattle.guard_der.specs.Simple.{simple_fault, simple_value, bits_fault, bits_of, is_text, characters_of};
+ghost use Rattle.guard_eval.specs.Elements.{size_of, is_in_some};
+ghost use Rattle.guard_tables.specs.Marking.{facts, number_in, characters_in, is_in_one, some_passes, test_passes, conditions_marked};
+ghost use Rattle.guard_tables.specs.NodeViews.{kind_view, condition_view, test_view};
+ghost use Rattle.guard_tables.specs.Plan.{simple};
+ghost use Rattle.guard_tables.specs.TableNodes.{conditions_of};
+ghost use Rattle.guard_reader.specs.Answers.{Answers};
+ghost use Rattle.guard_reader.specs.Judging.{contents_judged};
+
+use crate::conditions::{are_same, has_one, is_in_one};
+use crate::contents::is_lawful;
+use crate::numbers::twos_complement;
+use guard_model::CharKind;
+use guard_tables::{Cold, Condition, Range, SimpleKind, Slots, Test};
+
+/// Contents octets of a simple kind, and what is asked of the value.
+#[tactic(auto, unfolding(crate::specs::Judging::contents_judged))]
+pub fn simple(cold: &Cold, kind: SimpleKind, inside: &[u8], failed: &mut Slots) -> bool
+    ensures { Answers result failed.new
+        (contents_judged (simple (kind_view kind cold.now.items.items) (conditions_of cold.now)) inside.now failed.old) }
+{
+    if !is_lawful(kind, &cold.items, inside) {
+        return false;
+    }
+    mark(&cold.conditions, kind, &cold.items, inside, failed);
+    true
+}
+
+/// Marks the slots of each condition that doesn't hold.
+fn mark(
+    conditions: &[Condition],
+    kind: SimpleKind,
+    items: &[i128],
+    inside: &[u8],
+    failed: &mut Slots,
+)
+    requires { is_none (simple_fault (kind_view kind items.now) inside.now) ≡ true }
+    ensures { failed.new ≡ conditions_marked (map condition_view conditions.now)
+        (facts (simple_value (kind_view kind items.now) inside.now) (Some inside.now)) failed.old }
+{
+    for condition in conditions {
+        if !passes(&condition.test, kind, items, inside) {
+            failed.add(&condition.slots);
+        }
+    }
+}
+
+fn passes(test: &Test, kind: SimpleKind, items: &[i128], inside: &[u8]) -> bool
+    requires { is_none (simple_fault (kind_view kind items.now) inside.now) ≡ true }
+    ensures { result ≡ test_passes (test_view test.now)
+        (facts (simple_value (kind_view kind items.now) inside.now) (Some inside.now)) }
+{
+    match test {
+        Test::Numbers(ranges) => has_one(ranges, number_of(kind, items, inside)),
+        Test::Sizes(ranges) => is_sized(ranges, kind, items, inside),
+        Test::Stored(octets) => are_same(octets, inside),
+        Test::Spelled(ranges) => is_spelled(ranges, kind, items, inside),
+    }
+}
+
+/// The number of an INTEGER or ENUMERATED.
+fn number_of(kind: SimpleKind, items: &[i128], inside: &[u8]) -> Option<i128>
+    requires { is_none (simple_fault (kind_view kind items.now) inside.now) ≡ true }
+    ensures { result ≡ number_in (simple_value (kind_view kind items.now) inside.now) }
+{
+    match kind {
+        SimpleKind::Boolean => None,
+        SimpleKind::Integer => Some(twos_complement(inside)),
+        SimpleKind::Enumerated => Some(twos_complement(inside)),
+        SimpleKind::BitString => None,
+        SimpleKind::NamedBits => None,
+        SimpleKind::OctetString => None,
+        SimpleKind::Null => None,
+        SimpleKind::ObjectIdentifier => None,
+        SimpleKind::Characters(_) => None,
+    }
+}
+
+/// Whether the size in bits, octets or characters lies in one of the ranges (X.680 51.5); other kinds have none.
+fn is_sized(ranges: &[Range], kind: SimpleKind, items: &[i128], inside: &[u8]) -> bool
+    requires { is_none (simple_fault (kind_view kind items.now) inside.now) ≡ true }
+    ensures { result ≡ some_passes (λ n. is_in_one ranges.now (pos n))
+        (size_of (simple_value (kind_view kind items.now) inside.now)) }
+{
+    match kind {
+        SimpleKind::Boolean => false,
+        SimpleKind::Integer => false,
+        SimpleKind::Enumerated => false,
+        SimpleKind::BitString => has_bits(ranges, inside),
+        SimpleKind::NamedBits => has_bits(ranges, inside),
+        SimpleKind::OctetString => is_in_one(ranges, inside.len() as i128),
+        SimpleKind::Null => false,
+        SimpleKind::ObjectIdentifier => false,
+        SimpleKind::Characters(kind) => is_in_one(ranges, count(kind, inside) as i128),
+    }
+}
+
+/// Whether the count of bits does; the first octet is the count of those that are unused.
+fn has_bits(ranges: &[Range], inside: &[u8]) -> bool
+    ensures { result ≡ some_passes (λ n. is_in_one ranges.now (pos n)) (size_of (bits_of inside.now)) }
+{
+    match inside {
+        [unused, octets @ ..] => is_in_one(ranges, count_bits(octets, *unused)),
+        [] => is_in_one(ranges, 0),
+    }
+}
+
+fn count_bits(octets: &[u8], unused: u8) -> i128
+    ensures { result ≡ pos (8 * length octets.now - unused) }
+{
+    let all = 8 * (octets.len() as u128);
+    all.saturating_sub(u128::from(unused)) as i128
+}
+
+/// How many characters octets spell.
+fn count(kind: CharKind, inside: &[u8]) -> usize
+    requires { is_text kind inside.now ≡ true }
+    ensures { result ≡ length (characters_of kind inside.now) }
+{
+    match kind {
+        CharKind::Utf8 => count_utf8(inside),
+        CharKind::Numeric => inside.len(),
+        CharKind::Printable => inside.len(),
+        CharKind::Ia5 => inside.len(),
+        CharKind::Visible => inside.len(),
+    }
+}
+
+fn count_utf8(inside: &[u8]) -> usize
+    requires { is_utf8 inside.now ≡ true }
+    ensures { result ≡ length (chars inside.now) }
+{
+    match str::from_utf8(inside) {
+        Ok(text) => count_characters(text),
+        Err(_) => 0,
+    }
+}
+
+fn count_characters(text: &str) -> usize
+    ensures { result ≡ length (chars text.now) }
+{
+    text.chars().count()
+}
+
+/// Whether all characters lie in one of the ranges; kinds without characters have none that doesn't.
+fn is_spelled(ranges: &[(u32, u32)], kind: SimpleKind, items: &[i128], inside: &[u8]) -> bool
+    requires { is_none (simple_fault (kind_view kind items.now) inside.now) ≡ true }
+    ensures { result ≡ list_all (is_in_some ranges.now)
+        (characters_in (simple_value (kind_view kind items.now) inside.now)) }
+{
+    match kind {
+        SimpleKind::Boolean => true,
+        SimpleKind::Integer => true,
+        SimpleKind::Enumerated => true,
+        SimpleKind::BitString => true,
+        SimpleKind::NamedBits => true,
+        SimpleKind::OctetString => true,
+        SimpleKind::Null => true,
+        SimpleKind::ObjectIdentifier => true,
+        SimpleKind::Characters(kind) => are_spelled(ranges, kind, inside),
+    }
+}
+
+fn are_spelled(ranges: &[(u32, u32)], kind: CharKind, inside: &[u8]) -> bool
+    requires { is_text kind inside.now ≡ true }
+    ensures { result ≡ list_all (is_in_some ranges.now) (characters_of kind inside.now) }
+{
+    match kind {
+        CharKind::Utf8 => are_spelled_utf8(ranges, inside),
+        CharKind::Numeric => are_octets_in(ranges, inside),
+        CharKind::Printable => are_octets_in(ranges, inside),
+        CharKind::Ia5 => are_octets_in(ranges, inside),
+        CharKind::Visible => are_octets_in(ranges, inside),
+    }
+}
+
+fn are_octets_in(ranges: &[(u32, u32)], inside: &[u8]) -> bool
+    ensures { result ≡ list_all (is_in_some ranges.now) inside.now }
+{
+    for octet in inside {
+        if !is_in_some(ranges, u32::from(*octet)) {
+            return false;
+        }
+    }
+    true
+}
+
+fn are_spelled_utf8(ranges: &[(u32, u32)], inside: &[u8]) -> bool
+    requires { is_utf8 inside.now ≡ true }
+    ensures { result ≡ list_all (is_in_some ranges.now) (chars inside.now) }
+{
+    match str::from_utf8(inside) {
+        Ok(text) => are_characters_in(ranges, text),
+        Err(_) => false,
+    }
+}
+
+fn are_characters_in(ranges: &[(u32, u32)], text: &str) -> bool
+    ensures { result ≡ list_all (is_in_some ranges.now) (chars text.now) }
+{
+    for character in text.chars() {
+        if !is_in_some(ranges, u32::from(character)) {
+            return false;
+        }
+    }
+    true
+}
+
+fn is_in_some(ranges: &[(u32, u32)], code: u32) -> bool
+    ensures { result ≡ is_in_some ranges.now code }
+{
+    for (low, high) in ranges {
+        if *low <= code && code <= *high {
+            return true;
+        }
+    }
+    false
+}

@@ -2,13 +2,15 @@
 //!
 //! | question | file |
 //! |---|---|
-//! | what answers the rows | `streams.rt`, `texts.rt` |
+//! | what answers the rows | `streams.rt`, `texts.rt`, `links.rt`, `orders.rt` |
 //! | which messages go there | `signs.rt` (`Signs`), `policies.rt` |
 //! | which source gives the stream, and which sinks take the outputs | `devices.rt` (`Pieces`, `Room`) |
 //! | how a file of rows is read and compared | the crate `conformance_rows` |
 #![tactic(auto)]
 
 mod devices;
+mod links;
+mod orders;
 mod policies;
 mod signs;
 mod streams;
@@ -16,12 +18,14 @@ mod texts;
 
 use anyhow::ensure;
 use conformance_rows::check_rows;
+use links::Links;
 use streams::Streams;
 use texts::Texts;
 
 fn main(rt: HostRuntime) -> anyhow::Result<()> {
     let streams = check_rows(&rt, "streams.rows", &mut Streams::new())?;
     let texts = check_rows(&rt, "texts.rows", &mut Texts::new(rt.alloc()))?;
-    ensure!(streams && texts, "a row has another answer");
+    let links = check_rows(&rt, "links.rows", &mut Links::new(rt.alloc()))?;
+    ensure!(streams && texts && links, "a row has another answer");
     Ok(())
 }

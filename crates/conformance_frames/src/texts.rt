@@ -22,7 +22,7 @@ impl Texts {
 }
 
 /// The octets of a row's text.
-fn owned(alloc: Global, text: &[u8]) -> Result<Vec<u8>, AllocError> {
+pub fn owned(alloc: Global, text: &[u8]) -> Result<Vec<u8>, AllocError> {
     let mut octets = Vec::new(alloc);
     octets.extend_from_slice(text)?;
     Ok(octets)

@@ -18,7 +18,8 @@ use conformance_rows::check_rows;
 use programs::Programs;
 
 fn main(rt: HostRuntime) -> anyhow::Result<()> {
-    let all = check_rows(&rt, "program.rows", &mut Programs::new(rt.alloc()))?;
-    ensure!(all, "a row has another answer");
+    let words = check_rows(&rt, "program.rows", &mut Programs::new(rt.alloc()))?;
+    let links = check_rows(&rt, "mux.rows", &mut Programs::new(rt.alloc()))?;
+    ensure!(words && links, "a row has another answer");
     Ok(())
 }

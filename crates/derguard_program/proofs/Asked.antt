@@ -13,8 +13,8 @@ use Rattle.clap.specs.Faults.{check_fault, defaults_fault, entered_fault, fault_
 use Rattle.clap.specs.Kinds.{Kinds, or_else}
 use Rattle.clap.specs.Simple.{App, Shape, argument_words, built, built_leaf, entered, filled, help_rule, help_shape, inherited, label_of, marked_built, names_of, rows_at, subcommand_of, with_index, with_leaf_noted}
 use Rattle.clap.specs.declared.error.kind.ErrorKind.TheVariants as kind
-use Rattle.derguard_program.specs.Requests.{AbstractRequest, first, check, decide, run}
-use Rattle.derguard_program.specs.Words.{Asks, IsCommand, check_shape, decide_shape, option_rule, place_rule, run_shape, the_app}
+use Rattle.derguard_program.specs.Requests.{AbstractRequest, first, check, decide, run, mux}
+use Rattle.derguard_program.specs.Words.{Asks, IsCommand, check_shape, decide_shape, mux_shape, option_rule, place_rule, run_shape, the_app}
 use Rattle.derguard_program.proofs.Filled.{AllFill, Filled, Fills, IsFilled, both_none, finished_filled, help_fills, set_fills, some_kind, walk_filled}
 
 -- ---- a walk in which nothing is wrong stops at no word help
@@ -160,6 +160,9 @@ built_decide = built_leaf (inherited (with_leaf_noted (marked_built the_app.top)
 abbrev built_run : Shape
 built_run = built_leaf (inherited (with_leaf_noted (marked_built the_app.top)) run_shape)
 
+abbrev built_mux : Shape
+built_mux = built_leaf (inherited (with_leaf_noted (marked_built the_app.top)) mux_shape)
+
 -- each argument as it is built at a place
 abbrev ready_rule : ℕ → Rule → Rule
 ready_rule place rule = with_index place (filled rule)
@@ -183,6 +186,9 @@ decide_fills =
 run_fills : AllFill built_run.rules
 run_fills = (place_fills 1 (codes "policy"), (flag_fills, tt))
 
+mux_fills : AllFill built_mux.rules
+mux_fills = (place_fills 1 (codes "policy"), (flag_fills, tt))
+
 -- a command with these words asks for a request
 abbrev Requests : Shape → List Text → Type 0
 Requests s words = (request : AbstractRequest) × IsCommand s.name (rows_after s.rules [] words) request
@@ -200,6 +206,13 @@ run_asks words e =
     let policy = given_next _ _ (check_none built_run [] words false [] e) in
     let path = given_value (codes "policy") (rows_after built_run.rules [] words) rows policy.0 in
     (run path.0, (refl, path.1))
+
+mux_asks : (words : List Text) → level_fault built_mux [] nothing_held words false [] ≡ [] → Requests built_mux words
+mux_asks words e =
+    let rows = rows_filled built_mux [] words false [] e mux_fills in
+    let policy = given_next _ _ (check_none built_mux [] words false [] e) in
+    let path = given_value (codes "policy") (rows_after built_mux.rules [] words) rows policy.0 in
+    (mux path.0, (refl, path.1))
 
 decide_asks : (words : List Text) → level_fault built_decide [] nothing_held words false [] ≡ [] → Requests built_decide words
 decide_asks words e =
@@ -235,21 +248,22 @@ not_help_met name another met = go (bytes_eq (codes "help") name) refl met
         true≢false (sym ((bytes_eq-Decides name (codes "help")).1 (sym same)) ∙ another)
     go false e is = true≢false (sym is)
 
-by_name : (p : Text × List Text) (a b c d : Bool) → (d ≡ true → ⊥)
-    → option_map_or (λ s. level_fault s [] nothing_held p.1 false []) (cond a (Some built_check) (cond b (Some built_decide) (cond c (Some built_run) (cond d (Some (built_leaf help_shape)) None)))) [] ≡ []
-    → is_some (option_map (λ s. rows_at s p.1) (cond a (Some built_check) (cond b (Some built_decide) (cond c (Some built_run) (cond d (Some (built_leaf help_shape)) None))))) ≡ true
-    → Enters p (cond a (Some built_check) (cond b (Some built_decide) (cond c (Some built_run) (cond d (Some (built_leaf help_shape)) None))))
-by_name p true b c d another e there = as_entered p built_check (check_asks p.1 e)
-by_name p false true c d another e there = as_entered p built_decide (decide_asks p.1 e)
-by_name p false false true d another e there = as_entered p built_run (run_asks p.1 e)
-by_name p false false false true another e there = absurd (another refl)
-by_name p false false false false another e there = absurd (true≢false (sym there))
+by_name : (p : Text × List Text) (a b c m d : Bool) → (d ≡ true → ⊥)
+    → option_map_or (λ s. level_fault s [] nothing_held p.1 false []) (cond a (Some built_check) (cond b (Some built_decide) (cond c (Some built_run) (cond m (Some built_mux) (cond d (Some (built_leaf help_shape)) None))))) [] ≡ []
+    → is_some (option_map (λ s. rows_at s p.1) (cond a (Some built_check) (cond b (Some built_decide) (cond c (Some built_run) (cond m (Some built_mux) (cond d (Some (built_leaf help_shape)) None)))))) ≡ true
+    → Enters p (cond a (Some built_check) (cond b (Some built_decide) (cond c (Some built_run) (cond m (Some built_mux) (cond d (Some (built_leaf help_shape)) None)))))
+by_name p true b c m d another e there = as_entered p built_check (check_asks p.1 e)
+by_name p false true c m d another e there = as_entered p built_decide (decide_asks p.1 e)
+by_name p false false true m d another e there = as_entered p built_run (run_asks p.1 e)
+by_name p false false false true d another e there = as_entered p built_mux (mux_asks p.1 e)
+by_name p false false false false true another e there = absurd (another refl)
+by_name p false false false false false another e there = absurd (true≢false (sym there))
 
 entered_asks : (stop : Option (Text × List Text)) → NotHelp stop → entered_fault ready stop ≡ [] → is_some (entered ready stop) ≡ true
     → (request : AbstractRequest) × (name : Text) × (rows : List Row) × (entered ready stop ≡ Some (name, rows)) × IsCommand name rows request
 entered_asks None another e there = absurd (true≢false (sym there))
 entered_asks (Some p) another e there =
-    by_name p (answers_to p.0 (label_of built_check)) (answers_to p.0 (label_of built_decide)) (answers_to p.0 (label_of built_run)) (answers_to p.0 (label_of (built_leaf help_shape)))
+    by_name p (answers_to p.0 (label_of built_check)) (answers_to p.0 (label_of built_decide)) (answers_to p.0 (label_of built_run)) (answers_to p.0 (label_of built_mux)) (answers_to p.0 (label_of (built_leaf help_shape)))
     (not_help_met p.0 another) e there
 
 command_there : (b : Bool) (others : Kinds)
@@ -285,6 +299,7 @@ module _ (rows : List Row) where
   one_command name (check path) (check other) h g = ap check (same_at (codes "policy") path other h.1 g.1)
   one_command name (check path) (decide other route digits) h g = absurd (let bad : 99 ≡ 100 = another_name _ _ (sym h.0 ∙ g.0) in omega arith)
   one_command name (check path) (run other) h g = absurd (let bad : 99 ≡ 114 = another_name _ _ (sym h.0 ∙ g.0) in omega arith)
+  one_command name (check path) (mux other) h g = absurd (let bad : 99 ≡ 109 = another_name _ _ (sym h.0 ∙ g.0) in omega arith)
   one_command name (decide path route digits) first h g = absurd g
   one_command name (decide path route digits) (check other) h g = absurd (let bad : 100 ≡ 99 = another_name _ _ (sym h.0 ∙ g.0) in omega arith)
   one_command name (decide path route digits) (decide other another octets) h g =
@@ -295,10 +310,17 @@ module _ (rows : List Row) where
       let hex = same_at (codes "hex") digits octets h.5 g.5 in
       λ i. decide (policy i) (record { from = from i; to = to i; message = message i }) (hex i)
   one_command name (decide path route digits) (run other) h g = absurd (let bad : 100 ≡ 114 = another_name _ _ (sym h.0 ∙ g.0) in omega arith)
+  one_command name (decide path route digits) (mux other) h g = absurd (let bad : 100 ≡ 109 = another_name _ _ (sym h.0 ∙ g.0) in omega arith)
   one_command name (run path) first h g = absurd g
   one_command name (run path) (check other) h g = absurd (let bad : 114 ≡ 99 = another_name _ _ (sym h.0 ∙ g.0) in omega arith)
   one_command name (run path) (decide other route digits) h g = absurd (let bad : 114 ≡ 100 = another_name _ _ (sym h.0 ∙ g.0) in omega arith)
   one_command name (run path) (run other) h g = ap run (same_at (codes "policy") path other h.1 g.1)
+  one_command name (run path) (mux other) h g = absurd (let bad : 114 ≡ 109 = another_name _ _ (sym h.0 ∙ g.0) in omega arith)
+  one_command name (mux path) first h g = absurd g
+  one_command name (mux path) (check other) h g = absurd (let bad : 109 ≡ 99 = another_name _ _ (sym h.0 ∙ g.0) in omega arith)
+  one_command name (mux path) (decide other route digits) h g = absurd (let bad : 109 ≡ 100 = another_name _ _ (sym h.0 ∙ g.0) in omega arith)
+  one_command name (mux path) (run other) h g = absurd (let bad : 109 ≡ 114 = another_name _ _ (sym h.0 ∙ g.0) in omega arith)
+  one_command name (mux path) (mux other) h g = ap mux (same_at (codes "policy") path other h.1 g.1)
 
 -- ---- the answer
 

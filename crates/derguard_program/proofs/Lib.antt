@@ -10,3 +10,6 @@ pub mod Refusals
 pub mod Streams
 pub mod Meetings
 pub mod VerdictsFound
+pub mod RecordLaws
+pub mod PassingLaws
+pub mod Muxes

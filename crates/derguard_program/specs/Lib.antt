@@ -11,6 +11,12 @@ pub mod Answers
 -- ---- what goes to the outputs, and the status
 pub mod Devices
 pub mod Writing
+-- ---- many links
+pub mod Records
+pub mod Headers
+pub mod Passing
+pub mod Muxing
+-- ---- what it is to meet a request
 pub mod Meeting
 -- ---- what the parts of the code do
 pub mod Texts

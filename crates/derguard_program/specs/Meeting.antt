@@ -15,11 +15,12 @@ use Rattle.guard_frames.specs.declared.running.RunFault.TheVariants.{FrameTooLon
 use Rattle.derguard_program.specs.declared.fault.Fault.{Fault}
 use Rattle.derguard_program.specs.declared.fault.Fault.TheVariants.{BadHex, CannotRead, Schema, Policy, Run, NoMemory}
 use Rattle.derguard_program.specs.Files.{Told}
-use Rattle.derguard_program.specs.Requests.{AbstractRequest, first, check, decide, run}
+use Rattle.derguard_program.specs.Requests.{AbstractRequest, first, check, decide, run, mux}
 use Rattle.derguard_program.specs.Words.{Asks, the_app}
 use Rattle.derguard_program.specs.Reading.{IsPolicyAt, IsNoPolicyAt}
 use Rattle.derguard_program.specs.Answers.{AbstractAnswer, IsFirst, IsNoFirst, IsChecked, IsDecided, IsUndecided}
 use Rattle.derguard_program.specs.Devices.{Input, Device, IsUnread, IsUntouched}
+use Rattle.derguard_program.specs.Muxing.{GuardsLinks}
 use Rattle.derguard_program.specs.Writing.{Writes, Tells, TellsLine, TellsNoMemory}
 
 -- Such an answer is written, or such a fault is told; nothing is read.
@@ -85,6 +86,7 @@ Meets told first = Answers IsFirst IsNoFirst
 Meets told (check path) = Answers (IsChecked told path) (IsNoPolicyAt told path)
 Meets told (decide path route digits) = Answers (IsDecided told path route digits) (IsUndecided told path digits)
 Meets told (run path) = GuardsStream told path
+Meets told (mux path) = GuardsLinks told path
 
 -- What the reader of words says is help or the version, and no fault of the words.
 abbrev pub is_help : ErrorKind → Bool

@@ -14,6 +14,8 @@ pub data AbstractRequest : Type 0 where
   decide : List ℕ → AbstractRoute → List ℕ → AbstractRequest
   -- what comes in, by the policy at this path
   run : List ℕ → AbstractRequest
+  -- the records of many links, by the policy at this path
+  mux : List ℕ → AbstractRequest
 
 abbrev pub message_route : Message → AbstractRoute
 message_route m = record { from = m.from.now; to = m.to.now; message = m.message.now }
@@ -23,3 +25,4 @@ request_view code.First = first
 request_view (code.Check policy) = check policy.now
 request_view (code.Decide m) = decide m.policy.now (message_route m) m.hex.now
 request_view (code.Run policy) = run policy.now
+request_view (code.Mux policy) = mux policy.now

@@ -3,7 +3,7 @@ use Rattle.std.specs.Prelude.{◌≡◌, true, false, List, [], ◌∷◌, Some,
 use Rattle.clap.specs.Words.{App, Rule, Row, Shape, Text, first_of, fault_of, new_rule, subcommand_of}
 use Rattle.clap.specs.Simple.{new_shape}
 use Rattle.clap.specs.declared.builder.action.ArgAction.TheVariants.{Set}
-use Rattle.derguard_program.specs.Requests.{AbstractRequest, first, check, decide, run}
+use Rattle.derguard_program.specs.Requests.{AbstractRequest, first, check, decide, run, mux}
 
 -- ---- the commands
 
@@ -35,11 +35,15 @@ decide_shape = command_shape (codes "decide")
 abbrev pub run_shape : Shape
 run_shape = command_shape (codes "run") (place_rule (codes "policy") ∷ [])
 
+-- mux POLICY
+abbrev pub mux_shape : Shape
+mux_shape = command_shape (codes "mux") (place_rule (codes "policy") ∷ [])
+
 -- one of these commands, after the program's name
 abbrev pub the_app : App
 the_app = record {
   top = record (new_shape (codes "derguard")) { is_leaf = false; subcommand_required = true };
-  subs = check_shape ∷ decide_shape ∷ run_shape ∷ [];
+  subs = check_shape ∷ decide_shape ∷ run_shape ∷ mux_shape ∷ [];
 }
 
 -- ---- the requests
@@ -52,6 +56,7 @@ IsCommand name rows (decide path route digits) =
     (name ≡ codes "decide") × (first_of (codes "policy") rows ≡ Some path) × (first_of (codes "from") rows ≡ Some route.from)
     × (first_of (codes "to") rows ≡ Some route.to) × (first_of (codes "message") rows ≡ Some route.message) × (first_of (codes "hex") rows ≡ Some digits)
 IsCommand name rows (run path) = (name ≡ codes "run") × (first_of (codes "policy") rows ≡ Some path)
+IsCommand name rows (mux path) = (name ≡ codes "mux") × (first_of (codes "policy") rows ≡ Some path)
 
 -- Nothing is wrong with the words, and the command that is found in them asks for this.
 abbrev pub Asks : List Text → AbstractRequest → Type 0

@@ -14,6 +14,7 @@ use crate::fault::Fault;
 use crate::files::Files;
 use crate::first_run::first_run;
 use crate::guarding::run;
+use crate::muxing::mux;
 use crate::outputs::{tell, tell_no_memory, tell_text, write};
 use crate::request::Request;
 use crate::words::request_in;
@@ -68,6 +69,7 @@ pub fn meet<F: Files, S: Source, O: Sink, E: Sink>(
         Request::Check { policy } => give(alloc, check(alloc, policy, files), out, err),
         Request::Decide(message) => give(alloc, decide(alloc, message, files), out, err),
         Request::Run { policy } => run(alloc, policy, files, input, out, err),
+        Request::Mux { policy } => mux(alloc, policy, files, input, out, err),
     }
 }
 

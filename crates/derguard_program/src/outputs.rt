@@ -1,7 +1,7 @@
 //! What goes to standard output and to standard error.
-ghost use Rattle.std.specs.Prelude.{◌≡◌, IfOk, string_bytes};
+ghost use Rattle.std.specs.Prelude.{◌≡◌, IfOk, codes, string_bytes};
 ghost use Rattle.derguard_program.specs.Devices.{device};
-ghost use Rattle.derguard_program.specs.Writing.{line_of, TellsOctets, TellsNoMemory, TellsText, Tells, Writes};
+ghost use Rattle.derguard_program.specs.Writing.{line_of, TellsOctets, TellsLine, TellsNoMemory, TellsText, Tells, Writes};
 
 use crate::fault::Fault;
 use guard_frames::{Sink, put_all};
@@ -11,6 +11,10 @@ use std::alloc::{AllocError, Global};
 const NO_MEMORY: &[u8] = b"derguard: no-memory\n";
 
 const WRITE_FAILED: &[u8] = b"derguard: F2 WriteFailed\n";
+
+const READ_FAILED: &[u8] = b"derguard: F5 ReadFailed\n";
+
+const BAD_RECORD: &[u8] = b"derguard: bad record\n";
 
 /// The status where a stream or a device failed, or memory ran out.
 pub const FAILED: u8 = 3;
@@ -22,7 +26,7 @@ pub fn write<O: Sink, E: Sink>(octets: &[u8], status: u8, out: &mut O, err: &mut
 {
     match put_all(out, octets) {
         Ok(()) => status,
-        Err(_) => tell_line(WRITE_FAILED, FAILED, err),
+        Err(_) => tell_failed_write(err),
     }
 }
 
@@ -51,6 +55,27 @@ pub fn tell_no_memory<E: Sink>(err: &mut E) -> u8
     ensures { TellsNoMemory (device (E.taken err.old) (E.taken err.new) (E.has_failed err.new)) result }
 {
     tell_line(NO_MEMORY, FAILED, err)
+}
+
+/// Tells that what came in is no record.
+pub fn tell_bad_record<E: Sink>(err: &mut E) -> u8
+    ensures { TellsLine (codes "bad record") 3 (device (E.taken err.old) (E.taken err.new) (E.has_failed err.new)) result }
+{
+    tell_line(BAD_RECORD, FAILED, err)
+}
+
+/// Tells that standard input failed.
+pub fn tell_failed_read<E: Sink>(err: &mut E) -> u8
+    ensures { TellsLine (codes "F5 ReadFailed") 3 (device (E.taken err.old) (E.taken err.new) (E.has_failed err.new)) result }
+{
+    tell_line(READ_FAILED, FAILED, err)
+}
+
+/// Tells that standard output failed.
+pub fn tell_failed_write<E: Sink>(err: &mut E) -> u8
+    ensures { TellsLine (codes "F2 WriteFailed") 3 (device (E.taken err.old) (E.taken err.new) (E.has_failed err.new)) result }
+{
+    tell_line(WRITE_FAILED, FAILED, err)
 }
 
 fn line(alloc: Global, text: &str) -> Result<String, AllocError>

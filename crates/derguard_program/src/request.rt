@@ -11,6 +11,8 @@ pub enum Request<'a> {
     Decide(Message<'a>),
     /// What may pass of the frames that come in.
     Run { policy: &'a str },
+    /// The same of the frames of many links, whose records come in.
+    Mux { policy: &'a str },
 }
 
 /// A message on its route, under the policy at a path.

@@ -2,7 +2,7 @@
 ghost use Rattle.std.specs.Prelude.{◌≡◌, ℕ, List, Some, codes, false, map, IfOk, IfErr};
 ghost use Rattle.clap.specs.Words.{HasKind, Row, Text, app_of, fault_of, first_of, found_of, rows_of, rule_of, shape_of, subcommand_rows_of};
 ghost use Rattle.derguard_program.specs.Requests.{AbstractRequest, request_view};
-ghost use Rattle.derguard_program.specs.Words.{Asks, IsCommand, check_shape, decide_shape, option_rule, place_rule, required_rule, run_shape, the_app};
+ghost use Rattle.derguard_program.specs.Words.{Asks, IsCommand, check_shape, decide_shape, mux_shape, option_rule, place_rule, required_rule, run_shape, the_app};
 
 use crate::request::{Message, Request};
 use clap::{Arg, ArgAction, ArgMatches, Command, Error};
@@ -20,6 +20,9 @@ const DECIDE_EXAMPLE: &str =
     "Example:\n  derguard decide examples/orders.toml --from north --to south --message order 300B800105810101A403020107\n\nA value that begins with a hyphen is given in one word with its option, as --from=-a.";
 
 const RUN_EXAMPLE: &str = "Example:\n  derguard run examples/orders.toml < examples/orders.frames";
+
+const MUX_EXAMPLE: &str =
+    "Example:\n  derguard mux examples/payments/payments.toml < examples/payments/payments.mux";
 
 /// What the words ask for; the first is the program's name. Help is an error of `clap` too, of its own kind.
 pub fn request_in<'a>(alloc: Global, words: &'a [&'a str]) -> Result<Request<'a>, Error>
@@ -40,6 +43,9 @@ fn request_of<'a>(matches: &ArgMatches<'a>) -> Request<'a>
             policy: text(found, "policy"),
         },
         Some(("run", found)) => Request::Run {
+            policy: text(found, "policy"),
+        },
+        Some(("mux", found)) => Request::Mux {
             policy: text(found, "policy"),
         },
         Some((_, found)) => Request::Decide(Message {
@@ -68,7 +74,8 @@ fn command<'a>(alloc: Global) -> Result<Command<'a>, AllocError>
         .subcommand_required(true)
         .subcommand(check(alloc)?)?
         .subcommand(decide(alloc)?)?
-        .subcommand(run(alloc)?)
+        .subcommand(run(alloc)?)?
+        .subcommand(mux(alloc)?)
 }
 
 fn check<'a>(alloc: Global) -> Result<Command<'a>, AllocError>
@@ -105,6 +112,17 @@ fn run<'a>(alloc: Global) -> Result<Command<'a>, AllocError>
             "Guards a stream: frames from standard input, those that pass to standard output, a line for each other one to standard error.",
         )
         .after_help(RUN_EXAMPLE)
+        .arg(policy(alloc))
+}
+
+fn mux<'a>(alloc: Global) -> Result<Command<'a>, AllocError>
+    ensures { IfOk result (λ c. shape_of c ≡ mux_shape) }
+{
+    Command::new(alloc, "mux")
+        .about(
+            "Guards sixteen links in one stream of records: pieces and ends of links, and new policies, from standard input; what passes in records to standard output, lines to standard error.",
+        )
+        .after_help(MUX_EXAMPLE)
         .arg(policy(alloc))
 }
 

@@ -1,0 +1,24 @@
+-- What is read of a record, part by part.
+use Rattle.std.proofs.Common.{◌≡◌, ◌∙◌, ◌+◌, ◌≤◌, ℕ, List, ◌++◌, ap, sym, subst, length, take, drop}
+use Rattle.std.specs.Prelude.{Option}
+use Rattle.std.specs.Io.KnownBytes.{Consumes}
+use Rattle.std.proofs.lemmas.List.{length-take-le}
+use Rattle.std.proofs.Math.Seq.{take-add}
+use Rattle.guard_frames.proofs.Reading.{Consumes_trans}
+use Rattle.derguard_program.specs.Records.{header, record_octets}
+use Rattle.derguard_program.specs.Records.Record.{piece}
+
+-- after n octets at the front m more were read, and the first ones were kept
+pub Consumes_more : (a b c : Option (List ℕ)) (n m : ℕ) (old new : List ℕ) → take n new ≡ take n old → Consumes a b (take n old)
+    → Consumes b c (take m (drop n new)) → Consumes a c (take (n + m) new)
+Consumes_more a b c n m old new kept p q =
+    rw (take-add n m new) (subst (λ (s : List ℕ). Consumes a c (s ++ take m (drop n new))) (sym kept) (Consumes_trans a b c (take n old) (take m (drop n new)) p q))
+
+-- a header, and then as many octets as it says
+pub piece_read : (a b c : Option (List ℕ)) (link size n : ℕ) (first room : List ℕ) → first ≡ header 0 link size → n ≡ size → size ≤ length room
+    → Consumes a b first → Consumes b c (take n room) → Consumes a c (record_octets (piece link (take size room)))
+piece_read a b c link size n first room is whole within p q =
+    let p₁ : Consumes a b (header 0 link (length (take size room))) =
+    subst (λ (s : List ℕ). Consumes a b s) (is ∙ ap (header 0 link) (sym (length-take-le size room within))) p in
+    let q₁ : Consumes b c (take size room) = subst (λ (k : ℕ). Consumes b c (take k room)) whole q in
+    Consumes_trans a b c (header 0 link (length (take size room))) (take size room) p₁ q₁

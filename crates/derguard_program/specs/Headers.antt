@@ -1,0 +1,22 @@
+-- The header of a record, as the code has it.
+use Rattle.std.specs.Prelude.{ℕ, ◌≤◌, List, take}
+use Rattle.derguard_program.specs.declared.records.Header.{Header}
+use Rattle.derguard_program.specs.declared.records.Header.TheVariants.{Piece, End, Reload}
+use Rattle.derguard_program.specs.Records.{Record, header}
+use Rattle.derguard_program.specs.Records.Record.{piece, end, reload}
+
+-- the record with this header, whose octets are the first ones in the room
+abbrev pub record_of : Header → List ℕ → Record
+record_of (Piece link size) room = piece link (take size room)
+record_of (End link) room = end link
+record_of Reload room = reload
+
+abbrev pub header_octets : Header → List ℕ
+header_octets (Piece link size) = header 0 link size
+header_octets (End link) = header 1 link 0
+header_octets Reload = header 2 0 0
+
+abbrev pub IsGood : Header → Type 0
+IsGood (Piece link size) = (link ≤ 15) × (size ≤ 1048576)
+IsGood (End link) = link ≤ 15
+IsGood Reload = Unit {0}

@@ -1,0 +1,124 @@
+//! Guards the links of a stream of records.
+ghost use Rattle.std.specs.Prelude.{◌≡◌, true, length, OnOk, IfErr};
+ghost use Rattle.derguard_program.specs.Devices.{input_of, device};
+ghost use Rattle.derguard_program.specs.Muxing.{GuardsLinks, ReadsAll, TellsStop};
+ghost use Rattle.derguard_program.specs.Headers.{IsGood};
+ghost use Rattle.derguard_program.specs.declared.stop.Stop.TheVariants as stop;
+
+use crate::checking::load;
+use crate::files::Files;
+use crate::links::Links;
+use crate::outputs::{
+    FAILED, tell, tell_bad_record, tell_failed_read, tell_failed_write, tell_no_memory,
+};
+use crate::records::{Header, MOST_READS, new_room, next_record};
+use crate::stop::Stop;
+use guard_frames::{Sink, Source};
+use std::alloc::Global;
+
+/// Guards the links of the stream under the policy at the path, and answers the status: 0 where all frames passed, 1
+/// where one didn't, 2 where there is no policy, or a new one couldn't be read, 3 where a link has a fault, a record is
+/// bad, a device failed or memory ran out.
+pub fn mux<F: Files, S: Source, O: Sink, E: Sink>(
+    alloc: Global,
+    path: &str,
+    files: &mut F,
+    input: &mut S,
+    out: &mut O,
+    err: &mut E,
+) -> u8
+    ensures { GuardsLinks (F.told files.old) path.now (input_of (S.tells input.old) (S.tells input.new) (S.takes input.old) (S.takes input.new) (S.has_failed input.new))
+        (device (O.taken out.old) (O.taken out.new) (O.has_failed out.new)) (device (E.taken err.old) (E.taken err.new) (E.has_failed err.new)) result }
+{
+    let policy = match load(alloc, path, files) {
+        Ok(policy) => policy,
+        Err(fault) => return tell(alloc, &fault, err),
+    };
+    let Ok(mut links) = Links::new(alloc, policy) else {
+        return tell_no_memory(err);
+    };
+    let Ok(mut room) = new_room(alloc) else {
+        return tell_no_memory(err);
+    };
+    let guarded = guard(
+        alloc,
+        path,
+        files,
+        room.as_mut_slice(),
+        &mut links,
+        input,
+        out,
+        err,
+    );
+    match guarded {
+        Ok(()) => links.status(),
+        Err(reason) => tell_stop(reason, err),
+    }
+}
+
+/// Tells why the links weren't guarded to their ends.
+fn tell_stop<E: Sink>(reason: Stop, err: &mut E) -> u8
+    ensures told { TellsStop reason (device (E.taken err.old) (E.taken err.new) (E.has_failed err.new)) result }
+    ensures silent { reason ≡ stop.ErrorFailed → err.new ≡ err.old }
+{
+    match reason {
+        Stop::BadRecord => tell_bad_record(err),
+        Stop::ReadFailed => tell_failed_read(err),
+        Stop::WriteFailed => tell_failed_write(err),
+        Stop::ErrorFailed => FAILED,
+    }
+}
+
+/// Takes each record of the stream, and then the end of each link that wasn't ended.
+fn guard<F: Files, S: Source, O: Sink, E: Sink>(
+    alloc: Global,
+    path: &str,
+    files: &mut F,
+    room: &mut [u8],
+    links: &mut Links,
+    input: &mut S,
+    out: &mut O,
+    err: &mut E,
+) -> Result<(), Stop>
+    requires { length room.old ≡ 1048576 }
+    ensures all { OnOk result (ReadsAll (S.tells input.old) (S.tells input.new)) }
+    ensures written { IfErr result (λ s. s ≡ stop.WriteFailed → O.has_failed out.new ≡ true) }
+    ensures reported { IfErr result (λ s. s ≡ stop.ErrorFailed → E.has_failed err.new ≡ true) }
+{
+    let mut reads = MOST_READS;
+    for _ in 0..MOST_READS {
+        let found = match next_record(input, room, &mut reads) {
+            Ok(found) => found,
+            Err(Stop::BadRecord) => return Err(Stop::BadRecord),
+            Err(_) => return Err(Stop::ReadFailed),
+        };
+        let Some(header) = found else {
+            return links.end_all(alloc, err);
+        };
+        take_record(alloc, path, files, header, room, links, out, err)?;
+    }
+    Err(Stop::ReadFailed)
+}
+
+/// Takes one record, whose octets are the first ones in the room.
+fn take_record<F: Files, O: Sink, E: Sink>(
+    alloc: Global,
+    path: &str,
+    files: &mut F,
+    header: Header,
+    room: &[u8],
+    links: &mut Links,
+    out: &mut O,
+    err: &mut E,
+) -> Result<(), Stop>
+    requires good { IsGood header }
+    requires room { length room.now ≡ 1048576 }
+    ensures written { IfErr result (λ s. s ≡ stop.WriteFailed → O.has_failed out.new ≡ true) }
+    ensures reported { IfErr result (λ s. s ≡ stop.ErrorFailed → E.has_failed err.new ≡ true) }
+{
+    match header {
+        Header::Piece(link, size) => links.piece(alloc, link, &room[..size], out, err),
+        Header::End(link) => links.end(alloc, link, err),
+        Header::Reload => links.reload(alloc, path, files, err),
+    }
+}

@@ -1,0 +1,171 @@
+//! What goes out of a link, and what is said of it.
+ghost use Rattle.std.specs.Prelude.{◌≡◌, ◌++◌, ◌<◌, ◌≤◌, ◌≢◌, ℕ, List, true, codes, decimal, length, slice_index, OnOk, OnErr};
+ghost use Rattle.std.specs.Io.KnownBytes.{Appends};
+ghost use Rattle.guard_frames.specs.Prefix.{IsProperPrefix};
+ghost use Rattle.derguard_program.specs.Records.{header, record_octets};
+ghost use Rattle.derguard_program.specs.Records.Record.{piece};
+ghost use Rattle.derguard_program.specs.Passing.{InRecords, marked, marked_line, fault_text, link_mark};
+
+use crate::records::LONGEST;
+use guard_frames::{Failed, LinkFault, Sink, put_all};
+use itoa::Buffer;
+
+/// Puts the octets in records of this link, each but the last of the most octets that one may have.
+pub fn put_pieces<O: Sink>(out: &mut O, link: u16, octets: &[u8]) -> Result<(), Failed>
+    ensures all { OnOk result ((written : List ℕ) × InRecords link octets.now written
+        × Appends (O.taken out.old) (O.taken out.new) written) }
+    ensures part { OnErr result ((written : List ℕ) × (part : List ℕ) × InRecords link octets.now written
+        × IsProperPrefix part written × Appends (O.taken out.old) (O.taken out.new) part) }
+    ensures failed { OnErr result (O.has_failed out.new ≡ true) }
+{
+    let mut rest = octets;
+    while rest.len() > LONGEST {
+        let (first, others) = full_part(rest);
+        put_piece(out, link, first)?;
+        rest = others;
+    }
+    if !rest.is_empty() {
+        put_piece(out, link, rest)?;
+    }
+    Ok(())
+}
+
+/// The octets of a full record, and those after them.
+fn full_part(octets: &[u8]) -> (&[u8], &[u8])
+    requires { 1048576 < length octets.now }
+    ensures whole { result.0.now ++ result.1.now ≡ octets.now }
+    ensures full { length result.0.now ≡ 1048576 }
+    ensures some { 0 < length result.1.now }
+    ensures shorter { length result.1.now < length octets.now }
+{
+    octets.split_at(LONGEST)
+}
+
+/// Puts the octets in one record of this link.
+fn put_piece<O: Sink>(out: &mut O, link: u16, octets: &[u8]) -> Result<(), Failed>
+    requires { length octets.now ≤ 1048576 }
+    ensures all { OnOk result (Appends (O.taken out.old) (O.taken out.new) (record_octets (piece link octets.now))) }
+    ensures part { OnErr result ((part : List ℕ) × IsProperPrefix part (record_octets (piece link octets.now))
+        × Appends (O.taken out.old) (O.taken out.new) part) }
+    ensures failed { OnErr result (O.has_failed out.new ≡ true) }
+{
+    put_both(out, &piece_header(link, octets.len() as u32), octets)
+}
+
+fn piece_header(link: u16, size: u32) -> [u8; 7]
+    ensures { result ≡ header 0 link size }
+{
+    let [above, link] = link.to_be_bytes();
+    let [n0, n1, n2, n3] = size.to_be_bytes();
+    [0, above, link, n0, n1, n2, n3]
+}
+
+/// Puts the lines of a text, each after the number of its link. A last line that was cut short is ended.
+pub fn put_lines<E: Sink>(err: &mut E, link: u16, text: &[u8]) -> Result<(), Failed>
+    ensures all { OnOk result (Appends (E.taken err.old) (E.taken err.new) (marked link text.now)) }
+    ensures part { OnErr result ((part : List ℕ) × IsProperPrefix part (marked link text.now)
+        × Appends (E.taken err.old) (E.taken err.new) part) }
+    ensures failed { OnErr result (E.has_failed err.new ≡ true) }
+{
+    let mut rest = text;
+    while !rest.is_empty() {
+        let (line, others) = first_line(rest);
+        put_line(err, link, line)?;
+        rest = others;
+    }
+    Ok(())
+}
+
+/// The octets before the first line feed, and those after it.
+fn first_line(text: &[u8]) -> (&[u8], &[u8])
+    requires { 0 < length text.now }
+    ensures shorter { length result.1.now < length text.now }
+    ensures marked { (link : ℕ) → marked link text.now ≡ marked_line link result.0.now ++ marked link result.1.now }
+{
+    let end = line_end(text);
+    if end < text.len() {
+        (&text[..end], &text[end + 1..])
+    } else {
+        (text, &[])
+    }
+}
+
+/// Where the first line feed is, or where the text ends.
+fn line_end(text: &[u8]) -> usize
+    ensures within { result ≤ length text.now }
+    ensures before { (k : ℕ) → k < result → slice_index text.now k ≢ 10 }
+    ensures there { result < length text.now → slice_index text.now result ≡ 10 }
+{
+    for (place, octet) in text.iter().enumerate() {
+        if *octet == b'\n' {
+            return place;
+        }
+    }
+    text.len()
+}
+
+/// Puts the line of a link's fault.
+pub fn put_fault<E: Sink>(err: &mut E, link: u16, fault: LinkFault) -> Result<(), Failed>
+    ensures all { OnOk result (Appends (E.taken err.old) (E.taken err.new) (marked_line link (fault_text fault))) }
+    ensures part { OnErr result ((part : List ℕ) × IsProperPrefix part (marked_line link (fault_text fault))
+        × Appends (E.taken err.old) (E.taken err.new) part) }
+    ensures failed { OnErr result (E.has_failed err.new ≡ true) }
+{
+    put_line(err, link, text_of(fault))
+}
+
+fn text_of(fault: LinkFault) -> &'static [u8]
+    ensures { result.now ≡ fault_text fault }
+{
+    match fault {
+        LinkFault::FrameTooLong => b"F1 FrameTooLong",
+        LinkFault::WriteFailed => b"F2 WriteFailed",
+        LinkFault::Closed => b"F3 Closed",
+        LinkFault::TornFrame => b"F4 TornFrame",
+    }
+}
+
+/// Puts a line, after the number of its link.
+fn put_line<E: Sink>(err: &mut E, link: u16, line: &[u8]) -> Result<(), Failed>
+    ensures all { OnOk result (Appends (E.taken err.old) (E.taken err.new) (marked_line link line.now)) }
+    ensures part { OnErr result ((part : List ℕ) × IsProperPrefix part (marked_line link line.now)
+        × Appends (E.taken err.old) (E.taken err.new) part) }
+    ensures failed { OnErr result (E.has_failed err.new ≡ true) }
+{
+    put_mark(err, link)?;
+    put_both(err, line, b"\n")?;
+    Ok(())
+}
+
+fn put_mark<E: Sink>(err: &mut E, link: u16) -> Result<(), Failed>
+    ensures all { OnOk result (Appends (E.taken err.old) (E.taken err.new) (link_mark link)) }
+    ensures part { OnErr result ((part : List ℕ) × IsProperPrefix part (link_mark link)
+        × Appends (E.taken err.old) (E.taken err.new) part) }
+    ensures failed { OnErr result (E.has_failed err.new ≡ true) }
+{
+    put_all(err, b"link ")?;
+    put_number(err, link)?;
+    Ok(())
+}
+
+fn put_number<E: Sink>(err: &mut E, link: u16) -> Result<(), Failed>
+    ensures all { OnOk result (Appends (E.taken err.old) (E.taken err.new) (decimal link ++ codes " ")) }
+    ensures part { OnErr result ((part : List ℕ) × IsProperPrefix part (decimal link ++ codes " ")
+        × Appends (E.taken err.old) (E.taken err.new) part) }
+    ensures failed { OnErr result (E.has_failed err.new ≡ true) }
+{
+    let mut buffer = Buffer::new();
+    put_both(err, buffer.format(link).as_bytes(), b" ")
+}
+
+/// Puts the first octets and then the second.
+fn put_both<S: Sink>(sink: &mut S, first: &[u8], second: &[u8]) -> Result<(), Failed>
+    ensures all { OnOk result (Appends (S.taken sink.old) (S.taken sink.new) (first.now ++ second.now)) }
+    ensures part { OnErr result ((part : List ℕ) × IsProperPrefix part (first.now ++ second.now)
+        × Appends (S.taken sink.old) (S.taken sink.new) part) }
+    ensures failed { OnErr result (S.has_failed sink.new ≡ true) }
+{
+    put_all(sink, first)?;
+    put_all(sink, second)?;
+    Ok(())
+}

@@ -1,0 +1,14 @@
+//! Why links aren't guarded to their ends.
+
+/// Why links aren't guarded to their ends.
+#[derive(Clone, Copy, Debug, PartialEq, Eq)]
+pub enum Stop {
+    /// What comes in is no record, or is cut short by the end.
+    BadRecord,
+    /// Standard input failed, or was asked too often.
+    ReadFailed,
+    /// Standard output failed.
+    WriteFailed,
+    /// Standard error failed.
+    ErrorFailed,
+}

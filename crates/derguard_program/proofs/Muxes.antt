@@ -15,7 +15,7 @@ use Rattle.derguard_program.specs.declared.stop.Stop.{Stop}
 use Rattle.derguard_program.specs.declared.stop.Stop.TheVariants.{BadRecord, ReadFailed, WriteFailed, ErrorFailed}
 use Rattle.derguard_program.specs.Devices.{Device, device}
 use Rattle.derguard_program.specs.Faults.{fault_status}
-use Rattle.derguard_program.specs.Headers.{record_of, IsGood}
+use Rattle.derguard_program.specs.inside.Headers.{record_of, IsGood}
 use Rattle.derguard_program.specs.Muxing.{ReadsAll, IsOutputFault}
 use Rattle.derguard_program.specs.Records.{Record, record_octets, IsAllowed}
 use Rattle.derguard_program.specs.Writing.{Tells}

@@ -13,7 +13,7 @@ use Rattle.derguard_program.specs.declared.fault.Fault.TheVariants.{BadHex, Cann
 use Rattle.derguard_program.specs.Faults.{StandsForPolicy, of_texts}
 use Rattle.derguard_program.specs.Files.{Told, after_read, HasText}
 use Rattle.derguard_program.specs.Reading.{folder, AreTexts, SayNothing, IsNoPolicyAt}
-use Rattle.derguard_program.specs.Texts.{CannotBeRead, CannotAllBeRead}
+use Rattle.derguard_program.specs.inside.Texts.{CannotBeRead, CannotAllBeRead}
 
 module _ (told : Told) (path : List ℕ) where
   -- the policy's file

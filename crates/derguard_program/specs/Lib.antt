@@ -13,10 +13,8 @@ pub mod Devices
 pub mod Writing
 -- ---- many links
 pub mod Records
-pub mod Headers
-pub mod Passing
 pub mod Muxing
 -- ---- what it is to meet a request
 pub mod Meeting
--- ---- what the parts of the code do
-pub mod Texts
+-- ---- what only private contracts and proofs cite
+pub mod inside

@@ -2,7 +2,7 @@
 ghost use Rattle.std.specs.Prelude.{◌≡◌, true, length, OnOk, IfErr};
 ghost use Rattle.derguard_program.specs.Devices.{input_of, device};
 ghost use Rattle.derguard_program.specs.Muxing.{GuardsLinks, ReadsAll, TellsStop};
-ghost use Rattle.derguard_program.specs.Headers.{IsGood};
+ghost use Rattle.derguard_program.specs.inside.Headers.{IsGood};
 ghost use Rattle.derguard_program.specs.declared.stop.Stop.TheVariants as stop;
 
 use crate::checking::load;

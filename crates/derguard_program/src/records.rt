@@ -2,7 +2,7 @@
 ghost use Rattle.std.specs.Prelude.{◌≡◌, ◌<◌, ◌≤◌, ◌⊎◌, ◌-◌, ℕ, List, [], true, length, take, drop, IfOk, IfErr, IfSome, OnErr, None};
 ghost use Rattle.std.specs.Io.KnownBytes.{Consumes, IsAtEnd};
 ghost use Rattle.derguard_program.specs.Records.{record_octets, IsBadHeader};
-ghost use Rattle.derguard_program.specs.Headers.{record_of, header_octets, IsGood};
+ghost use Rattle.derguard_program.specs.inside.Headers.{record_of, header_octets, IsGood};
 ghost use Rattle.derguard_program.specs.declared.stop.Stop.TheVariants as stop;
 
 use crate::stop::Stop;

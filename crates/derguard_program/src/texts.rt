@@ -2,7 +2,7 @@
 ghost use Rattle.std.specs.Prelude.{◌≡◌, ◌++◌, map, string_bytes, IfOk, IfErr};
 ghost use Rattle.derguard_program.specs.Files.{HasText, after_read};
 ghost use Rattle.derguard_program.specs.Reading.{folder, HaveTexts, AreTexts, IsNoPolicyAt};
-ghost use Rattle.derguard_program.specs.Texts.{CannotBeRead, CannotAllBeRead};
+ghost use Rattle.derguard_program.specs.inside.Texts.{CannotBeRead, CannotAllBeRead};
 
 use crate::fault::Fault;
 use crate::files::{Files, FilesFault};

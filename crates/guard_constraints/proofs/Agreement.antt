@@ -13,7 +13,7 @@ use Rattle.guard_constraints.specs.declared.fault.ConsFault.{ConsFault}
 use Rattle.guard_constraints.specs.declared.fault.ConsFault.TheVariants.{Value}
 use Rattle.guard_constraints.specs.Faults.{unless}
 use Rattle.guard_constraints.specs.FirstFault.{Check, element_has, value_under, HasFault, IsOfFirst}
-use Rattle.guard_constraints.specs.Reading.{Read, demanded, unless_fault}
+use Rattle.guard_constraints.specs.inside.Reading.{Read, demanded, unless_fault}
 
 -- no check fails
 abbrev pub Pass : Meaning → List Check → Type 0

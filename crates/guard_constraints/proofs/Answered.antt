@@ -11,7 +11,7 @@ use Rattle.guard_constraints.specs.declared.fault.ConsFault.{ConsFault}
 use Rattle.guard_constraints.specs.Visible.{Visible}
 use Rattle.guard_constraints.specs.Denotes.{Denotes}
 use Rattle.guard_constraints.specs.FirstFault.{IsFirstConstraintFault, checks}
-use Rattle.guard_constraints.specs.Reading.{Read, read}
+use Rattle.guard_constraints.specs.inside.Reading.{Read, read}
 use Rattle.guard_constraints.specs.Views.{named}
 use Rattle.guard_constraints.proofs.Agreement.{Agrees, read_denoted, read_fault, passed_none}
 use Rattle.guard_constraints.proofs.Trees.{agrees}

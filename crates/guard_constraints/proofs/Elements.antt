@@ -20,7 +20,7 @@ use Rattle.guard_constraints.specs.RangeEnds.{has_proper_ends, value_of_end, lim
 use Rattle.guard_constraints.specs.Denotes.{ValueDenotes, ContainedDenotes, RangeDenotes}
 use Rattle.guard_constraints.specs.Faults.{unless}
 use Rattle.guard_constraints.specs.FirstFault.{element_has, value_under, end_checks}
-use Rattle.guard_constraints.specs.Reading.{Read, demanded, read_value, integer_in, read_end, read_limit, read_range, read_contained}
+use Rattle.guard_constraints.specs.inside.Reading.{Read, demanded, read_value, integer_in, read_end, read_limit, read_range, read_contained}
 use Rattle.guard_constraints.proofs.Agreement.{Agrees, then_agrees, made_agrees, passed_agrees, demanded_agrees, tested_agrees}
 
 -- ---- values

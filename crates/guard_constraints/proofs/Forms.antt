@@ -17,7 +17,7 @@ use Rattle.guard_syntax.specs.declared.tree.JoinedDifference.{JoinedDifference}
 use Rattle.guard_constraints.specs.declared.fault.ConsFault.TheVariants.{AlphabetForm}
 use Rattle.guard_constraints.specs.PermittedAlphabets.{AlphabetItem, character, one_alone, items_of, items_of_form, items_of_united, items_of_intersection, items_of_difference, joined_items, quoted_codes}
 use Rattle.guard_constraints.proofs.Shapes.{next_united, none_united_left}
-use Rattle.guard_constraints.specs.Reading.{Read, found, gathered}
+use Rattle.guard_constraints.specs.inside.Reading.{Read, found, gathered}
 use Rattle.guard_model.proofs.Results.{same_Ok}
 
 -- ---- two, one after the other

@@ -5,7 +5,7 @@ use Rattle.std.specs.Int.Signed.{lt_z, le_z}
 use Rattle.guard_constraints.specs.declared.ranges.Range.{Range}
 use Rattle.guard_constraints.specs.Numbers.{greatest}
 use Rattle.guard_constraints.specs.Ranges.{is_between, one_holds, begin_behind, are_apart}
-use Rattle.guard_constraints.specs.Computing.{before, gaps_from}
+use Rattle.guard_constraints.specs.inside.Computing.{before, gaps_from}
 use Rattle.guard_constraints.proofs.Lists.{holds_append, none_before, rest_apart, next_behind, is_held, one_before}
 
 pub before_has : (low : ℤ) (r : Range) (x : ℤ) → one_holds (before low r) x ≡ le_z low x && lt_z x r.low

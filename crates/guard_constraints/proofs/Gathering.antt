@@ -1,9 +1,9 @@
 -- A loop that pushes what it reads of each of several things, seen as the definitions see it.
 use Rattle.std.proofs.Common.{◌≡◌, ℕ, ◌+◌, ◌<◌, List, [], ◌∷◌, ◌++◌, length, get_or, map, drop, Ok, sym, ap, ◌∙◌, subst}
 use Rattle.std.proofs.lemmas.List.{map_push}
-use Rattle.guard_model.specs.Each.{each}
+use Rattle.guard_model.specs.inside.Each.{each}
 use Rattle.guard_model.proofs.Loops.{with_front, goes_on}
-use Rattle.guard_constraints.specs.Reading.{Read}
+use Rattle.guard_constraints.specs.inside.Reading.{Read}
 
 module _ {X A V B : Type 0} (step : A → Read B) (view : X → A) (seen : V → B) (before : List V) (xs : List X) (i : ℕ) (total : Read (List B))
     (so_far : with_front (map seen before) (each step (map view (drop i xs))) ≡ total) where

@@ -17,7 +17,7 @@ use Rattle.guard_constraints.specs.PartFaults.{part_fault}
 use Rattle.guard_constraints.specs.Denotes.{AlphabetDenotes, SizeDenotes, EachDenotes, PartsDenote}
 use Rattle.guard_constraints.specs.Faults.{unless, characters_fault, items_fault, named_bits_fault}
 use Rattle.guard_constraints.specs.FirstFault.{Check, element_has, checks_on}
-use Rattle.guard_constraints.specs.Reading.{Read, found, unless_fault, read_alphabet, sized, read_size, read_each, read_listed}
+use Rattle.guard_constraints.specs.inside.Reading.{Read, found, unless_fault, read_alphabet, sized, read_size, read_each, read_listed}
 use Rattle.guard_constraints.proofs.Agreement.{Agrees, free_agrees, then_agrees, made_agrees, made_unless, demanded_agrees, typed_agrees, checked_agrees}
 
 no_bad : (there : Option Site) → option_map characters_fault there ≡ None → there ≡ None

@@ -7,7 +7,7 @@ use Rattle.guard_model.specs.declared.site.Site.{Site}
 use Rattle.guard_model.specs.AbstractType as type
 use Rattle.guard_model.specs.AbstractType.{AbstractType, AbstractKind, Constraint, Constraints, Element, Parts, at}
 use Rattle.guard_model.specs.Answer.{◌>>=◌, Refuses}
-use Rattle.guard_model.specs.Each.{each}
+use Rattle.guard_model.specs.inside.Each.{each}
 use Rattle.guard_model.specs.TypeView.{OnePart, constraints_of, parts_of}
 use Rattle.guard_model.proofs.Results.{same_Ok, refuses_bind}
 use Rattle.guard_syntax.specs.Trees as written
@@ -23,7 +23,7 @@ use Rattle.guard_syntax.specs.SetViews.{part_view, joined_intersection_view, joi
 use Rattle.guard_syntax.specs.declared.tree.JoinedIntersection.{JoinedIntersection}
 use Rattle.guard_syntax.specs.declared.tree.JoinedDifference.{JoinedDifference}
 use Rattle.guard_syntax.specs.declared.tree.ComponentConsTree.{ComponentConsTree}
-use Rattle.guard_constraints.specs.Reading.{Read, found, behind, checked, read_union, read_meeting, joined_intersections, joined_differences, read, read_set_form, read_united, read_met, read_intersection, read_difference, read_element_form, read_parts, one_part, read_part, read_within}
+use Rattle.guard_constraints.specs.inside.Reading.{Read, found, behind, checked, read_union, read_meeting, joined_intersections, joined_differences, read, read_set_form, read_united, read_met, read_intersection, read_difference, read_element_form, read_parts, one_part, read_part, read_within}
 
 -- ---- the list of what is read, and what the definitions make of it
 

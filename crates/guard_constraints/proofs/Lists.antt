@@ -4,7 +4,7 @@ use Rattle.std.proofs.lemmas.Int.{ints}
 use Rattle.std.specs.Int.Signed.{le_z}
 use Rattle.guard_constraints.specs.declared.ranges.Range.{Range}
 use Rattle.guard_constraints.specs.Ranges.{is_between, one_holds, begin_behind, are_apart}
-use Rattle.guard_constraints.specs.Computing.{range_of}
+use Rattle.guard_constraints.specs.inside.Computing.{range_of}
 
 pub holds_append : (rs ss : List Range) (x : ℤ) → one_holds (rs ++ ss) x ≡ one_holds rs x || one_holds ss x
 holds_append [] ss x = refl

@@ -9,7 +9,7 @@ use Rattle.guard_constraints.specs.declared.fault.ConsFault.{ConsFault}
 use Rattle.guard_constraints.specs.Visible.{Visible}
 use Rattle.guard_constraints.specs.Denotes.{Denotes}
 use Rattle.guard_constraints.specs.FirstFault.{IsFirstConstraintFault, checks}
-use Rattle.guard_constraints.specs.Reading.{read}
+use Rattle.guard_constraints.specs.inside.Reading.{read}
 use Rattle.guard_constraints.proofs.Agreement.{read_denoted, passed_none, one_of_first}
 use Rattle.guard_constraints.proofs.Elements.{ValuesAgree}
 use Rattle.guard_constraints.proofs.Trees.{agrees}

@@ -7,7 +7,7 @@ use Rattle.std.specs.Int.{int_max, int_min}
 use Rattle.std.specs.Int.Signed.{lt_z, le_z}
 use Rattle.guard_constraints.specs.declared.ranges.Range.{Range}
 use Rattle.guard_constraints.specs.Ranges.{is_between, one_holds, begin_behind, are_apart}
-use Rattle.guard_constraints.specs.Computing.{range_of, meeting, overlap, sweep, common_of}
+use Rattle.guard_constraints.specs.inside.Computing.{range_of, meeting, overlap, sweep, common_of}
 use Rattle.guard_constraints.proofs.Lists.{holds_append, none_before, rest_apart, next_behind, rest_behind, one_before}
 
 pub meeting_has : (low high x : ℤ) → one_holds (meeting low high) x ≡ is_between low high x

@@ -11,10 +11,10 @@ use Rattle.guard_values.specs.declared.fault.ValueFault.TheVariants as value_fau
 use Rattle.guard_values.specs.Denotes.{Denotes}
 use Rattle.guard_values.specs.FirstFault.{IsFirstFault}
 use Rattle.guard_values.specs.Meanings.{Meaning}
-use Rattle.guard_values.specs.Reading.{read_whole}
+use Rattle.guard_values.specs.inside.Reading.{read_whole}
 use Rattle.guard_values.specs.Views as values
 use Rattle.guard_values.proofs.Exact.{gives_read}
-use Rattle.guard_constraints.specs.Reading.{of_value, read_value}
+use Rattle.guard_constraints.specs.inside.Reading.{of_value, read_value}
 use Rattle.guard_constraints.specs.Views.{named, fault_with}
 
 value_refused : {A : Type 0} (e : ValueFault) (r : Result A ValueFault) → Refuses (values.named e) r → Refuses (named (fault_with e)) (of_value r)

@@ -23,7 +23,7 @@ use Rattle.guard_constraints.specs.ListedParts.{PartHead, heads, word_of, named_
 use Rattle.guard_constraints.specs.PartFaults.{part_fault}
 use Rattle.guard_constraints.specs.Faults.{characters_fault}
 use Rattle.guard_constraints.specs.Denotes.{RangeDenotes, Denotes, SetDenotes, SetFormDenotes, UnitedDenote, IntersectionDenotes, MetDenote, DifferenceDenotes, ElementDenotes, FormDenotes, ListedDenote, joined}
-use Rattle.guard_constraints.specs.Reading.{Read, demanded, unless_fault, found, read_value, integer_in, read_end, read_limit, read_range, size_type, sized, checked, read, read_set, read_set_form, read_united, read_intersection, read_met, read_difference, read_element, read_element_form, read_parts}
+use Rattle.guard_constraints.specs.inside.Reading.{Read, demanded, unless_fault, found, read_value, integer_in, read_end, read_limit, read_range, size_type, sized, checked, read, read_set, read_set_form, read_united, read_intersection, read_met, read_difference, read_element, read_element_form, read_parts}
 
 -- What is denoted by a written value is read of it: guard_values proves it of its reading.
 abbrev pub ValuesSaid : Meaning → Type 0

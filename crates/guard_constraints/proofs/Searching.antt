@@ -7,7 +7,7 @@ use Rattle.std.specs.List.Sorted.{IsPartitionedBy}
 use Rattle.guard_constraints.specs.declared.ranges.Range.{Range}
 use Rattle.std.specs.Int.{w128}
 use Rattle.std.specs.Int.RustNames.{FitsSigned}
-use Rattle.guard_constraints.specs.Computing.{range_of}
+use Rattle.guard_constraints.specs.inside.Computing.{range_of}
 use Rattle.guard_constraints.proofs.Overlaps.{and_none}
 use Rattle.guard_constraints.specs.Numbers.{is_number}
 use Rattle.guard_constraints.specs.Ranges.{is_between, one_holds, begin_behind, are_apart}

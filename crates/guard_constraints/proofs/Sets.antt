@@ -4,7 +4,7 @@ use Rattle.std.specs.Int.Signed.{le_z}
 use Rattle.guard_constraints.specs.declared.ranges.Range.{Range}
 use Rattle.guard_constraints.specs.Numbers.{least, greatest, is_number}
 use Rattle.guard_constraints.specs.Ranges.{one_holds, are_apart}
-use Rattle.guard_constraints.specs.Computing.{gaps_from, common_of}
+use Rattle.guard_constraints.specs.inside.Computing.{gaps_from, common_of}
 use Rattle.guard_constraints.proofs.Gaps.{gaps_have}
 use Rattle.guard_constraints.proofs.Overlaps.{common_has}
 

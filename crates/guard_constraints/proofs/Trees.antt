@@ -18,7 +18,7 @@ use Rattle.guard_constraints.specs.PartFaults.{word_fault, repeated_fault, prese
 use Rattle.guard_constraints.specs.Denotes.{ValueDenotes, Denotes, SetDenotes, SetFormDenotes, UnitedDenote, IntersectionDenotes, MetDenote, DifferenceDenotes, ElementDenotes, FormDenotes, ListedDenote, joined}
 use Rattle.guard_constraints.specs.Faults.{own_fault}
 use Rattle.guard_constraints.specs.FirstFault.{Check, element_has, value_under, checks, set_checks, set_form_checks, united_checks, intersection_checks, met_checks, difference_checks, element_checks, checks_inside, part_checks, checks_on, type_there}
-use Rattle.guard_constraints.specs.Reading.{Read, found, read_value, read, read_set, read_set_form, read_united, read_intersection, read_met, read_difference, read_element, read_element_form, read_parts}
+use Rattle.guard_constraints.specs.inside.Reading.{Read, found, read_value, read, read_set, read_set_form, read_united, read_intersection, read_met, read_difference, read_element, read_element_form, read_parts}
 use Rattle.guard_constraints.proofs.Agreement.{Agrees, free_agrees, then_agrees, made_agrees}
 use Rattle.guard_constraints.proofs.Elements.{ValuesAgree, value_agrees, contained_agrees, range_agrees}
 use Rattle.guard_constraints.proofs.Inner.{alphabet_agrees, size_agrees, each_agrees, listed_agrees}

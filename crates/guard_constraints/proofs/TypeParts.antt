@@ -17,7 +17,7 @@ use Rattle.guard_der.specs.Sound.{is_sound}
 use Rattle.guard_constraints.specs.declared.fault.ConsFault.TheVariants.{NotApplicable, UnknownComponent}
 use Rattle.guard_constraints.specs.ListedParts.{PartHead, component_named, named_in}
 use Rattle.guard_constraints.specs.PartFaults.{part_fault}
-use Rattle.guard_constraints.specs.Reading.{size_type, element_type, checked, unless_fault, located}
+use Rattle.guard_constraints.specs.inside.Reading.{size_type, element_type, checked, unless_fault, located}
 use Rattle.guard_constraints.specs.Views.{placed_view}
 use Rattle.guard_constraints.proofs.SoundParts.{element_sound, component_sound, few_components}
 

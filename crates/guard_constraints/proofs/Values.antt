@@ -17,7 +17,7 @@ use Rattle.guard_values.specs.declared.fault.ValueFault.{ValueFault}
 use Rattle.guard_values.specs.declared.scope.Known.{Known}
 use Rattle.guard_values.specs.Meanings.{Meaning, AreFitting}
 use Rattle.guard_values.specs.Denotes as values
-use Rattle.guard_values.specs.Reading.{read_whole}
+use Rattle.guard_values.specs.inside.Reading.{read_whole}
 use Rattle.guard_values.specs.Views.{visible_from, known_definition, home_name, AreKnownFitting}
 use Rattle.guard_values.proofs.Again.{says_read}
 use Rattle.guard_values.proofs.Exact.{first_excludes}
@@ -25,7 +25,7 @@ use Rattle.guard_values.proofs.Standing.{whole_denotes, whole_first}
 use Rattle.guard_values.proofs.FitsSaid.{says_fits}
 use Rattle.guard_values.specs.FirstFault.{IsFirstFault}
 use Rattle.guard_constraints.specs.FirstFault.{value_under}
-use Rattle.guard_constraints.specs.Reading.{of_value}
+use Rattle.guard_constraints.specs.inside.Reading.{of_value}
 use Rattle.guard_constraints.specs.Views.{types_from, placed_type, AreKnownSound}
 use Rattle.guard_constraints.proofs.Agreement.{Agrees}
 use Rattle.guard_constraints.proofs.Elements.{DenotesFitting, ValuesAgree}

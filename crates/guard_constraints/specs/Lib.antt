@@ -15,8 +15,7 @@ pub mod Faults
 pub mod FirstFault
 -- ---- what the code's results and arguments stand for
 pub mod Views
--- ---- what private contracts alone cite
-pub mod Computing
-pub mod Reading
+-- ---- what only private contracts and proofs cite
+pub mod inside
 -- ---- worked examples
-pub mod Rows
+pub mod rows

@@ -8,7 +8,7 @@ ghost use Rattle.guard_syntax.specs.Trees.{united_of};
 ghost use Rattle.guard_syntax.specs.Views as trees;
 ghost use Rattle.guard_syntax.specs.SetViews as sets;
 ghost use Rattle.guard_constraints.specs.PermittedAlphabets as alphabets;
-ghost use Rattle.guard_constraints.specs.Reading.{gathered, read_alphabet};
+ghost use Rattle.guard_constraints.specs.inside.Reading.{gathered, read_alphabet};
 ghost use Rattle.guard_constraints.specs.Views.{named, code_view, item_view};
 
 use crate::fault::ConsFault;

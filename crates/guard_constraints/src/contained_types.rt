@@ -2,7 +2,7 @@
 ghost use Rattle.std.specs.Prelude.{◌≡◌, option_map};
 ghost use Rattle.guard_model.specs.Answer.{Gives};
 ghost use Rattle.guard_model.specs.TypeView.{type_view, constraint_view};
-ghost use Rattle.guard_constraints.specs.Reading.{read_contained};
+ghost use Rattle.guard_constraints.specs.inside.Reading.{read_contained};
 ghost use Rattle.guard_constraints.specs.Views.{named, visible_in};
 
 use crate::context::{Context, visible_type};

@@ -3,7 +3,7 @@ ghost use Rattle.std.specs.Prelude.{◌≡◌, IsTrue, IfOk};
 ghost use Rattle.guard_der.specs.Sound.{is_sound};
 ghost use Rattle.guard_model.specs.Answer.{Gives};
 ghost use Rattle.guard_model.specs.TypeView.{type_view};
-ghost use Rattle.guard_constraints.specs.Reading as reading;
+ghost use Rattle.guard_constraints.specs.inside.Reading as reading;
 ghost use Rattle.guard_constraints.specs.Views.{named};
 
 use crate::fault::ConsFault;

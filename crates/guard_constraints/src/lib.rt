@@ -12,7 +12,7 @@
 //! | what may stand inside FROM | `alphabets.rt`, `specs/PermittedAlphabets.antt` |
 //! | what may WITH COMPONENTS list | `listed_parts.rt`, `specs/ListedParts.antt` |
 //! | what do names stand for | `context.rt`, `specs/Visible.antt`; contained types: `contained_types.rt` |
-//! | what does the code compute, step by step | `specs/Reading.antt` |
+//! | what does the code compute, step by step | `specs/inside/Reading.antt` |
 //! | which integers does a set hold | `int_set.rt`, `specs/IntSets.antt`; lists of ranges, their gaps and their common parts: `ranges.rt` |
 #![tactic(auto)]
 

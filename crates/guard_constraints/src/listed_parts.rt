@@ -7,7 +7,7 @@ ghost use Rattle.guard_model.specs.Kinds.{kind_of};
 ghost use Rattle.guard_der.specs.Sound.{is_sound};
 ghost use Rattle.guard_constraints.specs.ListedParts as listing;
 ghost use Rattle.guard_constraints.specs.PartFaults.{part_fault};
-ghost use Rattle.guard_constraints.specs.Reading as reading;
+ghost use Rattle.guard_constraints.specs.inside.Reading as reading;
 ghost use Rattle.guard_constraints.specs.Views.{named, head_view, placed_view, located_view};
 
 use crate::fault::ConsFault;

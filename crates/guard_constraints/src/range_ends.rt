@@ -8,7 +8,7 @@ ghost use Rattle.guard_syntax.specs.Views as trees;
 ghost use Rattle.guard_syntax.specs.SetViews.{end_view, end_or_view, range_view};
 ghost use Rattle.guard_values.specs.Views.{visible_from, AreKnownFitting};
 ghost use Rattle.guard_constraints.specs.RangeEnds as ends;
-ghost use Rattle.guard_constraints.specs.Reading.{read_range, read_limit, read_end, integer_in};
+ghost use Rattle.guard_constraints.specs.inside.Reading.{read_range, read_limit, read_end, integer_in};
 ghost use Rattle.guard_constraints.specs.Views.{named};
 
 use crate::context::Context;

@@ -2,7 +2,7 @@
 ghost use Rattle.std.specs.Prelude.{◌≡◌, ℤ, ◌+ℤ◌, ◌-ℤ◌, ◌≤ℤ◌, ◌<ℤ◌, pos, ◌++◌, IfOk, IsTrue, not, if◌then◌else◌};
 ghost use Rattle.std.specs.Int.Signed.{lt_z, le_z};
 ghost use Rattle.guard_constraints.specs.Numbers.{least, greatest};
-ghost use Rattle.guard_constraints.specs.Computing.{gaps_from, before, common_of, overlap, ends_first};
+ghost use Rattle.guard_constraints.specs.inside.Computing.{gaps_from, before, common_of, overlap, ends_first};
 
 use guard_model::OutOfMemory;
 use std::alloc::Global;

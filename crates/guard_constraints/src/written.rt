@@ -3,7 +3,7 @@ ghost use Rattle.std.specs.Prelude.{◌≡◌, map, IsTrue, IfOk, IfErr, IfSome,
 ghost use Rattle.guard_model.specs.Answer.{Gives};
 ghost use Rattle.guard_model.specs.AbstractType as abstract;
 ghost use Rattle.guard_model.specs.AbstractType.{Constraint};
-ghost use Rattle.guard_model.specs.Each.{each};
+ghost use Rattle.guard_model.specs.inside.Each.{each};
 ghost use Rattle.guard_model.specs.TypeView.{type_view, constraint_view, part_view, constraints_of, parts_of};
 ghost use Rattle.guard_der.specs.Sound.{is_sound, is_proper_constraint};
 ghost use Rattle.guard_syntax.specs.Trees as trees;
@@ -14,7 +14,7 @@ ghost use Rattle.guard_values.specs.Views.{AreKnownFitting};
 ghost use Rattle.guard_constraints.specs.Denotes.{Denotes};
 ghost use Rattle.guard_constraints.specs.declared.fault.ConsFault.{ConsFault};
 ghost use Rattle.guard_constraints.specs.FirstFault.{IsFirstConstraintFault};
-ghost use Rattle.guard_constraints.specs.Reading as reading;
+ghost use Rattle.guard_constraints.specs.inside.Reading as reading;
 ghost use Rattle.guard_constraints.specs.Views.{named, visible_at, visible_in, AreKnownSound};
 
 use crate::alphabets::alphabet;

@@ -6,7 +6,7 @@ ghost use Rattle.guard_model.specs.TypeView.{type_view};
 ghost use Rattle.guard_model.specs.ValueView.{value_view};
 ghost use Rattle.guard_syntax.specs.Views as trees;
 ghost use Rattle.guard_values.specs.Views.{visible_from, AreKnownFitting};
-ghost use Rattle.guard_constraints.specs.Reading.{read_value};
+ghost use Rattle.guard_constraints.specs.inside.Reading.{read_value};
 ghost use Rattle.guard_constraints.specs.Views.{named};
 
 use crate::context::Context;

@@ -1,15 +1,15 @@
 -- Lemmas, in reading order. What the checker asks for of a function stands in folders with the names of src/.
 
 -- ---- octets
-mod Numbers
-mod Headers
+pub mod Numbers
+pub mod Headers
 -- ---- reading, its encodings and its faults, from the inside out
-mod Elements
-mod Simple
-mod Components
-mod Sequences
-mod Sets
-mod Lists
+pub mod Elements
+pub mod Simple
+pub mod Components
+pub mod Sequences
+pub mod Sets
+pub mod Lists
 pub mod Types
 -- ---- the code
-mod Functions
+pub mod Functions

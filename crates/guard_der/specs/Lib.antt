@@ -18,12 +18,8 @@ pub mod Breach
 pub mod Names
 pub mod Views
 -- ---- what private functions compute, step by step
-pub mod Digits
-pub mod EncodingSteps
-pub mod SoundParts
 pub mod Reading
--- ---- worked examples, which the checker computes
-pub mod Rows
-pub mod BreachRows
-pub mod SetRows
-pub mod SoundRows
+-- ---- what only private contracts and proofs cite
+pub mod inside
+-- ---- worked examples
+pub mod rows

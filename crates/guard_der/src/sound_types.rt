@@ -12,7 +12,7 @@ ghost use Rattle.guard_der.specs.ProperConstraints.{may_stand_in, is_short, take
 ghost use Rattle.guard_model.specs.Kinds.{kind_of, type_of_size, element_of, has_parts, part_of};
 ghost use Rattle.guard_model.specs.Limits.{most_components, deepest_nesting};
 ghost use Rattle.guard_der.specs.Sound.{is_sound, is_proper, is_proper_kind, are_proper, is_proper_presence, are_proper_constraints, is_proper_constraint, are_proper_parts};
-ghost use Rattle.guard_der.specs.SoundParts.{is_proper_part, is_proper_within};
+ghost use Rattle.guard_der.specs.inside.SoundParts.{is_proper_part, is_proper_within};
 
 mod forms;
 

@@ -25,7 +25,7 @@ use Rattle.guard_model.specs.declared.ty.Word.{Word}
 use Rattle.guard_model.specs.Kinds.{kind_of}
 use Rattle.guard_eval.specs.Presence.{field_at, is_listed, is_there}
 use Rattle.guard_eval.specs.Violations.{AbstractViolation}
-use Rattle.guard_eval.specs.Failures.{failure, failure_from, failure_of_chosen, first_part_failure, part_failure, placing_failure}
+use Rattle.guard_eval.specs.inside.Failures.{failure, failure_from, failure_of_chosen, first_part_failure, part_failure, placing_failure}
 use Rattle.std.specs.Option.{option_or}
 use Rattle.std.specs.Prelude.{nat_eq, ◌||◌}
 use Rattle.std.proofs.lemmas.Option.{same_Some}

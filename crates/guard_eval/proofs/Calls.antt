@@ -9,7 +9,7 @@ use Rattle.guard_eval.specs.declared.violation.Violation.{Violation}
 use Rattle.guard_eval.specs.Member.{is_member, holds}
 use Rattle.guard_eval.specs.Violations.{violation_view, violation}
 use Rattle.guard_eval.proofs.Bases.{KeepsBase, ConstraintKeepsBase}
-use Rattle.guard_eval.specs.Failures.{failure, failure_by}
+use Rattle.guard_eval.specs.inside.Failures.{failure, failure_by}
 use Rattle.guard_eval.proofs.Law.{type_clear}
 use Rattle.guard_eval.proofs.PartFits.{fits_of}
 use Rattle.guard_eval.proofs.Walk.{seen_clear, tested, walked, by_walked}

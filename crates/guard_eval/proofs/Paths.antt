@@ -23,7 +23,7 @@ use Rattle.guard_model.specs.Kinds.{kind_of}
 use Rattle.guard_eval.specs.Presence.{element_kind, kind_at, kind_found, has_parts, part_at, is_there, is_placed, is_ruled_out, first_ruled_out, first_intruder}
 use Rattle.guard_eval.specs.Member.{holds}
 use Rattle.guard_eval.specs.Violations.{AbstractViolation, below, here, unless, first_among, blame_in_items, misplaced, blame_in_part, blame_intruder, violation, violation_inside, violation_from, violation_of_chosen, first_failing, blame, first_failing_part}
-use Rattle.guard_eval.specs.Failures.{near}
+use Rattle.guard_eval.specs.inside.Failures.{near}
 use Rattle.guard_eval.proofs.PartFits.{fits_at}
 use Rattle.guard_eval.proofs.Walk.{seen}
 

@@ -19,7 +19,7 @@ use Rattle.guard_eval.specs.Presence.{element_kind, kind_at, has_parts, part_at,
 use Rattle.guard_eval.specs.Member.{holds, some_hold}
 use Rattle.guard_eval.specs.Violations.{AbstractViolation, below, unless, first_among, blame_in_items, misplaced, blame_in_part, blame_intruder, violation, violation_inside, violation_from, violation_of_chosen, first_failing, blame, first_failing_part}
 use Rattle.guard_eval.proofs.Bases.{KeepsBase, PartsKeepBase, ComponentsKeepBase, AllKeepBase, ConstraintKeepsBase, ListedKeepBase}
-use Rattle.guard_eval.specs.Failures.{near, under, failure_among, failure_in_items, placing_failure, failure_in_part, intruder_failure, failure, failure_inside, failure_from, failure_of_chosen, first_failure, some_allows, failure_by, first_part_failure}
+use Rattle.guard_eval.specs.inside.Failures.{near, under, failure_among, failure_in_items, placing_failure, failure_in_part, intruder_failure, failure, failure_inside, failure_from, failure_of_chosen, first_failure, some_allows, failure_by, first_part_failure}
 use Rattle.guard_eval.proofs.Law.{constraint_clear, type_clear}
 use Rattle.guard_eval.proofs.SameFits.{same_fits}
 use Rattle.guard_eval.proofs.PartFits.{fits_at}

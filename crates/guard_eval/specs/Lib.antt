@@ -4,8 +4,7 @@ pub mod Presence
 pub mod Member
 -- ---- what is violated first
 pub mod Violations
--- ---- what the code computes
-pub mod Failures
--- ---- worked examples, which the checker computes
-pub mod Rows
-pub mod ConstraintRows
+-- ---- what only private contracts and proofs cite
+pub mod inside
+-- ---- worked examples
+pub mod rows

@@ -6,7 +6,7 @@
 //! | What does WITH COMPONENTS say of a part's presence? | `presence.rt` | `specs/Presence.antt` |
 //! | Which values does a constraint allow, and which are members of a type? | `members.rt` (`holds`, `member`) | `specs/Member.antt` |
 //! | Which constraint is failed first, and in which part? | `violation.rt` (`first_violation`) | `specs/Violations.antt` |
-//! | How are all of these found in one walk? | `search.rt` | `specs/Failures.antt` |
+//! | How are all of these found in one walk? | `search.rt` | `specs/inside/Failures.antt` |
 //! | What holds for every type and value? | `laws.rt` | `specs/Violations.antt` |
 #![tactic(auto)]
 

@@ -8,7 +8,7 @@ ghost use Rattle.guard_model.specs.ValueView.{value_view, fields_view, items_vie
 ghost use Rattle.guard_eval.specs.Elements.{has_size as is_sized};
 ghost use Rattle.guard_eval.specs.Presence.{element_kind, has_parts, first_intruder, part_at};
 ghost use Rattle.guard_eval.specs.Violations.{violation_view, unless};
-ghost use Rattle.guard_eval.specs.Failures.{under, failure, failure_inside, failure_from, failure_of_chosen, failure_among, first_failure, some_allows, failure_by, failure_in_items, first_part_failure, part_failure, failure_within, placing_failure, intruder_failure};
+ghost use Rattle.guard_eval.specs.inside.Failures.{under, failure, failure_inside, failure_from, failure_of_chosen, failure_among, first_failure, some_allows, failure_by, failure_in_items, first_part_failure, part_failure, failure_within, placing_failure, intruder_failure};
 
 use super::elements::{is_between, is_spelled_in, size_of};
 use super::presence::{

@@ -8,7 +8,7 @@ ghost use Rattle.guard_der.specs.Fits.{fits};
 ghost use Rattle.guard_der.specs.Sound.{is_sound};
 ghost use Rattle.guard_eval.specs.Member.{is_member};
 ghost use Rattle.guard_eval.specs.Violations.{violation_view, here, violation};
-ghost use Rattle.guard_eval.specs.Failures.{under};
+ghost use Rattle.guard_eval.specs.inside.Failures.{under};
 
 use super::search::failure;
 use guard_model::{DEEPEST_NESTING, Path, Site, Step, Ty, Value};

@@ -1,7 +1,6 @@
 -- ---- streams
 pub mod Frames
 pub mod Bodies
-pub mod Rows
 -- ---- what comes of frames
 pub mod Outcomes
 pub mod Totals
@@ -32,3 +31,5 @@ pub mod Texts
 pub mod RunsTexts
 -- ---- what no public contract reaches
 pub mod inside
+-- ---- worked examples
+pub mod rows

@@ -7,7 +7,7 @@ use Rattle.std.proofs.lemmas.Option.{same_Some, none-some, cond_some}
 use Rattle.guard_model.proofs.Tests.{chosen}
 use Rattle.guard_lexer.specs.Octets.{is_quote, is_apostrophe, is_line_end, is_of_bits, is_of_hexadecimal, begins}
 use Rattle.guard_lexer.specs.Items.{opens, closes, begins_comment, ends_comment, is_block_rest, is_string_rest, is_digits_rest}
-use Rattle.guard_lexer.specs.Reading.{behind_block_comment, behind_string, behind_digits}
+use Rattle.guard_lexer.specs.inside.Reading.{behind_block_comment, behind_string, behind_digits}
 
 -- The front of the octets that passes the test, with what is left behind it.
 abbrev pub Splits : (List ℕ → Bool) → List ℕ → List ℕ → Type 0

@@ -4,7 +4,7 @@ use Rattle.std.specs.List.{list_all, prefix_len}
 use Rattle.std.proofs.lemmas.Bool.{and_parts, and_from, or_cases, or_left, or_right, cases_Bool, false≢true, both_ways, cond-true, cond-false, cond_both, eqb-true, false_from_ne_true}
 use Rattle.guard_lexer.specs.Octets.{is_digit, is_letter_or_digit, is_hyphen, is_line_end, begins}
 use Rattle.guard_lexer.specs.Items.{is_of_word, are_of_word, is_line_comment_body}
-use Rattle.guard_lexer.specs.Reading.{word_len, comment_body_len}
+use Rattle.guard_lexer.specs.inside.Reading.{word_len, comment_body_len}
 
 -- ---- words
 

@@ -9,7 +9,7 @@ use Rattle.std.proofs.lemmas.Option.{same_Some, none-some}
 use Rattle.guard_lexer.specs.Octets.{is_letter, is_digit, is_hyphen, is_quote, is_apostrophe, is_slash, is_asterisk, is_of_bits, is_of_hexadecimal, is_white_space, begins}
 use Rattle.guard_lexer.specs.Items.{is_one_white_space, is_word, are_of_word, is_number, is_line_comment, is_line_comment_body, opens, is_block_rest, is_block_comment, is_string_rest, is_character_string, is_digits_rest, is_bit_string, is_hexadecimal_string, IsItem}
 use Rattle.guard_lexer.specs.Spelling.{mark_spelling}
-use Rattle.guard_lexer.specs.Reading.{word_len, number_len, comment_body_len, mark_at, behind_block_comment, behind_string, behind_bits, behind_hexadecimal, found_item, found_mark, found_before, found_digit_string, item_at, item_of}
+use Rattle.guard_lexer.specs.inside.Reading.{word_len, number_len, comment_body_len, mark_at, behind_block_comment, behind_string, behind_bits, behind_hexadecimal, found_item, found_mark, found_before, found_digit_string, item_at, item_of}
 use Rattle.guard_lexer.specs.Lexing.{Item, IsLongest, BeginsNone}
 use Rattle.guard_lexer.specs.declared.item.FoundItem.{FoundItem}
 use Rattle.guard_lexer.specs.declared.item.ItemKind.{ItemKind}

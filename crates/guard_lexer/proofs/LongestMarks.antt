@@ -8,7 +8,7 @@ use Rattle.std.proofs.lemmas.Option.{same_Some, none-some}
 use Rattle.std.proofs.lemmas.Slice.Eq.{bytes_eq-Decides}
 use Rattle.guard_model.proofs.Tests.{chosen}
 use Rattle.guard_lexer.specs.Spelling.{mark_spelling, marks}
-use Rattle.guard_lexer.specs.Reading.{stands_at, mark_at}
+use Rattle.guard_lexer.specs.inside.Reading.{stands_at, mark_at}
 use Rattle.guard_lexer.specs.declared.token.Mark.{Mark}
 use Rattle.guard_lexer.specs.declared.token.Mark.TheVariants as mark
 

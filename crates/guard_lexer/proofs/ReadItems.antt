@@ -9,7 +9,7 @@ use Rattle.guard_model.specs.declared.site.Site.{Site}
 use Rattle.guard_lexer.specs.Octets.{is_line_feed}
 use Rattle.guard_lexer.specs.Sites.{site_after, site_at}
 use Rattle.guard_lexer.specs.Lexing.{Item, OffsetFault, no_item_fault, item_fault, IsCut, kind_of, token_of, tokens_from, FaultAt}
-use Rattle.guard_lexer.specs.Reading.{item_at, item_of, IsFaultlessItem, IsFaultAt}
+use Rattle.guard_lexer.specs.inside.Reading.{item_at, item_of, IsFaultlessItem, IsFaultAt}
 use Rattle.guard_lexer.specs.declared.fault.LexFault.{LexFault}
 use Rattle.guard_lexer.specs.declared.item.FoundItem.{FoundItem}
 use Rattle.guard_lexer.specs.declared.token.Token.{Token}

@@ -6,7 +6,7 @@ use Rattle.std.proofs.lemmas.Bool.{cases_lt, cases_Bool, false≢true}
 use Rattle.std.proofs.lemmas.List.{length-drop}
 use Rattle.guard_lexer.specs.Sites.{site_at}
 use Rattle.guard_lexer.specs.Lexing.{Item, OffsetFault, item_fault, no_item_fault, IsCut, tokens_from, HasFault, longest_text, IsText, Lexes, FirstFault}
-use Rattle.guard_lexer.specs.Reading.{item_at, item_of}
+use Rattle.guard_lexer.specs.inside.Reading.{item_at, item_of}
 use Rattle.guard_lexer.specs.declared.fault.LexFault.{LexFault}
 use Rattle.guard_lexer.specs.declared.fault.LexFault.TheVariants as faults
 use Rattle.guard_lexer.specs.declared.item.FoundItem.{FoundItem}

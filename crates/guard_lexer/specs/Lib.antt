@@ -9,4 +9,5 @@ pub mod Lexing
 pub mod Spans
 pub mod Laws
 -- how a text is read from left to right; no public contract reaches it
-pub mod Reading
+-- ---- what only private contracts and proofs cite
+pub mod inside

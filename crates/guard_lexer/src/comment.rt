@@ -1,6 +1,6 @@
 //! Comments.
 ghost use Rattle.std.specs.Prelude.{◌≡◌, ◌≤◌, length, option_copied, IfSome};
-ghost use Rattle.guard_lexer.specs.Reading.{comment_body_len, behind_block_comment};
+ghost use Rattle.guard_lexer.specs.inside.Reading.{comment_body_len, behind_block_comment};
 
 use crate::octet::{begins_comment, begins_with_hyphen, ends_comment, is_line_end};
 

@@ -4,7 +4,7 @@ ghost use Rattle.guard_model.specs.Answer.{Gives};
 ghost use Rattle.guard_lexer.specs.Sites.{site_after};
 ghost use Rattle.guard_lexer.specs.Spans.{AreSpans};
 ghost use Rattle.guard_lexer.specs.Lexing.{Item, kind_of, tokens_from, IsCut, FaultAt, Lexes, FirstFault, longest_text, fault_named};
-ghost use Rattle.guard_lexer.specs.Reading.{IsFaultlessItem, IsFaultAt};
+ghost use Rattle.guard_lexer.specs.inside.Reading.{IsFaultlessItem, IsFaultAt};
 ghost use Rattle.guard_lexer.specs.declared.fault.LexFault.TheVariants.{OutOfMemory};
 
 use crate::fault::LexFault;

@@ -1,6 +1,6 @@
 //! Which mark stands at the front of a text.
 ghost use Rattle.std.specs.Prelude.{◌≡◌, find};
-ghost use Rattle.guard_lexer.specs.Reading.{stands_at, mark_at};
+ghost use Rattle.guard_lexer.specs.inside.Reading.{stands_at, mark_at};
 
 use crate::spelling::MARKS;
 use crate::token::Mark;

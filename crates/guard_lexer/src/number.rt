@@ -3,7 +3,7 @@ ghost use Rattle.std.specs.Prelude.{◌≡◌, ◌≤◌, ◌<◌, ◌^◌, leng
 ghost use Rattle.std.specs.List.{list_all, prefix_len};
 ghost use Rattle.guard_lexer.specs.Octets.{is_digit};
 ghost use Rattle.guard_lexer.specs.Items.{number_value};
-ghost use Rattle.guard_lexer.specs.Reading.{number_len};
+ghost use Rattle.guard_lexer.specs.inside.Reading.{number_len};
 
 /// The length of the number at the front: a 0 is one alone.
 pub(crate) fn number_len(first: u8, behind: &[u8]) -> usize

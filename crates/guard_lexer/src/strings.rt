@@ -1,6 +1,6 @@
 //! Strings of characters, bits and hexadecimal digits.
 ghost use Rattle.std.specs.Prelude.{◌≡◌, ◌≤◌, length, option_copied, IfSome};
-ghost use Rattle.guard_lexer.specs.Reading.{behind_string, behind_bits, behind_hexadecimal};
+ghost use Rattle.guard_lexer.specs.inside.Reading.{behind_string, behind_bits, behind_hexadecimal};
 
 use crate::octet::{is_line_end, is_of_bits, is_of_hexadecimal};
 

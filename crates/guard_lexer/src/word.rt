@@ -3,7 +3,7 @@ ghost use Rattle.std.specs.Prelude.{◌≡◌, ◌≤◌, length, find, bytes_eq
 ghost use Rattle.std.specs.List.{list_any};
 ghost use Rattle.guard_lexer.specs.Spelling.{reserved_spelling};
 ghost use Rattle.guard_lexer.specs.Words.{reserved_word, is_unsupported, word_kind};
-ghost use Rattle.guard_lexer.specs.Reading.{word_len};
+ghost use Rattle.guard_lexer.specs.inside.Reading.{word_len};
 
 use crate::octet::is_of_word;
 use crate::spelling::{RESERVED, UNSUPPORTED};

@@ -4,7 +4,7 @@ use Rattle.std.proofs.lemmas.Bool.{and_parts, false_from_ne_true, false≢true}
 use Rattle.std.proofs.lemmas.List.{length-map}
 use Rattle.guard_model.specs.AbstractType as abstract
 use Rattle.guard_model.specs.AbstractType.{Constraint, Parts, Constraints}
-use Rattle.guard_model.specs.BareView.{bare_components_view, bare_constraints_view, bare_parts_view, same_component}
+use Rattle.guard_model.specs.inside.BareView.{bare_components_view, bare_constraints_view, bare_parts_view, same_component}
 use Rattle.guard_model.specs.SameBase.{bare_components, bare_constraint, bare_constraints, bare_parts}
 use Rattle.guard_model.specs.SameType.{same_components, same_constraint, same_constraints, same_parts}
 use Rattle.guard_model.specs.TypeView.{OneComponent, OnePart, component_view, components_of, constraint_view, constraints_of, part_view, parts_of, part_before}

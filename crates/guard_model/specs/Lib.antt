@@ -1,8 +1,6 @@
 -- ---- what a call answers
 pub mod Answer
-pub mod Each
 -- ---- tags, values and types, as the definitions see them
-pub mod Octets
 pub mod Tags
 pub mod AbstractValue
 pub mod AbstractType
@@ -19,4 +17,5 @@ pub mod ValueView
 pub mod TypeView
 -- ---- what private contracts cite
 pub mod SameType
-pub mod BareView
+-- ---- what only private contracts and proofs cite
+pub mod inside

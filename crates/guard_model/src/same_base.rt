@@ -1,5 +1,5 @@
 //! Whether two types have the same base.
-ghost use Rattle.guard_model.specs.BareView.{bare_components_view, bare_constraints_view, bare_parts_view, same_component, same_part};
+ghost use Rattle.guard_model.specs.inside.BareView.{bare_components_view, bare_constraints_view, bare_parts_view, same_component, same_part};
 ghost use Rattle.guard_model.specs.SameBase.{HasSameBase, bare, bare_constraint, bare_element, bare_kind, bare_names};
 ghost use Rattle.guard_model.specs.SameType.{same_base, same_components, same_constraint, same_constraints, same_element, same_kind, same_limit, same_named, same_parts, same_presence, same_range, same_type};
 ghost use Rattle.guard_model.specs.Tags.{same_tag};

@@ -6,7 +6,7 @@ use Rattle.guard_model.specs.declared.site.Site.{Site}
 use Rattle.guard_model.specs.Answer.{Refuses}
 use Rattle.guard_names.specs.declared.fault.NameFault.{NameFault}
 use Rattle.guard_names.specs.Faults.{first_found, first_where}
-use Rattle.guard_names.specs.Reading.{refused_at}
+use Rattle.guard_names.specs.inside.Reading.{refused_at}
 
 -- a refusal at a site is one of the whole, where the first site of the whole is this one
 pub refused_so : (fault : Site → NameFault) (f : Option NameFault) (o total : Option Site) → Refuses f (refused_at fault o) → ((s : Site) → o ≡ Some s → total ≡ Some s) → Refuses f (refused_at fault total)

@@ -7,7 +7,7 @@ use Rattle.std.proofs.lemmas.List.Sums.{fold_push, fold-append}
 use Rattle.guard_names.specs.declared.recursion.Mark.{Mark}
 use Rattle.guard_names.specs.declared.recursion.Mark.TheVariants.{New, OnPath, Done}
 use Rattle.guard_names.specs.declared.recursion.Part.{Part}
-use Rattle.guard_names.specs.Searches.{part_at, no_part, StartsFirst, Rises, Joins, new_left}
+use Rattle.guard_names.specs.inside.Searches.{part_at, no_part, StartsFirst, Rises, Joins, new_left}
 
 -- the part that is found so far, and one more
 abbrev later : ℕ → Part → Part → Part

@@ -9,8 +9,8 @@ use Rattle.guard_names.specs.declared.recursion.Mark.{Mark}
 use Rattle.guard_names.specs.declared.recursion.Mark.TheVariants.{New, OnPath, Done}
 use Rattle.guard_names.specs.declared.recursion.Pending.{Pending}
 use Rattle.guard_names.specs.Order.{Leads, at_once, through, IsRecursive}
-use Rattle.guard_names.specs.Queues.{UsesIn}
-use Rattle.guard_names.specs.Searches.{Reaches, IsFollowed, left, pending_use, on_path, IsPath, IsLeast}
+use Rattle.guard_names.specs.inside.Queues.{UsesIn}
+use Rattle.guard_names.specs.inside.Searches.{Reaches, IsFollowed, left, pending_use, on_path, IsPath, IsLeast}
 use Rattle.guard_names.proofs.Chains.{leads_on}
 
 -- ---- chains

@@ -10,7 +10,7 @@ use Rattle.std.proofs.lemmas.List.Folds.{list_any-append, list_any_at}
 use Rattle.std.proofs.lemmas.List.Sums.{sum_by-cons, sum_by_push, sum_by-set}
 use Rattle.guard_names.specs.declared.order.Waiting.{Waiting}
 use Rattle.guard_names.specs.Order.{is_listed, IsReady, IsNext, IsRecursive}
-use Rattle.guard_names.specs.Queues.{times, times_waiting, times_in, once_at, used_by, UsesIn, AreInside, IsMet, IsWaitingFor, IsReleased, Stands}
+use Rattle.guard_names.specs.inside.Queues.{times, times_waiting, times_in, once_at, used_by, UsesIn, AreInside, IsMet, IsWaitingFor, IsReleased, Stands}
 use Rattle.guard_names.proofs.Chains.{or_false, stuck_is_recursive}
 
 true_false : {P : Type 0} → true ≡ false → P

@@ -11,7 +11,7 @@ use Rattle.guard_syntax.specs.Trees.{WrittenModule}
 use Rattle.guard_names.specs.declared.fault.NameFault.{NameFault}
 use Rattle.guard_names.specs.declared.fault.NameFault.TheVariants.{Duplicate, Undefined, NoModule, NotExported, ImportNotDefined, Recursive, TooManyModules, OutOfMemory}
 use Rattle.guard_names.specs.Faults.{most_modules, too_many, duplicate, no_module, not_defined, not_exported, undefined, fault_of_names, IsFirstFault, named}
-use Rattle.guard_names.specs.Reading.{refused_at, check_names}
+use Rattle.guard_names.specs.inside.Reading.{refused_at, check_names}
 
 -- it is refused with this fault, where there is one
 abbrev pub refused_with : Option NameFault → Result (Unit {0}) NameFault

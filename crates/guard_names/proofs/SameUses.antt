@@ -7,8 +7,8 @@ use Rattle.guard_names.specs.Declarations.{definitions}
 use Rattle.guard_names.specs.Meanings.{Means, Uses, number_meant}
 use Rattle.guard_names.specs.Order.{IsReady, Follow, IsOrder, Leads, at_once, through, IsRecursive, IsFirstRecursive}
 use Rattle.guard_names.specs.Faults.{fault_of_names}
-use Rattle.guard_names.specs.Queues.{UsesIn, AreInside}
-use Rattle.guard_names.specs.Reading.{uses_of_all}
+use Rattle.guard_names.specs.inside.Queues.{UsesIn, AreInside}
+use Rattle.guard_names.specs.inside.Reading.{uses_of_all}
 use Rattle.guard_names.proofs.Meaning.{means_number, meant_number}
 use Rattle.guard_names.proofs.Numbered.{meant_at}
 use Rattle.guard_names.proofs.Refusals.{none_duplicate}

@@ -12,8 +12,8 @@ use Rattle.guard_names.specs.declared.recursion.Mark.TheVariants.{New, OnPath, D
 use Rattle.guard_names.specs.declared.recursion.Part.{Part}
 use Rattle.guard_names.specs.declared.recursion.Pending.{Pending}
 use Rattle.guard_names.specs.Order.{is_listed, Leads, at_once, through, IsRecursive, IsFirstRecursive}
-use Rattle.guard_names.specs.Queues.{UsesIn, used_by}
-use Rattle.guard_names.specs.Searches.{IsFollowed, left, pending_use, on_path, IsPath, IsLeast, IsSearchOf, part_at, StartsFirst, Rises, Joins, IsUsedFrom, lesser, new_left}
+use Rattle.guard_names.specs.inside.Queues.{UsesIn, used_by}
+use Rattle.guard_names.specs.inside.Searches.{IsFollowed, left, pending_use, on_path, IsPath, IsLeast, IsSearchOf, part_at, StartsFirst, Rises, Joins, IsUsedFrom, lesser, new_left}
 use Rattle.guard_names.proofs.Settling.{place_of, listed_at, unchanged_listed}
 use Rattle.guard_names.proofs.Queueing.{listed_last}
 use Rattle.guard_names.proofs.Paths.{enters, passes_left, joins, leaves, least_kept, same_path}

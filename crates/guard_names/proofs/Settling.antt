@@ -18,8 +18,8 @@ use Rattle.std.proofs.lemmas.List.Sorted.{sum_by_pushed, sum_by_popped}
 use Rattle.std.proofs.lemmas.Grind.{get_or_default_zero}
 use Rattle.guard_names.specs.declared.order.Waiting.{Waiting}
 use Rattle.guard_names.specs.Order.{is_listed, IsNext, Follow}
-use Rattle.guard_names.specs.Queues.{once_at, used_by, AreInside, IsMet, IsMetBefore, IsWaitingFor, IsReleased, AreFlags, Stands, times_in, times_waiting}
-use Rattle.guard_names.specs.QueueViews.{times_ready}
+use Rattle.guard_names.specs.inside.Queues.{once_at, used_by, AreInside, IsMet, IsMetBefore, IsWaitingFor, IsReleased, AreFlags, Stands, times_in, times_waiting}
+use Rattle.guard_names.specs.inside.QueueViews.{times_ready}
 use Rattle.guard_names.proofs.Chains.{or_true}
 use Rattle.guard_names.proofs.Queueing.{listed_last, settled_waiting, listed_one}
 

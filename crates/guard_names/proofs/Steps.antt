@@ -7,7 +7,7 @@ use Rattle.guard_names.specs.declared.fault.NameFault.TheVariants.{Duplicate, Un
 use Rattle.guard_names.specs.Declarations.{Declaration, declarations, Origins, Numbers, origin_there, definition_of}
 use Rattle.guard_names.specs.Faults.{first_found, duplicate_after, duplicate, no_module_in, no_module, not_defined_among, not_defined, not_exported_among, undefined_in, undefined}
 use Rattle.guard_names.specs.Meanings.{number_meant}
-use Rattle.guard_names.specs.Reading.{refused_at, check_imports, check_names}
+use Rattle.guard_names.specs.inside.Reading.{refused_at, check_imports, check_names}
 
 then_last : (a b c : Result (Unit {0}) NameFault) → a ≡ Ok tt → b ≡ Ok tt → (a >>= λ _. (b >>= λ _. c)) ≡ c
 then_last a b c first second = ap (λ x. x >>= λ _. (b >>= λ _. c)) first ∙ ap (λ x. x >>= λ _. c) second

@@ -10,8 +10,8 @@ use Rattle.guard_names.specs.Mentions.{Mention, mentions}
 use Rattle.guard_names.specs.Declarations.{Definition, definitions, defined_in, Numbers}
 use Rattle.guard_names.specs.Meanings.{Means, Uses}
 use Rattle.guard_names.specs.Order.{is_listed}
-use Rattle.guard_names.specs.Queues.{UsesIn}
-use Rattle.guard_names.specs.Reading.{used_in, used_in_module}
+use Rattle.guard_names.specs.inside.Queues.{UsesIn}
+use Rattle.guard_names.specs.inside.Reading.{used_in, used_in_module}
 
 abbrev pub uses_of : Numbers → Definition → List ℕ
 uses_of numbers d = used_in numbers d.home.name d.assignment

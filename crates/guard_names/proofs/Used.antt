@@ -4,7 +4,7 @@ use Rattle.std.specs.List.{filter_map, cons_option}
 use Rattle.std.proofs.lemmas.List.{at_drop_more}
 use Rattle.guard_names.specs.declared.mentions.Mention.{Mention}
 use Rattle.guard_names.specs.Declarations.{Numbers}
-use Rattle.guard_names.specs.Views.{mention_view}
+use Rattle.guard_names.specs.inside.Views.{mention_view}
 
 abbrev pub used_of : Numbers → List ℕ → List Mention → List ℕ
 used_of numbers home ms = filter_map (λ x. numbers home x.name) (map mention_view ms)

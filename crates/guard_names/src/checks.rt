@@ -5,8 +5,8 @@ ghost use Rattle.guard_names.specs.declared.fault.NameFault.TheVariants as fault
 ghost use Rattle.guard_names.specs.Declarations as declared;
 ghost use Rattle.guard_names.specs.DeclarationViews.{declaration_view, origin_view};
 ghost use Rattle.guard_names.specs.Faults as faults;
-ghost use Rattle.guard_names.specs.Reading as reading;
-ghost use Rattle.guard_names.specs.Reading.{refused_at, nothing};
+ghost use Rattle.guard_names.specs.inside.Reading as reading;
+ghost use Rattle.guard_names.specs.inside.Reading.{refused_at, nothing};
 ghost use Rattle.guard_names.specs.TableViews.{origin_in};
 ghost use Rattle.guard_syntax.specs.ModuleViews.{module_view, import_view};
 

@@ -3,7 +3,7 @@ ghost use Rattle.std.specs.Prelude.{◌≡◌, ◌+◌, ◌≤◌, ◌++◌, Lis
 ghost use Rattle.std.specs.List.{flat_map};
 ghost use Rattle.guard_names.specs.Declarations as declared;
 ghost use Rattle.guard_names.specs.DeclarationViews.{declaration_view};
-ghost use Rattle.guard_names.specs.ExportViews.{has_name};
+ghost use Rattle.guard_names.specs.inside.ExportViews.{has_name};
 ghost use Rattle.guard_syntax.specs.ModuleViews.{module_view, import_view, symbol_view, assignment_view, perhaps_exports_view};
 
 use crate::exports::Exports;

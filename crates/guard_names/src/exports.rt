@@ -2,7 +2,7 @@
 ghost use Rattle.std.specs.Prelude.{◌≡◌, ℕ, List, IfOk, map, bytes_eq};
 ghost use Rattle.std.specs.List.{list_any};
 ghost use Rattle.guard_names.specs.Declarations.{lists_name};
-ghost use Rattle.guard_names.specs.ExportViews.{has_name};
+ghost use Rattle.guard_names.specs.inside.ExportViews.{has_name};
 ghost use Rattle.guard_syntax.specs.ModuleViews.{perhaps_exports_view, symbol_view};
 
 use guard_syntax::{ExportsTree, SymbolTree};

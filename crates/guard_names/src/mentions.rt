@@ -3,7 +3,7 @@ ghost use Rattle.std.specs.Prelude.{◌≡◌, ◌++◌, ◌∷◌, [], map, IfO
 ghost use Rattle.std.specs.List.{flat_map};
 ghost use Rattle.guard_names.specs.Mentions as mentions;
 ghost use Rattle.guard_names.specs.Mentions.{in_component, in_perhaps_constraint};
-ghost use Rattle.guard_names.specs.Views.{mention_view};
+ghost use Rattle.guard_names.specs.inside.Views.{mention_view};
 ghost use Rattle.guard_syntax.specs.Trees.{entries_of, united_of, met_of, parts_of, components_of, alternatives_of};
 ghost use Rattle.guard_syntax.specs.Views.{value_view, entry_view};
 ghost use Rattle.guard_syntax.specs.SetViews.{constraint_view, set_view, intersection_view, joined_intersection_view, difference_view, joined_difference_view, element_view, element_form_view, part_view, range_view, end_or_view, perhaps_constraint_view};

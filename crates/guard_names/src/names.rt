@@ -6,8 +6,8 @@ ghost use Rattle.guard_names.specs.Faults.{fault_of_names};
 ghost use Rattle.guard_names.specs.Meanings.{Means, Uses, number_meant};
 ghost use Rattle.guard_names.specs.Order.{IsOrder, IsRecursive, is_listed};
 ghost use Rattle.guard_names.specs.Places.{place_in};
-ghost use Rattle.guard_names.specs.OrderProps.{IsOrder-prop};
-ghost use Rattle.guard_names.specs.Reading.{uses_of_all};
+ghost use Rattle.guard_names.specs.inside.OrderProps.{IsOrder-prop};
+ghost use Rattle.guard_names.specs.inside.Reading.{uses_of_all};
 ghost use Rattle.guard_names.specs.TableViews.{meaning_in};
 ghost use Rattle.guard_syntax.specs.ModuleViews.{module_view, assignment_view};
 

@@ -6,7 +6,7 @@ ghost use Rattle.std.specs.BinaryHeap.{IsHeap, heap_items};
 ghost use Rattle.std.specs.Ordering.{nat_cmp};
 ghost use Rattle.std.proofs.Props.{props};
 ghost use Rattle.guard_names.specs.Order.{IsOrder, IsRecursive, is_listed};
-ghost use Rattle.guard_names.specs.Queues.{AreInside, UsesIn, IsReleased, Stands, once_at, times_waiting};
+ghost use Rattle.guard_names.specs.inside.Queues.{AreInside, UsesIn, IsReleased, Stands, once_at, times_waiting};
 
 use crate::declarations::Id;
 use std::alloc::{AllocError, Global};
@@ -47,7 +47,7 @@ pub fn order(alloc: Global, uses: &[Vec<Id>]) -> Result<Vec<Id>, AllocError>
 }
 
 impl Queue {
-    ghost use Rattle.guard_names.specs.QueueViews.{IsQueue, IsSized, StandsIn, left_in, times_ready};
+    ghost use Rattle.guard_names.specs.inside.QueueViews.{IsQueue, IsSized, StandsIn, left_in, times_ready};
 
     /// Nothing is listed yet.
     fn new(alloc: Global, uses: &[Vec<Id>]) -> Result<Queue, AllocError>

@@ -3,8 +3,8 @@ ghost use Rattle.std.specs.Prelude.{◌≡◌, ◌⊎◌, ℕ, ◌+◌, ◌<◌,
 ghost use Rattle.std.specs.Bool.{OnTrue, OnFalse};
 ghost use Rattle.std.specs.List.{All, AllPairs};
 ghost use Rattle.guard_names.specs.Order.{IsRecursive, IsFirstRecursive, is_listed, Leads};
-ghost use Rattle.guard_names.specs.Queues.{UsesIn, AreInside, used_by};
-ghost use Rattle.guard_names.specs.Searches.{StartsFirst, Joins, lesser, new_left, IsUsedFrom};
+ghost use Rattle.guard_names.specs.inside.Queues.{UsesIn, AreInside, used_by};
+ghost use Rattle.guard_names.specs.inside.Searches.{StartsFirst, Joins, lesser, new_left, IsUsedFrom};
 ghost use Rattle.guard_names.specs.declared.recursion.Mark.TheVariants as mark;
 ghost use Rattle.guard_names.specs.declared.recursion.Part.{Part};
 ghost use Rattle.guard_names.specs.declared.recursion.Pending.{Pending};
@@ -63,7 +63,7 @@ pub fn first_recursive(alloc: Global, uses: &[Vec<Id>]) -> Result<Option<Id>, Al
 }
 
 impl Search {
-    ghost use Rattle.guard_names.specs.SearchViews.{IsSearch, IsSearchBut, KeepsMet, mark_of, steps_left};
+    ghost use Rattle.guard_names.specs.inside.SearchViews.{IsSearch, IsSearchBut, KeepsMet, mark_of, steps_left};
 
     /// Nothing is searched yet.
     fn new(alloc: Global, count: usize) -> Result<Search, AllocError>

@@ -9,7 +9,7 @@ ghost use Rattle.guard_names.specs.Faults.{AreFaultless, IsFirstFault, IsRecursi
 ghost use Rattle.guard_names.specs.Meanings.{Uses, number_meant};
 ghost use Rattle.guard_names.specs.NamesView.{modules_of};
 ghost use Rattle.guard_names.specs.Order.{IsRecursive};
-ghost use Rattle.guard_names.specs.Reading as reading;
+ghost use Rattle.guard_names.specs.inside.Reading as reading;
 ghost use Rattle.guard_names.specs.TableViews.{origin_in, meaning_in};
 ghost use Rattle.guard_syntax.specs.ModuleViews.{module_view};
 

@@ -5,7 +5,7 @@ ghost use Rattle.guard_names.specs.declared.fault.NameFault.TheVariants as fault
 ghost use Rattle.guard_names.specs.Declarations.{origin_there, assigned_number, exported_number, definition_of};
 ghost use Rattle.guard_names.specs.DeclarationViews.{declaration_view, origin_view, scope_view};
 ghost use Rattle.guard_names.specs.Faults.{named, duplicate_after};
-ghost use Rattle.guard_names.specs.Reading.{refused_at, nothing};
+ghost use Rattle.guard_names.specs.inside.Reading.{refused_at, nothing};
 
 use crate::declarations::{Declaration, Id, Origin};
 use crate::fault::NameFault;

@@ -5,9 +5,9 @@ ghost use Rattle.guard_model.specs.Answer.{Gives};
 ghost use Rattle.guard_names.specs.declared.fault.NameFault.TheVariants as fault;
 ghost use Rattle.guard_names.specs.Faults as faults;
 ghost use Rattle.guard_names.specs.Mentions as mentioned;
-ghost use Rattle.guard_names.specs.Reading.{refused_at, nothing, used_in, used_in_module, listed_uses};
+ghost use Rattle.guard_names.specs.inside.Reading.{refused_at, nothing, used_in, used_in_module, listed_uses};
 ghost use Rattle.guard_names.specs.TableViews.{origin_in, meaning_in};
-ghost use Rattle.guard_names.specs.Views.{mention_view};
+ghost use Rattle.guard_names.specs.inside.Views.{mention_view};
 ghost use Rattle.guard_syntax.specs.ModuleViews.{module_view, assignment_view, symbol_view};
 
 use crate::declarations::{Id, listed_exports};

@@ -14,7 +14,7 @@ use Rattle.guard_der.specs.Sound.{is_sound}
 use Rattle.guard_policy.specs.declared.policy.Rule.{Rule}
 use Rattle.guard_policy.specs.Consistency.{IsConsistent}
 use Rattle.guard_policy.specs.Policies.{AbstractMessage, AbstractRule, AbstractRoute, rule_view, declared_among}
-use Rattle.guard_policy.specs.Applicable.{AreApplicable}
+use Rattle.guard_policy.specs.inside.Applicable.{AreApplicable}
 use Rattle.guard_policy.specs.Decisions.{speaks_of}
 use Rattle.guard_policy.specs.Names.{is_meant}
 use Rattle.guard_policy.proofs.Consistent.{Fit, rules_fit}

@@ -18,7 +18,7 @@ use Rattle.guard_der.specs.Sound.{is_sound}
 use Rattle.guard_tables.specs.Tables.{first_fault}
 use Rattle.guard_policy.specs.declared.policy.Effect.{Effect}
 use Rattle.guard_policy.specs.declared.policy.Message.{Message as CodeMessage}
-use Rattle.guard_policy.specs.Answers.{tables_view}
+use Rattle.guard_policy.specs.inside.Answers.{tables_view}
 use Rattle.std.proofs.lemmas.List.{append-nil, map_push}
 use Rattle.std.specs.Option.{option_or}
 use Rattle.toml.specs.Data.{Members}

@@ -12,7 +12,7 @@ use Rattle.std.proofs.lemmas.Option.{same_Some}
 use Rattle.toml.specs.View.{members_view}
 use Rattle.toml.specs.declared.value.Value.{Value}
 use Rattle.guard_policy.specs.declared.entry.Key.{Key}
-use Rattle.guard_policy.specs.Answers.{first_unknown}
+use Rattle.guard_policy.specs.inside.Answers.{first_unknown}
 use Rattle.guard_policy.specs.PolicyFaults.{is_key, lesser, least_unknown}
 
 -- what comes behind a word isn't less

@@ -10,7 +10,7 @@ use Rattle.guard_policy.specs.Entries.{AbstractTypes, message_in, rule_in, those
 use Rattle.guard_policy.specs.EntryFaults.{message_fault, rule_fault, entries_fault, tables_fault, document_fault}
 use Rattle.guard_policy.specs.Loads.{Loads, IsRefused}
 use Rattle.guard_policy.specs.Policies.{AbstractPolicy, AbstractMessage, AbstractRule, message_names}
-use Rattle.guard_policy.specs.Answers.{Meets}
+use Rattle.guard_policy.specs.inside.Answers.{Meets}
 use Rattle.guard_policy.specs.PolicyFaults.{AbstractFault, toml, top_fault, named}
 use Rattle.guard_policy.specs.PolicyView.{policy_view}
 use Rattle.guard_policy.specs.declared.policy.Policy.{Policy}

@@ -3,7 +3,7 @@ use Rattle.std.proofs.Common.{◌≡◌, ℕ, suc, ◌+◌, List, ◌∷◌, Boo
 use Rattle.std.specs.Option.{option_or}
 use Rattle.guard_policy.specs.declared.entry.Entry.TheVariants as place
 use Rattle.guard_policy.specs.declared.fault.PolicyFault.{PolicyFault}
-use Rattle.guard_policy.specs.Answers.{Meets}
+use Rattle.guard_policy.specs.inside.Answers.{Meets}
 use Rattle.guard_policy.specs.EntryFaults.{is_well_named, messages_misnamed, rules_misnamed}
 use Rattle.guard_policy.specs.Names.{is_name}
 use Rattle.guard_policy.specs.Policies.{AbstractMessage, AbstractRule}

@@ -13,9 +13,8 @@ pub mod PolicyFaults
 pub mod EntryFaults
 pub mod Loads
 -- ---- what private contracts cite
-pub mod Answers
 pub mod Listings
-pub mod Applicable
+-- ---- what only private contracts and proofs cite
+pub mod inside
 -- ---- worked examples
-pub mod Rows
-pub mod LoadRows
+pub mod rows

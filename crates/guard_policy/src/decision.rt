@@ -7,7 +7,7 @@ ghost use Rattle.guard_der.specs.Sound.{is_sound};
 ghost use Rattle.guard_policy.specs.Policies.{rule_view};
 ghost use Rattle.guard_policy.specs.PolicyView.{route_view};
 ghost use Rattle.guard_policy.specs.Verdicts.{verdict_view};
-ghost use Rattle.guard_policy.specs.Applicable.{AreApplicable};
+ghost use Rattle.guard_policy.specs.inside.Applicable.{AreApplicable};
 ghost use Rattle.guard_policy.specs.Decisions.{speaks_of, is_allowing, denies, first_denying, by_allowing, judged};
 ghost use Rattle.guard_policy.specs.Names.{is_meant};
 ghost use Rattle.guard_policy.specs.Listings.{rules_at, heard, denies_at, allowing_at};

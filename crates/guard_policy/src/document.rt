@@ -5,7 +5,7 @@ ghost use Rattle.toml.specs.Data.{as_str, as_table, get_member};
 ghost use Rattle.guard_policy.specs.Documents.{key_text, text_of, IsDocument, IsNoDocument, items_as, text_at, texts_at, tables_at};
 ghost use Rattle.guard_policy.specs.EntryFaults.{keys_fault};
 ghost use Rattle.guard_policy.specs.PolicyFaults.{named, toml as no_toml, is_key, unknown_in, missing_in, top_fault};
-ghost use Rattle.guard_policy.specs.Answers.{tables_view, texts_view, Meets};
+ghost use Rattle.guard_policy.specs.inside.Answers.{tables_view, texts_view, Meets};
 
 use super::entry::{Entry, Key};
 use super::fault::PolicyFault;

@@ -2,7 +2,7 @@
 ghost use Rattle.std.specs.Prelude.{◌≡◌, map, string_bytes, IfOk, IfErr, IfSome};
 ghost use Rattle.guard_policy.specs.Loads.{ListsFiles, ListsNoFiles};
 ghost use Rattle.guard_policy.specs.PolicyFaults.{named};
-ghost use Rattle.guard_policy.specs.Answers.{texts_view};
+ghost use Rattle.guard_policy.specs.inside.Answers.{texts_view};
 
 use super::document::{document, top_of};
 use super::fault::PolicyFault;

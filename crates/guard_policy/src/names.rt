@@ -1,6 +1,6 @@
 //! Whether messages and rules have names.
 ghost use Rattle.std.specs.Prelude.{◌≡◌, map};
-ghost use Rattle.guard_policy.specs.Answers.{Meets};
+ghost use Rattle.guard_policy.specs.inside.Answers.{Meets};
 ghost use Rattle.guard_policy.specs.EntryFaults.{is_well_named, messages_misnamed, rules_misnamed, misnamed};
 ghost use Rattle.guard_policy.specs.Policies.{message_view, rule_view};
 

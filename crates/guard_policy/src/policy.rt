@@ -3,7 +3,7 @@ ghost use Rattle.std.specs.Prelude.{◌≡◌, All, IsTrue, IfOk, None, map, opt
 ghost use Rattle.std.proofs.Props.{props};
 ghost use Rattle.guard_model.specs.TypeView.{type_view};
 ghost use Rattle.guard_der.specs.Sound.{is_sound};
-ghost use Rattle.guard_policy.specs.Answers.{Meets};
+ghost use Rattle.guard_policy.specs.inside.Answers.{Meets};
 ghost use Rattle.guard_policy.specs.Consistency.{IsConsistent};
 ghost use Rattle.guard_policy.specs.EntryFaults.{tables_fault, parts_fault};
 ghost use Rattle.guard_policy.specs.Policies.{message_view, rule_view};
@@ -73,7 +73,7 @@ impl Policy {
     ghost use Rattle.std.specs.Prelude.{string_bytes, length, All, IsTrue, IfOk, IfErr, IfSome, None, Some, List, ℕ};
     ghost use Rattle.guard_model.specs.AbstractType.{AbstractType};
     ghost use Rattle.guard_der.specs.Sound.{is_sound};
-    ghost use Rattle.guard_policy.specs.Answers.{Meets};
+    ghost use Rattle.guard_policy.specs.inside.Answers.{Meets};
     ghost use Rattle.guard_policy.specs.EntryFaults.{tables_fault, parts_fault};
     ghost use Rattle.guard_policy.specs.PolicyFaults.{named};
     ghost use Rattle.guard_policy.specs.PolicyView.{policy_view};

@@ -4,7 +4,7 @@ ghost use Rattle.std.specs.List.{list_any};
 ghost use Rattle.guard_der.specs.Sound.{is_sound};
 ghost use Rattle.guard_model.specs.TypeView.{type_view};
 ghost use Rattle.toml.specs.View.{table_view};
-ghost use Rattle.guard_policy.specs.Answers.{Meets, tables_view};
+ghost use Rattle.guard_policy.specs.inside.Answers.{Meets, tables_view};
 ghost use Rattle.guard_policy.specs.Entries.{rule_in, rule_of as rule_said, effect_named, those_there};
 ghost use Rattle.guard_policy.specs.EntryFaults.{rule_fault, entries_fault, has_names};
 ghost use Rattle.guard_policy.specs.Policies.{message_view, rule_view, message_names, rule_names};

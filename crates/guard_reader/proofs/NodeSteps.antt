@@ -24,9 +24,9 @@ use Rattle.guard_tables.specs.Slots.{none, added}
 use Rattle.guard_tables.specs.TableNodes.{Spot, spot_at, spot_of, body_of_kind, body_at, conditions_of, parts_between, is_default, is_lawful, octets_marked, IsFree}
 use Rattle.guard_tables.proofs.SlotSums.{added_none}
 use Rattle.guard_tables.proofs.Spots.{NodeAt, there_at, cold_at, spots_length, parts_step}
-use Rattle.guard_reader.specs.Answers.{IsSmall, IsOne, IsTwo}
+use Rattle.guard_reader.specs.inside.Answers.{IsSmall, IsOne, IsTwo}
 use Rattle.guard_reader.specs.Judging.{watched, contents_judged, elements, ordered, fields_judged, part_at, outside, then_marked, whole_facts, size_in, unless_fault, identifier_in, other_in}
-use Rattle.guard_reader.specs.NodeParts.{identifier_at, other_at, IsAsked, IsSeries, IsFormula}
+use Rattle.guard_reader.specs.inside.NodeParts.{identifier_at, other_at, IsAsked, IsSeries, IsFormula}
 use Rattle.guard_reader.specs.Octets.{◌>>=◌}
 use Rattle.guard_reader.proofs.Elements.{over_one, over_two}
 

@@ -4,7 +4,7 @@ use Rattle.std.proofs.Common.{ltb, eqb}
 use Rattle.std.specs.Prelude.{ℤ}
 use Rattle.guard_der.specs.Head.{length_at}
 use Rattle.std.proofs.lemmas.Bool.{cond-true, cond-false, eq-eqb, ne_eqb, eqb-true, le-ltb}
-use Rattle.guard_reader.specs.Answers.{Answers, IsOne}
+use Rattle.guard_reader.specs.inside.Answers.{Answers, IsOne}
 use Rattle.guard_reader.specs.Judging.{element_of, elements, elements_at, fields_judged, contents_judged, message_judged, alone}
 use Rattle.guard_tables.specs.Slots.{none}
 use Rattle.guard_tables.specs.Plan.{no_parts, Plan, plan, body_in}

@@ -9,7 +9,7 @@ ghost use Rattle.guard_tables.specs.Marking.{facts, number_in, characters_in, is
 ghost use Rattle.guard_tables.specs.NodeViews.{kind_view, condition_view, test_view};
 ghost use Rattle.guard_tables.specs.Plan.{simple};
 ghost use Rattle.guard_tables.specs.TableNodes.{conditions_of};
-ghost use Rattle.guard_reader.specs.Answers.{Answers};
+ghost use Rattle.guard_reader.specs.inside.Answers.{Answers};
 ghost use Rattle.guard_reader.specs.Judging.{contents_judged};
 
 use crate::conditions::{are_same, has_one, is_in_one};

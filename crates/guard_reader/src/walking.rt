@@ -7,9 +7,9 @@ ghost use Rattle.guard_tables.specs.declared.node.Kind.TheVariants.{Formula};
 ghost use Rattle.guard_tables.specs.NodesView.{spots_in, root_of};
 ghost use Rattle.guard_tables.specs.Slots.{none, added};
 ghost use Rattle.guard_tables.specs.TableNodes.{spot_at, body_at, parts_between};
-ghost use Rattle.guard_reader.specs.Answers.{Answers, IsSmall, IsOne, IsTwo};
+ghost use Rattle.guard_reader.specs.inside.Answers.{Answers, IsSmall, IsOne, IsTwo};
 ghost use Rattle.guard_reader.specs.Judging.{contents_judged, fields_judged, elements, ordered, present_part, absent_at, begins, after_one, part_at, watched, message_judged};
-ghost use Rattle.guard_reader.specs.NodeParts.{identifier_at, other_at, IsAsked, IsFormula, IsSeries};
+ghost use Rattle.guard_reader.specs.inside.NodeParts.{identifier_at, other_at, IsAsked, IsFormula, IsSeries};
 ghost use Rattle.guard_reader.specs.Octets.{split};
 
 use crate::conditions::{is_default, raise};

@@ -15,7 +15,7 @@ use Rattle.guard_constraints.specs.Visible.{Visible}
 use Rattle.guard_schema.specs.Outcomes.{Is, Then}
 use Rattle.guard_schema.specs.Faults.{AbstractFault, Outcome}
 use Rattle.guard_schema.specs.Finishing.{put_before, site_of_type, constraint_before, count_of_meant, count_put_in, ConstrainsBefore, Constrains, FinishesComponent, FillsPresence, Finishes, FinishesKind, Fills, FillsFrom, FillsFromBase, FillsOthers}
-use Rattle.guard_schema.specs.InTurn.{Filling, listed, moved, FillsAll, FillsNext, OneInTurn, ListInTurn, ElementInTurn, FinishesInTurn, KindInTurn, FillsInTurn, FromInTurn, FromBaseInTurn, OthersInTurn}
+use Rattle.guard_schema.specs.inside.InTurn.{Filling, listed, moved, FillsAll, FillsNext, OneInTurn, ListInTurn, ElementInTurn, FinishesInTurn, KindInTurn, FillsInTurn, FromInTurn, FromBaseInTurn, OthersInTurn}
 use Rattle.guard_schema.proofs.Outcomes.{flattened}
 use Rattle.guard_schema.proofs.BareTypes.{IsBare, IsBareKind, AreBare, IsTaken, IsTakenBase, AreBareOthers, taken_counted}
 

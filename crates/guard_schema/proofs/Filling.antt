@@ -14,7 +14,7 @@ use Rattle.guard_schema.specs.Faults.{AbstractFault, Outcome}
 use Rattle.guard_schema.specs.Known.{Known, with_built}
 use Rattle.guard_schema.specs.Building.{BuildsNumber, BuildsAll}
 use Rattle.guard_schema.specs.Finishing.{AddsOne, Adds}
-use Rattle.guard_schema.specs.InTurn.{Filling, FillsInTurn, EntryInTurn, OthersInTurn, AlternativeInTurn}
+use Rattle.guard_schema.specs.inside.InTurn.{Filling, FillsInTurn, EntryInTurn, OthersInTurn, AlternativeInTurn}
 use Rattle.guard_schema.proofs.Entries as entries
 use Rattle.guard_schema.proofs.Outcomes.{flattened}
 

@@ -10,7 +10,7 @@ use Rattle.guard_tagging.specs.Faults.{nodes, nodes_inside, nodes_of_components}
 use Rattle.guard_constraints.specs.Visible.{Visible}
 use Rattle.guard_schema.specs.Faults.{Outcome}
 use Rattle.guard_schema.specs.Finishing.{count_of_meant, with_constraint, constraint_before, site_of_type, Adds, Constrains, ConstrainsByOne, ConstrainsBefore}
-use Rattle.guard_schema.specs.InTurn.{Filling, listed, moved, FinishesInTurn, KindInTurn, ListInTurn, ChoiceInTurn, ElementInTurn, FillsAll, FillsInTurn, FillsNext, FromInTurn, FromBaseInTurn, OthersInTurn}
+use Rattle.guard_schema.specs.inside.InTurn.{Filling, listed, moved, FinishesInTurn, KindInTurn, ListInTurn, ChoiceInTurn, ElementInTurn, FillsAll, FillsInTurn, FillsNext, FromInTurn, FromBaseInTurn, OthersInTurn}
 
 -- ---- of lists
 

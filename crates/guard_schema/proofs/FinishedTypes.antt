@@ -37,7 +37,7 @@ use Rattle.guard_schema.specs.declared.fault.SchemaFault.{SchemaFault}
 use Rattle.guard_schema.specs.Outcomes.{RefusesBy, Answers}
 use Rattle.guard_schema.specs.Faults.{AbstractFault, Outcome, named}
 use Rattle.guard_schema.specs.Finishing.{constraint_before, site_of_type, ConstrainsBefore, Constrains}
-use Rattle.guard_schema.specs.InTurn.{Filling, listed, ConstrainsWritten, FinishesInTurn, KindInTurn, ElementInTurn, PartsInTurn, OneInTurn, WithPresence, FillsAll, FillsOne, FromBaseInTurn, EntryInTurn}
+use Rattle.guard_schema.specs.inside.InTurn.{Filling, listed, ConstrainsWritten, FinishesInTurn, KindInTurn, ElementInTurn, PartsInTurn, OneInTurn, WithPresence, FillsAll, FillsOne, FromBaseInTurn, EntryInTurn}
 use Rattle.guard_schema.proofs.Lists.{listed_of}
 use Rattle.guard_schema.specs.declared.finishing.Filling as code
 use Rattle.guard_schema.specs.Views.{filling_view}

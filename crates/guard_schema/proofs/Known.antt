@@ -21,7 +21,7 @@ use Rattle.guard_values.specs.Views.{known_pair, known_definition, home_name, vi
 use Rattle.guard_constraints.specs.Views.{visible_at, placed_type, types_from, AreKnownSound}
 use Rattle.guard_schema.specs.declared.progress.Progress.{Progress}
 use Rattle.guard_schema.specs.Known.{Built, built_at, governed, governed_value, type_alone, visible, meant}
-use Rattle.guard_schema.specs.Pairs.{paired}
+use Rattle.guard_schema.specs.inside.Pairs.{paired}
 use Rattle.guard_schema.specs.Views.{built_in, known_view}
 
 -- ---- at one place

@@ -10,9 +10,9 @@ use Rattle.guard_model.specs.declared.ty.Ty.{Ty}
 use Rattle.guard_model.specs.declared.value.Value.{Value}
 use Rattle.guard_schema.specs.Counting.{all_held, held_by}
 use Rattle.guard_schema.specs.Finishing.{add, with_constraint}
-use Rattle.guard_schema.specs.InTurn.{listed}
+use Rattle.guard_schema.specs.inside.InTurn.{listed}
 use Rattle.guard_schema.specs.Known.{Built}
-use Rattle.guard_schema.specs.Pairs.{built_view, paired}
+use Rattle.guard_schema.specs.inside.Pairs.{built_view, paired}
 
 pub added_view : (cs : List Cons) (c : Cons) → constraints_of (map constraint_view (cs ++ c ∷ [])) ≡ add (constraints_of (map constraint_view cs)) (constraint_view c)
 added_view [] c = refl

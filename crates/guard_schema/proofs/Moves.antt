@@ -12,7 +12,7 @@ use Rattle.guard_schema.specs.declared.fault.SchemaFault.{SchemaFault}
 use Rattle.guard_schema.specs.declared.finishing.Filling as code
 use Rattle.guard_schema.specs.Outcomes.{Answers}
 use Rattle.guard_schema.specs.Faults.{Outcome, named}
-use Rattle.guard_schema.specs.InTurn.{Filling, with_done, moved, FillsNext, FillsOne}
+use Rattle.guard_schema.specs.inside.InTurn.{Filling, with_done, moved, FillsNext, FillsOne}
 use Rattle.guard_schema.specs.Views.{filling_view}
 
 abbrev pub shown : List OneComponent → List OneComponent → Filling

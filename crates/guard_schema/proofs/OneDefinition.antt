@@ -29,12 +29,12 @@ use Rattle.guard_schema.specs.Outcomes.{RefusesBy, Answers}
 use Rattle.guard_schema.specs.Faults.{AbstractFault, Tag, Outcome, IsNamed, named}
 use Rattle.guard_schema.specs.Known.{Built, Known, types_of, visible, around}
 use Rattle.guard_schema.specs.Building.{HasTags, TellsApart, Assigns, KeepsLimit, HasValue, BuildsNumber}
-use Rattle.guard_schema.specs.InTurn.{FinishesInTurn, TagsNumber, TagsApart, CompletesInTurn}
+use Rattle.guard_schema.specs.inside.InTurn.{FinishesInTurn, TagsNumber, TagsApart, CompletesInTurn}
 use Rattle.guard_schema.specs.Counting.{all_held}
 use Rattle.guard_syntax.specs.Trees.{WrittenAssignment}
 use Rattle.guard_der.specs.Sound.{is_sound}
 use Rattle.guard_schema.specs.Finishing.{Finishes}
-use Rattle.guard_schema.specs.Pairs.{paired}
+use Rattle.guard_schema.specs.inside.Pairs.{paired}
 use Rattle.guard_schema.specs.Views.{built_in, known_view, definition_view}
 use Rattle.guard_schema.proofs.Outcomes.{led}
 use Rattle.guard_schema.proofs.BareTypes.{bare_of}

@@ -13,7 +13,7 @@ pub mod Accepts
 pub mod OneAnswer
 pub mod Unfinished
 -- what the values of the code stand for
-pub mod Pairs
 pub mod Entries
-pub mod InTurn
 pub mod Views
+-- ---- what only private contracts and proofs cite
+pub mod inside

@@ -17,8 +17,8 @@ use Rattle.guard_schema.specs.declared.index.TypeIndex.{TypeIndex}
 use Rattle.guard_schema.specs.declared.scope.Scope.{Scope}
 use Rattle.guard_schema.specs.declared.finishing.Filling as code_filling
 use Rattle.guard_schema.specs.Known.{Built, Known, visible}
-use Rattle.guard_schema.specs.Pairs.{built_view, paired}
-use Rattle.guard_schema.specs.InTurn.{Filling}
+use Rattle.guard_schema.specs.inside.Pairs.{built_view, paired}
+use Rattle.guard_schema.specs.inside.InTurn.{Filling}
 use Rattle.guard_names.specs.Places as places
 use Rattle.guard_schema.specs.Entries.{Entry, looked_up, unvalued}
 use Rattle.guard_schema.specs.Schemas.{AbstractSchema}

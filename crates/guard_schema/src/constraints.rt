@@ -7,7 +7,7 @@ ghost use Rattle.guard_syntax.specs.SetViews as sets;
 ghost use Rattle.guard_syntax.specs.TypeViews as written;
 ghost use Rattle.guard_schema.specs.Faults.{named};
 ghost use Rattle.guard_schema.specs.Finishing.{with_constraint, AddsOne, Adds, Constrains, Sizes, ConstrainsBefore, ConstrainsByOne, constraint_before};
-ghost use Rattle.guard_schema.specs.InTurn.{ConstrainsWritten};
+ghost use Rattle.guard_schema.specs.inside.InTurn.{ConstrainsWritten};
 ghost use Rattle.guard_schema.specs.Outcomes.{Answers};
 ghost use Rattle.guard_schema.specs.Views.{visible_of, before_view};
 

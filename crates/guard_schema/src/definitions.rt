@@ -13,12 +13,12 @@ ghost use Rattle.guard_tagging.specs.ScopeView.{known_list};
 ghost use Rattle.guard_tagging.specs.Spelled.{IsSpelledModule};
 ghost use Rattle.guard_tagging.specs.Surroundings.{known_from, is_automatic_definition};
 ghost use Rattle.guard_schema.specs.Building.{BuildsNumber, BuildsAll, HasValue, TellsApart, Assigns, KeepsLimit};
-ghost use Rattle.guard_schema.specs.InTurn.{TagsApart, CompletesInTurn};
+ghost use Rattle.guard_schema.specs.inside.InTurn.{TagsApart, CompletesInTurn};
 ghost use Rattle.guard_schema.specs.Counting.{held_by, most_held};
 ghost use Rattle.guard_schema.specs.Faults.{named};
 ghost use Rattle.guard_schema.specs.Known.{none_known};
 ghost use Rattle.guard_schema.specs.Outcomes.{Answers};
-ghost use Rattle.guard_schema.specs.Pairs.{built_view};
+ghost use Rattle.guard_schema.specs.inside.Pairs.{built_view};
 ghost use Rattle.guard_schema.specs.Views.{built_in, definition_view, known_view, visible_of};
 
 use crate::counting::{held_by, type_nodes};

@@ -10,7 +10,7 @@ ghost use Rattle.guard_syntax.specs.TypeViews as written;
 ghost use Rattle.guard_tagging.specs.Types.{parts_of};
 ghost use Rattle.guard_schema.specs.Faults.{named};
 ghost use Rattle.guard_schema.specs.Finishing as finishing;
-ghost use Rattle.guard_schema.specs.InTurn as in_turn;
+ghost use Rattle.guard_schema.specs.inside.InTurn as in_turn;
 ghost use Rattle.guard_schema.specs.Outcomes.{Answers, Is};
 ghost use Rattle.guard_schema.specs.Views.{visible_of, filling_view};
 

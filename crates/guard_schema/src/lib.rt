@@ -14,7 +14,7 @@
 //! | How much may a schema hold? | `counting.rt` | `specs/Counting.antt` |
 //! | Is there one schema, or one fault? | `laws.rt` | `specs/OneAnswer.antt` |
 //! | Is a schema's type what its tree says, with its constraints and defaults filled in? | `laws.rt` | `specs/Unfinished.antt` |
-//! | How does the code fill a type, component by component? | `finishing.rt` | `specs/InTurn.antt` (private) |
+//! | How does the code fill a type, component by component? | `finishing.rt` | `specs/inside/InTurn.antt` (private) |
 #![tactic(auto)]
 
 mod build;

@@ -10,7 +10,7 @@ use Rattle.guard_syntax.specs.Trees.{WrittenNumber, WrittenArc}
 use Rattle.guard_syntax.specs.TokensOf.{number_then, arc_then, each_then, parted_then}
 use Rattle.guard_syntax.specs.Sites.{first, past, sited_number, sited_arc, sited_each, sited_parted}
 use Rattle.guard_syntax.specs.Grammar.{zero_digits, MayFollowSign, IsNumber, Any, AreEach, AreSome}
-use Rattle.guard_syntax.specs.ReadTokens.{Placed, Reader, begins_with, site_at, is_zero, read_token, read_spelling, read_each, read_parted, read_digits, read_number, read_arc, read_named_arc, read_bare_arc}
+use Rattle.guard_syntax.specs.inside.ReadTokens.{Placed, Reader, begins_with, site_at, is_zero, read_token, read_spelling, read_each, read_parted, read_digits, read_number, read_arc, read_named_arc, read_bare_arc}
 use Rattle.guard_syntax.proofs.SoundSteps.{Sound}
 
 -- these lexemes, at these sites

@@ -18,8 +18,8 @@ use Rattle.guard_syntax.specs.Trees.{WrittenNumber, WrittenValue, value_node, bo
 use Rattle.guard_syntax.specs.TokensOf.{each_then, parted_then, if_there_then, number_then, value_then, end_form_then, end_or_then, range_then, union_mark, intersection_mark, presence_word_then, set_then, set_form_then, united_then, intersection_then, met_then, difference_then, element_then, element_form_then, constraint_then}
 use Rattle.guard_syntax.specs.Sites.{first, past, sited_each, sited_number, sited_value, sited_end_form, sited_end_or, sited_range, sited_set, sited_set_form, sited_intersection, sited_difference, sited_element, sited_element_form, sited_constraint}
 use Rattle.guard_syntax.specs.Grammar.{MayFollowSign, AreEach, IsPerhaps, IsValue, IsEndForm, IsEnd, HasParts, IsSet, IsSetForm, AreUnited, IsIntersection, AreMet, IsDifference, IsElement, IsElementForm, IsConstraint, AreParts}
-use Rattle.guard_syntax.specs.ReadTokens.{Placed, Reader, begins_with, read_token, read_spelling, read_each}
-use Rattle.guard_syntax.specs.ReadSets.{begins_dots, read_end_form, read_end_or, read_range, read_constraint, read_parentheses, read_contained, presence_at, read_perhaps_constraint, read_part, read_partial, read_with_components, read_inner_type_constraints, read_range_or_value, read_element_form, read_element, read_except, read_difference, begins_intersection_mark, begins_union_mark, read_intersection_mark, read_union_mark, read_joined_difference, read_intersection, read_joined_intersection, read_union, read_all_except, read_set_form, read_inner_set, read_set}
+use Rattle.guard_syntax.specs.inside.ReadTokens.{Placed, Reader, begins_with, read_token, read_spelling, read_each}
+use Rattle.guard_syntax.specs.inside.ReadSets.{begins_dots, read_end_form, read_end_or, read_range, read_constraint, read_parentheses, read_contained, presence_at, read_perhaps_constraint, read_part, read_partial, read_with_components, read_inner_type_constraints, read_range_or_value, read_element_form, read_element, read_except, read_difference, begins_intersection_mark, begins_union_mark, read_intersection_mark, read_union_mark, read_joined_difference, read_intersection, read_joined_intersection, read_union, read_all_except, read_set_form, read_inner_set, read_set}
 use Rattle.guard_syntax.proofs.SoundSteps.{Sound}
 use Rattle.guard_syntax.proofs.SoundSets.{part_then, sited_part, IsPart, parts_print, parts_sited, joined_difference_then, sited_joined_difference, IsJoinedDifference, met_print, met_sited, joined_intersection_then, sited_joined_intersection, IsJoinedIntersection, united_print, united_sited, part_is_sound, element_form_sound, element_sound, difference_sound, joined_difference_sound, joined_intersection_sound, set_form_sound, set_sound}
 use Rattle.guard_syntax.proofs.SoundValues.{value_sound}

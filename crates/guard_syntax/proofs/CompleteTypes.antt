@@ -18,9 +18,9 @@ use Rattle.guard_syntax.specs.Trees.{WrittenNumber, WrittenValue, WrittenSet, Wr
 use Rattle.guard_syntax.specs.TokensOf.{each_then, parted_then, comma_before, perhaps_then, value_then, set_then, constraint_then, tag_then, parenthesised_then, named_then, item_then, numbers_then, plain_then, of_constraint_then, type_then, base_then, components_then, alternatives_then}
 use Rattle.guard_syntax.specs.Sites.{first, past, sited_each, sited_parted, sited_value, sited_set, sited_constraint, sited_tag, sited_parenthesised, sited_named, sited_item, sited_numbers, sited_of_constraint, sited_type, sited_base}
 use Rattle.guard_syntax.specs.Grammar.{Any, IsNumber, IsUnsigned, AreEach, AreSome, IsPerhaps, IsValue, IsSet, IsConstraint, IsNamed, IsNamedBit, IsItem, IsOfConstraint, MayConstrain, HasAlternatives, IsType, IsBase, AreComponents, AreAlternatives}
-use Rattle.guard_syntax.specs.ReadTokens.{Placed, Reader, begins_with, site_at, read_token, read_spelling, read_each}
-use Rattle.guard_syntax.specs.ReadSets.{read_constraint}
-use Rattle.guard_syntax.specs.ReadTypes.{mode_at, read_tag, begins_tag, begins_constraint, read_in_parentheses, read_named, read_bit_number, read_bit, read_item_number, read_item, read_numbers, read_items, read_two_words, read_presence, read_component_form, read_component, read_components, read_alternative, read_choice, read_structure, read_of_constraint, read_of, read_collection, read_word_or_name, read_bit_string, read_simple, read_base, is_of, read_constraints, read_inner_type, read_type}
+use Rattle.guard_syntax.specs.inside.ReadTokens.{Placed, Reader, begins_with, site_at, read_token, read_spelling, read_each}
+use Rattle.guard_syntax.specs.inside.ReadSets.{read_constraint}
+use Rattle.guard_syntax.specs.inside.ReadTypes.{mode_at, read_tag, begins_tag, begins_constraint, read_in_parentheses, read_named, read_bit_number, read_bit, read_item_number, read_item, read_numbers, read_items, read_two_words, read_presence, read_component_form, read_component, read_components, read_alternative, read_choice, read_structure, read_of_constraint, read_of, read_collection, read_word_or_name, read_bit_string, read_simple, read_base, is_of, read_constraints, read_inner_type, read_type}
 use Rattle.guard_syntax.proofs.SoundSteps.{Sound}
 use Rattle.guard_syntax.proofs.SoundValues.{value_sound}
 use Rattle.guard_syntax.proofs.SoundSets.{constraint_sound, set_sound}

@@ -12,8 +12,8 @@ use Rattle.guard_syntax.specs.Trees.{WrittenNumber, WrittenArc, WrittenValue, va
 use Rattle.guard_syntax.specs.TokensOf.{number_then, arc_form_then, arc_then, each_then, parted_then, comma_before, entry_name_then, entries_comma, value_then, value_form_then, entries_then}
 use Rattle.guard_syntax.specs.Sites.{past, sited_arc, sited_each, sited_parted, sited_number, sited_value, sited_value_form}
 use Rattle.guard_syntax.specs.Grammar.{MayFollowSign, Any, AreEach, AreArcs, IsValue, IsValueForm, AreEntries}
-use Rattle.guard_syntax.specs.ReadTokens.{Reader, begins_with, read_token, read_spelling}
-use Rattle.guard_syntax.specs.ReadValues.{is_there, begins_value, begins_arcs, are_arcs, does_not_close, read_entry_name, read_entry, read_entries, read_arcs, read_braces, read_name, read_integer_form, read_string, read_value_form, read_value}
+use Rattle.guard_syntax.specs.inside.ReadTokens.{Reader, begins_with, read_token, read_spelling}
+use Rattle.guard_syntax.specs.inside.ReadValues.{is_there, begins_value, begins_arcs, are_arcs, does_not_close, read_entry_name, read_entry, read_entries, read_arcs, read_braces, read_name, read_integer_form, read_string, read_value_form, read_value}
 use Rattle.guard_syntax.proofs.SoundSteps.{Sound}
 use Rattle.guard_syntax.proofs.SoundLists.{arc_sound}
 use Rattle.guard_syntax.proofs.SoundValues.{entry_then, sited_entry, IsEntry, entries_print, entries_sited, entry_sound, form_sound, value_sound}

@@ -1,9 +1,9 @@
 -- A set and a type where one may stand.
 use Rattle.std.proofs.Common.{◌≡◌, ℕ, suc, ◌-◌, List, ap, arith}
-use Rattle.guard_syntax.specs.ReadTokens.{Placed}
-use Rattle.guard_syntax.specs.ReadValues.{read_value}
-use Rattle.guard_syntax.specs.ReadSets.{read_inner_set, read_set}
-use Rattle.guard_syntax.specs.ReadTypes.{read_inner_type, read_type}
+use Rattle.guard_syntax.specs.inside.ReadTokens.{Placed}
+use Rattle.guard_syntax.specs.inside.ReadValues.{read_value}
+use Rattle.guard_syntax.specs.inside.ReadSets.{read_inner_set, read_set}
+use Rattle.guard_syntax.specs.inside.ReadTypes.{read_inner_type, read_type}
 
 pub read_set_above : (levels : ℕ) (ps : List Placed) → (levels ≡ 0 → ⊥) → read_set levels ps ≡ read_inner_set (read_value (levels - 1)) (read_set (levels - 1)) ps
 unfolding read_set

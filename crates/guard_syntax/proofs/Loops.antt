@@ -6,7 +6,7 @@ use Rattle.guard_lexer.specs.declared.token.TokenKind.TheVariants.{Mark}
 use Rattle.guard_lexer.specs.declared.token.Mark.TheVariants.{Comma}
 use Rattle.guard_syntax.specs.declared.read_error.Failure.{Failure}
 use Rattle.guard_syntax.specs.declared.read_error.Failure.TheVariants.{Unexpected}
-use Rattle.guard_syntax.specs.ReadTokens.{Placed, Reader, begins_with, behind, read_each, read_parted}
+use Rattle.guard_syntax.specs.inside.ReadTokens.{Placed, Reader, begins_with, behind, read_each, read_parted}
 
 -- what was read before, and what is still read
 abbrev pub with_earlier : {A : Type 0} → List A → Result (List A × List Placed) Failure → Result (List A × List Placed) Failure

@@ -9,8 +9,8 @@ use Rattle.guard_syntax.specs.Trees.{WrittenModule}
 use Rattle.guard_syntax.specs.TokensOf.{tokens_of}
 use Rattle.guard_syntax.specs.Sites.{sited}
 use Rattle.guard_syntax.specs.Parses.{IsWritten, HasSites}
-use Rattle.guard_syntax.specs.ReadTokens.{placed_of, failure_of}
-use Rattle.guard_syntax.specs.ReadModule.{read_module}
+use Rattle.guard_syntax.specs.inside.ReadTokens.{placed_of, failure_of}
+use Rattle.guard_syntax.specs.inside.ReadModule.{read_module}
 use Rattle.guard_syntax.specs.declared.read_error.Failure.{Failure}
 use Rattle.guard_syntax.specs.declared.read_error.ReadError.{ReadError}
 use Rattle.guard_syntax.specs.declared.read_error.ReadError.TheVariants as errors

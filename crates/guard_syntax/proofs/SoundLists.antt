@@ -9,8 +9,8 @@ use Rattle.guard_syntax.specs.Lexemes.{Lexeme, word, mark, number}
 use Rattle.guard_syntax.specs.TokensOf.{perhaps_then, if_there_then, number_then, arc_then, each_then, parted_then, comma_before}
 use Rattle.guard_syntax.specs.Sites.{past, past_perhaps, past_if, past_comma, sited_number, sited_arc, sited_each, sited_parted, sited_perhaps}
 use Rattle.guard_syntax.specs.Grammar.{IsPerhaps, MayFollowSign, IsNumber, Any, AreEach, AreSome}
-use Rattle.guard_syntax.specs.ReadTokens.{Placed, Reader, begins_with, behind, behind_if, spelling_at, begins_with_zero, is_zero, read_spelling, read_each, read_parted, read_digits, read_number, read_arc, read_named_arc, read_bare_arc}
-use Rattle.guard_syntax.specs.ReadValues.{is_there}
+use Rattle.guard_syntax.specs.inside.ReadTokens.{Placed, Reader, begins_with, behind, behind_if, spelling_at, begins_with_zero, is_zero, read_spelling, read_each, read_parted, read_digits, read_number, read_arc, read_named_arc, read_bare_arc}
+use Rattle.guard_syntax.specs.inside.ReadValues.{is_there}
 use Rattle.guard_syntax.proofs.SoundSteps.{lexemes, sites, Holds, then_holds, ok_holds, err_holds, if_holds, Took, took, took_mark, took_spelled, IsRead, Sound}
 
 -- ---- numbers

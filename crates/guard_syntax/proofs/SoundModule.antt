@@ -14,9 +14,9 @@ use Rattle.guard_syntax.specs.Trees.{WrittenArc, WrittenIdentifierPart, arc_part
 use Rattle.guard_syntax.specs.TokensOf.{each_then, perhaps_then, identifier_part_then, identifier_then, tag_default_word, tag_default_then, symbol_then, exports_then, import_then, imports_then, assignment_then, tokens_of}
 use Rattle.guard_syntax.specs.Sites.{past, sited_each, sited_identifier_part, sited_identifier, past_tag_default, sited_symbol, sited_exports, sited_import, sited_imports, sited_assignment, sited}
 use Rattle.guard_syntax.specs.Grammar.{Any, AreEach, IsImport, most_levels, IsAssignment, IsModule}
-use Rattle.guard_syntax.specs.ReadTokens.{Placed, begins_with, behind, read_token}
-use Rattle.guard_syntax.specs.ReadValues.{is_there, does_not_close}
-use Rattle.guard_syntax.specs.ReadModule.{begins_bare_name, read_identifier_part, read_identifier_parts, read_identifier, tag_default_at, read_tag_default, read_symbol, read_exported, read_exports, read_import, goes_on_importing, read_imports, read_type_assignment, read_value_assignment, read_assignment, goes_on_assigning, WrittenHead, read_head, read_end, read_module}
+use Rattle.guard_syntax.specs.inside.ReadTokens.{Placed, begins_with, behind, read_token}
+use Rattle.guard_syntax.specs.inside.ReadValues.{is_there, does_not_close}
+use Rattle.guard_syntax.specs.inside.ReadModule.{begins_bare_name, read_identifier_part, read_identifier_parts, read_identifier, tag_default_at, read_tag_default, read_symbol, read_exported, read_exports, read_import, goes_on_importing, read_imports, read_type_assignment, read_value_assignment, read_assignment, goes_on_assigning, WrittenHead, read_head, read_end, read_module}
 use Rattle.guard_syntax.proofs.SoundSteps.{lexemes, sites, Holds, then_holds, ok_holds, err_holds, if_holds, took, took_mark, took_word, took_spelled, Sound}
 use Rattle.guard_syntax.proofs.SoundLists.{WordRead, word_sound, no_word_sound, PerhapsRead, missing_sound, arc_sound, HasOne, each_sound, each_some, parted_sound}
 use Rattle.guard_syntax.proofs.SoundValues.{value_sound}

@@ -13,9 +13,9 @@ use Rattle.guard_syntax.specs.Trees.{WrittenNumber, WrittenValue, end_integer, W
 use Rattle.guard_syntax.specs.TokensOf.{each_then, parted_then, perhaps_then, value_then, end_form_then, end_or_then, range_then, union_mark, intersection_mark, presence_word_then, partial_then, parts_comma, set_then, set_form_then, united_then, intersection_then, met_then, difference_then, element_then, element_form_then, constraint_then, parts_then}
 use Rattle.guard_syntax.specs.Sites.{first, past, past_perhaps, sited_each, sited_parted, sited_perhaps, sited_value, sited_end_form, sited_end_or, sited_range, past_partial, past_parts_comma, sited_set, sited_set_form, sited_united, sited_intersection, sited_met, sited_difference, sited_element, sited_element_form, sited_constraint, sited_parts}
 use Rattle.guard_syntax.specs.Grammar.{AreEach, AreSome, IsPerhaps, IsValue, IsEndForm, IsEnd, IsRange, HasParts, IsSet, IsSetForm, AreUnited, IsIntersection, AreMet, IsDifference, IsElement, IsElementForm, IsConstraint, AreParts}
-use Rattle.guard_syntax.specs.ReadTokens.{Placed, Reader, begins_with, behind, behind_if}
-use Rattle.guard_syntax.specs.ReadValues.{begins_number}
-use Rattle.guard_syntax.specs.ReadSets.{begins_range, begins_set, read_end_form, read_end_or, read_range, read_constraint, read_parentheses, read_contained, presence_at, read_perhaps_constraint, read_part, read_partial, read_with_components, read_inner_type_constraints, read_range_or_value, read_element_form, read_element, read_except, read_difference, begins_intersection_mark, begins_union_mark, read_intersection_mark, read_union_mark, read_joined_difference, read_intersection, read_joined_intersection, read_union, read_all_except, read_set_form, read_inner_set, read_set}
+use Rattle.guard_syntax.specs.inside.ReadTokens.{Placed, Reader, begins_with, behind, behind_if}
+use Rattle.guard_syntax.specs.inside.ReadValues.{begins_number}
+use Rattle.guard_syntax.specs.inside.ReadSets.{begins_range, begins_set, read_end_form, read_end_or, read_range, read_constraint, read_parentheses, read_contained, presence_at, read_perhaps_constraint, read_part, read_partial, read_with_components, read_inner_type_constraints, read_range_or_value, read_element_form, read_element, read_except, read_difference, begins_intersection_mark, begins_union_mark, read_intersection_mark, read_union_mark, read_joined_difference, read_intersection, read_joined_intersection, read_union, read_all_except, read_set_form, read_inner_set, read_set}
 use Rattle.guard_syntax.proofs.SoundSteps.{lexemes, sites, Holds, then_holds, ok_holds, err_holds, if_holds, so_holds, Took, took, took_mark, took_word, took_spelled, Sound}
 use Rattle.guard_syntax.proofs.SoundLists.{passed, WordRead, word_sound, no_word_sound, PerhapsRead, there_sound, missing_sound, number_sound, each_sound, parted_sound}
 use Rattle.guard_syntax.proofs.SoundValues.{value_sound}

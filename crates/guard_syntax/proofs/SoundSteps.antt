@@ -14,7 +14,7 @@ use Rattle.guard_syntax.specs.declared.read_error.Failure.{Failure}
 use Rattle.guard_syntax.specs.Kinds.{same_kind}
 use Rattle.guard_syntax.specs.Lexemes.{Lexeme, word, mark, upper_name, lower_name, number, character_string, bit_string, hexadecimal_string, unsupported, kind_of, spelling_of, lexeme_of}
 use Rattle.guard_syntax.specs.Sites.{past}
-use Rattle.guard_syntax.specs.ReadTokens.{Placed, Reader, begins_with, behind, spelling_at, read_token, read_spelling}
+use Rattle.guard_syntax.specs.inside.ReadTokens.{Placed, Reader, begins_with, behind, spelling_at, read_token, read_spelling}
 
 abbrev pub lexemes : List Placed → List Lexeme
 lexemes ps = map (λ p. p.lexeme) ps

@@ -17,9 +17,9 @@ use Rattle.guard_syntax.specs.Trees.{WrittenNumber, WrittenValue, WrittenSet, Wr
 use Rattle.guard_syntax.specs.TokensOf.{each_then, parted_then, value_then, set_then, constraint_then, class_then, mode_then, tag_then, parenthesised_then, named_then, item_then, numbers_then, plain_then, collection_word, of_constraint_then, presence_then, components_comma, type_then, base_then, components_then, alternatives_then}
 use Rattle.guard_syntax.specs.Sites.{first, past, sited_each, sited_parted, sited_number, sited_value, sited_set, sited_constraint, sited_tag, sited_parenthesised, sited_named, sited_item, sited_numbers, past_plain, sited_of_constraint, sited_presence, past_components_comma, sited_type, sited_base, sited_components, sited_alternatives}
 use Rattle.guard_syntax.specs.Grammar.{Any, IsNumber, IsUnsigned, AreEach, AreSome, IsValue, IsSet, IsConstraint, IsNamed, IsNamedBit, IsItem, IsOfConstraint, IsPresence, MayConstrain, HasAlternatives, IsType, IsBase, AreComponents, AreAlternatives}
-use Rattle.guard_syntax.specs.ReadTokens.{Placed, Reader, begins_with, behind, behind_if}
-use Rattle.guard_syntax.specs.ReadValues.{is_there}
-use Rattle.guard_syntax.specs.ReadTypes.{read_bit_string, class_at, mode_at, read_tag, begins_tag, begins_constraint, read_in_parentheses, read_named, read_bit_number, read_bit, read_item_number, read_item, read_numbers, read_items, single_word_at, begins_two_words, read_two_words, read_presence, read_component_form, read_component, read_components, read_alternative, read_choice, read_structure, read_of_constraint, read_of, read_collection, plain_or_name, read_word_or_name, read_simple, read_base, is_of, read_constraints, begins_type, read_inner_type, read_type}
+use Rattle.guard_syntax.specs.inside.ReadTokens.{Placed, Reader, begins_with, behind, behind_if}
+use Rattle.guard_syntax.specs.inside.ReadValues.{is_there}
+use Rattle.guard_syntax.specs.inside.ReadTypes.{read_bit_string, class_at, mode_at, read_tag, begins_tag, begins_constraint, read_in_parentheses, read_named, read_bit_number, read_bit, read_item_number, read_item, read_numbers, read_items, single_word_at, begins_two_words, read_two_words, read_presence, read_component_form, read_component, read_components, read_alternative, read_choice, read_structure, read_of_constraint, read_of, read_collection, plain_or_name, read_word_or_name, read_simple, read_base, is_of, read_constraints, begins_type, read_inner_type, read_type}
 use Rattle.guard_syntax.proofs.SoundSteps.{lexemes, sites, Holds, then_holds, ok_holds, err_holds, if_holds, so_holds, Took, took, took_mark, took_word, took_spelled, IsRead, Sound}
 use Rattle.guard_syntax.proofs.SoundLists.{some_each, passed, WordRead, word_sound, no_word_sound, PerhapsRead, there_sound, missing_sound, number_sound, each_sound, parted_sound}
 use Rattle.guard_syntax.proofs.SoundValues.{value_sound}

@@ -9,8 +9,8 @@ use Rattle.guard_syntax.specs.Trees.{WrittenNumber, WrittenArc, WrittenValue, in
 use Rattle.guard_syntax.specs.TokensOf.{arc_then, each_then, parted_then, entry_name_then, value_then, value_form_then, entries_then}
 use Rattle.guard_syntax.specs.Sites.{first, past, past_perhaps, sited_arc, sited_each, sited_parted, sited_value, sited_value_form, sited_entries}
 use Rattle.guard_syntax.specs.Grammar.{AreEach, AreArcs, IsValue, IsValueForm, AreEntries}
-use Rattle.guard_syntax.specs.ReadTokens.{Placed, Reader, begins_with, behind}
-use Rattle.guard_syntax.specs.ReadValues.{is_there, begins_number, begins_value, begins_arcs, are_arcs, does_not_close, read_entry_name, read_entry, read_entries, read_arcs, read_braces, read_name, read_integer_form, read_string, read_value_form, read_value}
+use Rattle.guard_syntax.specs.inside.ReadTokens.{Placed, Reader, begins_with, behind}
+use Rattle.guard_syntax.specs.inside.ReadValues.{is_there, begins_number, begins_value, begins_arcs, are_arcs, does_not_close, read_entry_name, read_entry, read_entries, read_arcs, read_braces, read_name, read_integer_form, read_string, read_value_form, read_value}
 use Rattle.guard_syntax.proofs.SoundSteps.{lexemes, sites, Holds, then_holds, ok_holds, err_holds, if_holds, so_holds, took, took_mark, took_spelled, Sound}
 use Rattle.guard_syntax.proofs.SoundLists.{some_each, number_sound, arc_sound, each_sound, parted_sound}
 

@@ -14,10 +14,5 @@ pub mod Views
 pub mod SetViews
 pub mod TypeViews
 pub mod ModuleViews
--- ---- what private contracts cite: reading step by step
-pub mod ReadTokens
-pub mod Cursors
-pub mod ReadValues
-pub mod ReadSets
-pub mod ReadTypes
-pub mod ReadModule
+-- ---- what only private contracts and proofs cite
+pub mod inside

@@ -13,7 +13,7 @@ use Rattle.guard_syntax.specs.declared.tree.ValueTree.{ValueTree}
 use Rattle.guard_syntax.specs.declared.tree.Assignment.{Assignment}
 use Rattle.guard_syntax.specs.declared.tree.Module.{Module}
 use Rattle.guard_syntax.specs.declared.module.Heading.{Heading}
-use Rattle.guard_syntax.specs.ReadModule.{WrittenHead}
+use Rattle.guard_syntax.specs.inside.ReadModule.{WrittenHead}
 
 abbrev pub identifier_part_view : PartTree → WrittenIdentifierPart
 identifier_part_view (id_part.Name name) = bare_name name.now

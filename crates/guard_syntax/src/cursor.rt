@@ -2,9 +2,9 @@
 ghost use Rattle.std.specs.Prelude.{◌≡◌, length, Some, true, false};
 ghost use Rattle.guard_model.specs.Answer.{Gives};
 ghost use Rattle.guard_syntax.specs.Lexemes.{octets_of, HasSpelling};
-ghost use Rattle.guard_syntax.specs.ReadTokens as reading;
-ghost use Rattle.guard_syntax.specs.ReadTokens.{failure_of};
-ghost use Rattle.guard_syntax.specs.Cursors.{ahead, Reads};
+ghost use Rattle.guard_syntax.specs.inside.ReadTokens as reading;
+ghost use Rattle.guard_syntax.specs.inside.ReadTokens.{failure_of};
+ghost use Rattle.guard_syntax.specs.inside.Cursors.{ahead, Reads};
 
 use crate::read_error::{Failure, ReadError};
 use guard_lexer::{Token, TokenKind};

@@ -1,9 +1,9 @@
 //! Exports and imports.
 ghost use Rattle.std.specs.Prelude.{◌≡◌, map, length};
 ghost use Rattle.guard_model.specs.Answer.{Gives};
-ghost use Rattle.guard_syntax.specs.ReadTokens as tokens_reading;
-ghost use Rattle.guard_syntax.specs.Cursors.{ahead, Reads, each_view, boxed_view};
-ghost use Rattle.guard_syntax.specs.ReadModule as reading;
+ghost use Rattle.guard_syntax.specs.inside.ReadTokens as tokens_reading;
+ghost use Rattle.guard_syntax.specs.inside.Cursors.{ahead, Reads, each_view, boxed_view};
+ghost use Rattle.guard_syntax.specs.inside.ReadModule as reading;
 ghost use Rattle.guard_syntax.specs.ModuleViews.{symbol_view, exports_view, perhaps_exports_view, import_view, imports_view};
 
 use crate::cursor::{Cursor, Read};

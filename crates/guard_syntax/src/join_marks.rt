@@ -1,9 +1,9 @@
 //! The marks between the parts of a union or an intersection.
 ghost use Rattle.std.specs.Prelude.{◌≡◌};
 ghost use Rattle.guard_model.specs.Answer.{Gives};
-ghost use Rattle.guard_syntax.specs.Cursors.{ahead, Reads};
+ghost use Rattle.guard_syntax.specs.inside.Cursors.{ahead, Reads};
 ghost use Rattle.guard_syntax.specs.Lexemes.{kind_of};
-ghost use Rattle.guard_syntax.specs.ReadSets as reading;
+ghost use Rattle.guard_syntax.specs.inside.ReadSets as reading;
 ghost use Rattle.guard_syntax.specs.TokensOf as written;
 
 use crate::cursor::{Cursor, Read};

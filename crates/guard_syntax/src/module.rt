@@ -1,11 +1,11 @@
 //! Modules and their assignments.
 ghost use Rattle.std.specs.Prelude.{◌≡◌, map, length};
 ghost use Rattle.guard_model.specs.Answer.{Gives};
-ghost use Rattle.guard_syntax.specs.ReadTokens as tokens_reading;
-ghost use Rattle.guard_syntax.specs.ReadTokens.{failure_of};
-ghost use Rattle.guard_syntax.specs.Cursors.{ahead, Reads, each_view, boxed_view};
+ghost use Rattle.guard_syntax.specs.inside.ReadTokens as tokens_reading;
+ghost use Rattle.guard_syntax.specs.inside.ReadTokens.{failure_of};
+ghost use Rattle.guard_syntax.specs.inside.Cursors.{ahead, Reads, each_view, boxed_view};
 ghost use Rattle.guard_syntax.specs.Grammar.{most_levels};
-ghost use Rattle.guard_syntax.specs.ReadModule as reading;
+ghost use Rattle.guard_syntax.specs.inside.ReadModule as reading;
 ghost use Rattle.guard_syntax.specs.ModuleViews.{head_view, assignment_view, module_view};
 
 use crate::cursor::{Cursor, Read};

@@ -1,10 +1,10 @@
 //! Object identifiers behind module names.
 ghost use Rattle.std.specs.Prelude.{◌≡◌, map, length};
 ghost use Rattle.guard_model.specs.Answer.{Gives};
-ghost use Rattle.guard_syntax.specs.ReadTokens as tokens_reading;
-ghost use Rattle.guard_syntax.specs.Cursors.{ahead, Reads, each_view, boxed_view};
-ghost use Rattle.guard_syntax.specs.ReadValues.{does_not_close};
-ghost use Rattle.guard_syntax.specs.ReadModule as reading;
+ghost use Rattle.guard_syntax.specs.inside.ReadTokens as tokens_reading;
+ghost use Rattle.guard_syntax.specs.inside.Cursors.{ahead, Reads, each_view, boxed_view};
+ghost use Rattle.guard_syntax.specs.inside.ReadValues.{does_not_close};
+ghost use Rattle.guard_syntax.specs.inside.ReadModule as reading;
 ghost use Rattle.guard_syntax.specs.ModuleViews.{identifier_part_view};
 
 use crate::cursor::{Cursor, Read};

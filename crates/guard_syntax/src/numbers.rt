@@ -1,8 +1,8 @@
 //! Numbers and arcs.
 ghost use Rattle.std.specs.Prelude.{◌≡◌};
 ghost use Rattle.guard_model.specs.Answer.{Gives};
-ghost use Rattle.guard_syntax.specs.ReadTokens as reading;
-ghost use Rattle.guard_syntax.specs.Cursors.{ahead, Reads, each_view, boxed_view};
+ghost use Rattle.guard_syntax.specs.inside.ReadTokens as reading;
+ghost use Rattle.guard_syntax.specs.inside.Cursors.{ahead, Reads, each_view, boxed_view};
 ghost use Rattle.guard_syntax.specs.Views.{number_view, arc_view};
 
 use crate::cursor::{Cursor, Read, octets};

@@ -1,8 +1,8 @@
 //! Ranges of values.
 ghost use Rattle.std.specs.Prelude.{◌≡◌};
 ghost use Rattle.guard_model.specs.Answer.{Gives};
-ghost use Rattle.guard_syntax.specs.Cursors.{ahead, Reads, each_view, boxed_view};
-ghost use Rattle.guard_syntax.specs.ReadSets as reading;
+ghost use Rattle.guard_syntax.specs.inside.Cursors.{ahead, Reads, each_view, boxed_view};
+ghost use Rattle.guard_syntax.specs.inside.ReadSets as reading;
 ghost use Rattle.guard_syntax.specs.SetViews.{end_form_view, end_or_view, range_view};
 
 use crate::cursor::{Cursor, Read};

@@ -1,10 +1,10 @@
 //! Constraints and sets of values.
 ghost use Rattle.std.specs.Prelude.{◌≡◌, map, length, IfOk};
 ghost use Rattle.guard_model.specs.Answer.{Gives};
-ghost use Rattle.guard_syntax.specs.ReadTokens as tokens_reading;
-ghost use Rattle.guard_syntax.specs.Cursors.{ahead, Reads, each_view, boxed_view};
-ghost use Rattle.guard_syntax.specs.ReadValues.{read_value};
-ghost use Rattle.guard_syntax.specs.ReadSets as reading;
+ghost use Rattle.guard_syntax.specs.inside.ReadTokens as tokens_reading;
+ghost use Rattle.guard_syntax.specs.inside.Cursors.{ahead, Reads, each_view, boxed_view};
+ghost use Rattle.guard_syntax.specs.inside.ReadValues.{read_value};
+ghost use Rattle.guard_syntax.specs.inside.ReadSets as reading;
 ghost use Rattle.guard_syntax.specs.SetViews.{site_of_element, site_of_difference, element_form_view, element_view, perhaps_element_view, difference_view, joined_difference_view, intersection_view, joined_intersection_view, set_form_view, set_view, constraint_view, perhaps_constraint_view, part_view};
 
 use crate::cursor::{Cursor, Read};

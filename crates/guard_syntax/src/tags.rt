@@ -1,9 +1,9 @@
 //! Tags.
 ghost use Rattle.std.specs.Prelude.{◌≡◌, map, length};
 ghost use Rattle.guard_model.specs.Answer.{Gives};
-ghost use Rattle.guard_syntax.specs.ReadTokens as tokens_reading;
-ghost use Rattle.guard_syntax.specs.Cursors.{ahead, Reads, each_view, boxed_view};
-ghost use Rattle.guard_syntax.specs.ReadTypes as reading;
+ghost use Rattle.guard_syntax.specs.inside.ReadTokens as tokens_reading;
+ghost use Rattle.guard_syntax.specs.inside.Cursors.{ahead, Reads, each_view, boxed_view};
+ghost use Rattle.guard_syntax.specs.inside.ReadTypes as reading;
 ghost use Rattle.guard_syntax.specs.TypeViews.{tag_view};
 
 use crate::cursor::{Cursor, Read};

@@ -1,12 +1,12 @@
 //! Types.
 ghost use Rattle.std.specs.Prelude.{◌≡◌, map, length};
 ghost use Rattle.guard_model.specs.Answer.{Gives, Refuses};
-ghost use Rattle.guard_syntax.specs.ReadTokens as tokens_reading;
-ghost use Rattle.guard_syntax.specs.ReadTokens.{failure_of};
-ghost use Rattle.guard_syntax.specs.Cursors.{ahead, Reads, each_view, boxed_view};
-ghost use Rattle.guard_syntax.specs.ReadValues.{read_value};
-ghost use Rattle.guard_syntax.specs.ReadSets.{read_set, read_constraint};
-ghost use Rattle.guard_syntax.specs.ReadTypes as reading;
+ghost use Rattle.guard_syntax.specs.inside.ReadTokens as tokens_reading;
+ghost use Rattle.guard_syntax.specs.inside.ReadTokens.{failure_of};
+ghost use Rattle.guard_syntax.specs.inside.Cursors.{ahead, Reads, each_view, boxed_view};
+ghost use Rattle.guard_syntax.specs.inside.ReadValues.{read_value};
+ghost use Rattle.guard_syntax.specs.inside.ReadSets.{read_set, read_constraint};
+ghost use Rattle.guard_syntax.specs.inside.ReadTypes as reading;
 ghost use Rattle.guard_syntax.specs.SetViews.{constraint_view};
 ghost use Rattle.guard_syntax.specs.TypeViews.{of_constraint_view, presence_view, base_view, component_form_view, component_view, alternative_view, type_view};
 

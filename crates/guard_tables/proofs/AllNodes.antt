@@ -11,7 +11,7 @@ use Rattle.guard_model.specs.declared.ty.Kind.TheViews.{out-Comp}
 use Rattle.guard_model.proofs.Components.{left, left_is}
 use Rattle.guard_tables.specs.Conditions.{is_crowded, has_crowded_node}
 use Rattle.guard_tables.specs.Nodes.{ways, ways_inside, ways_among}
-use Rattle.guard_tables.specs.Search.{crowded_from, crowded_inside, crowded_among}
+use Rattle.guard_tables.specs.inside.Search.{crowded_from, crowded_inside, crowded_among}
 
 -- ---- past a component without such a node
 

@@ -9,7 +9,7 @@ use Rattle.guard_model.specs.TypeView.{OneComponent, OnePart, part_before}
 use Rattle.guard_model.specs.declared.site.Site.{Site}
 use Rattle.guard_model.specs.declared.ty.Word.{Word}
 use Rattle.guard_tables.specs.Conditions.{of_component, of_parts, of_type}
-use Rattle.guard_tables.specs.Counting.{counted, of_found, of_part, of_within}
+use Rattle.guard_tables.specs.inside.Counting.{counted, of_found, of_part, of_within}
 
 -- nothing is to come
 pub none_more : (count all : ℕ) → count ≤ 18446744073709551615 → counted (count + 0) ≡ counted all → count ≡ counted all

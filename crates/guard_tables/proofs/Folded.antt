@@ -8,7 +8,7 @@ use Rattle.guard_tables.specs.declared.node.Form as node
 use Rattle.guard_tables.specs.Demands.{Term}
 use Rattle.guard_tables.specs.Formulas.{Form, never, always, either, both}
 use Rattle.guard_tables.specs.Forms.{Formula, form_one, form_all, form_some, joined, or_else}
-use Rattle.guard_tables.specs.FormSteps.{Puts, eithers, boths, own_slot}
+use Rattle.guard_tables.specs.inside.FormSteps.{Puts, eithers, boths, own_slot}
 use Rattle.guard_tables.specs.NodeViews.{form_view}
 use Rattle.guard_tables.proofs.FormLists.{eithers_last, boths_last}
 

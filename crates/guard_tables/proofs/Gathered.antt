@@ -8,7 +8,7 @@ use Rattle.guard_model.proofs.Components.{left, left_is}
 use Rattle.guard_tables.specs.declared.slots.Slots.{Slots}
 use Rattle.guard_tables.specs.Demands.{Term}
 use Rattle.guard_tables.specs.Spread.{ruled_out}
-use Rattle.guard_tables.specs.OnePart.{spread_unlisted_one}
+use Rattle.guard_tables.specs.inside.OnePart.{spread_unlisted_one}
 
 -- what a full list says of one component more
 pub unlisted_more : (kind : AbstractKind) (ps : Parts) (k : Slots) (comps : List Comp) (i : ℕ) (comp : Comp) (old new all : List Term) → i < length comps → comp ≡ get_or comps i comp

@@ -5,7 +5,7 @@ use Rattle.std.proofs.lemmas.List.{at_drop_all}
 use Rattle.std.proofs.lemmas.Int.{ints, clamps}
 use Rattle.guard_tables.specs.declared.node.Range.{Range}
 use Rattle.guard_tables.specs.Marking.{is_in, is_in_one}
-use Rattle.guard_tables.specs.Pieces.{below, above, without, without_all}
+use Rattle.guard_tables.specs.inside.Pieces.{below, above, without, without_all}
 
 below_has : (r gone : Range) (z : ℤ) → is_in_one (below r gone) z ≡ (is_in z r && int_lt z gone.low)
 below_has r gone z = grind (arith, ints, clamps)

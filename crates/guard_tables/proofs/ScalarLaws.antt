@@ -6,7 +6,7 @@ use Rattle.guard_model.specs.declared.ty.Limit.{Limit}
 use Rattle.guard_eval.specs.Member.{holds_element}
 use Rattle.guard_tables.specs.declared.scalars.Scalar.{Scalar}
 use Rattle.guard_tables.specs.declared.scalars.Scalar.TheVariants as scalar
-use Rattle.guard_tables.specs.Scalars.{scalar_view}
+use Rattle.guard_tables.specs.inside.Scalars.{scalar_view}
 
 pub none_between : (low : Limit) (high : Limit) (kind : AbstractKind) (s : Scalar) → holds_element (type.range low high) kind (scalar_view s) ≡ false
 none_between low high kind (scalar.Bool b) = refl

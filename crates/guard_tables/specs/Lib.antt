@@ -15,13 +15,6 @@ pub mod Apt
 pub mod Forms
 pub mod Handed
 pub mod Lay
--- ---- what is asked, as the code has it
-pub mod AskViews
-pub mod OnePart
-pub mod FormSteps
-pub mod Pieces
-pub mod NumberSets
-pub mod Scalars
 -- ---- the nodes
 pub mod NodeViews
 pub mod TableNodes
@@ -32,9 +25,7 @@ pub mod TableView
 pub mod Alike
 -- ---- what plans of tables fail
 pub mod Laws
--- ---- what private contracts cite
-pub mod Counting
-pub mod Search
+-- ---- what only private contracts and proofs cite
+pub mod inside
 -- ---- worked examples
-pub mod Rows
-pub mod AskRows
+pub mod rows

@@ -2,7 +2,7 @@
 ghost use Rattle.std.specs.Prelude.{◌≡◌, map, IfOk};
 ghost use Rattle.guard_tables.specs.Forms.{forms_of};
 ghost use Rattle.guard_tables.specs.NodeViews.{raise_view};
-ghost use Rattle.guard_tables.specs.AskViews.{asks_view, terms_view};
+ghost use Rattle.guard_tables.specs.inside.AskViews.{asks_view, terms_view};
 
 use crate::asks::{Ask, Term};
 use crate::form_terms::{form, slot_at};

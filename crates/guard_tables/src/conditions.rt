@@ -3,7 +3,7 @@ ghost use Rattle.std.specs.Prelude.{◌≡◌, ◌∷◌, map};
 ghost use Rattle.guard_model.specs.TypeView.{type_view, kind_view, component_view, constraint_view, element_view, part_view, components_of, constraints_of, parts_of};
 ghost use Rattle.guard_tables.specs.Tables.{types_view};
 ghost use Rattle.guard_tables.specs.Conditions.{of_type, of_kind, of_component, of_constraints, of_constraint, of_element, of_parts, conditions, here, inside, is_crowded};
-ghost use Rattle.guard_tables.specs.Counting.{counted, of_part};
+ghost use Rattle.guard_tables.specs.inside.Counting.{counted, of_part};
 
 use guard_model::{Comp, Cons, Kind, Part, Rule, Ty};
 

@@ -3,9 +3,9 @@ ghost use Rattle.std.specs.Prelude.{◌≡◌, map, IfOk, suc};
 ghost use Rattle.guard_model.specs.TypeView.{type_view, kind_view, constraint_view, element_view, constraints_of};
 ghost use Rattle.guard_tables.specs.Formulas as formulas;
 ghost use Rattle.guard_tables.specs.Forms.{form, form_one, form_element, form_all, form_some, form_type};
-ghost use Rattle.guard_tables.specs.FormSteps.{Puts, own_slot};
+ghost use Rattle.guard_tables.specs.inside.FormSteps.{Puts, own_slot};
 ghost use Rattle.guard_tables.specs.NodeViews.{form_view};
-ghost use Rattle.guard_tables.specs.AskViews.{demand_view, terms_view};
+ghost use Rattle.guard_tables.specs.inside.AskViews.{demand_view, terms_view};
 
 use crate::asks::{Atom, Demand, Term, push};
 use crate::form_trees::{both_of_all, either, either_of_all, unless};

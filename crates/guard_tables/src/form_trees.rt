@@ -1,7 +1,7 @@
 //! Formulas, put together from the right.
 ghost use Rattle.std.specs.Prelude.{◌≡◌, map, IfOk};
 ghost use Rattle.guard_tables.specs.Formulas as formulas;
-ghost use Rattle.guard_tables.specs.FormSteps.{eithers, boths};
+ghost use Rattle.guard_tables.specs.inside.FormSteps.{eithers, boths};
 ghost use Rattle.guard_tables.specs.NodeViews.{form_view};
 
 use crate::node::Form;

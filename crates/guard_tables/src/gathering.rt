@@ -1,7 +1,7 @@
 //! What the tests of a node ask of each of its parts.
 ghost use Rattle.std.specs.Prelude.{◌≡◌, ◌++◌, OnOk, IfOk};
 ghost use Rattle.guard_tables.specs.Handed.{each_in, each_of, within_in, within_of};
-ghost use Rattle.guard_tables.specs.AskViews.{terms_view, asks_view, atom_view};
+ghost use Rattle.guard_tables.specs.inside.AskViews.{terms_view, asks_view, atom_view};
 
 use crate::asks::{Ask, Atom, Term};
 use crate::slots::Slots;

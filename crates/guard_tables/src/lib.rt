@@ -4,7 +4,7 @@
 //! |---|---|---|
 //! | What is a table, and which types make one? | `table.rt` (`Table::compile`) | `specs/TableView.antt`, `specs/Tables.antt` |
 //! | Why do types make none, and which reason comes first? | `fault.rt` | `specs/Tables.antt` |
-//! | What is asked of a value at a node, and how much is too much? | `conditions.rt` | `specs/Conditions.antt`, as it is counted `specs/Counting.antt` |
+//! | What is asked of a value at a node, and how much is too much? | `conditions.rt` | `specs/Conditions.antt`, as it is counted `specs/inside/Counting.antt` |
 //! | At which nodes is that looked at? | `nodes.rt` | `specs/Conditions.antt` |
 //! | Which slots have failed? | `slots.rt` | `specs/Slots.antt` |
 //! | What do nodes stand for, and what fails at a value? | laws `marking_laws.rt` | `specs/Plan.antt`, `specs/Formulas.antt`, `specs/Marking.antt` |
@@ -12,8 +12,8 @@
 //! | Which nodes are there, and what keeps them in order? | `node.rt`, `node_list.rt` | `specs/NodeViews.antt`, `specs/TableNodes.antt`, `specs/NodesView.antt` |
 //! | How is what types and constraints ask tested at one node? | `slots.rt` | `specs/Demands.antt`, `specs/Spread.antt`, `specs/Forms.antt` |
 //! | Which plan asks all of it, and how many slots does a node need? | laws in `laws.rt` | `specs/Lay.antt`, `specs/Handed.antt`, `specs/Laws.antt` |
-//! | What is asked at a node, in code? | `asks.rt`; as tests `spreading.rt`, `parts.rt`, as formulas `form_terms.rt`, `asks_at_node.rt`, of parts `gathering.rt`, `presence.rt` | `specs/AskViews.antt`, as it is put together `specs/OnePart.antt`, `specs/FormSteps.antt` |
-//! | Which numbers, sizes and scalar values does a constraint have, as one set? | `number_sets.rt`, `range_lists.rt`, `simple_tests.rt`, `scalars.rt` | `specs/NumberSets.antt`, `specs/Pieces.antt`, `specs/Scalars.antt` |
+//! | What is asked at a node, in code? | `asks.rt`; as tests `spreading.rt`, `parts.rt`, as formulas `form_terms.rt`, `asks_at_node.rt`, of parts `gathering.rt`, `presence.rt` | `specs/inside/AskViews.antt`, as it is put together `specs/inside/OnePart.antt`, `specs/inside/FormSteps.antt` |
+//! | Which numbers, sizes and scalar values does a constraint have, as one set? | `number_sets.rt`, `range_lists.rt`, `simple_tests.rt`, `scalars.rt` | `specs/inside/NumberSets.antt`, `specs/inside/Pieces.antt`, `specs/inside/Scalars.antt` |
 #![tactic(auto)]
 
 mod asks;

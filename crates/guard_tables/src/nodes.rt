@@ -4,7 +4,7 @@ ghost use Rattle.std.specs.Prelude.{◌≡◌, ◌∷◌, ◌++◌, [], map, IfO
 ghost use Rattle.guard_model.specs.TypeView.{type_view, kind_view, component_view, components_of};
 ghost use Rattle.guard_tables.specs.Tables.{types_view};
 ghost use Rattle.guard_tables.specs.Conditions.{has_crowded_node};
-ghost use Rattle.guard_tables.specs.Search.{crowded_from, crowded_inside, crowded_among};
+ghost use Rattle.guard_tables.specs.inside.Search.{crowded_from, crowded_inside, crowded_among};
 
 use crate::conditions::is_crowded;
 use guard_model::{Comp, Kind, OutOfMemory, Ty};

@@ -7,7 +7,7 @@ ghost use Rattle.guard_model.specs.Same.{same};
 ghost use Rattle.guard_model.specs.ValueView.{value_view};
 ghost use Rattle.guard_eval.specs.Elements.{is_above, is_under, is_between};
 ghost use Rattle.guard_eval.specs.Member.{holds, holds_element, is_member, all_hold, some_hold};
-ghost use Rattle.guard_tables.specs.NumberSets.{HasNumbers, begins, ends};
+ghost use Rattle.guard_tables.specs.inside.NumberSets.{HasNumbers, begins, ends};
 
 use crate::node::Range;
 use crate::range_lists::{all_integers, complement, difference};

@@ -5,8 +5,8 @@ ghost use Rattle.guard_model.specs.TypeView.{kind_view, component_view, part_vie
 ghost use Rattle.guard_der.specs.Fits.{may_be_absent};
 ghost use Rattle.guard_eval.specs.Presence.{element_kind, kind_at, is_listed, is_ruled_out};
 ghost use Rattle.guard_tables.specs.Spread.{is_scalar, placed, unlisted};
-ghost use Rattle.guard_tables.specs.OnePart.{spread_inner, spread_unlisted_one};
-ghost use Rattle.guard_tables.specs.AskViews.{terms_view};
+ghost use Rattle.guard_tables.specs.inside.OnePart.{spread_inner, spread_unlisted_one};
+ghost use Rattle.guard_tables.specs.inside.AskViews.{terms_view};
 
 use crate::asks::{Atom, Demand, Term, push};
 use crate::slots::Slots;

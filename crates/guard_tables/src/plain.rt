@@ -2,7 +2,7 @@
 ghost use Rattle.std.specs.Prelude.{◌≡◌, map};
 ghost use Rattle.guard_model.specs.TypeView.{type_view, kind_view, constraint_view, element_view, constraints_of};
 ghost use Rattle.guard_tables.specs.Spread.{is_plain, is_plain_type, is_plain_constraint, is_plain_element, are_plain, are_plain_asks};
-ghost use Rattle.guard_tables.specs.AskViews.{demand_view, asks_view};
+ghost use Rattle.guard_tables.specs.inside.AskViews.{demand_view, asks_view};
 
 use crate::asks::{Ask, Demand};
 use crate::parts::is_scalar;

@@ -1,7 +1,7 @@
 //! What fails where a component isn't there, where it is, and where an alternative is the chosen one.
 ghost use Rattle.std.specs.Prelude.{◌≡◌};
 ghost use Rattle.guard_tables.specs.Lay.{absent_in, absent_of, present_in, present_of, chosen_in, chosen_of};
-ghost use Rattle.guard_tables.specs.AskViews.{terms_view, atom_view};
+ghost use Rattle.guard_tables.specs.inside.AskViews.{terms_view, atom_view};
 
 use crate::asks::{Atom, Term};
 use crate::slots::Slots;

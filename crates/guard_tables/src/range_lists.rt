@@ -4,7 +4,7 @@ ghost use Rattle.std.specs.Prelude.{◌≡◌, ◌++◌, ℤ, not, ◌&&◌, ◌
 ghost use Rattle.std.specs.Int.{int_max, int_min};
 ghost use Rattle.guard_model.specs.Limits.{fits_128_bits};
 ghost use Rattle.guard_tables.specs.Marking.{is_in_one};
-ghost use Rattle.guard_tables.specs.Pieces.{below, above, without, without_all};
+ghost use Rattle.guard_tables.specs.inside.Pieces.{below, above, without, without_all};
 
 use crate::node::Range;
 use guard_model::OutOfMemory;

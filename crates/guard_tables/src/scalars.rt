@@ -7,7 +7,7 @@ ghost use Rattle.guard_model.specs.TypeView.{type_view, kind_view, named_view, c
 ghost use Rattle.guard_model.specs.ValueView.{value_view};
 ghost use Rattle.guard_der.specs.Fits.{fits_kind, is_item};
 ghost use Rattle.guard_eval.specs.Member.{holds, holds_element, is_member, all_hold, some_hold};
-ghost use Rattle.guard_tables.specs.Scalars.{scalar_view};
+ghost use Rattle.guard_tables.specs.inside.Scalars.{scalar_view};
 
 use guard_model::{Cons, Kind, Named, Rule, Ty, Value};
 

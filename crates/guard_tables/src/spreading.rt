@@ -2,8 +2,8 @@
 ghost use Rattle.std.specs.Prelude.{◌≡◌, ◌++◌, map, OnOk, IfOk};
 ghost use Rattle.guard_model.specs.TypeView.{type_view, kind_view, constraint_view, element_view, component_view, constraints_of, components_of, part_view, parts_of};
 ghost use Rattle.guard_tables.specs.Spread.{parts_from, spread_kind, spread_type, spread_one, spread_element, spread_all, spread_parts, spread, terms_of, unlisted};
-ghost use Rattle.guard_tables.specs.OnePart.{spread_part};
-ghost use Rattle.guard_tables.specs.AskViews.{demand_view, asks_view, terms_view};
+ghost use Rattle.guard_tables.specs.inside.OnePart.{spread_part};
+ghost use Rattle.guard_tables.specs.inside.AskViews.{demand_view, asks_view, terms_view};
 
 use crate::asks::{Ask, Atom, Demand, Term, push};
 use crate::parts::{element_kind, is_scalar, spread_inner, spread_unlisted, spread_word};

@@ -13,7 +13,7 @@ use Rattle.guard_model.specs.declared.ty.Comp.{Comp}
 use Rattle.guard_model.proofs.Components.{in_view}
 use Rattle.guard_model.proofs.TypeViews.{opened, component_view_is}
 use Rattle.guard_tagcheck.specs.FirstTags.{begins_with}
-use Rattle.guard_tagcheck.specs.Noting.{IsEarliest, Notes, IsNoted, lesser}
+use Rattle.guard_tagcheck.specs.inside.Noting.{IsEarliest, Notes, IsNoted, lesser}
 use Rattle.guard_tagcheck.specs.Search.{is_passed, first_pair}
 use Rattle.guard_tagcheck.proofs.LeastPairs.{PassedAt, Pair, pair_some, pair_none}
 use Rattle.guard_tagcheck.proofs.NotedTags.{earliest_from}

@@ -15,7 +15,7 @@ use Rattle.guard_model.specs.declared.tag.Class.TheVariants.{Universal, Applicat
 use Rattle.guard_model.specs.Tags.{same_tag}
 use Rattle.guard_model.specs.contracts.tag.TagOrd.TheImpl as derived
 use Rattle.guard_model.proofs.Tags.{equal_tags, same_tag_itself}
-use Rattle.guard_tagcheck.specs.Noting.{noted, IsEarliest, Notes, IsNoted, earlier}
+use Rattle.guard_tagcheck.specs.inside.Noting.{noted, IsEarliest, Notes, IsNoted, earlier}
 
 -- ---- the derived order of tags tells which are the same
 

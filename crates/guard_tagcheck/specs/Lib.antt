@@ -6,7 +6,8 @@ pub mod Limits
 -- how the first clash is looked for, and what the code's answer stands for
 pub mod Search
 -- how it is looked for with a map of the tags
-pub mod Noting
 pub mod Views
 -- what the search says of every type
 pub mod Laws
+-- ---- what only private contracts and proofs cite
+pub mod inside

@@ -4,7 +4,7 @@ ghost use Rattle.guard_model.specs.Limits.{most_components};
 ghost use Rattle.guard_model.specs.Tags.{same_tag};
 ghost use Rattle.guard_model.specs.TypeView.{type_view, component_view, components_of};
 ghost use Rattle.guard_tagcheck.specs.FirstTags.{begins_with, one_begins_with};
-ghost use Rattle.guard_tagcheck.specs.Noting.{noted, IsEarliest, Notes, IsNoted, earlier, lesser};
+ghost use Rattle.guard_tagcheck.specs.inside.Noting.{noted, IsEarliest, Notes, IsNoted, earlier, lesser};
 ghost use Rattle.guard_tagcheck.specs.Search.{first_pair};
 
 use crate::search::is_passed;

@@ -6,8 +6,8 @@ use Rattle.guard_syntax.specs.Trees.{WrittenType}
 use Rattle.guard_tagging.specs.declared.fault.TagFault.{TagFault}
 use Rattle.guard_tagging.specs.Faults.{nodes, most_nodes, first_fault, fault_in}
 use Rattle.guard_tagging.specs.Named.{unless}
-use Rattle.guard_tagging.specs.ReadNodes.{Made}
-use Rattle.guard_tagging.specs.ReadTypes.{read_type}
+use Rattle.guard_tagging.specs.inside.ReadNodes.{Made}
+use Rattle.guard_tagging.specs.inside.ReadTypes.{read_type}
 use Rattle.guard_tagging.specs.Spelled.{IsSpelled}
 use Rattle.guard_tagging.specs.Tagged.{IsTagged, IsFirstFault, KeepLimits}
 use Rattle.guard_tagging.specs.Types.{Surroundings, denoted}

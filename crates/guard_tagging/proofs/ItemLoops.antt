@@ -14,7 +14,7 @@ use Rattle.guard_syntax.specs.TypeViews.{item_view}
 use Rattle.guard_syntax.specs.declared.tree.ItemTree.{ItemTree}
 use Rattle.guard_tagging.specs.declared.fault.TagFault.{TagFault}
 use Rattle.guard_tagging.specs.Enumerations.{free_from}
-use Rattle.guard_tagging.specs.ReadItems.{read_own, option_list, read_written, numbered_name, read_number, read_item, read_numbered, read_items}
+use Rattle.guard_tagging.specs.inside.ReadItems.{read_own, option_list, read_written, numbered_name, read_number, read_item, read_numbered, read_items}
 
 module _ (front : List ℤ) (items : List ItemTree) (i : ℕ) (total : Result (List ℤ) TagFault)
     (so_far : read_written front (map item_view (drop i items)) ≡ total) where

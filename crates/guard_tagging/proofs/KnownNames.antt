@@ -18,7 +18,7 @@ use Rattle.guard_names.proofs.SameUses.{are_means}
 use Rattle.guard_tagging.specs.Surroundings.{meaning_at, known_behind, known_from}
 use Rattle.guard_tagging.specs.Skeletons.{surroundings_of}
 use Rattle.guard_tagging.specs.Types.{Surroundings, Meaning}
-use Rattle.guard_tagging.specs.KnownNames.{IsKnown, IsKnownInside, AreKnown, AreKnownOthers}
+use Rattle.guard_tagging.specs.inside.KnownNames.{IsKnown, IsKnownInside, AreKnown, AreKnownOthers}
 
 -- ---- a name of a type that means nothing would be a fault of names
 

@@ -19,9 +19,9 @@ use Rattle.guard_tagging.specs.declared.fault.TagFault.{TagFault}
 use Rattle.guard_tagging.specs.declared.fault.TagFault.TheVariants.{TooManyComponents, TooDeep, SchemaTooLarge}
 use Rattle.guard_tagging.specs.Faults.{first_of, fault_where, most_nodes, universal_tag, implicit_choice, tag_too_large, nodes_inside, nodes_of_components, duplicate_name, component_names, alternative_names, too_many, taken_fault, list_fault, own_fault}
 use Rattle.guard_tagging.specs.Named.{unless}
-use Rattle.guard_tagging.specs.ReadBases as make
-use Rattle.guard_tagging.specs.ReadNodes.{Node, Whole, Made, one_where, tags_of, made_from, made_with}
-use Rattle.guard_tagging.specs.ReadParts.{none_refused, no_parts, listed, check_list}
+use Rattle.guard_tagging.specs.inside.ReadBases as make
+use Rattle.guard_tagging.specs.inside.ReadNodes.{Node, Whole, Made, one_where, tags_of, made_from, made_with}
+use Rattle.guard_tagging.specs.inside.ReadParts.{none_refused, no_parts, listed, check_list}
 use Rattle.guard_tagging.specs.Types.{Surroundings, denoted, denoted_components, denoted_alternatives, universal, collection_number, structure_kind, is_automatic_list, is_automatic_choice, tagged_where}
 use Rattle.guard_tagging.proofs.Wholes.{all_tags, node_fault, whole_made, node_made}
 use Rattle.guard_tagging.proofs.NodeKinds.{node_at, counted, made_of, node_is, deep_capped, same_steps}

@@ -6,7 +6,7 @@ use Rattle.std.proofs.lemmas.Bool.{cases_lt, lt-ltb}
 use Rattle.guard_model.specs.Answer.{◌>>=◌}
 use Rattle.guard_model.specs.AbstractType as type
 use Rattle.guard_model.specs.AbstractType.{AbstractType, AbstractKind, Constraints, type_of, no_constraints}
-use Rattle.guard_model.specs.Each.{each}
+use Rattle.guard_model.specs.inside.Each.{each}
 use Rattle.guard_model.specs.declared.site.Site.{Site}
 use Rattle.guard_model.specs.declared.tag.Tag.{Tag}
 use Rattle.guard_model.specs.Limits.{deepest_nesting}
@@ -21,10 +21,10 @@ use Rattle.guard_tagging.specs.Faults as faults
 use Rattle.guard_tagging.specs.Faults.{Placed, first_of, fault_where, universal_tag, implicit_choice, tag_too_large, most_nodes, nodes, nodes_inside, list_fault, number_fault, is_bit, first_outside, number_too_large, duplicate_number, with_tag_there, own_fault}
 use Rattle.guard_tagging.specs.Enumerations.{numbered, named_number}
 use Rattle.guard_tagging.specs.Named.{unless, allowed}
-use Rattle.guard_tagging.specs.ReadBases as make
-use Rattle.guard_tagging.specs.ReadItems.{read_named, read_bits, read_items}
-use Rattle.guard_tagging.specs.ReadNames as reading
-use Rattle.guard_tagging.specs.ReadNodes.{Node, Whole, Made, one_where, tags_of, nodes_with, whole_with, made_from, made_with}
+use Rattle.guard_tagging.specs.inside.ReadBases as make
+use Rattle.guard_tagging.specs.inside.ReadItems.{read_named, read_bits, read_items}
+use Rattle.guard_tagging.specs.inside.ReadNames as reading
+use Rattle.guard_tagging.specs.inside.ReadNodes.{Node, Whole, Made, one_where, tags_of, nodes_with, whole_with, made_from, made_with}
 use Rattle.guard_tagging.specs.Spelled.{AreNamed, AreItems}
 use Rattle.guard_tagging.specs.Tagging.{is_untagged_choice, with_tags}
 use Rattle.guard_tagging.specs.Types.{Surroundings, denoted, denoted_base, universal, plain_number, plain_kind, collection_number, of_kind}

@@ -18,8 +18,8 @@ use Rattle.guard_model.specs.declared.ty.Kind.TheViews.{out-Comp}
 use Rattle.guard_model.proofs.TypeViews.{component_view_is}
 use Rattle.guard_tagging.specs.declared.names.Placed as code
 use Rattle.guard_tagging.specs.Faults.{Placed, clash_with, same_number, repeated}
-use Rattle.guard_tagging.specs.ReadNames.{signed_key, same_key, has_number, read_places}
-use Rattle.guard_tagging.specs.Views.{place_view}
+use Rattle.guard_tagging.specs.inside.ReadNames.{signed_key, same_key, has_number, read_places}
+use Rattle.guard_tagging.specs.inside.Views.{place_view}
 
 bytes_eq-comm : (xs ys : List ℕ) → bytes_eq xs ys ≡ bytes_eq ys xs
 bytes_eq-comm xs ys = same_from_decides (bytes_eq xs ys) (bytes_eq ys xs) (bytes_eq-Decides xs ys) (Decides-like (bytes_eq ys xs) sym sym (bytes_eq-Decides ys xs))

@@ -11,8 +11,8 @@ use Rattle.guard_names.specs.Declarations.{Definition, definitions}
 use Rattle.guard_tagcheck.specs.Limits.{is_within_limits}
 use Rattle.guard_tagging.specs.declared.fault.TagFault.{TagFault}
 use Rattle.guard_tagging.specs.Faults.{nodes, most_nodes}
-use Rattle.guard_tagging.specs.ReadNodes.{Made}
-use Rattle.guard_tagging.specs.ReadTypes.{read_type}
+use Rattle.guard_tagging.specs.inside.ReadNodes.{Made}
+use Rattle.guard_tagging.specs.inside.ReadTypes.{read_type}
 use Rattle.guard_tagging.specs.Skeletons.{surroundings_of, IsTypeOf, IsFaultOf}
 use Rattle.guard_tagging.specs.Spelled.{IsSpelled, AreAssigned, IsSpelledModule}
 use Rattle.guard_tagging.specs.Surroundings.{nodes_of_all}

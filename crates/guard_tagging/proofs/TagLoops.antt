@@ -8,7 +8,7 @@ use Rattle.guard_syntax.specs.declared.tree.TagTree.{TagTree}
 use Rattle.guard_syntax.specs.declared.tree.TagDefault.{TagDefault}
 use Rattle.guard_tagging.specs.declared.fault.TagFault.{TagFault}
 use Rattle.guard_tagging.specs.Tagging.{is_explicit}
-use Rattle.guard_tagging.specs.ReadTags.{read_tag, read_tags, kept, unless_replaced}
+use Rattle.guard_tagging.specs.inside.ReadTags.{read_tag, read_tags, kept, unless_replaced}
 
 module _ (default : TagDefault) (replaced : Bool) (front : List Tag) (ws : List TagTree) (i : ℕ) (base : List Tag) (total : Result (List Tag) TagFault)
     (so_far : read_tags default replaced front (map tag_view (drop i ws)) base ≡ total) where

@@ -9,7 +9,7 @@ use Rattle.guard_model.specs.declared.tag.Tag.{Tag}
 use Rattle.guard_model.specs.Limits.{most_components}
 use Rattle.guard_tagcheck.specs.Limits.{nesting, deepest}
 use Rattle.guard_tagging.specs.Faults.{nodes, nodes_of_components}
-use Rattle.guard_tagging.specs.ReadParts.{place_tag, listed}
+use Rattle.guard_tagging.specs.inside.ReadParts.{place_tag, listed}
 use Rattle.guard_tagging.specs.Tagging.{is_untagged_choice, put_tag, automatic_tag, with_automatic_tag, with_automatic_tags}
 use Rattle.guard_tagging.specs.Types.{tagged_where, join}
 use Rattle.guard_tagging.proofs.WrittenTags.{with_automatic}

@@ -8,7 +8,7 @@ use Rattle.guard_model.specs.declared.ty.Kind.{Kind}
 use Rattle.guard_model.specs.declared.ty.Kind.TheVariants as code
 use Rattle.guard_model.specs.AbstractType.{AbstractKind}
 use Rattle.guard_model.proofs.TypeViews.{kind_view_sequence, kind_view_set, kind_view_choice}
-use Rattle.guard_tagging.specs.ReadParts.{listed}
+use Rattle.guard_tagging.specs.inside.ReadParts.{listed}
 
 pub listed_back : (cs : List OneComponent) → listed (components_of cs) ≡ cs
 listed_back [] = refl

@@ -10,8 +10,8 @@ use Rattle.guard_tagging.specs.declared.fault.TagFault.{TagFault}
 use Rattle.guard_tagging.specs.declared.fault.TagFault.TheVariants.{TooDeep, SchemaTooLarge}
 use Rattle.guard_tagging.specs.Faults.{first_of, fault_where, universal_tag, implicit_choice, tag_too_large, most_nodes}
 use Rattle.guard_tagging.specs.Named.{unless, allowed}
-use Rattle.guard_tagging.specs.ReadNodes.{Node, Whole, Made, tags_of, one_where, nodes_with, whole_with}
-use Rattle.guard_tagging.specs.ReadTags.{in_front, read_tags}
+use Rattle.guard_tagging.specs.inside.ReadNodes.{Node, Whole, Made, tags_of, one_where, nodes_with, whole_with}
+use Rattle.guard_tagging.specs.inside.ReadTags.{in_front, read_tags}
 use Rattle.guard_tagging.specs.Tagging.{is_untagged_choice}
 use Rattle.guard_tagging.proofs.WrittenTags.{put_all, put_automatic, front_is, tags_read, implicit_is}
 

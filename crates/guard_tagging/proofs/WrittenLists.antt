@@ -20,10 +20,10 @@ use Rattle.guard_tagging.specs.declared.fault.TagFault.TheVariants.{DuplicateNam
 use Rattle.guard_tagging.specs.Faults.{Placed, fault_where, nodes, nodes_inside, nodes_within, nodes_of_components, nodes_put_in, placed_at, component_names, alternative_names, duplicate_name, too_many, repeated, is_kind_of, is_of_kind, is_plain_tag, is_tagged, first_taking, takes_other_kind, takes_automatic, takes_tagged, takes_wrongly, taken_fault, fault_in_components}
 use Rattle.guard_tagging.specs.declared.made.Refused.{Refused}
 use Rattle.guard_tagging.specs.Named.{unless, allowed}
-use Rattle.guard_tagging.specs.ReadNames.{text_octets, read_places}
-use Rattle.guard_tagging.specs.ReadNodes.{Made}
-use Rattle.guard_tagging.specs.ReadParts.{PartList, none_refused, no_parts, place_tag, next_tag, named_component, with_component, listed, with_list, site_where, refused_at, is_refused, or_refused, with_refused, taken_in, list_result, check_list}
-use Rattle.guard_tagging.specs.ReadTypes.{read_components}
+use Rattle.guard_tagging.specs.inside.ReadNames.{text_octets, read_places}
+use Rattle.guard_tagging.specs.inside.ReadNodes.{Made}
+use Rattle.guard_tagging.specs.inside.ReadParts.{PartList, none_refused, no_parts, place_tag, next_tag, named_component, with_component, listed, with_list, site_where, refused_at, is_refused, or_refused, with_refused, taken_in, list_result, check_list}
+use Rattle.guard_tagging.specs.inside.ReadTypes.{read_components}
 use Rattle.guard_tagging.specs.Types.{Surroundings, denoted, denoted_components, denoted_alternatives, presence_of, is_automatic, parts_of, join}
 use Rattle.guard_tagging.proofs.NodeKinds.{counted, made_of}
 use Rattle.guard_tagging.proofs.Wholes.{or_assoc, or_nothing}

@@ -7,7 +7,7 @@ use Rattle.std.proofs.lemmas.List.{append-nil}
 use Rattle.std.proofs.lemmas.Str.{utf8_lossy-IsUtf8}
 use Rattle.guard_model.specs.Limits.{fits_128_bits}
 use Rattle.guard_model.specs.Answer.{◌>>=◌}
-use Rattle.guard_model.specs.Each.{each}
+use Rattle.guard_model.specs.inside.Each.{each}
 use Rattle.guard_model.specs.AbstractType.{NamedNumber}
 use Rattle.guard_model.specs.declared.site.Site.{Site}
 use Rattle.guard_lexer.specs.Items.{number_value}
@@ -19,9 +19,9 @@ use Rattle.guard_tagging.specs.Faults as faults
 use Rattle.guard_tagging.specs.Faults.{Placed, fault_where, is_bit, first_outside, number_too_large}
 use Rattle.guard_tagging.specs.Named.{unless, allowed}
 use Rattle.guard_tagging.specs.Numbers.{signed, number_of}
-use Rattle.guard_tagging.specs.ReadItems.{number_result, read_at, numbered_name, read_named, bits_fault, read_bits, own_number, option_list, read_written, read_number, read_numbered, read_items}
-use Rattle.guard_tagging.specs.ReadNames as reading
-use Rattle.guard_tagging.specs.ReadNames.{text_octets, near_number}
+use Rattle.guard_tagging.specs.inside.ReadItems.{number_result, read_at, numbered_name, read_named, bits_fault, read_bits, own_number, option_list, read_written, read_number, read_numbered, read_items}
+use Rattle.guard_tagging.specs.inside.ReadNames as reading
+use Rattle.guard_tagging.specs.inside.ReadNames.{text_octets, near_number}
 use Rattle.guard_tagging.specs.Spelled.{IsShort, AreNamed, AreItems}
 
 pub text_is : (name : List ℕ) → IsUtf8 name → text_octets name ≡ name

@@ -20,7 +20,7 @@ use Rattle.guard_tagging.specs.declared.fault.TagFault.TheVariants.{ImplicitChoi
 use Rattle.guard_tagging.specs.Tagging.{tag_of, is_untagged_choice, is_explicit, put_tag, with_tag, with_tags, automatic_tag, with_automatic_tag}
 use Rattle.guard_tagging.specs.Faults.{fault_where, is_implicit, implicit_choice, tag_too_large, with_tag_there}
 use Rattle.guard_tagging.specs.Named.{unless}
-use Rattle.guard_tagging.specs.ReadTags.{implicit_at, implicit_last, in_front, read_tags, kept, unless_replaced}
+use Rattle.guard_tagging.specs.inside.ReadTags.{implicit_at, implicit_last, in_front, read_tags, kept, unless_replaced}
 
 -- ---- a tag on a list of tags
 

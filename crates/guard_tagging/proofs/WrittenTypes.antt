@@ -14,10 +14,10 @@ use Rattle.guard_syntax.specs.Trees.{WrittenTag, WrittenConstraint, WrittenType,
 use Rattle.guard_tagging.specs.declared.fault.TagFault.{TagFault}
 use Rattle.guard_tagging.specs.Faults.{nodes, nodes_inside, nodes_within, nodes_put_in, own_fault, fault_in, fault_in_components, fault_in_alternatives}
 use Rattle.guard_tagging.specs.Named.{unless}
-use Rattle.guard_tagging.specs.ReadBases as make
-use Rattle.guard_tagging.specs.ReadNodes.{Made}
-use Rattle.guard_tagging.specs.ReadParts.{PartList, none_refused, no_parts, place_tag, next_tag, with_component, taken_in}
-use Rattle.guard_tagging.specs.ReadTypes.{read_type, read_base, read_components, read_alternatives}
+use Rattle.guard_tagging.specs.inside.ReadBases as make
+use Rattle.guard_tagging.specs.inside.ReadNodes.{Made}
+use Rattle.guard_tagging.specs.inside.ReadParts.{PartList, none_refused, no_parts, place_tag, next_tag, with_component, taken_in}
+use Rattle.guard_tagging.specs.inside.ReadTypes.{read_type, read_base, read_components, read_alternatives}
 use Rattle.guard_tagging.specs.Spelled.{IsSpelled, IsSpelledInside, AreSpelled, AreSpelledOthers}
 use Rattle.guard_tagging.specs.Tagged.{KeepLimits}
 use Rattle.guard_tagging.specs.Types.{Surroundings, Meaning, meant, denoted, denoted_alternatives, presence_of, plain_kind, is_automatic, is_automatic_list, is_automatic_choice}

@@ -2,7 +2,7 @@
 ghost use Rattle.std.specs.Prelude.{◌≡◌, map};
 ghost use Rattle.guard_syntax.specs.Trees.{components_of, alternatives_of};
 ghost use Rattle.guard_syntax.specs.TypeViews as written;
-ghost use Rattle.guard_tagging.specs.ReadTypes as reading;
+ghost use Rattle.guard_tagging.specs.inside.ReadTypes as reading;
 ghost use Rattle.guard_tagging.specs.ScopeView.{scope_view};
 ghost use Rattle.guard_tagging.specs.Types as types;
 

@@ -4,11 +4,11 @@ ghost use Rattle.guard_model.specs.Answer.{Gives};
 ghost use Rattle.guard_model.specs.TypeView as model;
 ghost use Rattle.guard_syntax.specs.TypeViews as written;
 ghost use Rattle.guard_tagging.specs.Named.{named};
-ghost use Rattle.guard_tagging.specs.NodeViews.{node_view, whole_view, made_view};
-ghost use Rattle.guard_tagging.specs.PartViews.{parts_view};
-ghost use Rattle.guard_tagging.specs.ReadBases as reading;
+ghost use Rattle.guard_tagging.specs.inside.NodeViews.{node_view, whole_view, made_view};
+ghost use Rattle.guard_tagging.specs.inside.PartViews.{parts_view};
+ghost use Rattle.guard_tagging.specs.inside.ReadBases as reading;
 ghost use Rattle.guard_tagging.specs.Tagging as tagging;
-ghost use Rattle.guard_tagging.specs.Views.{place_view};
+ghost use Rattle.guard_tagging.specs.inside.Views.{place_view};
 
 use crate::fault::TagFault;
 use crate::kinds::{

@@ -4,8 +4,8 @@ ghost use Rattle.guard_model.specs.TypeView as model;
 ghost use Rattle.guard_syntax.specs.TypeViews as written;
 ghost use Rattle.guard_syntax.specs.Views.{number_view};
 ghost use Rattle.guard_tagging.specs.Faults.{repeated};
-ghost use Rattle.guard_tagging.specs.ReadNames.{text_octets, read_places, named_place, item_place, signed_key, near_number, has_number, same_key};
-ghost use Rattle.guard_tagging.specs.Views.{place_view};
+ghost use Rattle.guard_tagging.specs.inside.ReadNames.{text_octets, read_places, named_place, item_place, signed_key, near_number, has_number, same_key};
+ghost use Rattle.guard_tagging.specs.inside.Views.{place_view};
 
 use crate::number::magnitude;
 use guard_model::{Comp, Site};

@@ -3,8 +3,8 @@ ghost use Rattle.std.specs.Prelude.{◌≡◌, IfOk};
 ghost use Rattle.guard_model.specs.Answer.{Gives};
 ghost use Rattle.guard_model.specs.TypeView as model;
 ghost use Rattle.guard_tagging.specs.Named.{named};
-ghost use Rattle.guard_tagging.specs.NodeViews.{node_view, whole_view, made_view};
-ghost use Rattle.guard_tagging.specs.ReadNodes as reading;
+ghost use Rattle.guard_tagging.specs.inside.NodeViews.{node_view, whole_view, made_view};
+ghost use Rattle.guard_tagging.specs.inside.ReadNodes as reading;
 
 use crate::fault::TagFault;
 use crate::made::{Made, Node, Whole};

@@ -2,7 +2,7 @@
 ghost use Rattle.std.specs.Prelude.{◌≡◌, ◌^◌, ◌-◌, min};
 ghost use Rattle.guard_lexer.specs.Items.{number_value};
 ghost use Rattle.guard_syntax.specs.Views.{number_view};
-ghost use Rattle.guard_tagging.specs.ReadNumbers.{read_integer};
+ghost use Rattle.guard_tagging.specs.inside.ReadNumbers.{read_integer};
 
 use guard_syntax::NumberTree;
 

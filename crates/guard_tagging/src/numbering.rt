@@ -3,7 +3,7 @@ ghost use Rattle.std.specs.Prelude.{◌≡◌, ◌≤◌, ◌<◌, ◌+◌, ◌^
 ghost use Rattle.std.specs.List.{list_any};
 ghost use Rattle.std.specs.Ordering.{int_eq};
 ghost use Rattle.guard_model.specs.Answer.{Gives};
-ghost use Rattle.guard_model.specs.Each.{each};
+ghost use Rattle.guard_model.specs.inside.Each.{each};
 ghost use Rattle.guard_model.specs.TypeView.{named_view};
 ghost use Rattle.guard_syntax.specs.TypeViews as written;
 ghost use Rattle.guard_syntax.specs.Views.{number_view};
@@ -11,8 +11,8 @@ ghost use Rattle.guard_tagging.specs.Enumerations.{free_from};
 ghost use Rattle.guard_tagging.specs.Faults as faults;
 ghost use Rattle.guard_tagging.specs.Named.{named, allowed};
 ghost use Rattle.guard_tagging.specs.Numbers.{number_of};
-ghost use Rattle.guard_tagging.specs.ReadItems as reading;
-ghost use Rattle.guard_tagging.specs.ReadItems.{read_at, read_named, read_written, read_numbered, read_items};
+ghost use Rattle.guard_tagging.specs.inside.ReadItems as reading;
+ghost use Rattle.guard_tagging.specs.inside.ReadItems.{read_at, read_named, read_written, read_numbered, read_items};
 
 use crate::fault::TagFault;
 use crate::names::name_text;

@@ -4,9 +4,9 @@ ghost use Rattle.guard_model.specs.Answer.{Gives};
 ghost use Rattle.guard_model.specs.Components.{components_in};
 ghost use Rattle.guard_model.specs.TypeView as model;
 ghost use Rattle.guard_tagging.specs.Named.{named};
-ghost use Rattle.guard_tagging.specs.NodeViews.{made_view};
-ghost use Rattle.guard_tagging.specs.PartViews.{parts_view};
-ghost use Rattle.guard_tagging.specs.ReadParts as reading;
+ghost use Rattle.guard_tagging.specs.inside.NodeViews.{made_view};
+ghost use Rattle.guard_tagging.specs.inside.PartViews.{parts_view};
+ghost use Rattle.guard_tagging.specs.inside.ReadParts as reading;
 ghost use Rattle.guard_tagging.specs.Tagging as tagging;
 
 use crate::fault::TagFault;

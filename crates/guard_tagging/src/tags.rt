@@ -4,8 +4,8 @@ ghost use Rattle.guard_model.specs.Answer.{Gives};
 ghost use Rattle.guard_syntax.specs.TypeViews.{tag_view};
 ghost use Rattle.guard_tagging.specs.Faults as faults;
 ghost use Rattle.guard_tagging.specs.Named.{named, allowed};
-ghost use Rattle.guard_tagging.specs.NodeViews.{node_view};
-ghost use Rattle.guard_tagging.specs.ReadTags.{implicit_last, in_front, read_tag, read_tags, kept};
+ghost use Rattle.guard_tagging.specs.inside.NodeViews.{node_view};
+ghost use Rattle.guard_tagging.specs.inside.ReadTags.{implicit_last, in_front, read_tag, read_tags, kept};
 ghost use Rattle.guard_tagging.specs.Tagging as tagging;
 
 use crate::fault::TagFault;

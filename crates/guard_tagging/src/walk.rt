@@ -3,11 +3,11 @@ ghost use Rattle.std.specs.Prelude.{◌≡◌, map};
 ghost use Rattle.guard_model.specs.Answer.{Gives};
 ghost use Rattle.guard_syntax.specs.Trees.{structure, choice, components_of, alternatives_of};
 ghost use Rattle.guard_syntax.specs.TypeViews as written;
-ghost use Rattle.guard_tagging.specs.KnownNames.{IsKnown, IsKnownInside, IsKnownForm, AreKnown, AreKnownOthers};
+ghost use Rattle.guard_tagging.specs.inside.KnownNames.{IsKnown, IsKnownInside, IsKnownForm, AreKnown, AreKnownOthers};
 ghost use Rattle.guard_tagging.specs.Named.{named};
-ghost use Rattle.guard_tagging.specs.NodeViews.{node_view, made_view};
-ghost use Rattle.guard_tagging.specs.PartViews.{parts_view};
-ghost use Rattle.guard_tagging.specs.ReadTypes as reading;
+ghost use Rattle.guard_tagging.specs.inside.NodeViews.{node_view, made_view};
+ghost use Rattle.guard_tagging.specs.inside.PartViews.{parts_view};
+ghost use Rattle.guard_tagging.specs.inside.ReadTypes as reading;
 ghost use Rattle.guard_tagging.specs.ScopeView.{scope_view};
 
 use crate::automatic::{is_automatic, is_automatic_choice, is_automatic_list};

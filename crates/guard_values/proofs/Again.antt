@@ -26,7 +26,7 @@ use Rattle.guard_values.specs.Simple.{integer_value, within_limits, arcs_value, 
 use Rattle.guard_values.specs.Places.{Located, located, entry_place, entry_places, is_among, are_in_order, are_different, FieldsDenote}
 use Rattle.guard_values.specs.Arrangement.{arranged, are_short}
 use Rattle.guard_values.specs.Denotes.{alternatives_of, ChosenDenotes, are_few, BracesDenote, Says, FormSays, EntrySays, EntriesSay}
-use Rattle.guard_values.specs.Reading.{Read, answered, read_integer, string_fault, limited_arcs, read_arcs, read_named, placed, entry_at, completed, few, read_chosen, read_fields, read_braces, perhaps_limited, site_of, element_at, read, read_form, read_entries, read_elements}
+use Rattle.guard_values.specs.inside.Reading.{Read, answered, read_integer, string_fault, limited_arcs, read_arcs, read_named, placed, entry_at, completed, few, read_chosen, read_fields, read_braces, perhaps_limited, site_of, element_at, read, read_form, read_entries, read_elements}
 use Rattle.guard_values.proofs.AgainFields.{field_at, HasFields, has_absent, has_filled, nothing_at, none_filled, filled_there, kept_elsewhere, unfilled_elsewhere, located_type, Holds, completed_again, fields_wanted}
 
 -- ---- without a value inside

@@ -9,7 +9,7 @@ use Rattle.guard_model.specs.AbstractValue.{AbstractValue, items_of}
 use Rattle.guard_der.specs.Der.{der}
 use Rattle.guard_der.specs.Fits.{descends}
 use Rattle.guard_values.specs.Arrangement.{EncodedValue, encoded_value, octets_in, encoding_in, comes_behind, inserted, arranged, inserted_encoding, arranged_encodings, AreEncodings}
-use Rattle.guard_values.specs.Reading.{listed_set}
+use Rattle.guard_values.specs.inside.Reading.{listed_set}
 
 test_is : (t : AbstractType) (e f : EncodedValue) → der t e.value ≡ Some e.octets → der t f.value ≡ Some f.octets → comes_behind t e.value f.value ≡ descends e.octets f.octets
 test_is t e f h k = ap (λ (os : List ℕ). descends os (encoding_in t f.value)) (ap octets_in h) ∙ ap (descends e.octets) (ap octets_in k)

@@ -25,7 +25,7 @@ use Rattle.guard_values.specs.Arrangement.{are_short}
 use Rattle.guard_values.specs.Denotes.{alternatives_of, Says, FormSays, BracesDenote, ChosenDenotes, EntrySays, EntriesSay, Denotes}
 use Rattle.guard_values.specs.Faults.{entry_type, chosen_type, Somewhere, Inside, InEntry, HasLongEncoding}
 use Rattle.guard_values.specs.FirstFault.{fault_of, IsFirstFault}
-use Rattle.guard_values.specs.Reading.{Read, read, read_whole}
+use Rattle.guard_values.specs.inside.Reading.{Read, read, read_whole}
 use Rattle.guard_values.specs.Views.{named}
 use Rattle.guard_values.proofs.Again.{says_read, behind_first, at_first, not_true, place_tells, or_second, ordered_differ}
 use Rattle.guard_values.proofs.AgainFields.{field_at, located_type, fields_wanted}

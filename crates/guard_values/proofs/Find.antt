@@ -10,7 +10,7 @@ use Rattle.guard_model.specs.AbstractValue.{Fields}
 use Rattle.guard_model.specs.declared.site.Site.{Site}
 use Rattle.guard_der.specs.Reading.{is_filled}
 use Rattle.guard_values.specs.declared.fault.ValueFault.TheVariants.{RepeatedComponent, OutOfOrder}
-use Rattle.guard_values.specs.Reading.{placed}
+use Rattle.guard_values.specs.inside.Reading.{placed}
 use Rattle.guard_values.specs.Places.{Located, located, further}
 use Rattle.guard_model.proofs.Components.{left, left_is, none_left}
 

@@ -10,7 +10,7 @@ use Rattle.std.proofs.lemmas.Grind.{common_steps, get_or-set_at}
 use Rattle.std.proofs.lemmas.List.{length-set, length-replicate, get_or-replicate, get_or-set_other, at_drop_all}
 use Rattle.std.proofs.lemmas.List.FromFn.{fill_by_all, get_or-map-range_with_len, length-map-range_with_len}
 use Rattle.guard_model.specs.Answer.{◌>>=◌, Refuses}
-use Rattle.guard_model.specs.Each.{each}
+use Rattle.guard_model.specs.inside.Each.{each}
 use Rattle.guard_model.proofs.Results.{bind_ok, made_ok, same_Ok, refuses_bind}
 use Rattle.guard_model.specs.declared.site.Site.{Site}
 use Rattle.guard_model.specs.AbstractType.{NamedNumber}
@@ -19,7 +19,7 @@ use Rattle.guard_der.specs.Fits.{last_octet}
 use Rattle.guard_values.specs.declared.fault.ValueFault.{ValueFault}
 use Rattle.guard_values.specs.declared.fault.ValueFault.TheVariants.{UnknownName}
 use Rattle.guard_values.specs.NamedBits.{name_alone, named_bit, one_more, places_named, is_in, bits_to_last, bit_among, ones_at, before_ones, to_last_one, bits_kept}
-use Rattle.guard_values.specs.Reading.{Read, answered, read_bit, read_place, read_places, read_named_bits}
+use Rattle.guard_values.specs.inside.Reading.{Read, answered, read_bit, read_place, read_places, read_named_bits}
 use Rattle.guard_values.specs.Simple.{bits_value}
 
 -- ---- what is read of names in braces is what they say

@@ -21,7 +21,7 @@ use Rattle.guard_model.proofs.TypeViews.{type_view_is, kind_view_choice}
 use Rattle.guard_tagcheck.specs.Distinct.{component_type}
 use Rattle.guard_der.specs.Sound.{is_proper, is_proper_kind, is_proper_presence, are_proper}
 use Rattle.guard_values.specs.declared.fault.ValueFault.{ValueFault}
-use Rattle.guard_values.specs.Reading.{placed}
+use Rattle.guard_values.specs.inside.Reading.{placed}
 use Rattle.guard_values.specs.Views.{named, located_view}
 use Rattle.guard_values.proofs.Said.{placed_ok}
 use Rattle.guard_values.specs.Places.{Located, located}

@@ -2,7 +2,7 @@
 use Rattle.std.proofs.Common.{◌≡◌, ℕ, Bool, true, false, List, [], ◌∷◌, Option, Some, None, Ok, Err, refl, sym, ap, ◌∙◌}
 use Rattle.std.specs.Option.{option_or}
 use Rattle.guard_model.specs.Answer.{◌>>=◌, Refuses}
-use Rattle.guard_model.specs.Each.{each}
+use Rattle.guard_model.specs.inside.Each.{each}
 use Rattle.guard_model.specs.AbstractValue.{AbstractValue, object_identifier}
 use Rattle.guard_model.specs.ValueView.{value_view, value_step}
 use Rattle.guard_model.specs.declared.site.Site.{Site}
@@ -15,7 +15,7 @@ use Rattle.guard_syntax.specs.Trees.{WrittenArc}
 use Rattle.guard_values.specs.declared.fault.ValueFault.{ValueFault}
 use Rattle.guard_values.specs.declared.fault.ValueFault.TheVariants.{BadObjectId}
 use Rattle.guard_values.specs.ObjectIdentifiers.{arc_number, arc_numbers, is_large, large_arc, large_second, too_large_arc, are_arcs}
-use Rattle.guard_values.specs.Reading.{Read, read_arc, unless_large, limited_arcs}
+use Rattle.guard_values.specs.inside.Reading.{Read, read_arc, unless_large, limited_arcs}
 
 joined : (n : ℕ) (ns : List ℕ) (s : Option Site) → (unless_large s >>= λ _. Ok ns) >>= (λ more. Ok (n ∷ more)) ≡ (unless_large s >>= λ _. Ok (n ∷ ns))
 joined n ns None = refl

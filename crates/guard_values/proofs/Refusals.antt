@@ -17,7 +17,7 @@ use Rattle.guard_syntax.specs.declared.tree.ValueForm.TheViews.{out-ValueTree}
 use Rattle.guard_values.specs.declared.fault.ValueFault.TheVariants.{UnknownName, TooLarge}
 use Rattle.guard_values.specs.Meanings.{Meaning}
 use Rattle.guard_values.specs.Places.{located}
-use Rattle.guard_values.specs.Reading.{Read, answered, alternative, site_of, read, read_first_fault}
+use Rattle.guard_values.specs.inside.Reading.{Read, answered, alternative, site_of, read, read_first_fault}
 use Rattle.guard_values.proofs.Steps.{value_view_is}
 
 -- a name of no alternative

@@ -15,7 +15,7 @@ use Rattle.guard_model.specs.declared.ty.Kind.TheViews.{out-Comp}
 use Rattle.guard_model.specs.declared.site.Site.{Site}
 use Rattle.guard_der.specs.Reading.{all_absent, is_filled, fill, field_before}
 use Rattle.guard_values.specs.declared.fault.ValueFault.{ValueFault}
-use Rattle.guard_values.specs.Reading.{settled, completed}
+use Rattle.guard_values.specs.inside.Reading.{settled, completed}
 use Rattle.guard_model.proofs.Components.{left, left_is, none_left, in_view}
 
 -- ---- what was settled before, and what is still settled

@@ -29,7 +29,7 @@ use Rattle.guard_values.specs.Places.{Located, located, entry_place, entry_place
 use Rattle.guard_values.specs.Denotes.{alternatives_of, Denotes}
 use Rattle.guard_values.specs.Faults.{entry_type, Somewhere, InEntry, takes, may_stand, HasWrongEntry, HasUnknownEntry, HasUnknownBit, misses, HasRepeatedEntry, is_below_some, HasLateEntry, are_few_entries, HasLongEncoding, Condition, Stands}
 use Rattle.guard_values.specs.FirstFault.{unless, fault_of_name, fault_of_place, fault_behind, fault_of_bit, fault_of_bits, fault_of_count, fault_of_list, fault_there, fault_of, fault_of_form, fault_of_entries, fault_of_elements, IsFirstFault}
-use Rattle.guard_values.specs.Reading.{Read, limited, site_of, read, read_first_fault, sorted_or, read_sorted, read_whole}
+use Rattle.guard_values.specs.inside.Reading.{Read, limited, site_of, read, read_first_fault, sorted_or, read_sorted, read_whole}
 use Rattle.guard_values.proofs.Again.{says_read}
 use Rattle.guard_values.proofs.Said.{read_said, limited_ok}
 use Rattle.guard_values.proofs.Told.{Tells, IsLong, here_somewhere, read_tells}

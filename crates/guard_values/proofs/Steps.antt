@@ -32,7 +32,7 @@ use Rattle.guard_syntax.specs.declared.tree.ValueForm.TheFolds.{fold_out-EntryTr
 use Rattle.guard_syntax.specs.declared.tree.ValueForm.TheViews.{out-EntryTree, out-ValueTree}
 use Rattle.guard_values.specs.declared.fault.ValueFault.{ValueFault}
 use Rattle.guard_values.specs.Meanings.{Meaning}
-use Rattle.guard_values.specs.Reading.{Read, element_at, place_at, entry_at, site_of, read, read_form, read_list, read_elements, read_entries}
+use Rattle.guard_values.specs.inside.Reading.{Read, element_at, place_at, entry_at, site_of, read, read_form, read_list, read_elements, read_entries}
 
 -- ---- one level of a tree
 

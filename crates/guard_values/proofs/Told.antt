@@ -34,7 +34,7 @@ use Rattle.guard_values.specs.Arrangement.{arranged}
 use Rattle.guard_values.specs.Denotes.{alternatives_of, are_few}
 use Rattle.guard_values.specs.Faults.{entry_type, Somewhere, InEntry, takes, are_too_few_arcs, may_be_left_out, misses, is_below_some, entry_count, HasLongEncoding}
 use Rattle.guard_values.specs.FirstFault.{unless, fault_of_name, fault_of_arcs, fault_of_place, fault_behind, fault_of_bit, fault_of_bits, fault_of_count, fault_of_list, fault_there, fault_of, fault_of_entries, fault_of_elements}
-use Rattle.guard_values.specs.Reading.{Read, answered, read_bit, read_places, read_integer, read_text, limited_arcs, read_arcs, read_named, placed, entry_at, settled, completed, few, read_chosen, read_fields, read_set_of, read_braces, perhaps_limited, site_of, element_at, read, read_form, read_entries, read_elements}
+use Rattle.guard_values.specs.inside.Reading.{Read, answered, read_bit, read_places, read_integer, read_text, limited_arcs, read_arcs, read_named, placed, entry_at, settled, completed, few, read_chosen, read_fields, read_set_of, read_braces, perhaps_limited, site_of, element_at, read, read_form, read_entries, read_elements}
 use Rattle.guard_values.proofs.AgainFields.{field_at, HasFields, has_absent, has_filled, none_filled, filled_there, unfilled_elsewhere, located_type}
 use Rattle.guard_values.proofs.Said.{read_said, entry_ok}
 

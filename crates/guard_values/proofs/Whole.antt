@@ -19,7 +19,7 @@ use Rattle.guard_values.specs.Meanings.{Meaning, AreFitting}
 use Rattle.guard_values.specs.Denotes.{Denotes}
 use Rattle.guard_values.specs.Faults.{Stands}
 use Rattle.guard_values.specs.FirstFault.{IsFirstFault}
-use Rattle.guard_values.specs.Reading.{Read, element_at, site_of, read, read_sorted, read_whole}
+use Rattle.guard_values.specs.inside.Reading.{Read, element_at, site_of, read, read_sorted, read_whole}
 use Rattle.guard_values.specs.Views.{named}
 use Rattle.guard_values.proofs.Said.{read_said}
 use Rattle.guard_values.proofs.FitsSaid.{says_fits}

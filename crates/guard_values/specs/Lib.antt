@@ -13,8 +13,8 @@ pub mod Denotes
 pub mod Faults
 pub mod FirstFault
 -- ---- what private contracts cite
-pub mod Visible
 pub mod Views
-pub mod Reading
+-- ---- what only private contracts and proofs cite
+pub mod inside
 -- ---- worked examples
-pub mod Rows
+pub mod rows

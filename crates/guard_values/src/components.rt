@@ -7,7 +7,7 @@ ghost use Rattle.guard_syntax.specs.Views.{name_view};
 ghost use Rattle.guard_model.specs.ValueView.{field_view, fields_view};
 ghost use Rattle.guard_der.specs.Reading.{all_absent};
 ghost use Rattle.guard_values.specs.Places as places;
-ghost use Rattle.guard_values.specs.Reading as reading;
+ghost use Rattle.guard_values.specs.inside.Reading as reading;
 ghost use Rattle.guard_values.specs.Views.{named, located_view};
 
 use crate::fault::ValueFault;

@@ -3,8 +3,8 @@
 //! | question | code | definition |
 //! |---|---|---|
 //! | Which value does a tree denote, and why none? | `values.rt` (`value`), `fault.rt` | `specs/Denotes.antt`, `specs/Faults.antt`, `specs/FirstFault.antt` |
-//! | What do visible names mean? | `scope.rt` (`Known`, `Scope`) | `specs/Visible.antt`, `specs/Views.antt` |
-//! | How are trees read by their types? | `written.rt` | `specs/Reading.antt` |
+//! | What do visible names mean? | `scope.rt` (`Known`, `Scope`) | `specs/inside/Visible.antt`, `specs/Views.antt` |
+//! | How are trees read by their types? | `written.rt` | `specs/inside/Reading.antt` |
 //! | What do names in braces say for a BIT STRING, and where do its values end? | `named_bits.rt` | `specs/NamedBits.antt` |
 //! | What do forms without a value inside say? | `simple.rt`, `numbers.rt`, `strings.rt` (`quoted`), `object_identifiers.rt`, `names.rt` | `specs/Simple.antt` |
 //! | For which component is an entry, and what are those without one? | `components.rt` | `specs/Places.antt` |

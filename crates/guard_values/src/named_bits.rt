@@ -1,14 +1,14 @@
 //! A BIT STRING with named bits: names in braces, and values without trailing zero bits (X.680 22.4 to 22.7).
 ghost use Rattle.std.specs.Prelude.{◌≡◌, ◌<◌, ◌+◌, All, map, replicate, IfOk};
 ghost use Rattle.guard_model.specs.Answer.{Gives};
-ghost use Rattle.guard_model.specs.Each.{each};
+ghost use Rattle.guard_model.specs.inside.Each.{each};
 ghost use Rattle.guard_model.specs.TypeView.{named_view};
 ghost use Rattle.guard_model.specs.ValueView.{value_view};
 ghost use Rattle.guard_syntax.specs.Trees.{entries_of};
 ghost use Rattle.guard_syntax.specs.Views.{entry_view, name_view};
 ghost use Rattle.guard_values.specs.NamedBits as named_bits;
 ghost use Rattle.guard_values.specs.NamedBits.{bits_to_last};
-ghost use Rattle.guard_values.specs.Reading.{read_named_bits, read_place};
+ghost use Rattle.guard_values.specs.inside.Reading.{read_named_bits, read_place};
 ghost use Rattle.guard_values.specs.Views.{named};
 
 use crate::fault::ValueFault;

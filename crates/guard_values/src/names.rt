@@ -6,7 +6,7 @@ ghost use Rattle.guard_model.specs.ValueView.{value_view};
 ghost use Rattle.guard_model.specs.Limits.{fits_128_bits};
 ghost use Rattle.guard_values.specs.Meanings as meanings;
 ghost use Rattle.guard_values.specs.Simple.{numbered_value};
-ghost use Rattle.guard_values.specs.Reading.{read_reference, read_visible, answered};
+ghost use Rattle.guard_values.specs.inside.Reading.{read_reference, read_visible, answered};
 ghost use Rattle.guard_values.specs.Views.{named, visible_view, meaning_of};
 
 use crate::fault::ValueFault;

@@ -1,12 +1,12 @@
 //! What object identifiers say (X.680 clause 32).
 ghost use Rattle.std.specs.Prelude.{◌≡◌, map};
 ghost use Rattle.guard_model.specs.Answer.{Gives};
-ghost use Rattle.guard_model.specs.Each.{each};
+ghost use Rattle.guard_model.specs.inside.Each.{each};
 ghost use Rattle.guard_model.specs.ValueView.{value_view};
 ghost use Rattle.guard_syntax.specs.Views.{arc_view};
 ghost use Rattle.guard_values.specs.ObjectIdentifiers as written;
 ghost use Rattle.guard_values.specs.ObjectIdentifiers.{arc_numbers, too_large_arc, large_second};
-ghost use Rattle.guard_values.specs.Reading.{read_arc, limited_arcs, unless_large};
+ghost use Rattle.guard_values.specs.inside.Reading.{read_arc, limited_arcs, unless_large};
 ghost use Rattle.guard_values.specs.Views.{named};
 
 use crate::fault::ValueFault;

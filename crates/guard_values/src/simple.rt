@@ -9,7 +9,7 @@ ghost use Rattle.guard_values.specs.NamedBits.{bits_kept};
 ghost use Rattle.guard_values.specs.Simple.{boolean_value, null_value, bits_value, characters_value};
 ghost use Rattle.guard_values.specs.Strings as written;
 ghost use Rattle.std.specs.Str.{is_utf8};
-ghost use Rattle.guard_values.specs.Reading.{answered, read_integer, read_text, read_arcs};
+ghost use Rattle.guard_values.specs.inside.Reading.{answered, read_integer, read_text, read_arcs};
 ghost use Rattle.guard_values.specs.Views.{named};
 ghost use Rattle.guard_model.specs.AbstractValue.{octet_string};
 

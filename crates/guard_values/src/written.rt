@@ -10,8 +10,8 @@ ghost use Rattle.guard_syntax.specs.Trees.{entries_of};
 ghost use Rattle.guard_syntax.specs.Views as trees;
 ghost use Rattle.guard_values.specs.Meanings.{AreFitting};
 ghost use Rattle.guard_values.specs.Arrangement.{AreEncodings, encoded_value};
-ghost use Rattle.guard_values.specs.Reading as reading;
-ghost use Rattle.guard_values.specs.Reading.{read_form, read_chosen, read_list, read_items, read_set_items, read_fields, read_entries, read_elements, entry_at, element_at, read_whole, read_sorted, read_first_fault};
+ghost use Rattle.guard_values.specs.inside.Reading as reading;
+ghost use Rattle.guard_values.specs.inside.Reading.{read_form, read_chosen, read_list, read_items, read_set_items, read_fields, read_entries, read_elements, entry_at, element_at, read_whole, read_sorted, read_first_fault};
 ghost use Rattle.guard_values.specs.Views.{named, encoded_view, meaning_of};
 
 use crate::arrangement::Encoded;

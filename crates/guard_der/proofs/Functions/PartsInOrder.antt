@@ -3,7 +3,7 @@ use Rattle.std.proofs.Common.{◌≡◌, suc, Bool, true, false, cond, List, [],
 use Rattle.std.specs.List.{insert}
 use Rattle.guard_der.specs.Der.{Part, insert_part, ascending, tag_before}
 use Rattle.guard_der.specs.declared.encoding.parts.EncodedPart.{EncodedPart}
-use Rattle.guard_der.specs.EncodingSteps.{part_view, parts_view, place_among}
+use Rattle.guard_der.specs.inside.EncodingSteps.{part_view, parts_view, place_among}
 
 -- these put in among sorted ones, the last of them first
 abbrev pub put_in : List Part → List Part → List Part

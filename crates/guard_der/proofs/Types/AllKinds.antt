@@ -79,7 +79,7 @@ mutual
       untagged_choice cs cons (no_pair 0 cs n.0) (all_lawful 0 cs p.1 n.1)
   untagged_lawful kind cons tagged e none = absurd cc
 
-  kind_lawful : (kind : AbstractKind) → is_proper_kind kind ≡ true → clash_of_kind kind ≡ None → LawfulKind kind
+  pub kind_lawful : (kind : AbstractKind) → is_proper_kind kind ≡ true → clash_of_kind kind ≡ None → LawfulKind kind
   kind_lawful type.boolean e none = simple_lawful type.boolean boolean_law
   kind_lawful (type.integer ns) e none = simple_lawful (type.integer ns) (integer_law ns)
   kind_lawful (type.bit_string ns) e none = simple_lawful (type.bit_string ns) (bits_law ns)

@@ -1,7 +1,7 @@
 //! Numbers as octets, the highest first.
 ghost use Rattle.std.specs.Prelude.{◌≡◌, ◌++◌, ◌*◌, ◌^◌, ◌<◌, ◌≤◌, map, pos, IfOk};
 ghost use Rattle.guard_der.specs.Octets.{fewest, unsigned_octets, signed_octets, base_128};
-ghost use Rattle.guard_der.specs.Digits.{digit_octet, digits_below};
+ghost use Rattle.guard_der.specs.inside.Digits.{digit_octet, digits_below};
 
 use guard_model::OutOfMemory;
 

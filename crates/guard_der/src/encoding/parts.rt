@@ -1,7 +1,7 @@
 //! What a SEQUENCE or SET sends of its components.
 ghost use Rattle.std.specs.Prelude.{◌≡◌, ◌≤◌, length, IfOk};
 ghost use Rattle.guard_der.specs.Der.{ascending, insert_part, parts_joined, tag_before};
-ghost use Rattle.guard_der.specs.EncodingSteps.{part_view, parts_view, place_among};
+ghost use Rattle.guard_der.specs.inside.EncodingSteps.{part_view, parts_view, place_among};
 
 use guard_model::{OutOfMemory, Tag};
 use std::alloc::Global;

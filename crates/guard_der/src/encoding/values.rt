@@ -6,7 +6,7 @@ ghost use Rattle.guard_model.specs.ValueView.{value_view, field_view, fields_vie
 ghost use Rattle.guard_der.specs.Der.{der, contents_octets, parts_of, alternative_octets, item_encodings};
 ghost use Rattle.guard_der.specs.Fits.{fits, fits_kind, fits_fields, fits_alternative, every_fits, fits_field};
 ghost use Rattle.guard_der.specs.Encoding.{refusal};
-ghost use Rattle.guard_der.specs.EncodingSteps.{or_too_long, part_of, parts_view, with_parts, all_joined, sequence_octets, set_octets};
+ghost use Rattle.guard_der.specs.inside.EncodingSteps.{or_too_long, part_of, parts_view, with_parts, all_joined, sequence_octets, set_octets};
 
 use crate::encoding::EncodeFault;
 use crate::encoding::element::tagged;

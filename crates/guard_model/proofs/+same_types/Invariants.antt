@@ -1,5 +1,5 @@
 use Rattle.std.proofs.Common.{◌≡◌, length, drop}
-use Rattle.guard_model.specs.BareView.{bare_components_view, bare_constraints_view, bare_parts_view}
+use Rattle.guard_model.specs.inside.BareView.{bare_components_view, bare_constraints_view, bare_parts_view}
 use Rattle.guard_model.specs.SameType.{same_components, same_constraints, same_parts}
 use Rattle.guard_model.proofs.+same_types.Given as goal
 

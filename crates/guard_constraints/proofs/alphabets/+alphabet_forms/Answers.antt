@@ -6,7 +6,7 @@ use Rattle.guard_syntax.specs.declared.tree.ElementForm.{the_lemmas as tree_lemm
 use Rattle.guard_syntax.specs.SetViews.{site_of_difference, set_view, intersection_view, difference_view, joined_intersection_view}
 use Rattle.guard_syntax.specs.declared.tree.ElementForm.TheViews.{out-IntersectionTree}
 use Rattle.guard_constraints.specs.PermittedAlphabets.{items_of, items_of_form, items_of_united}
-use Rattle.guard_constraints.specs.Reading.{gathered}
+use Rattle.guard_constraints.specs.inside.Reading.{gathered}
 use Rattle.guard_constraints.specs.Views.{named, item_view}
 use Rattle.guard_constraints.proofs.Shapes.{intersection_view_is, joined_intersection_is}
 use Rattle.guard_constraints.proofs.Forms.{union_then, united_goes_on, united_stops, united_ends, alone_taken, joined_refused}

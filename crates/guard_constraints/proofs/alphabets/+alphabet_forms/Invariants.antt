@@ -2,7 +2,7 @@ use Rattle.std.proofs.Common.{◌≡◌, drop, map}
 use Rattle.guard_syntax.specs.Trees.{united_of}
 use Rattle.guard_syntax.specs.SetViews.{joined_intersection_view}
 use Rattle.guard_constraints.specs.PermittedAlphabets.{items_of_united}
-use Rattle.guard_constraints.specs.Reading.{gathered}
+use Rattle.guard_constraints.specs.inside.Reading.{gathered}
 use Rattle.guard_constraints.specs.Views.{item_view}
 use Rattle.guard_constraints.proofs.alphabets.+alphabet_forms.Given as goal
 

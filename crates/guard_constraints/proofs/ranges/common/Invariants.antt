@@ -1,5 +1,5 @@
 use Rattle.std.proofs.Common.{◌≡◌, ◌++◌, ◌+◌, ◌-◌, drop, length}
-use Rattle.guard_constraints.specs.Computing.{common_of}
+use Rattle.guard_constraints.specs.inside.Computing.{common_of}
 use Rattle.guard_constraints.proofs.ranges.common.Given as goal
 
 abbrev pub invariant-loop-at_first : goal.invariant-loop-at_first

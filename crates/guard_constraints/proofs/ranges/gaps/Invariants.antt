@@ -1,6 +1,6 @@
 use Rattle.std.proofs.Common.{◌≡◌, ◌++◌, drop}
 use Rattle.guard_constraints.specs.Numbers.{least, greatest}
-use Rattle.guard_constraints.specs.Computing.{gaps_from}
+use Rattle.guard_constraints.specs.inside.Computing.{gaps_from}
 use Rattle.guard_constraints.proofs.ranges.gaps.Given as goal
 
 abbrev pub invariant-loop-range : goal.invariant-loop-range

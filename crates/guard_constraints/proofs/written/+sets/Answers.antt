@@ -1,6 +1,6 @@
 use Rattle.std.proofs.Common.{◌≡◌, rules, map, refl, sym, ◌∙◌}
 use Rattle.std.proofs.lemmas.Result.{err_from_is_err_and}
-use Rattle.guard_model.specs.Each.{each}
+use Rattle.guard_model.specs.inside.Each.{each}
 use Rattle.guard_model.specs.TypeView.{type_view, constraint_view, part_view}
 use Rattle.guard_model.proofs.Loops.{stops_at, ends_there}
 use Rattle.guard_model.specs.Kinds.{kind_of}
@@ -10,7 +10,7 @@ use Rattle.guard_syntax.specs.declared.tree.ElementForm.TheViews.{out-Difference
 use Rattle.guard_syntax.specs.declared.tree.ElementForm.{the_lemmas as tree_lemmas}
 use Rattle.guard_syntax.specs.Trees as written
 use Rattle.guard_syntax.specs.Trees.{united_of}
-use Rattle.guard_constraints.specs.Reading.{read, behind, joined_intersections, joined_differences, read_set, read_set_form, read_intersection, read_difference, read_part}
+use Rattle.guard_constraints.specs.inside.Reading.{read, behind, joined_intersections, joined_differences, read_set, read_set_form, read_intersection, read_difference, read_part}
 use Rattle.guard_constraints.specs.Views.{named, visible_in}
 use Rattle.guard_constraints.proofs.Gathering.{pushes}
 use Rattle.guard_constraints.proofs.Shapes.{intersection_view_is, difference_site_is, joined_intersection_is, joined_difference_is}

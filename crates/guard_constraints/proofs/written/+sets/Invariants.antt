@@ -1,10 +1,10 @@
 use Rattle.std.proofs.Common.{◌≡◌, drop, map}
-use Rattle.guard_model.specs.Each.{each}
+use Rattle.guard_model.specs.inside.Each.{each}
 use Rattle.guard_model.specs.TypeView.{type_view, constraint_view, part_view}
 use Rattle.guard_model.proofs.Loops.{with_front}
 use Rattle.guard_syntax.specs.SetViews as views
 use Rattle.guard_model.specs.Kinds.{kind_of}
-use Rattle.guard_constraints.specs.Reading.{behind, joined_intersections, joined_differences, read_part}
+use Rattle.guard_constraints.specs.inside.Reading.{behind, joined_intersections, joined_differences, read_part}
 use Rattle.guard_constraints.specs.Views.{visible_in}
 use Rattle.guard_constraints.proofs.written.+sets.Given as goal
 

@@ -11,7 +11,7 @@ use Rattle.guard_model.proofs.TypeViews.{kind_view_sequence, kind_view_set}
 use Rattle.guard_model.proofs.ValueViews.{value_view_fields}
 use Rattle.guard_model.proofs.Components.{found_there, found_nowhere}
 use Rattle.guard_eval.specs.Violations.{violation_view}
-use Rattle.guard_eval.specs.Failures.{under, failure_by, first_part_failure}
+use Rattle.guard_eval.specs.inside.Failures.{under, failure_by, first_part_failure}
 use Rattle.guard_eval.proofs.AtPlace.{chosen_failure, no_failure, failure_at_end, parts_next, constraint_view_is, element_view_each}
 use Rattle.guard_eval.proofs.search.+search.Goals as goal
 

@@ -3,7 +3,7 @@ use Rattle.std.specs.Slice.Iter.{iter_rest}
 use Rattle.std.specs.Iterator.Adapters.{zip_first, zip_second, enumerate_source, enumerate_count}
 use Rattle.guard_model.specs.TypeView.{type_view, kind_view, component_view, constraint_view, part_view, components_of, constraints_of, parts_of}
 use Rattle.guard_model.specs.ValueView.{value_view, fields_view, items_view}
-use Rattle.guard_eval.specs.Failures.{failure, failure_from, failure_among, failure_by, first_failure, some_allows, first_part_failure}
+use Rattle.guard_eval.specs.inside.Failures.{failure, failure_from, failure_among, failure_by, first_failure, some_allows, first_part_failure}
 use Rattle.guard_eval.proofs.search.+search.Given as goal
 
 -- ---- the first failure is among what is left

@@ -1,6 +1,6 @@
 use Rattle.std.proofs.Common.{◌≡◌, ◌+◌, suc, drop, length, sym, ap, ◌∙◌, arith}
 use Rattle.std.proofs.lemmas.List.{take_rest, length-drop}
-use Rattle.guard_lexer.specs.Reading.{behind_block_comment}
+use Rattle.guard_lexer.specs.inside.Reading.{behind_block_comment}
 use Rattle.guard_lexer.proofs.CommentsAndStrings.{block_comment-opens, block_comment-closes, block_comment-goes_on}
 use Rattle.guard_lexer.proofs.comment.behind_block_comment.Goals as goal
 

@@ -1,5 +1,5 @@
 use Rattle.std.proofs.Common.{◌≡◌, ◌+◌, ◌≤◌, length}
-use Rattle.guard_lexer.specs.Reading.{behind_block_comment}
+use Rattle.guard_lexer.specs.inside.Reading.{behind_block_comment}
 use Rattle.guard_lexer.proofs.comment.behind_block_comment.Given as goal
 
 abbrev pub invariant-loop-left : goal.invariant-loop-left

@@ -1,5 +1,5 @@
 use Rattle.std.proofs.Common.{length, drop, ◌-◌, ◌≡◌, ◌≤◌, ◌+◌}
-use Rattle.guard_lexer.specs.Reading.{comment_body_len}
+use Rattle.guard_lexer.specs.inside.Reading.{comment_body_len}
 use Rattle.guard_lexer.proofs.comment.comment_body_len.Given as goal
 
 abbrev pub invariant-loop-n : goal.invariant-loop-n

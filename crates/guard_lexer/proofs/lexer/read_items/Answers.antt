@@ -5,7 +5,7 @@ use Rattle.guard_model.specs.declared.site.Site.{Site}
 use Rattle.std.specs.Global.{Vec}
 use Rattle.guard_lexer.specs.declared.token.Token.{Token}
 use Rattle.guard_lexer.specs.Lexing.{kind_of}
-use Rattle.guard_lexer.specs.Reading.{IsFaultlessItem}
+use Rattle.guard_lexer.specs.inside.Reading.{IsFaultlessItem}
 use Rattle.guard_lexer.proofs.ReadItems.{column-fits, fault_here, reads_one, site_more, some_token, no_token}
 use Rattle.guard_lexer.proofs.lexer.read_items.Goals as goal
 use Rattle.guard_lexer.proofs.lexer.read_items.Goals.{in-Some+in_ok-push, in_default}

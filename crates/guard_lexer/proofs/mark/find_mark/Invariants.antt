@@ -1,6 +1,6 @@
 use Rattle.std.proofs.Common.{◌≡◌, drop}
 use Rattle.std.specs.Prelude.{find}
-use Rattle.guard_lexer.specs.Reading.{stands_at}
+use Rattle.guard_lexer.specs.inside.Reading.{stands_at}
 use Rattle.guard_lexer.proofs.mark.find_mark.Given as goal
 
 abbrev pub invariant-loop-mark : goal.invariant-loop-mark

@@ -1,4 +1,4 @@
-use Rattle.guard_lexer.specs.Reading.{mark_at}
+use Rattle.guard_lexer.specs.inside.Reading.{mark_at}
 use Rattle.guard_lexer.proofs.mark.mark_at.Goals as goal
 
 pub returns : goal.returns

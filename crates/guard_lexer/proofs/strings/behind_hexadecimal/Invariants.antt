@@ -1,5 +1,5 @@
 use Rattle.std.proofs.Common.{◌≡◌, ◌≤◌, length}
-use Rattle.guard_lexer.specs.Reading.{behind_hexadecimal}
+use Rattle.guard_lexer.specs.inside.Reading.{behind_hexadecimal}
 use Rattle.guard_lexer.proofs.strings.behind_hexadecimal.Given as goal
 
 abbrev pub invariant-loop-left : goal.invariant-loop-left

@@ -1,5 +1,5 @@
 use Rattle.std.proofs.Common.{length, drop, ◌-◌, ◌≡◌, ◌≤◌, ◌+◌}
-use Rattle.guard_lexer.specs.Reading.{word_len}
+use Rattle.guard_lexer.specs.inside.Reading.{word_len}
 use Rattle.guard_lexer.proofs.word.word_len.Given as goal
 
 abbrev pub invariant-loop-n : goal.invariant-loop-n

@@ -3,7 +3,7 @@ use Rattle.guard_model.specs.Answer.{Gives}
 use Rattle.guard_syntax.specs.ModuleViews.{module_view}
 use Rattle.guard_names.specs.DeclarationViews.{declaration_view}
 use Rattle.guard_names.specs.Faults.{named}
-use Rattle.guard_names.specs.Reading.{nothing}
+use Rattle.guard_names.specs.inside.Reading.{nothing}
 use Rattle.guard_names.specs.TableViews.{origin_in}
 use Rattle.guard_names.proofs.Steps.{last_import_step}
 use Rattle.guard_names.proofs.checks.check_imports.Goals as goal

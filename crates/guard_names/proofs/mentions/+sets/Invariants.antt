@@ -2,7 +2,7 @@ use Rattle.std.proofs.Common.{◌≡◌, ◌++◌, map, drop}
 use Rattle.guard_syntax.specs.Trees.{united_of, met_of, parts_of}
 use Rattle.guard_syntax.specs.SetViews.{joined_intersection_view, joined_difference_view, part_view}
 use Rattle.guard_names.specs.Mentions as mentions
-use Rattle.guard_names.specs.Views.{mention_view}
+use Rattle.guard_names.specs.inside.Views.{mention_view}
 use Rattle.guard_names.proofs.mentions.+sets.Given as goal
 
 abbrev pub invariant-add_united-loop-joined : goal.invariant-add_united-loop-joined

@@ -2,7 +2,7 @@ use Rattle.std.proofs.Common.{◌≡◌, ◌++◌, map, drop}
 use Rattle.guard_syntax.specs.Trees.{components_of, alternatives_of}
 use Rattle.guard_syntax.specs.TypeViews.{component_view, alternative_view}
 use Rattle.guard_names.specs.Mentions as mentions
-use Rattle.guard_names.specs.Views.{mention_view}
+use Rattle.guard_names.specs.inside.Views.{mention_view}
 use Rattle.guard_names.proofs.mentions.+types.Given as goal
 
 abbrev pub invariant-add_components-loop-comp : goal.invariant-add_components-loop-comp

@@ -2,7 +2,7 @@ use Rattle.std.proofs.Common.{◌≡◌, ◌++◌, map, drop}
 use Rattle.guard_syntax.specs.Trees.{entries_of}
 use Rattle.guard_syntax.specs.Views.{entry_view}
 use Rattle.guard_names.specs.Mentions as mentions
-use Rattle.guard_names.specs.Views.{mention_view}
+use Rattle.guard_names.specs.inside.Views.{mention_view}
 use Rattle.guard_names.proofs.mentions.+values.Given as goal
 
 abbrev pub invariant-add_entries-loop-entry : goal.invariant-add_entries-loop-entry

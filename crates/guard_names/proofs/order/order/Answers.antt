@@ -1,7 +1,7 @@
 use Rattle.std.proofs.Common.{map, refl, subst}
 use Rattle.std.proofs.lemmas.List.{length-map}
 use Rattle.guard_names.specs.Order.{IsOrder}
-use Rattle.guard_names.specs.Queues.{UsesIn}
+use Rattle.guard_names.specs.inside.Queues.{UsesIn}
 use Rattle.guard_names.proofs.Queueing.{all_are_listed}
 use Rattle.guard_names.proofs.order.order.Goals as goal
 

@@ -1,5 +1,5 @@
 use Rattle.std.proofs.Common.{map}
-use Rattle.guard_names.specs.QueueViews.{IsQueue, left_in}
+use Rattle.guard_names.specs.inside.QueueViews.{IsQueue, left_in}
 use Rattle.guard_names.proofs.order.order.Given as goal
 
 abbrev pub invariant-loop-queue : goal.invariant-loop-queue

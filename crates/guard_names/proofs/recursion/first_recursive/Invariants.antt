@@ -1,6 +1,6 @@
 use Rattle.std.proofs.Common.{◌≡◌, ℕ, ◌<◌, [], map}
 use Rattle.guard_names.specs.declared.recursion.Mark.TheVariants.{New}
-use Rattle.guard_names.specs.SearchViews.{IsSearch, mark_of}
+use Rattle.guard_names.specs.inside.SearchViews.{IsSearch, mark_of}
 use Rattle.guard_names.proofs.recursion.first_recursive.Given as goal
 
 abbrev pub invariant-loop-number : goal.invariant-loop-number

@@ -1,6 +1,6 @@
 use Rattle.std.proofs.Common.{◌≡◌, take}
 use Rattle.std.specs.Prelude.{fold}
-use Rattle.guard_names.specs.Searches.{lesser}
+use Rattle.guard_names.specs.inside.Searches.{lesser}
 use Rattle.guard_names.proofs.recursion.first_with.Given as goal
 
 abbrev pub invariant-loop-number : goal.invariant-loop-number

@@ -1,5 +1,5 @@
 use Rattle.std.proofs.Common.{◌≡◌, ◌<◌, ◌≤◌, true, length, get_or, take, ◌++◌, ◌∷◌, [], ◌∙◌, ap, subst, arith}
-use Rattle.guard_names.specs.Searches.{no_part}
+use Rattle.guard_names.specs.inside.Searches.{no_part}
 use Rattle.guard_names.specs.declared.recursion.Part.{Part}
 use Rattle.guard_names.proofs.Searching.{any_default, cut_and_set}
 use Rattle.guard_names.proofs.recursion.join.Goals as goal

@@ -1,5 +1,5 @@
 use Rattle.std.proofs.Common.{ℕ, ◌<◌, length, get_or}
-use Rattle.guard_names.specs.Searches.{no_part}
+use Rattle.guard_names.specs.inside.Searches.{no_part}
 use Rattle.guard_names.proofs.recursion.join.Given as goal
 
 abbrev pub invariant-loop-last : goal.invariant-loop-last

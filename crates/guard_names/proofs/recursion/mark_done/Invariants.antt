@@ -1,7 +1,7 @@
 use Rattle.std.proofs.Common.{◌≡◌, ℕ, ◌≤◌, true, false, List, get_or, take}
 use Rattle.guard_names.specs.declared.recursion.Mark.TheVariants.{New, Done}
 use Rattle.guard_names.specs.Order.{is_listed}
-use Rattle.guard_names.specs.Searches.{new_left}
+use Rattle.guard_names.specs.inside.Searches.{new_left}
 use Rattle.guard_names.proofs.recursion.mark_done.Given as goal
 
 abbrev pub invariant-loop-number : goal.invariant-loop-number

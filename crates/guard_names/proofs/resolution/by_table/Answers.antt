@@ -6,7 +6,7 @@ use Rattle.guard_syntax.specs.ModuleViews.{module_view}
 use Rattle.guard_names.specs.declared.fault.NameFault.TheVariants.{Undefined}
 use Rattle.guard_names.specs.Declarations.{definition_of}
 use Rattle.guard_names.specs.Faults.{named, first_found, undefined_in}
-use Rattle.guard_names.specs.Reading.{refused_at, used_in_module}
+use Rattle.guard_names.specs.inside.Reading.{refused_at, used_in_module}
 use Rattle.guard_names.specs.TableViews.{origin_in, meaning_in}
 use Rattle.guard_names.proofs.Steps.{same_numbers}
 use Rattle.guard_names.proofs.resolution.by_table.Goals as goal

@@ -4,7 +4,7 @@ use Rattle.std.proofs.lemmas.Result.{err_from_is_err_and}
 use Rattle.guard_syntax.specs.ModuleViews.{assignment_view}
 use Rattle.guard_names.specs.declared.fault.NameFault.TheVariants as fault
 use Rattle.guard_names.specs.Faults.{named, undefined_mention_in}
-use Rattle.guard_names.specs.Reading.{refused_at, used_in, listed_uses}
+use Rattle.guard_names.specs.inside.Reading.{refused_at, used_in, listed_uses}
 use Rattle.guard_names.specs.TableViews.{meaning_in}
 use Rattle.guard_names.proofs.FirstFaults.{refused_so, accepted_so, found_here, passes_here, none_found}
 use Rattle.guard_names.proofs.Gathering.{one_more, all_gathered}

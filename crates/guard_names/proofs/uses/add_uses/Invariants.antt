@@ -1,7 +1,7 @@
 use Rattle.std.proofs.Common.{◌≡◌, ◌++◌, map, drop}
 use Rattle.guard_syntax.specs.ModuleViews.{assignment_view}
 use Rattle.guard_names.specs.Faults.{first_found, undefined_mention_in}
-use Rattle.guard_names.specs.Reading.{used_in, listed_uses}
+use Rattle.guard_names.specs.inside.Reading.{used_in, listed_uses}
 use Rattle.guard_names.specs.TableViews.{meaning_in}
 use Rattle.guard_names.proofs.uses.add_uses.Given as goal
 

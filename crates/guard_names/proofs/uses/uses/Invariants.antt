@@ -2,7 +2,7 @@ use Rattle.std.proofs.Common.{◌≡◌, ◌++◌, map, drop}
 use Rattle.std.specs.List.{flat_map}
 use Rattle.guard_syntax.specs.ModuleViews.{module_view}
 use Rattle.guard_names.specs.Faults.{first_found, undefined_in}
-use Rattle.guard_names.specs.Reading.{used_in_module, listed_uses}
+use Rattle.guard_names.specs.inside.Reading.{used_in_module, listed_uses}
 use Rattle.guard_names.specs.TableViews.{origin_in, meaning_in}
 use Rattle.guard_names.proofs.uses.uses.Given as goal
 

@@ -3,9 +3,9 @@ use Rattle.std.specs.List.{filter_map}
 use Rattle.std.proofs.lemmas.Result.{err_from_is_err_and}
 use Rattle.guard_names.specs.declared.fault.NameFault.TheVariants as fault
 use Rattle.guard_names.specs.Faults.{named, first_where, is_undefined_mention}
-use Rattle.guard_names.specs.Reading.{refused_at}
+use Rattle.guard_names.specs.inside.Reading.{refused_at}
 use Rattle.guard_names.specs.TableViews.{meaning_in}
-use Rattle.guard_names.specs.Views.{mention_view}
+use Rattle.guard_names.specs.inside.Views.{mention_view}
 use Rattle.guard_names.proofs.FirstFaults.{refused_so, accepted_so, where_here, passes_where, none_where}
 use Rattle.guard_names.proofs.Gathering.{all_gathered}
 use Rattle.guard_names.proofs.Used.{used_of, one_more_used}

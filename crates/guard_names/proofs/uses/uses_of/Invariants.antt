@@ -2,7 +2,7 @@ use Rattle.std.proofs.Common.{◌≡◌, ◌++◌, map, drop}
 use Rattle.std.specs.List.{filter_map}
 use Rattle.guard_names.specs.Faults.{first_where, is_undefined_mention}
 use Rattle.guard_names.specs.TableViews.{meaning_in}
-use Rattle.guard_names.specs.Views.{mention_view}
+use Rattle.guard_names.specs.inside.Views.{mention_view}
 use Rattle.guard_names.proofs.uses.uses_of.Given as goal
 
 abbrev pub invariant-loop-mention : goal.invariant-loop-mention

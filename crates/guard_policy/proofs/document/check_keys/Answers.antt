@@ -1,6 +1,6 @@
 use Rattle.std.proofs.Common.{rules, ◌≡◌, ap, ◌∙◌, Some, None, option_map, string_bytes}
 use Rattle.toml.specs.View.{members_view}
-use Rattle.guard_policy.specs.Answers.{first_unknown}
+use Rattle.guard_policy.specs.inside.Answers.{first_unknown}
 use Rattle.guard_policy.specs.PolicyFaults.{unknown_key}
 use Rattle.guard_policy.proofs.LeastKey.{first_is_least}
 use Rattle.guard_policy.proofs.document.check_keys.Goals as goal

@@ -1,6 +1,6 @@
 use Rattle.std.proofs.Common.{◌≡◌}
 use Rattle.toml.specs.View.{members_view}
-use Rattle.guard_policy.specs.Answers.{first_unknown}
+use Rattle.guard_policy.specs.inside.Answers.{first_unknown}
 use Rattle.guard_policy.proofs.document.check_keys.Given as goal
 
 -- the first of what is left is the first of all

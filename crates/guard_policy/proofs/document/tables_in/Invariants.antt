@@ -1,7 +1,7 @@
 use Rattle.std.proofs.Common.{drop}
 use Rattle.toml.specs.Data.{as_table}
 use Rattle.toml.specs.View.{items_view}
-use Rattle.guard_policy.specs.Answers.{tables_view}
+use Rattle.guard_policy.specs.inside.Answers.{tables_view}
 use Rattle.guard_policy.specs.Documents.{items_as}
 use Rattle.guard_policy.proofs.Gathered.{Gathered}
 use Rattle.guard_policy.proofs.document.tables_in.Given as goal

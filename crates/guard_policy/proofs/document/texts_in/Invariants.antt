@@ -1,7 +1,7 @@
 use Rattle.std.proofs.Common.{drop}
 use Rattle.toml.specs.Data.{as_str}
 use Rattle.toml.specs.View.{items_view}
-use Rattle.guard_policy.specs.Answers.{texts_view}
+use Rattle.guard_policy.specs.inside.Answers.{texts_view}
 use Rattle.guard_policy.specs.Documents.{items_as}
 use Rattle.guard_policy.proofs.Gathered.{Gathered}
 use Rattle.guard_policy.proofs.document.texts_in.Given as goal

@@ -1,5 +1,5 @@
 use Rattle.std.proofs.Common.{◌≡◌, map, take, string_bytes}
-use Rattle.guard_policy.specs.Answers.{texts_view}
+use Rattle.guard_policy.specs.inside.Answers.{texts_view}
 use Rattle.guard_policy.proofs.files.copy_of_texts.Given as goal
 
 abbrev pub invariant-loop-text : goal.invariant-loop-text

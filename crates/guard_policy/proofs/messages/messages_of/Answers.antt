@@ -5,7 +5,7 @@ use Rattle.std.proofs.lemmas.List.Elements.{All-push}
 use Rattle.guard_der.specs.Sound.{is_sound}
 use Rattle.toml.specs.Data.{Members}
 use Rattle.toml.specs.View.{table_view}
-use Rattle.guard_policy.specs.Answers.{tables_view}
+use Rattle.guard_policy.specs.inside.Answers.{tables_view}
 use Rattle.guard_policy.specs.Entries.{message_in}
 use Rattle.guard_policy.specs.EntryFaults.{message_fault}
 use Rattle.guard_policy.specs.Policies.{AbstractMessage, message_view}

@@ -1,7 +1,7 @@
 use Rattle.std.proofs.Common.{◌+◌, map, drop, All}
 use Rattle.std.specs.Prelude.{IsTrue}
 use Rattle.guard_der.specs.Sound.{is_sound}
-use Rattle.guard_policy.specs.Answers.{tables_view}
+use Rattle.guard_policy.specs.inside.Answers.{tables_view}
 use Rattle.guard_policy.specs.Entries.{message_in}
 use Rattle.guard_policy.specs.EntryFaults.{message_fault}
 use Rattle.guard_policy.specs.Policies.{message_view}

@@ -9,10 +9,10 @@ use Rattle.guard_tables.specs.TableNodes.{spot_at, body_at, parts_between, has_i
 use Rattle.guard_tables.specs.NodeViews.{raise_view}
 use Rattle.guard_tables.specs.Marking.{conditions_marked}
 use Rattle.guard_tables.specs.Formulas.{raised}
-use Rattle.guard_reader.specs.NodeParts.{identifier_at, other_at}
+use Rattle.guard_reader.specs.inside.NodeParts.{identifier_at, other_at}
 use Rattle.guard_tables.specs.NodesView.{spots_in}
 use Rattle.guard_reader.specs.Judging.{contents_judged, fields_judged, outside, then_marked, whole_facts, size_in, ordered, front_of}
-use Rattle.guard_reader.specs.Answers.{Answers}
+use Rattle.guard_reader.specs.inside.Answers.{Answers}
 use Rattle.guard_reader.proofs.Elements.{bind_some, bind_none, within}
 use Rattle.guard_reader.proofs.Steps.{none_left, none_ordered, not_ordered, one_ordered, yes, no, at_end, no_element, one_element, last_element, element_there, element_other, plain_there, absent_there, not_whole, present_there, refused, sent}
 use Rattle.guard_tables.proofs.Spots.{node_at, there_at, cold_at}

@@ -1,6 +1,6 @@
 use Rattle.std.proofs.Common.{◌≡◌, ◌+◌, ◌-◌, ◌*◌, ◌≤◌, length, []}
 use Rattle.guard_tables.specs.TableNodes.{body_at, parts_between}
-use Rattle.guard_reader.specs.NodeParts.{identifier_at}
+use Rattle.guard_reader.specs.inside.NodeParts.{identifier_at}
 use Rattle.guard_tables.specs.NodesView.{spots_in}
 use Rattle.guard_reader.specs.Judging.{contents_judged, fields_judged, elements, ordered}
 use Rattle.guard_reader.proofs.walking.+walking.Given as goal

@@ -1,7 +1,7 @@
 use Rattle.std.proofs.Common.{◌≡◌, ◌≤◌, length}
 use Rattle.guard_tables.specs.declared.slots.Slots.{Slots}
 use Rattle.guard_tables.specs.TableNodes.{body_at}
-use Rattle.guard_reader.specs.NodeParts.{identifier_at}
+use Rattle.guard_reader.specs.inside.NodeParts.{identifier_at}
 use Rattle.guard_tables.specs.NodesView.{spots_in}
 use Rattle.guard_reader.specs.Judging.{contents_judged, elements}
 use Rattle.guard_reader.proofs.walking.after_plain.Given as goal

@@ -3,7 +3,7 @@ use Rattle.guard_tables.specs.declared.slots.Slots.{Slots}
 use Rattle.guard_tables.specs.TableNodes.{spot_at, body_at}
 use Rattle.guard_tables.specs.NodesView.{spots_in}
 use Rattle.guard_reader.specs.Judging.{contents_judged, message_judged}
-use Rattle.guard_reader.specs.Answers.{Answers}
+use Rattle.guard_reader.specs.inside.Answers.{Answers}
 use Rattle.guard_reader.proofs.Steps.{message_alone, message_none, element_there, element_other}
 use Rattle.guard_tables.proofs.Spots.{node_at}
 use Rattle.guard_reader.proofs.NodeSteps.{identifier_is}

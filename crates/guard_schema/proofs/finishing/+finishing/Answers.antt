@@ -5,7 +5,7 @@ use Rattle.guard_syntax.specs.Trees.{components_of, alternatives_of}
 use Rattle.guard_syntax.specs.TypeViews as written
 use Rattle.guard_schema.specs.Faults.{named}
 use Rattle.guard_schema.specs.Finishing.{site_of_type}
-use Rattle.guard_schema.specs.InTurn.{FinishesInTurn, FillsInTurn, OthersInTurn}
+use Rattle.guard_schema.specs.inside.InTurn.{FinishesInTurn, FillsInTurn, OthersInTurn}
 use Rattle.guard_schema.specs.Views.{visible_of, filling_view}
 use Rattle.guard_schema.proofs.Filling.{next_component, component_stops, no_component, next_alternative, alternative_stops, no_alternative}
 use Rattle.guard_schema.proofs.FinishedTypes.{parts_refused, parts_finished, kind_refused, kind_finished, element_finished, taken_in, filling_refused, all_filled, one_refused, component_refused, component_finished}

@@ -1,5 +1,5 @@
 use Rattle.std.proofs.Common.{◌≡◌, ℕ, ap, ◌∙◌, arith}
-use Rattle.guard_schema.specs.InTurn as in_turn
+use Rattle.guard_schema.specs.inside.InTurn as in_turn
 use Rattle.guard_schema.specs.Views.{filling_view}
 use Rattle.guard_schema.proofs.Moves.{none_yet, moved_more}
 use Rattle.guard_schema.proofs.finishing.moved.Goals as goal

@@ -1,5 +1,5 @@
 use Rattle.std.proofs.Common.{◌≡◌, ◌≤◌}
-use Rattle.guard_schema.specs.InTurn as in_turn
+use Rattle.guard_schema.specs.inside.InTurn as in_turn
 use Rattle.guard_schema.specs.Views.{filling_view}
 use Rattle.guard_schema.proofs.finishing.moved.Given as goal
 

@@ -1,6 +1,6 @@
 use Rattle.std.proofs.Common.{◌≡◌, subst}
 use Rattle.std.specs.Prelude.{IfOk}
-use Rattle.guard_schema.specs.InTurn.{Filling}
+use Rattle.guard_schema.specs.inside.InTurn.{Filling}
 use Rattle.guard_schema.specs.Views.{filling_view}
 use Rattle.guard_schema.proofs.Moves.{one_moves, nothing_moves}
 use Rattle.guard_schema.proofs.finishing.moved_one.Goals as goal

@@ -1,5 +1,5 @@
-use Rattle.guard_syntax.specs.Cursors.{ahead}
-use Rattle.guard_syntax.specs.ReadModule.{goes_on_importing, read_import}
+use Rattle.guard_syntax.specs.inside.Cursors.{ahead}
+use Rattle.guard_syntax.specs.inside.ReadModule.{goes_on_importing, read_import}
 use Rattle.guard_syntax.specs.ModuleViews.{import_view}
 use Rattle.guard_syntax.proofs.Loops.{EachSoFar}
 use Rattle.guard_syntax.proofs.imports.all_imports.Given as goal

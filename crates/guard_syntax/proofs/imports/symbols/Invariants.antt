@@ -1,5 +1,5 @@
-use Rattle.guard_syntax.specs.Cursors.{ahead}
-use Rattle.guard_syntax.specs.ReadModule.{read_symbol}
+use Rattle.guard_syntax.specs.inside.Cursors.{ahead}
+use Rattle.guard_syntax.specs.inside.ReadModule.{read_symbol}
 use Rattle.guard_syntax.specs.ModuleViews.{symbol_view}
 use Rattle.guard_syntax.proofs.Loops.{PartedSoFar}
 use Rattle.guard_syntax.proofs.imports.symbols.Given as goal

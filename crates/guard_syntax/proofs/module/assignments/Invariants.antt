@@ -1,5 +1,5 @@
-use Rattle.guard_syntax.specs.Cursors.{ahead}
-use Rattle.guard_syntax.specs.ReadModule.{goes_on_assigning, read_assignment}
+use Rattle.guard_syntax.specs.inside.Cursors.{ahead}
+use Rattle.guard_syntax.specs.inside.ReadModule.{goes_on_assigning, read_assignment}
 use Rattle.guard_syntax.specs.ModuleViews.{assignment_view}
 use Rattle.guard_syntax.proofs.Loops.{EachSoFar}
 use Rattle.guard_syntax.proofs.module.assignments.Given as goal

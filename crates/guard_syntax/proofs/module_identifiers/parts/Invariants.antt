@@ -1,6 +1,6 @@
-use Rattle.guard_syntax.specs.Cursors.{ahead}
-use Rattle.guard_syntax.specs.ReadValues.{does_not_close}
-use Rattle.guard_syntax.specs.ReadModule.{read_identifier_part}
+use Rattle.guard_syntax.specs.inside.Cursors.{ahead}
+use Rattle.guard_syntax.specs.inside.ReadValues.{does_not_close}
+use Rattle.guard_syntax.specs.inside.ReadModule.{read_identifier_part}
 use Rattle.guard_syntax.specs.ModuleViews.{identifier_part_view}
 use Rattle.guard_syntax.proofs.Loops.{EachSoFar}
 use Rattle.guard_syntax.proofs.module_identifiers.parts.Given as goal

@@ -1,5 +1,5 @@
-use Rattle.guard_syntax.specs.Cursors.{ahead}
-use Rattle.guard_syntax.specs.ReadTypes.{read_item}
+use Rattle.guard_syntax.specs.inside.Cursors.{ahead}
+use Rattle.guard_syntax.specs.inside.ReadTypes.{read_item}
 use Rattle.guard_syntax.specs.TypeViews.{item_view}
 use Rattle.guard_syntax.proofs.Loops.{PartedSoFar}
 use Rattle.guard_syntax.proofs.named_numbers.some_items.Given as goal

@@ -1,7 +1,7 @@
 use Rattle.guard_syntax.specs.Sites.{sited}
 use Rattle.guard_syntax.specs.Lexemes.{sites_of}
-use Rattle.guard_syntax.specs.ReadTokens.{placed_of}
-use Rattle.guard_syntax.specs.ReadModule.{read_module}
+use Rattle.guard_syntax.specs.inside.ReadTokens.{placed_of}
+use Rattle.guard_syntax.specs.inside.ReadModule.{read_module}
 use Rattle.guard_syntax.specs.ModuleViews.{module_view}
 use Rattle.guard_syntax.proofs.SoundAndComplete.{is_written, has_sites, is_read, refused_only, answered_only}
 use Rattle.guard_syntax.proofs.parser.parse.Goals as goal

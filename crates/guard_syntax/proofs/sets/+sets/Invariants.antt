@@ -1,7 +1,7 @@
 use Rattle.std.proofs.Common.{◌+◌, ◌*◌}
-use Rattle.guard_syntax.specs.Cursors.{ahead}
-use Rattle.guard_syntax.specs.ReadValues.{read_value}
-use Rattle.guard_syntax.specs.ReadSets.{begins_union_mark, begins_intersection_mark, read_joined_intersection, read_joined_difference, read_part, read_set}
+use Rattle.guard_syntax.specs.inside.Cursors.{ahead}
+use Rattle.guard_syntax.specs.inside.ReadValues.{read_value}
+use Rattle.guard_syntax.specs.inside.ReadSets.{begins_union_mark, begins_intersection_mark, read_joined_intersection, read_joined_difference, read_part, read_set}
 use Rattle.guard_syntax.specs.SetViews.{joined_intersection_view, joined_difference_view, part_view}
 use Rattle.guard_syntax.proofs.Loops.{PartedSoFar, EachSoFar}
 use Rattle.guard_syntax.proofs.sets.+sets.Given as goal

@@ -1,5 +1,5 @@
-use Rattle.guard_syntax.specs.Cursors.{ahead}
-use Rattle.guard_syntax.specs.ReadTypes.{begins_tag, read_tag}
+use Rattle.guard_syntax.specs.inside.Cursors.{ahead}
+use Rattle.guard_syntax.specs.inside.ReadTypes.{begins_tag, read_tag}
 use Rattle.guard_syntax.specs.TypeViews.{tag_view}
 use Rattle.guard_syntax.proofs.Loops.{EachSoFar}
 use Rattle.guard_syntax.proofs.tags.tags.Given as goal

@@ -1,7 +1,7 @@
 use Rattle.std.proofs.Common.{◌+◌, ◌*◌}
-use Rattle.guard_syntax.specs.Cursors.{ahead}
-use Rattle.guard_syntax.specs.ReadValues.{read_value}
-use Rattle.guard_syntax.specs.ReadTypes.{read_component, read_alternative, read_type}
+use Rattle.guard_syntax.specs.inside.Cursors.{ahead}
+use Rattle.guard_syntax.specs.inside.ReadValues.{read_value}
+use Rattle.guard_syntax.specs.inside.ReadTypes.{read_component, read_alternative, read_type}
 use Rattle.guard_syntax.specs.TypeViews.{component_view, alternative_view}
 use Rattle.guard_syntax.proofs.Loops.{PartedSoFar}
 use Rattle.guard_syntax.proofs.types.+types.Given as goal

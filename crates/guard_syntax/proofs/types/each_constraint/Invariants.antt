@@ -1,6 +1,6 @@
-use Rattle.guard_syntax.specs.Cursors.{ahead}
-use Rattle.guard_syntax.specs.ReadSets.{read_constraint, read_set}
-use Rattle.guard_syntax.specs.ReadTypes.{begins_constraint}
+use Rattle.guard_syntax.specs.inside.Cursors.{ahead}
+use Rattle.guard_syntax.specs.inside.ReadSets.{read_constraint, read_set}
+use Rattle.guard_syntax.specs.inside.ReadTypes.{begins_constraint}
 use Rattle.guard_syntax.specs.SetViews.{constraint_view}
 use Rattle.guard_syntax.proofs.Loops.{EachSoFar}
 use Rattle.guard_syntax.proofs.types.each_constraint.Given as goal

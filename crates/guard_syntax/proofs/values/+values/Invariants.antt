@@ -1,6 +1,6 @@
 use Rattle.std.proofs.Common.{◌+◌, ◌*◌}
-use Rattle.guard_syntax.specs.Cursors.{ahead}
-use Rattle.guard_syntax.specs.ReadValues.{read_value, read_entry}
+use Rattle.guard_syntax.specs.inside.Cursors.{ahead}
+use Rattle.guard_syntax.specs.inside.ReadValues.{read_value, read_entry}
 use Rattle.guard_syntax.specs.Views.{entry_view}
 use Rattle.guard_syntax.proofs.Loops.{PartedSoFar}
 use Rattle.guard_syntax.proofs.values.+values.Given as goal

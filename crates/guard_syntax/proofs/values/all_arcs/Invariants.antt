@@ -1,6 +1,6 @@
-use Rattle.guard_syntax.specs.Cursors.{ahead}
-use Rattle.guard_syntax.specs.ReadTokens.{read_arc}
-use Rattle.guard_syntax.specs.ReadValues.{does_not_close}
+use Rattle.guard_syntax.specs.inside.Cursors.{ahead}
+use Rattle.guard_syntax.specs.inside.ReadTokens.{read_arc}
+use Rattle.guard_syntax.specs.inside.ReadValues.{does_not_close}
 use Rattle.guard_syntax.specs.Views.{arc_view}
 use Rattle.guard_syntax.proofs.Loops.{EachSoFar}
 use Rattle.guard_syntax.proofs.values.all_arcs.Given as goal

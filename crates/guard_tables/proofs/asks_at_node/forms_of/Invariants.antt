@@ -1,7 +1,7 @@
 use Rattle.std.proofs.Common.{◌≡◌, ◌++◌, map, drop}
 use Rattle.guard_tables.specs.Forms.{forms_from, forms_of}
 use Rattle.guard_tables.specs.NodeViews.{raise_view}
-use Rattle.guard_tables.specs.AskViews.{asks_view, terms_view}
+use Rattle.guard_tables.specs.inside.AskViews.{asks_view, terms_view}
 use Rattle.guard_tables.proofs.asks_at_node.forms_of.Given as goal
 
 -- what is there, with what comes of the demands that are left, is what comes of all

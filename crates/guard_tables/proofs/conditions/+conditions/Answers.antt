@@ -1,6 +1,6 @@
 use Rattle.std.proofs.Common.{ap, ◌∙◌}
 use Rattle.guard_model.proofs.Components.{found_there, found_nowhere, in_view}
-use Rattle.guard_tables.specs.Counting.{counted}
+use Rattle.guard_tables.specs.inside.Counting.{counted}
 use Rattle.guard_tables.proofs.Counts.{of_there, of_nowhere}
 use Rattle.guard_tables.proofs.conditions.+conditions.Goals as goal
 

@@ -1,6 +1,6 @@
 use Rattle.std.proofs.Common.{◌≡◌, ◌+◌, ◌≤◌, drop}
 use Rattle.guard_tables.specs.Conditions.{conditions}
-use Rattle.guard_tables.specs.Counting.{counted}
+use Rattle.guard_tables.specs.inside.Counting.{counted}
 use Rattle.guard_tables.specs.Tables.{types_view}
 use Rattle.guard_tables.proofs.conditions.of_types.Given as goal
 

@@ -1,8 +1,8 @@
 use Rattle.std.proofs.Common.{map, ap, ◌∙◌}
 use Rattle.guard_model.specs.TypeView.{kind_view}
 use Rattle.guard_tables.specs.NodeViews.{form_view}
-use Rattle.guard_tables.specs.AskViews.{terms_view}
-use Rattle.guard_tables.specs.FormSteps.{eithers, boths}
+use Rattle.guard_tables.specs.inside.AskViews.{terms_view}
+use Rattle.guard_tables.specs.inside.FormSteps.{eithers, boths}
 use Rattle.guard_tables.proofs.FormLists.{never_view, always_view}
 use Rattle.guard_tables.proofs.Folded.{all_terms, all_besides, all_next, all_done, some_terms, some_besides, some_next, some_done}
 use Rattle.guard_tables.proofs.form_terms.+form_terms.Goals as goal

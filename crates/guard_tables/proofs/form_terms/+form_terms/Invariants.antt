@@ -1,9 +1,9 @@
 use Rattle.std.proofs.Common.{◌≡◌, ◌++◌, map, drop}
 use Rattle.guard_model.specs.TypeView.{kind_view, constraint_view, constraints_of}
 use Rattle.guard_tables.specs.Forms.{form_all, form_some}
-use Rattle.guard_tables.specs.FormSteps.{eithers, boths}
+use Rattle.guard_tables.specs.inside.FormSteps.{eithers, boths}
 use Rattle.guard_tables.specs.NodeViews.{form_view}
-use Rattle.guard_tables.specs.AskViews.{terms_view}
+use Rattle.guard_tables.specs.inside.AskViews.{terms_view}
 use Rattle.guard_tables.proofs.form_terms.+form_terms.Given as goal
 
 -- ---- what is there, with what comes of the constraints that are left, is what comes of all

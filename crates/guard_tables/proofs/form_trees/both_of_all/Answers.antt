@@ -1,6 +1,6 @@
 use Rattle.std.proofs.Common.{List, map, sym, ap, ◌∙◌}
 use Rattle.guard_tables.specs.declared.node.Form.{Form}
-use Rattle.guard_tables.specs.FormSteps.{boths}
+use Rattle.guard_tables.specs.inside.FormSteps.{boths}
 use Rattle.guard_tables.specs.NodeViews.{form_view}
 use Rattle.guard_tables.proofs.FormLists.{boths_last}
 use Rattle.guard_tables.proofs.form_trees.both_of_all.Goals as goal

@@ -1,5 +1,5 @@
 use Rattle.std.proofs.Common.{◌≡◌, map, vec_len}
-use Rattle.guard_tables.specs.FormSteps.{boths}
+use Rattle.guard_tables.specs.inside.FormSteps.{boths}
 use Rattle.guard_tables.specs.NodeViews.{form_view}
 use Rattle.guard_tables.proofs.form_trees.both_of_all.Given as goal
 

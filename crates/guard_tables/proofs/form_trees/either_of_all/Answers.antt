@@ -1,6 +1,6 @@
 use Rattle.std.proofs.Common.{List, map, sym, ap, ◌∙◌}
 use Rattle.guard_tables.specs.declared.node.Form.{Form}
-use Rattle.guard_tables.specs.FormSteps.{eithers}
+use Rattle.guard_tables.specs.inside.FormSteps.{eithers}
 use Rattle.guard_tables.specs.NodeViews.{form_view}
 use Rattle.guard_tables.proofs.FormLists.{eithers_last}
 use Rattle.guard_tables.proofs.form_trees.either_of_all.Goals as goal

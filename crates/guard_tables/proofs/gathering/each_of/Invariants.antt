@@ -1,6 +1,6 @@
 use Rattle.std.proofs.Common.{◌≡◌, ◌++◌, drop}
 use Rattle.guard_tables.specs.Handed.{each_of}
-use Rattle.guard_tables.specs.AskViews.{terms_view, asks_view}
+use Rattle.guard_tables.specs.inside.AskViews.{terms_view, asks_view}
 use Rattle.guard_tables.proofs.gathering.each_of.Given as goal
 
 -- with what comes of the tests that are left it is what comes of all

@@ -1,7 +1,7 @@
 use Rattle.std.proofs.Common.{◌≡◌, ◌∷◌}
 use Rattle.guard_model.specs.TypeView.{type_view}
 use Rattle.guard_model.proofs.Components.{left}
-use Rattle.guard_tables.specs.Search.{crowded_among}
+use Rattle.guard_tables.specs.inside.Search.{crowded_among}
 use Rattle.guard_tables.specs.Tables.{types_view}
 use Rattle.guard_tables.proofs.nodes.+nodes.Given as goal
 

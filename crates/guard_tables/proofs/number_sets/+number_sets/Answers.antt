@@ -10,7 +10,7 @@ use Rattle.guard_model.proofs.TypeViews.{type_view_is}
 use Rattle.guard_eval.specs.Member.{holds_element, all_hold, is_member}
 use Rattle.guard_tables.specs.declared.node.Range.{Range}
 use Rattle.guard_tables.specs.Marking.{is_in_one}
-use Rattle.guard_tables.specs.NumberSets.{HasNumbers}
+use Rattle.guard_tables.specs.inside.NumberSets.{HasNumbers}
 use Rattle.guard_tables.proofs.RuleViews.{view_one, view_inside, view_range, view_minus, view_other}
 use Rattle.guard_tables.proofs.WholeSets.{if_ok, all_more, within_more, some_more, some_done, of_integer, minus_has, other_has}
 use Rattle.guard_tables.proofs.number_sets.+number_sets.Goals as goal

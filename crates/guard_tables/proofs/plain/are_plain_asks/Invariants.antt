@@ -1,6 +1,6 @@
 use Rattle.std.proofs.Common.{◌≡◌, drop}
 use Rattle.guard_tables.specs.Spread.{are_plain_asks}
-use Rattle.guard_tables.specs.AskViews.{asks_view}
+use Rattle.guard_tables.specs.inside.AskViews.{asks_view}
 use Rattle.guard_tables.proofs.plain.are_plain_asks.Given as goal
 
 abbrev pub invariant-loop-ask : goal.invariant-loop-ask

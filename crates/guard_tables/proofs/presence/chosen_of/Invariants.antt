@@ -1,6 +1,6 @@
 use Rattle.std.proofs.Common.{◌≡◌, ◌≤◌, drop, length}
 use Rattle.guard_tables.specs.Lay.{chosen_of}
-use Rattle.guard_tables.specs.AskViews.{terms_view}
+use Rattle.guard_tables.specs.inside.AskViews.{terms_view}
 use Rattle.guard_tables.proofs.presence.chosen_of.Given as goal
 
 abbrev pub decreases-loop-left : goal.decreases-loop-left

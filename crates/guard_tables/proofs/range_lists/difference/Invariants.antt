@@ -1,5 +1,5 @@
 use Rattle.std.proofs.Common.{◌≡◌, drop}
-use Rattle.guard_tables.specs.Pieces.{without_all}
+use Rattle.guard_tables.specs.inside.Pieces.{without_all}
 use Rattle.guard_tables.proofs.range_lists.difference.Given as goal
 
 -- without the ranges that are to come it is what it is without all of them

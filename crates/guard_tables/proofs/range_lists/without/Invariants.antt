@@ -1,5 +1,5 @@
 use Rattle.std.proofs.Common.{◌≡◌, ◌++◌, drop}
-use Rattle.guard_tables.specs.Pieces.{without}
+use Rattle.guard_tables.specs.inside.Pieces.{without}
 use Rattle.guard_tables.proofs.range_lists.without.Given as goal
 
 -- with what is left of the other ranges it is what is left of all

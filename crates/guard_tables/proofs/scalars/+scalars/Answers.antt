@@ -2,7 +2,7 @@ use Rattle.std.proofs.Common.{sym, ap, ◌∙◌}
 use Rattle.guard_model.specs.AbstractType.{Element}
 use Rattle.guard_model.specs.TypeView.{kind_view, constraint_view}
 use Rattle.guard_eval.specs.Member.{holds_element}
-use Rattle.guard_tables.specs.Scalars.{scalar_view}
+use Rattle.guard_tables.specs.inside.Scalars.{scalar_view}
 use Rattle.guard_tables.proofs.RuleViews.{view_range, view_size, view_alphabet, view_each, view_parts}
 use Rattle.guard_tables.proofs.ScalarLaws.{none_between, none_sized, none_spelled, none_each, none_in_parts}
 use Rattle.guard_tables.proofs.scalars.+scalars.Goals as goal

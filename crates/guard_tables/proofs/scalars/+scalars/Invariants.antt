@@ -1,7 +1,7 @@
 use Rattle.std.proofs.Common.{◌≡◌, map, drop}
 use Rattle.guard_model.specs.TypeView.{kind_view, constraint_view, constraints_of}
 use Rattle.guard_eval.specs.Member.{all_hold, some_hold}
-use Rattle.guard_tables.specs.Scalars.{scalar_view}
+use Rattle.guard_tables.specs.inside.Scalars.{scalar_view}
 use Rattle.guard_tables.proofs.scalars.+scalars.Given as goal
 
 abbrev pub invariant-all_have_scalar-loop-constraint : goal.invariant-all_have_scalar-loop-constraint

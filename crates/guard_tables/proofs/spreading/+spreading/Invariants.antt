@@ -1,7 +1,7 @@
 use Rattle.std.proofs.Common.{◌≡◌, ◌++◌, map, drop}
 use Rattle.guard_model.specs.TypeView.{kind_view, constraint_view, constraints_of}
 use Rattle.guard_tables.specs.Spread.{spread_all}
-use Rattle.guard_tables.specs.AskViews.{terms_view}
+use Rattle.guard_tables.specs.inside.AskViews.{terms_view}
 use Rattle.guard_tables.proofs.spreading.+spreading.Given as goal
 
 -- with the tests of the constraints that are left it is what it is with the tests of all

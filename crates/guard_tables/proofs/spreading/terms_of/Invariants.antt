@@ -1,6 +1,6 @@
 use Rattle.std.proofs.Common.{◌≡◌, ◌++◌, drop}
 use Rattle.guard_tables.specs.Spread.{terms_of}
-use Rattle.guard_tables.specs.AskViews.{terms_view, asks_view}
+use Rattle.guard_tables.specs.inside.AskViews.{terms_view, asks_view}
 use Rattle.guard_tables.proofs.spreading.terms_of.Given as goal
 
 -- with the tests of what is left it is the tests of all

@@ -8,7 +8,7 @@ use Rattle.guard_model.specs.TypeView.{type_view}
 use Rattle.guard_model.specs.declared.ty.Kind.TheViews.{out-Comp}
 use Rattle.guard_model.proofs.Components.{in_view}
 use Rattle.guard_tagcheck.specs.FirstTags.{begins_with, one_begins_with}
-use Rattle.guard_tagcheck.specs.Noting.{noted, earlier}
+use Rattle.guard_tagcheck.specs.inside.Noting.{noted, earlier}
 use Rattle.guard_tagcheck.proofs.FirstOfTags.{of_tagged, of_choice, one_of, one_more_of, whole_of}
 use Rattle.guard_tagcheck.proofs.NotedTags.{none_noted, none_before, notes_alike, earliest_alike, notes_both, earliest_both}
 use Rattle.guard_tagcheck.proofs.noting.+noting.Goals as goal

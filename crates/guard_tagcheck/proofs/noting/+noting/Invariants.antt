@@ -1,5 +1,5 @@
 use Rattle.std.proofs.Common.{take}
-use Rattle.guard_tagcheck.specs.Noting.{noted, IsEarliest, Notes, IsNoted}
+use Rattle.guard_tagcheck.specs.inside.Noting.{noted, IsEarliest, Notes, IsNoted}
 use Rattle.guard_tagcheck.proofs.FirstOfTags.{one_of}
 use Rattle.guard_tagcheck.proofs.noting.+noting.Given as goal
 

@@ -2,7 +2,7 @@ use Rattle.std.proofs.Common.{ℕ, List, ap, refl, sym, ◌∙◌, arith}
 use Rattle.guard_model.specs.declared.tag.Tag.{Tag}
 use Rattle.guard_model.proofs.Components.{in_view, component_count_view}
 use Rattle.guard_model.proofs.TypeViews.{opened}
-use Rattle.guard_tagcheck.specs.Noting.{noted}
+use Rattle.guard_tagcheck.specs.inside.Noting.{noted}
 use Rattle.guard_tagcheck.proofs.NotedPairs.{nothing_kept, kept_passed, kept_stopped, pairs_here, none_so_far, least_so_far, is_first_pair, component_here}
 use Rattle.guard_tagcheck.proofs.noting.least_pair.Goals as goal
 use Rattle.guard_tagcheck.proofs.noting.least_pair.Goals.{then-not-is_passed, else-not-is_passed}

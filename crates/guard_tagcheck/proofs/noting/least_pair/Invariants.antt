@@ -1,5 +1,5 @@
 use Rattle.guard_model.proofs.Components.{in_view}
-use Rattle.guard_tagcheck.specs.Noting.{noted}
+use Rattle.guard_tagcheck.specs.inside.Noting.{noted}
 use Rattle.guard_tagcheck.proofs.NotedPairs.{Kept, LeastSoFar}
 use Rattle.guard_tagcheck.proofs.noting.least_pair.Given as goal
 

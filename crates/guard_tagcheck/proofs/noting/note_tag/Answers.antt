@@ -1,5 +1,5 @@
 use Rattle.std.proofs.Common.{◌≡◌, sym, ◌∙◌, Some, None}
-use Rattle.guard_tagcheck.specs.Noting.{noted}
+use Rattle.guard_tagcheck.specs.inside.Noting.{noted}
 use Rattle.guard_tagcheck.proofs.NotedTags.{at_tag, put_at, tag_stays, tag_before, tag_not_before, tag_comes, tag_unknown}
 use Rattle.guard_tagcheck.proofs.noting.note_tag.Goals as goal
 

@@ -18,10 +18,10 @@ use Rattle.guard_tagcheck.specs.Limits.{is_within_limits}
 use Rattle.guard_tagging.specs.declared.fault.TagFault.{TagFault}
 use Rattle.guard_tagging.specs.declared.made.Made.{Made}
 use Rattle.guard_tagging.specs.Faults.{nodes, most_nodes}
-use Rattle.guard_tagging.specs.KnownNames.{IsKnown}
+use Rattle.guard_tagging.specs.inside.KnownNames.{IsKnown}
 use Rattle.guard_tagging.specs.Named.{named}
-use Rattle.guard_tagging.specs.NodeViews.{made_view}
-use Rattle.guard_tagging.specs.ReadTypes.{read_type}
+use Rattle.guard_tagging.specs.inside.NodeViews.{made_view}
+use Rattle.guard_tagging.specs.inside.ReadTypes.{read_type}
 use Rattle.guard_tagging.specs.ScopeView.{scope_view}
 use Rattle.guard_tagging.specs.Skeletons.{surroundings_of, IsTypeOf, IsFaultOf}
 use Rattle.guard_tagging.specs.Spelled.{IsSpelled}

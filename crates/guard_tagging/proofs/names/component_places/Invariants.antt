@@ -1,7 +1,7 @@
 use Rattle.std.proofs.Common.{◌≡◌, take, map}
 use Rattle.guard_model.specs.TypeView as model
-use Rattle.guard_tagging.specs.ReadNames.{read_places}
-use Rattle.guard_tagging.specs.Views.{place_view}
+use Rattle.guard_tagging.specs.inside.ReadNames.{read_places}
+use Rattle.guard_tagging.specs.inside.Views.{place_view}
 use Rattle.guard_tagging.proofs.names.component_places.Given as goal
 
 abbrev pub invariant-loop-index : goal.invariant-loop-index

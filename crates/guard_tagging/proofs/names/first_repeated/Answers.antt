@@ -1,8 +1,8 @@
 use Rattle.std.proofs.Common.{◌≡◌, ◌∙◌, not, ap, sym, map, [], inl, inr, Some, false, ◌⊎◌}
 use Rattle.std.specs.Prelude.{bytes_eq}
 use Rattle.guard_tagging.specs.Faults.{repeated, same_number}
-use Rattle.guard_tagging.specs.ReadNames.{signed_key}
-use Rattle.guard_tagging.specs.Views.{place_view}
+use Rattle.guard_tagging.specs.inside.ReadNames.{signed_key}
+use Rattle.guard_tagging.specs.inside.Views.{place_view}
 use Rattle.guard_tagging.proofs.Places.{seen_after, seen_or, name_hit, number_new, found_again, goes_on}
 use Rattle.guard_tagging.proofs.names.first_repeated.Goals as goal
 use Rattle.guard_tagging.proofs.names.first_repeated.Goals.{then-not-is_new_name-via-then-not-is_new_name, then-not-is_new_name-via-else-not-is_new_name+then-not-is_new_number}

@@ -4,8 +4,8 @@ use Rattle.std.specs.List.{list_any}
 use Rattle.std.specs.Ordering.{is_eq, nat_cmp}
 use Rattle.std.specs.Cmp.Lexicographic.{slice_cmp}
 use Rattle.guard_tagging.specs.Faults.{repeated, same_number}
-use Rattle.guard_tagging.specs.ReadNames.{signed_key, has_number}
-use Rattle.guard_tagging.specs.Views.{place_view}
+use Rattle.guard_tagging.specs.inside.ReadNames.{signed_key, has_number}
+use Rattle.guard_tagging.specs.inside.Views.{place_view}
 use Rattle.guard_tagging.proofs.names.first_repeated.Given as goal
 
 abbrev pub invariant-loop-placed : goal.invariant-loop-placed

@@ -1,7 +1,7 @@
 use Rattle.std.proofs.Common.{◌≡◌, take, map}
 use Rattle.guard_syntax.specs.TypeViews as written
-use Rattle.guard_tagging.specs.ReadNames.{item_place}
-use Rattle.guard_tagging.specs.Views.{place_view}
+use Rattle.guard_tagging.specs.inside.ReadNames.{item_place}
+use Rattle.guard_tagging.specs.inside.Views.{place_view}
 use Rattle.guard_tagging.proofs.names.item_places.Given as goal
 
 abbrev pub invariant-loop-tree : goal.invariant-loop-tree

@@ -1,6 +1,6 @@
 use Rattle.std.proofs.Common.{◌≡◌, drop, map}
 use Rattle.guard_syntax.specs.TypeViews.{named_view}
-use Rattle.guard_tagging.specs.ReadItems.{bits_fault}
+use Rattle.guard_tagging.specs.inside.ReadItems.{bits_fault}
 use Rattle.guard_tagging.proofs.numbering.check_bits.Given as goal
 
 abbrev pub invariant-loop-tree : goal.invariant-loop-tree

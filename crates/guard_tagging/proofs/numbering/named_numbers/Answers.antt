@@ -1,12 +1,12 @@
 use Rattle.std.proofs.Common.{◌≡◌, map, ◌++◌, ◌∷◌, [], refl}
 use Rattle.std.proofs.lemmas.Result.{err_from_is_err_and}
 use Rattle.std.proofs.lemmas.List.{map_push}
-use Rattle.guard_model.specs.Each.{each}
+use Rattle.guard_model.specs.inside.Each.{each}
 use Rattle.guard_model.specs.TypeView.{named_view}
 use Rattle.guard_model.proofs.Loops.{stops_at, goes_on, ends_there}
 use Rattle.guard_syntax.specs.TypeViews as written
 use Rattle.guard_tagging.specs.Named.{named}
-use Rattle.guard_tagging.specs.ReadItems.{read_named}
+use Rattle.guard_tagging.specs.inside.ReadItems.{read_named}
 use Rattle.guard_tagging.proofs.numbering.named_numbers.Goals as goal
 
 pub returns-in_err-number : goal.returns-in_err-number

@@ -1,9 +1,9 @@
 use Rattle.std.proofs.Common.{◌≡◌, drop, map}
-use Rattle.guard_model.specs.Each.{each}
+use Rattle.guard_model.specs.inside.Each.{each}
 use Rattle.guard_model.specs.TypeView.{named_view}
 use Rattle.guard_model.proofs.Loops.{with_front}
 use Rattle.guard_syntax.specs.TypeViews as written
-use Rattle.guard_tagging.specs.ReadItems.{read_named}
+use Rattle.guard_tagging.specs.inside.ReadItems.{read_named}
 use Rattle.guard_tagging.proofs.numbering.named_numbers.Given as goal
 
 abbrev pub invariant-loop-tree : goal.invariant-loop-tree

@@ -1,7 +1,7 @@
 use Rattle.std.proofs.Common.{◌≡◌, ◌≤◌, ◌*◌, ◌+◌, [], drop, map, length}
 use Rattle.guard_model.specs.TypeView.{named_view}
 use Rattle.guard_syntax.specs.TypeViews.{item_view}
-use Rattle.guard_tagging.specs.ReadItems.{read_numbered}
+use Rattle.guard_tagging.specs.inside.ReadItems.{read_numbered}
 use Rattle.guard_tagging.proofs.numbering.numbered.Given as goal
 
 abbrev pub invariant-loop-tree : goal.invariant-loop-tree

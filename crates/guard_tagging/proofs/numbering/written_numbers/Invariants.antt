@@ -1,6 +1,6 @@
 use Rattle.std.proofs.Common.{◌≡◌, [], drop, map}
 use Rattle.guard_syntax.specs.TypeViews.{item_view}
-use Rattle.guard_tagging.specs.ReadItems.{read_written}
+use Rattle.guard_tagging.specs.inside.ReadItems.{read_written}
 use Rattle.guard_tagging.proofs.numbering.written_numbers.Given as goal
 
 abbrev pub invariant-loop-tree : goal.invariant-loop-tree

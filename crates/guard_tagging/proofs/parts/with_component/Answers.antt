@@ -1,8 +1,8 @@
 use Rattle.std.proofs.Common.{◌≡◌, ◌∙◌, subst, IfOk, ap}
 use Rattle.guard_model.specs.TypeView.{OneComponent, presence_view}
-use Rattle.guard_tagging.specs.NodeViews.{made_view}
-use Rattle.guard_tagging.specs.PartViews.{parts_view}
-use Rattle.guard_tagging.specs.ReadParts.{PartList, pushed, with_component}
+use Rattle.guard_tagging.specs.inside.NodeViews.{made_view}
+use Rattle.guard_tagging.specs.inside.PartViews.{parts_view}
+use Rattle.guard_tagging.specs.inside.ReadParts.{PartList, pushed, with_component}
 use Rattle.guard_tagging.specs.declared.made.Made.{Made}
 use Rattle.guard_tagging.proofs.parts.with_component.Goals as goal
 

@@ -1,7 +1,7 @@
 use Rattle.std.proofs.Common.{◌≡◌, drop, map}
 use Rattle.std.specs.Prelude.{is_some}
 use Rattle.guard_syntax.specs.TypeViews.{tag_view}
-use Rattle.guard_tagging.specs.ReadTags.{in_front, read_tags}
+use Rattle.guard_tagging.specs.inside.ReadTags.{in_front, read_tags}
 use Rattle.guard_tagging.proofs.tags.with_written.Given as goal
 
 abbrev pub invariant-loop-tree : goal.invariant-loop-tree

@@ -4,8 +4,8 @@ use Rattle.guard_syntax.specs.declared.tree.BaseTree.{the_lemmas}
 use Rattle.guard_syntax.specs.Trees.{components_of, alternatives_of}
 use Rattle.guard_syntax.specs.TypeViews as written
 use Rattle.guard_tagging.specs.Named.{named}
-use Rattle.guard_tagging.specs.PartViews.{parts_view}
-use Rattle.guard_tagging.specs.ReadTypes.{read_list, read_choice}
+use Rattle.guard_tagging.specs.inside.PartViews.{parts_view}
+use Rattle.guard_tagging.specs.inside.ReadTypes.{read_list, read_choice}
 use Rattle.guard_tagging.specs.ScopeView.{scope_view}
 use Rattle.guard_tagging.proofs.WalkLoops.{component_stops, next_component, no_component, component_known, alternative_stops, next_alternative, no_alternative, alternative_known}
 use Rattle.guard_tagging.proofs.walk.+walk.Goals as goal

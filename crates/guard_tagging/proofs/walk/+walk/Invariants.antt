@@ -1,8 +1,8 @@
 use Rattle.std.proofs.Common.{◌≡◌, drop, map}
 use Rattle.guard_syntax.specs.Trees.{components_of, alternatives_of}
 use Rattle.guard_syntax.specs.TypeViews as written
-use Rattle.guard_tagging.specs.PartViews.{parts_view}
-use Rattle.guard_tagging.specs.ReadTypes.{read_components, read_alternatives, read_list, read_choice}
+use Rattle.guard_tagging.specs.inside.PartViews.{parts_view}
+use Rattle.guard_tagging.specs.inside.ReadTypes.{read_components, read_alternatives, read_list, read_choice}
 use Rattle.guard_tagging.specs.ScopeView.{scope_view}
 use Rattle.guard_tagging.proofs.walk.+walk.Given as goal
 

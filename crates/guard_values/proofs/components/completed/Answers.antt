@@ -4,7 +4,7 @@ use Rattle.std.proofs.lemmas.Result.{err_from_is_err_and}
 use Rattle.guard_model.specs.TypeView.{presence_view}
 use Rattle.guard_model.specs.ValueView.{fields_view}
 use Rattle.guard_model.specs.declared.ty.Kind.TheViews.{out-Comp}
-use Rattle.guard_values.specs.Reading.{completed}
+use Rattle.guard_values.specs.inside.Reading.{completed}
 use Rattle.guard_values.specs.Views.{named}
 use Rattle.guard_values.proofs.Slots.{put_settles, kept_settles, settles_badly, all_settled, is_empty}
 use Rattle.guard_values.proofs.components.completed.Goals as goal

@@ -1,6 +1,6 @@
 use Rattle.std.proofs.Common.{◌≡◌, length, map, take, drop}
 use Rattle.guard_model.specs.ValueView.{field_view, fields_view}
-use Rattle.guard_values.specs.Reading.{completed}
+use Rattle.guard_values.specs.inside.Reading.{completed}
 use Rattle.guard_values.proofs.Slots.{with_front}
 use Rattle.guard_values.proofs.components.completed.Given as goal
 use Rattle.guard_model.proofs.Components.{left}

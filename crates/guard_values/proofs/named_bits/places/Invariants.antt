@@ -1,9 +1,9 @@
 use Rattle.std.proofs.Common.{◌≡◌, drop, map}
-use Rattle.guard_model.specs.Each.{each}
+use Rattle.guard_model.specs.inside.Each.{each}
 use Rattle.guard_model.specs.TypeView.{named_view}
 use Rattle.guard_model.proofs.Loops.{with_front}
 use Rattle.guard_syntax.specs.Views.{entry_view}
-use Rattle.guard_values.specs.Reading.{read_place}
+use Rattle.guard_values.specs.inside.Reading.{read_place}
 use Rattle.guard_values.proofs.named_bits.places.Given as goal
 
 abbrev pub invariant-loop-entry : goal.invariant-loop-entry

@@ -1,9 +1,9 @@
 use Rattle.std.proofs.Common.{map, refl}
 use Rattle.std.proofs.lemmas.Result.{err_from_is_err_and}
-use Rattle.guard_model.specs.Each.{each}
+use Rattle.guard_model.specs.inside.Each.{each}
 use Rattle.guard_model.proofs.Loops.{stops_at, goes_on, ends_there}
 use Rattle.guard_syntax.specs.Views.{arc_view}
-use Rattle.guard_values.specs.Reading.{read_arc}
+use Rattle.guard_values.specs.inside.Reading.{read_arc}
 use Rattle.guard_values.specs.Views.{named}
 use Rattle.guard_values.proofs.object_identifiers.arcs.Goals as goal
 

@@ -1,8 +1,8 @@
 use Rattle.std.proofs.Common.{◌≡◌, drop, map}
-use Rattle.guard_model.specs.Each.{each}
+use Rattle.guard_model.specs.inside.Each.{each}
 use Rattle.guard_model.proofs.Loops.{with_front}
 use Rattle.guard_syntax.specs.Views.{arc_view}
-use Rattle.guard_values.specs.Reading.{read_arc}
+use Rattle.guard_values.specs.inside.Reading.{read_arc}
 use Rattle.guard_values.proofs.object_identifiers.arcs.Given as goal
 
 abbrev pub invariant-loop-tree : goal.invariant-loop-tree

@@ -11,7 +11,7 @@ use Rattle.guard_syntax.specs.Trees.{entries_of}
 use Rattle.guard_syntax.specs.Views as trees
 use Rattle.guard_syntax.specs.declared.tree.ValueForm.{the_lemmas}
 use Rattle.guard_values.specs.Arrangement.{AreEncodings, encoded_value}
-use Rattle.guard_values.specs.Reading.{read_entries, read_elements, read_list}
+use Rattle.guard_values.specs.inside.Reading.{read_entries, read_elements, read_list}
 use Rattle.guard_values.specs.Views.{named, encoded_view, located_view, meaning_of}
 use Rattle.guard_values.proofs.Encodings.{one_more_encoding}
 use Rattle.guard_values.proofs.Proper.{kind_proper}

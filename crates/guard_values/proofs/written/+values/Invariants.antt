@@ -5,7 +5,7 @@ use Rattle.guard_der.specs.Reading.{all_absent}
 use Rattle.guard_syntax.specs.Trees.{entries_of}
 use Rattle.guard_syntax.specs.Views.{entry_view}
 use Rattle.guard_values.specs.Arrangement.{AreEncodings, encoded_value}
-use Rattle.guard_values.specs.Reading.{read_entries, read_elements}
+use Rattle.guard_values.specs.inside.Reading.{read_entries, read_elements}
 use Rattle.guard_values.specs.Views.{encoded_view, meaning_of}
 use Rattle.guard_values.proofs.Steps.{with_front}
 use Rattle.guard_values.proofs.written.+values.Given as goal

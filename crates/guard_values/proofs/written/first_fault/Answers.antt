@@ -5,7 +5,7 @@ use Rattle.guard_model.specs.TypeView.{type_view}
 use Rattle.guard_model.specs.ValueView.{value_view}
 use Rattle.guard_syntax.specs.Views as trees
 use Rattle.guard_values.specs.declared.fault.ValueFault.TheVariants.{TooLarge}
-use Rattle.guard_values.specs.Reading.{read, site_of}
+use Rattle.guard_values.specs.inside.Reading.{read, site_of}
 use Rattle.guard_values.specs.Views.{named, meaning_of}
 use Rattle.guard_values.proofs.Refusals.{too_long}
 use Rattle.guard_values.proofs.written.first_fault.Goals as goal

@@ -1,7 +1,7 @@
 use Rattle.std.proofs.Common.{◌∷◌, [], ◌%◌, ◌/◌, ◌-◌, append_assoc, arith}
 use Rattle.std.proofs.lemmas.List.{map-append}
 use Rattle.guard_der.specs.Octets.{fewest}
-use Rattle.guard_der.specs.Digits.{digit_octet}
+use Rattle.guard_der.specs.inside.Digits.{digit_octet}
 use Rattle.guard_der.proofs.Numbers.FewestDigits.{fewest_more, part_room}
 use Rattle.guard_der.proofs.encoding.octets.+push_fewest.Goals as goal
 

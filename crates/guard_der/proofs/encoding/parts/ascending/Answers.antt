@@ -4,7 +4,7 @@ use Rattle.std.proofs.lemmas.List.{map-append}
 use Rattle.guard_der.specs.declared.encoding.parts.EncodedPart.{EncodedPart}
 use Rattle.guard_der.proofs.Functions.PartsInOrder.{put_in, put_in_nothing, put_in_last, inserted}
 use Rattle.guard_der.proofs.encoding.parts.ascending.Goals as goal
-use Rattle.guard_der.specs.EncodingSteps.{part_view, parts_view, place_among}
+use Rattle.guard_der.specs.inside.EncodingSteps.{part_view, parts_view, place_among}
 
 pub loop-part-init : goal.loop-part-init
 loop-part-init c = rw c.in_ok-sorted.ensures.items (put_in_nothing (parts_view c.args.parts.items))

@@ -6,7 +6,7 @@ use Rattle.guard_der.specs.Der.{der, parts_of, item_encodings, joined, ◌>>=◌
 use Rattle.guard_der.specs.Fits.{fits, fits_fields, every_fits}
 use Rattle.guard_der.proofs.encoding.values.+encoding.Given as goal
 use Rattle.guard_model.proofs.Components.{left}
-use Rattle.guard_der.specs.EncodingSteps.{parts_view, with_parts, all_joined}
+use Rattle.guard_der.specs.inside.EncodingSteps.{parts_view, with_parts, all_joined}
 
 abbrev pub invariant-parts-loop-index : goal.invariant-parts-loop-index
 invariant-parts-loop-index l = record {

@@ -2,7 +2,7 @@ use Rattle.std.proofs.Common.{◌≡◌, ◌<◌, [], ◌∷◌, ◌++◌, map, 
 use Rattle.std.specs.List.{All}
 use Rattle.std.proofs.lemmas.List.{length-map}
 use Rattle.indexmap.proofs.MapLemmas.{OnOk-map}
-use Rattle.guard_names.specs.Queues.{IsReleased, AreFlags}
+use Rattle.guard_names.specs.inside.Queues.{IsReleased, AreFlags}
 use Rattle.guard_names.proofs.Settling.{row_is, taken_row, taken_total, flag_set, begins, left_same}
 use Rattle.guard_names.proofs.Queueing.{released_by}
 use Rattle.guard_names.proofs.order.Queue.list.Goals as goal

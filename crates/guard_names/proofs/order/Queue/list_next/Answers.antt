@@ -1,7 +1,7 @@
 use Rattle.std.proofs.Common.{[], map, length, refl, sym, subst, heap_items}
 use Rattle.guard_names.specs.Order.{Follow}
-use Rattle.guard_names.specs.Queues.{UsesIn}
-use Rattle.guard_names.specs.QueueViews.{times_ready}
+use Rattle.guard_names.specs.inside.Queues.{UsesIn}
+use Rattle.guard_names.specs.inside.QueueViews.{times_ready}
 use Rattle.guard_names.proofs.Settling.{one_less_ready, least_popped, popped_was_ready, follow_more}
 use Rattle.guard_names.proofs.Queueing.{taken, least_is_next}
 use Rattle.guard_names.proofs.order.Queue.list_next.Goals as goal

@@ -2,8 +2,8 @@ use Rattle.std.proofs.Common.{◌≡◌, ◌+◌, ◌<◌, false, [], map, lengt
 use Rattle.std.specs.Prelude.{replicate}
 use Rattle.std.proofs.lemmas.List.{length-map, length-replicate}
 use Rattle.guard_names.specs.Order.{Follow}
-use Rattle.guard_names.specs.Queues.{UsesIn, AreFlags, Stands}
-use Rattle.guard_names.specs.QueueViews.{times_ready}
+use Rattle.guard_names.specs.inside.Queues.{UsesIn, AreFlags, Stands}
+use Rattle.guard_names.specs.inside.QueueViews.{times_ready}
 use Rattle.guard_names.proofs.Settling.{from_on, one_settled, all_settled, no_flags, none_settled}
 use Rattle.guard_names.proofs.Queueing.{same_underway}
 use Rattle.guard_names.proofs.order.Queue.new.Goals as goal

@@ -1,5 +1,5 @@
 use Rattle.std.proofs.Common.{◌≡◌, [], map, length}
-use Rattle.guard_names.specs.QueueViews.{IsSized, StandsIn}
+use Rattle.guard_names.specs.inside.QueueViews.{IsSized, StandsIn}
 use Rattle.guard_names.proofs.Settling.{from_on}
 use Rattle.guard_names.proofs.order.Queue.new.Given as goal
 

@@ -1,5 +1,5 @@
 use Rattle.std.proofs.Common.{◌≡◌, ℕ, ◌<◌, false, List, map, length, get_or, refl, sym, ◌∙◌, ap, subst, arith, length-set}
-use Rattle.guard_names.specs.Queues.{used_by}
+use Rattle.guard_names.specs.inside.Queues.{used_by}
 use Rattle.guard_names.proofs.Settling.{row_is, row_of, pushed_row, pushed_total, used_inside, settles_waiting, all_met, one_more_ready, left_more}
 use Rattle.guard_names.proofs.Queueing.{settled_ready}
 use Rattle.guard_names.proofs.order.Queue.settle.Goals as goal

@@ -2,7 +2,7 @@ use Rattle.std.proofs.Common.{◌+◌, ◌<◌, ◌≤◌, map, length, get_or, 
 use Rattle.std.proofs.lemmas.List.{length-map, at_drop_all}
 use Rattle.std.proofs.lemmas.List.Elements.{All-get_or}
 use Rattle.guard_names.specs.declared.order.Waiting.{Waiting}
-use Rattle.guard_names.specs.Queues.{times_waiting, IsReleased}
+use Rattle.guard_names.specs.inside.Queues.{times_waiting, IsReleased}
 use Rattle.guard_names.proofs.Settling.{first_released, left_one_less, none_left}
 use Rattle.guard_names.proofs.Queueing.{same_underway}
 use Rattle.guard_names.proofs.order.Queue.settle_all.Goals as goal

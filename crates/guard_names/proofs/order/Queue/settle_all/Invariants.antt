@@ -1,6 +1,6 @@
 use Rattle.std.proofs.Common.{◌≡◌, ◌+◌, map, length, drop}
-use Rattle.guard_names.specs.Queues.{times_waiting}
-use Rattle.guard_names.specs.QueueViews.{IsSized, StandsIn, left_in}
+use Rattle.guard_names.specs.inside.Queues.{times_waiting}
+use Rattle.guard_names.specs.inside.QueueViews.{IsSized, StandsIn, left_in}
 use Rattle.guard_names.proofs.order.Queue.settle_all.Given as goal
 
 -- those that are left are on the way

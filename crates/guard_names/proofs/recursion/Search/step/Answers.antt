@@ -3,7 +3,7 @@ use Rattle.std.specs.List.{slice_get}
 use Rattle.std.proofs.lemmas.List.{length-map}
 use Rattle.std.proofs.lemmas.List.Elements.{Contains-push}
 use Rattle.guard_names.specs.declared.recursion.Pending.{Pending}
-use Rattle.guard_names.specs.Searches.{Rises, IsSearchOf}
+use Rattle.guard_names.specs.inside.Searches.{Rises, IsSearchOf}
 use Rattle.guard_names.proofs.Parts.{rises_popped}
 use Rattle.guard_names.proofs.Searching.{searched_taken, taken_from, last_split}
 use Rattle.guard_names.proofs.recursion.Search.step.Goals as goal

@@ -1,6 +1,6 @@
 use Rattle.std.proofs.Common.{◌≡◌, map}
 use Rattle.guard_names.specs.declared.recursion.Mark.TheVariants.{New}
-use Rattle.guard_names.specs.SearchViews.{IsSearch, KeepsMet, mark_of, steps_left}
+use Rattle.guard_names.specs.inside.SearchViews.{IsSearch, KeepsMet, mark_of, steps_left}
 use Rattle.guard_names.proofs.recursion.Search.visit.Given as goal
 
 abbrev pub invariant-loop : goal.invariant-loop

@@ -1,7 +1,7 @@
 use Rattle.std.proofs.Common.{map, string_bytes}
 use Rattle.std.proofs.lemmas.Result.{err_from_is_err_and}
 use Rattle.toml.specs.View.{table_view}
-use Rattle.guard_policy.specs.Answers.{tables_view}
+use Rattle.guard_policy.specs.inside.Answers.{tables_view}
 use Rattle.guard_policy.specs.Policies.{message_view, rule_view}
 use Rattle.guard_policy.specs.PolicyFaults.{named}
 use Rattle.guard_policy.proofs.Loading.{loaded, loaded_only, load_refused, refused_rules}

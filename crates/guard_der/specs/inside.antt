@@ -1,0 +1,4 @@
+-- What only private contracts and proofs cite.
+pub mod Digits
+pub mod EncodingSteps
+pub mod SoundParts

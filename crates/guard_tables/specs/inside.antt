@@ -1,0 +1,9 @@
+-- What only private contracts and proofs cite.
+pub mod AskViews
+pub mod OnePart
+pub mod FormSteps
+pub mod Pieces
+pub mod NumberSets
+pub mod Scalars
+pub mod Counting
+pub mod Search

@@ -1,4 +1,4 @@
--- What `encode` answers.
+-- What `encode` and its parts answer.
 use Rattle.std.specs.Prelude.{ℕ, List, length, nat_le, Option, Some, None, Result, Ok, Err, if◌then◌else◌}
 use Rattle.guard_model.specs.AbstractType.{AbstractType}
 use Rattle.guard_model.specs.AbstractValue.{AbstractValue}
@@ -10,6 +10,11 @@ use Rattle.guard_der.specs.declared.encoding.EncodeFault.TheVariants.{TooLong, O
 abbrev pub refusal : EncodeFault → Option EncodeFault
 refusal TooLong = Some TooLong
 refusal OutOfMemory = None
+
+-- what is answered where there is no encoding, as a length in it would need more than four octets
+abbrev pub or_too_long : {A : Type 0} → Option A → Result A EncodeFault
+or_too_long None = Err TooLong
+or_too_long (Some x) = Ok x
 
 -- in octets
 abbrev pub longest_encoding : ℕ

@@ -1,10 +1,12 @@
 //! The encoding of a value.
 ghost use Rattle.std.specs.Prelude.{◌≡◌, IsTrue};
 ghost use Rattle.guard_model.specs.Answer.{Gives};
-ghost use Rattle.guard_model.specs.TypeView.{type_view};
+ghost use Rattle.guard_model.specs.TypeView.{type_view, kind_view};
 ghost use Rattle.guard_model.specs.ValueView.{value_view};
-ghost use Rattle.guard_der.specs.Fits.{fits};
-ghost use Rattle.guard_der.specs.Encoding.{refusal, encoding_of};
+ghost use Rattle.guard_der.specs.Der.{contents_octets};
+ghost use Rattle.guard_der.specs.Element.{tagged};
+ghost use Rattle.guard_der.specs.Fits.{fits, fits_kind};
+ghost use Rattle.guard_der.specs.Encoding.{refusal, encoding_of, or_too_long};
 ghost use Rattle.guard_der.specs.declared.encoding.EncodeFault.TheVariants.{OutOfMemory as WantOfMemory};
 
 mod element;
@@ -14,7 +16,7 @@ mod parts;
 mod simple;
 pub(crate) mod values;
 
-use guard_model::{Ty, Value};
+use guard_model::{Kind, Tag, Ty, Value};
 use std::alloc::{AllocError, AllocFailed, Global};
 use thiserror::Error;
 
@@ -44,6 +46,28 @@ pub fn encode(alloc: Global, ty: &Ty, value: &Value) -> Result<Vec<u8>, EncodeFa
         return Err(EncodeFault::TooLong);
     }
     Ok(octets)
+}
+
+/// The contents octets of a value of this kind (X.690 8.1.4). TooLong exactly where a length in them would need more than four
+/// octets; OutOfMemory where a growth is refused.
+pub fn encode_contents(alloc: Global, kind: &Kind, value: &Value) -> Result<Vec<u8>, EncodeFault>
+    requires { IsTrue (fits_kind (kind_view kind.now) (value_view value.now)) }
+    ensures exact { Gives (λ v. v.items) refusal result (or_too_long (contents_octets (kind_view kind.now) (value_view value.now))) }
+{
+    values::contents(alloc, kind, value)
+}
+
+/// Contents octets in their tags, the outermost first, each but the last a wrapper (X.690 8.14); without a tag they stand alone.
+/// TooLong exactly where a length would need more than four octets; OutOfMemory where a growth is refused.
+pub fn encode_tagged(
+    alloc: Global,
+    tags: &[Tag],
+    constructed: bool,
+    contents: Vec<u8>,
+) -> Result<Vec<u8>, EncodeFault>
+    ensures exact { Gives (λ v. v.items) refusal result (or_too_long (tagged tags.now constructed contents.items)) }
+{
+    element::tagged(alloc, tags, constructed, contents)
 }
 
 impl From<guard_model::OutOfMemory> for EncodeFault {

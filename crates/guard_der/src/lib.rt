@@ -32,7 +32,7 @@ mod tags;
 pub use breach::{Breach, Code, DecodeFault};
 pub use decoding::decode;
 pub use element::Header;
-pub use encoding::{EncodeFault, encode};
+pub use encoding::{EncodeFault, encode, encode_contents, encode_tagged};
 pub use fitting::fits;
 pub use head::header;
 pub use sound_types::sound;

@@ -26,7 +26,8 @@ use Rattle.guard_der.specs.declared.encoding.EncodeFault.{EncodeFault}
 use Rattle.guard_der.specs.declared.encoding.EncodeFault.TheVariants.{TooLong, OutOfMemory}
 use Rattle.guard_model.proofs.Components.{left, left_is, none_left}
 use Rattle.guard_model.proofs.TypeViews.{kind_view_sequence, kind_view_set, kind_view_sequence_of, kind_view_set_of}
-use Rattle.guard_der.specs.inside.EncodingSteps.{or_too_long, part_of, with_parts, all_joined, sequence_octets, set_octets}
+use Rattle.guard_der.specs.Encoding.{or_too_long}
+use Rattle.guard_der.specs.inside.EncodingSteps.{part_of, with_parts, all_joined, sequence_octets, set_octets}
 
 -- what is refused inside is refused whole
 pub refused_whole : {A B : Type 0} (e : EncodeFault) (x : Option A) (f : A → Option B) → Refuses (refusal e) (or_too_long x) → Refuses (refusal e) (or_too_long (x >>= f))

@@ -1,17 +1,10 @@
 -- What the steps of `encode` give.
-use Rattle.std.specs.Prelude.{ℕ, suc, if◌then◌else◌, List, [], ◌∷◌, ◌++◌, map, Option, Some, None, Result, Ok, Err}
+use Rattle.std.specs.Prelude.{ℕ, suc, if◌then◌else◌, List, [], ◌∷◌, ◌++◌, map, Option, Some, None}
 use Rattle.guard_model.specs.declared.tag.Tag.{Tag}
 use Rattle.guard_model.specs.AbstractType.{AbstractType, AbstractPresence}
 use Rattle.guard_model.specs.AbstractValue.{AbstractValue}
 use Rattle.guard_der.specs.Der.{der, outermost, is_left_out, Part, part_unless, tag_before, joined, parts_joined, ascending, ◌>>=◌}
-use Rattle.guard_der.specs.declared.encoding.EncodeFault.{EncodeFault}
-use Rattle.guard_der.specs.declared.encoding.EncodeFault.TheVariants.{TooLong}
 use Rattle.guard_der.specs.declared.encoding.parts.EncodedPart.{EncodedPart}
-
--- what is answered where something doesn't exist, as it would be too long
-abbrev pub or_too_long : {A : Type 0} → Option A → Result A EncodeFault
-or_too_long None = Err TooLong
-or_too_long (Some x) = Ok x
 
 abbrev pub part_view : EncodedPart → Part
 part_view s = record { tag = s.tag; octets = s.octets.items }

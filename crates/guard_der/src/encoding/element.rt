@@ -5,7 +5,7 @@ ghost use Rattle.guard_model.specs.Tags.{class_rank};
 ghost use Rattle.guard_der.specs.Octets.{fewest};
 ghost use Rattle.guard_der.specs.Element.{identifier_octets, length_octets, element, tagged};
 ghost use Rattle.guard_der.specs.Encoding.{refusal};
-ghost use Rattle.guard_der.specs.inside.EncodingSteps.{or_too_long};
+ghost use Rattle.guard_der.specs.Encoding.{or_too_long};
 
 use crate::encoding::EncodeFault;
 use crate::encoding::octets::{push_base_128, push_unsigned};

@@ -5,8 +5,8 @@ ghost use Rattle.guard_model.specs.TypeView.{type_view, kind_view, component_vie
 ghost use Rattle.guard_model.specs.ValueView.{value_view, field_view, fields_view, items_view};
 ghost use Rattle.guard_der.specs.Der.{der, contents_octets, parts_of, alternative_octets, item_encodings};
 ghost use Rattle.guard_der.specs.Fits.{fits, fits_kind, fits_fields, fits_alternative, every_fits, fits_field};
-ghost use Rattle.guard_der.specs.Encoding.{refusal};
-ghost use Rattle.guard_der.specs.inside.EncodingSteps.{or_too_long, part_of, parts_view, with_parts, all_joined, sequence_octets, set_octets};
+ghost use Rattle.guard_der.specs.Encoding.{refusal, or_too_long};
+ghost use Rattle.guard_der.specs.inside.EncodingSteps.{part_of, parts_view, with_parts, all_joined, sequence_octets, set_octets};
 
 use crate::encoding::EncodeFault;
 use crate::encoding::element::tagged;
@@ -28,8 +28,9 @@ pub fn encoding(alloc: Global, ty: &Ty, value: &Value) -> Result<Vec<u8>, Encode
     tagged(alloc, &ty.tags, is_constructed(&ty.kind), inside)
 }
 
+/// The contents octets alone.
 #[cycle(encoding)]
-fn contents(alloc: Global, kind: &Kind, value: &Value) -> Result<Vec<u8>, EncodeFault>
+pub fn contents(alloc: Global, kind: &Kind, value: &Value) -> Result<Vec<u8>, EncodeFault>
     requires { IsTrue (fits_kind (kind_view kind.now) (value_view value.now)) }
     ensures { Gives (λ v. v.items) refusal result (or_too_long (contents_octets (kind_view kind.now) (value_view value.now))) }
 {

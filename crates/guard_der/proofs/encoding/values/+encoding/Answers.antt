@@ -9,7 +9,8 @@ use Rattle.guard_der.specs.declared.encoding.parts.EncodedPart.{EncodedPart}
 use Rattle.guard_der.proofs.Functions.Places.{found_at, none_at}
 use Rattle.guard_der.proofs.Functions.Encoding.{refused_whole, there_whole, sequence_fits, set_fits, sequence_contents, set_contents, sequence_of_contents, set_of_contents, others, next_fits, parts_on, parts_stop, parts_begin, parts_end, uneven_parts}
 use Rattle.guard_der.proofs.encoding.values.+encoding.Goals as goal
-use Rattle.guard_der.specs.inside.EncodingSteps.{or_too_long, parts_view}
+use Rattle.guard_der.specs.Encoding.{or_too_long}
+use Rattle.guard_der.specs.inside.EncodingSteps.{parts_view}
 
 -- ---- alternative
 

@@ -60,7 +60,7 @@ pub fn constraint(
 
 /// A set in parentheses.
 #[cycle(sets)]
-#[tactic(auto, unfolding(crate::specs::Reading::read))]
+#[tactic(auto, unfolding(crate::specs::inside::Reading::read))]
 fn on_type(alloc: Global, context: Context, tree: &ConsTree, ty: &Ty) -> Result<Cons, ConsFault>
     requires sound { IsTrue (is_sound (type_view ty.now)) }
     requires fitting { AreKnownFitting context.known.now }
@@ -70,7 +70,7 @@ fn on_type(alloc: Global, context: Context, tree: &ConsTree, ty: &Ty) -> Result<
 }
 
 #[cycle(sets)]
-#[tactic(auto, unfolding(crate::specs::Reading::read))]
+#[tactic(auto, unfolding(crate::specs::inside::Reading::read))]
 fn set(alloc: Global, context: Context, tree: &SetTree, ty: &Ty) -> Result<Cons, ConsFault>
     requires sound { IsTrue (is_sound (type_view ty.now)) }
     requires fitting { AreKnownFitting context.known.now }
@@ -152,7 +152,7 @@ fn united(
 }
 
 #[cycle(sets)]
-#[tactic(auto, unfolding(crate::specs::Reading::read))]
+#[tactic(auto, unfolding(crate::specs::inside::Reading::read))]
 fn intersection(
     alloc: Global,
     context: Context,
@@ -221,7 +221,7 @@ fn met(
 
 /// An element, perhaps without what another one has.
 #[cycle(sets)]
-#[tactic(auto, unfolding(crate::specs::Reading::read))]
+#[tactic(auto, unfolding(crate::specs::inside::Reading::read))]
 fn difference(
     alloc: Global,
     context: Context,
@@ -256,7 +256,7 @@ fn except(alloc: Global, site: Site, all: Cons, less: Cons) -> Result<Cons, Allo
 // ---- elements (51)
 
 #[cycle(sets)]
-#[tactic(auto, unfolding(crate::specs::Reading::read))]
+#[tactic(auto, unfolding(crate::specs::inside::Reading::read))]
 fn element(alloc: Global, context: Context, tree: &ElementTree, ty: &Ty) -> Result<Cons, ConsFault>
     requires sound { IsTrue (is_sound (type_view ty.now)) }
     requires fitting { AreKnownFitting context.known.now }
@@ -278,7 +278,7 @@ fn element(alloc: Global, context: Context, tree: &ElementTree, ty: &Ty) -> Resu
 }
 
 /// This value alone (51.2).
-#[tactic(auto, unfolding(crate::specs::Reading::read))]
+#[tactic(auto, unfolding(crate::specs::inside::Reading::read))]
 fn single_value(
     alloc: Global,
     context: Context,
@@ -299,7 +299,7 @@ fn single_value(
 
 /// A constraint on the size, which is an INTEGER (51.5).
 #[cycle(sets)]
-#[tactic(auto, unfolding(crate::specs::Reading::read))]
+#[tactic(auto, unfolding(crate::specs::inside::Reading::read))]
 fn size(
     alloc: Global,
     context: Context,
@@ -332,7 +332,7 @@ fn of_size(alloc: Global, site: Site, size: Cons, ty: &Ty) -> Result<Cons, ConsF
 
 /// A constraint on each element (51.8.4).
 #[cycle(sets)]
-#[tactic(auto, unfolding(crate::specs::Reading::read))]
+#[tactic(auto, unfolding(crate::specs::inside::Reading::read))]
 fn each(
     alloc: Global,
     context: Context,
@@ -356,7 +356,7 @@ fn each(
 
 /// What is said of components or alternatives.
 #[cycle(sets)]
-#[tactic(auto, unfolding(crate::specs::Reading::read))]
+#[tactic(auto, unfolding(crate::specs::inside::Reading::read))]
 fn parts(
     alloc: Global,
     context: Context,
@@ -403,7 +403,7 @@ fn each_part(
 
 /// One part, at the place of its component or alternative.
 #[cycle(sets)]
-#[tactic(auto, unfolding(crate::specs::Reading::read))]
+#[tactic(auto, unfolding(crate::specs::inside::Reading::read))]
 fn part(
     alloc: Global,
     context: Context,

@@ -91,7 +91,7 @@ impl<'a, 't> Cursor<'a, 't> {
     }
 
     /// Behind one token of this kind.
-    #[tactic(auto, unfolding(crate::specs::ReadTokens::read_token))]
+    #[tactic(auto, unfolding(crate::specs::inside::ReadTokens::read_token))]
     pub fn after(self, kind: TokenKind) -> Result<Cursor<'a, 't>, ReadError>
         ensures { Gives ahead failure_of result (reading.read_token kind (ahead self.entry)) }
     {
@@ -103,7 +103,7 @@ impl<'a, 't> Cursor<'a, 't> {
     }
 
     /// The spelling of one name, number or string.
-    #[tactic(auto, unfolding(crate::specs::ReadTokens::read_spelling))]
+    #[tactic(auto, unfolding(crate::specs::inside::ReadTokens::read_spelling))]
     pub fn spelling(self, kind: TokenKind) -> Read<'a, 't, &'a [u8]>
         requires { HasSpelling kind }
         ensures { Reads (λ s. s.now) result (reading.read_spelling kind (ahead self.entry)) }

@@ -13,7 +13,7 @@ use guard_lexer::{Mark, Reserved, TokenKind};
 use std::alloc::Global;
 
 /// The exports, where the word EXPORTS stands.
-#[tactic(auto, unfolding(crate::specs::ReadModule::read_exports))]
+#[tactic(auto, unfolding(crate::specs::inside::ReadModule::read_exports))]
 pub fn exports<'a, 't>(alloc: Global, at: Cursor<'a, 't>) -> Read<'a, 't, Option<ExportsTree<'a>>>
     ensures { Reads perhaps_exports_view result (reading.read_exports (ahead at.entry)) }
 {
@@ -24,7 +24,7 @@ pub fn exports<'a, 't>(alloc: Global, at: Cursor<'a, 't>) -> Read<'a, 't, Option
     Ok((Some(all), rest))
 }
 
-#[tactic(auto, unfolding(crate::specs::ReadModule::read_exported))]
+#[tactic(auto, unfolding(crate::specs::inside::ReadModule::read_exported))]
 fn exported<'a, 't>(alloc: Global, at: Cursor<'a, 't>) -> Read<'a, 't, ExportsTree<'a>>
     ensures { Reads exports_view result (reading.read_exported (ahead at.entry)) }
 {
@@ -60,7 +60,7 @@ fn symbols<'a, 't>(alloc: Global, at: Cursor<'a, 't>) -> Read<'a, 't, Vec<Symbol
     Err(rest.unexpected())
 }
 
-#[tactic(auto, unfolding(crate::specs::ReadModule::read_symbol))]
+#[tactic(auto, unfolding(crate::specs::inside::ReadModule::read_symbol))]
 fn symbol<'a, 't>(at: Cursor<'a, 't>) -> Read<'a, 't, SymbolTree<'a>>
     ensures { Reads symbol_view result (reading.read_symbol (ahead at.entry)) }
 {
@@ -77,7 +77,7 @@ fn symbol<'a, 't>(at: Cursor<'a, 't>) -> Read<'a, 't, SymbolTree<'a>>
 }
 
 /// The imports, where the word IMPORTS stands.
-#[tactic(auto, unfolding(crate::specs::ReadModule::read_imports))]
+#[tactic(auto, unfolding(crate::specs::inside::ReadModule::read_imports))]
 pub fn imports<'a, 't>(
     alloc: Global,
     at: Cursor<'a, 't>,
@@ -111,7 +111,7 @@ fn all_imports<'a, 't>(alloc: Global, at: Cursor<'a, 't>) -> Read<'a, 't, Vec<Im
 }
 
 /// Names, FROM and the name of a module, which ends the list.
-#[tactic(auto, unfolding(crate::specs::ReadModule::read_import))]
+#[tactic(auto, unfolding(crate::specs::inside::ReadModule::read_import))]
 fn import<'a, 't>(alloc: Global, at: Cursor<'a, 't>) -> Read<'a, 't, ImportTree<'a>>
     ensures { Reads import_view result (reading.read_import (ahead at.entry)) }
 {

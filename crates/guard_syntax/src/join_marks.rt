@@ -43,7 +43,7 @@ pub fn begins_intersection_mark(at: Cursor) -> bool
         || at.begins_with(intersection_token(JoinMark::Word))
 }
 
-#[tactic(auto, unfolding(crate::specs::ReadSets::read_union_mark))]
+#[tactic(auto, unfolding(crate::specs::inside::ReadSets::read_union_mark))]
 pub fn union_mark<'a, 't>(at: Cursor<'a, 't>) -> Read<'a, 't, JoinMark>
     ensures { Reads (λ x. x) result (reading.read_union_mark (ahead at.entry)) }
 {
@@ -54,7 +54,7 @@ pub fn union_mark<'a, 't>(at: Cursor<'a, 't>) -> Read<'a, 't, JoinMark>
     Ok((JoinMark::Sign, rest))
 }
 
-#[tactic(auto, unfolding(crate::specs::ReadSets::read_intersection_mark))]
+#[tactic(auto, unfolding(crate::specs::inside::ReadSets::read_intersection_mark))]
 pub fn intersection_mark<'a, 't>(at: Cursor<'a, 't>) -> Read<'a, 't, JoinMark>
     ensures { Reads (λ x. x) result (reading.read_intersection_mark (ahead at.entry)) }
 {

@@ -30,7 +30,7 @@ struct Heading<'a> {
 }
 
 /// A module, and no token behind it.
-#[tactic(auto, unfolding(crate::specs::ReadModule::read_module))]
+#[tactic(auto, unfolding(crate::specs::inside::ReadModule::read_module))]
 pub fn module<'a>(alloc: Global, at: Cursor<'a, '_>) -> Result<Module<'a>, ReadError>
     ensures { Gives module_view failure_of result (reading.read_module (ahead at.entry)) }
 {
@@ -51,7 +51,7 @@ pub fn module<'a>(alloc: Global, at: Cursor<'a, '_>) -> Result<Module<'a>, ReadE
     })
 }
 
-#[tactic(auto, unfolding(crate::specs::ReadModule::read_head))]
+#[tactic(auto, unfolding(crate::specs::inside::ReadModule::read_head))]
 fn head<'a, 't>(alloc: Global, at: Cursor<'a, 't>) -> Read<'a, 't, Heading<'a>>
     ensures { Reads head_view result (reading.read_head (ahead at.entry)) }
 {
@@ -71,7 +71,7 @@ fn head<'a, 't>(alloc: Global, at: Cursor<'a, 't>) -> Read<'a, 't, Heading<'a>>
     ))
 }
 
-#[tactic(auto, unfolding(crate::specs::ReadModule::read_tag_default))]
+#[tactic(auto, unfolding(crate::specs::inside::ReadModule::read_tag_default))]
 fn tag_default<'a, 't>(at: Cursor<'a, 't>) -> Read<'a, 't, Option<TagDefault>>
     ensures { Reads (λ x. x) result (reading.read_tag_default (ahead at.entry)) }
 {
@@ -117,7 +117,7 @@ fn assignments<'a, 't>(alloc: Global, at: Cursor<'a, 't>) -> Read<'a, 't, Vec<As
     Err(rest.unexpected())
 }
 
-#[tactic(auto, unfolding(crate::specs::ReadModule::read_assignment))]
+#[tactic(auto, unfolding(crate::specs::inside::ReadModule::read_assignment))]
 fn assignment<'a, 't>(alloc: Global, at: Cursor<'a, 't>) -> Read<'a, 't, Assignment<'a>>
     ensures { Reads assignment_view result (reading.read_assignment (ahead at.entry)) }
 {
@@ -135,7 +135,7 @@ fn levels() -> u8
     MOST_OTHERS + 1
 }
 
-#[tactic(auto, unfolding(crate::specs::ReadModule::read_type_assignment))]
+#[tactic(auto, unfolding(crate::specs::inside::ReadModule::read_type_assignment))]
 fn type_assignment<'a, 't>(alloc: Global, at: Cursor<'a, 't>) -> Read<'a, 't, Assignment<'a>>
     ensures { Reads assignment_view result (reading.read_type_assignment (ahead at.entry)) }
 {
@@ -153,7 +153,7 @@ fn type_assignment<'a, 't>(alloc: Global, at: Cursor<'a, 't>) -> Read<'a, 't, As
     ))
 }
 
-#[tactic(auto, unfolding(crate::specs::ReadModule::read_value_assignment))]
+#[tactic(auto, unfolding(crate::specs::inside::ReadModule::read_value_assignment))]
 fn value_assignment<'a, 't>(alloc: Global, at: Cursor<'a, 't>) -> Read<'a, 't, Assignment<'a>>
     ensures { Reads assignment_view result (reading.read_value_assignment (ahead at.entry)) }
 {
@@ -173,7 +173,7 @@ fn value_assignment<'a, 't>(alloc: Global, at: Cursor<'a, 't>) -> Read<'a, 't, A
 }
 
 /// No token is left.
-#[tactic(auto, unfolding(crate::specs::ReadModule::read_end))]
+#[tactic(auto, unfolding(crate::specs::inside::ReadModule::read_end))]
 fn ended(at: Cursor) -> Result<(), ReadError>
     ensures { Gives (λ x. x) failure_of result (reading.read_end (ahead at.entry)) }
 {

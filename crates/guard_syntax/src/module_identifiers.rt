@@ -14,7 +14,7 @@ use guard_lexer::{Mark, TokenKind};
 use std::alloc::Global;
 
 /// The parts of the object identifier behind a module's name. Where no brace stands there are none.
-#[tactic(auto, unfolding(crate::specs::ReadModule::read_identifier))]
+#[tactic(auto, unfolding(crate::specs::inside::ReadModule::read_identifier))]
 pub fn identifier<'a, 't>(alloc: Global, at: Cursor<'a, 't>) -> Read<'a, 't, Vec<PartTree<'a>>>
     ensures { Reads (each_view identifier_part_view) result (reading.read_identifier (ahead at.entry)) }
 {
@@ -25,7 +25,7 @@ pub fn identifier<'a, 't>(alloc: Global, at: Cursor<'a, 't>) -> Read<'a, 't, Vec
 }
 
 /// One or more parts, and the closing brace.
-#[tactic(auto, unfolding(crate::specs::ReadModule::read_identifier_parts))]
+#[tactic(auto, unfolding(crate::specs::inside::ReadModule::read_identifier_parts))]
 fn some_parts<'a, 't>(alloc: Global, at: Cursor<'a, 't>) -> Read<'a, 't, Vec<PartTree<'a>>>
     ensures { Reads (each_view identifier_part_view) result (reading.read_identifier_parts (ahead at.entry)) }
 {
@@ -55,7 +55,7 @@ fn parts<'a, 't>(alloc: Global, at: Cursor<'a, 't>) -> Read<'a, 't, Vec<PartTree
     Err(rest.unexpected())
 }
 
-#[tactic(auto, unfolding(crate::specs::ReadModule::read_identifier_part))]
+#[tactic(auto, unfolding(crate::specs::inside::ReadModule::read_identifier_part))]
 fn part<'a, 't>(at: Cursor<'a, 't>) -> Read<'a, 't, PartTree<'a>>
     ensures { Reads identifier_part_view result (reading.read_identifier_part (ahead at.entry)) }
 {

@@ -13,7 +13,7 @@ use guard_lexer::{Mark, TokenKind};
 use std::alloc::Global;
 
 /// The named bits after BIT STRING. Where no brace stands there are none.
-#[tactic(auto, unfolding(crate::specs::ReadTypes::read_numbers))]
+#[tactic(auto, unfolding(crate::specs::inside::ReadTypes::read_numbers))]
 pub fn bits<'a, 't>(alloc: Global, at: Cursor<'a, 't>) -> Read<'a, 't, Vec<NamedTree<'a>>>
     ensures { Reads (each_view named_view) result (reading.read_numbers reading.read_bit (ahead at.entry)) }
 {
@@ -43,7 +43,7 @@ fn some_bits<'a, 't>(alloc: Global, at: Cursor<'a, 't>) -> Read<'a, 't, Vec<Name
     Err(rest.unexpected())
 }
 
-#[tactic(auto, unfolding(crate::specs::ReadTypes::read_bit))]
+#[tactic(auto, unfolding(crate::specs::inside::ReadTypes::read_bit))]
 fn bit<'a, 't>(at: Cursor<'a, 't>) -> Read<'a, 't, NamedTree<'a>>
     ensures { Reads named_view result (reading.read_bit (ahead at.entry)) }
 {
@@ -54,7 +54,7 @@ fn bit<'a, 't>(at: Cursor<'a, 't>) -> Read<'a, 't, NamedTree<'a>>
 }
 
 /// A number without a sign, in parentheses.
-#[tactic(auto, unfolding(crate::specs::ReadTypes::read_bit_number))]
+#[tactic(auto, unfolding(crate::specs::inside::ReadTypes::read_bit_number))]
 fn bit_number<'a, 't>(at: Cursor<'a, 't>) -> Read<'a, 't, NumberTree<'a>>
     ensures { Reads number_view result (reading.read_bit_number (ahead at.entry)) }
 {

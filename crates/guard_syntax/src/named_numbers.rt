@@ -14,7 +14,7 @@ use guard_lexer::{Mark, TokenKind};
 use std::alloc::Global;
 
 /// The named numbers behind INTEGER. Where no brace stands there are none.
-#[tactic(auto, unfolding(crate::specs::ReadTypes::read_numbers))]
+#[tactic(auto, unfolding(crate::specs::inside::ReadTypes::read_numbers))]
 pub fn numbers<'a, 't>(alloc: Global, at: Cursor<'a, 't>) -> Read<'a, 't, Vec<NamedTree<'a>>>
     ensures { Reads (each_view named_view) result (reading.read_numbers reading.read_named (ahead at.entry)) }
 {
@@ -44,7 +44,7 @@ fn some_named<'a, 't>(alloc: Global, at: Cursor<'a, 't>) -> Read<'a, 't, Vec<Nam
     Err(rest.unexpected())
 }
 
-#[tactic(auto, unfolding(crate::specs::ReadTypes::read_named))]
+#[tactic(auto, unfolding(crate::specs::inside::ReadTypes::read_named))]
 fn named<'a, 't>(at: Cursor<'a, 't>) -> Read<'a, 't, NamedTree<'a>>
     ensures { Reads named_view result (reading.read_named (ahead at.entry)) }
 {
@@ -55,7 +55,7 @@ fn named<'a, 't>(at: Cursor<'a, 't>) -> Read<'a, 't, NamedTree<'a>>
 }
 
 /// A number in parentheses.
-#[tactic(auto, unfolding(crate::specs::ReadTypes::read_in_parentheses))]
+#[tactic(auto, unfolding(crate::specs::inside::ReadTypes::read_in_parentheses))]
 fn in_parentheses<'a, 't>(at: Cursor<'a, 't>) -> Read<'a, 't, NumberTree<'a>>
     ensures { Reads number_view result (reading.read_in_parentheses (ahead at.entry)) }
 {
@@ -66,7 +66,7 @@ fn in_parentheses<'a, 't>(at: Cursor<'a, 't>) -> Read<'a, 't, NumberTree<'a>>
 }
 
 /// The items behind ENUMERATED.
-#[tactic(auto, unfolding(crate::specs::ReadTypes::read_items))]
+#[tactic(auto, unfolding(crate::specs::inside::ReadTypes::read_items))]
 pub fn items<'a, 't>(alloc: Global, at: Cursor<'a, 't>) -> Read<'a, 't, Vec<ItemTree<'a>>>
     ensures { Reads (each_view item_view) result (reading.read_items (ahead at.entry)) }
 {
@@ -94,7 +94,7 @@ fn some_items<'a, 't>(alloc: Global, at: Cursor<'a, 't>) -> Read<'a, 't, Vec<Ite
     Err(rest.unexpected())
 }
 
-#[tactic(auto, unfolding(crate::specs::ReadTypes::read_item))]
+#[tactic(auto, unfolding(crate::specs::inside::ReadTypes::read_item))]
 fn item<'a, 't>(at: Cursor<'a, 't>) -> Read<'a, 't, ItemTree<'a>>
     ensures { Reads item_view result (reading.read_item (ahead at.entry)) }
 {
@@ -104,7 +104,7 @@ fn item<'a, 't>(at: Cursor<'a, 't>) -> Read<'a, 't, ItemTree<'a>>
     Ok((ItemTree { site, name, number }, rest))
 }
 
-#[tactic(auto, unfolding(crate::specs::ReadTypes::read_item_number))]
+#[tactic(auto, unfolding(crate::specs::inside::ReadTypes::read_item_number))]
 fn item_number<'a, 't>(at: Cursor<'a, 't>) -> Read<'a, 't, Option<NumberTree<'a>>>
     ensures { Reads item_number_view result (reading.read_item_number (ahead at.entry)) }
 {

@@ -10,7 +10,7 @@ use crate::tree::{ArcTree, NumberTree};
 use guard_lexer::{Mark, TokenKind};
 
 /// An integer. A minus sign isn't followed by the number 0.
-#[tactic(auto, unfolding(crate::specs::ReadTokens::read_number))]
+#[tactic(auto, unfolding(crate::specs::inside::ReadTokens::read_number))]
 pub fn number<'a, 't>(at: Cursor<'a, 't>) -> Read<'a, 't, NumberTree<'a>>
     ensures { Reads number_view result (reading.read_number (ahead at.entry)) }
 {
@@ -26,7 +26,7 @@ pub fn number<'a, 't>(at: Cursor<'a, 't>) -> Read<'a, 't, NumberTree<'a>>
     ))
 }
 
-#[tactic(auto, unfolding(crate::specs::ReadTokens::read_digits))]
+#[tactic(auto, unfolding(crate::specs::inside::ReadTokens::read_digits))]
 fn digits<'a, 't>(minus: bool, at: Cursor<'a, 't>) -> Read<'a, 't, &'a [u8]>
     ensures { Reads (λ s. s.now) result (reading.read_digits minus (ahead at.entry)) }
 {
@@ -57,7 +57,7 @@ fn is_zero(digits: &[u8]) -> bool
 }
 
 /// A number, or a name with a number in parentheses.
-#[tactic(auto, unfolding(crate::specs::ReadTokens::read_arc))]
+#[tactic(auto, unfolding(crate::specs::inside::ReadTokens::read_arc))]
 pub fn arc<'a, 't>(at: Cursor<'a, 't>) -> Read<'a, 't, ArcTree<'a>>
     ensures { Reads arc_view result (reading.read_arc (ahead at.entry)) }
 {
@@ -68,7 +68,7 @@ pub fn arc<'a, 't>(at: Cursor<'a, 't>) -> Read<'a, 't, ArcTree<'a>>
     }
 }
 
-#[tactic(auto, unfolding(crate::specs::ReadTokens::read_named_arc))]
+#[tactic(auto, unfolding(crate::specs::inside::ReadTokens::read_named_arc))]
 fn named_arc<'a, 't>(at: Cursor<'a, 't>) -> Read<'a, 't, ArcTree<'a>>
     ensures { Reads arc_view result (reading.read_named_arc (ahead at.entry)) }
 {
@@ -86,7 +86,7 @@ fn named_arc<'a, 't>(at: Cursor<'a, 't>) -> Read<'a, 't, ArcTree<'a>>
     ))
 }
 
-#[tactic(auto, unfolding(crate::specs::ReadTokens::read_bare_arc))]
+#[tactic(auto, unfolding(crate::specs::inside::ReadTokens::read_bare_arc))]
 fn bare_arc<'a, 't>(at: Cursor<'a, 't>) -> Read<'a, 't, ArcTree<'a>>
     ensures { Reads arc_view result (reading.read_bare_arc (ahead at.entry)) }
 {

@@ -41,7 +41,7 @@ fn begins_dots(at: Cursor) -> bool
 }
 
 /// A range of values.
-#[tactic(auto, unfolding(crate::specs::ReadSets::read_range))]
+#[tactic(auto, unfolding(crate::specs::inside::ReadSets::read_range))]
 pub fn range<'a, 't>(at: Cursor<'a, 't>) -> Read<'a, 't, RangeTree<'a>>
     ensures { Reads range_view result (reading.read_range (ahead at.entry)) }
 {
@@ -64,7 +64,7 @@ pub fn range<'a, 't>(at: Cursor<'a, 't>) -> Read<'a, 't, RangeTree<'a>>
 }
 
 /// An end, or this word.
-#[tactic(auto, unfolding(crate::specs::ReadSets::read_end_or))]
+#[tactic(auto, unfolding(crate::specs::inside::ReadSets::read_end_or))]
 fn end_or<'a, 't>(word: Reserved, at: Cursor<'a, 't>) -> Read<'a, 't, Option<EndTree<'a>>>
     ensures { Reads end_or_view result (reading.read_end_or word (ahead at.entry)) }
 {
@@ -76,7 +76,7 @@ fn end_or<'a, 't>(word: Reserved, at: Cursor<'a, 't>) -> Read<'a, 't, Option<End
     Ok((Some(EndTree { site, form }), rest))
 }
 
-#[tactic(auto, unfolding(crate::specs::ReadSets::read_end_form))]
+#[tactic(auto, unfolding(crate::specs::inside::ReadSets::read_end_form))]
 fn end_form<'a, 't>(at: Cursor<'a, 't>) -> Read<'a, 't, EndForm<'a>>
     ensures { Reads end_form_view result (reading.read_end_form (ahead at.entry)) }
 {

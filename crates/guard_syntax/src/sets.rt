@@ -42,7 +42,7 @@ fn begins_set(at: Cursor) -> bool
 
 /// A set in parentheses. `levels` says how many types, values and sets may stand one in the other here.
 #[cycle(sets)]
-#[tactic(auto, unfolding(crate::specs::ReadSets::read_constraint))]
+#[tactic(auto, unfolding(crate::specs::inside::ReadSets::read_constraint))]
 pub fn constraint<'a, 't>(
     alloc: Global,
     levels: u8,
@@ -58,7 +58,7 @@ pub fn constraint<'a, 't>(
 }
 
 #[cycle(sets)]
-#[tactic(auto, using(crate::proofs::Levels::read_set_above), unfolding(crate::specs::ReadSets::read_set))]
+#[tactic(auto, using(crate::proofs::Levels::read_set_above), unfolding(crate::specs::inside::ReadSets::read_set))]
 fn set<'a, 't>(alloc: Global, levels: u8, at: Cursor<'a, 't>) -> Read<'a, 't, Box<SetTree<'a>>>
     ensures { Reads (boxed_view set_view) result (reading.read_set levels (ahead at.entry)) }
 {
@@ -69,7 +69,7 @@ fn set<'a, 't>(alloc: Global, levels: u8, at: Cursor<'a, 't>) -> Read<'a, 't, Bo
 }
 
 #[cycle(sets)]
-#[tactic(auto, unfolding(crate::specs::ReadSets::read_inner_set))]
+#[tactic(auto, unfolding(crate::specs::inside::ReadSets::read_inner_set))]
 fn inner_set<'a, 't>(
     alloc: Global,
     levels: u8,
@@ -83,7 +83,7 @@ fn inner_set<'a, 't>(
 }
 
 #[cycle(sets)]
-#[tactic(auto, unfolding(crate::specs::ReadSets::read_set_form, crate::specs::ReadSets::read_all_except, crate::specs::ReadSets::read_union))]
+#[tactic(auto, unfolding(crate::specs::inside::ReadSets::read_set_form, crate::specs::inside::ReadSets::read_all_except, crate::specs::inside::ReadSets::read_union))]
 fn set_form<'a, 't>(alloc: Global, levels: u8, at: Cursor<'a, 't>) -> Read<'a, 't, SetForm<'a>>
     ensures { Reads set_form_view result (reading.read_set_form (read_value levels) (reading.read_set levels) (ahead at.entry)) }
 {
@@ -122,7 +122,7 @@ fn joined_intersections<'a, 't>(
 }
 
 #[cycle(sets)]
-#[tactic(auto, unfolding(crate::specs::ReadSets::read_joined_intersection))]
+#[tactic(auto, unfolding(crate::specs::inside::ReadSets::read_joined_intersection))]
 fn joined_intersection<'a, 't>(
     alloc: Global,
     levels: u8,
@@ -136,7 +136,7 @@ fn joined_intersection<'a, 't>(
 }
 
 #[cycle(sets)]
-#[tactic(auto, unfolding(crate::specs::ReadSets::read_intersection))]
+#[tactic(auto, unfolding(crate::specs::inside::ReadSets::read_intersection))]
 fn intersection<'a, 't>(
     alloc: Global,
     levels: u8,
@@ -173,7 +173,7 @@ fn joined_differences<'a, 't>(
 }
 
 #[cycle(sets)]
-#[tactic(auto, unfolding(crate::specs::ReadSets::read_joined_difference))]
+#[tactic(auto, unfolding(crate::specs::inside::ReadSets::read_joined_difference))]
 fn joined_difference<'a, 't>(
     alloc: Global,
     levels: u8,
@@ -187,7 +187,7 @@ fn joined_difference<'a, 't>(
 }
 
 #[cycle(sets)]
-#[tactic(auto, unfolding(crate::specs::ReadSets::read_difference))]
+#[tactic(auto, unfolding(crate::specs::inside::ReadSets::read_difference))]
 fn difference<'a, 't>(
     alloc: Global,
     levels: u8,
@@ -202,7 +202,7 @@ fn difference<'a, 't>(
 }
 
 #[cycle(sets)]
-#[tactic(auto, unfolding(crate::specs::ReadSets::read_except))]
+#[tactic(auto, unfolding(crate::specs::inside::ReadSets::read_except))]
 fn except<'a, 't>(
     alloc: Global,
     levels: u8,
@@ -218,7 +218,7 @@ fn except<'a, 't>(
 }
 
 #[cycle(sets)]
-#[tactic(auto, unfolding(crate::specs::ReadSets::read_element))]
+#[tactic(auto, unfolding(crate::specs::inside::ReadSets::read_element))]
 fn element<'a, 't>(alloc: Global, levels: u8, at: Cursor<'a, 't>) -> Read<'a, 't, ElementTree<'a>>
     ensures site { IfOk result (λ e. site_of_element (element_view e.0) ≡ tokens_reading.site_at (ahead at.entry)) }
     ensures tree { Reads element_view result (reading.read_element (read_value levels) (reading.read_set levels) (ahead at.entry)) }
@@ -230,7 +230,7 @@ fn element<'a, 't>(alloc: Global, levels: u8, at: Cursor<'a, 't>) -> Read<'a, 't
 
 /// Each form of an element.
 #[cycle(sets)]
-#[tactic(auto, unfolding(crate::specs::ReadSets::read_element_form))]
+#[tactic(auto, unfolding(crate::specs::inside::ReadSets::read_element_form))]
 fn element_form<'a, 't>(
     alloc: Global,
     levels: u8,
@@ -257,7 +257,7 @@ fn element_form<'a, 't>(
     }
 }
 
-#[tactic(auto, unfolding(crate::specs::ReadSets::read_range_or_value))]
+#[tactic(auto, unfolding(crate::specs::inside::ReadSets::read_range_or_value))]
 fn range_or_value<'a, 't>(
     alloc: Global,
     levels: u8,
@@ -274,7 +274,7 @@ fn range_or_value<'a, 't>(
     }
 }
 
-#[tactic(auto, unfolding(crate::specs::ReadSets::read_contained))]
+#[tactic(auto, unfolding(crate::specs::inside::ReadSets::read_contained))]
 fn contained<'a, 't>(at: Cursor<'a, 't>) -> Read<'a, 't, ElementForm<'a>>
     ensures { Reads element_form_view result (reading.read_contained (ahead at.entry)) }
 {
@@ -289,7 +289,7 @@ fn contained<'a, 't>(at: Cursor<'a, 't>) -> Read<'a, 't, ElementForm<'a>>
 }
 
 #[cycle(sets)]
-#[tactic(auto, unfolding(crate::specs::ReadSets::read_parentheses))]
+#[tactic(auto, unfolding(crate::specs::inside::ReadSets::read_parentheses))]
 fn parentheses<'a, 't>(
     alloc: Global,
     levels: u8,
@@ -305,7 +305,7 @@ fn parentheses<'a, 't>(
 
 /// WITH COMPONENT or WITH COMPONENTS.
 #[cycle(sets)]
-#[tactic(auto, unfolding(crate::specs::ReadSets::read_inner_type_constraints))]
+#[tactic(auto, unfolding(crate::specs::inside::ReadSets::read_inner_type_constraints))]
 fn inner_type_constraints<'a, 't>(
     alloc: Global,
     levels: u8,
@@ -323,7 +323,7 @@ fn inner_type_constraints<'a, 't>(
 }
 
 #[cycle(sets)]
-#[tactic(auto, unfolding(crate::specs::ReadSets::read_with_components))]
+#[tactic(auto, unfolding(crate::specs::inside::ReadSets::read_with_components))]
 fn with_components<'a, 't>(
     alloc: Global,
     levels: u8,
@@ -339,7 +339,7 @@ fn with_components<'a, 't>(
 }
 
 /// `...` and a comma, where there are both.
-#[tactic(auto, unfolding(crate::specs::ReadSets::read_partial))]
+#[tactic(auto, unfolding(crate::specs::inside::ReadSets::read_partial))]
 fn partial<'a, 't>(at: Cursor<'a, 't>) -> Read<'a, 't, bool>
     ensures { Reads (λ x. x) result (reading.read_partial (ahead at.entry)) }
 {
@@ -374,7 +374,7 @@ fn parts<'a, 't>(
 }
 
 #[cycle(sets)]
-#[tactic(auto, unfolding(crate::specs::ReadSets::read_part))]
+#[tactic(auto, unfolding(crate::specs::inside::ReadSets::read_part))]
 fn part<'a, 't>(
     alloc: Global,
     levels: u8,
@@ -398,7 +398,7 @@ fn part<'a, 't>(
 }
 
 #[cycle(sets)]
-#[tactic(auto, unfolding(crate::specs::ReadSets::read_perhaps_constraint))]
+#[tactic(auto, unfolding(crate::specs::inside::ReadSets::read_perhaps_constraint))]
 fn perhaps_constraint<'a, 't>(
     alloc: Global,
     levels: u8,

@@ -36,7 +36,7 @@ pub fn tags<'a, 't>(alloc: Global, at: Cursor<'a, 't>) -> Read<'a, 't, Vec<TagTr
     Err(rest.unexpected())
 }
 
-#[tactic(auto, unfolding(crate::specs::ReadTypes::read_tag))]
+#[tactic(auto, unfolding(crate::specs::inside::ReadTypes::read_tag))]
 fn tag<'a, 't>(at: Cursor<'a, 't>) -> Read<'a, 't, TagTree<'a>>
     ensures { Reads tag_view result (reading.read_tag (ahead at.entry)) }
 {

@@ -70,7 +70,7 @@ fn begins_two_words(at: Cursor) -> bool
         || at.begins_with(TokenKind::Reserved(Reserved::Object))
 }
 
-#[tactic(auto, unfolding(crate::specs::ReadTypes::read_two_words))]
+#[tactic(auto, unfolding(crate::specs::inside::ReadTypes::read_two_words))]
 fn two_words<'a, 't>(at: Cursor<'a, 't>) -> Read<'a, 't, PlainType>
     ensures { Reads (λ x. x) result (reading.read_two_words (ahead at.entry)) }
 {
@@ -102,7 +102,7 @@ pub fn type_tree<'a, 't>(
 }
 
 /// No type may stand here: it would lie too deep.
-#[tactic(auto, unfolding(crate::specs::ReadTypes::read_type))]
+#[tactic(auto, unfolding(crate::specs::inside::ReadTypes::read_type))]
 fn type_too_deep(at: Cursor) -> ReadError
     ensures { Refuses (failure_of result) (reading.read_type 0 (ahead at.entry)) }
 {
@@ -110,7 +110,7 @@ fn type_too_deep(at: Cursor) -> ReadError
 }
 
 #[cycle(types)]
-#[tactic(auto, unfolding(crate::specs::ReadTypes::read_inner_type))]
+#[tactic(auto, unfolding(crate::specs::inside::ReadTypes::read_inner_type))]
 fn inner_type<'a, 't>(
     alloc: Global,
     levels: u8,
@@ -148,7 +148,7 @@ fn is_of(base: &BaseTree) -> bool
 }
 
 /// The constraints behind a type; behind an OF type there are none.
-#[tactic(auto, unfolding(crate::specs::ReadTypes::read_constraints))]
+#[tactic(auto, unfolding(crate::specs::inside::ReadTypes::read_constraints))]
 fn constraints<'a, 't>(
     alloc: Global,
     levels: u8,
@@ -193,7 +193,7 @@ fn begins_constraint(at: Cursor) -> bool
 
 /// Each form of a type without its tags and constraints.
 #[cycle(types)]
-#[tactic(auto, unfolding(crate::specs::ReadTypes::read_base))]
+#[tactic(auto, unfolding(crate::specs::inside::ReadTypes::read_base))]
 fn base<'a, 't>(alloc: Global, levels: u8, at: Cursor<'a, 't>) -> Read<'a, 't, BaseTree<'a>>
     ensures { Reads base_view result (reading.read_base (read_value levels) (read_set levels) (reading.read_type levels) (ahead at.entry)) }
 {
@@ -209,7 +209,7 @@ fn base<'a, 't>(alloc: Global, levels: u8, at: Cursor<'a, 't>) -> Read<'a, 't, B
 }
 
 /// A base in which no type stands.
-#[tactic(auto, unfolding(crate::specs::ReadTypes::read_simple))]
+#[tactic(auto, unfolding(crate::specs::inside::ReadTypes::read_simple))]
 fn simple<'a, 't>(alloc: Global, at: Cursor<'a, 't>) -> Read<'a, 't, BaseTree<'a>>
     ensures { Reads base_view result (reading.read_simple (ahead at.entry)) }
 {
@@ -230,7 +230,7 @@ fn simple<'a, 't>(alloc: Global, at: Cursor<'a, 't>) -> Read<'a, 't, BaseTree<'a
 }
 
 /// A bit string, after the word BIT.
-#[tactic(auto, unfolding(crate::specs::ReadTypes::read_bit_string))]
+#[tactic(auto, unfolding(crate::specs::inside::ReadTypes::read_bit_string))]
 fn bit_string<'a, 't>(alloc: Global, at: Cursor<'a, 't>) -> Read<'a, 't, BaseTree<'a>>
     ensures { Reads base_view result (reading.read_bit_string (ahead at.entry)) }
 {
@@ -240,7 +240,7 @@ fn bit_string<'a, 't>(alloc: Global, at: Cursor<'a, 't>) -> Read<'a, 't, BaseTre
 }
 
 /// A type that is a single word, or the name of a type.
-#[tactic(auto, unfolding(crate::specs::ReadTypes::read_word_or_name))]
+#[tactic(auto, unfolding(crate::specs::inside::ReadTypes::read_word_or_name))]
 fn word_or_name<'a, 't>(at: Cursor<'a, 't>) -> Read<'a, 't, BaseTree<'a>>
     ensures { Reads base_view result (reading.read_word_or_name (ahead at.entry)) }
 {
@@ -256,7 +256,7 @@ fn word_or_name<'a, 't>(at: Cursor<'a, 't>) -> Read<'a, 't, BaseTree<'a>>
 
 /// What stands behind SEQUENCE or SET.
 #[cycle(types)]
-#[tactic(auto, unfolding(crate::specs::ReadTypes::read_collection))]
+#[tactic(auto, unfolding(crate::specs::inside::ReadTypes::read_collection))]
 fn collection<'a, 't>(
     alloc: Global,
     kind: Collection,
@@ -273,7 +273,7 @@ fn collection<'a, 't>(
 }
 
 #[cycle(types)]
-#[tactic(auto, unfolding(crate::specs::ReadTypes::read_of))]
+#[tactic(auto, unfolding(crate::specs::inside::ReadTypes::read_of))]
 fn of_type<'a, 't>(
     alloc: Global,
     kind: Collection,
@@ -289,7 +289,7 @@ fn of_type<'a, 't>(
 }
 
 /// The constraint before OF.
-#[tactic(auto, unfolding(crate::specs::ReadTypes::read_of_constraint))]
+#[tactic(auto, unfolding(crate::specs::inside::ReadTypes::read_of_constraint))]
 fn of_constraint<'a, 't>(
     alloc: Global,
     levels: u8,
@@ -308,7 +308,7 @@ fn of_constraint<'a, 't>(
 }
 
 #[cycle(types)]
-#[tactic(auto, unfolding(crate::specs::ReadTypes::read_structure))]
+#[tactic(auto, unfolding(crate::specs::inside::ReadTypes::read_structure))]
 fn structure<'a, 't>(
     alloc: Global,
     kind: Collection,
@@ -325,7 +325,7 @@ fn structure<'a, 't>(
 
 /// Components up to the closing brace, perhaps none.
 #[cycle(types)]
-#[tactic(auto, unfolding(crate::specs::ReadTypes::read_components))]
+#[tactic(auto, unfolding(crate::specs::inside::ReadTypes::read_components))]
 fn components<'a, 't>(
     alloc: Global,
     levels: u8,
@@ -363,7 +363,7 @@ fn some_components<'a, 't>(
 }
 
 #[cycle(types)]
-#[tactic(auto, unfolding(crate::specs::ReadTypes::read_component))]
+#[tactic(auto, unfolding(crate::specs::inside::ReadTypes::read_component))]
 fn component<'a, 't>(alloc: Global, levels: u8, at: Cursor<'a, 't>) -> Read<'a, 't, CompTree<'a>>
     ensures { Reads component_view result (reading.read_component (read_value levels) (reading.read_type levels) (ahead at.entry)) }
 {
@@ -373,7 +373,7 @@ fn component<'a, 't>(alloc: Global, levels: u8, at: Cursor<'a, 't>) -> Read<'a, 
 }
 
 #[cycle(types)]
-#[tactic(auto, unfolding(crate::specs::ReadTypes::read_component_form))]
+#[tactic(auto, unfolding(crate::specs::inside::ReadTypes::read_component_form))]
 fn component_form<'a, 't>(
     alloc: Global,
     levels: u8,
@@ -394,7 +394,7 @@ fn component_form<'a, 't>(
 }
 
 /// What stands behind the type of a component.
-#[tactic(auto, unfolding(crate::specs::ReadTypes::read_presence))]
+#[tactic(auto, unfolding(crate::specs::inside::ReadTypes::read_presence))]
 fn presence<'a, 't>(alloc: Global, levels: u8, at: Cursor<'a, 't>) -> Read<'a, 't, PresenceTree<'a>>
     ensures { Reads presence_view result (reading.read_presence (read_value levels) (ahead at.entry)) }
 {
@@ -410,7 +410,7 @@ fn presence<'a, 't>(alloc: Global, levels: u8, at: Cursor<'a, 't>) -> Read<'a, '
 
 /// What stands behind CHOICE.
 #[cycle(types)]
-#[tactic(auto, unfolding(crate::specs::ReadTypes::read_choice))]
+#[tactic(auto, unfolding(crate::specs::inside::ReadTypes::read_choice))]
 fn choice<'a, 't>(alloc: Global, levels: u8, at: Cursor<'a, 't>) -> Read<'a, 't, BaseTree<'a>>
     ensures { Reads base_view result (reading.read_choice (reading.read_type levels) (ahead at.entry)) }
 {
@@ -444,7 +444,7 @@ fn alternatives<'a, 't>(
 }
 
 #[cycle(types)]
-#[tactic(auto, unfolding(crate::specs::ReadTypes::read_alternative))]
+#[tactic(auto, unfolding(crate::specs::inside::ReadTypes::read_alternative))]
 fn alternative<'a, 't>(
     alloc: Global,
     levels: u8,

@@ -49,7 +49,7 @@ fn string_at(at: Cursor) -> Option<StringKind>
 
 /// A value. `levels` says how many types, values and sets may stand one in the other here.
 #[cycle(values)]
-#[tactic(auto, unfolding(crate::specs::ReadValues::read_value))]
+#[tactic(auto, unfolding(crate::specs::inside::ReadValues::read_value))]
 pub fn value<'a, 't>(alloc: Global, levels: u8, at: Cursor<'a, 't>) -> Read<'a, 't, ValueTree<'a>>
     ensures { Reads value_view result (reading.read_value levels (ahead at.entry)) }
 {
@@ -68,7 +68,7 @@ pub fn value<'a, 't>(alloc: Global, levels: u8, at: Cursor<'a, 't>) -> Read<'a, 
 
 /// Each form of a value.
 #[cycle(values)]
-#[tactic(auto, unfolding(crate::specs::ReadValues::read_value_form))]
+#[tactic(auto, unfolding(crate::specs::inside::ReadValues::read_value_form))]
 fn form<'a, 't>(alloc: Global, levels: u8, at: Cursor<'a, 't>) -> Read<'a, 't, ValueForm<'a>>
     ensures { Reads value_form_view result (reading.read_value_form levels (reading.read_value levels) (ahead at.entry)) }
 {
@@ -89,7 +89,7 @@ fn form<'a, 't>(alloc: Global, levels: u8, at: Cursor<'a, 't>) -> Read<'a, 't, V
     }
 }
 
-#[tactic(auto, unfolding(crate::specs::ReadValues::read_integer_form))]
+#[tactic(auto, unfolding(crate::specs::inside::ReadValues::read_integer_form))]
 fn integer<'a, 't>(at: Cursor<'a, 't>) -> Read<'a, 't, ValueForm<'a>>
     ensures { Reads value_form_view result (reading.read_integer_form (ahead at.entry)) }
 {
@@ -97,7 +97,7 @@ fn integer<'a, 't>(at: Cursor<'a, 't>) -> Read<'a, 't, ValueForm<'a>>
     Ok((ValueForm::Integer(number), rest))
 }
 
-#[tactic(auto, unfolding(crate::specs::ReadValues::read_string))]
+#[tactic(auto, unfolding(crate::specs::inside::ReadValues::read_string))]
 fn string<'a, 't>(at: Cursor<'a, 't>) -> Read<'a, 't, ValueForm<'a>>
     ensures { Reads value_form_view result (reading.read_string (ahead at.entry)) }
 {
@@ -115,7 +115,7 @@ fn string<'a, 't>(at: Cursor<'a, 't>) -> Read<'a, 't, ValueForm<'a>>
 
 /// A name, or a chosen alternative.
 #[cycle(values)]
-#[tactic(auto, unfolding(crate::specs::ReadValues::read_name))]
+#[tactic(auto, unfolding(crate::specs::inside::ReadValues::read_name))]
 fn name<'a, 't>(alloc: Global, levels: u8, at: Cursor<'a, 't>) -> Read<'a, 't, ValueForm<'a>>
     ensures { Reads value_form_view result (reading.read_name (reading.read_value levels) (ahead at.entry)) }
 {
@@ -129,7 +129,7 @@ fn name<'a, 't>(alloc: Global, levels: u8, at: Cursor<'a, 't>) -> Read<'a, 't, V
 
 /// Entries or arcs.
 #[cycle(values)]
-#[tactic(auto, unfolding(crate::specs::ReadValues::read_braces))]
+#[tactic(auto, unfolding(crate::specs::inside::ReadValues::read_braces))]
 fn braces<'a, 't>(alloc: Global, levels: u8, at: Cursor<'a, 't>) -> Read<'a, 't, ValueForm<'a>>
     ensures { Reads value_form_view result (reading.read_braces levels (reading.read_value levels) (ahead at.entry)) }
 {
@@ -157,7 +157,7 @@ fn begins_arcs(at: Cursor) -> bool
 
 /// Entries up to the closing brace, perhaps none. Where no value may stand in the braces the first entry is too deep.
 #[cycle(values)]
-#[tactic(auto, unfolding(crate::specs::ReadValues::read_entries))]
+#[tactic(auto, unfolding(crate::specs::inside::ReadValues::read_entries))]
 fn entries<'a, 't>(
     alloc: Global,
     levels: u8,
@@ -198,7 +198,7 @@ fn some_entries<'a, 't>(
 }
 
 #[cycle(values)]
-#[tactic(auto, unfolding(crate::specs::ReadValues::read_entry))]
+#[tactic(auto, unfolding(crate::specs::inside::ReadValues::read_entry))]
 fn entry<'a, 't>(alloc: Global, levels: u8, at: Cursor<'a, 't>) -> Read<'a, 't, EntryTree<'a>>
     ensures { Reads entry_view result (reading.read_entry (reading.read_value levels) (ahead at.entry)) }
 {
@@ -215,7 +215,7 @@ fn entry<'a, 't>(alloc: Global, levels: u8, at: Cursor<'a, 't>) -> Read<'a, 't, 
 }
 
 /// The name before a value, where there is one.
-#[tactic(auto, unfolding(crate::specs::ReadValues::read_entry_name))]
+#[tactic(auto, unfolding(crate::specs::inside::ReadValues::read_entry_name))]
 fn entry_name<'a, 't>(at: Cursor<'a, 't>) -> Read<'a, 't, Option<&'a [u8]>>
     ensures { Reads name_view result (reading.read_entry_name (ahead at.entry)) }
 {
@@ -230,7 +230,7 @@ fn entry_name<'a, 't>(at: Cursor<'a, 't>) -> Read<'a, 't, Option<&'a [u8]>>
 }
 
 /// Two or more arcs, or one that has a name. Each takes a token, so there are no more than tokens.
-#[tactic(auto, unfolding(crate::specs::ReadValues::read_arcs))]
+#[tactic(auto, unfolding(crate::specs::inside::ReadValues::read_arcs))]
 fn arcs<'a, 't>(alloc: Global, at: Cursor<'a, 't>) -> Read<'a, 't, Vec<ArcTree<'a>>>
     ensures { Reads (each_view arc_view) result (reading.read_arcs (ahead at.entry)) }
 {

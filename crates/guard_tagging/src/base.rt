@@ -25,7 +25,7 @@ use guard_syntax::{Collection, ItemTree, NamedTree, PlainType};
 use std::alloc::Global;
 
 /// A type that is written with words alone.
-#[tactic(auto, unfolding(crate::specs::ReadBases::plain_type))]
+#[tactic(auto, unfolding(crate::specs::inside::ReadBases::plain_type))]
 pub fn plain_type(
     alloc: Global,
     node: &Node,
@@ -40,7 +40,7 @@ pub fn plain_type(
 }
 
 /// INTEGER with its named numbers.
-#[tactic(auto, unfolding(crate::specs::ReadBases::integer_type))]
+#[tactic(auto, unfolding(crate::specs::inside::ReadBases::integer_type))]
 pub fn integer_type(
     alloc: Global,
     node: &Node,
@@ -56,7 +56,7 @@ pub fn integer_type(
 }
 
 /// BIT STRING with its named bits.
-#[tactic(auto, unfolding(crate::specs::ReadBases::bits_type))]
+#[tactic(auto, unfolding(crate::specs::inside::ReadBases::bits_type))]
 pub fn bits_type(
     alloc: Global,
     node: &Node,
@@ -72,7 +72,7 @@ pub fn bits_type(
 }
 
 /// ENUMERATED with its items.
-#[tactic(auto, unfolding(crate::specs::ReadBases::enumerated_type))]
+#[tactic(auto, unfolding(crate::specs::inside::ReadBases::enumerated_type))]
 pub fn enumerated_type(
     alloc: Global,
     node: &Node,
@@ -88,7 +88,7 @@ pub fn enumerated_type(
 }
 
 /// What a type with this universal tag has beside its named numbers, named bits or items, which stand at these places.
-#[tactic(auto, unfolding(crate::specs::ReadBases::numbered_whole))]
+#[tactic(auto, unfolding(crate::specs::inside::ReadBases::numbered_whole))]
 fn numbered_whole(
     alloc: Global,
     node: &Node,
@@ -114,7 +114,7 @@ fn check_differ(alloc: Global, places: &[Placed]) -> Result<(), TagFault>
 }
 
 /// SEQUENCE or SET with its components.
-#[tactic(auto, unfolding(crate::specs::ReadBases::structure_type))]
+#[tactic(auto, unfolding(crate::specs::inside::ReadBases::structure_type))]
 pub fn structure_type(
     alloc: Global,
     node: &Node,
@@ -136,7 +136,7 @@ pub fn structure_type(
 }
 
 /// CHOICE with its alternatives, which are nested one level deeper.
-#[tactic(auto, unfolding(crate::specs::ReadBases::choice_type))]
+#[tactic(auto, unfolding(crate::specs::inside::ReadBases::choice_type))]
 pub fn choice_type(alloc: Global, node: &Node, parts: Box<Parts>) -> Result<Box<Made>, TagFault>
     ensures { Gives (λ m. made_view m.value) named result (reading.choice_type (node_view node.now) (parts_view parts.value)) }
 {
@@ -148,7 +148,7 @@ pub fn choice_type(alloc: Global, node: &Node, parts: Box<Parts>) -> Result<Box<
 }
 
 /// SEQUENCE OF or SET OF this type.
-#[tactic(auto, unfolding(crate::specs::ReadBases::of_type))]
+#[tactic(auto, unfolding(crate::specs::inside::ReadBases::of_type))]
 pub fn of_type(
     alloc: Global,
     node: &Node,

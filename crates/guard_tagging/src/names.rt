@@ -52,7 +52,7 @@ fn insert_number(
 }
 
 /// The name as text. Names are letters, digits and hyphens, of which nothing is lost.
-#[tactic(auto, unfolding(crate::specs::ReadNames::text_octets))]
+#[tactic(auto, unfolding(crate::specs::inside::ReadNames::text_octets))]
 pub fn name_text(alloc: Global, octets: &[u8]) -> Result<String, AllocError>
     ensures { IfOk result (λ text. string_bytes text ≡ text_octets octets.now) }
 {

@@ -14,7 +14,7 @@ use guard_model::{DEEPEST_NESTING, Kind, Tag, Ty};
 use std::alloc::{AllocError, Global};
 
 /// The tags of a type: those that are written, and then these.
-#[tactic(auto, unfolding(crate::specs::ReadNodes::tags_of))]
+#[tactic(auto, unfolding(crate::specs::inside::ReadNodes::tags_of))]
 pub fn tags_of(
     alloc: Global,
     node: &Node,
@@ -29,7 +29,7 @@ pub fn tags_of(
 }
 
 /// A type with these tags, whose parts are nested so deep, and with so many types before it.
-#[tactic(auto, unfolding(crate::specs::ReadNodes::whole_with))]
+#[tactic(auto, unfolding(crate::specs::inside::ReadNodes::whole_with))]
 pub fn whole_with(
     node: &Node,
     tags: Vec<Tag>,
@@ -51,7 +51,7 @@ pub fn whole_with(
 }
 
 /// The types up to this one and with it.
-#[tactic(auto, unfolding(crate::specs::ReadNodes::nodes_with))]
+#[tactic(auto, unfolding(crate::specs::inside::ReadNodes::nodes_with))]
 fn nodes_with(node: &Node, before: usize) -> Result<usize, TagFault>
     ensures { Gives (λ n. n) named result (reading.nodes_with (node_view node.now) before) }
 {

@@ -46,7 +46,7 @@ fn named_number(alloc: Global, tree: &NamedTree) -> Result<Named, TagFault>
 }
 
 /// The named bits of a BIT STRING.
-#[tactic(auto, unfolding(crate::specs::ReadItems::read_bits))]
+#[tactic(auto, unfolding(crate::specs::inside::ReadItems::read_bits))]
 pub fn named_bits(alloc: Global, trees: &[NamedTree]) -> Result<Vec<Named>, TagFault>
     ensures { Gives (λ v. map named_view v.items) named result (reading.read_bits (map written.named_view trees.now)) }
 {
@@ -85,7 +85,7 @@ fn number_at(site: Site, tree: &NumberTree) -> Result<i128, TagFault>
 }
 
 /// The items of an ENUMERATED with their numbers.
-#[tactic(auto, unfolding(crate::specs::ReadItems::read_items))]
+#[tactic(auto, unfolding(crate::specs::inside::ReadItems::read_items))]
 pub fn items(alloc: Global, trees: &[ItemTree]) -> Result<Vec<Named>, TagFault>
     ensures { Gives (λ v. map named_view v.items) named result (read_items (map written.item_view trees.now)) }
 {

@@ -176,7 +176,7 @@ fn with_sites(sites: Vec<Site>, site: Site, count: usize) -> Result<Vec<Site>, A
 }
 
 /// A list takes in nothing that it may not, its names differ, and there are 64 parts at most.
-#[tactic(auto, unfolding(crate::specs::ReadParts::check_list))]
+#[tactic(auto, unfolding(crate::specs::inside::ReadParts::check_list))]
 pub fn check_list(alloc: Global, site: Site, parts: &Parts) -> Result<(), TagFault>
     ensures { Gives (λ u. u) named result (reading.check_list site (parts_view parts.now)) }
 {

@@ -27,7 +27,7 @@ use std::alloc::Global;
 
 /// The type that is written, with so many types before it and with the automatic tag that it gets. The type after COMPONENTS OF doesn't count itself.
 #[cycle(walk)]
-#[tactic(auto, unfolding(crate::specs::ReadTypes::read_type))]
+#[tactic(auto, unfolding(crate::specs::inside::ReadTypes::read_type))]
 pub fn type_of(
     alloc: Global,
     scope: &Scope,
@@ -50,7 +50,7 @@ pub fn type_of(
 }
 
 #[cycle(walk)]
-#[tactic(auto, unfolding(crate::specs::ReadTypes::read_base))]
+#[tactic(auto, unfolding(crate::specs::inside::ReadTypes::read_base))]
 fn type_with(
     alloc: Global,
     scope: &Scope,
@@ -83,7 +83,7 @@ fn type_with(
 }
 
 #[cycle(walk)]
-#[tactic(auto, unfolding(crate::specs::ReadTypes::read_base))]
+#[tactic(auto, unfolding(crate::specs::inside::ReadTypes::read_base))]
 fn structure(
     alloc: Global,
     scope: &Scope,
@@ -100,7 +100,7 @@ fn structure(
 }
 
 #[cycle(walk)]
-#[tactic(auto, unfolding(crate::specs::ReadTypes::read_base))]
+#[tactic(auto, unfolding(crate::specs::inside::ReadTypes::read_base))]
 fn choice(
     alloc: Global,
     scope: &Scope,

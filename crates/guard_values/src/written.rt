@@ -62,7 +62,7 @@ fn first_fault(alloc: Global, scope: Scope, tree: &ValueTree, ty: &Ty) -> Result
 
 /// The value, its own encoding aside: each SET OF sorted, or as it is written.
 #[cycle(values)]
-#[tactic(auto, unfolding(crate::specs::Reading::read))]
+#[tactic(auto, unfolding(crate::specs::inside::Reading::read))]
 fn read(
     alloc: Global,
     scope: Scope,
@@ -78,7 +78,7 @@ fn read(
 }
 
 #[cycle(values)]
-#[tactic(auto, unfolding(crate::specs::Reading::read))]
+#[tactic(auto, unfolding(crate::specs::inside::Reading::read))]
 fn form(
     alloc: Global,
     scope: Scope,

@@ -40,5 +40,6 @@ pub mod ScalarLaws
 pub mod FormLists
 pub mod Folded
 pub mod SlotOfTypes
+pub mod ReadsBack
 pub mod LaidStanding
 pub mod OfTables

@@ -7,6 +7,7 @@ pub mod BareTypes
 pub mod Faultless
 -- ---- sets of slots
 pub mod SlotSets
+pub mod SlotRanges
 pub mod SlotSums
 pub mod Adding
 -- ---- demands as tests of one node

@@ -1,5 +1,5 @@
 -- Laws that functions with no body carry.
-use Rattle.std.specs.Prelude.{ℕ, zero, suc, ⊤, ◌+◌, ◌^◌, ◌<◌, ◌≤◌, ◌≡◌, Bool, true, false, length, Some, None, Ok, not, ◌&&◌, ◌||◌, List, [], ◌∷◌, nat_eq, IsTrue}
+use Rattle.std.specs.Prelude.{ℕ, zero, suc, ⊤, ◌+◌, ◌^◌, ◌<◌, ◌≤◌, ◌≡◌, Bool, true, false, length, Some, None, Ok, not, ◌&&◌, ◌||◌, List, [], ◌∷◌, nat_eq, nat_lt, IsTrue}
 use Rattle.guard_model.specs.AbstractType.{AbstractType, AbstractKind}
 use Rattle.guard_model.specs.AbstractValue.{AbstractValue}
 use Rattle.guard_model.specs.Kinds.{kind_of}
@@ -8,7 +8,7 @@ use Rattle.guard_der.specs.Fits.{fits, fits_kind}
 use Rattle.guard_der.specs.Sound.{is_sound}
 use Rattle.guard_eval.specs.Member.{is_member}
 use Rattle.guard_tables.specs.declared.slots.Slots.{Slots}
-use Rattle.guard_tables.specs.Slots.{none, only, added, has}
+use Rattle.guard_tables.specs.Slots.{none, only, added, below, without, has}
 use Rattle.guard_tables.specs.Demands.{Demand, by_type, Ask, Term, meets, asks_fail, terms_fail}
 use Rattle.guard_tables.specs.Spread.{spread, is_plain}
 use Rattle.guard_tables.specs.Alike.{AreConsistent}
@@ -31,6 +31,12 @@ OnlyLaw = (one slot : ℕ) → has (only one) slot ≡ nat_eq one slot
 
 abbrev pub AddedLaw : Type 0
 AddedLaw = (m k : Slots) (slot : ℕ) → has (added m k) slot ≡ (has m slot || has k slot)
+
+abbrev pub BelowLaw : Type 0
+BelowLaw = (n slot : ℕ) → n ≤ 256 → has (below n) slot ≡ nat_lt slot n
+
+abbrev pub WithoutLaw : Type 0
+WithoutLaw = (m k : Slots) (slot : ℕ) → has (without m k) slot ≡ (has m slot && not (has k slot))
 
 -- ---- demands as tests
 

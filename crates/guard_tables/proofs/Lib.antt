@@ -36,6 +36,7 @@ pub mod Pieces
 pub mod WholeSets
 pub mod RuleViews
 pub mod ScalarLaws
+pub mod ItemTests
 -- ---- formulas from lists
 pub mod FormLists
 pub mod Folded

@@ -19,6 +19,8 @@
 mod asks;
 mod asks_at_node;
 mod conditions;
+mod conditions_at_node;
+mod encoded;
 mod fault;
 mod form_terms;
 mod form_trees;

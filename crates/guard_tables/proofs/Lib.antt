@@ -43,3 +43,7 @@ pub mod Folded
 pub mod SlotOfTypes
 pub mod LaidStanding
 pub mod OfTables
+-- ---- sets of slots as words, and what an absent default fails
+pub mod SlotWords
+pub mod TermWords
+pub mod LaidWords

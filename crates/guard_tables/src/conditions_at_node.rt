@@ -27,6 +27,7 @@ use std::alloc::Global;
 
 /// The contents octets of FALSE and TRUE (X.690 8.2.2 and 11.1).
 const FALSE: u8 = 0;
+
 const TRUE: u8 = 255;
 
 /// Of the values of this kind.

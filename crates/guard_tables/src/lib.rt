@@ -36,6 +36,7 @@ mod plain;
 mod presence;
 mod range_lists;
 mod scalars;
+mod sides;
 mod simple_tests;
 mod slots;
 mod spreading;

@@ -37,6 +37,7 @@ pub mod Pieces
 pub mod WholeSets
 pub mod RuleViews
 pub mod ScalarLaws
+pub mod ItemTests
 -- ---- formulas from lists
 pub mod FormLists
 pub mod Folded
@@ -44,3 +45,7 @@ pub mod SlotOfTypes
 pub mod ReadsBack
 pub mod LaidStanding
 pub mod OfTables
+-- ---- sets of slots as words, and what an absent default fails
+pub mod SlotWords
+pub mod TermWords
+pub mod LaidWords

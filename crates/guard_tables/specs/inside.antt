@@ -7,3 +7,5 @@ pub mod NumberSets
 pub mod Scalars
 pub mod Counting
 pub mod Search
+pub mod SideViews
+pub mod SlotWords

@@ -19,6 +19,8 @@
 mod asks;
 mod asks_at_node;
 mod conditions;
+mod conditions_at_node;
+mod encoded;
 mod fault;
 mod form_terms;
 mod form_trees;
@@ -35,6 +37,7 @@ mod plain;
 mod presence;
 mod range_lists;
 mod scalars;
+mod sides;
 mod simple_tests;
 mod slots;
 mod spreading;

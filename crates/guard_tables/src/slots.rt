@@ -1,7 +1,8 @@
 //! Sets of slots: one for each thing that is asked of a value.
-ghost use Rattle.std.specs.Prelude.{◌≡◌, ◌<◌, ◌≤◌, nat_eq};
+ghost use Rattle.std.specs.Prelude.{◌≡◌, ◌<◌, nat_eq};
 ghost use Rattle.std.specs.Int.{bit_at};
 ghost use Rattle.guard_tables.specs.Slots.{none, only, added, below, without, low_bits, bits_without, has};
+ghost use Rattle.guard_tables.specs.inside.SlotWords.{InWords};
 
 /// A set of at most 256 slots.
 #[derive(Clone, Copy, Debug, PartialEq, Eq)]
@@ -94,6 +95,15 @@ impl Slots {
         } else {
             is_set(self.fourth, slot - 192)
         }
+    }
+
+    /// What proofs need to know of the words; it does nothing when it runs.
+    pub(crate) fn law_words(&self)
+        ensures { InWords self.now }
+    {
+        let _first = self.first;
+        let _second = self.second;
+        let _third = self.third;
     }
 }
 

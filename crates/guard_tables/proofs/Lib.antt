@@ -40,6 +40,7 @@ pub mod ItemTests
 -- ---- formulas from lists
 pub mod FormLists
 pub mod Folded
+pub mod FormRooms
 pub mod SlotOfTypes
 pub mod LaidStanding
 pub mod OfTables

@@ -41,6 +41,7 @@ pub mod ItemTests
 -- ---- formulas from lists
 pub mod FormLists
 pub mod Folded
+pub mod FormRooms
 pub mod SlotOfTypes
 pub mod ReadsBack
 pub mod LaidStanding

@@ -30,6 +30,8 @@ pub mod Laying
 -- ---- what nodes stand for, and one node more
 pub mod Spots
 pub mod Growing
+pub mod Comings
+pub mod LaidTypes
 -- ---- what loops gather
 pub mod Gathered
 -- ---- ranges of integers

@@ -9,3 +9,6 @@ pub mod Counting
 pub mod Search
 pub mod SideViews
 pub mod SlotWords
+pub mod Aside
+pub mod Bare
+pub mod Laid

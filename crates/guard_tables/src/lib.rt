@@ -18,13 +18,18 @@
 
 mod asks;
 mod asks_at_node;
+mod assembly;
 mod conditions;
 mod conditions_at_node;
+mod drafts;
 mod encoded;
 mod fault;
 mod form_terms;
 mod form_trees;
 mod gathering;
+mod identifiers;
+mod kinds_of_nodes;
+mod laid;
 pub mod laws;
 mod layout;
 pub mod marking_laws;
@@ -34,6 +39,7 @@ mod nodes;
 mod number_sets;
 mod parts;
 mod plain;
+mod plain_interval;
 mod presence;
 mod range_lists;
 mod scalars;

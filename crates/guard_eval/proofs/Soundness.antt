@@ -119,6 +119,9 @@ sound_parts t h =
 pub proper_keeps_base : (c : Constraint) (t : AbstractType) → IsTrue (is_proper_constraint c t) → ConstraintKeepsBase c (kind_of t)
 proper_keeps_base c t h = constraint_keeps c t h
 
+pub proper_type_keeps_base : (t : AbstractType) → IsTrue (is_proper t) → KeepsBase t
+proper_type_keeps_base t h = (proper_keeps t h).1
+
 pub sound_keeps_base : (t : AbstractType) → IsTrue (is_sound t) → KeepsBase t
 sound_keeps_base t h = (proper_keeps t (sound_parts t h).0).1
 

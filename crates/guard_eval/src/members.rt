@@ -1,14 +1,15 @@
 //! The values that a constraint allows, and the members of a type.
 ghost use Rattle.std.specs.Prelude.{◌≡◌, IsTrue};
-ghost use Rattle.guard_model.specs.TypeView.{type_view, constraint_view};
+ghost use Rattle.guard_model.specs.AbstractType.{AbstractType};
+ghost use Rattle.guard_model.specs.TypeView.{type_view, kind_view, constraint_view};
 ghost use Rattle.guard_model.specs.ValueView.{value_view};
-ghost use Rattle.guard_der.specs.Fits.{fits};
-ghost use Rattle.guard_der.specs.Sound.{is_sound, is_proper_constraint};
+ghost use Rattle.guard_der.specs.Fits.{fits, fits_kind};
+ghost use Rattle.guard_der.specs.Sound.{is_sound, is_proper, is_proper_constraint};
 ghost use Rattle.guard_model.specs.Kinds.{kind_of};
 ghost use Rattle.guard_eval.specs.Member.{holds, is_member};
 
 use super::search::{failure, failure_by};
-use guard_model::{Cons, Ty, Value};
+use guard_model::{Cons, Kind, Ty, Value};
 
 /// Whether a constraint that may stand on this type has the value, which fits the type (X.680 clauses 49 to 51).
 pub fn holds(cons: &Cons, ty: &Ty, value: &Value) -> bool
@@ -24,6 +25,26 @@ pub fn holds(cons: &Cons, ty: &Ty, value: &Value) -> bool
 /// is there.
 pub fn member(ty: &Ty, value: &Value) -> bool
     requires sound { IsTrue (is_sound (type_view ty.now)) }
+    requires fits { IsTrue (fits (type_view ty.now) (value_view value.now)) }
+    ensures { result ≡ is_member (type_view ty.now) (value_view value.now) }
+{
+    failure(ty, value).is_none()
+}
+
+// ---- as they stand inside sound types
+
+/// Whether a constraint that may stand on a type of this kind has the value, which fits the kind (X.680 clauses 49 to 51).
+pub fn holds_on_kind(cons: &Cons, kind: &Kind, value: &Value) -> bool
+    requires proper { (t : AbstractType) × (kind_of t ≡ kind_view kind.now) × IsTrue (is_proper_constraint (constraint_view cons.now) t) }
+    requires fits { IsTrue (fits_kind (kind_view kind.now) (value_view value.now)) }
+    ensures { result ≡ holds (constraint_view cons.now) (kind_view kind.now) (value_view value.now) }
+{
+    failure_by(cons, kind, value).is_none()
+}
+
+/// Whether a value that fits the proper type is a member of it. A sound type is proper, and so is each type that stands in it.
+pub fn proper_member(ty: &Ty, value: &Value) -> bool
+    requires proper { IsTrue (is_proper (type_view ty.now)) }
     requires fits { IsTrue (fits (type_view ty.now) (value_view value.now)) }
     ensures { result ≡ is_member (type_view ty.now) (value_view value.now) }
 {

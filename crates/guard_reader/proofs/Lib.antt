@@ -23,3 +23,5 @@ pub mod WholeReadings
 pub mod SimpleReadings
 pub mod Readings
 pub mod Messages
+-- ---- which types have the value
+pub mod Members

@@ -35,3 +35,9 @@ abbrev pub MessagesLaw : Type 0
 MessagesLaw =
     (p : Plan) (t : AbstractType) (os : List ℕ) → PlanFor p t → IsCovered p → IsTrue (is_sound t)
     → AllByRecursion (λ o. o < 256) os → MessageLaw p t os
+
+-- STUB: until IsCovered is gone
+abbrev pub AllMessagesLaw : Type 0
+AllMessagesLaw =
+    (p : Plan) (t : AbstractType) (os : List ℕ) → PlanFor p t → IsTrue (is_sound t)
+    → AllByRecursion (λ o. o < 256) os → MessageLaw p t os

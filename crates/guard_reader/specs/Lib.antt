@@ -5,5 +5,6 @@ pub mod Judging
 pub mod Covered
 -- ---- what it tells
 pub mod Laws
+pub mod Marking
 -- ---- what only private contracts and proofs cite
 pub mod inside

@@ -11,7 +11,7 @@
 //! | Do the elements of a SET OF ascend? | `order.rt` | of `guard_der` `specs/Fits.antt` |
 //! | What is asked of a value that has parts as a whole? | `whole.rt` | `specs/Judging.antt` |
 //! | Is it a default, and what do formulas say? | `conditions.rt` | of `guard_tables` `specs/Formulas.antt` |
-//! | Which types have the value? | `marks.rt` | of `guard_tables` `specs/Slots.antt` |
+//! | Which types of a table have the value? | `table_walk.rt` (`walk`), `marks.rt` | `specs/Marking.antt` |
 //! | Does each octet lie in one of some ranges? | `alphabet.rt` (`all_in`) | of `guard_eval` `specs/Elements.antt` |
 //! | What does a pass tell? | `laws.rt` | `specs/Laws.antt` |
 #![tactic(auto)]
@@ -26,9 +26,11 @@ mod numbers;
 mod object_id;
 mod order;
 mod simple;
+mod table_walk;
 mod walking;
 mod whole;
 
 pub use alphabet::all_in;
 pub use marks::Marks;
+pub use table_walk::walk;
 pub use walking::failures;

@@ -17,7 +17,7 @@ rest_of cs = constraints_of (map constraint_view cs)
 
 -- ---- all of them
 
-all_more : (k n : ℕ) (kind : AbstractKind) (cs : List Cons) (i : ℕ) (c : Cons) → i < length cs → c ≡ get_or cs i c
+pub all_more : (k n : ℕ) (kind : AbstractKind) (cs : List Cons) (i : ℕ) (c : Cons) → i < length cs → c ≡ get_or cs i c
     → form_all k n kind (rest_of (drop i cs)) ≡ joined (form_one k n kind (constraint_view c)) (λ m. form_all k m kind (rest_of (drop (i + 1) cs)))
 all_more k n kind cs i c lt is =
     at_drop_more (λ (ds : List Cons). form_all k n kind (rest_of ds)) cs i c lt ∙ ap (λ (d : Cons). form_all k n kind (rest_of (d ∷ drop (i + 1) cs))) (sym is)
@@ -56,7 +56,7 @@ all_done k n kind cs i old new form fs f ends terms besides next is =
 
 -- ---- one of them
 
-some_more : (n : ℕ) (kind : AbstractKind) (cs : List Cons) (i : ℕ) (c : Cons) → i < length cs → c ≡ get_or cs i c
+pub some_more : (n : ℕ) (kind : AbstractKind) (cs : List Cons) (i : ℕ) (c : Cons) → i < length cs → c ≡ get_or cs i c
     → form_some n kind (rest_of (drop i cs)) ≡ or_else n (form_one n (suc n) kind (constraint_view c)) (λ m. form_some m kind (rest_of (drop (i + 1) cs)))
 some_more n kind cs i c lt is =
     at_drop_more (λ (ds : List Cons). form_some n kind (rest_of ds)) cs i c lt ∙ ap (λ (d : Cons). form_some n kind (rest_of (d ∷ drop (i + 1) cs))) (sym is)

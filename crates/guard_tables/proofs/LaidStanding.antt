@@ -32,10 +32,10 @@ use Rattle.guard_tables.specs.Spread.{are_plain_asks}
 use Rattle.guard_tables.specs.Forms.{forms_of}
 use Rattle.guard_tables.specs.Handed.{each_of, within_of, terms_at}
 use Rattle.guard_tables.specs.Lay.{conditions_of, absent_of, present_of, inside_octets, side_for, formulas_over, nameless, lay, lay_kind, lay_parts, lay_alternatives}
-use Rattle.guard_tables.specs.Laws.{ReadsBack}
 use Rattle.guard_tables.proofs.SlotSums.{added_again}
 use Rattle.guard_tables.proofs.Adding.{adds_type}
 use Rattle.guard_tables.proofs.Telling.{HasContents, standing_contents, one_contents, one_encoding}
+use Rattle.guard_tables.proofs.ReadsBack.{contents_back, inside_back}
 use Rattle.guard_tables.proofs.Laying.{IsWell, IsWellKind, well_kind, well_sound, none_of_two}
 
 -- ---- defaults
@@ -47,25 +47,25 @@ told d v stored os encode is_d is_v one =
     (λ h. let both : stored ≡ os = same_Some stored os (sym is_d ∙ ap encode (equal_values d v h) ∙ is_v) in subst (λ (x : List ℕ). same_numbers stored x ≡ true) both (same_numbers_itself stored))
     (λ h. let is : d ≡ v = one (is_v ∙ ap (λ (x : List ℕ). Some x) (sym (equal_numbers stored os h))) in subst (λ (x : AbstractValue). same d x ≡ true) is (same_itself d))
 
-contents_tell : ReadsBack → (kind : AbstractKind) → IsWellKind kind → (d : AbstractValue) (c : HasContents kind d) → IsTrue (fits_kind kind d) → Tells [] kind d c.octets
-contents_tell r kind w d c fit at start os v digits short e =
-    let back = r.contents kind at start os v w.0 w.1 digits short e in
+contents_tell : (kind : AbstractKind) → IsWellKind kind → (d : AbstractValue) (c : HasContents kind d) → IsTrue (fits_kind kind d) → Tells [] kind d c.octets
+contents_tell kind w d c fit at start os v digits short e =
+    let back = contents_back kind at start os v w.0 w.1 digits short e in
     told d v c.octets os (contents_octets kind) c.are back.1 (λ same_as. one_contents kind w.0 w.1 d v c.octets fit back.0 c.are same_as c.short)
 
-default_bare : ReadsBack → (kind : AbstractKind) → IsWellKind kind → (d : AbstractValue) (c : HasContents kind d) → IsTrue (fits_kind kind d) → DefaultFor (inside_octets [] kind d) [] kind d
-default_bare r kind w d c fit = subst (λ (o : Option (List ℕ)). DefaultFor o [] kind d) (sym c.are) (contents_tell r kind w d c fit)
+default_bare : (kind : AbstractKind) → IsWellKind kind → (d : AbstractValue) (c : HasContents kind d) → IsTrue (fits_kind kind d) → DefaultFor (inside_octets [] kind d) [] kind d
+default_bare kind w d c fit = subst (λ (o : Option (List ℕ)). DefaultFor o [] kind d) (sym c.are) (contents_tell kind w d c fit)
 
-default_tagged : ReadsBack → (t : Tag) (kind : AbstractKind) → IsWellKind kind → (d : AbstractValue) (c : HasContents kind d) → IsTrue (fits_kind kind d) → DefaultFor (inside_octets (t ∷ []) kind d) (t ∷ []) kind d
-default_tagged r t kind w d c fit =
-    subst (λ (o : Option (List ℕ)). DefaultFor o (t ∷ []) kind d) (sym (ap (option_and_then (tagged [] (is_constructed kind))) c.are)) (contents_tell r kind w d c fit)
+default_tagged : (t : Tag) (kind : AbstractKind) → IsWellKind kind → (d : AbstractValue) (c : HasContents kind d) → IsTrue (fits_kind kind d) → DefaultFor (inside_octets (t ∷ []) kind d) (t ∷ []) kind d
+default_tagged t kind w d c fit =
+    subst (λ (o : Option (List ℕ)). DefaultFor o (t ∷ []) kind d) (sym (ap (option_and_then (tagged [] (is_constructed kind))) c.are)) (contents_tell kind w d c fit)
 
 some_inside : (t : Tag) (o : Option (List ℕ)) → IsTrue (is_short (option_and_then (element t true) o)) → (z : List ℕ) × (o ≡ Some z)
 some_inside t None h = absurd cc
 some_inside t (Some z) h = (z, refl)
 
-default_wrapped : ReadsBack → (t u : Tag) (ts : List Tag) (kind : AbstractKind) → IsWellKind kind → are_low (t ∷ u ∷ ts) ≡ true → (d : AbstractValue) (c : HasContents kind d) → IsTrue (fits_kind kind d)
+default_wrapped : (t u : Tag) (ts : List Tag) (kind : AbstractKind) → IsWellKind kind → are_low (t ∷ u ∷ ts) ≡ true → (d : AbstractValue) (c : HasContents kind d) → IsTrue (fits_kind kind d)
     → IsTrue (is_short (der (type_of (t ∷ u ∷ ts) kind no_constraints) d)) → DefaultFor (inside_octets (t ∷ u ∷ ts) kind d) (t ∷ u ∷ ts) kind d
-default_wrapped r t u ts kind w low d c fit short =
+default_wrapped t u ts kind w low d c fit short =
     let inner : AbstractType = type_of (u ∷ ts) kind no_constraints in
     let low_inside : are_low (u ∷ ts) ≡ true = (and_parts (nat_le t.number 268435455) (are_low (u ∷ ts)) low).1 in
     let proper : is_proper inner ≡ true = ap (λ (b : Bool). b && true && is_proper_kind kind) low_inside ∙ w.0 in
@@ -74,15 +74,15 @@ default_wrapped r t u ts kind w low d c fit short =
     let stored : inside_octets (t ∷ u ∷ ts) kind d ≡ Some z.0 = ap (option_and_then (tagged (u ∷ ts) (is_constructed kind))) c.are ∙ z.1 in
     let tells : Tells (t ∷ u ∷ ts) kind d z.0 =
     λ at start os v digits short e.
-    let back = r.inside u ts kind start os v low_inside w.0 w.1 digits e in
+    let back = inside_back u ts kind start os v low_inside w.0 w.1 digits e in
     told d v z.0 os (der inner) encoded back.1 (λ same_as. one_encoding inner proper w.1 d v z.0 fit back.0 encoded same_as) in
     subst (λ (o : Option (List ℕ)). DefaultFor o (t ∷ u ∷ ts) kind d) (sym stored) tells
 
-default_for : ReadsBack → (tags : List Tag) (kind : AbstractKind) → IsWellKind kind → are_low tags ≡ true → (d : AbstractValue) → IsTrue (fits_kind kind d) → IsTrue (is_short (der (type_of tags kind no_constraints) d)) → HasContents kind d
+default_for : (tags : List Tag) (kind : AbstractKind) → IsWellKind kind → are_low tags ≡ true → (d : AbstractValue) → IsTrue (fits_kind kind d) → IsTrue (is_short (der (type_of tags kind no_constraints) d)) → HasContents kind d
     → DefaultFor (inside_octets tags kind d) tags kind d
-default_for r [] kind w low d fit short c = default_bare r kind w d c fit
-default_for r (t ∷ []) kind w low d fit short c = default_tagged r t kind w d c fit
-default_for r (t ∷ u ∷ ts) kind w low d fit short c = default_wrapped r t u ts kind w low d c fit short
+default_for [] kind w low d fit short c = default_bare kind w d c fit
+default_for (t ∷ []) kind w low d fit short c = default_tagged t kind w d c fit
+default_for (t ∷ u ∷ ts) kind w low d fit short c = default_wrapped t u ts kind w low d c fit short
 
 low_tags : (tags : List Tag) (kind : AbstractKind) (cons : Constraints) → is_proper (type_of tags kind cons) ≡ true → are_low tags ≡ true
 low_tags tags kind cons e =
@@ -94,17 +94,17 @@ absent_as_default : (t : AbstractType) (p : Plan) (d : AbstractValue) (present m
 absent_as_default t p d present m =
     adds_type t p d (added m present) ∙ added_again m present (type_marked t p d slots.none) ∙ ap (added m) (sym (adds_type t p d present))
 
-side_stands : ReadsBack → (tags : List Tag) (kind : AbstractKind) (cons : Constraints) (presence : AbstractPresence) → IsWell (type_of tags kind cons) → IsTrue (is_proper_presence (type_of tags kind cons) presence)
+side_stands : (tags : List Tag) (kind : AbstractKind) (cons : Constraints) (presence : AbstractPresence) → IsWell (type_of tags kind cons) → IsTrue (is_proper_presence (type_of tags kind cons) presence)
     → (body : Body) (absent present : Slots)
     → SideFor (side_for (type_of tags kind cons) presence (plan tags (is_constructed kind) body) absent present) (plan tags (is_constructed kind) body) tags kind presence
 unfolding type_marked
-side_stands r tags kind cons type.mandatory w h body absent present = (refl, refl)
-side_stands r tags kind cons type.optional w h body absent present = (refl, refl)
-side_stands r tags kind cons type.pending w h body absent present = absurd cc
-side_stands r tags kind cons (type.default d) w h body absent present =
+side_stands tags kind cons type.mandatory w h body absent present = (refl, refl)
+side_stands tags kind cons type.optional w h body absent present = (refl, refl)
+side_stands tags kind cons type.pending w h body absent present = absurd cc
+side_stands tags kind cons (type.default d) w h body absent present =
     let t : AbstractType = type_of tags kind cons in
     let a = and_parts (fits t d) (is_short (der t d)) h in
-    (refl, default_for r tags kind (well_kind tags kind cons w) (low_tags tags kind cons w.0) d a.0 a.1 (standing_contents kind t d refl h), absent_as_default t (plan tags (is_constructed kind) body) d present)
+    (refl, default_for tags kind (well_kind tags kind cons w) (low_tags tags kind cons w.0) d a.0 a.1 (standing_contents kind t d refl h), absent_as_default t (plan tags (is_constructed kind) body) d present)
 
 -- ---- simple kinds
 
@@ -126,8 +126,8 @@ formulas_for : (plain : Bool) (asks : List Ask) (b : Body) (kind : AbstractKind)
 formulas_for true asks b kind h = h
 formulas_for false asks b kind h = h
 
-spells_for : ReadsBack → (kind : AbstractKind) → IsWellKind kind → Spells kind
-spells_for r kind w at start os v digits short e = (r.contents kind at start os v w.0 w.1 digits short e).1
+spells_for : (kind : AbstractKind) → IsWellKind kind → Spells kind
+spells_for kind w at start os v digits short e = (contents_back kind at start os v w.0 w.1 digits short e).1
 
 abbrev IsWellList : Components → ℕ → Type 0
 IsWellList cs i = (are_proper cs ≡ true) × (clash_inside i cs ≡ None)
@@ -135,54 +135,54 @@ IsWellList cs i = (are_proper cs ≡ true) × (clash_inside i cs ≡ None)
 well_list : (in_sequence : Bool) (cs : Components) → (nat_le (component_count cs) 64 && are_proper cs) ≡ true → option_or (here (first_pair in_sequence 0 cs)) (clash_inside 0 cs) ≡ None → IsWellList cs 0
 well_list in_sequence cs e clear = ((and_parts (nat_le (component_count cs) 64) (are_proper cs) e).1, (none_of_two (here (first_pair in_sequence 0 cs)) (clash_inside 0 cs) clear).1)
 
-one_part : ReadsBack → (name : List ℕ) (t : AbstractType) (presence : AbstractPresence) (cs : Components) → IsWell t → IsTrue (is_proper_presence t presence) → (asks : List Ask) (absent present : Slots) (ps : Parts)
+one_part : (name : List ℕ) (t : AbstractType) (presence : AbstractPresence) (cs : Components) → IsWell t → IsTrue (is_proper_presence t presence) → (asks : List Ask) (absent present : Slots) (ps : Parts)
     → PlanFor (lay t asks) t → PartsFor ps cs → PartsFor (part (side_for t presence (lay t asks) absent present) (lay t asks) ps) (component name t presence cs)
-one_part r name (type_of tags kind cons) presence cs w h asks absent present ps stands rest =
-    (stands, side_stands r tags kind cons presence w h (formulas_over asks (lay_kind kind (terms_at asks))) absent present, rest)
+one_part name (type_of tags kind cons) presence cs w h asks absent present ps stands rest =
+    (stands, side_stands tags kind cons presence w h (formulas_over asks (lay_kind kind (terms_at asks))) absent present, rest)
 
 mutual
-  type_stands : ReadsBack → (t : AbstractType) → IsWell t → (asks : List Ask) → PlanFor (lay t asks) t
-  type_stands r (type_of tags kind cons) w asks =
-      (refl, refl, formulas_for (are_plain_asks asks) asks (lay_kind kind (terms_at asks)) kind (kind_stands r kind (well_kind tags kind cons w) (terms_at asks)))
+  type_stands : (t : AbstractType) → IsWell t → (asks : List Ask) → PlanFor (lay t asks) t
+  type_stands (type_of tags kind cons) w asks =
+      (refl, refl, formulas_for (are_plain_asks asks) asks (lay_kind kind (terms_at asks)) kind (kind_stands kind (well_kind tags kind cons w) (terms_at asks)))
 
-  kind_stands : ReadsBack → (kind : AbstractKind) → IsWellKind kind → (ts : List Term) → BodyFor (lay_kind kind ts) kind
-  kind_stands r type.boolean w ts = tt
-  kind_stands r (type.integer names) w ts = tt
-  kind_stands r (type.bit_string names) w ts = bare_bits names
-  kind_stands r type.octet_string w ts = tt
-  kind_stands r type.null w ts = tt
-  kind_stands r type.object_identifier w ts = tt
-  kind_stands r (type.enumerated items) w ts = same_items items
-  kind_stands r (type.characters k) w ts = refl
-  kind_stands r (type.sequence cs) w ts =
-      asked_for (conditions_of (type.sequence cs) ts) (series (lay_parts 0 cs ts)) (type.sequence cs) (spells_for r (type.sequence cs) w) (parts_stand r 0 cs (well_list true cs w.0 w.1) ts)
-  kind_stands r (type.set cs) w ts =
-      asked_for (conditions_of (type.set cs) ts) (set (lay_parts 0 cs ts)) (type.set cs) (spells_for r (type.set cs) w) (parts_stand r 0 cs (well_list false cs w.0 w.1) ts)
-  kind_stands r (type.choice cs) w ts =
-      asked_for (conditions_of (type.choice cs) ts) (choice (lay_alternatives 0 cs ts)) (type.choice cs) (spells_for r (type.choice cs) w) (alternatives_stand r 0 cs (well_list false cs w.0 w.1) ts)
-  kind_stands r (type.sequence_of t) w ts =
-      asked_for (conditions_of (type.sequence_of t) ts) (list (lay t (each_of ts))) (type.sequence_of t) (spells_for r (type.sequence_of t) w)
-      (type_stands r t (w.0, inside_none (Element 0) (first_clash t) w.1) (each_of ts))
-  kind_stands r (type.set_of t) w ts =
-      asked_for (conditions_of (type.set_of t) ts) (set_of (lay t (each_of ts))) (type.set_of t) (spells_for r (type.set_of t) w)
-      (type_stands r t (w.0, inside_none (Element 0) (first_clash t) w.1) (each_of ts))
+  kind_stands : (kind : AbstractKind) → IsWellKind kind → (ts : List Term) → BodyFor (lay_kind kind ts) kind
+  kind_stands type.boolean w ts = tt
+  kind_stands (type.integer names) w ts = tt
+  kind_stands (type.bit_string names) w ts = bare_bits names
+  kind_stands type.octet_string w ts = tt
+  kind_stands type.null w ts = tt
+  kind_stands type.object_identifier w ts = tt
+  kind_stands (type.enumerated items) w ts = same_items items
+  kind_stands (type.characters k) w ts = refl
+  kind_stands (type.sequence cs) w ts =
+      asked_for (conditions_of (type.sequence cs) ts) (series (lay_parts 0 cs ts)) (type.sequence cs) (spells_for (type.sequence cs) w) (parts_stand 0 cs (well_list true cs w.0 w.1) ts)
+  kind_stands (type.set cs) w ts =
+      asked_for (conditions_of (type.set cs) ts) (set (lay_parts 0 cs ts)) (type.set cs) (spells_for (type.set cs) w) (parts_stand 0 cs (well_list false cs w.0 w.1) ts)
+  kind_stands (type.choice cs) w ts =
+      asked_for (conditions_of (type.choice cs) ts) (choice (lay_alternatives 0 cs ts)) (type.choice cs) (spells_for (type.choice cs) w) (alternatives_stand 0 cs (well_list false cs w.0 w.1) ts)
+  kind_stands (type.sequence_of t) w ts =
+      asked_for (conditions_of (type.sequence_of t) ts) (list (lay t (each_of ts))) (type.sequence_of t) (spells_for (type.sequence_of t) w)
+      (type_stands t (w.0, inside_none (Element 0) (first_clash t) w.1) (each_of ts))
+  kind_stands (type.set_of t) w ts =
+      asked_for (conditions_of (type.set_of t) ts) (set_of (lay t (each_of ts))) (type.set_of t) (spells_for (type.set_of t) w)
+      (type_stands t (w.0, inside_none (Element 0) (first_clash t) w.1) (each_of ts))
 
-  parts_stand : ReadsBack → (i : ℕ) (cs : Components) → IsWellList cs i → (ts : List Term) → PartsFor (lay_parts i cs ts) cs
-  parts_stand r i no_components w ts = tt
-  parts_stand r i (component name t presence cs) w ts =
+  parts_stand : (i : ℕ) (cs : Components) → IsWellList cs i → (ts : List Term) → PartsFor (lay_parts i cs ts) cs
+  parts_stand i no_components w ts = tt
+  parts_stand i (component name t presence cs) w ts =
       let p = and_parts (is_proper t && is_proper_presence t presence) (are_proper cs) w.0 in
       let q = and_parts (is_proper t) (is_proper_presence t presence) p.0 in
       let n = none_of_two (inside (Component i) (first_clash t)) (clash_inside (suc i) cs) w.1 in
       let well : IsWell t = (q.0, inside_none (Component i) (first_clash t) n.0) in
-      one_part r name t presence cs well q.1 (within_of i ts) (absent_of i ts) (present_of i ts) (lay_parts (suc i) cs ts) (type_stands r t well (within_of i ts)) (parts_stand r (suc i) cs (p.1, n.1) ts)
+      one_part name t presence cs well q.1 (within_of i ts) (absent_of i ts) (present_of i ts) (lay_parts (suc i) cs ts) (type_stands t well (within_of i ts)) (parts_stand (suc i) cs (p.1, n.1) ts)
 
-  alternatives_stand : ReadsBack → (i : ℕ) (cs : Components) → IsWellList cs i → (ts : List Term) → AlternativesFor (lay_alternatives i cs ts) cs
-  alternatives_stand r i no_components w ts = tt
-  alternatives_stand r i (component name t presence cs) w ts =
+  alternatives_stand : (i : ℕ) (cs : Components) → IsWellList cs i → (ts : List Term) → AlternativesFor (lay_alternatives i cs ts) cs
+  alternatives_stand i no_components w ts = tt
+  alternatives_stand i (component name t presence cs) w ts =
       let p = and_parts (is_proper t && is_proper_presence t presence) (are_proper cs) w.0 in
       let q = and_parts (is_proper t) (is_proper_presence t presence) p.0 in
       let n = none_of_two (inside (Component i) (first_clash t)) (clash_inside (suc i) cs) w.1 in
-      (type_stands r t (q.0, inside_none (Component i) (first_clash t) n.0) (within_of i ts), alternatives_stand r (suc i) cs (p.1, n.1) ts)
+      (type_stands t (q.0, inside_none (Component i) (first_clash t) n.0) (within_of i ts), alternatives_stand (suc i) cs (p.1, n.1) ts)
 
-pub stands_law : ReadsBack → (t : AbstractType) → IsTrue (is_sound t) → (asks : List Ask) → PlanFor (lay t asks) t
-stands_law r t sound asks = type_stands r t (well_sound t sound) asks
+pub stands_law : (t : AbstractType) → IsTrue (is_sound t) → (asks : List Ask) → PlanFor (lay t asks) t
+stands_law t sound asks = type_stands t (well_sound t sound) asks

@@ -7,6 +7,7 @@ pub mod BareTypes
 pub mod Faultless
 -- ---- sets of slots
 pub mod SlotSets
+pub mod SlotRanges
 pub mod SlotSums
 pub mod Adding
 -- ---- demands as tests of one node
@@ -29,6 +30,8 @@ pub mod Laying
 -- ---- what nodes stand for, and one node more
 pub mod Spots
 pub mod Growing
+pub mod Comings
+pub mod LaidTypes
 -- ---- what loops gather
 pub mod Gathered
 -- ---- ranges of integers
@@ -36,9 +39,16 @@ pub mod Pieces
 pub mod WholeSets
 pub mod RuleViews
 pub mod ScalarLaws
+pub mod ItemTests
 -- ---- formulas from lists
 pub mod FormLists
 pub mod Folded
+pub mod FormRooms
 pub mod SlotOfTypes
+pub mod ReadsBack
 pub mod LaidStanding
 pub mod OfTables
+-- ---- sets of slots as words, and what an absent default fails
+pub mod SlotWords
+pub mod TermWords
+pub mod LaidWords

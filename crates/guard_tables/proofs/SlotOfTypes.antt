@@ -20,7 +20,7 @@ use Rattle.guard_tables.proofs.Bases.{base_is}
 use Rattle.guard_tables.proofs.Speaking.{proper_of_sound}
 use Rattle.guard_tables.proofs.Laying.{lay_law}
 
-types_apt : (declared : AbstractType) (n : ℕ) (types : List AbstractType) → AllMayJudge declared types → AreApt (kind_of declared) (asks_from n types)
+pub types_apt : (declared : AbstractType) (n : ℕ) (types : List AbstractType) → AllMayJudge declared types → AreApt (kind_of declared) (asks_from n types)
 types_apt declared n [] h = tt
 types_apt declared n (t ∷ ts) h = ((base_is t declared h.0, proper_of_sound t h.1), types_apt declared (suc n) ts h.2)
 

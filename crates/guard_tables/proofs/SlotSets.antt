@@ -18,13 +18,13 @@ by_word false false true a b c d = refl
 by_word false false false a b c d = refl
 
 -- what each word of a set says of a slot
-record Words (m : Slots) (slot : ℕ) (a b c d : Bool) : Type 0 where
-  first : eqb (bit_at m.first slot) 1 ≡ a
-  second : eqb (bit_at m.second (slot - 64)) 1 ≡ b
-  third : eqb (bit_at m.third (slot - 128)) 1 ≡ c
-  fourth : eqb (bit_at m.fourth (slot - 192)) 1 ≡ d
+pub record Words (m : Slots) (slot : ℕ) (a b c d : Bool) : Type 0 where
+  pub first : eqb (bit_at m.first slot) 1 ≡ a
+  pub second : eqb (bit_at m.second (slot - 64)) 1 ≡ b
+  pub third : eqb (bit_at m.third (slot - 128)) 1 ≡ c
+  pub fourth : eqb (bit_at m.fourth (slot - 192)) 1 ≡ d
 
-has_word : (m : Slots) (slot : ℕ) (a b c d : Bool) → Words m slot a b c d → has m slot ≡ cond (ltb slot 64) a (cond (ltb slot 128) b (cond (ltb slot 192) c d))
+pub has_word : (m : Slots) (slot : ℕ) (a b c d : Bool) → Words m slot a b c d → has m slot ≡ cond (ltb slot 64) a (cond (ltb slot 128) b (cond (ltb slot 192) c d))
 unfolding has
 has_word m slot a b c d w =
     by_word (ltb slot 64) (ltb slot 128) (ltb slot 192) (bit_at m.first slot) (bit_at m.second (slot - 64)) (bit_at m.third (slot - 128)) (bit_at m.fourth (slot - 192))
@@ -63,7 +63,7 @@ shifted n k i p q = elim (eqb_tells k i) [
 apart : (k i : ℕ) → k ≢ i → false ≡ eqb k i
 apart k i h = sym (ne_eqb k i h)
 
-by_place : (w x y : Bool) (a b c d r : Bool) → (w ≡ true → a ≡ r) → (w ≡ false → x ≡ true → b ≡ r) → (x ≡ false → y ≡ true → c ≡ r) → (y ≡ false → d ≡ r) → cond w a (cond x b (cond y c d)) ≡ r
+pub by_place : (w x y : Bool) (a b c d r : Bool) → (w ≡ true → a ≡ r) → (w ≡ false → x ≡ true → b ≡ r) → (x ≡ false → y ≡ true → c ≡ r) → (y ≡ false → d ≡ r) → cond w a (cond x b (cond y c d)) ≡ r
 by_place true x y a b c d r p q s u = p refl
 by_place false true y a b c d r p q s u = q refl refl
 by_place false false true a b c d r p q s u = s refl refl
@@ -102,13 +102,13 @@ in_fourth k i low =
     (λ y. shifted 192 k i low (ltb-false i 192 y))
 
 -- what holds of each of four words holds of the one that is chosen
-of_chosen : (w x y : Bool) (a b c d : Slots) (Holds : Slots → Type 0) → (w ≡ true → Holds a) → (w ≡ false → x ≡ true → Holds b) → (x ≡ false → y ≡ true → Holds c) → (y ≡ false → Holds d) → Holds (cond w a (cond x b (cond y c d)))
+pub of_chosen : (w x y : Bool) (a b c d : Slots) (Holds : Slots → Type 0) → (w ≡ true → Holds a) → (w ≡ false → x ≡ true → Holds b) → (x ≡ false → y ≡ true → Holds c) → (y ≡ false → Holds d) → Holds (cond w a (cond x b (cond y c d)))
 of_chosen true x y a b c d Holds p q s u = p refl
 of_chosen false true y a b c d Holds p q s u = q refl refl
 of_chosen false false true a b c d Holds p q s u = s refl refl
 of_chosen false false false a b c d Holds p q s u = u refl
 
-abbrev one_word : ℕ → ℕ → ℕ → ℕ → Slots
+abbrev pub one_word : ℕ → ℕ → ℕ → ℕ → Slots
 one_word a b c d = record { first = a; second = b; third = c; fourth = d }
 
 pub only_law : (k i : ℕ) → has (only k) i ≡ eqb k i
@@ -144,8 +144,14 @@ or_by_word false true y a b c d e f g h = refl
 or_by_word false false true a b c d e f g h = refl
 or_by_word false false false a b c d e f g h = refl
 
-own_words : (m : Slots) (slot : ℕ) → Words m slot (eqb (bit_at m.first slot) 1) (eqb (bit_at m.second (slot - 64)) 1) (eqb (bit_at m.third (slot - 128)) 1) (eqb (bit_at m.fourth (slot - 192)) 1)
+pub own_words : (m : Slots) (slot : ℕ) → Words m slot (eqb (bit_at m.first slot) 1) (eqb (bit_at m.second (slot - 64)) 1) (eqb (bit_at m.third (slot - 128)) 1) (eqb (bit_at m.fourth (slot - 192)) 1)
 own_words m slot = record { first = refl; second = refl; third = refl; fourth = refl }
+
+-- the word of its slot says whether a set has it
+pub word_told : (m : Slots) (slot : ℕ)
+    → has m slot ≡ cond (ltb slot 64) (eqb (bit_at m.first slot) 1) (cond (ltb slot 128) (eqb (bit_at m.second (slot - 64)) 1)
+    (cond (ltb slot 192) (eqb (bit_at m.third (slot - 128)) 1) (eqb (bit_at m.fourth (slot - 192)) 1)))
+word_told m slot = has_word m slot _ _ _ _ (own_words m slot)
 
 both_of : (a b c d : Bool) → a ≡ c → b ≡ d → (a || b) ≡ (c || d)
 both_of a b c d e f = rw (e, f) refl

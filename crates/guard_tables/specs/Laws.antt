@@ -1,21 +1,14 @@
 -- Laws that functions with no body carry.
-use Rattle.std.specs.Prelude.{ℕ, zero, suc, ⊤, ◌+◌, ◌^◌, ◌<◌, ◌≤◌, ◌≡◌, Bool, true, false, length, Some, None, Ok, not, ◌&&◌, ◌||◌, List, [], ◌∷◌, nat_eq, IsTrue}
-use Rattle.std.specs.List.{AllByRecursion}
-use Rattle.guard_model.specs.declared.tag.Tag.{Tag}
-use Rattle.guard_model.specs.Tags.{same_tag}
-use Rattle.guard_model.specs.AbstractType.{AbstractType, AbstractKind, type_of, no_constraints}
+use Rattle.std.specs.Prelude.{ℕ, zero, suc, ⊤, ◌+◌, ◌^◌, ◌<◌, ◌≤◌, ◌≡◌, Bool, true, false, length, Some, None, Ok, not, ◌&&◌, ◌||◌, List, [], ◌∷◌, nat_eq, nat_lt, IsTrue}
+use Rattle.guard_model.specs.AbstractType.{AbstractType, AbstractKind}
 use Rattle.guard_model.specs.AbstractValue.{AbstractValue}
 use Rattle.guard_model.specs.Kinds.{kind_of}
 use Rattle.guard_model.specs.SameBase.{HasSameBase}
-use Rattle.guard_tagcheck.specs.Limits.{are_low}
-use Rattle.guard_tagcheck.specs.Search.{clash_of_kind}
-use Rattle.guard_der.specs.Der.{der, contents_octets, is_constructed}
 use Rattle.guard_der.specs.Fits.{fits, fits_kind}
-use Rattle.guard_der.specs.Reading.{contents_at, untagged_at, tags_at, alone_at}
-use Rattle.guard_der.specs.Sound.{is_proper_kind, is_sound}
+use Rattle.guard_der.specs.Sound.{is_sound}
 use Rattle.guard_eval.specs.Member.{is_member}
 use Rattle.guard_tables.specs.declared.slots.Slots.{Slots}
-use Rattle.guard_tables.specs.Slots.{none, only, added, has}
+use Rattle.guard_tables.specs.Slots.{none, only, added, below, without, has}
 use Rattle.guard_tables.specs.Demands.{Demand, by_type, Ask, Term, meets, asks_fail, terms_fail}
 use Rattle.guard_tables.specs.Spread.{spread, is_plain}
 use Rattle.guard_tables.specs.Alike.{AreConsistent}
@@ -38,6 +31,12 @@ OnlyLaw = (one slot : ℕ) → has (only one) slot ≡ nat_eq one slot
 
 abbrev pub AddedLaw : Type 0
 AddedLaw = (m k : Slots) (slot : ℕ) → has (added m k) slot ≡ (has m slot || has k slot)
+
+abbrev pub BelowLaw : Type 0
+BelowLaw = (n slot : ℕ) → n ≤ 256 → has (below n) slot ≡ nat_lt slot n
+
+abbrev pub WithoutLaw : Type 0
+WithoutLaw = (m k : Slots) (slot : ℕ) → has (without m k) slot ≡ (has m slot && not (has k slot))
 
 -- ---- demands as tests
 
@@ -134,21 +133,6 @@ TableRoomLaw = (declared : AbstractType) (rules : List AbstractType) → AreCons
 
 -- ---- which type a plan stands for
 
-abbrev pub AreOctets : List ℕ → Type 0
-AreOctets os = AllByRecursion (λ o. o < 256) os
-
--- What reading gives, of a proper kind whose tags don't clash: a value that fits, of which these are the contents
--- octets, or, in an element of these tags, the encoding.
-pub record ReadsBack : Type 0 where
-  pub contents : (kind : AbstractKind) (at start : ℕ) (os : List ℕ) (v : AbstractValue)
-      → is_proper_kind kind ≡ true → clash_of_kind kind ≡ None → AreOctets os → length os < 2 ^ 32
-      → contents_at kind at start os ≡ Ok v → IsTrue (fits_kind kind v) × (contents_octets kind v ≡ Some os)
-  pub inside : (u : Tag) (ts : List Tag) (kind : AbstractKind) (start : ℕ) (os : List ℕ) (v : AbstractValue)
-      → are_low (u ∷ ts) ≡ true → is_proper_kind kind ≡ true → clash_of_kind kind ≡ None → AreOctets os
-      → alone_at (same_tag u) (tags_at (u ∷ ts) (is_constructed kind) (contents_at kind) (untagged_at kind)) start os
-      ≡ Ok v
-      → IsTrue (fits_kind kind v) × (der (type_of (u ∷ ts) kind no_constraints) v ≡ Some os)
-
 -- The plan that is laid for a sound type stands for the type, whatever is asked.
 abbrev pub StandsLaw : Type 0
-StandsLaw = ReadsBack → (t : AbstractType) → IsTrue (is_sound t) → (asks : List Ask) → PlanFor (lay t asks) t
+StandsLaw = (t : AbstractType) → IsTrue (is_sound t) → (asks : List Ask) → PlanFor (lay t asks) t

@@ -25,6 +25,7 @@ pub mod TableView
 pub mod Alike
 -- ---- what plans of tables fail
 pub mod Laws
+pub mod StandsFor
 -- ---- what only private contracts and proofs cite
 pub mod inside
 -- ---- worked examples

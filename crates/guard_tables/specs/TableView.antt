@@ -4,6 +4,13 @@ use Rattle.guard_model.specs.AbstractType.{AbstractType}
 use Rattle.guard_model.specs.TypeView.{type_view}
 use Rattle.guard_tables.specs.declared.table.Table.{Table}
 
--- the list of its types: the declared one, then those of the rules in order
+abbrev pub declared_of : Table → AbstractType
+declared_of table = type_view table.declared
+
+-- in order
+abbrev pub rules_of : Table → List AbstractType
+rules_of table = map type_view table.rules.items
+
+-- the list of its types: the declared one, then those of the rules
 abbrev pub table_types : Table → List AbstractType
-table_types table = type_view table.declared ∷ map type_view table.rules.items
+table_types table = declared_of table ∷ rules_of table

@@ -7,3 +7,8 @@ pub mod NumberSets
 pub mod Scalars
 pub mod Counting
 pub mod Search
+pub mod SideViews
+pub mod SlotWords
+pub mod Aside
+pub mod Bare
+pub mod Laid

@@ -1,5 +1,5 @@
 //! All that is asked at a node: the tests of the node, and the formulas over its slots where not all demands are conjunctions.
-ghost use Rattle.std.specs.Prelude.{◌≡◌, map, IfOk};
+ghost use Rattle.std.specs.Prelude.{◌≡◌, ◌≤◌, map, IfOk};
 ghost use Rattle.guard_tables.specs.Forms.{forms_of};
 ghost use Rattle.guard_tables.specs.NodeViews.{raise_view};
 ghost use Rattle.guard_tables.specs.inside.AskViews.{asks_view, terms_view};
@@ -18,7 +18,9 @@ pub(crate) struct Formulas<'a> {
     pub raises: Vec<Raise>,
 }
 
+/// They need no more slots than a node has: 256.
 pub(crate) fn forms_of<'a>(alloc: Global, asks: &[Ask<'a>]) -> Result<Formulas<'a>, OutOfMemory>
+    requires { (forms_of (asks_view asks.now)).next ≤ 256 }
     ensures terms { IfOk result (λ f. terms_view f.terms.items ≡ (forms_of (asks_view asks.now)).terms) }
     ensures raises { IfOk result (λ f. map raise_view f.raises.items ≡ (forms_of (asks_view asks.now)).raises) }
 {
@@ -26,7 +28,7 @@ pub(crate) fn forms_of<'a>(alloc: Global, asks: &[Ask<'a>]) -> Result<Formulas<'
     let mut raises = Vec::new(alloc);
     let mut next = asks.len();
     for (place, ask) in asks.iter().enumerate() {
-        let own = slot_at(place)?;
+        let own = slot_at(place);
         let besides = form(ask.demand, alloc, own, next, &mut terms)?;
         next = besides.next;
         let where_failed = either(alloc, Form::Slot(own), besides.form)?;

@@ -1,5 +1,5 @@
 //! Demands of any form at a node: tests with slots of the node's own, and a formula over these slots.
-ghost use Rattle.std.specs.Prelude.{◌≡◌, map, IfOk, suc};
+ghost use Rattle.std.specs.Prelude.{◌≡◌, ◌<◌, ◌≤◌, map, IfOk, suc};
 ghost use Rattle.guard_model.specs.TypeView.{type_view, kind_view, constraint_view, element_view, constraints_of};
 ghost use Rattle.guard_tables.specs.Formulas as formulas;
 ghost use Rattle.guard_tables.specs.Forms.{form, form_one, form_element, form_all, form_some, form_type};
@@ -23,7 +23,7 @@ pub(crate) struct Besides {
     pub next: usize,
 }
 
-/// With this slot, where those from `free` on are free.
+/// With this slot, where those from `free` on are free. A node has no more than 256 slots.
 pub(crate) fn form<'a>(
     demand: Demand<'a>,
     alloc: Global,
@@ -31,6 +31,7 @@ pub(crate) fn form<'a>(
     free: usize,
     terms: &mut Vec<Term<'a>>,
 ) -> Result<Besides, OutOfMemory>
+    requires { (form own free (demand_view demand)).next ≤ 256 }
     ensures { IfOk result (λ b. Puts (terms_view terms.old.items) (terms_view terms.new.items) (form_view b.form) b.next
         (form own free (demand_view demand.entry))) }
 {
@@ -48,6 +49,7 @@ fn form_type<'a>(
     free: usize,
     terms: &mut Vec<Term<'a>>,
 ) -> Result<Besides, OutOfMemory>
+    requires { (form_type own free (type_view ty.now)).next ≤ 256 }
     ensures { IfOk result (λ b. Puts (terms_view terms.old.items) (terms_view terms.new.items) (form_view b.form) b.next
         (form_type own free (type_view ty.now))) }
 {
@@ -70,6 +72,7 @@ fn form_all<'a>(
     free: usize,
     terms: &mut Vec<Term<'a>>,
 ) -> Result<Besides, OutOfMemory>
+    requires { (form_all own free (kind_view kind.now) (constraints_of (map constraint_view constraints.now))).next ≤ 256 }
     ensures { IfOk result (λ b. Puts (terms_view terms.old.items) (terms_view terms.new.items) (form_view b.form) b.next
         (form_all own free (kind_view kind.now) (constraints_of (map constraint_view constraints.now)))) }
 {
@@ -93,6 +96,7 @@ fn form_some<'a>(
     free: usize,
     terms: &mut Vec<Term<'a>>,
 ) -> Result<Besides, OutOfMemory>
+    requires { (form_some free (kind_view kind.now) (constraints_of (map constraint_view constraints.now))).next ≤ 256 }
     ensures { IfOk result (λ b. Puts (terms_view terms.old.items) (terms_view terms.new.items) (form_view b.form) b.next
         (form_some free (kind_view kind.now) (constraints_of (map constraint_view constraints.now)))) }
 {
@@ -116,10 +120,11 @@ fn form_own<'a>(
     free: usize,
     terms: &mut Vec<Term<'a>>,
 ) -> Result<Besides, OutOfMemory>
+    requires { (form_one free (suc free) (kind_view kind.now) (constraint_view constraint.now)).next ≤ 256 }
     ensures { IfOk result (λ b. Puts (terms_view terms.old.items) (terms_view terms.new.items) (form_view b.form) b.next
         (own_slot free (form_one free (suc free) (kind_view kind.now) (constraint_view constraint.now)))) }
 {
-    let slot = slot_at(free)?;
+    let slot = slot_at(free);
     let one = form_one(constraint, kind, alloc, slot, free + 1, terms)?;
     let form = either(alloc, Form::Slot(slot), one.form)?;
     Ok(Besides {
@@ -137,6 +142,7 @@ fn form_one<'a>(
     free: usize,
     terms: &mut Vec<Term<'a>>,
 ) -> Result<Besides, OutOfMemory>
+    requires { (form_one own free (kind_view kind.now) (constraint_view constraint.now)).next ≤ 256 }
     ensures { IfOk result (λ b. Puts (terms_view terms.old.items) (terms_view terms.new.items) (form_view b.form) b.next
         (form_one own free (kind_view kind.now) (constraint_view constraint.now))) }
 {
@@ -156,6 +162,7 @@ fn form_rule<'a>(
     free: usize,
     terms: &mut Vec<Term<'a>>,
 ) -> Result<Besides, OutOfMemory>
+    requires { (form_element own free (kind_view kind.now) (element_view rule.now)).next ≤ 256 }
     ensures { IfOk result (λ b. Puts (terms_view terms.old.items) (terms_view terms.new.items) (form_view b.form) b.next
         (form_element own free (kind_view kind.now) (element_view rule.now))) }
 {
@@ -206,12 +213,10 @@ fn nothing_besides(free: usize) -> Besides
     }
 }
 
-/// A node of a table that isn't crowded needs no more than 256 slots: see `law_few_slots`.
-pub(crate) fn slot_at(place: usize) -> Result<u8, OutOfMemory>
-    ensures { IfOk result (λ slot. slot ≡ place) }
+/// The slot at this place.
+pub(crate) fn slot_at(place: usize) -> u8
+    requires { place < 256 }
+    ensures { result ≡ place }
 {
-    let Ok(slot) = u8::try_from(place) else {
-        return Err(OutOfMemory);
-    };
-    Ok(slot)
+    place as u8
 }

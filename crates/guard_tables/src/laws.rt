@@ -1,11 +1,13 @@
 //! Laws of the definitions alone. Each is carried by a function that does nothing when it runs.
-ghost use Rattle.guard_tables.specs.Laws.{NoneLaw, OnlyLaw, AddedLaw, SpreadLaw, SpeakLaw, SoundLaw, FormLaw, FormSpeakLaw, CountLaw, EachHandLaw, WithinHandLaw, FewLaw, LayLaw, MemberLaw, TableMembersLaw, TableRoomLaw, StandsLaw};
+ghost use Rattle.guard_tables.specs.Laws.{NoneLaw, OnlyLaw, AddedLaw, BelowLaw, WithoutLaw, SpreadLaw, SpeakLaw, SoundLaw, FormLaw, FormSpeakLaw, CountLaw, EachHandLaw, WithinHandLaw, FewLaw, LayLaw, MemberLaw, TableMembersLaw, TableRoomLaw, StandsLaw};
 
 /// Which slots a set has.
 pub fn law_slots()
     ensures none { NoneLaw }
     ensures only { OnlyLaw }
     ensures added { AddedLaw }
+    ensures below { BelowLaw }
+    ensures without { WithoutLaw }
 {}
 
 /// What a type or a constraint asks of the values at a node is what some tests of the node ask, where no union and no

@@ -8,7 +8,7 @@
 //! | At which nodes is that looked at? | `nodes.rt` | `specs/Conditions.antt` |
 //! | Which slots have failed? | `slots.rt` | `specs/Slots.antt` |
 //! | What do nodes stand for, and what fails at a value? | laws `marking_laws.rt` | `specs/Plan.antt`, `specs/Formulas.antt`, `specs/Marking.antt` |
-//! | For which types does a plan stand? | none | `specs/Standing.antt` |
+//! | For which types does a plan stand, and for which a table's nodes? | `table.rt` | `specs/Standing.antt`, `specs/StandsFor.antt` |
 //! | Which nodes are there, and what keeps them in order? | `node.rt`, `node_list.rt` | `specs/NodeViews.antt`, `specs/TableNodes.antt`, `specs/NodesView.antt` |
 //! | How is what types and constraints ask tested at one node? | `slots.rt` | `specs/Demands.antt`, `specs/Spread.antt`, `specs/Forms.antt` |
 //! | Which plan asks all of it, and how many slots does a node need? | laws in `laws.rt` | `specs/Lay.antt`, `specs/Handed.antt`, `specs/Laws.antt` |
@@ -18,12 +18,20 @@
 
 mod asks;
 mod asks_at_node;
+mod assembly;
 mod conditions;
+mod conditions_at_node;
+mod drafts;
+mod encoded;
 mod fault;
 mod form_terms;
 mod form_trees;
 mod gathering;
+mod identifiers;
+mod kinds_of_nodes;
+mod laid;
 pub mod laws;
+mod layout;
 pub mod marking_laws;
 mod node;
 mod node_list;
@@ -31,9 +39,11 @@ mod nodes;
 mod number_sets;
 mod parts;
 mod plain;
+mod plain_interval;
 mod presence;
 mod range_lists;
 mod scalars;
+mod sides;
 mod simple_tests;
 mod slots;
 mod spreading;

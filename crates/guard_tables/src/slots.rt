@@ -1,7 +1,8 @@
 //! Sets of slots: one for each thing that is asked of a value.
 ghost use Rattle.std.specs.Prelude.{◌≡◌, ◌<◌, nat_eq};
 ghost use Rattle.std.specs.Int.{bit_at};
-ghost use Rattle.guard_tables.specs.Slots.{none, only, added, has};
+ghost use Rattle.guard_tables.specs.Slots.{none, only, added, below, without, low_bits, bits_without, has};
+ghost use Rattle.guard_tables.specs.inside.SlotWords.{InWords};
 
 /// A set of at most 256 slots.
 #[derive(Clone, Copy, Debug, PartialEq, Eq)]
@@ -43,6 +44,32 @@ impl Slots {
         slots
     }
 
+    /// The slots below this one, of which there may be 256.
+    #[tactic(auto, unfolding(crate::specs::Slots::below))]
+    pub fn below(slot: u16) -> Slots
+        ensures { result ≡ below slot }
+    {
+        Slots {
+            first: low_bits(slot),
+            second: low_bits(slot.saturating_sub(64)),
+            third: low_bits(slot.saturating_sub(128)),
+            fourth: low_bits(slot.saturating_sub(192)),
+        }
+    }
+
+    /// Those of its slots that aren't in the other set.
+    #[tactic(auto, unfolding(crate::specs::Slots::without))]
+    pub fn without(&self, other: &Slots) -> Slots
+        ensures { result ≡ without self.now other.now }
+    {
+        Slots {
+            first: bits_without(self.first, other.first),
+            second: bits_without(self.second, other.second),
+            third: bits_without(self.third, other.third),
+            fourth: bits_without(self.fourth, other.fourth),
+        }
+    }
+
     /// Puts all slots of the other set into this one.
     #[tactic(auto, unfolding(crate::specs::Slots::added))]
     pub fn add(&mut self, more: &Slots)
@@ -69,6 +96,32 @@ impl Slots {
             is_set(self.fourth, slot - 192)
         }
     }
+
+    /// What proofs need to know of the words; it does nothing when it runs.
+    pub(crate) fn law_words(&self)
+        ensures { InWords self.now }
+    {
+        let _first = self.first;
+        let _second = self.second;
+        let _third = self.third;
+    }
+}
+
+/// A word with its lowest bits set, so many of them; all where there are no more.
+fn low_bits(count: u16) -> u64
+    ensures { result ≡ low_bits count }
+{
+    if count < 64 {
+        return (1 << count) - 1;
+    }
+    u64::MAX
+}
+
+/// The bits of a word that aren't in another.
+fn bits_without(word: u64, other: u64) -> u64
+    ensures { result ≡ bits_without word other }
+{
+    word & (word ^ other)
 }
 
 fn is_set(word: u64, bit: u8) -> bool

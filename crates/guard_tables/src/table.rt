@@ -1,31 +1,41 @@
 //! Tables.
-ghost use Rattle.std.specs.Prelude.{◌≡◌, ◌&&◌, ◌∷◌, None, Some, All, map, IsTrue, IfOk, OnOk, IfErr, IfSome};
+ghost use Rattle.std.specs.Prelude.{◌≡◌, ◌≤◌, ◌&&◌, [], ◌∷◌, None, Some, All, length, map, slice_get, option_map, IsTrue, IfOk, OnOk, IfErr, IfSome};
 ghost use Rattle.std.specs.Cmp.Lexicographic.{pointwise};
 ghost use Rattle.guard_model.specs.TypeView.{type_view};
 ghost use Rattle.guard_model.specs.Tags.{same_tag};
 ghost use Rattle.guard_der.specs.Sound.{is_sound};
 ghost use Rattle.guard_tables.specs.Alike.{AreConsistent};
-ghost use Rattle.guard_tables.specs.Tables.{types_view, is_match, first_mismatch, first_fault, named};
+ghost use Rattle.guard_tables.specs.Handed.{asks_from};
+ghost use Rattle.guard_tables.specs.StandsFor.{StandsFor};
+ghost use Rattle.guard_tables.specs.Tables.{types_view, is_match, first_mismatch, first_fault, named, most_rules};
+ghost use Rattle.guard_tables.specs.inside.AskViews.{asks_view};
 
+use crate::asks::{Ask, Demand};
 use crate::fault::TableFault;
+use crate::layout::lay_nodes;
+use crate::node_list::Nodes;
 use crate::nodes::has_crowded_node;
+use crate::slots::Slots;
 use guard_model::{OutOfMemory, Tag, Ty};
 use std::alloc::Global;
 
 /// How many rules a message may have.
 const MOST_RULES: usize = 255;
 
-/// The types by which messages of one name are judged: the declared one, and one for each rule.
+/// The types by which messages of one name are judged: the declared one, and one for each rule. Its nodes ask all of them at once, the
+/// declared type with slot 0 and rule i with slot i + 1.
 #[derive(Drop)]
 pub struct Table {
     declared: Ty,
     rules: Vec<Ty>,
+    pub nodes: Nodes,
     pub ghost consistent: { AreConsistent (type_view declared) (map type_view rules.items) },
+    pub ghost stands: { ∥ StandsFor nodes (type_view declared) (map type_view rules.items) ∥₁ },
 }
 
 impl Table {
     ghost use Rattle.guard_tables.specs.Alike.{AreAlike};
-    ghost use Rattle.guard_tables.specs.TableView.{table_types};
+    ghost use Rattle.guard_tables.specs.TableView.{table_types, declared_of, rules_of};
 
     /// The table of a declared type and the types of rules.
     ///
@@ -45,10 +55,71 @@ impl Table {
         ensures refused { IfErr result (λ f. IfSome (named f) (λ fault. first_fault (type_view declared.now) (types_view rules.now) ≡ Some fault)) }
     {
         find_fault(alloc, declared, rules)?;
+        let nodes = nodes_of(alloc, declared, rules)?;
         Ok(Table {
             declared: declared.copy(alloc)?,
             rules: copy_of_types(alloc, rules)?,
+            nodes,
         })
+    }
+
+    /// The declared type.
+    pub fn declared(&self) -> &Ty
+        ensures declared { type_view result.now ≡ declared_of self.now }
+        ensures sound { IsTrue (is_sound (type_view result.now)) }
+    {
+        &self.declared
+    }
+
+    /// The type of the rule at this place, from 0; None where there are no more rules.
+    pub fn rule(&self, place: usize) -> Option<&Ty>
+        ensures rule { option_map (λ t. type_view t.now) result ≡ slice_get (rules_of self.now) place }
+        ensures sound { IfSome result (λ t. IsTrue (is_sound (type_view t.now))) }
+    {
+        self.rules.get(place)
+    }
+
+    /// How many rules there are, at most 255.
+    pub fn rules(&self) -> usize
+        ensures rules { result ≡ length (rules_of self.now) }
+        ensures few { result ≤ most_rules }
+    {
+        self.rules.len()
+    }
+}
+
+/// The nodes that ask all that these types ask.
+fn nodes_of(alloc: Global, declared: &Ty, rules: &[&Ty]) -> Result<Nodes, OutOfMemory>
+    requires { AreConsistent (type_view declared.now) (types_view rules.now) }
+    ensures { IfOk result (λ nodes. StandsFor nodes (type_view declared.now) (types_view rules.now)) }
+{
+    let asks = asks_of(alloc, declared, rules)?;
+    lay_nodes(alloc, declared, &asks)
+}
+
+/// What these types ask: membership in each of them, with slots in their order.
+fn asks_of<'a>(
+    alloc: Global,
+    declared: &'a Ty,
+    rules: &[&'a Ty],
+) -> Result<Vec<Ask<'a>>, OutOfMemory>
+    requires { length rules.now ≤ most_rules }
+    ensures { IfOk result (λ asks. asks_view asks.items ≡ asks_from 0 (type_view declared.now ∷ types_view rules.now)) }
+{
+    let mut asks = Vec::with_capacity(alloc, rules.len() + 1)?;
+    asks.push(membership(0, declared))?;
+    for (place, rule) in rules.iter().enumerate() {
+        asks.push(membership(place as u8 + 1, rule))?;
+    }
+    Ok(asks)
+}
+
+fn membership(slot: u8, ty: &Ty) -> Ask<'_>
+    ensures { asks_view (result ∷ []) ≡ asks_from slot (type_view ty.now ∷ []) }
+{
+    Ask {
+        slots: Slots::only(slot),
+        demand: Demand::Type(ty),
     }
 }
 

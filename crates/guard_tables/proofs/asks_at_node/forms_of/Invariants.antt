@@ -9,4 +9,5 @@ abbrev pub invariant-loop-place : goal.invariant-loop-place
 invariant-loop-place l = record {
   terms : terms_view l.terms.items ++ (forms_from l.place l.next (asks_view (drop l.place l.asks))).terms ≡ (forms_of (asks_view l.asks)).terms;
   raises : map raise_view l.raises.items ++ (forms_from l.place l.next (asks_view (drop l.place l.asks))).raises ≡ (forms_of (asks_view l.asks)).raises;
+  next : (forms_from l.place l.next (asks_view (drop l.place l.asks))).next ≡ (forms_of (asks_view l.asks)).next;
 }

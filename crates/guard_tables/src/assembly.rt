@@ -1,0 +1,199 @@
+//! Steps in which nodes are put together, from the inside out.
+ghost use Rattle.std.specs.Prelude.{◌≡◌, ◌<◌, ◌-◌, ◌++◌, ◌∷◌, [], length, map, drop, Some, IfOk, true};
+ghost use Rattle.guard_tables.specs.NodeViews.{condition_view, raise_view};
+ghost use Rattle.guard_tables.specs.Plan as plans;
+ghost use Rattle.guard_tables.specs.Plan.{body_in, tags_in, form_in, asked_of};
+ghost use Rattle.guard_tables.specs.TableNodes.{IsNode, spots_of, own_tags};
+ghost use Rattle.guard_tables.specs.inside.Aside.{AreNodes, spots_at};
+ghost use Rattle.guard_tables.specs.inside.Laid.{Lays, Stacks, WithPart, MayCome, plan_in, parts_in, body_of_group, body_of_elements, spots_so_far};
+ghost use Rattle.guard_tables.specs.inside.SideViews.{part_side_view};
+
+use crate::drafts::{Elements, Group, Node, bare, group_node, with_side};
+use crate::identifiers::{Identifiers, identifiers_of};
+use crate::laid::{Laid, LaidParts};
+use crate::node::{Condition, Kind, Raise};
+use crate::node_list::Builder;
+use crate::sides::PartSide;
+use guard_model::{OutOfMemory, Tag};
+use std::alloc::Global;
+
+/// Nodes, and which of them was the last to come.
+#[derive(Drop)]
+pub(crate) struct Stacked {
+    pub builder: Builder,
+    pub first: u32,
+}
+
+/// With the one that wasn't with them.
+pub(crate) fn with_last(laid: Laid) -> Result<Stacked, OutOfMemory>
+    ensures { IfOk result (λ s. Stacks laid s.builder s.first) }
+{
+    let first = small(laid.builder.hots.len())?;
+    let builder = laid.builder.with(laid.node.hot, laid.node.cold)?;
+    Ok(Stacked { builder, first })
+}
+
+/// A table's nodes are fewer than 2 to the 32.
+fn small(number: usize) -> Result<u32, OutOfMemory>
+    ensures { IfOk result (λ same. same ≡ number) }
+{
+    let Ok(number) = u32::try_from(number) else {
+        return Err(OutOfMemory);
+    };
+    Ok(number)
+}
+
+// ---- in front of a node
+
+/// What is asked of a value that has parts as a whole; where that is nothing no node comes in front.
+pub(crate) fn with_conditions(
+    laid: Laid,
+    alloc: Global,
+    conditions: Vec<Condition>,
+) -> Result<Laid, OutOfMemory>
+    ensures { IfOk result (λ l. Lays laid.builder l (plans.plan (tags_in (plan_in laid)) (form_in (plan_in laid))
+        (asked_of (map condition_view conditions.items) (body_in (plan_in laid))))) }
+{
+    if conditions.is_empty() {
+        return Ok(laid);
+    }
+    let identifiers = Identifiers {
+        own: laid.node.hot.identifier,
+        other: laid.node.hot.other,
+    };
+    let inner = with_last(laid)?;
+    let mut node = bare(alloc, Kind::Asked, identifiers, true, inner.first, 1);
+    node.cold.conditions = conditions;
+    Ok(Laid {
+        builder: inner.builder,
+        node,
+    })
+}
+
+/// Formulas over what fails there.
+pub(crate) fn with_formulas(
+    laid: Laid,
+    alloc: Global,
+    raises: Vec<Raise>,
+) -> Result<Laid, OutOfMemory>
+    ensures { IfOk result (λ l. Lays laid.builder l (plans.plan (tags_in (plan_in laid)) (form_in (plan_in laid))
+        (plans.formula (map raise_view raises.items) (body_in (plan_in laid))))) }
+{
+    let identifiers = Identifiers {
+        own: laid.node.hot.identifier,
+        other: laid.node.hot.other,
+    };
+    let inner = with_last(laid)?;
+    let mut node = bare(alloc, Kind::Formula, identifiers, false, inner.first, 1);
+    node.cold.raises = raises;
+    Ok(Laid {
+        builder: inner.builder,
+        node,
+    })
+}
+
+/// An explicit tag round it.
+fn wrapped(laid: Laid, alloc: Global, tag: Tag) -> Result<Laid, OutOfMemory>
+    requires { 0 < length (tags_in (plan_in laid)) }
+    ensures { IfOk result (λ l. Lays laid.builder l (plans.plan (tag ∷ tags_in (plan_in laid)) (form_in (plan_in laid)) (body_in (plan_in laid)))) }
+{
+    let inner = with_last(laid)?;
+    let identifiers = identifiers_of(Some(tag), true);
+    let mut node = bare(alloc, Kind::Wrapper, identifiers, false, inner.first, 1);
+    node.cold.tag = Some(tag);
+    Ok(Laid {
+        builder: inner.builder,
+        node,
+    })
+}
+
+/// The last tag, which is the kind's own; a CHOICE may have none.
+pub(crate) fn innermost(tags: &[Tag]) -> Option<Tag>
+    ensures { own_tags result ≡ drop (length tags.now - 1) tags.now }
+{
+    if tags.is_empty() {
+        return None;
+    }
+    Some(tags[tags.len() - 1])
+}
+
+/// All tags but the last round it, from the inside out.
+pub(crate) fn with_tags(laid: Laid, alloc: Global, tags: &[Tag]) -> Result<Laid, OutOfMemory>
+    requires { tags_in (plan_in laid) ≡ drop (length tags.now - 1) tags.now }
+    ensures { IfOk result (λ l. Lays laid.builder l (plans.plan tags.now (form_in (plan_in laid)) (body_in (plan_in laid)))) }
+{
+    let mut whole = laid;
+    let mut left = tags.len().saturating_sub(1);
+    while left > 0 {
+        left -= 1;
+        whole = wrapped(whole, alloc, tags[left])?;
+    }
+    Ok(whole)
+}
+
+// ---- round elements and parts
+
+/// A list of such elements.
+pub(crate) fn as_elements(
+    element: Laid,
+    alloc: Global,
+    elements: Elements,
+    tag: Option<Tag>,
+) -> Result<Laid, OutOfMemory>
+    ensures { IfOk result (λ l. Lays element.builder l (plans.plan (own_tags tag) true (body_of_elements elements (plan_in element)))) }
+{
+    let inner = with_last(element)?;
+    let identifiers = identifiers_of(tag, true);
+    let mut node = bare(alloc, elements.kind(), identifiers, false, inner.first, 1);
+    node.cold.tag = tag;
+    Ok(Laid {
+        builder: inner.builder,
+        node,
+    })
+}
+
+/// A node that has these parts.
+pub(crate) fn as_parts(
+    parts: LaidParts,
+    alloc: Global,
+    group: Group,
+    tag: Option<Tag>,
+) -> Result<Laid, OutOfMemory>
+    requires { MayCome parts }
+    ensures { IfOk result (λ l. Lays parts.builder l (plans.plan (own_tags tag) true (body_of_group group (parts_in parts plans.no_parts)))) }
+{
+    let first = small(parts.builder.hots.len())?;
+    let count = small(parts.nodes.len())?;
+    let builder = with_all(parts)?;
+    let node = group_node(alloc, group, tag, first, count);
+    Ok(Laid { builder, node })
+}
+
+/// One part more, of which this is said.
+pub(crate) fn with_part(
+    part: Laid,
+    others: Vec<Node>,
+    side: PartSide,
+) -> Result<LaidParts, OutOfMemory>
+    requires { AreNodes others.items (spots_so_far part.builder) (length part.builder.hots.items) }
+    ensures { IfOk result (λ l. WithPart others.items part (part_side_view side) l) }
+{
+    let mut nodes = others;
+    nodes.push(with_side(part.node, side))?;
+    Ok(LaidParts {
+        builder: part.builder,
+        nodes,
+    })
+}
+
+/// The parts side by side.
+fn with_all(parts: LaidParts) -> Result<Builder, OutOfMemory>
+    requires { MayCome parts }
+    ensures { IfOk result (λ b. spots_so_far b ≡ spots_so_far parts.builder ++ spots_at (spots_so_far parts.builder) parts.nodes.items) }
+{
+    let mut builder = parts.builder;
+    for node in parts.nodes {
+        builder = builder.with(node.hot, node.cold)?;
+    }
+    Ok(builder)
+}

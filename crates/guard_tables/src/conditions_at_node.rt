@@ -1,0 +1,163 @@
+//! The conditions of a node: what is asked there of the value itself.
+ghost use Rattle.std.specs.Prelude.{◌≡◌, ◌++◌, ℤ, true, false, ◌&&◌, ◌||◌, map, option_map, option_to_list, IsTrue, IfOk, OnOk};
+ghost use Rattle.std.specs.Ordering.{int_eq};
+ghost use Rattle.guard_model.specs.AbstractValue as abstract;
+ghost use Rattle.guard_model.specs.Limits.{fits_128_bits};
+ghost use Rattle.guard_model.specs.TypeView.{kind_view, named_view, constraint_view};
+ghost use Rattle.guard_model.specs.ValueView.{value_view};
+ghost use Rattle.guard_der.specs.Der.{contents_octets};
+ghost use Rattle.guard_der.specs.Fits.{fits_kind, is_item};
+ghost use Rattle.guard_eval.specs.Member.{holds};
+ghost use Rattle.guard_tables.specs.Apt.{Speaks, AllSpeak};
+ghost use Rattle.guard_tables.specs.Lay.{truth_tests, scalar_tests, stored_test, tests_of, conditions_in, conditions_of};
+ghost use Rattle.guard_tables.specs.Marking.{is_in_one};
+ghost use Rattle.guard_tables.specs.NodeViews.{test_view, condition_view};
+ghost use Rattle.guard_tables.specs.Plan.{numbers};
+ghost use Rattle.guard_tables.specs.inside.AskViews.{atom_view, terms_view};
+
+use crate::asks::{Atom, Term};
+use crate::encoded::if_short;
+use crate::node::{Condition, Range, Test};
+use crate::scalars::{Scalar, has_scalar};
+use crate::simple_tests::{no_value, number_test, size_test, spelling_test};
+use crate::slots::Slots;
+use guard_der::encode_contents;
+use guard_model::{Cons, Kind, Named, OutOfMemory, Value};
+use std::alloc::Global;
+
+/// The contents octets of FALSE and TRUE (X.690 8.2.2 and 11.1).
+const FALSE: u8 = 0;
+
+const TRUE: u8 = 255;
+
+/// Of the values of this kind.
+pub(crate) fn conditions_of(
+    alloc: Global,
+    kind: &Kind,
+    terms: &[Term<'_>],
+) -> Result<Vec<Condition>, OutOfMemory>
+    requires { AllSpeak (kind_view kind.now) (terms_view terms.now) }
+    ensures { IfOk result (λ cs. map condition_view cs.items ≡ conditions_of (kind_view kind.now) (terms_view terms.now)) }
+{
+    let mut conditions = Vec::new(alloc);
+    for term in terms {
+        push_condition(alloc, kind, &term.atom, term.slots, &mut conditions)?;
+    }
+    Ok(conditions)
+}
+
+/// At most one: what is asked of parts, and what each value passes, is none.
+fn push_condition(
+    alloc: Global,
+    kind: &Kind,
+    atom: &Atom<'_>,
+    slots: Slots,
+    conditions: &mut Vec<Condition>,
+) -> Result<(), OutOfMemory>
+    requires { Speaks (kind_view kind.now) (atom_view atom.now) }
+    ensures { OnOk result (map condition_view conditions.new.items
+        ≡ map condition_view conditions.old.items ++ conditions_in slots (tests_of (kind_view kind.now) (atom_view atom.now))) }
+{
+    if let Some(test) = test_of(alloc, kind, atom)? {
+        conditions.push(Condition { slots, test })?;
+    }
+    Ok(())
+}
+
+fn test_of(alloc: Global, kind: &Kind, atom: &Atom<'_>) -> Result<Option<Test>, OutOfMemory>
+    requires { Speaks (kind_view kind.now) (atom_view atom.now) }
+    ensures { IfOk result (λ t. option_to_list (option_map test_view t) ≡ tests_of (kind_view kind.now) (atom_view atom.now)) }
+{
+    match atom {
+        Atom::Scalar(own, constraint) => scalar_test(alloc, kind, own, constraint),
+        Atom::Equals(value) => Ok(Some(stored_test(alloc, kind, value)?)),
+        Atom::Sized(constraint) => Ok(Some(size_test(constraint, alloc)?)),
+        Atom::Spelled(ranges) => Ok(Some(spelling_test(ranges, alloc)?)),
+        Atom::Each(_) => Ok(None),
+        Atom::Within(_, _) => Ok(None),
+        Atom::Sent(_) => Ok(None),
+        Atom::Unsent(_) => Ok(None),
+    }
+}
+
+/// The value has the contents octets of this one.
+fn stored_test(alloc: Global, kind: &Kind, value: &Value) -> Result<Test, OutOfMemory>
+    requires { IsTrue (fits_kind (kind_view kind.now) (value_view value.now)) }
+    ensures { IfOk result (λ t. test_view t ≡ stored_test (contents_octets (kind_view kind.now) (value_view value.now))) }
+{
+    match if_short(encode_contents(alloc, kind, value))? {
+        Some(octets) => Ok(Test::Stored(octets)),
+        None => Ok(no_value(alloc)),
+    }
+}
+
+/// The value is one that a constraint on a type of the kind `own` has.
+fn scalar_test(
+    alloc: Global,
+    kind: &Kind,
+    own: &Kind,
+    constraint: &Cons,
+) -> Result<Option<Test>, OutOfMemory>
+    ensures { IfOk result (λ t. option_to_list (option_map test_view t)
+        ≡ scalar_tests (kind_view kind.now) (holds (constraint_view constraint.now) (kind_view own.now))) }
+{
+    match kind {
+        Kind::Bool => truth_test(alloc, own, constraint),
+        Kind::Int(_) => Ok(Some(number_test(constraint, alloc)?)),
+        Kind::Enumerated(items) => Ok(Some(item_test(alloc, items, own, constraint)?)),
+        Kind::Null if has_scalar(constraint, own, Scalar::Null) => Ok(None),
+        Kind::Null => Ok(Some(no_value(alloc))),
+        _ => Ok(None),
+    }
+}
+
+/// None where both truth values pass.
+fn truth_test(alloc: Global, own: &Kind, constraint: &Cons) -> Result<Option<Test>, OutOfMemory>
+    ensures { IfOk result (λ t. option_to_list (option_map test_view t)
+        ≡ truth_tests (holds (constraint_view constraint.now) (kind_view own.now) (abstract.boolean true))
+        (holds (constraint_view constraint.now) (kind_view own.now) (abstract.boolean false))) }
+{
+    let has_true = has_scalar(constraint, own, Scalar::Bool(true));
+    let has_false = has_scalar(constraint, own, Scalar::Bool(false));
+    match (has_true, has_false) {
+        (true, true) => Ok(None),
+        (true, false) => Ok(Some(Test::Stored(Vec::from_slice(alloc, &[TRUE])?))),
+        (false, true) => Ok(Some(Test::Stored(Vec::from_slice(alloc, &[FALSE])?))),
+        (false, false) => Ok(Some(no_value(alloc))),
+    }
+}
+
+/// The number is that of an item which the constraint has.
+fn item_test(
+    alloc: Global,
+    items: &[Named],
+    own: &Kind,
+    constraint: &Cons,
+) -> Result<Test, OutOfMemory>
+    ensures { IfOk result (λ t. test_view t ≡ numbers (λ z. (fits_128_bits z && is_item z (map named_view items.now))
+        && holds (constraint_view constraint.now) (kind_view own.now) (abstract.enumerated z))) }
+{
+    let mut ranges = Vec::new(alloc);
+    for item in items {
+        push_item(item.number, own, constraint, &mut ranges)?;
+    }
+    Ok(Test::Numbers(ranges))
+}
+
+fn push_item(
+    number: i128,
+    own: &Kind,
+    constraint: &Cons,
+    ranges: &mut Vec<Range>,
+) -> Result<(), OutOfMemory>
+    ensures { OnOk result ((z : ℤ) → is_in_one ranges.new.items z ≡ (is_in_one ranges.old.items z
+        || ((fits_128_bits z && int_eq z number) && holds (constraint_view constraint.now) (kind_view own.now) (abstract.enumerated z)))) }
+{
+    if has_scalar(constraint, own, Scalar::Enumerated(number)) {
+        ranges.push(Range {
+            low: number,
+            high: number,
+        })?;
+    }
+    Ok(())
+}

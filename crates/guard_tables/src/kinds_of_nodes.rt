@@ -1,0 +1,50 @@
+//! What a node keeps of a simple kind.
+ghost use Rattle.std.specs.Prelude.{◌≡◌, IfOk, map, false};
+ghost use Rattle.guard_der.specs.Der as der;
+ghost use Rattle.guard_model.specs.TypeView.{kind_view, named_view};
+ghost use Rattle.guard_tables.specs.Lay.{nameless};
+ghost use Rattle.guard_tables.specs.NodeViews as views;
+ghost use Rattle.guard_tables.specs.inside.Laid.{item_numbers};
+
+use crate::node::SimpleKind;
+use guard_model::{Kind, Named, OutOfMemory};
+use std::alloc::Global;
+
+/// Of a kind that has no parts, the kind of node.
+pub(crate) fn simple_kind(kind: &Kind) -> SimpleKind
+    requires { der.is_constructed (kind_view kind.now) ≡ false }
+    ensures { views.kind_view result (item_numbers (kind_view kind.now)) ≡ nameless (kind_view kind.now) }
+{
+    match kind {
+        Kind::Bool => SimpleKind::Boolean,
+        Kind::Int(_) => SimpleKind::Integer,
+        Kind::Bits(names) if names.is_empty() => SimpleKind::BitString,
+        Kind::Bits(_) => SimpleKind::NamedBits,
+        Kind::Octets => SimpleKind::OctetString,
+        Kind::Oid => SimpleKind::ObjectIdentifier,
+        Kind::Enumerated(_) => SimpleKind::Enumerated,
+        Kind::Chars(kind) => SimpleKind::Characters(*kind),
+        // NULL alone is left
+        _ => SimpleKind::Null,
+    }
+}
+
+/// The numbers of the items of an ENUMERATED; of another kind none.
+pub(crate) fn item_numbers(alloc: Global, kind: &Kind) -> Result<Vec<i128>, OutOfMemory>
+    ensures { IfOk result (λ numbers. numbers.items ≡ item_numbers (kind_view kind.now)) }
+{
+    match kind {
+        Kind::Enumerated(items) => numbers_of(alloc, items),
+        _ => Ok(Vec::new(alloc)),
+    }
+}
+
+fn numbers_of(alloc: Global, items: &[Named]) -> Result<Vec<i128>, OutOfMemory>
+    ensures { IfOk result (λ numbers. numbers.items ≡ map (λ n. n.number) (map named_view items.now)) }
+{
+    let mut numbers = Vec::new(alloc);
+    for item in items {
+        numbers.push(item.number)?;
+    }
+    Ok(numbers)
+}

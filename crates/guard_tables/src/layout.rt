@@ -1,0 +1,266 @@
+//! The nodes of a type and of what is asked of its values. What is inside the parts of a node comes first, then the parts side by side; the node
+//! itself is answered and isn't with them yet.
+ghost use Rattle.std.specs.Prelude.{◌≡◌, IfOk, IsTrue, map, true, false};
+ghost use Rattle.guard_der.specs.Der as der;
+ghost use Rattle.guard_der.specs.Sound.{is_sound, is_proper_presence};
+ghost use Rattle.guard_model.specs.Kinds.{kind_of};
+ghost use Rattle.guard_model.specs.TypeView.{type_view, kind_view, component_view, components_of};
+ghost use Rattle.guard_tables.specs.Apt.{AreApt, AllSpeak};
+ghost use Rattle.guard_tables.specs.Handed.{each_of, within_of, terms_at, NeedsFew};
+ghost use Rattle.guard_tables.specs.Lay as plan;
+ghost use Rattle.guard_tables.specs.NodeViews.{condition_view};
+ghost use Rattle.guard_tables.specs.NodesView.{root_of};
+ghost use Rattle.guard_tables.specs.Plan as plans;
+ghost use Rattle.guard_tables.specs.Plan.{asked_of};
+ghost use Rattle.guard_tables.specs.TableNodes.{own_tags};
+ghost use Rattle.guard_tables.specs.inside.AskViews.{asks_view, terms_view};
+ghost use Rattle.guard_tables.specs.inside.Laid.{Lays, LaysParts, Extends, MayCome, MayBeLaid, AskedMayBeLaid, KindMayBeLaid, PartsMayBeLaid, body_of_group, parts_of_group, body_of_elements, side_of_part};
+ghost use Rattle.guard_tables.specs.inside.SideViews.{part_side_view};
+
+use crate::asks::{Ask, Term};
+use crate::asks_at_node::forms_of;
+use crate::assembly::{
+    as_elements, as_parts, innermost, with_conditions, with_formulas, with_last, with_part,
+    with_tags,
+};
+use crate::conditions_at_node::conditions_of;
+use crate::drafts::{Elements, Group, simple_node};
+use crate::gathering::{each_of, within_of};
+use crate::kinds_of_nodes::{item_numbers, simple_kind};
+use crate::laid::{Laid, LaidParts};
+use crate::node::Condition;
+use crate::node_list::{Builder, Nodes};
+use crate::plain::are_plain_asks;
+use crate::presence::{absent_of, chosen_of, present_of};
+use crate::sides::{PartSide, side_chosen, side_for};
+use crate::spreading::terms_of;
+use guard_model::{Comp, Kind, OutOfMemory, Tag, Ty};
+use std::alloc::Global;
+
+/// The nodes of a table: they stand for the plan that asks of the declared type's values what is asked.
+pub(crate) fn lay_nodes(
+    alloc: Global,
+    declared: &Ty,
+    asks: &[Ask<'_>],
+) -> Result<Nodes, OutOfMemory>
+    requires sound { IsTrue (is_sound (type_view declared.now)) }
+    requires apt { AreApt (kind_of (type_view declared.now)) (asks_view asks.now) }
+    requires room { NeedsFew (type_view declared.now) (asks_view asks.now) }
+    ensures { IfOk result (λ n. root_of n ≡ plan.lay (type_view declared.now) (asks_view asks.now)) }
+{
+    let laid = lay(declared, alloc, asks, Builder::new(alloc))?;
+    let whole = with_last(laid)?;
+    Ok(whole.builder.finish())
+}
+
+/// The node of a type, and what is inside it.
+#[cycle(layout)]
+fn lay(ty: &Ty, alloc: Global, asks: &[Ask<'_>], builder: Builder) -> Result<Laid, OutOfMemory>
+    requires { MayBeLaid (type_view ty.now) (asks_view asks.now) }
+    ensures { IfOk result (λ l. Lays builder l (plan.lay (type_view ty.now) (asks_view asks.now))) }
+{
+    let tag = innermost(&ty.tags);
+    let laid = lay_asked(&ty.kind, alloc, asks, tag, builder)?;
+    with_tags(laid, alloc, &ty.tags)
+}
+
+/// Without the tags that are round it.
+#[cycle(layout)]
+fn lay_asked(
+    kind: &Kind,
+    alloc: Global,
+    asks: &[Ask<'_>],
+    tag: Option<Tag>,
+    builder: Builder,
+) -> Result<Laid, OutOfMemory>
+    requires { AskedMayBeLaid (kind_view kind.now) (asks_view asks.now) }
+    ensures { IfOk result (λ l. Lays builder l (plans.plan (own_tags tag) (der.is_constructed (kind_view kind.now))
+        (plan.formulas_over (asks_view asks.now) (plan.lay_kind (kind_view kind.now) (terms_at (asks_view asks.now)))))) }
+{
+    if are_plain_asks(asks) {
+        let terms = terms_of(alloc, asks)?;
+        return lay_kind(kind, alloc, &terms, tag, builder);
+    }
+    let formulas = forms_of(alloc, asks)?;
+    let laid = lay_kind(kind, alloc, &formulas.terms, tag, builder)?;
+    with_formulas(laid, alloc, formulas.raises)
+}
+
+/// Where demands are tests of the node and of its parts.
+#[cycle(layout)]
+fn lay_kind(
+    kind: &Kind,
+    alloc: Global,
+    terms: &[Term<'_>],
+    tag: Option<Tag>,
+    builder: Builder,
+) -> Result<Laid, OutOfMemory>
+    requires speak { AllSpeak (kind_view kind.now) (terms_view terms.now) }
+    requires parts { KindMayBeLaid (kind_view kind.now) (terms_view terms.now) }
+    ensures { IfOk result (λ l. Lays builder l (plans.plan (own_tags tag) (der.is_constructed (kind_view kind.now))
+        (plan.lay_kind (kind_view kind.now) (terms_view terms.now)))) }
+{
+    let conditions = conditions_of(alloc, kind, terms)?;
+    match kind {
+        Kind::Sequence(comps) => lay_group(
+            comps,
+            alloc,
+            Group::Series,
+            terms,
+            tag,
+            conditions,
+            builder,
+        ),
+        Kind::Set(comps) => lay_group(comps, alloc, Group::Set, terms, tag, conditions, builder),
+        Kind::Choice(comps) => lay_group(
+            comps,
+            alloc,
+            Group::Choice,
+            terms,
+            tag,
+            conditions,
+            builder,
+        ),
+        Kind::SequenceOf(element) => lay_elements(
+            element,
+            alloc,
+            Elements::List,
+            terms,
+            tag,
+            conditions,
+            builder,
+        ),
+        Kind::SetOf(element) => lay_elements(
+            element,
+            alloc,
+            Elements::SetOf,
+            terms,
+            tag,
+            conditions,
+            builder,
+        ),
+        _ => lay_simple(kind, alloc, tag, conditions, builder),
+    }
+}
+
+/// A kind whose contents octets spell the value alone.
+fn lay_simple(
+    kind: &Kind,
+    alloc: Global,
+    tag: Option<Tag>,
+    conditions: Vec<Condition>,
+    builder: Builder,
+) -> Result<Laid, OutOfMemory>
+    requires { der.is_constructed (kind_view kind.now) ≡ false }
+    ensures { IfOk result (λ l. Lays builder l (plans.plan (own_tags tag) false
+        (plans.simple (plan.nameless (kind_view kind.now)) (map condition_view conditions.items)))) }
+{
+    let items = item_numbers(alloc, kind)?;
+    let node = simple_node(alloc, simple_kind(kind), items, conditions, tag);
+    Ok(Laid { builder, node })
+}
+
+/// SEQUENCE OF and SET OF: one node for all elements.
+#[cycle(layout)]
+fn lay_elements(
+    element: &Ty,
+    alloc: Global,
+    elements: Elements,
+    terms: &[Term<'_>],
+    tag: Option<Tag>,
+    conditions: Vec<Condition>,
+    builder: Builder,
+) -> Result<Laid, OutOfMemory>
+    requires { MayBeLaid (type_view element.now) (each_of (terms_view terms.now)) }
+    ensures { IfOk result (λ l. Lays builder l (plans.plan (own_tags tag) true (asked_of (map condition_view conditions.items)
+        (body_of_elements elements (plan.lay (type_view element.now) (each_of (terms_view terms.now))))))) }
+{
+    let asks = each_of(alloc, terms)?;
+    let laid = lay(element, alloc, &asks, builder)?;
+    let whole = as_elements(laid, alloc, elements, tag)?;
+    with_conditions(whole, alloc, conditions)
+}
+
+/// SEQUENCE, SET and CHOICE.
+#[cycle(layout)]
+fn lay_group(
+    comps: &[Comp],
+    alloc: Global,
+    group: Group,
+    terms: &[Term<'_>],
+    tag: Option<Tag>,
+    conditions: Vec<Condition>,
+    builder: Builder,
+) -> Result<Laid, OutOfMemory>
+    requires { PartsMayBeLaid 0 (components_of (map component_view comps.now)) (terms_view terms.now) }
+    ensures { IfOk result (λ l. Lays builder l (plans.plan (own_tags tag) true (asked_of (map condition_view conditions.items)
+        (body_of_group group (parts_of_group group 0 (components_of (map component_view comps.now)) (terms_view terms.now)))))) }
+{
+    let parts = lay_each(comps, alloc, group, terms, builder)?;
+    let whole = as_parts(parts, alloc, group, tag)?;
+    with_conditions(whole, alloc, conditions)
+}
+
+/// What is inside the parts, and the parts' own nodes aside.
+#[cycle(layout)]
+fn lay_each(
+    comps: &[Comp],
+    alloc: Global,
+    group: Group,
+    terms: &[Term<'_>],
+    builder: Builder,
+) -> Result<LaidParts, OutOfMemory>
+    requires { PartsMayBeLaid 0 (components_of (map component_view comps.now)) (terms_view terms.now) }
+    ensures { IfOk result (λ l. LaysParts builder l (parts_of_group group 0 (components_of (map component_view comps.now)) (terms_view terms.now))) }
+{
+    let mut parts = LaidParts {
+        builder,
+        nodes: Vec::new(alloc),
+    };
+    for (place, comp) in comps.iter().enumerate() {
+        parts = lay_part(comp, alloc, group, place, terms, parts)?;
+    }
+    Ok(parts)
+}
+
+/// With one component or alternative more.
+#[cycle(layout)]
+fn lay_part(
+    comp: &Comp,
+    alloc: Global,
+    group: Group,
+    place: usize,
+    terms: &[Term<'_>],
+    parts: LaidParts,
+) -> Result<LaidParts, OutOfMemory>
+    requires nodes { MayCome parts }
+    requires laid { MayBeLaid (component_view comp.now).ty (within_of place (terms_view terms.now)) }
+    requires proper { IsTrue (is_proper_presence (component_view comp.now).ty (component_view comp.now).presence) }
+    ensures { IfOk result (λ l. Extends parts l group place (component_view comp.now) (terms_view terms.now)) }
+{
+    let asks = within_of(alloc, place, terms)?;
+    let side = side_of(comp, alloc, group, place, terms, &asks)?;
+    let laid = lay(&comp.ty, alloc, &asks, parts.builder)?;
+    with_part(laid, parts.nodes, side)
+}
+
+/// What is said of a component or alternative, beside its type.
+fn side_of(
+    comp: &Comp,
+    alloc: Global,
+    group: Group,
+    place: usize,
+    terms: &[Term<'_>],
+    asks: &[Ask<'_>],
+) -> Result<PartSide, OutOfMemory>
+    requires laid { MayBeLaid (component_view comp.now).ty (asks_view asks.now) }
+    requires proper { IsTrue (is_proper_presence (component_view comp.now).ty (component_view comp.now).presence) }
+    ensures { IfOk result (λ s. part_side_view s ≡ side_of_part group place (component_view comp.now) (terms_view terms.now) (plan.lay (component_view comp.now).ty (asks_view asks.now))) }
+{
+    if let Group::Choice = group {
+        return Ok(side_chosen(chosen_of(place, terms)));
+    }
+    let absent = absent_of(place, terms);
+    let present = present_of(place, terms);
+    side_for(alloc, &comp.ty, &comp.presence, asks, absent, present)
+}

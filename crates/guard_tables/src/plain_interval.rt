@@ -13,8 +13,8 @@ pub(crate) struct Interval {
     pub high: i32,
 }
 
-/// Numbers such that contents octets that spell one of them are lawful at this node, fail nothing there, and
-/// aren't a default's. It finds none yet, of any node.
+/// Numbers such that contents octets that spell one of them are lawful at this node, fail nothing there, and aren't a
+/// default's. It finds none yet, of any node.
 pub(crate) fn plain_interval(_hot: &Hot, _cold: &Cold) -> Interval
     ensures { (spots : List Spot) (os : List ℕ) → integer_fault os ≡ None → result.low ≤ℤ twos_complement os
         → twos_complement os ≤ℤ result.high → IsFree (spot_of _hot.now _cold.now spots) os }

@@ -1,6 +1,7 @@
 use Rattle.std.proofs.Common.{refl, arith, vec_len}
 use Rattle.std.specs.Prelude.{not}
-use Rattle.guard_tables.proofs.Comings.{simple_comes, simple_stands, simple_cold, told_so}
+use Rattle.guard_tables.proofs.Comings.{simple_comes, simple_stands, simple_cold}
+use Rattle.guard_tables.proofs.LaidSteps.{told_so}
 use Rattle.guard_tables.proofs.drafts.simple_node.Goals as goal
 
 pub returns-clause-node : goal.returns-clause-node

@@ -55,9 +55,9 @@ minus_put k n m l kind a b old mid new f g (Ok x) p q form next =
     let first : Formula = form_one k n kind a in
     record {
       terms = q.terms ∙ ap (λ (ts : List Term). ts ++ (form_one m (suc m) kind b).terms) p.terms ∙ append_assoc old first.terms (form_one m (suc m) kind b).terms
-      ∙ ap (λ (j : ℕ). old ++ (first.terms ++ (form_one j (suc j) kind b).terms)) p.next;
+          ∙ ap (λ (j : ℕ). old ++ (first.terms ++ (form_one j (suc j) kind b).terms)) p.next;
       besides = form ∙ ap (λ (x : Form). either x (unless g)) p.besides ∙ ap (λ (x : Form). either first.besides (unless x)) q.besides
-      ∙ ap (λ (j : ℕ). either first.besides (unless (own_slot j (form_one j (suc j) kind b)).besides)) p.next;
+          ∙ ap (λ (j : ℕ). either first.besides (unless (own_slot j (form_one j (suc j) kind b)).besides)) p.next;
       next = next ∙ q.next ∙ ap (λ (j : ℕ). (form_one j (suc j) kind b).next) p.next;
     }
 

@@ -9,3 +9,4 @@ pub mod Counting
 pub mod Search
 pub mod SideViews
 pub mod SlotWords
+pub mod Intervals

@@ -33,6 +33,7 @@ mod nodes;
 mod number_sets;
 mod parts;
 mod plain;
+mod plain_interval;
 mod presence;
 mod range_lists;
 mod scalars;

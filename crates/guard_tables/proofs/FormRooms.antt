@@ -1,5 +1,5 @@
 -- Of formulas that need no more slots than a node has no part needs more, and what a loop over demands puts together.
-use Rattle.std.proofs.Common.{◌≡◌, ℕ, suc, ◌+◌, ◌<◌, ◌≤◌, Result, Ok, Err, IfOk, List, [], ◌∷◌, ◌++◌, length, get_or, map, drop, refl, sym, ap, ◌∙◌, append_assoc, add-one, arith}
+use Rattle.std.proofs.Common.{◌≡◌, ℕ, suc, ◌+◌, ◌<◌, ◌≤◌, Result, Ok, Err, IfOk, List, [], ◌∷◌, ◌++◌, length, get_or, map, drop, sym, ap, ◌∙◌, append_assoc, add-one, arith}
 use Rattle.std.proofs.lemmas.List.{at_drop_more, length-map, map-append}
 use Rattle.guard_model.specs.AbstractType as type
 use Rattle.guard_model.specs.AbstractType.{AbstractKind, Constraint}
@@ -19,7 +19,7 @@ use Rattle.guard_tables.specs.inside.FormSteps.{Puts, own_slot}
 use Rattle.guard_tables.specs.inside.AskViews.{ask_view, demand_view, asks_view}
 use Rattle.guard_tables.specs.NodeViews.{form_view, form_step, raise_view}
 use Rattle.guard_tables.proofs.Folded.{rest_of, all_more, some_more}
-use Rattle.guard_tables.proofs.SlotCounts.{one_up, all_up, some_up, form_up, forms_up}
+use Rattle.guard_tables.proofs.SlotCounts.{one_up, all_up, some_up, forms_up}
 
 -- ---- lists of constraints
 

@@ -1,12 +1,11 @@
 -- Where what is asked has slots of 64-bit words, so has what fails at a value; and what fails at one is what it doesn't meet.
-use Rattle.std.proofs.Common.{◌≡◌, ℕ, zero, suc, Bool, true, false, cond, List, [], ◌∷◌, ◌++◌, Option, Some, None, refl, sym, ap, ◌∙◌, subst, IsTrue}
-use Rattle.std.specs.Prelude.{not, ◌&&◌, ◌||◌, nat_eq}
+use Rattle.std.proofs.Common.{◌≡◌, ℕ, zero, suc, Bool, true, false, cond, List, [], ◌∷◌, ◌++◌, refl, sym, ap, ◌∙◌, subst, IsTrue}
+use Rattle.std.specs.Prelude.{not, ◌||◌, nat_eq}
 use Rattle.guard_model.specs.AbstractType as type
 use Rattle.guard_model.specs.AbstractType.{AbstractType, AbstractKind, AbstractPresence, Components, type_of, no_components, component}
 use Rattle.guard_model.specs.AbstractValue as value
 use Rattle.guard_model.specs.AbstractValue.{AbstractValue, Fields, Items}
 use Rattle.guard_model.specs.Kinds.{kind_of}
-use Rattle.guard_der.specs.Der.{is_constructed}
 use Rattle.guard_der.specs.Fits.{fits}
 use Rattle.guard_der.specs.Sound.{is_sound}
 use Rattle.guard_tables.specs.declared.slots.Slots.{Slots}
@@ -14,12 +13,12 @@ use Rattle.guard_tables.specs.Slots.{none, added, has}
 use Rattle.guard_tables.specs.Formulas.{Raise, fails_where, failed_unless, raised}
 use Rattle.guard_tables.specs.Plan.{AbstractTest, AbstractCondition, Plan, Body, series, set, choice, list, set_of, formula, asked_of}
 use Rattle.guard_tables.specs.Marking.{Facts, facts_of, test_passes, conditions_marked, absence_marked, items_marked, marked, type_marked, fields_marked, alternative_marked}
-use Rattle.guard_tables.specs.Demands.{Ask, Atom, scalar, equals, sized, spelled, each, within, sent, unsent, Term, meets, ask_fails, asks_fail}
+use Rattle.guard_tables.specs.Demands.{Ask, Atom, sent, unsent, Term, meets, ask_fails, asks_fail}
 use Rattle.guard_tables.specs.Spread.{are_plain_asks}
 use Rattle.guard_tables.specs.Forms.{forms_of}
 use Rattle.guard_tables.specs.Apt.{AreApt}
 use Rattle.guard_tables.specs.Handed.{each_of, within_of, terms_at}
-use Rattle.guard_tables.specs.Lay.{tests_of, conditions_in, conditions_of, added_if, absent_in, absent_of, present_in, present_of, chosen_in, chosen_of, side_for, lay, lay_kind, lay_parts, lay_alternatives, nameless}
+use Rattle.guard_tables.specs.Lay.{tests_of, conditions_in, conditions_of, added_if, absent_in, absent_of, present_in, present_of, chosen_in, chosen_of, side_for, lay, lay_kind, lay_parts, lay_alternatives}
 use Rattle.guard_tables.specs.inside.SideViews.{asks_marked}
 use Rattle.guard_tables.specs.inside.SlotWords.{InWords, AsksIn}
 use Rattle.guard_tables.proofs.SlotWords.{none_in, added_in, same_slots}

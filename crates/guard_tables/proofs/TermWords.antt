@@ -11,10 +11,10 @@ use Rattle.guard_der.specs.Fits.{may_be_absent}
 use Rattle.guard_eval.specs.Presence.{is_ruled_out}
 use Rattle.guard_tables.specs.declared.slots.Slots.{Slots}
 use Rattle.guard_tables.specs.Slots.{only}
-use Rattle.guard_tables.specs.Demands.{Demand, by_type, by_constraint, Ask, Atom, scalar, equals, sized, spelled, each, within, sent, unsent, Term}
+use Rattle.guard_tables.specs.Demands.{Demand, by_type, by_constraint, Ask, Atom, scalar, each, within, sent, unsent, Term}
 use Rattle.guard_tables.specs.Formulas.{Raise, never}
 use Rattle.guard_tables.specs.Spread.{term, is_scalar, said, placed, ruled_out, unlisted, parts_from, spread_kind, spread_type, spread_one, spread_element, spread_all, spread_parts, spread, terms_of, are_plain_asks}
-use Rattle.guard_tables.specs.Forms.{Formula, formula, form_one, form_element, form_all, form_some, form_type, form, Formulas, forms_from, forms_of}
+use Rattle.guard_tables.specs.Forms.{Formula, formula, form_one, form_element, form_all, form_some, form_type, form, forms_from, forms_of}
 use Rattle.guard_tables.specs.Handed.{ask, each_in, each_of, within_in, within_of, terms_at}
 use Rattle.guard_tables.specs.inside.SlotWords.{InWords, AsksIn}
 use Rattle.guard_tables.proofs.SlotWords.{only_in}

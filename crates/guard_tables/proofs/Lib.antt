@@ -53,3 +53,5 @@ pub mod OfTables
 pub mod SlotWords
 pub mod TermWords
 pub mod LaidWords
+-- ---- numbers that fail nothing
+pub mod PlainIntervals

@@ -27,12 +27,12 @@ use Rattle.guard_tables.specs.declared.node.Raise.{Raise}
 use Rattle.guard_tables.specs.declared.node.SimpleKind.{SimpleKind}
 use Rattle.guard_tables.specs.declared.node_list.Builder.{Builder}
 use Rattle.guard_tables.specs.declared.slots.Slots.{Slots}
-use Rattle.guard_tables.specs.NodeViews.{absence_of, condition_view, raise_view, kind_view, identifier_of, other_of}
+use Rattle.guard_tables.specs.NodeViews.{absence_of, side_of, condition_view, raise_view, kind_view, identifier_of, other_of}
 use Rattle.guard_tables.specs.Plan.{Plan, Body, Parts, plan, simple, asked, formula, asked_of, no_parts, part, body_in, tags_in, form_in}
 use Rattle.guard_tables.specs.Slots.{none}
 use Rattle.guard_tables.specs.TableNodes.{Spot, spot_of, spots_of, spot_at, blank, own_tags, tags_of_kind, form_of_kind, body_of_kind, has_inner, parts_of, parts_between, IsNode, IsFree}
 use Rattle.guard_tables.specs.inside.Aside.{spots_at, AreNodes, parts_then}
-use Rattle.guard_tables.specs.inside.Bare.{bare_hot, kind_of_group, kind_of_elements}
+use Rattle.guard_tables.specs.inside.Bare.{bare_hot, plain_hot, kind_of_group, kind_of_elements}
 use Rattle.guard_tables.specs.inside.Laid.{spots_so_far, Grows, Stacks, Lays, plan_in, body_of_group, body_of_elements}
 use Rattle.guard_tables.proofs.Growing.{one_more, stays, kept_node}
 use Rattle.guard_tables.proofs.Spots.{spots_count}
@@ -264,6 +264,40 @@ sided h c need watched from to low high absent present default free plain spots 
       unwatched = free;
       unasked = n.unasked;
       plain = λ os lawful from_low to_high. subst (λ (s : Spot). IsFree s os) (before ∙ sym same) (plain spots os lawful from_low to_high);
+    }
+
+-- ---- numbers that are plain there
+
+plain_body : (k : Kind) (h : Hot) (c : Cold) (low high : ℤ) (spots : List Spot) → body_of_kind k (plain_hot h low high) c spots ≡ body_of_kind k h c spots
+plain_body (kind.Simple k) h c low high spots = refl
+plain_body kind.Series h c low high spots = refl
+plain_body kind.Set h c low high spots = refl
+plain_body kind.Choice h c low high spots = refl
+plain_body kind.List h c low high spots = refl
+plain_body kind.SetOf h c low high spots = refl
+plain_body kind.Wrapper h c low high spots = refl
+plain_body kind.Asked h c low high spots = refl
+plain_body kind.Formula h c low high spots = refl
+
+pub plain_spot : (h : Hot) (c : Cold) (low high : ℤ) (spots : List Spot) → spot_of (plain_hot h low high) c spots ≡ spot_of h c spots
+unfolding spot_of
+plain_spot h c low high spots =
+    let tags : List Tag = tags_of_kind h.kind c.tag (tags_in (spot_at spots h.first).plan) in
+    let form : Bool = form_of_kind h.kind (form_in (spot_at spots h.first).plan) in
+    ap (λ (b : Body). record { side = side_of h c; plan = plan tags form b }) (plain_body h.kind h c low high spots)
+
+pub plained : (h : Hot) (c : Cold) (low high : ℤ) → ((spots : List Spot) (os : List ℕ) → integer_fault os ≡ None → low ≤ℤ twos_complement os → twos_complement os ≤ℤ high → IsFree (spot_of h c spots) os)
+    → (spots : List Spot) (k : ℕ) → IsNode h c spots k → IsNode (plain_hot h low high) c spots k
+plained h c low high plain spots k n =
+    let same : spot_of h c spots ≡ spot_of (plain_hot h low high) c spots = sym (plain_spot h c low high spots) in
+    record {
+      before = n.before;
+      inner = n.inner;
+      identifier = n.identifier ∙ ap (λ (s : Spot). identifier_of (tags_in s.plan) (form_in s.plan)) same;
+      other = n.other ∙ ap (λ (s : Spot). other_of (tags_in s.plan) (form_in s.plan)) same;
+      unwatched = n.unwatched;
+      unasked = n.unasked;
+      plain = λ os lawful from_low to_high. subst (λ (s : Spot). IsFree s os) same (plain spots os lawful from_low to_high);
     }
 
 -- ---- nodes aside

@@ -24,4 +24,4 @@ pub mod SimpleReadings
 pub mod Readings
 pub mod Messages
 -- ---- which types have the value
-pub mod Members
+pub mod MarkedTypes

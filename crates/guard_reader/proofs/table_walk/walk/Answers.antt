@@ -6,7 +6,7 @@ use Rattle.guard_tables.specs.Slots.{below, without}
 use Rattle.guard_tables.specs.TableView.{declared_of, rules_of}
 use Rattle.guard_tables.specs.declared.slots.Slots.{Slots}
 use Rattle.guard_reader.specs.Judging.{message_judged}
-use Rattle.guard_reader.proofs.Members.{Given, Members, members_found, some_found}
+use Rattle.guard_reader.proofs.MarkedTypes.{Given, Members, members_found, some_found}
 use Rattle.guard_reader.proofs.table_walk.walk.Goals as goal
 
 pub returns-in_err-failed-clause-only : goal.returns-in_err-failed-clause-only

@@ -1,6 +1,7 @@
 -- ---- the octets of one element
 pub mod Octets
 -- ---- what one pass makes of octets by a plan
+pub mod Fronts
 pub mod Judging
 pub mod Covered
 -- ---- what it tells

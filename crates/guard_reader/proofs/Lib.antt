@@ -12,7 +12,6 @@ pub mod NodeSteps
 pub mod Steps
 -- ---- a pass reads octets as decoding does
 pub mod Sizes
-pub mod LowPlans
 pub mod Fronts
 pub mod Places
 pub mod Heads
@@ -21,6 +20,8 @@ pub mod Ways
 pub mod Taken
 pub mod Choices
 pub mod ReadTypes
+pub mod Untagged
+pub mod Tagged
 pub mod ComponentReadings
 pub mod ElementReadings
 pub mod OrderedReadings

@@ -49,7 +49,7 @@ later_tested : (b : Bool) (i : ℕ) (x y : Option ℕ) → x ≡ option_map suc 
 later_tested true i x y e = refl
 later_tested false i x y e = e
 
-later_with : (i : ℕ) (cs : Components) (tag : Tag) → one_with (suc i) cs tag ≡ option_map suc (one_with i cs tag)
+pub later_with : (i : ℕ) (cs : Components) (tag : Tag) → one_with (suc i) cs tag ≡ option_map suc (one_with i cs tag)
 later_with i no_components tag = refl
 later_with i (component name t presence cs) tag = later_tested (begins_with t tag) i (one_with (suc (suc i)) cs tag) (one_with (suc i) cs tag) (later_with (suc i) cs tag)
 

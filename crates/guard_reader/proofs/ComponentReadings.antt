@@ -197,7 +197,7 @@ bad_part side sight w o os m go law digits bad later = elim (bad_seen side w o o
 
 -- ---- fields that are read one after the other
 
-joined_read : (side : Side) (p : Plan) (ps : Parts) (t : AbstractType) (name : List ℕ) (presence : AbstractPresence) (cs : Components) (x : Option AbstractValue) (m : Slots) (r : Result Fields AbstractBreach)
+pub joined_read : (side : Side) (p : Plan) (ps : Parts) (t : AbstractType) (name : List ℕ) (presence : AbstractPresence) (cs : Components) (x : Option AbstractValue) (m : Slots) (r : Result Fields AbstractBreach)
     → option_map (λ fs. fields_marked cs ps fs (field_marked side (λ v m. type_marked t p v m) x m)) (ok r) ≡ option_map (λ fs. fields_marked (component name t presence cs) (part side p ps) fs m) (ok (answer.◌>>=◌ r (λ fs. Ok (field_before x fs))))
 unfolding marked
 joined_read side p ps t name presence cs x m (Err breach) = refl

@@ -19,6 +19,7 @@ pub mod Sights
 pub mod Ways
 pub mod Taken
 pub mod Choices
+pub mod Members
 pub mod ReadTypes
 pub mod Untagged
 pub mod Tagged

@@ -1,5 +1,5 @@
 -- A pass over octets reads them as `decode` does, and marks what fails at the value.
-use Rattle.std.proofs.Common.{◌≡◌, ℕ, ◌^◌, ◌<◌, Bool, true, false, List, [], ◌∷◌, length, Option, Some, None, Result, Ok, Err, refl, sym, ap, ◌∙◌}
+use Rattle.std.proofs.Common.{◌≡◌, ℕ, suc, ◌^◌, ◌<◌, Bool, true, false, List, [], ◌∷◌, length, Option, Some, None, Result, Ok, Err, refl, sym, ap, ◌∙◌}
 use Rattle.std.specs.Prelude.{option_map}
 use Rattle.guard_model.specs.AbstractType as type
 use Rattle.guard_model.specs.AbstractType.{AbstractType, AbstractKind, Components, type_of, no_components, component}
@@ -9,7 +9,7 @@ use Rattle.guard_der.specs.Breach.{AbstractBreach}
 use Rattle.guard_der.specs.Der.{contents_octets}
 use Rattle.guard_der.specs.Head.{Head}
 use Rattle.guard_der.specs.Reading as read
-use Rattle.guard_der.specs.Reading.{fields_at, items_at, contents_at, element_at, end_at, fields_read, items_read}
+use Rattle.guard_der.specs.Reading.{fields_at, items_at, set_at, part_at, all_absent, contents_at, element_at, end_at, fields_read, items_read}
 use Rattle.guard_tables.specs.declared.slots.Slots.{Slots}
 use Rattle.guard_tables.specs.Slots.{none}
 use Rattle.guard_tables.specs.Formulas.{Raise}
@@ -19,12 +19,14 @@ use Rattle.guard_tables.specs.Standing.{Spells, SimpleFor, PlanFor, BodyFor, Par
 use Rattle.guard_reader.specs.Covered.{IsWhole, IsCovered, IsCoveredBody, AreCovered}
 use Rattle.guard_reader.specs.Fronts as fronts
 use Rattle.guard_reader.specs.Fronts.{front, body_front, parts_front}
-use Rattle.guard_reader.specs.Judging.{contents_judged, fields_judged, chosen_judged, inside_judged, elements, ordered, message_judged, outside, whole_facts, size_in, element_count}
+use Rattle.guard_reader.specs.Judging.{contents_judged, fields_judged, member_judged, chosen_judged, inside_judged, members_at, absences_at, elements, ordered, message_judged, outside, whole_facts, size_in, element_count}
 use Rattle.guard_reader.specs.Octets.{ok}
 use Rattle.guard_reader.proofs.Places.{Digits, Bad}
 use Rattle.guard_reader.proofs.Sights.{alone_read}
 use Rattle.guard_reader.proofs.Ways.{way_of, PlanLaw}
 use Rattle.guard_reader.proofs.Choices.{ChosenLaw, ShapeLaw, choice_read, more_chosen, none_chosen_of, more_shape, none_shape}
+use Rattle.guard_reader.proofs.Members as members
+use Rattle.guard_reader.proofs.Members.{SidesLaw, MemberLaw, member_step}
 use Rattle.guard_reader.proofs.ReadTypes.{IsRead, IsReadKind, AreRead}
 use Rattle.guard_reader.proofs.Untagged.{BareLaw, choice_bare, in_front, never_bare, bare_sight}
 use Rattle.guard_reader.proofs.Tagged.{tagged_plan, bare_plan, with_tags}
@@ -86,6 +88,11 @@ unfolding marked
 series_read ps cs m (Err breach) a e = e
 series_read ps cs m (Ok fs) a e = e
 
+members_set : (ps : Parts) (cs : Components) (m : Slots) (r : Result Fields AbstractBreach) (a : Option Slots) → a ≡ option_map (λ fs. fields_marked cs ps fs m) (ok r) → a ≡ option_map (λ v. marked (type.set cs) (set ps) v m) (ok (fields_read r))
+unfolding marked
+members_set ps cs m (Err breach) a e = e
+members_set ps cs m (Ok fs) a e = e
+
 set_read : (p : Plan) (t : AbstractType) (m : Slots) (r : Result Items AbstractBreach) (a : Option Slots) → a ≡ option_map (λ vs. items_marked (λ v m. type_marked t p v m) vs m) (ok r) → a ≡ option_map (λ v. marked (type.set_of t) (set_of p) v m) (ok (items_read r))
 unfolding marked
 set_read p t m (Err b) a e = e
@@ -95,6 +102,12 @@ list_read : (p : Plan) (t : AbstractType) (m : Slots) (r : Result Items Abstract
 unfolding marked
 list_read p t m (Err b) a e = e
 list_read p t m (Ok vs) a e = e
+
+sides_law : (ps : Parts) (cs : Components) → PartsFor ps cs → SidesLaw ps cs
+sides_law no_parts no_components f = tt
+sides_law (part side (plan tags con b) ps) (component name (type_of others kind cons) presence cs) f = (side_law side tags others con b kind cons presence f.1, sides_law ps cs f.2)
+sides_law no_parts (component name t presence cs) f = absurd f
+sides_law (part side p ps) no_components f = absurd f
 
 -- ---- all kinds
 
@@ -115,7 +128,9 @@ mutual
   contents_read (asked cs b) kind f c r at start os m digits short =
       asked_read cs b kind os m (contents_at kind at start os) (contents_judged b os m) (λ v e. whole_known b kind f.1 c.0 c.1 r at start os v digits (spelled kind f.0 r at start os v digits short e) e)
       (contents_read b kind f.1 c.1 r at start os m digits short)
-  contents_read (set ps) kind f c r at start os m digits short = absurd c
+  contents_read (set ps) (type.set cs) f c r at start os m digits short =
+      members_set ps cs m (set_at (length os) cs (part_at cs) (all_absent cs) None start os) (members_at (length os) (λ places os m. member_judged ps 0 places os m) (λ places m. absences_at 0 ps places m) [] None os m)
+      (members.set_read (λ places os m. member_judged ps 0 places os m) ps cs (sides_law ps cs f) (member_law ps cs f c r 0) start os m digits short)
   contents_read b kind f c r at start os m digits short = absurd f
 
   whole_known : (b : Body) (kind : AbstractKind) → BodyFor b kind → IsWhole b → IsCoveredBody b → IsReadKind kind → (at start : ℕ) (os : List ℕ) (v : AbstractValue) → Digits os → contents_octets kind v ≡ Some os
@@ -131,7 +146,7 @@ mutual
   whole_known (formula raises b) kind f whole c r at start os v digits is e = whole_known b kind f whole c r at start os v digits is e
   whole_known (asked cs b) kind f whole c r at start os v digits is e = whole_known b kind f.1 whole c.1 r at start os v digits is e
   whole_known (simple one cs) kind f whole c r at start os v digits is e = absurd whole
-  whole_known (set ps) kind f whole c r at start os v digits is e = absurd c
+  whole_known (set ps) (type.set cs) f whole c r at start os v digits is e = fields_known (type.set cs) os (set_at (length os) cs (part_at cs) (all_absent cs) None start os) v is e
   whole_known b kind f whole c r at start os v digits is e = absurd f
 
   pub plan_law : (p : Plan) (t : AbstractType) → PlanFor p t → IsCovered p → IsRead t → PlanLaw p t
@@ -184,6 +199,16 @@ mutual
       (plan_law (plan tags con b) (type_of others kind cons) f.0 c.0 r.0) digits bad (λ k. fields_bad ps cs f.2 c.1 r.1 o os k digits bad)
   fields_bad no_parts (component name t presence cs) f c r o os m digits bad = absurd f
   fields_bad (part side p ps) no_components f c r o os m digits bad = absurd f
+
+  -- an element of a SET
+  member_law : (ps : Parts) (cs : Components) → PartsFor ps cs → AreCovered ps → AreRead cs → (i : ℕ) → MemberLaw (λ places os m. member_judged ps i places os m) ps cs i
+  member_law no_parts no_components f c r i places at o os h m digits short e = refl
+  member_law (part side (plan tags con b) ps) (component name (type_of others kind cons) presence cs) f c r i places at o os h m digits short e =
+      member_step side (plan tags con b) ps name (type_of others kind cons) presence cs i places at o os h m (member_judged ps (suc i) places (o ∷ os) m) (front (plan tags con b) (o ∷ os))
+      ((plan_law (plan tags con b) (type_of others kind cons) f.0 c.0 r.0).seen o os digits) e (side_law side tags others con b kind cons presence f.1) short
+      (member_law ps cs f.2 c.1 r.1 (suc i) places at o os h m digits short e)
+  member_law no_parts (component name t presence cs) f c r i places at o os h m digits short e = absurd f
+  member_law (part side p ps) no_components f c r i places at o os h m digits short e = absurd f
 
 -- ---- a whole message
 

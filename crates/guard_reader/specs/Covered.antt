@@ -21,7 +21,7 @@ abbrev mutual
   pub IsCoveredBody : Body → Type 0
   IsCoveredBody (simple kind cs) = ⊤
   IsCoveredBody (series ps) = AreCovered ps
-  IsCoveredBody (set ps) = ⊥
+  IsCoveredBody (set ps) = AreCovered ps
   IsCoveredBody (choice ps) = AreCovered ps
   IsCoveredBody (list p) = IsCovered p
   IsCoveredBody (set_of p) = IsCovered p

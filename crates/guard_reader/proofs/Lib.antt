@@ -1,17 +1,14 @@
 -- ---- octets
-pub mod Digits
 pub mod Lengths
 pub mod Small
 pub mod Elements
 -- ---- contents of simple kinds
-pub mod LastOctets
 pub mod Subidentifiers
 pub mod Utf8
 -- ---- what the walk takes from nodes, and one step of it
 pub mod NodeSteps
 pub mod Steps
 -- ---- a pass reads octets as decoding does
-pub mod Sizes
 pub mod Fronts
 pub mod Places
 pub mod Heads

@@ -17,7 +17,6 @@ use Rattle.guard_tables.specs.Slots.{none}
 use Rattle.guard_tables.specs.Plan.{Plan, Body}
 use Rattle.guard_tables.specs.Marking.{marked, type_marked}
 use Rattle.guard_tables.specs.Standing.{PlanFor, BodyFor}
-use Rattle.guard_reader.specs.Covered.{IsCovered, IsCoveredBody}
 use Rattle.guard_reader.specs.Judging.{contents_judged}
 use Rattle.guard_reader.specs.Octets.{ok}
 use Rattle.guard_reader.specs.Laws.{ContentsLaw, MessageLaw}
@@ -31,15 +30,15 @@ found p t os m (Ok v) sound digits is e =
     let taken = message_takes t os v digits sound is in
     (v, taken.0, taken.1, sym (same_Some (type_marked t p v none) m e))
 
-pub message_law : (p : Plan) (t : AbstractType) (os : List ℕ) → PlanFor p t → IsCovered p → IsTrue (is_sound t) → AllByRecursion (λ o. o < 256) os → MessageLaw p t os
-message_law p t os f covered sound digits = record {
-  found = λ m e. found p t os m (message_of t os) sound digits refl (sym (message_read p t os f covered (sound_is_read t sound) digits) ∙ e);
-  only = λ v fit e. message_read p t os f covered (sound_is_read t sound) digits ∙ ap (λ (r : Result AbstractValue AbstractBreach). option_map (λ v. type_marked t p v none) (ok r)) (message_again t os v sound fit e);
+pub message_law : (p : Plan) (t : AbstractType) (os : List ℕ) → PlanFor p t → IsTrue (is_sound t) → AllByRecursion (λ o. o < 256) os → MessageLaw p t os
+message_law p t os f sound digits = record {
+  found = λ m e. found p t os m (message_of t os) sound digits refl (sym (message_read p t os f (sound_is_read t sound) digits) ∙ e);
+  only = λ v fit e. message_read p t os f (sound_is_read t sound) digits ∙ ap (λ (r : Result AbstractValue AbstractBreach). option_map (λ v. type_marked t p v none) (ok r)) (message_again t os v sound fit e);
 }
 
-contents_of : (b : Body) (t : AbstractType) → BodyFor b (kind_of t) → IsCoveredBody b → IsRead t → (at start : ℕ) (os : List ℕ) (m : Slots) → AllByRecursion (λ o. o < 256) os → length os < 2 ^ 32
+contents_of : (b : Body) (t : AbstractType) → BodyFor b (kind_of t) → IsRead t → (at start : ℕ) (os : List ℕ) (m : Slots) → AllByRecursion (λ o. o < 256) os → length os < 2 ^ 32
     → contents_judged b os m ≡ option_map (λ v. marked (kind_of t) b v m) (ok (contents_at (kind_of t) at start os))
-contents_of b (type_of tags kind cons) f covered r at start os m digits short = contents_read b kind f covered r at start os m digits (any_short kind os short)
+contents_of b (type_of tags kind cons) f r at start os m digits short = contents_read b kind f r at start os m digits (any_short kind os short)
 
 pub contents_law : ContentsLaw
-contents_law b t f covered sound at start os m digits short = contents_of b t f covered (sound_is_read t sound) at start os m digits short
+contents_law b t f sound at start os m digits short = contents_of b t f (sound_is_read t sound) at start os m digits short

@@ -15,8 +15,7 @@ use Rattle.guard_tables.specs.Slots.{none}
 use Rattle.guard_tables.specs.Formulas.{Raise}
 use Rattle.guard_tables.specs.Marking.{facts_of, items_marked, marked, type_marked, fields_marked}
 use Rattle.guard_tables.specs.Plan.{Plan, Body, Parts, plan, simple, series, set, choice, list, set_of, asked, formula, no_parts, part}
-use Rattle.guard_tables.specs.Standing.{Spells, SimpleFor, PlanFor, BodyFor, PartsFor, AlternativesFor}
-use Rattle.guard_reader.specs.Covered.{IsWhole, IsCovered, IsCoveredBody, AreCovered}
+use Rattle.guard_tables.specs.Standing.{Spells, SimpleFor, PlanFor, BodyFor, PartsFor, AlternativesFor, IsWhole}
 use Rattle.guard_reader.specs.Fronts as fronts
 use Rattle.guard_reader.specs.Fronts.{front, body_front, parts_front}
 use Rattle.guard_reader.specs.Judging.{contents_judged, fields_judged, member_judged, chosen_judged, inside_judged, members_at, absences_at, elements, ordered, message_judged, outside, whole_facts, size_in, element_count}
@@ -114,104 +113,104 @@ sides_law (part side p ps) no_components f = absurd f
 mutual
   unfolding contents_judged contents_at end_at fronts.front marked
 
-  pub contents_read : (b : Body) (kind : AbstractKind) → BodyFor b kind → IsCoveredBody b → IsReadKind kind → (at start : ℕ) (os : List ℕ) (m : Slots) → Digits os → IsShort kind os → contents_judged b os m ≡ option_map (λ v. marked kind b v m) (ok (contents_at kind at start os))
-  contents_read (simple one cs) kind f c r at start os m digits short = simple_read one cs kind f at start os m digits (simple_short one kind os f short)
-  contents_read (series ps) (type.sequence cs) f c r at start os m digits short = series_read ps cs m (fields_at 0 cs start os) (fields_judged ps os m) (fields_law ps cs f c r 0 start os m digits short)
-  contents_read (choice ps) (type.choice cs) f c r at start os m digits short = choice_read (λ os m. chosen_judged ps os m) ps cs (chosen_law ps cs f c r.1) at start os m digits
-  contents_read (list p) (type.sequence_of t) f c r at start os m digits short =
+  pub contents_read : (b : Body) (kind : AbstractKind) → BodyFor b kind → IsReadKind kind → (at start : ℕ) (os : List ℕ) (m : Slots) → Digits os → IsShort kind os → contents_judged b os m ≡ option_map (λ v. marked kind b v m) (ok (contents_at kind at start os))
+  contents_read (simple one cs) kind f r at start os m digits short = simple_read one cs kind f at start os m digits (simple_short one kind os f short)
+  contents_read (series ps) (type.sequence cs) f r at start os m digits short = series_read ps cs m (fields_at 0 cs start os) (fields_judged ps os m) (fields_law ps cs f r 0 start os m digits short)
+  contents_read (choice ps) (type.choice cs) f r at start os m digits short = choice_read (λ os m. chosen_judged ps os m) ps cs (chosen_law ps cs f r.1) at start os m digits
+  contents_read (list p) (type.sequence_of t) f r at start os m digits short =
       list_read p t m (items_at (length os) false (begins_with t) (element_at t) 0 [] start os) (elements (λ os. front p os) (λ os m. inside_judged p os m) os m)
-      (elements_read (λ os. front p os) (way_of p t) (plan_law p t f c r) (length os) 0 start [] os m digits)
-  contents_read (set_of p) (type.set_of t) f c r at start os m digits short =
+      (elements_read (λ os. front p os) (way_of p t) (plan_law p t f r) (length os) 0 start [] os m digits)
+  contents_read (set_of p) (type.set_of t) f r at start os m digits short =
       set_read p t m (items_at (length os) true (begins_with t) (element_at t) 0 [] start os) (ordered (λ os. front p os) (λ os m. inside_judged p os m) [] os m)
-      (ordered_read (λ os. front p os) (way_of p t) (plan_law p t f c r) (length os) 0 start [] os m digits)
-  contents_read (formula raises b) kind f c r at start os m digits short = formula_read raises b kind m (contents_at kind at start os) (contents_judged b os none) (contents_read b kind f c r at start os none digits short)
-  contents_read (asked cs b) kind f c r at start os m digits short =
-      asked_read cs b kind os m (contents_at kind at start os) (contents_judged b os m) (λ v e. whole_known b kind f.1 c.0 c.1 r at start os v digits (spelled kind f.0 r at start os v digits short e) e)
-      (contents_read b kind f.1 c.1 r at start os m digits short)
-  contents_read (set ps) (type.set cs) f c r at start os m digits short =
+      (ordered_read (λ os. front p os) (way_of p t) (plan_law p t f r) (length os) 0 start [] os m digits)
+  contents_read (formula raises b) kind f r at start os m digits short = formula_read raises b kind m (contents_at kind at start os) (contents_judged b os none) (contents_read b kind f r at start os none digits short)
+  contents_read (asked cs b) kind f r at start os m digits short =
+      asked_read cs b kind os m (contents_at kind at start os) (contents_judged b os m) (λ v e. whole_known b kind f.1 f.2 r at start os v digits (spelled kind f.0 r at start os v digits short e) e)
+      (contents_read b kind f.1 r at start os m digits short)
+  contents_read (set ps) (type.set cs) f r at start os m digits short =
       members_set ps cs m (set_at (length os) cs (part_at cs) (all_absent cs) None start os) (members_at (length os) (λ places os m. member_judged ps 0 places os m) (λ places m. absences_at 0 ps places m) [] None os m)
-      (members.set_read (λ places os m. member_judged ps 0 places os m) ps cs (sides_law ps cs f) (member_law ps cs f c r 0) start os m digits short)
-  contents_read b kind f c r at start os m digits short = absurd f
+      (members.set_read (λ places os m. member_judged ps 0 places os m) ps cs (sides_law ps cs f) (member_law ps cs f r 0) start os m digits short)
+  contents_read b kind f r at start os m digits short = absurd f
 
-  whole_known : (b : Body) (kind : AbstractKind) → BodyFor b kind → IsWhole b → IsCoveredBody b → IsReadKind kind → (at start : ℕ) (os : List ℕ) (v : AbstractValue) → Digits os → contents_octets kind v ≡ Some os
+  whole_known : (b : Body) (kind : AbstractKind) → BodyFor b kind → IsWhole b → IsReadKind kind → (at start : ℕ) (os : List ℕ) (v : AbstractValue) → Digits os → contents_octets kind v ≡ Some os
       → contents_at kind at start os ≡ Ok v → facts_of kind v ≡ whole_facts (size_in b os) os
-  whole_known (series ps) (type.sequence cs) f whole c r at start os v digits is e = fields_known (type.sequence cs) os (fields_at 0 cs start os) v is e
-  whole_known (choice ps) (type.choice cs) f whole c r at start os v digits is e = choice_known cs at start os v is e
-  whole_known (list p) (type.sequence_of t) f whole c r at start os v digits is e =
+  whole_known (series ps) (type.sequence cs) f whole r at start os v digits is e = fields_known (type.sequence cs) os (fields_at 0 cs start os) v is e
+  whole_known (choice ps) (type.choice cs) f whole r at start os v digits is e = choice_known cs at start os v is e
+  whole_known (list p) (type.sequence_of t) f whole r at start os v digits is e =
       items_known (type.sequence_of t) (element_count (λ os. front p os) os) os (items_at (length os) false (begins_with t) (element_at t) 0 [] start os) v
-      (λ vs found. items_counted (λ os. front p os) (way_of p t) (plan_law p t f c r) false (length os) 0 start [] os vs digits found) is e
-  whole_known (set_of p) (type.set_of t) f whole c r at start os v digits is e =
+      (λ vs found. items_counted (λ os. front p os) (way_of p t) (plan_law p t f r) false (length os) 0 start [] os vs digits found) is e
+  whole_known (set_of p) (type.set_of t) f whole r at start os v digits is e =
       items_known (type.set_of t) (element_count (λ os. front p os) os) os (items_at (length os) true (begins_with t) (element_at t) 0 [] start os) v
-      (λ vs found. items_counted (λ os. front p os) (way_of p t) (plan_law p t f c r) true (length os) 0 start [] os vs digits found) is e
-  whole_known (formula raises b) kind f whole c r at start os v digits is e = whole_known b kind f whole c r at start os v digits is e
-  whole_known (asked cs b) kind f whole c r at start os v digits is e = whole_known b kind f.1 whole c.1 r at start os v digits is e
-  whole_known (simple one cs) kind f whole c r at start os v digits is e = absurd whole
-  whole_known (set ps) (type.set cs) f whole c r at start os v digits is e = fields_known (type.set cs) os (set_at (length os) cs (part_at cs) (all_absent cs) None start os) v is e
-  whole_known b kind f whole c r at start os v digits is e = absurd f
+      (λ vs found. items_counted (λ os. front p os) (way_of p t) (plan_law p t f r) true (length os) 0 start [] os vs digits found) is e
+  whole_known (formula raises b) kind f whole r at start os v digits is e = whole_known b kind f whole r at start os v digits is e
+  whole_known (asked cs b) kind f whole r at start os v digits is e = whole_known b kind f.1 whole r at start os v digits is e
+  whole_known (simple one cs) kind f whole r at start os v digits is e = absurd whole
+  whole_known (set ps) (type.set cs) f whole r at start os v digits is e = fields_known (type.set cs) os (set_at (length os) cs (part_at cs) (all_absent cs) None start os) v is e
+  whole_known b kind f whole r at start os v digits is e = absurd f
 
-  pub plan_law : (p : Plan) (t : AbstractType) → PlanFor p t → IsCovered p → IsRead t → PlanLaw p t
-  plan_law (plan tags con b) (type_of [] kind cons) f c r =
+  pub plan_law : (p : Plan) (t : AbstractType) → PlanFor p t → IsRead t → PlanLaw p t
+  plan_law (plan tags con b) (type_of [] kind cons) f r =
       with_tags tags [] con b (type_of [] kind cons) kind f.0 f.1
-      (bare_plan b kind cons (bare_sight (λ os. body_front b os) kind b (λ h at os m tag digits. contents_read b kind f.2 c r at at os m digits (bare_short kind h os tag)) (bare_law b kind f.2 c r)))
-  plan_law (plan tags con b) (type_of (t ∷ ts) kind cons) f c r =
+      (bare_plan b kind cons (bare_sight (λ os. body_front b os) kind b (λ h at os m tag digits. contents_read b kind f.2 r at at os m digits (bare_short kind h os tag)) (bare_law b kind f.2 r)))
+  plan_law (plan tags con b) (type_of (t ∷ ts) kind cons) f r =
       with_tags tags (t ∷ ts) con b (type_of (t ∷ ts) kind cons) kind f.0 f.1
-      (tagged_plan t ts b kind cons (λ at start os m digits short. contents_read b kind f.2 c r at start os m digits (any_short kind os short)))
+      (tagged_plan t ts b kind cons (λ at start os m digits short. contents_read b kind f.2 r at start os m digits (any_short kind os short)))
 
-  bare_law : (b : Body) (kind : AbstractKind) → BodyFor b kind → IsCoveredBody b → IsReadKind kind → BareLaw (λ os. body_front b os) kind b
-  bare_law (choice ps) (type.choice cs) f c r = let s = shape_law ps cs f c r.1 in choice_bare (λ os. parts_front ps os) cs (choice ps) s.ended s.seen
-  bare_law (asked cs b) kind f c r = in_front (λ os. body_front b os) kind b (asked cs b) (bare_law b kind f.1 c.1 r)
-  bare_law (formula raises b) kind f c r = in_front (λ os. body_front b os) kind b (formula raises b) (bare_law b kind f c r)
-  bare_law (simple one cs) kind f c r = never_bare kind (simple one cs) (simple_never one kind f)
-  bare_law (series ps) (type.sequence cs) f c r = never_bare (type.sequence cs) (series ps) (λ h. refl)
-  bare_law (set ps) (type.set cs) f c r = never_bare (type.set cs) (set ps) (λ h. refl)
-  bare_law (list p) (type.sequence_of t) f c r = never_bare (type.sequence_of t) (list p) (λ h. refl)
-  bare_law (set_of p) (type.set_of t) f c r = never_bare (type.set_of t) (set_of p) (λ h. refl)
-  bare_law b kind f c r = absurd f
+  bare_law : (b : Body) (kind : AbstractKind) → BodyFor b kind → IsReadKind kind → BareLaw (λ os. body_front b os) kind b
+  bare_law (choice ps) (type.choice cs) f r = let s = shape_law ps cs f r.1 in choice_bare (λ os. parts_front ps os) cs (choice ps) s.ended s.seen
+  bare_law (asked cs b) kind f r = in_front (λ os. body_front b os) kind b (asked cs b) (bare_law b kind f.1 r)
+  bare_law (formula raises b) kind f r = in_front (λ os. body_front b os) kind b (formula raises b) (bare_law b kind f r)
+  bare_law (simple one cs) kind f r = never_bare kind (simple one cs) (simple_never one kind f)
+  bare_law (series ps) (type.sequence cs) f r = never_bare (type.sequence cs) (series ps) (λ h. refl)
+  bare_law (set ps) (type.set cs) f r = never_bare (type.set cs) (set ps) (λ h. refl)
+  bare_law (list p) (type.sequence_of t) f r = never_bare (type.sequence_of t) (list p) (λ h. refl)
+  bare_law (set_of p) (type.set_of t) f r = never_bare (type.set_of t) (set_of p) (λ h. refl)
+  bare_law b kind f r = absurd f
 
-  shape_law : (ps : Parts) (cs : Components) → AlternativesFor ps cs → AreCovered ps → AreRead cs → ShapeLaw (λ os. parts_front ps os) cs
-  shape_law no_parts no_components f c r = none_shape
-  shape_law (part side p ps) (component name t presence cs) f c r = more_shape (λ os. parts_front ps os) p name t presence cs (plan_law p t f.0 c.0 r.0) (shape_law ps cs f.1 c.1 r.1)
-  shape_law no_parts (component name t presence cs) f c r = absurd f
-  shape_law (part side p ps) no_components f c r = absurd f
+  shape_law : (ps : Parts) (cs : Components) → AlternativesFor ps cs → AreRead cs → ShapeLaw (λ os. parts_front ps os) cs
+  shape_law no_parts no_components f r = none_shape
+  shape_law (part side p ps) (component name t presence cs) f r = more_shape (λ os. parts_front ps os) p name t presence cs (plan_law p t f.0 r.0) (shape_law ps cs f.1 r.1)
+  shape_law no_parts (component name t presence cs) f r = absurd f
+  shape_law (part side p ps) no_components f r = absurd f
 
-  chosen_law : (ps : Parts) (cs : Components) → AlternativesFor ps cs → AreCovered ps → AreRead cs → ChosenLaw (λ os m. chosen_judged ps os m) ps cs
-  chosen_law no_parts no_components f c r = none_chosen_of
-  chosen_law (part side p ps) (component name t presence cs) f c r = more_chosen (λ os m. chosen_judged ps os m) side p ps name t presence cs (plan_law p t f.0 c.0 r.0) (chosen_law ps cs f.1 c.1 r.1)
-  chosen_law no_parts (component name t presence cs) f c r = absurd f
-  chosen_law (part side p ps) no_components f c r = absurd f
+  chosen_law : (ps : Parts) (cs : Components) → AlternativesFor ps cs → AreRead cs → ChosenLaw (λ os m. chosen_judged ps os m) ps cs
+  chosen_law no_parts no_components f r = none_chosen_of
+  chosen_law (part side p ps) (component name t presence cs) f r = more_chosen (λ os m. chosen_judged ps os m) side p ps name t presence cs (plan_law p t f.0 r.0) (chosen_law ps cs f.1 r.1)
+  chosen_law no_parts (component name t presence cs) f r = absurd f
+  chosen_law (part side p ps) no_components f r = absurd f
 
-  fields_law : (ps : Parts) (cs : Components) → PartsFor ps cs → AreCovered ps → AreRead cs → (i at : ℕ) (os : List ℕ) (m : Slots) → Digits os → length os < 2 ^ 32
+  fields_law : (ps : Parts) (cs : Components) → PartsFor ps cs → AreRead cs → (i at : ℕ) (os : List ℕ) (m : Slots) → Digits os → length os < 2 ^ 32
       → fields_judged ps os m ≡ option_map (λ fs. fields_marked cs ps fs m) (ok (fields_at i cs at os))
-  fields_law no_parts no_components f c r i at [] m digits short = refl
-  fields_law no_parts no_components f c r i at (o ∷ os) m digits short = sym (ap (option_map (λ fs. fields_marked no_components no_parts fs m)) (end_read at o os))
-  fields_law (part side (plan tags con b) ps) (component name (type_of others kind cons) presence cs) f c r i at os m digits short =
+  fields_law no_parts no_components f r i at [] m digits short = refl
+  fields_law no_parts no_components f r i at (o ∷ os) m digits short = sym (ap (option_map (λ fs. fields_marked no_components no_parts fs m)) (end_read at o os))
+  fields_law (part side (plan tags con b) ps) (component name (type_of others kind cons) presence cs) f r i at os m digits short =
       part_then_read side (λ os. front (plan tags con b) os) (way_of (plan tags con b) (type_of others kind cons)) (plan tags con b) ps (type_of others kind cons) name presence cs (λ m os. fields_judged ps os m)
-      (plan_law (plan tags con b) (type_of others kind cons) f.0 c.0 r.0) (side_law side tags others con b kind cons presence f.1) refl
-      (λ i at os m digits short. fields_law ps cs f.2 c.1 r.1 i at os m digits short) (λ o os m digits bad. fields_bad ps cs f.2 c.1 r.1 o os m digits bad) i at os m digits short
-  fields_law no_parts (component name t presence cs) f c r i at os m digits short = absurd f
-  fields_law (part side p ps) no_components f c r i at os m digits short = absurd f
+      (plan_law (plan tags con b) (type_of others kind cons) f.0 r.0) (side_law side tags others con b kind cons presence f.1) refl
+      (λ i at os m digits short. fields_law ps cs f.2 r.1 i at os m digits short) (λ o os m digits bad. fields_bad ps cs f.2 r.1 o os m digits bad) i at os m digits short
+  fields_law no_parts (component name t presence cs) f r i at os m digits short = absurd f
+  fields_law (part side p ps) no_components f r i at os m digits short = absurd f
 
   -- no component takes octets that have no header
-  fields_bad : (ps : Parts) (cs : Components) → PartsFor ps cs → AreCovered ps → AreRead cs → (o : ℕ) (os : List ℕ) (m : Slots) → Digits (o ∷ os) → Bad o os → fields_judged ps (o ∷ os) m ≡ None
-  fields_bad no_parts no_components f c r o os m digits bad = refl
-  fields_bad (part side (plan tags con b) ps) (component name (type_of others kind cons) presence cs) f c r o os m digits bad =
+  fields_bad : (ps : Parts) (cs : Components) → PartsFor ps cs → AreRead cs → (o : ℕ) (os : List ℕ) (m : Slots) → Digits (o ∷ os) → Bad o os → fields_judged ps (o ∷ os) m ≡ None
+  fields_bad no_parts no_components f r o os m digits bad = refl
+  fields_bad (part side (plan tags con b) ps) (component name (type_of others kind cons) presence cs) f r o os m digits bad =
       bad_part side (λ os. front (plan tags con b) os) (way_of (plan tags con b) (type_of others kind cons)) o os m (λ m os. fields_judged ps os m)
-      (plan_law (plan tags con b) (type_of others kind cons) f.0 c.0 r.0) digits bad (λ k. fields_bad ps cs f.2 c.1 r.1 o os k digits bad)
-  fields_bad no_parts (component name t presence cs) f c r o os m digits bad = absurd f
-  fields_bad (part side p ps) no_components f c r o os m digits bad = absurd f
+      (plan_law (plan tags con b) (type_of others kind cons) f.0 r.0) digits bad (λ k. fields_bad ps cs f.2 r.1 o os k digits bad)
+  fields_bad no_parts (component name t presence cs) f r o os m digits bad = absurd f
+  fields_bad (part side p ps) no_components f r o os m digits bad = absurd f
 
   -- an element of a SET
-  member_law : (ps : Parts) (cs : Components) → PartsFor ps cs → AreCovered ps → AreRead cs → (i : ℕ) → MemberLaw (λ places os m. member_judged ps i places os m) ps cs i
-  member_law no_parts no_components f c r i places at o os h m digits short e = refl
-  member_law (part side (plan tags con b) ps) (component name (type_of others kind cons) presence cs) f c r i places at o os h m digits short e =
+  member_law : (ps : Parts) (cs : Components) → PartsFor ps cs → AreRead cs → (i : ℕ) → MemberLaw (λ places os m. member_judged ps i places os m) ps cs i
+  member_law no_parts no_components f r i places at o os h m digits short e = refl
+  member_law (part side (plan tags con b) ps) (component name (type_of others kind cons) presence cs) f r i places at o os h m digits short e =
       member_step side (plan tags con b) ps name (type_of others kind cons) presence cs i places at o os h m (member_judged ps (suc i) places (o ∷ os) m) (front (plan tags con b) (o ∷ os))
-      ((plan_law (plan tags con b) (type_of others kind cons) f.0 c.0 r.0).seen o os digits) e (side_law side tags others con b kind cons presence f.1) short
-      (member_law ps cs f.2 c.1 r.1 (suc i) places at o os h m digits short e)
-  member_law no_parts (component name t presence cs) f c r i places at o os h m digits short e = absurd f
-  member_law (part side p ps) no_components f c r i places at o os h m digits short e = absurd f
+      ((plan_law (plan tags con b) (type_of others kind cons) f.0 r.0).seen o os digits) e (side_law side tags others con b kind cons presence f.1) short
+      (member_law ps cs f.2 r.1 (suc i) places at o os h m digits short e)
+  member_law no_parts (component name t presence cs) f r i places at o os h m digits short e = absurd f
+  member_law (part side p ps) no_components f r i places at o os h m digits short e = absurd f
 
 -- ---- a whole message
 
-pub message_read : (p : Plan) (t : AbstractType) (os : List ℕ) → PlanFor p t → IsCovered p → IsRead t → Digits os → message_judged p os ≡ option_map (λ v. type_marked t p v none) (ok (read.message_of t os))
+pub message_read : (p : Plan) (t : AbstractType) (os : List ℕ) → PlanFor p t → IsRead t → Digits os → message_judged p os ≡ option_map (λ v. type_marked t p v none) (ok (read.message_of t os))
 unfolding message_judged read.message_of
-message_read p t os f c r digits = alone_read (λ os. front p os) (way_of p t) (plan_law p t f c r) 0 os none digits
+message_read p t os f r digits = alone_read (λ os. front p os) (way_of p t) (plan_law p t f r) 0 os none digits

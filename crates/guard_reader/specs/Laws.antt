@@ -13,14 +13,13 @@ use Rattle.guard_tables.specs.Slots.{none}
 use Rattle.guard_tables.specs.Plan.{Plan, Body}
 use Rattle.guard_tables.specs.Marking.{marked, type_marked}
 use Rattle.guard_tables.specs.Standing.{PlanFor, BodyFor}
-use Rattle.guard_reader.specs.Covered.{IsCovered, IsCoveredBody}
 use Rattle.guard_reader.specs.Judging.{contents_judged, message_judged}
 use Rattle.guard_reader.specs.Octets.{ok}
 
 -- A pass over contents octets of a sound type reads them as `decode` does, and what fails is what fails at the value.
 abbrev pub ContentsLaw : Type 0
 ContentsLaw =
-    (b : Body) (t : AbstractType) → BodyFor b (kind_of t) → IsCoveredBody b → IsTrue (is_sound t)
+    (b : Body) (t : AbstractType) → BodyFor b (kind_of t) → IsTrue (is_sound t)
     → (at start : ℕ) (os : List ℕ) (m : Slots) → AllByRecursion (λ o. o < 256) os → length os < 2 ^ 32
     → contents_judged b os m ≡ option_map (λ v. marked (kind_of t) b v m) (ok (contents_at (kind_of t) at start os))
 
@@ -34,5 +33,5 @@ pub record MessageLaw (p : Plan) (t : AbstractType) (os : List ℕ) : Type 0 whe
 
 abbrev pub MessagesLaw : Type 0
 MessagesLaw =
-    (p : Plan) (t : AbstractType) (os : List ℕ) → PlanFor p t → IsCovered p → IsTrue (is_sound t)
+    (p : Plan) (t : AbstractType) (os : List ℕ) → PlanFor p t → IsTrue (is_sound t)
     → AllByRecursion (λ o. o < 256) os → MessageLaw p t os

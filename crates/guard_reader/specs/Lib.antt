@@ -7,3 +7,5 @@ pub mod Judging
 pub mod Laws
 -- ---- what only private contracts and proofs cite
 pub mod inside
+-- ---- worked examples
+pub mod rows

@@ -1,5 +1,5 @@
 -- The chosen alternative of a CHOICE, with a tag round it and without.
-use Rattle.std.proofs.Common.{◌≡◌, ℕ, zero, suc, ◌+◌, ◌<◌, ◌≤◌, Bool, true, false, ltb, List, [], ◌∷◌, length, take, drop, Option, Some, None, Result, Ok, Err, cond, refl, sym, ap, subst, ◌∙◌, arith, inl, inr, length-take, length-drop}
+use Rattle.std.proofs.Common.{◌≡◌, ℕ, suc, ◌+◌, Bool, true, false, ltb, List, [], ◌∷◌, length, drop, Option, Some, None, Result, Ok, Err, cond, refl, sym, ap, subst, ◌∙◌, arith, inl, inr, length-drop}
 use Rattle.std.specs.Prelude.{◌⊎◌, ◌||◌, option_map}
 use Rattle.std.proofs.lemmas.Bool.{cond-true, cond-false, lt-ltb, le-ltb}
 use Rattle.guard_model.specs.Answer as answer
@@ -26,7 +26,7 @@ use Rattle.guard_reader.specs.Fronts.{Front, here, elsewhere, broken, or_front, 
 use Rattle.guard_reader.specs.Judging.{Pass, chosen_at, inside_judged}
 use Rattle.guard_reader.specs.Octets.{◌>>=◌, ok}
 use Rattle.guard_reader.proofs.Places.{Digits, Bad}
-use Rattle.guard_reader.proofs.Sights.{Way, Stands, Seen, IsAway, IsBroken, SightLaw, one_header, never_bad, after_due, ended_from, alone_of, alone_bad, alone_empty}
+use Rattle.guard_reader.proofs.Sights.{Way, Stands, Seen, IsAway, IsBroken, one_header, never_bad, after_due, ended_from, alone_of, alone_bad, alone_empty}
 use Rattle.guard_reader.proofs.Ways.{way_of, PlanLaw}
 
 -- ---- the alternative that is read: its place and its value

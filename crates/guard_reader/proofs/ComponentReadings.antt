@@ -1,5 +1,5 @@
 -- A component of a SEQUENCE: what is there, and what is said where it isn't.
-use Rattle.std.proofs.Common.{◌≡◌, ℕ, suc, ◌+◌, ◌^◌, ◌<◌, ◌≤◌, Bool, true, false, List, [], ◌∷◌, length, drop, Option, Some, None, Result, Ok, Err, cond, refl, sym, ap, ◌∙◌, arith, inl, inr, length-drop}
+use Rattle.std.proofs.Common.{◌≡◌, ℕ, suc, ◌+◌, ◌^◌, ◌<◌, Bool, true, false, List, [], ◌∷◌, length, drop, Option, Some, None, Result, Ok, Err, cond, refl, sym, ap, ◌∙◌, arith, inl, inr, length-drop}
 use Rattle.std.specs.Prelude.{◌⊎◌, option_map, IsTrue}
 use Rattle.std.specs.Option.{is_some}
 use Rattle.guard_model.specs.Answer as answer
@@ -24,7 +24,7 @@ use Rattle.guard_tables.specs.Plan.{Side, Plan, Body, Parts, plan, part}
 use Rattle.guard_tables.specs.Standing.{DefaultFor, SideFor, inside_at}
 use Rattle.guard_tables.specs.TableNodes.{is_default}
 use Rattle.guard_reader.specs.Fronts.{Front, here, elsewhere, broken}
-use Rattle.guard_reader.specs.Judging.{Pass, Sight, absent_part, watched, present_part, part_at, with_rest, fields_judged}
+use Rattle.guard_reader.specs.Judging.{Pass, Sight, absent_part, watched, present_part, part_at, with_rest}
 use Rattle.guard_reader.specs.Octets.{◌>>=◌, ok}
 use Rattle.guard_reader.proofs.Places.{Digits, digits_drop, Bad}
 use Rattle.guard_reader.proofs.Sights.{Way, Stands, Seen, SightLaw, never_bad}

@@ -1,11 +1,10 @@
 -- Components of a SET, in ascending order of tags (X.690 8.11, 10.3).
-use Rattle.std.proofs.Common.{◌≡◌, ℕ, zero, suc, ◌+◌, ◌^◌, ◌<◌, ◌≤◌, Bool, true, false, eqb, List, [], ◌∷◌, length, drop, Option, Some, None, Result, Ok, Err, cond, refl, sym, ap, subst, ◌∙◌, arith, inl, inr, length-drop}
+use Rattle.std.proofs.Common.{◌≡◌, ℕ, zero, suc, ◌+◌, ◌^◌, ◌<◌, Bool, true, false, eqb, List, [], ◌∷◌, length, drop, Option, Some, None, Result, Ok, Err, cond, refl, sym, ap, subst, ◌∙◌, arith, inl, inr, length-drop}
 use Rattle.std.specs.Prelude.{◌||◌, option_map}
 use Rattle.std.proofs.lemmas.Bool.{cond-true, cond-false, eqb-true, eqb-false}
 use Rattle.guard_model.specs.Answer as answer
 use Rattle.guard_model.specs.declared.tag.Tag.{Tag}
 use Rattle.guard_model.specs.declared.site.Step.TheVariants as step
-use Rattle.guard_model.specs.AbstractType as type
 use Rattle.guard_model.specs.AbstractType.{AbstractType, AbstractPresence, Components, no_components, component}
 use Rattle.guard_model.specs.AbstractValue as value
 use Rattle.guard_model.specs.AbstractValue.{AbstractValue, Fields}
@@ -16,22 +15,21 @@ use Rattle.guard_der.specs.declared.breach.Code.TheVariants as code
 use Rattle.guard_der.specs.Breach.{AbstractBreach, one_with, below}
 use Rattle.guard_der.specs.Der.{is_left_out}
 use Rattle.guard_der.specs.Head.{Head, head_of}
-use Rattle.guard_der.specs.Reading as read
-use Rattle.guard_der.specs.Reading.{Reader, fault, inside, follows, is_filled, fill, presence_at, all_absent, set_at, set_element_at, settled, completed, not_sent, missing_at, field_before, element_at, part_at, placed_at}
+use Rattle.guard_der.specs.Reading.{fault, inside, follows, is_filled, fill, presence_at, all_absent, set_at, set_element_at, completed, not_sent, missing_at, field_before, element_at, part_at}
 use Rattle.guard_der.proofs.Components.ByTag.{with_tag}
 use Rattle.guard_der.proofs.Sets.OneElement.{place_free, place_unknown, place_descends, place_full, set_element_reads, set_element_bad, set_element_strays, set_element_fails, set_element_default}
 use Rattle.guard_tables.specs.declared.slots.Slots.{Slots}
 use Rattle.guard_tables.specs.Slots.{none, added}
-use Rattle.guard_tables.specs.Marking.{absence_marked, marked, type_marked, fields_marked, alternative_marked}
+use Rattle.guard_tables.specs.Marking.{marked, type_marked, fields_marked, alternative_marked}
 use Rattle.guard_tables.specs.Plan.{Side, Plan, Parts, no_parts, part}
 use Rattle.guard_tables.proofs.Adding.{Adds, adds_both, adds_nothing, adds_slots, adds_absence, adds_type}
 use Rattle.guard_tables.proofs.SlotSums.{added_again, added_turned}
-use Rattle.guard_reader.specs.Fronts.{Front, here, elsewhere, broken, front}
-use Rattle.guard_reader.specs.Judging.{Pass, Member, is_read, absent_part, present_part, member_at, tag_at, tag_after, members_at, absences_at, inside_judged}
+use Rattle.guard_reader.specs.Fronts.{Front, here, elsewhere, broken}
+use Rattle.guard_reader.specs.Judging.{Member, is_read, absent_part, member_at, tag_after, members_at, absences_at, inside_judged}
 use Rattle.guard_reader.specs.Octets.{◌>>=◌, ok}
 use Rattle.guard_reader.proofs.Places.{Digits, digits_drop}
 use Rattle.guard_reader.proofs.Sights.{Stands, Seen, one_header, never_bad}
-use Rattle.guard_reader.proofs.Ways.{inside_type, way_of, PlanLaw}
+use Rattle.guard_reader.proofs.Ways.{inside_type, way_of}
 use Rattle.guard_reader.proofs.Choices.{later_with}
 use Rattle.guard_reader.proofs.ComponentReadings.{SideLaw, field_marked, present_read, joined_read}
 

@@ -1,7 +1,7 @@
 -- What is seen at the front of octets is what is read there.
-use Rattle.std.proofs.Common.{◌≡◌, ℕ, ◌+◌, ◌*◌, ◌^◌, ◌<◌, ◌≤◌, Bool, true, false, ltb, eqb, List, [], ◌∷◌, length, take, drop, Option, Some, None, Result, Ok, Err, cond, refl, sym, ap, subst, ◌∙◌, arith, inl, inr, length-take, length-drop}
+use Rattle.std.proofs.Common.{◌≡◌, ℕ, ◌+◌, ◌*◌, ◌^◌, ◌<◌, ◌≤◌, Bool, true, false, ltb, eqb, List, [], ◌∷◌, length, take, drop, Option, None, Result, Ok, Err, cond, refl, sym, ap, subst, ◌∙◌, arith, inl, inr, length-take, length-drop}
 use Rattle.std.specs.Prelude.{◌⊎◌, not, option_map}
-use Rattle.std.proofs.lemmas.Bool.{cond-true, cond-false, lt-ltb, le-ltb, ltb-true, ltb-false, eqb-true}
+use Rattle.std.proofs.lemmas.Bool.{cond-true, cond-false, lt-ltb, le-ltb, ltb-true, eqb-true}
 use Rattle.guard_model.specs.Answer as answer
 use Rattle.guard_model.specs.declared.tag.Tag.{Tag}
 use Rattle.guard_model.specs.declared.tag.Class.{Class}
@@ -20,7 +20,7 @@ use Rattle.guard_der.proofs.Headers.Offsets.{head_small}
 use Rattle.guard_model.proofs.Results.{same_Ok}
 use Rattle.guard_tables.specs.declared.slots.Slots.{Slots}
 use Rattle.guard_tables.specs.NodeViews.{octet_of, outer_form, identifier_of, other_of}
-use Rattle.guard_reader.specs.Fronts.{Front, here, elsewhere, broken, alone, begins, after_one, front_cut, front_headed, octet_front, head_front, far_front, tagged_front}
+use Rattle.guard_reader.specs.Fronts.{Front, here, elsewhere, broken, alone, front_cut, front_headed, octet_front, head_front, tagged_front}
 use Rattle.guard_reader.specs.Judging.{Pass, Sight}
 use Rattle.guard_reader.specs.Octets.{◌>>=◌, split, ok}
 use Rattle.guard_reader.proofs.Places as places

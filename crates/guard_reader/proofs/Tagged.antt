@@ -1,22 +1,19 @@
 -- Explicit tags: each but the last is a wrapper round one element.
-use Rattle.std.proofs.Common.{◌≡◌, ℕ, ◌^◌, ◌<◌, Bool, true, false, eqb, List, [], ◌∷◌, length, Option, Some, None, refl, ap, ◌∙◌}
+use Rattle.std.proofs.Common.{◌≡◌, ℕ, Bool, true, List, [], ◌∷◌, Option, Some, None, refl, ◌∙◌}
 use Rattle.guard_model.specs.declared.tag.Tag.{Tag}
 use Rattle.guard_model.specs.AbstractType.{AbstractType, AbstractKind, Constraints, type_of}
-use Rattle.guard_model.specs.AbstractValue.{AbstractValue}
 use Rattle.guard_der.specs.Der.{is_constructed}
-use Rattle.guard_der.specs.Reading as read
 use Rattle.guard_der.specs.Reading.{contents_at, element_at, tags_at}
 use Rattle.guard_tables.specs.declared.slots.Slots.{Slots}
 use Rattle.guard_tables.specs.Marking.{marked}
-use Rattle.guard_tables.specs.NodeViews.{outer_form}
 use Rattle.guard_tables.specs.Plan.{Body, plan}
 use Rattle.guard_tables.specs.Standing.{inside_at}
 use Rattle.guard_reader.specs.Fronts.{Front, elsewhere, alone, tagged_front, innermost, body_front}
 use Rattle.guard_reader.specs.Judging.{Pass, Sight, contents_judged}
 use Rattle.guard_reader.specs.Octets.{◌>>=◌}
-use Rattle.guard_reader.proofs.Sights.{Way, PassLaw, SightLaw, in_tag, tagged_sight, alone_read}
+use Rattle.guard_reader.proofs.Sights.{PassLaw, SightLaw, in_tag, tagged_sight, alone_read}
 use Rattle.guard_reader.proofs.Untagged.{bare_way}
-use Rattle.guard_reader.proofs.Ways.{way_of, PlanLaw}
+use Rattle.guard_reader.proofs.Ways.{PlanLaw}
 
 then_pass : (a : Option (List ℕ)) (f : List ℕ → Option (List ℕ)) (g : List ℕ → Option Slots) → ((a >>= f) >>= g) ≡ (a >>= λ x. f x >>= g)
 then_pass None f g = refl

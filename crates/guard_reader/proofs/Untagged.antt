@@ -1,5 +1,5 @@
 -- An element without a tag of its own: only a CHOICE has none, and is its alternative.
-use Rattle.std.proofs.Common.{◌≡◌, ℕ, ◌+◌, ◌≤◌, Bool, true, false, List, [], ◌∷◌, length, take, drop, Some, None, Result, Ok, Err, refl, sym, ap, subst, ◌∙◌, arith, inl, inr, length-take}
+use Rattle.std.proofs.Common.{◌≡◌, ℕ, ◌+◌, true, false, List, [], ◌∷◌, take, drop, Result, Ok, refl, sym, ap, subst, ◌∙◌, arith, inl, inr, length-take}
 use Rattle.std.specs.Prelude.{◌⊎◌, option_map}
 use Rattle.guard_model.specs.AbstractType as type
 use Rattle.guard_model.specs.AbstractType.{AbstractType, AbstractKind, Components}

@@ -1,15 +1,15 @@
 -- What is read of octets by plans: the tagged types of X.690 8.14.3 (of OCTET STRING, not VisibleString), and of a CHOICE and
 -- a SET octets worked out by hand.
-use Rattle.std.specs.Prelude.{◌≡◌, ℕ, Bool, true, false, List, [], ◌∷◌, Option, Some, None, refl}
+use Rattle.std.specs.Prelude.{◌≡◌, ℕ, true, false, List, [], ◌∷◌, Option, Some, None, refl}
 use Rattle.guard_model.specs.declared.tag.Class.TheVariants.{Universal, Application, Context}
 use Rattle.guard_model.specs.declared.tag.Tag.{Tag}
 use Rattle.guard_model.specs.AbstractType as type
-use Rattle.guard_der.specs.Head.{number_from, high_number, tag_number, long_length, length_at, head_of}
+use Rattle.guard_der.specs.Head.{number_from, high_number, tag_number, length_at, head_of}
 use Rattle.guard_tables.specs.declared.slots.Slots.{Slots}
 use Rattle.guard_tables.specs.Slots.{none, only, added}
-use Rattle.guard_tables.specs.Plan.{Side, Plan, plan, simple, series, set, choice, no_parts, part}
+use Rattle.guard_tables.specs.Plan.{Side, Plan, plan, simple, set, choice, no_parts, part}
 use Rattle.guard_reader.specs.Fronts.{octet_front, head_front, tagged_front, front, innermost}
-use Rattle.guard_reader.specs.Judging.{message_judged, contents_judged, watched, present_part, part_at, member_at, members_at, absences_at, chosen_at}
+use Rattle.guard_reader.specs.Judging.{message_judged, contents_judged, watched, present_part, member_at, members_at, absences_at, chosen_at}
 use Rattle.guard_reader.specs.Octets.{split}
 
 abbrev universal : ℕ → Tag

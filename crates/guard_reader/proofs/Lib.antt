@@ -23,7 +23,6 @@ pub mod Tagged
 pub mod ComponentReadings
 pub mod ElementReadings
 pub mod OrderedReadings
-pub mod Counts
 pub mod WholeReadings
 pub mod SimpleReadings
 pub mod Readings

@@ -23,8 +23,9 @@ use Rattle.guard_tables.specs.Slots.{none, below, without, has}
 use Rattle.guard_tables.specs.StandsFor.{StandsFor}
 use Rattle.guard_tables.proofs.SlotRanges.{below_law, without_law}
 use Rattle.guard_reader.specs.Judging.{message_judged}
-use Rattle.guard_reader.specs.Laws.{MessageLaw, AllMessagesLaw}
+use Rattle.guard_reader.specs.Laws.{MessageLaw}
 use Rattle.guard_reader.specs.Marking.{is_in}
+use Rattle.guard_reader.proofs.Messages.{message_law}
 
 -- ---- what hasn't failed
 
@@ -56,14 +57,13 @@ left_are types v failed n is few fails slot =
 
 -- what is given of a table and of octets
 pub record Given (nodes : Nodes) (declared : AbstractType) (rules : List AbstractType) (os : List ℕ) : Type 0 where
-  pub law : AllMessagesLaw
   pub stands : ∥ StandsFor nodes declared rules ∥₁
   pub sound : IsTrue (is_sound declared)
   pub few : length rules ≤ 255
   pub digits : AllByRecursion (λ o. o < 256) os
 
 its_law : (nodes : Nodes) (declared : AbstractType) (rules : List AbstractType) (os : List ℕ) → Given nodes declared rules os → StandsFor nodes declared rules → MessageLaw (root_of nodes) declared os
-its_law nodes declared rules os g s = g.law (root_of nodes) declared os s.plan g.sound g.digits
+its_law nodes declared rules os g s = message_law (root_of nodes) declared os s.plan g.sound g.digits
 
 -- of the value that the octets encode
 members_by : (nodes : Nodes) (declared : AbstractType) (rules : List AbstractType) (os : List ℕ) → Given nodes declared rules os → StandsFor nodes declared rules → (failed : Slots) → message_judged (root_of nodes) os ≡ Some failed

@@ -13,14 +13,14 @@ pub returns-in_err-failed-clause-only : goal.returns-in_err-failed-clause-only
 returns-in_err-failed-clause-only c v fit encoded =
     let t = c.args.table.now in
     let given : Given t.nodes (declared_of t) (rules_of t) c.args.octets.now =
-    record { law = c.requires.law; stands = t.stands; sound = t.consistent.declared_sound; few = few_rules (declared_of t) (rules_of t) t.consistent; digits = are_digits 256 c.args.octets.now (λ i _. omega (arith, c.type_inv.octets i)) } in
+    record { stands = t.stands; sound = t.consistent.declared_sound; few = few_rules (declared_of t) (rules_of t) t.consistent; digits = are_digits 256 c.args.octets.now (λ i _. omega (arith, c.type_inv.octets i)) } in
     absurd (some_found t.nodes (declared_of t) (rules_of t) c.args.octets.now given (sym c.failures.ensures ∙ c.in_err-failed.was) v fit encoded)
 
 pub returns-clause-marks : goal.returns-clause-marks
 returns-clause-marks c =
     let t = c.args.table.now in
     let given : Given t.nodes (declared_of t) (rules_of t) c.args.octets.now =
-    record { law = c.requires.law; stands = t.stands; sound = t.consistent.declared_sound; few = few_rules (declared_of t) (rules_of t) t.consistent; digits = are_digits 256 c.args.octets.now (λ i _. omega (arith, c.type_inv.octets i)) } in
+    record { stands = t.stands; sound = t.consistent.declared_sound; few = few_rules (declared_of t) (rules_of t) t.consistent; digits = are_digits 256 c.args.octets.now (λ i _. omega (arith, c.type_inv.octets i)) } in
     let failed : message_judged (root_of t.nodes) c.args.octets.now ≡ Some c.in_ok-failed.failed = sym c.failures.ensures ∙ c.in_ok-failed.was in
     let count : c.rules.result + 1 ≡ length (declared_of t ∷ rules_of t) = omega (arith, c.rules.ensures.rules) in
     let members : without (below (c.rules.result + 1)) c.in_ok-failed.failed ≡ c.without.result = ap (λ (m : Slots). without m c.in_ok-failed.failed) (sym c.below-all.ensures) ∙ sym c.without.ensures in

@@ -1,27 +1,31 @@
 -- ---- octets
-pub mod Digits
 pub mod Lengths
 pub mod Small
 pub mod Elements
 -- ---- contents of simple kinds
-pub mod LastOctets
 pub mod Subidentifiers
 pub mod Utf8
 -- ---- what the walk takes from nodes, and one step of it
 pub mod NodeSteps
 pub mod Steps
 -- ---- a pass reads octets as decoding does
-pub mod Sizes
-pub mod LowPlans
 pub mod Fronts
 pub mod Places
+pub mod Heads
+pub mod Sights
+pub mod Ways
+pub mod Taken
+pub mod Choices
+pub mod Members
+pub mod ReadTypes
+pub mod Untagged
+pub mod Tagged
 pub mod ComponentReadings
 pub mod ElementReadings
 pub mod OrderedReadings
-pub mod Counts
 pub mod WholeReadings
 pub mod SimpleReadings
 pub mod Readings
 pub mod Messages
 -- ---- which types have the value
-pub mod Members
+pub mod MarkedTypes

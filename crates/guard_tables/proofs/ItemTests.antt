@@ -40,7 +40,8 @@ all_of : (f e p : Bool) → f ≡ true → e ≡ true → p ≡ true → ((f && 
 all_of f e p g h i = rw (g, h, i) refl
 
 -- the range of one number that is allowed
-alone : (n z : ℤ) (allowed : ℤ → Bool) → fits_128_bits n ≡ true → allowed n ≡ true → (b : Bool) → int_eq z n ≡ b → is_in_one (range_of n n ∷ []) z ≡ ((fits_128_bits z && int_eq z n) && allowed z)
+alone : (n z : ℤ) (allowed : ℤ → Bool) → fits_128_bits n ≡ true → allowed n ≡ true → (b : Bool) → int_eq z n ≡ b
+    → is_in_one (range_of n n ∷ []) z ≡ ((fits_128_bits z && int_eq z n) && allowed z)
 alone n z allowed fit has true e =
     let same : z ≡ n = (Decides-int_eq z n).0 e in
     or_no (int_le n z && int_le z n) ∙ meets_ends n z same
@@ -51,7 +52,8 @@ alone n z allowed fit has false e =
 
 pub one_added : (rs : List Range) (n z : ℤ) (allowed : ℤ → Bool) → fits_128_bits n ≡ true → allowed n ≡ true
     → is_in_one (rs ++ range_of n n ∷ []) z ≡ (is_in_one rs z || ((fits_128_bits z && int_eq z n) && allowed z))
-one_added rs n z allowed fit has = one_of_both rs (range_of n n ∷ []) z ∙ ap (λ (b : Bool). is_in_one rs z || b) (alone n z allowed fit has (int_eq z n) refl)
+one_added rs n z allowed fit has = one_of_both rs (range_of n n ∷ []) z
+    ∙ ap (λ (b : Bool). is_in_one rs z || b) (alone n z allowed fit has (int_eq z n) refl)
 
 gone : (f a : Bool) → a ≡ false → ((f && true) && a) ≡ false
 gone f a e = rw e (and_no (f && true))
@@ -61,19 +63,27 @@ gone f a e = rw e (and_no (f && true))
     and_no false = refl
 
 -- one that isn't allowed
-nowhere : (n z : ℤ) (allowed : ℤ → Bool) → allowed n ≡ false → (b : Bool) → int_eq z n ≡ b → ((fits_128_bits z && int_eq z n) && allowed z) ≡ false
+nowhere : (n z : ℤ) (allowed : ℤ → Bool) → allowed n ≡ false → (b : Bool) → int_eq z n ≡ b
+    → ((fits_128_bits z && int_eq z n) && allowed z) ≡ false
 nowhere n z allowed has true e =
-    ap (λ (x : Bool). (fits_128_bits z && x) && allowed z) e ∙ gone (fits_128_bits z) (allowed z) (ap allowed ((Decides-int_eq z n).0 e) ∙ has)
-nowhere n z allowed has false e = ap (λ (x : Bool). (fits_128_bits z && x) && allowed z) e ∙ sym (none_left (fits_128_bits z) (allowed z))
+    ap (λ (x : Bool). (fits_128_bits z && x) && allowed z) e
+    ∙ gone (fits_128_bits z) (allowed z) (ap allowed ((Decides-int_eq z n).0 e) ∙ has)
+nowhere n z allowed has false e = ap (λ (x : Bool). (fits_128_bits z && x) && allowed z) e
+    ∙ sym (none_left (fits_128_bits z) (allowed z))
 
-pub none_added : (rs : List Range) (n z : ℤ) (allowed : ℤ → Bool) → allowed n ≡ false → is_in_one rs z ≡ (is_in_one rs z || ((fits_128_bits z && int_eq z n) && allowed z))
-none_added rs n z allowed has = sym (or_no (is_in_one rs z)) ∙ ap (λ (b : Bool). is_in_one rs z || b) (sym (nowhere n z allowed has (int_eq z n) refl))
+pub none_added : (rs : List Range) (n z : ℤ) (allowed : ℤ → Bool) → allowed n ≡ false
+    → is_in_one rs z ≡ (is_in_one rs z || ((fits_128_bits z && int_eq z n) && allowed z))
+none_added rs n z allowed has = sym (or_no (is_in_one rs z))
+    ∙ ap (λ (b : Bool). is_in_one rs z || b) (sym (nowhere n z allowed has (int_eq z n) refl))
 
 pub fits : (n : ℤ) → SFits w128 n → fits_128_bits n ≡ true
 fits n h = grind (arith, ints)
 
 -- ---- one level of what a kind stands for
 
-pub integer_view : (kind : Kind) (names : Vec Named) → kind ≡ Int names → kind_view kind ≡ type.integer (map named_view names.items)
+pub integer_view : (kind : Kind) (names : Vec Named) → kind ≡ Int names
+    → kind_view kind ≡ type.integer (map named_view names.items)
 integer_view kind names is =
-    ap kind_view is ∙ ap kind_view (sym (rolls-Int names)) ∙ fold-roll-Kind AbstractKind Element OneComponent Constraint OnePart AbstractType kind_step rule_step comp_step cons_step part_step ty_step (Kind-F.Int names)
+    ap kind_view is ∙ ap kind_view (sym (rolls-Int names))
+    ∙ fold-roll-Kind AbstractKind Element OneComponent Constraint OnePart AbstractType kind_step rule_step
+    comp_step cons_step part_step ty_step (Kind-F.Int names)

@@ -31,6 +31,7 @@ pub mod Laying
 pub mod Spots
 pub mod Growing
 pub mod Comings
+pub mod LaidSteps
 pub mod LaidTypes
 -- ---- what loops gather
 pub mod Gathered
@@ -52,3 +53,5 @@ pub mod OfTables
 pub mod SlotWords
 pub mod TermWords
 pub mod LaidWords
+-- ---- numbers that fail nothing
+pub mod PlainIntervals

@@ -1,10 +1,9 @@
 -- Sets that are made of slots are equal where they have the same slots.
-use Rattle.std.proofs.Common.{◌≡◌, ℕ, zero, suc, ◌+◌, ◌-◌, ◌<◌, ◌≤◌, Bool, true, false, cond, eqb, ltb, refl, sym, ap, ◌∙◌, arith}
+use Rattle.std.proofs.Common.{◌≡◌, ℕ, zero, suc, ◌+◌, ◌-◌, ◌<◌, Bool, true, false, cond, eqb, ltb, refl, sym, ap, ◌∙◌, arith}
 use Rattle.std.specs.Prelude.{◌^◌}
 use Rattle.std.specs.Int.{bit_at}
-use Rattle.std.specs.Int.Bits.{bit_or}
 use Rattle.std.proofs.Math.Pow.{pow-lt}
-use Rattle.std.proofs.lemmas.Bool.{ltb-true, ltb-false, lt-ltb, le-ltb}
+use Rattle.std.proofs.lemmas.Bool.{ltb-true, lt-ltb, le-ltb}
 use Rattle.std.proofs.lemmas.Nat.{or_lt}
 use Rattle.std.proofs.lemmas.Nat.Bits.{bit_at-lt, same_from_bits, same_from_bits_below}
 use Rattle.guard_tables.specs.declared.slots.Slots.{Slots}
@@ -22,15 +21,23 @@ none_in = record { first = no_bit; second = no_bit; third = no_bit }
 pub only_in : (k : ℕ) → InWords (only k)
 unfolding only
 only_in k =
-    of_chosen (ltb k 64) (ltb k 128) (ltb k 192) (one_word (2 ^ k) 0 0 0) (one_word 0 (2 ^ (k - 64)) 0 0) (one_word 0 0 (2 ^ (k - 128)) 0) (one_word 0 0 0 (2 ^ (k - 192))) InWords
+    of_chosen (ltb k 64) (ltb k 128) (ltb k 192) (one_word (2 ^ k) 0 0 0) (one_word 0 (2 ^ (k - 64)) 0 0)
+    (one_word 0 0 (2 ^ (k - 128)) 0) (one_word 0 0 0 (2 ^ (k - 192))) InWords
     (λ w. let h = ltb-true k 64 w in record { first = pow-lt h; second = no_bit; third = no_bit })
-    (λ w x. let h = ltb-true k 128 x in let p : k - 64 < 64 = omega (arith, h) in record { first = no_bit; second = pow-lt p; third = no_bit })
-    (λ x y. let h = ltb-true k 192 y in let p : k - 128 < 64 = omega (arith, h) in record { first = no_bit; second = no_bit; third = pow-lt p })
+    (λ w x. let h = ltb-true k 128 x in let p : k - 64 < 64 = omega (arith, h) in record
+    { first = no_bit; second = pow-lt p; third = no_bit })
+    (λ x y. let h = ltb-true k 192 y in let p : k - 128 < 64 = omega (arith, h) in record
+    { first = no_bit; second = no_bit; third = pow-lt p })
     (λ y. record { first = no_bit; second = no_bit; third = no_bit })
 
 pub added_in : (m k : Slots) → InWords m → InWords k → InWords (added m k)
 unfolding added
-added_in m k p q = record { first = or_lt 64 m.first k.first p.first q.first; second = or_lt 64 m.second k.second p.second q.second; third = or_lt 64 m.third k.third p.third q.third }
+added_in m k p q = record {
+  first = or_lt 64 m.first k.first p.first q.first;
+  second = or_lt 64 m.second k.second p.second q.second;
+  third =
+      or_lt 64 m.third k.third p.third q.third;
+}
 
 -- ---- the slots of each word
 
@@ -51,19 +58,23 @@ in_first m i h = word_told m i ∙ at_first (ltb i 64) (ltb i 128) (ltb i 192) _
 
 in_second : (m : Slots) (i : ℕ) → i < 64 → has m (64 + i) ≡ eqb (bit_at m.second i) 1
 in_second m i h =
-    word_told m (64 + i) ∙ at_second (ltb (64 + i) 64) (ltb (64 + i) 128) (ltb (64 + i) 192) _ _ _ _ (le-ltb (64 + i) 64 (omega arith)) (lt-ltb (64 + i) 128 (omega (arith, h)))
+    word_told m (64 + i)
+    ∙ at_second (ltb (64 + i) 64) (ltb (64 + i) 128) (ltb (64 + i) 192) _ _ _ _ (le-ltb (64 + i) 64 (omega arith))
+    (lt-ltb (64 + i) 128 (omega (arith, h)))
     ∙ ap (λ (n : ℕ). eqb (bit_at m.second n) 1) (omega arith)
 
 in_third : (m : Slots) (i : ℕ) → i < 64 → has m (128 + i) ≡ eqb (bit_at m.third i) 1
 in_third m i h =
     word_told m (128 + i)
-    ∙ at_third (ltb (128 + i) 64) (ltb (128 + i) 128) (ltb (128 + i) 192) _ _ _ _ (le-ltb (128 + i) 64 (omega arith)) (le-ltb (128 + i) 128 (omega arith)) (lt-ltb (128 + i) 192 (omega (arith, h)))
+    ∙ at_third (ltb (128 + i) 64) (ltb (128 + i) 128) (ltb (128 + i) 192) _ _ _ _ (le-ltb (128 + i) 64 (omega arith))
+    (le-ltb (128 + i) 128 (omega arith)) (lt-ltb (128 + i) 192 (omega (arith, h)))
     ∙ ap (λ (n : ℕ). eqb (bit_at m.third n) 1) (omega arith)
 
 in_fourth : (m : Slots) (i : ℕ) → has m (192 + i) ≡ eqb (bit_at m.fourth i) 1
 in_fourth m i =
     word_told m (192 + i)
-    ∙ at_fourth (ltb (192 + i) 64) (ltb (192 + i) 128) (ltb (192 + i) 192) _ _ _ _ (le-ltb (192 + i) 64 (omega arith)) (le-ltb (192 + i) 128 (omega arith)) (le-ltb (192 + i) 192 (omega arith))
+    ∙ at_fourth (ltb (192 + i) 64) (ltb (192 + i) 128) (ltb (192 + i) 192) _ _ _ _ (le-ltb (192 + i) 64 (omega arith))
+    (le-ltb (192 + i) 128 (omega arith)) (le-ltb (192 + i) 192 (omega arith))
     ∙ ap (λ (n : ℕ). eqb (bit_at m.fourth n) 1) (omega arith)
 
 -- ---- sets with the same slots
@@ -88,7 +99,11 @@ of_words m k e f g h =
 pub same_slots : (m k : Slots) → InWords m → InWords k → ((slot : ℕ) → has m slot ≡ has k slot) → m ≡ k
 same_slots m k p q h =
     of_words m k
-    (same_from_bits_below 64 m.first k.first p.first q.first (λ i lt. same_at m.first k.first i (sym (in_first m i lt) ∙ h i ∙ in_first k i lt)))
-    (same_from_bits_below 64 m.second k.second p.second q.second (λ i lt. same_at m.second k.second i (sym (in_second m i lt) ∙ h (64 + i) ∙ in_second k i lt)))
-    (same_from_bits_below 64 m.third k.third p.third q.third (λ i lt. same_at m.third k.third i (sym (in_third m i lt) ∙ h (128 + i) ∙ in_third k i lt)))
-    (same_from_bits m.fourth k.fourth (λ i. same_at m.fourth k.fourth i (sym (in_fourth m i) ∙ h (192 + i) ∙ in_fourth k i)))
+    (same_from_bits_below 64 m.first k.first p.first q.first
+    (λ i lt. same_at m.first k.first i (sym (in_first m i lt) ∙ h i ∙ in_first k i lt)))
+    (same_from_bits_below 64 m.second k.second p.second q.second
+    (λ i lt. same_at m.second k.second i (sym (in_second m i lt) ∙ h (64 + i) ∙ in_second k i lt)))
+    (same_from_bits_below 64 m.third k.third p.third q.third
+    (λ i lt. same_at m.third k.third i (sym (in_third m i lt) ∙ h (128 + i) ∙ in_third k i lt)))
+    (same_from_bits m.fourth k.fourth
+    (λ i. same_at m.fourth k.fourth i (sym (in_fourth m i) ∙ h (192 + i) ∙ in_fourth k i)))

@@ -11,10 +11,10 @@ use Rattle.guard_der.specs.Fits.{may_be_absent}
 use Rattle.guard_eval.specs.Presence.{is_ruled_out}
 use Rattle.guard_tables.specs.declared.slots.Slots.{Slots}
 use Rattle.guard_tables.specs.Slots.{only}
-use Rattle.guard_tables.specs.Demands.{Demand, by_type, by_constraint, Ask, Atom, scalar, equals, sized, spelled, each, within, sent, unsent, Term}
+use Rattle.guard_tables.specs.Demands.{Demand, by_type, by_constraint, Ask, Atom, scalar, each, within, sent, unsent, Term}
 use Rattle.guard_tables.specs.Formulas.{Raise, never}
 use Rattle.guard_tables.specs.Spread.{term, is_scalar, said, placed, ruled_out, unlisted, parts_from, spread_kind, spread_type, spread_one, spread_element, spread_all, spread_parts, spread, terms_of, are_plain_asks}
-use Rattle.guard_tables.specs.Forms.{Formula, formula, form_one, form_element, form_all, form_some, form_type, form, Formulas, forms_from, forms_of}
+use Rattle.guard_tables.specs.Forms.{Formula, formula, form_one, form_element, form_all, form_some, form_type, form, forms_from, forms_of}
 use Rattle.guard_tables.specs.Handed.{ask, each_in, each_of, within_in, within_of, terms_at}
 use Rattle.guard_tables.specs.inside.SlotWords.{InWords, AsksIn}
 use Rattle.guard_tables.proofs.SlotWords.{only_in}
@@ -37,23 +37,29 @@ chosen_in false xs ys p q = q
 
 -- ---- conjunctions: each test has the slots of the demand
 
-said_in : (partial : Bool) (presence : AbstractPresence) (word : Option Word) (i : ℕ) (k : Slots) → InWords k → TermsIn (said partial presence word i k)
+said_in : (partial : Bool) (presence : AbstractPresence) (word : Option Word) (i : ℕ) (k : Slots) → InWords k
+    → TermsIn (said partial presence word i k)
 said_in partial presence (Some Present) i k h = (h, tt)
 said_in partial presence (Some Absent) i k h = (h, tt)
 said_in partial presence (Some Optional) i k h = tt
-said_in partial presence None i k h = chosen_in (partial || not (may_be_absent presence)) [] (term k (sent i) ∷ []) tt (h, tt)
+said_in partial presence None i k h = chosen_in (partial || not (may_be_absent presence)) [] (term k (sent i) ∷ []) tt
+    (h, tt)
 
-placed_in : (partial : Bool) (found : Option OneComponent) (word : Option Word) (i : ℕ) (k : Slots) → InWords k → TermsIn (placed partial found word i k)
+placed_in : (partial : Bool) (found : Option OneComponent) (word : Option Word) (i : ℕ) (k : Slots) → InWords k
+    → TermsIn (placed partial found word i k)
 placed_in partial None word i k h = tt
 placed_in partial (Some c) word i k h = said_in partial c.presence word i k h
 
-ruled_in : (kind : AbstractKind) (ps : Parts) (i : ℕ) (k : Slots) (cs : Components) → InWords k → TermsIn (ruled_out kind ps i k cs)
+ruled_in : (kind : AbstractKind) (ps : Parts) (i : ℕ) (k : Slots) (cs : Components) → InWords k
+    → TermsIn (ruled_out kind ps i k cs)
 ruled_in kind ps i k no_components h = tt
 ruled_in kind ps i k (component name t presence rest) h =
     both_in (cond (is_ruled_out kind ps i presence) (term k (unsent i) ∷ []) []) (ruled_out kind ps (suc i) k rest)
-    (chosen_in (is_ruled_out kind ps i presence) (term k (unsent i) ∷ []) [] (h, tt) tt) (ruled_in kind ps (suc i) k rest h)
+    (chosen_in (is_ruled_out kind ps i presence) (term k (unsent i) ∷ []) [] (h, tt) tt)
+    (ruled_in kind ps (suc i) k rest h)
 
-unlisted_in : (partial : Bool) (kind : AbstractKind) (ps : Parts) (k : Slots) → InWords k → TermsIn (unlisted partial kind ps k)
+unlisted_in : (partial : Bool) (kind : AbstractKind) (ps : Parts) (k : Slots) → InWords k
+    → TermsIn (unlisted partial kind ps k)
 unlisted_in true kind ps k h = tt
 unlisted_in false kind ps k h = ruled_in kind ps 0 k (components_in kind) h
 
@@ -71,10 +77,12 @@ kind_in k _ h = tt
 
 mutual
   type_in : (k : Slots) (t : AbstractType) → InWords k → TermsIn (spread_type k t)
-  type_in k (type_of tags kind cons) h = both_in (spread_all k kind cons) (spread_kind k kind) (all_in k kind cons h) (kind_in k kind h)
+  type_in k (type_of tags kind cons) h = both_in (spread_all k kind cons) (spread_kind k kind) (all_in k kind cons h)
+      (kind_in k kind h)
 
   one_in : (k : Slots) (kind : AbstractKind) (c : Constraint) → InWords k → TermsIn (spread_one k kind c)
-  one_in k kind (at site e) h = chosen_in (is_scalar kind) (term k (scalar kind (at site e)) ∷ []) (spread_element k kind e) (h, tt) (element_in k kind e h)
+  one_in k kind (at site e) h = chosen_in (is_scalar kind) (term k (scalar kind (at site e)) ∷ [])
+      (spread_element k kind e) (h, tt) (element_in k kind e h)
 
   element_in : (k : Slots) (kind : AbstractKind) (e : Element) → InWords k → TermsIn (spread_element k kind e)
   element_in k kind (type.single_value w) h = (h, tt)
@@ -84,7 +92,8 @@ mutual
   element_in k kind (type.permitted_alphabet ranges) h = (h, tt)
   element_in k kind (type.with_component c) h = (h, tt)
   element_in k kind (type.with_components partial ps) h =
-      both_in (spread_parts k kind partial ps) (unlisted partial kind ps k) (listed_in k kind partial ps h) (unlisted_in partial kind ps k h)
+      both_in (spread_parts k kind partial ps) (unlisted partial kind ps k) (listed_in k kind partial ps h)
+      (unlisted_in partial kind ps k h)
   element_in k kind (type.union cs) h = tt
   element_in k kind (type.intersection cs) h = all_in k kind cs h
   element_in k kind (type.except c d) h = tt
@@ -92,14 +101,18 @@ mutual
 
   all_in : (k : Slots) (kind : AbstractKind) (cs : Constraints) → InWords k → TermsIn (spread_all k kind cs)
   all_in k kind no_constraints h = tt
-  all_in k kind (constraint c cs) h = both_in (spread_one k kind c) (spread_all k kind cs) (one_in k kind c h) (all_in k kind cs h)
+  all_in k kind (constraint c cs) h = both_in (spread_one k kind c) (spread_all k kind cs) (one_in k kind c h)
+      (all_in k kind cs h)
 
-  listed_in : (k : Slots) (kind : AbstractKind) (partial : Bool) (ps : Parts) → InWords k → TermsIn (spread_parts k kind partial ps)
+  listed_in : (k : Slots) (kind : AbstractKind) (partial : Bool) (ps : Parts) → InWords k
+      → TermsIn (spread_parts k kind partial ps)
   listed_in k kind partial type.no_parts h = tt
   listed_in k kind partial (type.part site i word ps) h =
-      both_in (placed partial (component_at i (components_in kind)) word i k) (spread_parts k kind partial ps) (placed_in partial (component_at i (components_in kind)) word i k h) (listed_in k kind partial ps h)
+      both_in (placed partial (component_at i (components_in kind)) word i k) (spread_parts k kind partial ps)
+      (placed_in partial (component_at i (components_in kind)) word i k h) (listed_in k kind partial ps h)
   listed_in k kind partial (type.part_within site i c word ps) h =
-      both_in (placed partial (component_at i (components_in kind)) word i k) _ (placed_in partial (component_at i (components_in kind)) word i k h) (h, listed_in k kind partial ps h)
+      both_in (placed partial (component_at i (components_in kind)) word i k) _
+      (placed_in partial (component_at i (components_in kind)) word i k h) (h, listed_in k kind partial ps h)
 
 demand_in : (k : Slots) (d : Demand) → InWords k → TermsIn (spread k d)
 demand_in k (by_type t) h = type_in k t h
@@ -107,7 +120,8 @@ demand_in k (by_constraint kind c) h = one_in k kind c h
 
 plain_in : (asks : List Ask) → AsksIn asks → TermsIn (terms_of asks)
 plain_in [] h = tt
-plain_in (a ∷ asks) h = both_in (spread a.slots a.demand) (terms_of asks) (demand_in a.slots a.demand h.0) (plain_in asks h.1)
+plain_in (a ∷ asks) h = both_in (spread a.slots a.demand) (terms_of asks) (demand_in a.slots a.demand h.0)
+    (plain_in asks h.1)
 
 -- ---- demands of any form: each test has one slot
 
@@ -117,41 +131,50 @@ one_of false f g p q = q
 
 mutual
   form_one_in : (k n : ℕ) (kind : AbstractKind) (c : Constraint) → TermsIn (form_one k n kind c).terms
-  form_one_in k n kind (at site e) = one_of (is_scalar kind) (formula (term (only k) (scalar kind (at site e)) ∷ []) never n) (form_element k n kind e) (only_in k, tt) (form_element_in k n kind e)
+  form_one_in k n kind (at site e) = one_of (is_scalar kind)
+      (formula (term (only k) (scalar kind (at site e)) ∷ []) never n) (form_element k n kind e) (only_in k, tt)
+      (form_element_in k n kind e)
 
   form_element_in : (k n : ℕ) (kind : AbstractKind) (e : Element) → TermsIn (form_element k n kind e).terms
   form_element_in k n kind (type.single_value w) = element_in (only k) kind (type.single_value w) (only_in k)
   form_element_in k n kind (type.contained_subtype t) = form_type_in k n t
   form_element_in k n kind (type.range low high) = element_in (only k) kind (type.range low high) (only_in k)
   form_element_in k n kind (type.size c) = element_in (only k) kind (type.size c) (only_in k)
-  form_element_in k n kind (type.permitted_alphabet ranges) = element_in (only k) kind (type.permitted_alphabet ranges) (only_in k)
+  form_element_in k n kind (type.permitted_alphabet ranges) = element_in (only k) kind (type.permitted_alphabet ranges)
+      (only_in k)
   form_element_in k n kind (type.with_component c) = element_in (only k) kind (type.with_component c) (only_in k)
-  form_element_in k n kind (type.with_components partial ps) = element_in (only k) kind (type.with_components partial ps) (only_in k)
+  form_element_in k n kind (type.with_components partial ps) = element_in (only k) kind
+      (type.with_components partial ps) (only_in k)
   form_element_in k n kind (type.union cs) = form_some_in n kind cs
   form_element_in k n kind (type.intersection cs) = form_all_in k n kind cs
   form_element_in k n kind (type.except c d) =
-      let m : ℕ = (form_one k n kind c).next in both_in (form_one k n kind c).terms (form_one m (suc m) kind d).terms (form_one_in k n kind c) (form_one_in m (suc m) kind d)
+      let m : ℕ = (form_one k n kind c).next in both_in (form_one k n kind c).terms (form_one m (suc m) kind d).terms
+      (form_one_in k n kind c) (form_one_in m (suc m) kind d)
   form_element_in k n kind (type.all_except c) = form_one_in n (suc n) kind c
 
   form_all_in : (k n : ℕ) (kind : AbstractKind) (cs : Constraints) → TermsIn (form_all k n kind cs).terms
   form_all_in k n kind no_constraints = tt
   form_all_in k n kind (constraint c cs) =
-      let m : ℕ = (form_one k n kind c).next in both_in (form_one k n kind c).terms (form_all k m kind cs).terms (form_one_in k n kind c) (form_all_in k m kind cs)
+      let m : ℕ = (form_one k n kind c).next in both_in (form_one k n kind c).terms (form_all k m kind cs).terms
+      (form_one_in k n kind c) (form_all_in k m kind cs)
 
   form_some_in : (n : ℕ) (kind : AbstractKind) (cs : Constraints) → TermsIn (form_some n kind cs).terms
   form_some_in n kind no_constraints = tt
   form_some_in n kind (constraint c cs) =
-      let m : ℕ = (form_one n (suc n) kind c).next in both_in (form_one n (suc n) kind c).terms (form_some m kind cs).terms (form_one_in n (suc n) kind c) (form_some_in m kind cs)
+      let m : ℕ = (form_one n (suc n) kind c).next in both_in (form_one n (suc n) kind c).terms
+      (form_some m kind cs).terms (form_one_in n (suc n) kind c) (form_some_in m kind cs)
 
   form_type_in : (k n : ℕ) (t : AbstractType) → TermsIn (form_type k n t).terms
   form_type_in k n (type_of tags kind cons) =
-      both_in (form_all k n kind cons).terms (spread_kind (only k) kind) (form_all_in k n kind cons) (kind_in (only k) kind (only_in k))
+      both_in (form_all k n kind cons).terms (spread_kind (only k) kind) (form_all_in k n kind cons)
+      (kind_in (only k) kind (only_in k))
 
 form_in : (k n : ℕ) (d : Demand) → TermsIn (form k n d).terms
 form_in k n (by_type t) = form_type_in k n t
 form_in k n (by_constraint kind c) = form_one_in k n kind c
 
-forms_in : (k n : ℕ) (asks : List Ask) → AsksIn asks → TermsIn (forms_from k n asks).terms × RaisesIn (forms_from k n asks).raises
+forms_in : (k n : ℕ) (asks : List Ask) → AsksIn asks
+    → TermsIn (forms_from k n asks).terms × RaisesIn (forms_from k n asks).raises
 forms_in k n [] h = (tt, tt)
 forms_in k n (a ∷ asks) h =
     let m : ℕ = (form k n a.demand).next in
@@ -161,7 +184,8 @@ forms_in k n (a ∷ asks) h =
 -- ---- all that is asked at a node, and of its parts
 
 pub terms_in : (asks : List Ask) → AsksIn asks → TermsIn (terms_at asks)
-terms_in asks h = chosen_in (are_plain_asks asks) (terms_of asks) (forms_of asks).terms (plain_in asks h) (forms_in 0 (length asks) asks h).0
+terms_in asks h = chosen_in (are_plain_asks asks) (terms_of asks) (forms_of asks).terms (plain_in asks h)
+    (forms_in 0 (length asks) asks h).0
 
 pub raises_in : (asks : List Ask) → AsksIn asks → RaisesIn (forms_of asks).raises
 raises_in asks h = (forms_in 0 (length asks) asks h).1
@@ -188,4 +212,5 @@ within_one i k _ h = tt
 
 pub within_asks : (i : ℕ) (ts : List Term) → TermsIn ts → AsksIn (within_of i ts)
 within_asks i [] h = tt
-within_asks i (t ∷ ts) h = all_asks (within_in i t.slots t.atom) (within_of i ts) (within_one i t.slots t.atom h.0) (within_asks i ts h.1)
+within_asks i (t ∷ ts) h = all_asks (within_in i t.slots t.atom) (within_of i ts) (within_one i t.slots t.atom h.0)
+    (within_asks i ts h.1)

@@ -9,6 +9,7 @@ pub mod Counting
 pub mod Search
 pub mod SideViews
 pub mod SlotWords
+pub mod Intervals
 pub mod Aside
 pub mod Bare
 pub mod Laid

@@ -112,6 +112,21 @@ pub(crate) fn simple_node(
     ensures plan { (spots : List Spot) → (spot_of result.hot result.cold spots).plan
         ≡ plans.plan (own_tags tag) false (plans.simple (views.kind_view kind items.items) (map condition_view conditions.items)) }
 {
+    with_plain(asking_node(alloc, kind, items, conditions, tag))
+}
+
+/// Of which it isn't said yet which numbers are plain there.
+fn asking_node(
+    alloc: Global,
+    kind: SimpleKind,
+    items: Vec<i128>,
+    conditions: Vec<Condition>,
+    tag: Option<Tag>,
+) -> Node
+    ensures node { (spots : List Spot) (k : ℕ) → IsNode result.hot result.cold spots k }
+    ensures plan { (spots : List Spot) → (spot_of result.hot result.cold spots).plan
+        ≡ plans.plan (own_tags tag) false (plans.simple (views.kind_view kind items.items) (map condition_view conditions.items)) }
+{
     let asked = !conditions.is_empty();
     let mut node = bare(
         alloc,
@@ -125,6 +140,18 @@ pub(crate) fn simple_node(
     node.cold.items = items;
     node.cold.conditions = conditions;
     node
+}
+
+/// With the numbers that are plain there.
+fn with_plain(node: Node) -> Node
+    ensures node { (spots : List Spot) (k : ℕ) → IsNode node.hot node.cold spots k → IsNode result.hot result.cold spots k }
+    ensures spot { (spots : List Spot) → spot_of result.hot result.cold spots ≡ spot_of node.hot node.cold spots }
+{
+    let plain = plain_interval(&node.hot, &node.cold);
+    Node {
+        hot: with_interval(node.hot, plain),
+        cold: node.cold,
+    }
 }
 
 /// A node whose parts are so many nodes from the first on.

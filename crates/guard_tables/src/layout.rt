@@ -1,5 +1,5 @@
-//! The nodes of a type and of what is asked of its values. What is inside the parts of a node comes first, then the parts side by side; the node
-//! itself is answered and isn't with them yet.
+//! The nodes of a type and of what is asked of its values. What is inside the parts of a node comes first, then the
+//! parts side by side; the node itself is answered and isn't with them yet.
 ghost use Rattle.std.specs.Prelude.{◌≡◌, IfOk, IsTrue, map, true, false};
 ghost use Rattle.guard_der.specs.Der as der;
 ghost use Rattle.guard_der.specs.Sound.{is_sound, is_proper_presence};

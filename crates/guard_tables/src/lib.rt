@@ -7,6 +7,9 @@
 //! | What is asked of a value at a node, and how much is too much? | `conditions.rt` | `specs/Conditions.antt`, as it is counted `specs/inside/Counting.antt` |
 //! | At which nodes is that looked at? | `nodes.rt` | `specs/Conditions.antt` |
 //! | Which slots have failed? | `slots.rt` | `specs/Slots.antt` |
+//! | How are the nodes of a table put together? | `layout.rt` (`lay_nodes`), a node `drafts.rt`, `kinds_of_nodes.rt`, `identifiers.rt`, steps `assembly.rt`, `laid.rt` | `specs/Lay.antt`, `specs/inside/Laid.antt`, `specs/inside/Bare.antt`, `specs/inside/Aside.antt` |
+//! | Which tests has a node, and what is said of a component beside its type? | `conditions_at_node.rt`, `sides.rt`, octets `encoded.rt` | `specs/Lay.antt`, `specs/inside/SideViews.antt` |
+//! | Which numbers fail nothing at a node? | `plain_interval.rt` | `specs/TableNodes.antt` (`IsFree`), `specs/inside/Intervals.antt` |
 //! | What do nodes stand for, and what fails at a value? | laws `marking_laws.rt` | `specs/Plan.antt`, `specs/Formulas.antt`, `specs/Marking.antt` |
 //! | For which types does a plan stand, and for which a table's nodes? | `table.rt` | `specs/Standing.antt`, `specs/StandsFor.antt` |
 //! | Which nodes are there, and what keeps them in order? | `node.rt`, `node_list.rt` | `specs/NodeViews.antt`, `specs/TableNodes.antt`, `specs/NodesView.antt` |

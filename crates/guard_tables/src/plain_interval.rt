@@ -1,10 +1,15 @@
 //! Numbers whose contents octets fail nothing at a node.
-ghost use Rattle.std.specs.Prelude.{◌≡◌, ◌≤ℤ◌, ℕ, List, None};
+ghost use Rattle.std.specs.Prelude.{◌≡◌, ◌≤ℤ◌, ℕ, ℤ, List, None, true, map, IsTrue};
 ghost use Rattle.guard_der.specs.Octets.{twos_complement};
 ghost use Rattle.guard_der.specs.Simple.{integer_fault};
+ghost use Rattle.guard_tables.specs.Marking.{is_in, is_in_one};
+ghost use Rattle.guard_tables.specs.NodeViews.{test_view, condition_view};
+ghost use Rattle.guard_tables.specs.Slots.{none};
 ghost use Rattle.guard_tables.specs.TableNodes.{Spot, spot_of, IsFree};
+ghost use Rattle.guard_tables.specs.inside.Intervals.{IsWithin, PassesTest, PassesAll};
 
-use crate::node::{Cold, Hot};
+use crate::node::{Cold, Condition, Hot, Kind, Range, SimpleKind, Test};
+use crate::slots::Slots;
 
 /// Numbers from the first to the second, both in; none where the second is below the first.
 #[derive(Clone, Copy)]
@@ -14,10 +19,93 @@ pub(crate) struct Interval {
 }
 
 /// Numbers such that contents octets that spell one of them are lawful at this node, fail nothing there, and
-/// aren't a default's. It finds none yet, of any node.
-pub(crate) fn plain_interval(_hot: &Hot, _cold: &Cold) -> Interval
+/// aren't a default's. Of a node that has a default, or where presence costs something, it finds none.
+pub(crate) fn plain_interval(hot: &Hot, cold: &Cold) -> Interval
     ensures { (spots : List Spot) (os : List ℕ) → integer_fault os ≡ None → result.low ≤ℤ twos_complement os
-        → twos_complement os ≤ℤ result.high → IsFree (spot_of _hot.now _cold.now spots) os }
+        → twos_complement os ≤ℤ result.high → IsFree (spot_of hot.now cold.now spots) os }
 {
-    Interval { low: 1, high: 0 }
+    if is_integer(hot.kind) && is_unwatched(cold) {
+        passed_by_all(&cold.conditions)
+    } else {
+        Interval::empty()
+    }
+}
+
+impl Interval {
+    fn empty() -> Interval
+        ensures { (z : ℤ) → IsWithin result z → ⊥ }
+    {
+        Interval { low: 1, high: 0 }
+    }
+
+    fn width(self) -> i64 {
+        i64::from(self.high) - i64::from(self.low)
+    }
+}
+
+fn is_integer(kind: Kind) -> bool
+    ensures { IsTrue result → kind ≡ Kind.Simple SimpleKind.Integer }
+{
+    match kind {
+        Kind::Simple(SimpleKind::Integer) => true,
+        _ => false,
+    }
+}
+
+fn is_unwatched(cold: &Cold) -> bool
+    ensures { IsTrue result → (cold.now.present ≡ none) × (cold.now.default ≡ None) }
+{
+    cold.present == Slots::none() && cold.default.is_none()
+}
+
+/// Numbers that pass all of these.
+fn passed_by_all(conditions: &[Condition]) -> Interval
+    ensures { (z : ℤ) → IsWithin result z → PassesAll z (map condition_view conditions.now) }
+{
+    let mut passed = Interval {
+        low: i32::MIN,
+        high: i32::MAX,
+    };
+    for condition in conditions {
+        passed = passed_of(passed, &condition.test);
+    }
+    passed
+}
+
+/// Those that pass it too, or some of them.
+fn passed_of(passed: Interval, test: &Test) -> Interval
+    ensures { (z : ℤ) → IsWithin result z → IsWithin passed z × PassesTest z (test_view test.now) }
+{
+    match test {
+        Test::Numbers(ranges) => widest(passed, ranges),
+        _ => Interval::empty(),
+    }
+}
+
+/// Of what lies in one of the ranges too, the most.
+fn widest(passed: Interval, ranges: &[Range]) -> Interval
+    ensures { (z : ℤ) → IsWithin result z → IsWithin passed z × (is_in_one ranges.now z ≡ true) }
+{
+    let mut best = Interval::empty();
+    for range in ranges {
+        let common = common(passed, range);
+        if common.width() > best.width() {
+            best = common;
+        }
+    }
+    best
+}
+
+fn common(passed: Interval, range: &Range) -> Interval
+    ensures { (z : ℤ) → IsWithin result z → IsWithin passed z × (is_in z range.now ≡ true) }
+{
+    let low = range.low.max(i128::from(passed.low));
+    let high = range.high.min(i128::from(passed.high));
+    if low > high {
+        return Interval::empty();
+    }
+    Interval {
+        low: low as i32,
+        high: high as i32,
+    }
 }

@@ -1,7 +1,7 @@
 -- Nodes that aren't there yet, beside those that are.
 use Rattle.std.specs.Prelude.{ℕ, List, [], ◌∷◌, ⊤}
 use Rattle.guard_tables.specs.declared.drafts.Node.{Node}
-use Rattle.guard_tables.specs.Plan.{Plan, Parts, no_parts, part}
+use Rattle.guard_tables.specs.Plan.{Plan, Parts, part}
 use Rattle.guard_tables.specs.TableNodes.{Spot, spot_of, IsNode}
 
 abbrev pub plan_of_node : Node → List Spot → Plan

@@ -1,5 +1,5 @@
 -- A node with nothing asked of it and nothing said of it.
-use Rattle.std.specs.Prelude.{ℕ, ℤ, pos, ◌≡◌, Bool, false, List, [], Option, Some, None}
+use Rattle.std.specs.Prelude.{ℕ, ℤ, pos, ◌≡◌, Bool, false, [], Option, Some, None}
 use Rattle.guard_tables.specs.declared.drafts.Group.{Group}
 use Rattle.guard_tables.specs.declared.drafts.Group.TheVariants as group
 use Rattle.guard_tables.specs.declared.drafts.Elements.{Elements}

@@ -1,6 +1,6 @@
--- How nodes are put together for a type and what is asked of it: each step adds nodes, and answers one that isn't there yet.
-use Rattle.std.specs.Prelude.{ℕ, suc, ◌+◌, ◌≤◌, ◌≡◌, Bool, IsTrue, List, [], ◌∷◌, ◌++◌, map, length, Option, Some, None, ⊤, ℤ}
-use Rattle.guard_model.specs.declared.tag.Tag.{Tag}
+-- How nodes are put together for a type and what is asked of it: each step adds nodes, and answers one that isn't
+-- there yet.
+use Rattle.std.specs.Prelude.{ℕ, suc, ◌+◌, ◌≤◌, ◌≡◌, IsTrue, List, [], ◌++◌, map, length, ⊤, ℤ}
 use Rattle.guard_model.specs.AbstractType as type
 use Rattle.guard_model.specs.AbstractType.{AbstractType, AbstractKind, Components, no_components, component}
 use Rattle.guard_model.specs.Kinds.{kind_of}
@@ -84,11 +84,13 @@ pub record WithPart (others : List Node) (l : Laid) (side : Side) (new : LaidPar
   pub stand : (ps : Parts)
       → parts_in new ps ≡ parts_then (spots_at (spots_so_far l.builder) others) (part side (plan_in l) ps)
 
-pub record Extends (old : LaidParts) (new : LaidParts) (g : Group) (place : ℕ) (c : OneComponent) (terms : List Term) : Type 0 where
+-- with what is inside it, and for whatever parts come after it
+pub record Extends (old new : LaidParts) (g : Group) (place : ℕ) (c : OneComponent) (terms : List Term) : Type 0 where
   pub grows : Grows old.builder new.builder
   pub nodes : MayCome new
   pub stand : (rest : Components)
-      → parts_in new (parts_of_group g (suc place) rest terms) ≡ parts_in old (parts_of_group g place (component c.name c.ty c.presence rest) terms)
+      → parts_in new (parts_of_group g (suc place) rest terms)
+      ≡ parts_in old (parts_of_group g place (component c.name c.ty c.presence rest) terms)
 
 -- what is said of the part at this place
 abbrev pub side_of_part : Group → ℕ → OneComponent → List Term → Plan → Side

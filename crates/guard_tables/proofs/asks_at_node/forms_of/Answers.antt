@@ -9,7 +9,8 @@ slot_at-own-requires c = place_room c.loop-place.place c.args.asks.now c.loop-pl
 pub form-requires : goal.form-requires
 form-requires c =
     let l = c.loop-place in
-    form_room l.next l.place _ c.slot_at-own.result c.args.asks.now c.index-asks-place.result c.loop-place-test.true c.index-asks-place.is c.slot_at-own.ensures l.invariant.next c.requires
+    form_room l.next l.place _ c.slot_at-own.result c.args.asks.now c.index-asks-place.result c.loop-place-test.true
+    c.index-asks-place.is c.slot_at-own.ensures l.invariant.next c.requires
 
 pub loop-place-preserved : goal.loop-place-preserved
 loop-place-preserved c =
@@ -25,7 +26,10 @@ loop-place-preserved c =
     let place = c.slot_at-own.ensures in
     let puts = c.in_ok-besides.ensures in
     record {
-      terms = terms_more l.next b.next l.place own _ asks a old mid (form_view b.form) lt is place puts l.invariant.terms;
-      raises = raises_more l.next b.next l.place own _ asks a old mid (form_view b.form) l.raises.items c.push.new.self.items c.in_ok-where_failed.where_failed lt is place puts c.in_ok-where_failed.ensures c.in_ok-push.ensures.items l.invariant.raises;
+      terms = terms_more l.next b.next l.place own _ asks a old mid (form_view b.form) lt is place puts
+          l.invariant.terms;
+      raises = raises_more l.next b.next l.place own _ asks a old mid (form_view b.form) l.raises.items
+          c.push.new.self.items c.in_ok-where_failed.where_failed lt is place puts c.in_ok-where_failed.ensures
+          c.in_ok-push.ensures.items l.invariant.raises;
       next = next_more l.next b.next l.place own _ asks a old mid (form_view b.form) lt is place puts l.invariant.next;
     }

@@ -1,5 +1,5 @@
 use Rattle.std.proofs.Common.{arith}
-use Rattle.guard_tables.proofs.Comings.{parts_come, parts_stand, all_grown}
+use Rattle.guard_tables.proofs.LaidSteps.{parts_come, parts_stand, all_grown}
 use Rattle.guard_tables.proofs.assembly.as_parts.Goals as goal
 
 pub invariant_of-result : goal.invariant_of-result

@@ -1,6 +1,6 @@
 use Rattle.std.proofs.Common.{refl}
 use Rattle.guard_tables.specs.inside.SideViews.{part_side_view}
-use Rattle.guard_tables.proofs.Comings.{one_aside}
+use Rattle.guard_tables.proofs.LaidSteps.{one_aside}
 use Rattle.guard_tables.proofs.assembly.with_part.Goals as goal
 
 pub returns : goal.returns

@@ -10,5 +10,6 @@ use Rattle.guard_tables.proofs.conditions_at_node.conditions_of.Given as goal
 abbrev pub invariant-loop-term : goal.invariant-loop-term
 invariant-loop-term l = record {
   speak : AllSpeak (kind_view l.kind) (terms_view (drop l.term-index l.terms));
-  so_far : map condition_view l.conditions.items ++ conditions_of (kind_view l.kind) (terms_view (drop l.term-index l.terms)) ≡ conditions_of (kind_view l.kind) (terms_view l.terms);
+  so_far : map condition_view l.conditions.items ++ conditions_of (kind_view l.kind)
+      (terms_view (drop l.term-index l.terms)) ≡ conditions_of (kind_view l.kind) (terms_view l.terms);
 }

@@ -11,5 +11,8 @@ use Rattle.guard_tables.proofs.conditions_at_node.item_test.Given as goal
 -- they have those items that the constraint has, but for those to come
 abbrev pub invariant-loop-item : goal.invariant-loop-item
 invariant-loop-item l = (z : ℤ) →
-    (is_in_one l.ranges.items z || ((fits_128_bits z && is_item z (map named_view (drop l.item-index l.items))) && holds (constraint_view l.constraint) (kind_view l.own) (abstract.enumerated z)))
-    ≡ ((fits_128_bits z && is_item z (map named_view l.items)) && holds (constraint_view l.constraint) (kind_view l.own) (abstract.enumerated z))
+    (is_in_one l.ranges.items z ||
+    ((fits_128_bits z && is_item z (map named_view (drop l.item-index l.items))) && holds
+    (constraint_view l.constraint) (kind_view l.own) (abstract.enumerated z)))
+    ≡ ((fits_128_bits z && is_item z (map named_view l.items)) && holds (constraint_view l.constraint)
+    (kind_view l.own) (abstract.enumerated z))

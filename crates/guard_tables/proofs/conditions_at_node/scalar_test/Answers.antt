@@ -11,4 +11,5 @@ pub returns-in_ok-number_test-in-Int : goal.returns-in_ok-number_test-in-Int
 returns-in_ok-number_test-in-Int c =
     let own = kind_view c.args.own.now in
     ap (λ (t : AbstractTest). t ∷ []) (c.in_ok-number_test-in-Int.ensures own)
-    ∙ sym (ap (λ (k : AbstractKind). scalar_tests k (holds (constraint_view c.args.constraint.now) own)) (integer_view c.args.kind.now c.in-Int.field-0 c.in-Int.is))
+    ∙ sym (ap (λ (k : AbstractKind). scalar_tests k (holds (constraint_view c.args.constraint.now) own))
+    (integer_view c.args.kind.now c.in-Int.field-0 c.in-Int.is))

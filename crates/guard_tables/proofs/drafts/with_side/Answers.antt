@@ -1,4 +1,4 @@
-use Rattle.std.proofs.Common.{refl, pos, sym, ap, ◌∙◌}
+use Rattle.std.proofs.Common.{ap, ◌∙◌}
 use Rattle.guard_tables.specs.NodeViews.{absence_of}
 use Rattle.guard_tables.specs.declared.slots.Slots.{Slots}
 use Rattle.guard_tables.proofs.Comings.{sided, sided_spot}

@@ -1,4 +1,4 @@
-use Rattle.std.proofs.Common.{◌≡◌, true, List, map, refl, rules, sym, ap, subst, ◌∙◌}
+use Rattle.std.proofs.Common.{true, List, map, refl, rules, sym, ap, subst, ◌∙◌}
 use Rattle.guard_model.specs.AbstractType.{AbstractKind}
 use Rattle.guard_model.specs.Kinds.{kind_of}
 use Rattle.guard_model.specs.TypeView.{type_view, kind_view, component_view, components_of}
@@ -14,7 +14,8 @@ use Rattle.guard_tables.specs.TableNodes.{own_tags}
 use Rattle.guard_tables.specs.inside.AskViews.{asks_view, terms_view}
 use Rattle.guard_tables.specs.inside.Laid.{AskedMayBeLaid, body_of_elements, body_of_group, parts_of_group, side_of_part}
 use Rattle.guard_tables.specs.inside.SideViews.{part_side_view}
-use Rattle.guard_tables.proofs.Comings.{laid_as, tags_laid, formulas_laid, elements_laid, group_laid, extended, not_plain, still_aside}
+use Rattle.guard_tables.proofs.Comings.{laid_as}
+use Rattle.guard_tables.proofs.LaidSteps.{tags_laid, formulas_laid, elements_laid, group_laid, extended, not_plain, still_aside}
 use Rattle.guard_tables.proofs.LaidTypes.{asked_may}
 use Rattle.guard_tables.proofs.layout.+layout.Goals as goal
 

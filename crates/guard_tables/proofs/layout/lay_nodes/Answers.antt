@@ -1,7 +1,7 @@
 use Rattle.guard_model.specs.TypeView.{type_view}
 use Rattle.guard_tables.specs.Lay.{lay}
 use Rattle.guard_tables.specs.inside.AskViews.{asks_view}
-use Rattle.guard_tables.proofs.Comings.{whole_is}
+use Rattle.guard_tables.proofs.LaidSteps.{whole_is}
 use Rattle.guard_tables.proofs.layout.lay_nodes.Goals as goal
 
 pub returns : goal.returns

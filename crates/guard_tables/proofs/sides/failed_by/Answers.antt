@@ -14,7 +14,10 @@ returns c =
     let l = c.loop-ask in
     let v = value_view c.args.value.now in
     let asks = c.args.asks.now in
-    let none : drop l.ask-index asks ≡ [] = at_drop_all (λ (rest : List Ask). rest) asks l.ask-index c.loop-ask-test.false in
-    let words : AsksIn (asks_view asks) = l.invariant.words (subst (λ (rest : List Ask). AsksIn (asks_view rest)) (sym none) tt) in
+    let none : drop l.ask-index asks ≡ [] = at_drop_all (λ (rest : List Ask). rest) asks l.ask-index
+    c.loop-ask-test.false in
+    let words : AsksIn (asks_view asks) = l.invariant.words
+    (subst (λ (rest : List Ask). AsksIn (asks_view rest)) (sym none) tt) in
     sym (ap (λ (rest : List Ask). asks_marked v (asks_view rest) l.failed) none) ∙ l.invariant.so_far
-    ∙ failed_by (type_view c.args.ty.now) c.requires.sound (asks_view asks) c.requires.apt words v c.requires.fits c.args.present c.law_words.ensures
+    ∙ failed_by (type_view c.args.ty.now) c.requires.sound (asks_view asks) c.requires.apt words v c.requires.fits
+    c.args.present c.law_words.ensures

@@ -13,5 +13,6 @@ abbrev pub invariant-loop-ask : goal.invariant-loop-ask
 invariant-loop-ask l = record {
   apt : AreApt (kind_of (type_view l.ty)) (asks_view (drop l.ask-index l.asks));
   words : AsksIn (asks_view (drop l.ask-index l.asks)) → AsksIn (asks_view l.asks);
-  so_far : asks_marked (value_view l.value) (asks_view (drop l.ask-index l.asks)) l.failed ≡ asks_marked (value_view l.value) (asks_view l.asks) l.initial.failed;
+  so_far : asks_marked (value_view l.value) (asks_view (drop l.ask-index l.asks)) l.failed ≡ asks_marked
+      (value_view l.value) (asks_view l.asks) l.initial.failed;
 }

@@ -15,7 +15,8 @@ proper_member-requires-clause-fits c =
     let kind = kind_view c.args.kind.now in
     let own = type_view c.in-Type.own.now in
     let v = value_view c.args.value.now in
-    let apt : IsApt kind (by_type own) = subst (λ (d : Demand). IsApt kind (demand_view d)) c.in-Type.is c.requires.apt in
+    let apt : IsApt kind (by_type own) = subst (λ (d : Demand). IsApt kind (demand_view d)) c.in-Type.is c.requires.apt
+    in
     fits_of own v ∙ same_fits (kind_of own) kind v apt.0 ∙ c.requires.fits
 
 pub holds_on_kind-requires-clause-fits : goal.holds_on_kind-requires-clause-fits
@@ -23,5 +24,6 @@ holds_on_kind-requires-clause-fits c =
     let kind = kind_view c.args.kind.now in
     let own = kind_view c.in-Constraint.own.now in
     let v = value_view c.args.value.now in
-    let apt : IsApt kind (by_constraint own (constraint_view c.in-Constraint.constraint.now)) = subst (λ (d : Demand). IsApt kind (demand_view d)) c.in-Constraint.is c.requires.apt in
+    let apt : IsApt kind (by_constraint own (constraint_view c.in-Constraint.constraint.now)) = subst
+    (λ (d : Demand). IsApt kind (demand_view d)) c.in-Constraint.is c.requires.apt in
     same_fits own kind v apt.0 ∙ c.requires.fits

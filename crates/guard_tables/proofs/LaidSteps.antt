@@ -1,0 +1,181 @@
+-- From what is inside a node to the node, and from parts to the whole.
+use Rattle.std.proofs.Common.{◌≡◌, ℕ, zero, suc, ◌+◌, ◌-◌, ◌<◌, ◌≤◌, Bool, true, false, cond, eqb, List, [], ◌∷◌, ◌++◌, length, Option, Result, Ok, Err, refl, sym, ap, subst, ◌∙◌, arith, length-append}
+use Rattle.std.specs.Prelude.{not}
+use Rattle.std.specs.Result.{IfOk}
+use Rattle.std.proofs.lemmas.Bool.{eqb-true, eqb-false}
+use Rattle.guard_model.specs.declared.tag.Tag.{Tag}
+use Rattle.guard_model.specs.AbstractType.{AbstractType, AbstractKind, AbstractPresence, Components, component}
+use Rattle.guard_model.specs.TypeView.{OneComponent}
+use Rattle.guard_tables.specs.declared.drafts.Node.{Node}
+use Rattle.guard_tables.specs.declared.drafts.Group.{Group}
+use Rattle.guard_tables.specs.declared.drafts.Group.TheVariants as group
+use Rattle.guard_tables.specs.declared.drafts.Elements.{Elements}
+use Rattle.guard_tables.specs.declared.laid.Laid.{Laid}
+use Rattle.guard_tables.specs.declared.laid.LaidParts.{LaidParts}
+use Rattle.guard_tables.specs.declared.node.Hot.{Hot}
+use Rattle.guard_tables.specs.declared.node.Cold.{Cold}
+use Rattle.guard_tables.specs.declared.node.Condition.{Condition}
+use Rattle.guard_tables.specs.declared.node_list.Builder.{Builder}
+use Rattle.guard_tables.specs.declared.node_list.Nodes.{Nodes}
+use Rattle.guard_tables.specs.Demands.{Ask, Term}
+use Rattle.guard_tables.specs.Forms.{forms_of}
+use Rattle.guard_tables.specs.Formulas as formulas
+use Rattle.guard_tables.specs.Handed.{within_of, terms_at}
+use Rattle.guard_tables.specs.Lay.{lay, lay_kind, formulas_over}
+use Rattle.guard_tables.specs.Plan.{Side, Plan, Body, Parts, plan, formula, no_parts, part, body_in, tags_in, form_in}
+use Rattle.guard_tables.specs.NodesView.{spots_in, root_of}
+use Rattle.guard_tables.specs.Spread.{terms_of, are_plain_asks}
+use Rattle.guard_tables.specs.TableNodes.{Spot, spot_of, spots_of, spot_at, own_tags, parts_between, IsNode}
+use Rattle.guard_tables.specs.inside.Aside.{spots_at, AreNodes, parts_then}
+use Rattle.guard_tables.specs.inside.Laid.{spots_so_far, Grows, Stacks, Lays, LaysParts, WithPart, Extends, MayCome, plan_in, parts_in, body_of_group, body_of_elements, parts_of_group, side_of_part}
+use Rattle.guard_tables.proofs.Comings.{all_kept, all_stay, grown_on, laid_as, laid_on, nodes_last, parts_last, run, so_many, spots_length}
+
+-- ---- parts
+
+pub one_aside : (others : List Node) (l : Laid) (n : Node) (s : Side) (new : LaidParts) → AreNodes others (spots_so_far l.builder) (length l.builder.hots.items)
+    → ((spots : List Spot) (k : ℕ) → IsNode l.node.hot l.node.cold spots k → IsNode n.hot n.cold spots k)
+    → ((spots : List Spot) → spot_of n.hot n.cold spots ≡ record { side = s; plan = (spot_of l.node.hot l.node.cold spots).plan })
+    → new.builder ≡ l.builder → new.nodes.items ≡ others ++ n ∷ [] → WithPart others l s new
+one_aside others l n s new are node spot same nodes =
+    let ss : List Spot = spots_so_far l.builder in
+    let k : ℕ = length l.builder.hots.items in
+    record {
+      same = same;
+      nodes = rw (same, nodes) (nodes_last others n ss k are (node ss k l.stands));
+      stand = λ ps. rw (same, nodes) (parts_last ss others n ps ∙ ap (λ (sp : Spot). parts_then (spots_at ss others) (part sp.side sp.plan ps)) (spot ss));
+    }
+
+longer : (before after : Builder) → Grows before after → length before.hots.items ≤ length after.hots.items
+longer before after g =
+    let all : length (spots_so_far after) ≡ length (spots_so_far before) + length g.more = ap (λ (ss : List Spot). length ss) g.grown ∙ length-append (spots_so_far before) g.more in
+    omega (arith, all, so_many before, so_many after)
+
+-- those aside stay, whatever comes
+pub still_aside : (old : LaidParts) (after : Builder) → MayCome old → Grows old.builder after → AreNodes old.nodes.items (spots_so_far after) (length after.hots.items)
+still_aside old after are g =
+    subst (λ (ss : List Spot). AreNodes old.nodes.items ss (length after.hots.items)) (sym g.grown)
+    (all_kept old.nodes.items (spots_so_far old.builder) g.more (length old.builder.hots.items) (length after.hots.items) (omega (arith, so_many old.builder)) (longer old.builder after g) are)
+
+one_part : (g : Group) (place : ℕ) (name : List ℕ) (t : AbstractType) (presence : AbstractPresence) (rest : Components) (terms : List Term)
+    → part (side_of_part g place (record { name = name; ty = t; presence = presence }) terms (lay t (within_of place terms))) (lay t (within_of place terms)) (parts_of_group g (suc place) rest terms)
+    ≡ parts_of_group g place (component name t presence rest) terms
+one_part group.Series place name t presence rest terms = refl
+one_part group.Set place name t presence rest terms = refl
+one_part group.Choice place name t presence rest terms = refl
+
+pub extends : (old new : LaidParts) (l : Laid) (g : Group) (place : ℕ) (c : OneComponent) (terms : List Term) (s : Side)
+    → MayCome old → Lays old.builder l (lay c.ty (within_of place terms)) → s ≡ side_of_part g place c terms (lay c.ty (within_of place terms)) → WithPart old.nodes.items l s new
+    → Extends old new g place c terms
+extends old new l g place c terms s are laid side with =
+    let ss : List Spot = spots_so_far old.builder in
+    let k : ℕ = length old.builder.hots.items in
+    let ns : List Node = old.nodes.items in
+    let here : ns ≡ ns = refl in
+    let p : Plan = lay c.ty (within_of place terms) in
+    record {
+      grows = subst (λ (b : Builder). Grows old.builder b) (sym with.same) laid.grows;
+      nodes = with.nodes;
+      stand = λ rest.
+          with.stand (parts_of_group g (suc place) rest terms)
+          ∙ ap (λ (q : Plan). parts_then (spots_at (spots_so_far l.builder) ns) (part s q (parts_of_group g (suc place) rest terms))) laid.stands
+          ∙ ap (λ (s : Side). parts_then (spots_at (spots_so_far l.builder) ns) (part s p (parts_of_group g (suc place) rest terms))) side
+          ∙ ap (λ (all : List Spot). parts_then (spots_at all ns) (part (side_of_part g place c terms p) p (parts_of_group g (suc place) rest terms))) laid.grows.grown
+          ∙ ap (λ (aside : List Spot). parts_then aside (part (side_of_part g place c terms p) p (parts_of_group g (suc place) rest terms))) (sym (all_stay ns ss laid.grows.more k (omega (arith, so_many old.builder)) are))
+          ∙ ap (λ (ps : Parts). parts_then (spots_at ss ns) ps) (one_part g place c.name c.ty c.presence rest terms);
+    }
+
+pub parts_come : (parts : LaidParts) (after : Builder) (g : Group) (tag : Option Tag) (first count : ℕ) (n : Node) → spots_so_far after ≡ spots_so_far parts.builder ++ spots_at (spots_so_far parts.builder) parts.nodes.items
+    → first ≡ length parts.builder.hots.items → count ≡ length parts.nodes.items
+    → ((spots : List Spot) (k : ℕ) → first + count ≤ k → IsNode n.hot n.cold spots k)
+    → IsNode n.hot n.cold (spots_so_far after) (length after.hots.items)
+parts_come parts after g tag first count n grown at many node =
+    let ss : List Spot = spots_so_far parts.builder in
+    let all : length (spots_so_far after) ≡ length ss + length (spots_at ss parts.nodes.items) = ap (λ (ss : List Spot). length ss) grown ∙ length-append ss (spots_at ss parts.nodes.items) in
+    node (spots_so_far after) (length after.hots.items) (omega (arith, all, at, many, so_many parts.builder, so_many after, spots_length ss parts.nodes.items))
+
+pub parts_stand : (parts : LaidParts) (after : Builder) (g : Group) (tag : Option Tag) (first count : ℕ) (n : Node) → spots_so_far after ≡ spots_so_far parts.builder ++ spots_at (spots_so_far parts.builder) parts.nodes.items
+    → first ≡ length parts.builder.hots.items → count ≡ length parts.nodes.items
+    → ((spots : List Spot) → (spot_of n.hot n.cold spots).plan ≡ plan (own_tags tag) true (body_of_group g (parts_between spots first count)))
+    → (spot_of n.hot n.cold (spots_so_far after)).plan ≡ plan (own_tags tag) true (body_of_group g (parts_in parts no_parts))
+parts_stand parts after g tag first count n grown at many stands =
+    let ss : List Spot = spots_so_far parts.builder in
+    stands (spots_so_far after)
+    ∙ ap (λ (all : List Spot). plan (own_tags tag) true (body_of_group g (parts_between all first count))) grown
+    ∙ ap (λ (ps : Parts). plan (own_tags tag) true (body_of_group g ps)) (run ss parts.nodes.items first count (at ∙ sym (so_many parts.builder)) many)
+
+pub all_grown : (parts : LaidParts) (after : Builder) → spots_so_far after ≡ spots_so_far parts.builder ++ spots_at (spots_so_far parts.builder) parts.nodes.items → Grows parts.builder after
+all_grown parts after e = record { more = spots_at (spots_so_far parts.builder) parts.nodes.items; grown = e }
+
+-- ---- whether anything is there
+
+pub nothing_there : (n : ℕ) (b : Bool) → b ≡ eqb n 0 → b ≡ true → n ≡ 0
+nothing_there n b e t = eqb-true n 0 (sym e ∙ t)
+
+pub something_there : (n : ℕ) (b : Bool) → b ≡ eqb n 0 → b ≡ false → 0 < n
+something_there zero b e t = absurd (eqb-false 0 0 (sym e ∙ t) refl)
+something_there (suc n) b e t = omega arith
+
+-- whether anything is asked, as a node says
+pub told_so : (cs : List Condition) (n : ℕ) (empty : Bool) → empty ≡ eqb n 0 → n ≡ length cs → not empty ≡ false → cs ≡ []
+told_so [] n empty e same h = refl
+told_so (x ∷ cs) n true e same h = absurd (let none = nothing_there n true e refl in omega (arith, none, same))
+told_so (x ∷ cs) n false e same h = absurd cc
+
+-- ---- the steps of a type
+
+pub passed_on : {A E : Type 0} (P Q : A → Type 0) (r : Result A E) → ((a : A) → P a → Q a) → IfOk r P → IfOk r Q
+passed_on P Q (Ok a) f h = f a h
+passed_on P Q (Err e) f h = tt
+
+pub tags_laid : {E : Type 0} (before : Builder) (l : Laid) (tags : List Tag) (p q : Plan) → plan tags (form_in p) (body_in p) ≡ q → Lays before l p
+    → (r : Result Laid E) → IfOk r (λ m. Lays l.builder m (plan tags (form_in (plan_in l)) (body_in (plan_in l)))) → IfOk r (λ m. Lays before m q)
+tags_laid before l tags p q e a r h =
+    passed_on (λ (m : Laid). Lays l.builder m (plan tags (form_in (plan_in l)) (body_in (plan_in l)))) (λ (m : Laid). Lays before m q) r
+    (λ m c. laid_as before m (plan tags (form_in p) (body_in p)) q e (laid_on before l m p (λ (p : Plan). plan tags (form_in p) (body_in p)) a c)) h
+
+pub formulas_laid : {E : Type 0} (before : Builder) (l : Laid) (p q : Plan) (f : Body → Body) → Lays before l p → plan (tags_in p) (form_in p) (f (body_in p)) ≡ q
+    → (r : Result Laid E) → IfOk r (λ m. Lays l.builder m (plan (tags_in (plan_in l)) (form_in (plan_in l)) (f (body_in (plan_in l))))) → IfOk r (λ m. Lays before m q)
+formulas_laid before l p q f a e r h =
+    passed_on (λ (m : Laid). Lays l.builder m (plan (tags_in (plan_in l)) (form_in (plan_in l)) (f (body_in (plan_in l))))) (λ (m : Laid). Lays before m q) r
+    (λ m c. laid_as before m (plan (tags_in p) (form_in p) (f (body_in p))) q e (laid_on before l m p (λ (p : Plan). plan (tags_in p) (form_in p) (f (body_in p))) a c)) h
+
+-- from an element or parts to the whole
+pub elements_laid : (before : Builder) (element whole : Laid) (p : Plan) (g : Elements) (tag : Option Tag) → Lays before element p → Lays element.builder whole (plan (own_tags tag) true (body_of_elements g (plan_in element)))
+    → Lays before whole (plan (own_tags tag) true (body_of_elements g p))
+elements_laid before element whole p g tag a b = laid_on before element whole p (λ (p : Plan). plan (own_tags tag) true (body_of_elements g p)) a b
+
+pub group_laid : (before : Builder) (parts : LaidParts) (whole : Laid) (ps : Parts) (g : Group) (tag : Option Tag) → LaysParts before parts ps → Lays parts.builder whole (plan (own_tags tag) true (body_of_group g (parts_in parts no_parts)))
+    → Lays before whole (plan (own_tags tag) true (body_of_group g ps))
+group_laid before parts whole ps g tag a b = record {
+  grows = grown_on before parts.builder whole.builder a.grows b.grows;
+  stands = b.stands ∙ ap (λ (ps : Parts). plan (own_tags tag) true (body_of_group g ps)) a.stand;
+}
+
+pub extended : {E : Type 0} (old : LaidParts) (l : Laid) (g : Group) (place : ℕ) (c : OneComponent) (terms : List Term) (s : Side)
+    → MayCome old → Lays old.builder l (lay c.ty (within_of place terms)) → s ≡ side_of_part g place c terms (lay c.ty (within_of place terms))
+    → (r : Result LaidParts E) → IfOk r (λ new. WithPart old.nodes.items l s new) → IfOk r (λ new. Extends old new g place c terms)
+extended old l g place c terms s are laid side r h =
+    passed_on (λ (new : LaidParts). WithPart old.nodes.items l s new) (λ (new : LaidParts). Extends old new g place c terms) r (λ new with. extends old new l g place c terms s are laid side with) h
+
+by_formulas : (b : Bool) (own : List Tag) (form : Bool) (kind : AbstractKind) (xs ts : List Term) (rs : List formulas.Raise) → b ≡ false
+    → plan own form (formula rs (lay_kind kind ts)) ≡ plan own form (cond b (lay_kind kind (cond b xs ts)) (formula rs (lay_kind kind (cond b xs ts))))
+by_formulas true own form kind xs ts rs e = absurd cc
+by_formulas false own form kind xs ts rs e = refl
+
+-- where not all that is asked is conjunctions
+pub not_plain : (asks : List Ask) (own : List Tag) (form : Bool) (kind : AbstractKind) (ts : List Term) (rs : List formulas.Raise) → are_plain_asks asks ≡ false → ts ≡ (forms_of asks).terms → rs ≡ (forms_of asks).raises
+    → plan own form (formula rs (lay_kind kind ts)) ≡ plan own form (formulas_over asks (lay_kind kind (terms_at asks)))
+not_plain asks own form kind ts rs e t r =
+    ap (λ (ts : List Term). plan own form (formula rs (lay_kind kind ts))) t
+    ∙ ap (λ (rs : List formulas.Raise). plan own form (formula rs (lay_kind kind (forms_of asks).terms))) r
+    ∙ by_formulas (are_plain_asks asks) own form kind (terms_of asks) (forms_of asks).terms (forms_of asks).raises e
+
+-- the last of all is the whole
+pub whole_is : (before : Builder) (l : Laid) (after : Builder) (first : ℕ) (n : Nodes) (p : Plan) → Lays before l p → Stacks l after first → n.hots.items ≡ after.hots.items → n.colds.items ≡ after.colds.items → root_of n ≡ p
+unfolding spots_in
+whole_is before l after first n p a s hots colds =
+    let last : length n.hots.items - 1 ≡ first = omega (arith, ap (λ (hs : List Hot). length hs) hots, s.count) in
+    ap (λ (k : ℕ). (spot_at (spots_of n.hots.items n.colds.items) k).plan) last
+    ∙ ap (λ (hs : List Hot). (spot_at (spots_of hs n.colds.items) first).plan) hots
+    ∙ ap (λ (cs : List Cold). (spot_at (spots_of after.hots.items cs) first).plan) colds
+    ∙ s.stands ∙ a.stands

@@ -3,11 +3,15 @@ pub mod Digits
 pub mod Lengths
 pub mod Small
 pub mod Elements
+pub mod FrontSteps
+pub mod Passes
 -- ---- contents of simple kinds
 pub mod LastOctets
 pub mod Subidentifiers
 pub mod Utf8
 -- ---- what the walk takes from nodes, and one step of it
+pub mod ByHeader
+pub mod NodeTags
 pub mod NodeSteps
 pub mod Steps
 -- ---- a pass reads octets as decoding does

@@ -1,3 +1,4 @@
 -- What only private contracts and proofs cite.
 pub mod NodeParts
 pub mod Answers
+pub mod FrontViews

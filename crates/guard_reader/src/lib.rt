@@ -19,12 +19,15 @@
 mod alphabet;
 mod conditions;
 mod contents;
+mod element_fronts;
 mod header;
+mod layers;
 pub mod laws;
 mod marks;
 mod numbers;
 mod object_id;
 mod order;
+mod plain;
 mod simple;
 mod walking;
 mod whole;

@@ -112,8 +112,9 @@ abbrev pub octets_marked : Body → List ℕ → Slots → Slots
 octets_marked (simple kind cs) os m = conditions_marked cs (facts (simple_value kind os) (Some os)) m
 octets_marked body os m = m
 
--- These contents octets are lawful and fail nothing, and aren't those of a default.
+-- These contents octets, inside one tag at most, are lawful and fail nothing, and aren't those of a default.
 pub record IsFree (s : Spot) (os : List ℕ) : Type 0 where
+  pub single : length (tags_in s.plan) ≤ 1
   pub lawful : is_lawful (body_in s.plan) os ≡ true
   pub free : (m : Slots) → octets_marked (body_in s.plan) os m ≡ m
   pub present : s.side.present ≡ none

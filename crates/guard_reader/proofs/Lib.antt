@@ -19,6 +19,12 @@ pub mod Sizes
 pub mod LowPlans
 pub mod Fronts
 pub mod Places
+pub mod Heads
+pub mod Sights
+pub mod Ways
+pub mod Taken
+pub mod Choices
+pub mod ReadTypes
 pub mod ComponentReadings
 pub mod ElementReadings
 pub mod OrderedReadings

@@ -25,10 +25,10 @@ use Rattle.guard_tables.specs.declared.slots.Slots.{Slots}
 use Rattle.guard_tables.specs.Marking.{facts, conditions_marked, marked}
 use Rattle.guard_tables.specs.Plan.{AbstractCondition, simple}
 use Rattle.guard_tables.specs.Standing.{SimpleFor}
-use Rattle.guard_reader.specs.Covered.{IsSpelled}
 use Rattle.guard_reader.specs.Judging.{contents_judged, unless_fault}
 use Rattle.guard_reader.specs.Octets.{ok}
-use Rattle.guard_reader.proofs.Digits.Integers.{integer_takes}
+use Rattle.guard_der.proofs.Numbers.Integers.{integer_takes}
+use Rattle.guard_der.proofs.Types.AllKinds.{kind_lawful}
 
 abbrev Digits : List ℕ → Type 0
 Digits os = AllByRecursion (λ o. o < 256) os
@@ -115,21 +115,21 @@ bits_alike (n ∷ ns) (k ∷ ks) (unused ∷ os) e = refl
 
 -- ---- all simple kinds
 
-pub simple_read : (one : AbstractKind) (cs : List AbstractCondition) (kind : AbstractKind) → SimpleFor one kind → IsSpelled one → (at start : ℕ) (os : List ℕ) (m : Slots) → Digits os → length os < 2 ^ 32
+pub simple_read : (one : AbstractKind) (cs : List AbstractCondition) (kind : AbstractKind) → SimpleFor one kind → (at start : ℕ) (os : List ℕ) (m : Slots) → Digits os → length os < 2 ^ 32
     → contents_judged (simple one cs) os m ≡ option_map (λ v. marked kind (simple one cs) v m) (ok (contents_at kind at start os))
 unfolding contents_at simple_at
-simple_read type.boolean cs type.boolean f spelled at start os m digits short = as_other type.boolean type.boolean cs at os m refl refl (boolean_spelled os)
-simple_read (type.integer ns) cs (type.integer ks) f spelled at start os m digits short = as_other (type.integer ns) (type.integer ks) cs at os m refl refl (integer_spelled os digits)
-simple_read (type.bit_string ns) cs (type.bit_string ks) f spelled at start os m digits short = as_other (type.bit_string ns) (type.bit_string ks) cs at os m (bits_alike ns ks os f) refl (bits_spelled ks os)
-simple_read type.octet_string cs type.octet_string f spelled at start os m digits short = as_other type.octet_string type.octet_string cs at os m refl refl (λ e. refl)
-simple_read type.null cs type.null f spelled at start os m digits short = as_other type.null type.null cs at os m refl refl (null_spelled os)
-simple_read type.object_identifier cs type.object_identifier f spelled at start os m digits short =
-    as_other type.object_identifier type.object_identifier cs at os m refl refl (λ e. spelled at start os (simple_value type.object_identifier os) digits short (unless_ok at (simple_fault type.object_identifier os) (simple_value type.object_identifier os) e))
-simple_read (type.enumerated ns) cs (type.enumerated ks) f spelled at start os m digits short =
+simple_read type.boolean cs type.boolean f at start os m digits short = as_other type.boolean type.boolean cs at os m refl refl (boolean_spelled os)
+simple_read (type.integer ns) cs (type.integer ks) f at start os m digits short = as_other (type.integer ns) (type.integer ks) cs at os m refl refl (integer_spelled os digits)
+simple_read (type.bit_string ns) cs (type.bit_string ks) f at start os m digits short = as_other (type.bit_string ns) (type.bit_string ks) cs at os m (bits_alike ns ks os f) refl (bits_spelled ks os)
+simple_read type.octet_string cs type.octet_string f at start os m digits short = as_other type.octet_string type.octet_string cs at os m refl refl (λ e. refl)
+simple_read type.null cs type.null f at start os m digits short = as_other type.null type.null cs at os m refl refl (null_spelled os)
+simple_read type.object_identifier cs type.object_identifier f at start os m digits short =
+    as_other type.object_identifier type.object_identifier cs at os m refl refl (λ e. ((kind_lawful type.object_identifier refl refl).takes at start os (simple_value type.object_identifier os) digits short (unless_ok at (simple_fault type.object_identifier os) (simple_value type.object_identifier os) e)).1)
+simple_read (type.enumerated ns) cs (type.enumerated ks) f at start os m digits short =
     as_other (type.enumerated ns) (type.enumerated ks) cs at os m
     (ap (λ (b : Bool). elim (integer_fault os) [ Some c ↦ Some c | None ↦ cond b None (Some code.UnknownEnumeration) ]) (item_alike (twos_complement os) ns ks f)) refl
     (λ e. integer_spelled os digits (no_integer_fault (integer_fault os) (is_item (twos_complement os) ks) e))
-simple_read (type.characters j) cs (type.characters k) f spelled at start os m digits short =
+simple_read (type.characters j) cs (type.characters k) f at start os m digits short =
     as_other (type.characters j) (type.characters k) cs at os m (ap (λ (k : CharKind). characters_fault k os) f) (ap (λ (k : CharKind). value.characters (characters_of k os)) f)
     (λ e. ap (λ (x : List ℕ). Some x) (text_spelled k os (no_fault (is_text k os) code.Characters e)))
-simple_read one cs kind f spelled at start os m digits short = absurd f
+simple_read one cs kind f at start os m digits short = absurd f

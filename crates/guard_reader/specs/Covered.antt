@@ -1,32 +1,7 @@
--- The plans that are read: of the simple kinds, SEQUENCE, SEQUENCE OF and SET OF, each type with one tag below 31.
-use Rattle.std.specs.Prelude.{◌<◌, List, [], ◌∷◌, ⊤}
-use Rattle.guard_model.specs.declared.tag.Tag.{Tag}
-use Rattle.guard_model.specs.AbstractType as type
+-- Plans in which what is asked of a value as a whole stands in front of a kind that has parts.
+use Rattle.std.specs.Prelude.{⊤}
 use Rattle.guard_model.specs.AbstractType.{AbstractKind}
 use Rattle.guard_tables.specs.Plan.{Plan, Body, Parts, plan, simple, series, set, choice, list, set_of, asked, formula, no_parts, part}
-use Rattle.guard_tables.specs.Standing.{Spells}
-
-abbrev pub IsOneLowTag : List Tag → Type 0
-IsOneLowTag [] = ⊥
-IsOneLowTag (t ∷ []) = t.number < 31
-IsOneLowTag (t ∷ u ∷ ts) = ⊥
-
--- Of an OBJECT IDENTIFIER it is a premise that a value that was read has these contents octets: the crate below proves it,
--- and doesn't export it.
-abbrev pub IsSpelled : AbstractKind → Type 0
-IsSpelled type.boolean = ⊤
-IsSpelled (type.integer names) = ⊤
-IsSpelled (type.bit_string names) = ⊤
-IsSpelled type.octet_string = ⊤
-IsSpelled type.null = ⊤
-IsSpelled type.object_identifier = Spells type.object_identifier
-IsSpelled (type.enumerated items) = ⊤
-IsSpelled (type.characters kind) = ⊤
-IsSpelled (type.sequence cs) = ⊥
-IsSpelled (type.set cs) = ⊥
-IsSpelled (type.choice cs) = ⊥
-IsSpelled (type.sequence_of t) = ⊥
-IsSpelled (type.set_of t) = ⊥
 
 -- a kind that has parts, with what is in front of it
 abbrev pub IsWhole : Body → Type 0
@@ -41,17 +16,17 @@ IsWhole (formula raises body) = IsWhole body
 
 abbrev mutual
   pub IsCovered : Plan → Type 0
-  IsCovered (plan tags constructed body) = IsOneLowTag tags × IsCoveredBody body
+  IsCovered (plan tags constructed body) = IsCoveredBody body
 
   pub IsCoveredBody : Body → Type 0
-  IsCoveredBody (simple kind cs) = IsSpelled kind
+  IsCoveredBody (simple kind cs) = ⊤
   IsCoveredBody (series ps) = AreCovered ps
-  IsCoveredBody (list p) = IsCovered p
-  IsCoveredBody (formula raises body) = IsCoveredBody body
   IsCoveredBody (set ps) = ⊥
-  IsCoveredBody (choice ps) = ⊥
+  IsCoveredBody (choice ps) = AreCovered ps
+  IsCoveredBody (list p) = IsCovered p
   IsCoveredBody (set_of p) = IsCovered p
   IsCoveredBody (asked cs body) = IsWhole body × IsCoveredBody body
+  IsCoveredBody (formula raises body) = IsCoveredBody body
 
   pub AreCovered : Parts → Type 0
   AreCovered no_parts = ⊤

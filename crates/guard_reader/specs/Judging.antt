@@ -1,11 +1,10 @@
 -- One pass over octets by a plan: what has failed before and there, or nothing where the octets are no encoding.
-use Rattle.std.specs.Prelude.{ℕ, zero, suc, ◌^◌, ◌%◌, Bool, not, ◌&&◌, List, [], ◌∷◌, length, nat_eq, nat_lt, Option, Some, None, if◌then◌else◌}
-use Rattle.std.specs.Int.{bit_at}
-use Rattle.std.specs.Int.Bits.{bit_or}
+use Rattle.std.specs.Prelude.{ℕ, zero, suc, Bool, List, [], ◌∷◌, length, nat_eq, Option, Some, None, if◌then◌else◌}
+use Rattle.std.specs.List.{list_any}
 use Rattle.guard_model.specs.declared.tag.Tag.{Tag}
 use Rattle.guard_der.specs.declared.breach.Code.{Code}
 use Rattle.guard_der.specs.Fits.{descends}
-use Rattle.guard_der.specs.Head.{class_of, tag_number}
+use Rattle.guard_der.specs.Head.{head_of}
 use Rattle.guard_der.specs.Reading.{follows}
 use Rattle.guard_der.specs.Simple.{simple_fault, simple_value}
 use Rattle.guard_tables.specs.declared.slots.Slots.{Slots}
@@ -60,28 +59,24 @@ part_at side broken pass os m = None
 
 -- ---- components of a SET
 
--- the places of the components that were read, as bits of a number
-abbrev pub is_read : ℕ → ℕ → Bool
-is_read places i = nat_eq (bit_at places i) 1
-
-abbrev pub with_read : ℕ → ℕ → ℕ
-with_read places i = bit_or places (2 ^ i)
+-- the component at this place was read
+abbrev pub is_read : List ℕ → ℕ → Bool
+is_read places i = list_any (λ place. nat_eq place i) places
 
 -- of an element: the place of its component, what has failed, and what follows it
 abbrev pub Member : Type 0
 Member = Option (ℕ × Slots × List ℕ)
 
--- Where it is the component at place i, which is among the first 64 and wasn't read. What is there otherwise comes last.
-unfoldable pub member_at : Side → Front → Pass → ℕ → ℕ → Slots → Member → Member
+-- Where it is the component at place i, which wasn't read. What is there otherwise comes last.
+unfoldable pub member_at : Side → Front → Pass → ℕ → List ℕ → Slots → Member → Member
 member_at side (here inside rest) pass i places m later =
-    if nat_lt i 64 && not (is_read places i) then (present_part side pass inside m >>= λ k. Some (i, k, rest)) else None
+    if is_read places i then None else (present_part side pass inside m >>= λ k. Some (i, k, rest))
 member_at side elsewhere pass i places m later = later
 member_at side broken pass i places m later = None
 
--- the tag that identifier octets spell
-unfoldable pub tag_at : List ℕ → Option Tag
-tag_at [] = None
-tag_at (o ∷ os) = ok (tag_number (o % 32) os) >>= λ r. Some (record { class = class_of o; number = r.0 })
+-- the tag of the element at the front
+abbrev pub tag_at : List ℕ → Option Tag
+tag_at os = ok (head_of os) >>= λ h. Some h.tag
 
 -- a tag that comes after the one before (X.690 10.3)
 abbrev pub tag_after : Option Tag → Option Tag → Option Tag
@@ -89,15 +84,15 @@ tag_after last None = None
 tag_after last (Some tag) = if follows last tag then Some tag else None
 
 -- At most so many elements in ascending order of tags (X.690 8.11, 10.3), and what is absent after them.
-unfoldable pub members_at : ℕ → (ℕ → List ℕ → Slots → Member) → (ℕ → Slots → Option Slots) → ℕ → Option Tag → Pass
+unfoldable pub members_at : ℕ → (List ℕ → List ℕ → Slots → Member) → (List ℕ → Slots → Option Slots) → List ℕ → Option Tag → Pass
 members_at tries member absent places last [] m = absent places m
 members_at zero member absent places last (o ∷ os) m = None
 members_at (suc tries) member absent places last (o ∷ os) m =
     tag_after last (tag_at (o ∷ os)) >>= λ tag. member places (o ∷ os) m >>= λ x.
-    members_at tries member absent (with_read places x.0) (Some tag) x.2 x.1
+    members_at tries member absent (x.0 ∷ places) (Some tag) x.2 x.1
 
 -- the components that weren't read, the first of which is at place i
-unfoldable pub absences_at : ℕ → Parts → ℕ → Slots → Option Slots
+unfoldable pub absences_at : ℕ → Parts → List ℕ → Slots → Option Slots
 absences_at i no_parts places m = Some m
 absences_at i (part side p ps) places m =
     (if is_read places i then Some m else absent_part side.absent m) >>= λ k. absences_at (suc i) ps places k
@@ -181,7 +176,7 @@ unfoldable mutual
       unless_fault (simple_fault kind os) (conditions_marked cs (facts (simple_value kind os) (Some os)) m)
   contents_judged (series ps) os m = fields_judged ps os m
   contents_judged (set ps) os m =
-      members_at (length os) (λ places os m. member_judged ps 0 places os m) (λ places m. absences_at 0 ps places m) 0 None os m
+      members_at (length os) (λ places os m. member_judged ps 0 places os m) (λ places m. absences_at 0 ps places m) [] None os m
   contents_judged (choice ps) os m = chosen_judged ps os m
   contents_judged (list p) os m = elements (λ os. front p os) (λ os m. inside_judged p os m) os m
   contents_judged (set_of p) os m = ordered (λ os. front p os) (λ os m. inside_judged p os m) [] os m
@@ -199,7 +194,7 @@ unfoldable mutual
       part_at side (front p os) (λ os m. inside_judged p os m) os m >>= λ x. fields_judged ps x.1 x.0
 
   -- an element of a SET, by the components of which the first is at place i
-  pub member_judged : Parts → ℕ → ℕ → List ℕ → Slots → Member
+  pub member_judged : Parts → ℕ → List ℕ → List ℕ → Slots → Member
   member_judged no_parts i places os m = None
   member_judged (part side p ps) i places os m =
       member_at side (front p os) (λ os m. inside_judged p os m) i places m (member_judged ps (suc i) places os m)

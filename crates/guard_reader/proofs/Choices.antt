@@ -204,6 +204,7 @@ with_marks cs ps at h os m (Some x) (Ok v) e =
     back : Option AbstractValue → Result AbstractValue AbstractBreach
     back None = Err (fault code.UnexpectedTag at)
     back (Some v) = Ok v
+
     tested : (b : Bool) → cond b None (Some (alternative_marked cs ps x.0 x.1 m)) ≡ option_map (λ v. marked (type.choice cs) (choice ps) v m) (ok (cond b (Err (fault code.TrailingOctets (at + (h.size + h.contents)))) (Ok (value.chosen x.0 x.1))))
     tested true = refl
     tested false = refl

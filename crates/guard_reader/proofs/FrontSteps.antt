@@ -145,6 +145,7 @@ or_within os broken later w l inside rest e = absurd cc
 
 mutual
   unfolding front
+
   plan_within : (p : Plan) (os : List ℕ) → IsWithin os (front p os)
   plan_within (plan tags c b) os = tagged_within tags c os (body_front b os) (body_within b os)
 

@@ -12,8 +12,9 @@ pub mod Utf8
 -- ---- what the walk takes from nodes, and one step of it
 pub mod ByHeader
 pub mod NodeTags
-pub mod NodeSteps
 pub mod Steps
+pub mod NodeSteps
+pub mod ElementCounts
 -- ---- a pass reads octets as decoding does
 pub mod Sizes
 pub mod LowPlans

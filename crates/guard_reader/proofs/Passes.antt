@@ -13,7 +13,7 @@ use Rattle.guard_reader.proofs.FrontSteps.{Within}
 abbrev pub SeesWithin : Sight → Type 0
 SeesWithin sight = (os inside rest : List ℕ) → sight os ≡ here inside rest → Within os inside rest
 
-element_here : (f : Front) (x : List ℕ × List ℕ) → element_in f ≡ Some x → f ≡ here x.0 x.1
+pub element_here : (f : Front) (x : List ℕ × List ℕ) → element_in f ≡ Some x → f ≡ here x.0 x.1
 element_here (here inside rest) x e = let is : ◌≡◌ {A = List ℕ × List ℕ} (inside, rest) x = cc in rw (← is) refl
 element_here elsewhere x e = absurd cc
 element_here broken x e = absurd cc

@@ -41,6 +41,13 @@ innermost-requires t c =
     let inner = n.node.inner (layered_inner h.kind (sym c.has_layers.ensures ∙ c.if-not-has_layers.false)) in
     (omega (arith, inner), omega (arith, inner, c.requires))
 
+pub innermost-requires-2 : goal.innermost-requires-2
+innermost-requires-2 t c =
+    let h = c.index-node.result.now in
+    let n = node_at c.args.table.now c.args.at h c.requires c.index-node.ensures in
+    let inner = n.node.inner (layered_inner h.kind (sym c.has_layers.ensures ∙ c.if-not-has_layers.false)) in
+    (omega (arith, inner), omega (arith, inner, c.requires))
+
 pub returns-in-Some : goal.returns-in-Some
 returns-in-Some t c =
     let h = c.index-node.result.now in

@@ -15,6 +15,8 @@ pub mod NodeTags
 pub mod Steps
 pub mod NodeSteps
 pub mod ElementCounts
+pub mod MemberSteps
+pub mod SetSteps
 -- ---- a pass reads octets as decoding does
 pub mod Sizes
 pub mod LowPlans

@@ -42,7 +42,7 @@ pub body_is : (t : Nodes) (k : ℕ) (h : Hot) (n : NodeAt t k h) → body_at (sp
 unfolding spot_of
 body_is t k h n = ap (λ (s : Spot). body_in s.plan) n.spot
 
-body_of : (t : Nodes) (k : ℕ) (h : Hot) (n : NodeAt t k h) (kind : Kind) → h.kind ≡ kind → body_at (spots_in t) k ≡ body_of_kind kind h n.cold (spots_in t)
+pub body_of : (t : Nodes) (k : ℕ) (h : Hot) (n : NodeAt t k h) (kind : Kind) → h.kind ≡ kind → body_at (spots_in t) k ≡ body_of_kind kind h n.cold (spots_in t)
 body_of t k h n kind e = body_is t k h n ∙ ap (λ (kind : Kind). body_of_kind kind h n.cold (spots_in t)) e
 
 -- ---- plain numbers

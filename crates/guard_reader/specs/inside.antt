@@ -2,3 +2,4 @@
 pub mod NodeParts
 pub mod Answers
 pub mod FrontViews
+pub mod Members

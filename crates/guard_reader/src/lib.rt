@@ -24,6 +24,7 @@ mod header;
 pub mod laws;
 mod layers;
 mod marks;
+mod members;
 mod numbers;
 mod object_id;
 mod order;

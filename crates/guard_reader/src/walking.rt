@@ -6,20 +6,23 @@ ghost use Rattle.guard_tables.specs.Slots.{none};
 ghost use Rattle.guard_tables.specs.TableNodes.{body_at};
 ghost use Rattle.guard_reader.specs.Judging.{contents_judged, message_judged};
 ghost use Rattle.guard_reader.specs.inside.Answers.{Answers};
-ghost use Rattle.guard_reader.specs.inside.NodeParts.{IsAsked, IsFormula, has_layers, pass_at};
+ghost use Rattle.guard_reader.specs.inside.NodeParts.{IsAsked, IsFormula, pass_at};
 
 mod choices;
 mod lists;
-mod series;
+pub mod series;
+mod sets;
 
 use crate::conditions::raise;
 use crate::element_fronts::{alone, front_at, innermost};
+use crate::layers::has_layers;
 use crate::simple::simple;
 use crate::whole::{mark_whole, size_of};
 use choices::choice;
 use guard_tables::{Kind, Nodes, Slots};
 use lists::{list, set_of};
 use series::series;
+use sets::set;
 
 /// The slots that fail at the value whose encoding the octets are; None where they are none.
 #[inline(never)]
@@ -60,24 +63,6 @@ fn within_tag(table: &Nodes, at: usize, inside: &[u8], failed: &mut Slots) -> bo
     contents(table, at, inside, failed)
 }
 
-/// Whether a node is in front of another one, which may have tags of its own.
-#[inline(always)]
-fn has_layers(kind: Kind) -> bool
-    ensures { result ≡ has_layers kind }
-{
-    match kind {
-        Kind::Wrapper => true,
-        Kind::Asked => true,
-        Kind::Formula => true,
-        Kind::Simple(_) => false,
-        Kind::Series => false,
-        Kind::Set => false,
-        Kind::Choice => false,
-        Kind::List => false,
-        Kind::SetOf => false,
-    }
-}
-
 /// The same of a node in front of another one.
 #[cycle(walking)]
 #[cold]
@@ -108,8 +93,7 @@ fn contents(table: &Nodes, at: usize, inside: &[u8], failed: &mut Slots) -> bool
         Kind::Formula => formula(table, at, inside, failed),
         Kind::SetOf => set_of(table, node.first as usize, inside, failed),
         Kind::Choice => choice(table, at, inside, failed),
-        // It isn't read yet.
-        Kind::Set => false,
+        Kind::Set => set(table, at, inside, failed),
         // What is inside the last tag has the same contents.
         Kind::Wrapper => contents(table, node.first as usize, inside, failed),
     }

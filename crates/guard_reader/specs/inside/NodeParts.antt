@@ -82,3 +82,8 @@ pub record IsChoice (t : Nodes) (k : ℕ) : Type 0 where
   pub node : Hot
   pub there : slice_get t.hots.items k ≡ Some node
   pub kind : node.kind ≡ kind.Choice
+
+pub record IsSet (t : Nodes) (k : ℕ) : Type 0 where
+  pub node : Hot
+  pub there : slice_get t.hots.items k ≡ Some node
+  pub kind : node.kind ≡ kind.Set

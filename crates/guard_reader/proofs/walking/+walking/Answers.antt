@@ -1,4 +1,5 @@
-use Rattle.std.proofs.Common.{◌≡◌, ◌∙◌, ◌+◌, ◌-◌, ap, sym, subst, refl, arith, drop, Some, None, Option, ℕ, get_or, ◌∷◌, [], add-one, map, List, suc}
+use Rattle.std.proofs.Common.{◌≡◌, ◌∙◌, ◌+◌, ◌-◌, ◌≤◌, Bool, true, false, vec_len, ap, sym, subst, refl, arith, drop, Some, None, Option, ℕ, get_or, ◌∷◌, [], add-one, map, List, suc}
+use Rattle.std.specs.Prelude.{◌||◌, nat_eq}
 use Rattle.std.proofs.lemmas.List.{take_rest}
 use Rattle.std.proofs.lemmas.Bool.{cond-true, cond-false}
 use Rattle.guard_der.specs.Fits.{descends}
@@ -11,13 +12,15 @@ use Rattle.guard_tables.specs.Marking.{conditions_marked}
 use Rattle.guard_tables.specs.Formulas.{raised}
 use Rattle.guard_tables.specs.NodesView.{spots_in}
 use Rattle.guard_reader.specs.Fronts.{element_in, front_of, here}
-use Rattle.guard_reader.specs.Judging.{chosen_at, chosen_judged, contents_judged, fields_judged, outside, then_marked, whole_facts, size_in, ordered}
+use Rattle.guard_reader.specs.Judging.{is_read, chosen_at, chosen_judged, contents_judged, fields_judged, outside, then_marked, whole_facts, size_in, ordered}
 use Rattle.guard_reader.specs.inside.Answers.{Answers}
+use Rattle.guard_reader.specs.inside.Members.{AreRead}
 use Rattle.guard_reader.specs.inside.NodeParts.{has_layers, pass_at, sight_at}
 use Rattle.guard_reader.proofs.Elements.{bind_some, bind_none}
 use Rattle.guard_reader.proofs.FrontSteps.{front_within}
 use Rattle.guard_reader.proofs.NodeTags.{kind_of_choice}
 use Rattle.guard_reader.proofs.Passes.{element_here, last_element, no_element, none_left, none_ordered, not_ordered, one_element, one_ordered}
+use Rattle.guard_reader.proofs.SetSteps.{set_judged, kind_of_set, no_bit, nothing_left, no_tag, no_member, one_member, members_over, judged_none, judged_again, judged_new}
 use Rattle.guard_reader.proofs.Steps.{yes, no, at_end, absent_there, not_whole, present_there, refused, sent, chosen_more, chosen_alone, chosen_here, chosen_broken, chosen_later}
 use Rattle.guard_tables.proofs.Spots.{node_at, there_at, cold_at}
 use Rattle.guard_reader.proofs.NodeSteps.{list_judged, simple_judged, fields_all, formula_judged, fields_step, is_of_series, is_of_formula, plain_at, plain_present, one_here, sees_within, inside_bare, inside_found, inside_none, unread_judged, wrapper_judged, asked_judged, is_of_asked, set_of_judged, choice_judged, choice_step, choice_end}
@@ -50,11 +53,8 @@ contents-returns-in-Simple t c =
     let n = node_at c.args.table.now c.args.at c.index-node.result.now c.requires c.index-node.ensures in
     subst (λ (r : Option Slots). Answers c.simple.result c.simple.new.failed r) (sym (simple_judged c.args.table.now c.args.at c.index-node.result.now c.index.result.now c.in-Simple.kind n c.in-Simple.is c.requires c.index.ensures c.args.inside.now c.args.failed.now)) c.simple.ensures
 
-pub contents-returns-in-Set : goal.contents-returns-in-Set
-unfolding contents_judged
-contents-returns-in-Set t c =
-    let n = node_at c.args.table.now c.args.at c.index-node.result.now c.requires c.index-node.ensures in
-    unread_judged c.args.table.now c.args.at c.index-node.result.now n kind.Set c.in-Set.is (λ d os m. refl) c.args.inside.now c.args.failed.now
+pub contents-set-requires : goal.contents-set-requires
+contents-set-requires t c = (omega arith, (c.requires, record { node = c.index-node.result.now; there = there_at c.args.table.now c.args.at c.index-node.result.now c.requires c.index-node.ensures; kind = c.in-Set.is }))
 
 pub contents-set_of-requires : goal.contents-set_of-requires
 contents-set_of-requires t c =
@@ -450,3 +450,113 @@ choices::chosen-returns t c =
     let pass = pass_at (spots_in c.args.table.now) c.args.at in
     subst (λ (r : Option Slots). Answers c.within_tag.result c.within_tag.new.failed r)
     (ap (pass c.args.inside.now) c.choose.ensures ∙ sym (chosen_alone side pass c.args.inside.now c.args.rest.now c.args.failed.now None (sym c.is_empty.ensures ∙ c.if-not-is_empty.false))) c.within_tag.ensures
+
+-- ---- SET
+
+pub sets::set-loop-rest-init : goal.sets::set-loop-rest-init
+sets::set-loop-rest-init t c =
+    let h = c.index-node.result.now in
+    let n = node_at c.args.table.now c.args.at h c.requires.room c.index-node.ensures in
+    let kept : AreRead (parts_between (spots_in c.args.table.now) h.first h.count) c.args.octets.now c.args.octets.now 0 [] = record { reach = refl; kept = λ i low. no_bit i } in
+    ([], kept, set_judged c.args.table.now c.args.at h n (kind_of_set c.args.table.now c.args.at h c.requires.kind c.requires.room c.index-node.ensures) c.args.octets.now c.args.failed.now)
+
+pub sets::set-returns-in_default : goal.sets::set-returns-in_default
+sets::set-returns-in_default t c =
+    let h = c.index-node.result.now in
+    let n = node_at c.args.table.now c.args.at h c.requires.room c.index-node.ensures in
+    let ps = parts_between (spots_in c.args.table.now) h.first h.count in
+    let room : h.first + h.count ≤ vec_len c.args.table.now.hots = omega (arith, n.node.before, c.requires.room) in
+    let some = sym c.is_empty.ensures ∙ c.loop-rest-test.true in
+    let places = c.loop-rest.invariant.0 in
+    sym c.loop-rest.invariant.2 ∙ no_tag ps places c.loop-rest.last c.loop-rest.rest.now c.loop-rest.failed some (sym c.next_tag.ensures ∙ c.in_default.is)
+
+pub sets::set-member-requires : goal.sets::set-member-requires
+sets::set-member-requires t c =
+    let n = node_at c.args.table.now c.args.at c.index-node.result.now c.requires.room c.index-node.ensures in
+    omega (arith, n.node.before, c.requires.room)
+
+pub sets::set-returns-in_default-member : goal.sets::set-returns-in_default-member
+sets::set-returns-in_default-member t c =
+    let h = c.index-node.result.now in
+    let n = node_at c.args.table.now c.args.at h c.requires.room c.index-node.ensures in
+    let ps = parts_between (spots_in c.args.table.now) h.first h.count in
+    let room : h.first + h.count ≤ vec_len c.args.table.now.hots = omega (arith, n.node.before, c.requires.room) in
+    let some = sym c.is_empty.ensures ∙ c.loop-rest-test.true in
+    let places = c.loop-rest.invariant.0 in
+    let tag = sym c.next_tag.ensures ∙ c.in-Some.is in
+    sym c.loop-rest.invariant.2
+    ∙ no_member ps places c.loop-rest.last c.loop-rest.rest.now c.loop-rest.failed c.in-Some.tag some tag (judged_none c.args.table.now h.first h.count places c.loop-rest.rest.now c.loop-rest.failed room c.in_default-member.ensures.found)
+
+pub sets::set-is_read-requires : goal.sets::set-is_read-requires
+sets::set-is_read-requires t c =
+    let n = node_at c.args.table.now c.args.at c.index-node.result.now c.requires.room c.index-node.ensures in
+    omega (arith, n.node.before, c.requires.room)
+
+pub sets::set-returns-then-is_read : goal.sets::set-returns-then-is_read
+sets::set-returns-then-is_read t c =
+    let h = c.index-node.result.now in
+    let n = node_at c.args.table.now c.args.at h c.requires.room c.index-node.ensures in
+    let ps = parts_between (spots_in c.args.table.now) h.first h.count in
+    let room : h.first + h.count ≤ vec_len c.args.table.now.hots = omega (arith, n.node.before, c.requires.room) in
+    let some = sym c.is_empty.ensures ∙ c.loop-rest-test.true in
+    let places = c.loop-rest.invariant.0 in
+    let tag = sym c.next_tag.ensures ∙ c.in-Some.is in
+    let again : is_read places c.in-Some-member.place ≡ true = sym (c.is_read.ensures c.loop-rest.rest.now places refl c.loop-rest.invariant.1) ∙ c.if-is_read.true in
+    sym c.loop-rest.invariant.2
+    ∙ no_member ps places c.loop-rest.last c.loop-rest.rest.now c.loop-rest.failed c.in-Some.tag some tag
+    (judged_again c.args.table.now h.first h.count places c.loop-rest.rest.now c.in-Some-member.inside.now c.in-Some-member.next.now c.loop-rest.failed c.in-Some-member.place room c.in-Some-member.ensures.found again)
+
+pub sets::set-present-requires : goal.sets::set-present-requires
+sets::set-present-requires t c =
+    let n = node_at c.args.table.now c.args.at c.index-node.result.now c.requires.room c.index-node.ensures in
+    (omega (arith, n.node.before, c.in-Some-member.ensures.place), omega (arith, n.node.before, c.in-Some-member.ensures.place, c.requires.room))
+
+pub sets::set-returns-then-not-present : goal.sets::set-returns-then-not-present
+sets::set-returns-then-not-present t c =
+    let h = c.index-node.result.now in
+    let n = node_at c.args.table.now c.args.at h c.requires.room c.index-node.ensures in
+    let ps = parts_between (spots_in c.args.table.now) h.first h.count in
+    let room : h.first + h.count ≤ vec_len c.args.table.now.hots = omega (arith, n.node.before, c.requires.room) in
+    let some = sym c.is_empty.ensures ∙ c.loop-rest-test.true in
+    let places = c.loop-rest.invariant.0 in
+    let tag = sym c.next_tag.ensures ∙ c.in-Some.is in
+    let new : is_read places c.in-Some-member.place ≡ false = sym (c.is_read.ensures c.loop-rest.rest.now places refl c.loop-rest.invariant.1) ∙ c.if-is_read.false in
+    sym c.loop-rest.invariant.2
+    ∙ no_member ps places c.loop-rest.last c.loop-rest.rest.now c.loop-rest.failed c.in-Some.tag some tag
+    (judged_new c.args.table.now h.first h.count places c.loop-rest.rest.now c.in-Some-member.inside.now c.in-Some-member.next.now c.loop-rest.failed c.in-Some-member.place None room c.in-Some-member.ensures.found new
+    (no c.present.result c.present.new.failed _ c.present.ensures c.if-not-present.true))
+
+pub sets::set-loop-rest-preserved : goal.sets::set-loop-rest-preserved
+sets::set-loop-rest-preserved t c =
+    let h = c.index-node.result.now in
+    let n = node_at c.args.table.now c.args.at h c.requires.room c.index-node.ensures in
+    let ps = parts_between (spots_in c.args.table.now) h.first h.count in
+    let room : h.first + h.count ≤ vec_len c.args.table.now.hots = omega (arith, n.node.before, c.requires.room) in
+    let some = sym c.is_empty.ensures ∙ c.loop-rest-test.true in
+    let places = c.loop-rest.invariant.0 in
+    let tag = sym c.next_tag.ensures ∙ c.in-Some.is in
+    let new : is_read places c.in-Some-member.place ≡ false = sym (c.is_read.ensures c.loop-rest.rest.now places refl c.loop-rest.invariant.1) ∙ c.if-is_read.false in
+    let kept : AreRead ps c.args.octets.now c.in-Some-member.next.now c.with_read-read.result (c.in-Some-member.place ∷ places) = record {
+      reach = (c.loop-rest.rest.now, c.in-Some-member.inside.now, c.loop-rest.invariant.1.reach, sym c.in-Some-member.ensures.found);
+      kept = λ i low. c.with_read-read.ensures i low ∙ ap (λ (b : Bool). nat_eq c.in-Some-member.place i || b) (c.loop-rest.invariant.1.kept i low);
+    } in
+    (c.in-Some-member.place ∷ places, kept,
+    sym (one_member ps places c.loop-rest.last c.loop-rest.rest.now c.loop-rest.failed c.present.new.failed c.in-Some.tag c.in-Some-member.place c.in-Some-member.next.now some tag
+    (judged_new c.args.table.now h.first h.count places c.loop-rest.rest.now c.in-Some-member.inside.now c.in-Some-member.next.now c.loop-rest.failed c.in-Some-member.place (Some c.present.new.failed) room c.in-Some-member.ensures.found new
+    (yes c.present.result c.present.new.failed _ c.present.ensures c.if-not-present.false)))
+    ∙ c.loop-rest.invariant.2)
+
+pub sets::set-absences-requires : goal.sets::set-absences-requires
+sets::set-absences-requires t c =
+    let n = node_at c.args.table.now c.args.at c.index-node.result.now c.requires.room c.index-node.ensures in
+    omega (arith, n.node.before, c.requires.room)
+
+pub sets::set-returns : goal.sets::set-returns
+sets::set-returns t c =
+    let h = c.index-node.result.now in
+    let ps = parts_between (spots_in c.args.table.now) h.first h.count in
+    let places = c.loop-rest.invariant.0 in
+    let empty = sym c.is_empty.ensures ∙ c.loop-rest-test.false in
+    let kept = subst (λ (rest : List ℕ). AreRead ps c.args.octets.now rest c.loop-rest.read places) (nothing_left c.loop-rest.rest.now empty) c.loop-rest.invariant.1 in
+    subst (λ (r : Option Slots). Answers c.absences.result c.absences.new.failed r)
+    (sym (members_over ps places c.loop-rest.last c.loop-rest.rest.now c.loop-rest.failed empty) ∙ c.loop-rest.invariant.2) (c.absences.ensures places kept)

@@ -1,8 +1,10 @@
-use Rattle.std.proofs.Common.{◌≡◌, ◌+◌, ◌-◌, ◌*◌, ◌≤◌, length, []}
+use Rattle.std.proofs.Common.{◌≡◌, ◌+◌, ◌-◌, ◌*◌, ◌≤◌, length, [], List, ℕ}
 use Rattle.guard_tables.specs.NodesView.{spots_in}
 use Rattle.guard_tables.specs.TableNodes.{body_at, parts_between}
 use Rattle.guard_reader.specs.Judging.{chosen_judged, contents_judged, fields_judged, elements, ordered}
+use Rattle.guard_reader.specs.inside.Members.{AreRead}
 use Rattle.guard_reader.specs.inside.NodeParts.{pass_at, sight_at}
+use Rattle.guard_reader.proofs.SetSteps.{members}
 use Rattle.guard_reader.proofs.walking.+walking.Given as goal
 
 -- ---- parts stand before wholes
@@ -12,6 +14,9 @@ decreases-series::series l = 8 * l.at
 
 abbrev pub decreases-choices::choice : goal.decreases-choices::choice
 decreases-choices::choice l = 8 * l.at
+
+abbrev pub decreases-sets::set : goal.decreases-sets::set
+decreases-sets::set l = 8 * l.at
 
 abbrev pub decreases-asked : goal.decreases-asked
 decreases-asked l = 8 * l.at
@@ -68,3 +73,12 @@ invariant-lists::set_of-loop-before l =
 
 abbrev pub decreases-lists::set_of-loop-before : goal.decreases-lists::set_of-loop-before
 decreases-lists::set_of-loop-before l = length l.rest
+
+-- which components were read
+abbrev pub invariant-sets::set-loop-rest : goal.invariant-sets::set-loop-rest
+invariant-sets::set-loop-rest l =
+    (places : List ℕ) × AreRead (parts_between (spots_in l.table) l.first l.count) l.fn.octets l.rest l.read places
+    × (members (parts_between (spots_in l.table) l.first l.count) places l.last l.rest l.failed ≡ contents_judged (body_at (spots_in l.table) l.at) l.fn.octets l.fn.failed)
+
+abbrev pub decreases-sets::set-loop-rest : goal.decreases-sets::set-loop-rest
+decreases-sets::set-loop-rest l = length l.rest

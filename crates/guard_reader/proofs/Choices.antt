@@ -1,5 +1,5 @@
 -- The chosen alternative of a CHOICE, with a tag round it and without.
-use Rattle.std.proofs.Common.{◌≡◌, ℕ, zero, suc, ◌+◌, ◌<◌, ◌≤◌, Bool, true, false, ltb, List, [], ◌∷◌, length, take, drop, Option, Some, None, Result, Ok, Err, cond, refl, sym, ap, subst, ◌∙◌, arith, inl, inr, length-take, length-drop}
+use Rattle.std.proofs.Common.{◌≡◌, ℕ, suc, ◌+◌, Bool, true, false, ltb, List, [], ◌∷◌, length, drop, Option, Some, None, Result, Ok, Err, cond, refl, sym, ap, subst, ◌∙◌, arith, inl, inr, length-drop}
 use Rattle.std.specs.Prelude.{◌⊎◌, ◌||◌, option_map}
 use Rattle.std.proofs.lemmas.Bool.{cond-true, cond-false, lt-ltb, le-ltb}
 use Rattle.guard_model.specs.Answer as answer
@@ -22,11 +22,11 @@ use Rattle.guard_tables.specs.declared.slots.Slots.{Slots}
 use Rattle.guard_tables.specs.Slots.{added}
 use Rattle.guard_tables.specs.Marking.{marked, alternative_marked, type_marked}
 use Rattle.guard_tables.specs.Plan.{Side, Plan, Parts, choice, no_parts, part}
-use Rattle.guard_reader.specs.Fronts.{Front, here, elsewhere, broken, or_front}
+use Rattle.guard_reader.specs.Fronts.{Front, here, elsewhere, broken, or_front, front}
 use Rattle.guard_reader.specs.Judging.{Pass, chosen_at, inside_judged}
 use Rattle.guard_reader.specs.Octets.{◌>>=◌, ok}
 use Rattle.guard_reader.proofs.Places.{Digits, Bad}
-use Rattle.guard_reader.proofs.Sights.{Way, Stands, Seen, IsAway, IsBroken, SightLaw, one_header, never_bad, after_due, ended_from, alone_of, alone_bad, alone_empty}
+use Rattle.guard_reader.proofs.Sights.{Way, Stands, Seen, IsAway, IsBroken, one_header, never_bad, after_due, ended_from, alone_of, alone_bad, alone_empty}
 use Rattle.guard_reader.proofs.Ways.{way_of, PlanLaw}
 
 -- ---- the alternative that is read: its place and its value
@@ -49,7 +49,7 @@ later_tested : (b : Bool) (i : ℕ) (x y : Option ℕ) → x ≡ option_map suc 
 later_tested true i x y e = refl
 later_tested false i x y e = e
 
-later_with : (i : ℕ) (cs : Components) (tag : Tag) → one_with (suc i) cs tag ≡ option_map suc (one_with i cs tag)
+pub later_with : (i : ℕ) (cs : Components) (tag : Tag) → one_with (suc i) cs tag ≡ option_map suc (one_with i cs tag)
 later_with i no_components tag = refl
 later_with i (component name t presence cs) tag = later_tested (begins_with t tag) i (one_with (suc (suc i)) cs tag) (one_with (suc i) cs tag) (later_with (suc i) cs tag)
 
@@ -300,3 +300,34 @@ head_or_none o os (Ok h) e = inr (h, e, refl)
 -- nothing begins with a tag of nothing
 pub nothing_begins : (o : ℕ) (os : List ℕ) → Bad o os ⊎ ((h : Head) × (head_of (o ∷ os) ≡ Ok h) × (false ≡ false))
 nothing_begins o os = head_or_none o os (head_of (o ∷ os)) refl
+
+-- ---- one alternative more
+
+abbrev pub Judged : Type 0
+Judged = List ℕ → Slots → Option Slots
+
+pub more_chosen : (judged : Judged) (side : Side) (p : Plan) (ps : Parts) (name : List ℕ) (t : AbstractType) (presence : AbstractPresence) (cs : Components) → PlanLaw p t → ChosenLaw judged ps cs
+    → ChosenLaw (λ os m. chosen_at side (front p os) (λ os m. inside_judged p os m) m (judged os m)) (part side p ps) (component name t presence cs)
+unfolding chosen_at
+more_chosen judged side p ps name t presence cs law rest = record {
+  ended = λ m. ap (λ (f : Front). chosen_at side f (λ os m. inside_judged p os m) m (judged [] m)) law.ended ∙ rest.ended m;
+  bad = λ o os m digits bad. chosen_bad side (way_of p t) (λ os m. inside_judged p os m) o os m (judged (o ∷ os) m) (front p (o ∷ os)) (law.seen o os digits) bad (rest.bad o os m digits bad);
+  headed = λ at o os h m digits e. chosen_step side p ps name t presence cs at o os h m (judged (o ∷ os) m) (front p (o ∷ os)) (law.seen o os digits) e (rest.headed at o os h m digits e);
+}
+
+pub none_chosen_of : ChosenLaw (λ os m. None) no_parts no_components
+none_chosen_of = record { ended = λ m. refl; bad = λ o os m digits bad. refl; headed = λ at o os h m digits e. none_left at h (o ∷ os) m }
+
+pub record ShapeLaw (parts : List ℕ → Front) (cs : Components) : Type 0 where
+  pub ended : parts [] ≡ elsewhere
+  pub seen : (o : ℕ) (os : List ℕ) → Digits (o ∷ os) → Shape cs o os (parts (o ∷ os))
+
+pub more_shape : (parts : List ℕ → Front) (p : Plan) (name : List ℕ) (t : AbstractType) (presence : AbstractPresence) (cs : Components) → PlanLaw p t → ShapeLaw parts cs
+    → ShapeLaw (λ os. or_front (front p os) (parts os)) (component name t presence cs)
+more_shape parts p name t presence cs law rest = record {
+  ended = ap (λ (f : Front). or_front f (parts [])) law.ended ∙ rest.ended;
+  seen = λ o os digits. part_shape name p t presence cs o os (front p (o ∷ os)) (parts (o ∷ os)) (law.seen o os digits) (rest.seen o os digits);
+}
+
+pub none_shape : ShapeLaw (λ os. elsewhere) no_components
+none_shape = record { ended = refl; seen = λ o os digits. nothing_begins o os }

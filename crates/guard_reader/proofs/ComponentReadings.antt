@@ -1,5 +1,5 @@
 -- A component of a SEQUENCE: what is there, and what is said where it isn't.
-use Rattle.std.proofs.Common.{◌≡◌, ℕ, suc, ◌+◌, ◌^◌, ◌<◌, ◌≤◌, Bool, true, false, List, [], ◌∷◌, length, drop, Option, Some, None, Result, Ok, Err, cond, refl, sym, ap, ◌∙◌, arith, inl, inr, length-drop}
+use Rattle.std.proofs.Common.{◌≡◌, ℕ, suc, ◌+◌, ◌^◌, ◌<◌, Bool, true, false, List, [], ◌∷◌, length, drop, Option, Some, None, Result, Ok, Err, cond, refl, sym, ap, ◌∙◌, arith, inl, inr, length-drop}
 use Rattle.std.specs.Prelude.{◌⊎◌, option_map, IsTrue}
 use Rattle.std.specs.Option.{is_some}
 use Rattle.guard_model.specs.Answer as answer
@@ -24,7 +24,7 @@ use Rattle.guard_tables.specs.Plan.{Side, Plan, Body, Parts, plan, part}
 use Rattle.guard_tables.specs.Standing.{DefaultFor, SideFor, inside_at}
 use Rattle.guard_tables.specs.TableNodes.{is_default}
 use Rattle.guard_reader.specs.Fronts.{Front, here, elsewhere, broken}
-use Rattle.guard_reader.specs.Judging.{Pass, Sight, absent_part, watched, present_part, part_at, with_rest, fields_judged}
+use Rattle.guard_reader.specs.Judging.{Pass, Sight, absent_part, watched, present_part, part_at, with_rest}
 use Rattle.guard_reader.specs.Octets.{◌>>=◌, ok}
 use Rattle.guard_reader.proofs.Places.{Digits, digits_drop, Bad}
 use Rattle.guard_reader.proofs.Sights.{Way, Stands, Seen, SightLaw, never_bad}
@@ -197,7 +197,7 @@ bad_part side sight w o os m go law digits bad later = elim (bad_seen side w o o
 
 -- ---- fields that are read one after the other
 
-joined_read : (side : Side) (p : Plan) (ps : Parts) (t : AbstractType) (name : List ℕ) (presence : AbstractPresence) (cs : Components) (x : Option AbstractValue) (m : Slots) (r : Result Fields AbstractBreach)
+pub joined_read : (side : Side) (p : Plan) (ps : Parts) (t : AbstractType) (name : List ℕ) (presence : AbstractPresence) (cs : Components) (x : Option AbstractValue) (m : Slots) (r : Result Fields AbstractBreach)
     → option_map (λ fs. fields_marked cs ps fs (field_marked side (λ v m. type_marked t p v m) x m)) (ok r) ≡ option_map (λ fs. fields_marked (component name t presence cs) (part side p ps) fs m) (ok (answer.◌>>=◌ r (λ fs. Ok (field_before x fs))))
 unfolding marked
 joined_read side p ps t name presence cs x m (Err breach) = refl

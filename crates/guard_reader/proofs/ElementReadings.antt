@@ -1,5 +1,5 @@
 -- Elements of an OF type, one after the other.
-use Rattle.std.proofs.Common.{◌≡◌, ℕ, zero, suc, ◌+◌, Bool, true, false, List, [], ◌∷◌, take, drop, Option, Some, None, Result, Ok, Err, cond, refl, sym, ap, ◌∙◌, inl, inr}
+use Rattle.std.proofs.Common.{◌≡◌, ℕ, zero, suc, ◌+◌, Bool, true, false, List, [], ◌∷◌, take, drop, Option, None, Result, Ok, Err, cond, refl, sym, ap, ◌∙◌, inl, inr}
 use Rattle.std.specs.Prelude.{option_map}
 use Rattle.guard_model.specs.Answer as answer
 use Rattle.guard_model.specs.declared.tag.Tag.{Tag}
@@ -17,7 +17,7 @@ use Rattle.guard_der.specs.Reading.{Reader, fault, inside, items_at, item_at, it
 use Rattle.guard_tables.specs.declared.slots.Slots.{Slots}
 use Rattle.guard_tables.specs.Marking.{items_marked}
 use Rattle.guard_reader.specs.Fronts.{Front, here, elsewhere, broken, element_in}
-use Rattle.guard_reader.specs.Judging.{Pass, Sight, elements_at, counted, one_and}
+use Rattle.guard_reader.specs.Judging.{Sight, elements_at, counted, one_and}
 use Rattle.guard_reader.specs.Octets.{◌>>=◌, ok}
 use Rattle.guard_reader.proofs.Places.{Digits, digits_drop, Bad}
 use Rattle.guard_reader.proofs.Sights.{Way, Stands, Seen, SightLaw, due_from}

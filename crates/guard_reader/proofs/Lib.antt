@@ -1,12 +1,10 @@
 -- ---- octets
-pub mod Digits
 pub mod Lengths
 pub mod Small
 pub mod Elements
 pub mod FrontSteps
 pub mod Passes
 -- ---- contents of simple kinds
-pub mod LastOctets
 pub mod Subidentifiers
 pub mod Utf8
 -- ---- what the walk takes from nodes, and one step of it
@@ -18,8 +16,6 @@ pub mod ElementCounts
 pub mod MemberSteps
 pub mod SetSteps
 -- ---- a pass reads octets as decoding does
-pub mod Sizes
-pub mod LowPlans
 pub mod Fronts
 pub mod Places
 pub mod Heads
@@ -27,11 +23,13 @@ pub mod Sights
 pub mod Ways
 pub mod Taken
 pub mod Choices
+pub mod Members
 pub mod ReadTypes
+pub mod Untagged
+pub mod Tagged
 pub mod ComponentReadings
 pub mod ElementReadings
 pub mod OrderedReadings
-pub mod Counts
 pub mod WholeReadings
 pub mod SimpleReadings
 pub mod Readings

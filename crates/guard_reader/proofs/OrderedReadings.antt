@@ -1,5 +1,5 @@
 -- Elements of a SET OF, one after the other, in ascending order of their encodings (X.690 11.6).
-use Rattle.std.proofs.Common.{◌≡◌, ℕ, zero, suc, ◌+◌, ◌-◌, Bool, true, List, [], ◌∷◌, length, take, drop, None, Result, Ok, Err, cond, refl, sym, ap, ◌∙◌, arith, length-drop}
+use Rattle.std.proofs.Common.{◌≡◌, ℕ, zero, suc, ◌+◌, ◌-◌, true, List, [], ◌∷◌, length, take, drop, None, Result, Ok, cond, refl, sym, ap, ◌∙◌, arith, length-drop}
 use Rattle.std.specs.Prelude.{option_map}
 use Rattle.guard_model.specs.Answer as answer
 use Rattle.guard_model.specs.AbstractValue as value
@@ -13,7 +13,7 @@ use Rattle.guard_reader.specs.Fronts.{Front, here, elsewhere, broken, element_in
 use Rattle.guard_reader.specs.Judging.{Sight, ordered_at}
 use Rattle.guard_reader.specs.Octets.{◌>>=◌, ok}
 use Rattle.guard_reader.proofs.Places.{Digits, digits_drop}
-use Rattle.guard_reader.proofs.Sights.{Way, Stands, Seen, SightLaw}
+use Rattle.guard_reader.proofs.Sights.{Way, Seen, SightLaw}
 use Rattle.guard_reader.proofs.ElementReadings.{ReadItem, placed, none_read, one_read, item_none, item_here, items_after}
 
 -- ---- octets without those that are left

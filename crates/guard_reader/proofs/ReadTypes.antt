@@ -1,10 +1,9 @@
 -- Sound types: a value that is read from contents octets has these contents octets.
-use Rattle.std.proofs.Common.{◌≡◌, ℕ, suc, true, false, List, [], ◌∷◌, length, Option, Some, None, Ok, refl}
+use Rattle.std.proofs.Common.{◌≡◌, ℕ, suc, true, false, List, Some, None, Ok}
 use Rattle.std.specs.Prelude.{◌&&◌, nat_le, IsTrue}
 use Rattle.std.proofs.lemmas.Bool.{and_parts}
 use Rattle.guard_model.specs.Counts.{component_count}
 use Rattle.guard_model.specs.declared.site.Step.TheVariants.{Element}
-use Rattle.guard_model.specs.declared.tag.Tag.{Tag}
 use Rattle.guard_model.specs.AbstractType as type
 use Rattle.guard_model.specs.AbstractType.{AbstractType, AbstractKind, Components, Constraints, type_of, no_components, component}
 use Rattle.guard_model.specs.AbstractValue.{AbstractValue}

@@ -1,7 +1,7 @@
 -- What is seen at the front of octets is what is read there.
-use Rattle.std.proofs.Common.{◌≡◌, ℕ, ◌+◌, ◌*◌, ◌^◌, ◌<◌, ◌≤◌, Bool, true, false, ltb, eqb, List, [], ◌∷◌, length, take, drop, Option, Some, None, Result, Ok, Err, cond, refl, sym, ap, subst, ◌∙◌, arith, inl, inr, length-take, length-drop}
+use Rattle.std.proofs.Common.{◌≡◌, ℕ, ◌+◌, ◌*◌, ◌^◌, ◌<◌, ◌≤◌, Bool, true, false, ltb, eqb, List, [], ◌∷◌, length, take, drop, Option, None, Result, Ok, Err, cond, refl, sym, ap, subst, ◌∙◌, arith, inl, inr, length-take, length-drop}
 use Rattle.std.specs.Prelude.{◌⊎◌, not, option_map}
-use Rattle.std.proofs.lemmas.Bool.{cond-true, cond-false, lt-ltb, le-ltb, ltb-true, ltb-false, eqb-true}
+use Rattle.std.proofs.lemmas.Bool.{cond-true, cond-false, lt-ltb, le-ltb, ltb-true, eqb-true}
 use Rattle.guard_model.specs.Answer as answer
 use Rattle.guard_model.specs.declared.tag.Tag.{Tag}
 use Rattle.guard_model.specs.declared.tag.Class.{Class}
@@ -20,12 +20,11 @@ use Rattle.guard_der.proofs.Headers.Offsets.{head_small}
 use Rattle.guard_model.proofs.Results.{same_Ok}
 use Rattle.guard_tables.specs.declared.slots.Slots.{Slots}
 use Rattle.guard_tables.specs.NodeViews.{octet_of, outer_form, identifier_of, other_of}
-use Rattle.guard_reader.specs.Fronts.{Front, here, elsewhere, broken, alone, begins, after_one, front_cut, front_headed, octet_front, head_front, far_front, tagged_front}
+use Rattle.guard_reader.specs.Fronts.{Front, here, elsewhere, broken, alone, front_cut, front_headed, octet_front, head_front, tagged_front}
 use Rattle.guard_reader.specs.Judging.{Pass, Sight}
 use Rattle.guard_reader.specs.Octets.{◌>>=◌, split, ok}
 use Rattle.guard_reader.proofs.Places as places
 use Rattle.guard_reader.proofs.Places.{Digits, digits_drop, digits_take, Bad, IsTurned, HasTag, read_whole, read_turned}
-use Rattle.guard_reader.proofs.Sizes.{contents_small}
 
 abbrev pub PassLaw : Pass → read.Body → (AbstractValue → Slots → Slots) → Type 0
 PassLaw pass body mark = (at start : ℕ) (os : List ℕ) (m : Slots) → Digits os → length os < 2 ^ 32 → pass os m ≡ option_map (λ v. mark v m) (ok (body at start os))
@@ -95,6 +94,7 @@ low_seen t c pass body mark low law o os digits =
           let h = w.header in
           let inner : Digits f.contents = subst Digits w.inside (digits_take h.contents (drop h.size (o ∷ os)) (digits_drop h.size (o ∷ os) digits)) in
           let few : length f.contents ≤ length (o ∷ os) = subst (λ (x : List ℕ). length x ≤ length (o ∷ os)) w.inside (taken_shorter h.contents h.size (o ∷ os)) in
+          let short : length f.contents < 2 ^ 32 = subst (λ (x : List ℕ). length x < 2 ^ 32) w.inside (head_small (o ∷ os) h digits w.header_is) in
           let given : P (here f.contents f.next) = record {
             header = h;
             header_is = w.header_is;
@@ -104,7 +104,7 @@ low_seen t c pass body mark low law o os digits =
             shorter = few;
             start = λ at. at + h.size;
             read = λ at. read_whole t c body at o os f.contents f.next w;
-            judged = λ at m. law at (at + h.size) f.contents m inner (contents_small os f.contents f.next digits.1 f.cut) ∙ ap (λ (r : Result AbstractValue AbstractBreach). option_map (λ v. mark v m) (ok r)) (sym (read_whole t c body at o os f.contents f.next w));
+            judged = λ at m. law at (at + h.size) f.contents m inner short ∙ ap (λ (r : Result AbstractValue AbstractBreach). option_map (λ v. mark v m) (ok r)) (sym (read_whole t c body at o os f.contents f.next w));
           } in
           subst P (sym (cond-true (eqb o (octet_of t c)) (front_cut (split os)) later is ∙ ap front_cut f.cut)) given
       | inr (ne, inl (other, inl bad)) ↦ subst P (sym (cond-false (eqb o (octet_of t c)) (front_cut (split os)) later ne ∙ cond-true (eqb o (octet_of t (not c))) broken elsewhere other)) (inl bad)

@@ -1,11 +1,10 @@
 -- An element that is cut off is read as where it stands.
-use Rattle.std.proofs.Common.{◌≡◌, ℕ, zero, suc, ◌+◌, ◌≤◌, Bool, true, false, ltb, List, [], ◌∷◌, length, take, drop, Option, Some, None, Result, Ok, Err, cond, refl, sym, ap, ◌∙◌, arith, length-take}
+use Rattle.std.proofs.Common.{◌≡◌, ℕ, zero, suc, ◌+◌, ◌≤◌, Bool, true, List, [], ◌∷◌, length, take, drop, Option, Some, None, Result, Ok, Err, cond, refl, sym, ap, ◌∙◌, arith, length-take}
 use Rattle.std.proofs.lemmas.Bool.{le-ltb}
 use Rattle.guard_model.specs.Answer as answer
 use Rattle.guard_model.specs.AbstractType as type
 use Rattle.guard_model.specs.AbstractType.{AbstractType, AbstractKind, Components, type_of, no_components, component}
 use Rattle.guard_model.specs.AbstractValue.{AbstractValue}
-use Rattle.guard_model.specs.declared.site.Step.TheVariants.{Component}
 use Rattle.guard_tagcheck.specs.FirstTags.{alternative_begins_with, one_begins_with}
 use Rattle.guard_der.specs.declared.breach.Code.TheVariants as code
 use Rattle.guard_der.specs.Breach.{AbstractBreach, one_with}

@@ -1,26 +1,27 @@
 -- What is asked of a value that has parts, as a whole.
-use Rattle.std.proofs.Common.{true, ◌≡◌, ℕ, ◌<◌, ◌^◌, false, List, [], ◌∷◌, length, Option, Some, None, Result, Ok, Err, refl, sym, ap, ◌∙◌}
+use Rattle.std.proofs.Common.{◌≡◌, ℕ, ◌+◌, ltb, List, length, Option, Some, None, Result, Ok, Err, refl, sym, ap, ◌∙◌}
 use Rattle.std.specs.Prelude.{option_map}
 use Rattle.guard_model.specs.AbstractType as type
-use Rattle.guard_model.specs.AbstractType.{AbstractType, AbstractKind, Components, type_of}
+use Rattle.guard_model.specs.AbstractType.{AbstractType, AbstractKind, Components}
 use Rattle.guard_model.specs.AbstractValue as value
 use Rattle.guard_model.specs.AbstractValue.{AbstractValue, Fields, Items}
 use Rattle.guard_model.specs.Counts.{item_count}
-use Rattle.guard_model.proofs.Results.{same_Ok}
-use Rattle.guard_tagcheck.specs.FirstTags.{begins_with}
+use Rattle.guard_model.specs.Answer as answer
+use Rattle.guard_model.proofs.Results.{same_Ok, bind_ok, guard_ok}
+use Rattle.guard_tagcheck.specs.FirstTags.{one_begins_with}
+use Rattle.std.proofs.lemmas.Option.{same_Some}
 use Rattle.guard_der.specs.Breach.{AbstractBreach}
-use Rattle.guard_der.specs.Der.{is_constructed, contents_octets}
-use Rattle.guard_der.specs.Reading.{contents_at, element_at, tags_at, fields_at, fields_read, items_at, items_read}
+use Rattle.guard_der.specs.Der.{contents_octets}
+use Rattle.guard_der.specs.declared.breach.Code.TheVariants as code
+use Rattle.guard_der.specs.Head.{Head}
+use Rattle.guard_der.specs.Reading as read
+use Rattle.guard_der.specs.Reading.{fields_read, items_read, due_at, fault, contents_at, part_at}
 use Rattle.guard_tables.specs.declared.slots.Slots.{Slots}
 use Rattle.guard_tables.specs.Marking.{Facts, facts, facts_of, conditions_marked, marked}
-use Rattle.guard_tables.specs.Plan.{AbstractCondition, Plan, Body, plan, simple, series, set, choice, list, set_of, asked, formula}
-use Rattle.guard_tables.specs.Standing.{PlanFor, BodyFor, Spells}
-use Rattle.guard_reader.specs.Covered.{IsCovered, IsCoveredBody, IsWhole}
-use Rattle.guard_reader.specs.Judging.{then_marked, whole_facts, size_in, element_count}
+use Rattle.guard_tables.specs.Plan.{AbstractCondition, Body, asked}
+use Rattle.guard_reader.specs.Judging.{then_marked, whole_facts, size_in}
 use Rattle.guard_reader.specs.Octets.{ok}
-use Rattle.guard_reader.proofs.Counts.{items_counted, ordered_counted}
-use Rattle.guard_reader.proofs.LowPlans.{low_plan, no_tag, two_tags}
-use Rattle.guard_reader.proofs.Places.{Digits}
+use Rattle.guard_reader.proofs.Choices.{picked, chosen_read}
 
 pub asked_read : (cs : List AbstractCondition) (b : Body) (kind : AbstractKind) (os : List ℕ) (m : Slots) (r : Result AbstractValue AbstractBreach) (a : Option Slots)
     → ((v : AbstractValue) → r ≡ Ok v → facts_of kind v ≡ whole_facts (size_in b os) os) → a ≡ option_map (λ v. marked kind b v m) (ok r)
@@ -30,57 +31,35 @@ asked_read cs b kind os m (Err breach) a known e = ap (then_marked cs (whole_fac
 asked_read cs b kind os m (Ok v) a known e =
     ap (then_marked cs (whole_facts (size_in b os) os)) e ∙ ap (λ (f : Facts). Some (conditions_marked cs f (marked kind b v m))) (sym (known v refl))
 
-fields_known : (cs : Components) (os : List ℕ) (r : Result Fields AbstractBreach) (v : AbstractValue) → contents_octets (type.sequence cs) v ≡ Some os → fields_read r ≡ Ok v → facts_of (type.sequence cs) v ≡ whole_facts None os
-fields_known cs os (Err b) v spelled e = absurd cc
-fields_known cs os (Ok fs) v spelled e =
+pub fields_known : (kind : AbstractKind) (os : List ℕ) (r : Result Fields AbstractBreach) (v : AbstractValue) → contents_octets kind v ≡ Some os → fields_read r ≡ Ok v → facts_of kind v ≡ whole_facts None os
+fields_known kind os (Err b) v spelled e = absurd cc
+fields_known kind os (Ok fs) v spelled e =
     let is : value.fields fs ≡ v = same_Ok {F = AbstractBreach} (value.fields fs) v e in
-    ap (facts_of (type.sequence cs)) (sym is) ∙ ap (λ (x : Option (List ℕ)). facts (value.fields fs) x) (ap (contents_octets (type.sequence cs)) is ∙ spelled)
+    ap (facts_of kind) (sym is) ∙ ap (λ (x : Option (List ℕ)). facts (value.fields fs) x) (ap (contents_octets kind) is ∙ spelled)
 
-items_known : (t : AbstractType) (os : List ℕ) (r : Result Items AbstractBreach) (v : AbstractValue) → ((vs : Items) → r ≡ Ok vs → item_count vs ≡ element_count os) → contents_octets (type.sequence_of t) v ≡ Some os → items_read r ≡ Ok v
-    → facts_of (type.sequence_of t) v ≡ whole_facts (Some (element_count os)) os
-items_known t os (Err b) v count spelled e = absurd cc
-items_known t os (Ok vs) v count spelled e =
+pub items_known : (kind : AbstractKind) (n : ℕ) (os : List ℕ) (r : Result Items AbstractBreach) (v : AbstractValue) → ((vs : Items) → r ≡ Ok vs → item_count vs ≡ n) → contents_octets kind v ≡ Some os → items_read r ≡ Ok v
+    → facts_of kind v ≡ whole_facts (Some n) os
+items_known kind n os (Err b) v count spelled e = absurd cc
+items_known kind n os (Ok vs) v count spelled e =
     let is : value.items vs ≡ v = same_Ok {F = AbstractBreach} (value.items vs) v e in
-    ap (facts_of (type.sequence_of t)) (sym is)
-    ∙ ap (λ (x : Option (List ℕ)). facts (value.items vs) x) (ap (contents_octets (type.sequence_of t)) is ∙ spelled)
+    ap (facts_of kind) (sym is)
+    ∙ ap (λ (x : Option (List ℕ)). facts (value.items vs) x) (ap (contents_octets kind) is ∙ spelled)
     ∙ ap (λ (n : ℕ). whole_facts (Some n) os) (count vs refl)
 
-items_found : (p : Plan) (t : AbstractType) → PlanFor p t → IsCovered p → (at : ℕ) (os : List ℕ) (vs : Items) → Digits os
-    → items_at (length os) false (begins_with t) (element_at t) 0 [] at os ≡ Ok vs → item_count vs ≡ element_count os
-unfolding element_at tags_at
-items_found (plan tags con b) (type_of (t ∷ []) kind cons) f covered at os vs digits e =
-    items_counted t (is_constructed kind) (contents_at kind) (low_plan tags con b t kind cons f covered).low (length os) 0 at [] os vs digits e
-items_found (plan tags con b) (type_of [] kind cons) f covered at os vs digits e = absurd (no_tag tags con b kind cons f covered)
-items_found (plan tags con b) (type_of (t ∷ u ∷ ts) kind cons) f covered at os vs digits e = absurd (two_tags tags con b t u ts kind cons f covered)
+chosen_known : (cs : Components) (os : List ℕ) (x : Option (ℕ × AbstractValue)) (r : Result AbstractValue AbstractBreach) (v : AbstractValue) → ok r ≡ option_map (λ (x : ℕ × AbstractValue). value.chosen x.0 x.1) x
+    → contents_octets (type.choice cs) v ≡ Some os → r ≡ Ok v → facts_of (type.choice cs) v ≡ whole_facts None os
+chosen_known cs os None r v is spelled e = let none : ◌≡◌ {A = Option AbstractValue} (Some v) None = sym (ap ok e) ∙ is in absurd cc
+chosen_known cs os (Some x) r v is spelled e =
+    let one : v ≡ value.chosen x.0 x.1 = same_Some v (value.chosen x.0 x.1) (sym (ap ok e) ∙ is) in
+    ap (facts_of (type.choice cs)) one
+    ∙ ap (λ (x2 : Option (List ℕ)). facts (value.chosen x.0 x.1) x2) (ap (contents_octets (type.choice cs)) (sym one) ∙ spelled)
 
-set_known : (t : AbstractType) (os : List ℕ) (r : Result Items AbstractBreach) (v : AbstractValue) → ((vs : Items) → r ≡ Ok vs → item_count vs ≡ element_count os) → contents_octets (type.set_of t) v ≡ Some os → items_read r ≡ Ok v
-    → facts_of (type.set_of t) v ≡ whole_facts (Some (element_count os)) os
-set_known t os (Err b) v count spelled e = absurd cc
-set_known t os (Ok vs) v count spelled e =
-    let is : value.items vs ≡ v = same_Ok {F = AbstractBreach} (value.items vs) v e in
-    ap (facts_of (type.set_of t)) (sym is)
-    ∙ ap (λ (x : Option (List ℕ)). facts (value.items vs) x) (ap (contents_octets (type.set_of t)) is ∙ spelled)
-    ∙ ap (λ (n : ℕ). whole_facts (Some n) os) (count vs refl)
-
-set_found : (p : Plan) (t : AbstractType) → PlanFor p t → IsCovered p → (at : ℕ) (os : List ℕ) (vs : Items) → Digits os
-    → items_at (length os) true (begins_with t) (element_at t) 0 [] at os ≡ Ok vs → item_count vs ≡ element_count os
-unfolding element_at tags_at
-set_found (plan tags con b) (type_of (t ∷ []) kind cons) f covered at os vs digits e =
-    ordered_counted t (is_constructed kind) (contents_at kind) (low_plan tags con b t kind cons f covered).low (length os) 0 at [] os vs digits e
-set_found (plan tags con b) (type_of [] kind cons) f covered at os vs digits e = absurd (no_tag tags con b kind cons f covered)
-set_found (plan tags con b) (type_of (t ∷ u ∷ ts) kind cons) f covered at os vs digits e = absurd (two_tags tags con b t u ts kind cons f covered)
-
-pub whole_known : (b : Body) (kind : AbstractKind) → BodyFor b kind → IsWhole b → IsCoveredBody b → Spells kind → (at start : ℕ) (os : List ℕ) (v : AbstractValue) → Digits os → length os < 2 ^ 32
-    → contents_at kind at start os ≡ Ok v → facts_of kind v ≡ whole_facts (size_in b os) os
-unfolding contents_at
-whole_known (series ps) (type.sequence cs) f whole covered spelled at start os v digits short e = fields_known cs os (fields_at 0 cs start os) v (spelled at start os v digits short e) e
-whole_known (list p) (type.sequence_of t) f whole covered spelled at start os v digits short e =
-    items_known t os (items_at (length os) false (begins_with t) (element_at t) 0 [] start os) v (λ vs found. items_found p t f covered start os vs digits found) (spelled at start os v digits short e) e
-whole_known (set_of p) (type.set_of t) f whole covered spelled at start os v digits short e =
-    set_known t os (items_at (length os) true (begins_with t) (element_at t) 0 [] start os) v (λ vs found. set_found p t f covered start os vs digits found) (spelled at start os v digits short e) e
-whole_known (formula raises b) kind f whole covered spelled at start os v digits short e = whole_known b kind f whole covered spelled at start os v digits short e
-whole_known (asked cs b) kind f whole covered spelled at start os v digits short e = whole_known b kind f.1 whole covered.1 spelled at start os v digits short e
-whole_known (simple one cs) kind f whole covered spelled at start os v digits short e = absurd whole
-whole_known (set ps) kind f whole covered spelled at start os v digits short e = absurd covered
-whole_known (choice ps) kind f whole covered spelled at start os v digits short e = absurd covered
-whole_known b kind f whole covered spelled at start os v digits short e = absurd f
+pub choice_known : (cs : Components) (at start : ℕ) (os : List ℕ) (v : AbstractValue) → contents_octets (type.choice cs) v ≡ Some os → contents_at (type.choice cs) at start os ≡ Ok v → facts_of (type.choice cs) v ≡ whole_facts None os
+unfolding contents_at read.alone_at
+choice_known cs at start os v spelled e =
+    let reader : Head → Result AbstractValue AbstractBreach = λ h. read.chosen_at cs (part_at cs) start h os in
+    let a = bind_ok (due_at (λ tag. one_begins_with cs tag) start os) (λ h. answer.◌>>=◌ (reader h) (λ v. read.ended start h os v)) v e in
+    let b = bind_ok (reader a.0) (λ v. read.ended start a.0 os v) v a.2 in
+    let c = guard_ok (ltb (a.0.size + a.0.contents) (length os)) (fault code.TrailingOctets (start + (a.0.size + a.0.contents))) (Ok b.0) v b.2 in
+    let same : b.0 ≡ v = same_Ok {F = AbstractBreach} b.0 v c.1 in
+    chosen_known cs os (picked cs start a.0 os) (reader a.0) v (chosen_read cs start a.0 os) spelled (b.1 ∙ ap (λ (v : AbstractValue). Ok v) same)

@@ -50,8 +50,8 @@ present_part side pass os m = watched side os m >>= λ k. pass os k
 abbrev pub with_rest : List ℕ → Option Slots → Option (Slots × List ℕ)
 with_rest rest m = m >>= λ m. Some (m, rest)
 
--- A component where it may come next: what has failed, and what follows it. An element of its tag in the other form isn't it,
--- and no other component.
+-- A component where it may come next: what has failed, and what follows it. An element of its tag in the other form isn't
+-- it, and no other component.
 unfoldable pub part_at : Side → Front → Pass → List ℕ → Slots → Option (Slots × List ℕ)
 part_at side (here inside rest) pass os m = with_rest rest (present_part side pass inside m)
 part_at side elsewhere pass os m = with_rest os (absent_part side.absent m)
@@ -84,7 +84,8 @@ tag_after last None = None
 tag_after last (Some tag) = if follows last tag then Some tag else None
 
 -- At most so many elements in ascending order of tags (X.690 8.11, 10.3), and what is absent after them.
-unfoldable pub members_at : ℕ → (List ℕ → List ℕ → Slots → Member) → (List ℕ → Slots → Option Slots) → List ℕ → Option Tag → Pass
+unfoldable pub members_at :
+    ℕ → (List ℕ → List ℕ → Slots → Member) → (List ℕ → Slots → Option Slots) → List ℕ → Option Tag → Pass
 members_at tries member absent places last [] m = absent places m
 members_at zero member absent places last (o ∷ os) m = None
 members_at (suc tries) member absent places last (o ∷ os) m =
@@ -176,7 +177,8 @@ unfoldable mutual
       unless_fault (simple_fault kind os) (conditions_marked cs (facts (simple_value kind os) (Some os)) m)
   contents_judged (series ps) os m = fields_judged ps os m
   contents_judged (set ps) os m =
-      members_at (length os) (λ places os m. member_judged ps 0 places os m) (λ places m. absences_at 0 ps places m) [] None os m
+      members_at (length os) (λ places os m. member_judged ps 0 places os m) (λ places m. absences_at 0 ps places m)
+      [] None os m
   contents_judged (choice ps) os m = chosen_judged ps os m
   contents_judged (list p) os m = elements (λ os. front p os) (λ os m. inside_judged p os m) os m
   contents_judged (set_of p) os m = ordered (λ os. front p os) (λ os m. inside_judged p os m) [] os m
@@ -185,7 +187,8 @@ unfoldable mutual
 
   -- what is inside the outermost tag; without a tag, the whole element
   pub inside_judged : Plan → List ℕ → Slots → Option Slots
-  inside_judged (plan tags constructed body) os m = innermost tags constructed os >>= λ inside. contents_judged body inside m
+  inside_judged (plan tags constructed body) os m =
+      innermost tags constructed os >>= λ inside. contents_judged body inside m
 
   pub fields_judged : Parts → List ℕ → Slots → Option Slots
   fields_judged no_parts [] m = Some m

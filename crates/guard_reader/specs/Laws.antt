@@ -1,8 +1,9 @@
 -- Laws that a function with no body carries.
 use Rattle.std.specs.Prelude.{ℕ, ◌≡◌, ◌<◌, ◌^◌, List, length, IsTrue, Some, option_map}
 use Rattle.std.specs.List.{AllByRecursion}
-use Rattle.guard_model.specs.AbstractType.{AbstractType, AbstractKind}
+use Rattle.guard_model.specs.AbstractType.{AbstractType}
 use Rattle.guard_model.specs.AbstractValue.{AbstractValue}
+use Rattle.guard_model.specs.Kinds.{kind_of}
 use Rattle.guard_der.specs.Der.{der}
 use Rattle.guard_der.specs.Fits.{fits}
 use Rattle.guard_der.specs.Reading.{contents_at}
@@ -12,16 +13,15 @@ use Rattle.guard_tables.specs.Slots.{none}
 use Rattle.guard_tables.specs.Plan.{Plan, Body}
 use Rattle.guard_tables.specs.Marking.{marked, type_marked}
 use Rattle.guard_tables.specs.Standing.{PlanFor, BodyFor}
-use Rattle.guard_reader.specs.Covered.{IsCovered, IsCoveredBody}
 use Rattle.guard_reader.specs.Judging.{contents_judged, message_judged}
 use Rattle.guard_reader.specs.Octets.{ok}
 
--- A pass over contents octets reads them as `decode` does, and what fails is what fails at the value.
+-- A pass over contents octets of a sound type reads them as `decode` does, and what fails is what fails at the value.
 abbrev pub ContentsLaw : Type 0
 ContentsLaw =
-    (b : Body) (kind : AbstractKind) → BodyFor b kind → IsCoveredBody b
+    (b : Body) (t : AbstractType) → BodyFor b (kind_of t) → IsTrue (is_sound t)
     → (at start : ℕ) (os : List ℕ) (m : Slots) → AllByRecursion (λ o. o < 256) os → length os < 2 ^ 32
-    → contents_judged b os m ≡ option_map (λ v. marked kind b v m) (ok (contents_at kind at start os))
+    → contents_judged b os m ≡ option_map (λ v. marked (kind_of t) b v m) (ok (contents_at (kind_of t) at start os))
 
 -- Of a whole message of a sound type that the plan stands for: there is an answer exactly where some value of the type has
 -- the octets as its encoding, and then it is what fails at that value.
@@ -33,5 +33,5 @@ pub record MessageLaw (p : Plan) (t : AbstractType) (os : List ℕ) : Type 0 whe
 
 abbrev pub MessagesLaw : Type 0
 MessagesLaw =
-    (p : Plan) (t : AbstractType) (os : List ℕ) → PlanFor p t → IsCovered p → IsTrue (is_sound t)
+    (p : Plan) (t : AbstractType) (os : List ℕ) → PlanFor p t → IsTrue (is_sound t)
     → AllByRecursion (λ o. o < 256) os → MessageLaw p t os

@@ -6,7 +6,7 @@
 //!
 //! | question | code | definition |
 //! |---|---|---|
-//! | What fails at the value that octets encode? | `walking.rt` (`failures`), lengths `header.rt` | `specs/Judging.antt`, `specs/Covered.antt` |
+//! | What fails at the value that octets encode? | `walking.rt` (`failures`), lengths `header.rt` | `specs/Judging.antt`, `specs/Fronts.antt` |
 //! | Which contents octets are lawful for a simple kind, and what fails at their value? | `simple.rt`, `contents.rt`, `numbers.rt`, `object_id.rt` | `specs/Judging.antt`, and of `guard_der` `specs/Simple.antt` |
 //! | Do the elements of a SET OF ascend? | `order.rt` | of `guard_der` `specs/Fits.antt` |
 //! | What is asked of a value that has parts as a whole? | `whole.rt` | `specs/Judging.antt` |

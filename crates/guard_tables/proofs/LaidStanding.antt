@@ -26,7 +26,7 @@ use Rattle.guard_tables.specs.Slots as slots
 use Rattle.guard_tables.specs.Slots.{added}
 use Rattle.guard_tables.specs.Plan.{AbstractCondition, Plan, Body, Parts, plan, part, series, set, choice, list, set_of, formula, asked_of}
 use Rattle.guard_tables.specs.Marking.{type_marked}
-use Rattle.guard_tables.specs.Standing.{Spells, Tells, DefaultFor, SideFor, SimpleFor, PlanFor, BodyFor, PartsFor, AlternativesFor}
+use Rattle.guard_tables.specs.Standing.{Spells, Tells, DefaultFor, SideFor, SimpleFor, IsWhole, PlanFor, BodyFor, PartsFor, AlternativesFor}
 use Rattle.guard_tables.specs.Demands.{Ask, Term}
 use Rattle.guard_tables.specs.Spread.{are_plain_asks}
 use Rattle.guard_tables.specs.Forms.{forms_of}
@@ -118,9 +118,9 @@ same_items (n ∷ items) = let rest = same_items items in cc
 
 -- ---- all kinds
 
-asked_for : (cs : List AbstractCondition) (b : Body) (kind : AbstractKind) → Spells kind → BodyFor b kind → BodyFor (asked_of cs b) kind
-asked_for [] b kind spells h = h
-asked_for (c ∷ cs) b kind spells h = (spells, h)
+asked_for : (cs : List AbstractCondition) (b : Body) (kind : AbstractKind) → Spells kind → IsWhole b → BodyFor b kind → BodyFor (asked_of cs b) kind
+asked_for [] b kind spells whole h = h
+asked_for (c ∷ cs) b kind spells whole h = (spells, h, whole)
 
 formulas_for : (plain : Bool) (asks : List Ask) (b : Body) (kind : AbstractKind) → BodyFor b kind → BodyFor (cond plain b (formula (forms_of asks).raises b)) kind
 formulas_for true asks b kind h = h
@@ -155,16 +155,16 @@ mutual
   kind_stands r (type.enumerated items) w ts = same_items items
   kind_stands r (type.characters k) w ts = refl
   kind_stands r (type.sequence cs) w ts =
-      asked_for (conditions_of (type.sequence cs) ts) (series (lay_parts 0 cs ts)) (type.sequence cs) (spells_for r (type.sequence cs) w) (parts_stand r 0 cs (well_list true cs w.0 w.1) ts)
+      asked_for (conditions_of (type.sequence cs) ts) (series (lay_parts 0 cs ts)) (type.sequence cs) (spells_for r (type.sequence cs) w) tt (parts_stand r 0 cs (well_list true cs w.0 w.1) ts)
   kind_stands r (type.set cs) w ts =
-      asked_for (conditions_of (type.set cs) ts) (set (lay_parts 0 cs ts)) (type.set cs) (spells_for r (type.set cs) w) (parts_stand r 0 cs (well_list false cs w.0 w.1) ts)
+      asked_for (conditions_of (type.set cs) ts) (set (lay_parts 0 cs ts)) (type.set cs) (spells_for r (type.set cs) w) tt (parts_stand r 0 cs (well_list false cs w.0 w.1) ts)
   kind_stands r (type.choice cs) w ts =
-      asked_for (conditions_of (type.choice cs) ts) (choice (lay_alternatives 0 cs ts)) (type.choice cs) (spells_for r (type.choice cs) w) (alternatives_stand r 0 cs (well_list false cs w.0 w.1) ts)
+      asked_for (conditions_of (type.choice cs) ts) (choice (lay_alternatives 0 cs ts)) (type.choice cs) (spells_for r (type.choice cs) w) tt (alternatives_stand r 0 cs (well_list false cs w.0 w.1) ts)
   kind_stands r (type.sequence_of t) w ts =
-      asked_for (conditions_of (type.sequence_of t) ts) (list (lay t (each_of ts))) (type.sequence_of t) (spells_for r (type.sequence_of t) w)
+      asked_for (conditions_of (type.sequence_of t) ts) (list (lay t (each_of ts))) (type.sequence_of t) (spells_for r (type.sequence_of t) w) tt
       (type_stands r t (w.0, inside_none (Element 0) (first_clash t) w.1) (each_of ts))
   kind_stands r (type.set_of t) w ts =
-      asked_for (conditions_of (type.set_of t) ts) (set_of (lay t (each_of ts))) (type.set_of t) (spells_for r (type.set_of t) w)
+      asked_for (conditions_of (type.set_of t) ts) (set_of (lay t (each_of ts))) (type.set_of t) (spells_for r (type.set_of t) w) tt
       (type_stands r t (w.0, inside_none (Element 0) (first_clash t) w.1) (each_of ts))
 
   parts_stand : ReadsBack → (i : ℕ) (cs : Components) → IsWellList cs i → (ts : List Term) → PartsFor (lay_parts i cs ts) cs

@@ -67,6 +67,17 @@ SimpleFor (type.enumerated one) (type.enumerated other) = map (λ n. n.number) o
 SimpleFor (type.characters one) (type.characters other) = one ≡ other
 SimpleFor _ _ = ⊥
 
+-- a kind that has parts, with what is in front of it
+abbrev pub IsWhole : Body → Type 0
+IsWhole (simple kind cs) = ⊥
+IsWhole (series ps) = ⊤
+IsWhole (set ps) = ⊤
+IsWhole (choice ps) = ⊤
+IsWhole (list p) = ⊤
+IsWhole (set_of p) = ⊤
+IsWhole (asked cs body) = IsWhole body
+IsWhole (formula raises body) = IsWhole body
+
 abbrev mutual
   pub PlanFor : Plan → AbstractType → Type 0
   PlanFor (plan tags constructed body) (type_of others kind cons) = (tags ≡ others) × (constructed ≡ is_constructed kind) × BodyFor body kind
@@ -78,7 +89,8 @@ abbrev mutual
   BodyFor (choice ps) (type.choice cs) = AlternativesFor ps cs
   BodyFor (list p) (type.sequence_of t) = PlanFor p t
   BodyFor (set_of p) (type.set_of t) = PlanFor p t
-  BodyFor (asked cs body) kind = Spells kind × BodyFor body kind
+  -- of a simple kind its own node asks
+  BodyFor (asked cs body) kind = Spells kind × BodyFor body kind × IsWhole body
   BodyFor (formula raises body) kind = BodyFor body kind
   BodyFor body kind = ⊥
 

@@ -1,5 +1,5 @@
 use Rattle.std.proofs.Common.{◌∙◌, sym}
-use Rattle.guard_reader.proofs.LastOctets.{last_is}
+use Rattle.guard_der.proofs.Simple.LastOctets.{last_is}
 use Rattle.guard_reader.proofs.contents.last_octet.Goals as goal
 
 pub returns-else-is_empty : goal.returns-else-is_empty

@@ -1,6 +1,6 @@
 use Rattle.std.proofs.Common.{◌-◌, ◌<◌, ◌∙◌, get_or, arith}
-use Rattle.guard_reader.proofs.Digits.Widths.{room_now, room_kept}
-use Rattle.guard_reader.proofs.Digits.Integers.{turned_next, turned_room}
+use Rattle.guard_der.proofs.Numbers.Widths.{room_now, room_kept}
+use Rattle.guard_der.proofs.Numbers.Integers.{turned_next, turned_room}
 use Rattle.guard_reader.proofs.numbers.number_after.Goals as goal
 
 pub overflow_mul-number : goal.overflow_mul-number

@@ -19,12 +19,16 @@
 mod alphabet;
 mod conditions;
 mod contents;
+mod element_fronts;
 mod header;
 pub mod laws;
+mod layers;
 mod marks;
+mod members;
 mod numbers;
 mod object_id;
 mod order;
+mod plain;
 mod simple;
 mod table_walk;
 mod walking;

@@ -42,7 +42,7 @@ message_of true true c e = e
 message_of true false c e = absurd cc
 message_of false b c e = absurd cc
 
-speaks_of-message : (route : AbstractRoute) (r : AbstractRule) → speaks_of route r ≡ true → r.message ≡ route.message
+pub speaks_of-message : (route : AbstractRoute) (r : AbstractRule) → speaks_of route r ≡ true → r.message ≡ route.message
 speaks_of-message route r e =
     (bytes_eq-Decides r.message route.message).0 (message_of (is_meant r.from route.from) (is_meant r.to route.to) (bytes_eq r.message route.message) e)
 

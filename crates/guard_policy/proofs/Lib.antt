@@ -1,6 +1,7 @@
 -- ---- the rules that are asked
 pub mod Consistent
 pub mod Misnamed
+pub mod Keeping
 pub mod Applicable
 pub mod Listed
 pub mod Denials
@@ -9,6 +10,7 @@ pub mod Shortfalls
 pub mod Goes
 pub mod Reasons
 pub mod OneReason
+pub mod ByMarks
 -- ---- the text of a policy
 pub mod Gathered
 pub mod LeastKey

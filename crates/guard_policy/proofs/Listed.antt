@@ -41,13 +41,13 @@ fused : {X Y : Type 0} (view : X → Y) (r : Option (Bor X)) → option_map (λ 
 fused view None = refl
 fused view (Some x) = refl
 
-there : {X : Type 0} (xs : List X) (i : ℕ) (r : Option (Bor X)) → IsItemAt xs i r → option_map (λ x. x.now) r ≡ slice_get xs i
-there xs i None h = sym (slice_get_past xs i h.3)
-there xs i (Some x) h = sym (slice_get_read xs (length xs) i x.now refl h.3.0 h.1)
+pub item_there : {X : Type 0} (xs : List X) (i : ℕ) (r : Option (Bor X)) → IsItemAt xs i r → option_map (λ x. x.now) r ≡ slice_get xs i
+item_there xs i None h = sym (slice_get_past xs i h.3)
+item_there xs i (Some x) h = sym (slice_get_read xs (length xs) i x.now refl h.3.0 h.1)
 
 -- what a look-up by a place finds
 pub viewed : {X Y : Type 0} (view : X → Y) (xs : List X) (i : ℕ) (r : Option (Bor X)) → IsItemAt xs i r → option_map (λ x. view x.now) r ≡ slice_get (map view xs) i
-viewed view xs i r h = fused view r ∙ ap (option_map view) (there xs i r h) ∙ sym (slice_get-map view xs i)
+viewed view xs i r h = fused view r ∙ ap (option_map view) (item_there xs i r h) ∙ sym (slice_get-map view xs i)
 
 -- how many were taken
 pub taken_length : {X Y : Type 0} (view : X → Y) (xs : List X) (i : ℕ) → i < length xs → i ≡ length (map view (take i xs))

@@ -1,5 +1,6 @@
 -- ---- policies
 pub mod Policies
+pub mod KeptView
 pub mod PolicyView
 pub mod Names
 pub mod Consistency

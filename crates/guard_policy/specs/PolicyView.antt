@@ -2,12 +2,13 @@
 use Rattle.std.specs.Prelude.{map, string_bytes}
 use Rattle.guard_policy.specs.declared.policy.Policy.{Policy}
 use Rattle.guard_policy.specs.declared.route.Route.{Route}
-use Rattle.guard_policy.specs.Policies.{AbstractPolicy, AbstractRoute, message_view, rule_view}
+use Rattle.guard_policy.specs.KeptView.{kept_message_view, kept_rule_view}
+use Rattle.guard_policy.specs.Policies.{AbstractPolicy, AbstractRoute}
 
 abbrev pub policy_view : Policy → AbstractPolicy
 policy_view p = record {
-  messages = map message_view p.messages.items;
-  rules = map rule_view p.rules.items;
+  messages = map kept_message_view p.kept.messages.items;
+  rules = map (kept_rule_view p.kept.messages.items) p.kept.rules.items;
   modules = map string_bytes p.modules.items;
 }
 

@@ -4,15 +4,17 @@ ghost use Rattle.guard_model.specs.TypeView.{type_view};
 ghost use Rattle.guard_model.specs.ValueView.{value_view};
 ghost use Rattle.guard_der.specs.Fits.{fits};
 ghost use Rattle.guard_der.specs.Sound.{is_sound};
-ghost use Rattle.guard_policy.specs.Policies.{rule_view};
 ghost use Rattle.guard_policy.specs.PolicyView.{route_view};
 ghost use Rattle.guard_policy.specs.Verdicts.{verdict_view};
 ghost use Rattle.guard_policy.specs.inside.Applicable.{AreApplicable};
-ghost use Rattle.guard_policy.specs.Decisions.{speaks_of, is_allowing, denies, first_denying, by_allowing, judged};
+ghost use Rattle.guard_policy.specs.inside.Marked.{kept_speaks_of};
+ghost use Rattle.guard_policy.specs.inside.TypedRules.{rules_kept, typed_rule_view};
+ghost use Rattle.guard_policy.specs.Decisions.{is_allow, denies, first_denying, by_allowing, judged};
 ghost use Rattle.guard_policy.specs.Names.{is_meant};
 ghost use Rattle.guard_policy.specs.Listings.{rules_at, heard, denies_at, allowing_at};
 
-use super::policy::{Effect, Rule};
+use super::kept::{Kept, KeptRule, TypedRule};
+use super::policy::Effect;
 use super::route::{Route, is_anyone};
 use super::verdict::Verdict;
 use guard_eval::{first_violation, member};
@@ -22,7 +24,7 @@ use std::alloc::Global;
 /// The verdict on a value of the declared type, by the rules of these numbers.
 pub fn judge(
     alloc: Global,
-    rules: &[Rule],
+    kept: &Kept,
     numbers: &[usize],
     route: &Route,
     ty: &Ty,
@@ -30,30 +32,25 @@ pub fn judge(
 ) -> Result<Verdict, OutOfMemory>
     requires type_sound { IsTrue (is_sound (type_view ty.now)) }
     requires value_fits { IsTrue (fits (type_view ty.now) (value_view value.now)) }
-    requires rules_applicable { AreApplicable (route_view route.now) (value_view value.now) (map rule_view rules.now) }
-    ensures { IfOk result (λ w. verdict_view w ≡ judged (type_view ty.now) (heard (route_view route.now) (rules_at (map rule_view rules.now) numbers.now)) (value_view value.now)) }
+    requires rules_applicable { AreApplicable (route_view route.now) (value_view value.now) (rules_kept kept.now) }
+    ensures { IfOk result (λ w. verdict_view w ≡ judged (type_view ty.now) (heard (route_view route.now) (rules_at (rules_kept kept.now) numbers.now)) (value_view value.now)) }
 {
     if let Some(violation) = first_violation(ty, value) {
         return Ok(Verdict::OutsideType(violation));
     }
-    if let Some(rule) = first_denying_rule(rules, numbers, route, value) {
+    if let Some(rule) = first_denying_rule(kept, numbers, route, value) {
         return Ok(Verdict::DeniedBy(rule));
     }
-    judge_by_allowing(alloc, rules, numbers, route, value)
+    judge_by_allowing(alloc, kept, numbers, route, value)
 }
 
 /// The number of the first of these rules that speaks of the route and denies the value.
-fn first_denying_rule(
-    rules: &[Rule],
-    numbers: &[usize],
-    route: &Route,
-    value: &Value,
-) -> Option<usize>
-    requires { AreApplicable (route_view route.now) (value_view value.now) (map rule_view rules.now) }
-    ensures { result ≡ first_denying (heard (route_view route.now) (rules_at (map rule_view rules.now) numbers.now)) (value_view value.now) }
+fn first_denying_rule(kept: &Kept, numbers: &[usize], route: &Route, value: &Value) -> Option<usize>
+    requires { AreApplicable (route_view route.now) (value_view value.now) (rules_kept kept.now) }
+    ensures { result ≡ first_denying (heard (route_view route.now) (rules_at (rules_kept kept.now) numbers.now)) (value_view value.now) }
 {
     for number in numbers {
-        if denies_at(rules, *number, route, value) {
+        if denies_at(kept, *number, route, value) {
             return Some(*number);
         }
     }
@@ -63,18 +60,18 @@ fn first_denying_rule(
 /// The verdict of those of these rules that speak of the route and allow something, where none denies the value.
 fn judge_by_allowing(
     alloc: Global,
-    rules: &[Rule],
+    kept: &Kept,
     numbers: &[usize],
     route: &Route,
     value: &Value,
 ) -> Result<Verdict, OutOfMemory>
-    requires { AreApplicable (route_view route.now) (value_view value.now) (map rule_view rules.now) }
-    ensures { IfOk result (λ w. verdict_view w ≡ by_allowing (heard (route_view route.now) (rules_at (map rule_view rules.now) numbers.now)) (value_view value.now)) }
+    requires { AreApplicable (route_view route.now) (value_view value.now) (rules_kept kept.now) }
+    ensures { IfOk result (λ w. verdict_view w ≡ by_allowing (heard (route_view route.now) (rules_at (rules_kept kept.now) numbers.now)) (value_view value.now)) }
 {
     let mut shortfalls = Vec::new(alloc);
     for number in numbers {
-        if let Some(rule) = allowing_at(rules, *number, route) {
-            match first_violation(&rule.ty, value) {
+        if let Some(rule) = allowing_at(kept, *number, route) {
+            match first_violation(rule.ty, value) {
                 None => return Ok(Verdict::Pass),
                 Some(violation) => shortfalls.push((*number, violation))?,
             }
@@ -88,44 +85,44 @@ fn judge_by_allowing(
 }
 
 /// Whether the rule of this number speaks of the route and denies the value.
-fn denies_at(rules: &[Rule], number: usize, route: &Route, value: &Value) -> bool
-    requires { AreApplicable (route_view route.now) (value_view value.now) (map rule_view rules.now) }
-    ensures { result ≡ denies_at (map rule_view rules.now) number (route_view route.now) (value_view value.now) }
+fn denies_at(kept: &Kept, number: usize, route: &Route, value: &Value) -> bool
+    requires { AreApplicable (route_view route.now) (value_view value.now) (rules_kept kept.now) }
+    ensures { result ≡ denies_at (rules_kept kept.now) number (route_view route.now) (value_view value.now) }
 {
-    match rules.get(number) {
-        Some(rule) => rule_speaks_of(route, rule) && rule_denies(rule, value),
+    match kept.rule(number) {
+        Some(rule) => speaks_of(route, rule.said) && rule_denies(&rule, value),
         None => false,
     }
 }
 
 /// The rule of this number, where it speaks of the route and allows something.
-fn allowing_at<'a>(rules: &'a [Rule], number: usize, route: &Route) -> Option<&'a Rule>
-    ensures { option_map (λ rule. rule_view rule.now) result ≡ allowing_at (map rule_view rules.now) number (route_view route.now) }
+fn allowing_at<'a>(kept: &'a Kept, number: usize, route: &Route) -> Option<TypedRule<'a>>
+    ensures { option_map typed_rule_view result ≡ allowing_at (rules_kept kept.now) number (route_view route.now) }
 {
-    match rules.get(number) {
-        Some(rule) if rule_may_allow(route, rule) => Some(rule),
+    match kept.rule(number) {
+        Some(rule) if may_allow(route, rule.said) => Some(rule),
         _ => None,
     }
 }
 
-fn rule_denies(rule: &Rule, value: &Value) -> bool
-    requires sound { IsTrue (is_sound (type_view rule.now.ty)) }
-    requires fits { IsTrue (fits (type_view rule.now.ty) (value_view value.now)) }
-    ensures { result ≡ denies (rule_view rule.now) (value_view value.now) }
+fn rule_denies(rule: &TypedRule, value: &Value) -> bool
+    requires sound { IsTrue (is_sound (type_view rule.now.ty.now)) }
+    requires fits { IsTrue (fits (type_view rule.now.ty.now) (value_view value.now)) }
+    ensures { result ≡ denies (typed_rule_view rule.now) (value_view value.now) }
 {
-    rule.effect == Effect::Deny && member(&rule.ty, value)
+    rule.said.effect == Effect::Deny && member(rule.ty, value)
 }
 
 /// The rule is an allowing one of the route.
-fn rule_may_allow(route: &Route, rule: &Rule) -> bool
-    ensures { result ≡ speaks_of (route_view route.now) (rule_view rule.now) && is_allowing (rule_view rule.now) }
+fn may_allow(route: &Route, rule: &KeptRule) -> bool
+    ensures { result ≡ kept_speaks_of (route_view route.now) rule.now && is_allow rule.now.effect }
 {
-    rule_speaks_of(route, rule) && rule.effect == Effect::Allow
+    speaks_of(route, rule) && rule.effect == Effect::Allow
 }
 
 /// The rule speaks of this sender, receiver and message.
-fn rule_speaks_of(route: &Route, rule: &Rule) -> bool
-    ensures { result ≡ speaks_of (route_view route.now) (rule_view rule.now) }
+pub(crate) fn speaks_of(route: &Route, rule: &KeptRule) -> bool
+    ensures { result ≡ kept_speaks_of (route_view route.now) rule.now }
 {
     is_meant(&rule.from, route.from)
         && is_meant(&rule.to, route.to)

@@ -3,10 +3,12 @@
 //! | question | code | definition |
 //! |---|---|---|
 //! | Which messages and rules has a policy, and what is asked of them? | `policy.rt` | `specs/Policies.antt`, `specs/PolicyView.antt`, `specs/Consistency.antt` |
+//! | What is kept of messages and rules? | `kept.rt`, `tables.rt` | `specs/KeptView.antt`, `specs/inside/Keeping.antt` |
 //! | What does the name of a message lead to? | `index.rt` | `specs/Listings.antt` |
 //! | Who sends what to whom? | `route.rt` | `specs/Policies.antt`, `specs/PolicyView.antt` |
 //! | Which verdicts are there? | `verdict.rt` | `specs/Verdicts.antt` |
-//! | Which verdict stands, and when does a message go? | `policy.rt` (`verdict`), `decision.rt` | `specs/Decisions.antt` |
+//! | When does a message go? | `passing.rt` (`passes`) | `specs/Decisions.antt`, in the code `specs/inside/Marked.antt` |
+//! | Which verdict stands? | `policy.rt` (`verdict`), `decision.rt` | `specs/Decisions.antt` |
 //! | What holds of every message? | `laws.rt` | `specs/Decisions.antt` |
 //! | Which octets are names, and what may a rule give for its sender and receiver? | `route.rt` (`is_name`, `is_party`, `Route::is_plain`) | `specs/Names.antt` |
 //! | What stands in the text of a policy? | `document.rt`, `entry.rt` | `specs/Documents.antt` |
@@ -22,10 +24,12 @@ mod entry;
 mod fault;
 mod files;
 mod index;
+mod kept;
 pub mod laws;
 mod load;
 mod messages;
 mod names;
+mod passing;
 mod policy;
 mod route;
 mod rules;

@@ -1,20 +1,18 @@
 //! The messages and rules of a policy.
 ghost use Rattle.std.specs.Prelude.{◌≡◌, All, IsTrue, IfOk, None, map, option_map};
-ghost use Rattle.std.proofs.Props.{props};
 ghost use Rattle.guard_model.specs.TypeView.{type_view};
 ghost use Rattle.guard_der.specs.Sound.{is_sound};
 ghost use Rattle.guard_policy.specs.inside.Answers.{Meets};
-ghost use Rattle.guard_policy.specs.Consistency.{IsConsistent};
 ghost use Rattle.guard_policy.specs.EntryFaults.{tables_fault, parts_fault};
 ghost use Rattle.guard_policy.specs.Policies.{message_view, rule_view};
-ghost use Rattle.guard_policy.specs.Listings.{IsIndex};
+ghost use Rattle.guard_policy.specs.inside.TypedRules.{messages_kept, rules_kept};
 
 use super::decision::judge;
 use super::fault::PolicyFault;
-use super::index::Index;
+use super::kept::{Kept, KeptMessage, keep_rules};
 use super::names::check_names;
 use super::route::Route;
-use super::tables::check_tables;
+use super::tables::keep_messages;
 use super::verdict::Verdict;
 use guard_der::DecodeFault;
 use guard_model::{OutOfMemory, Ty};
@@ -61,12 +59,8 @@ pub struct Refused {
 /// and its rules make a table: no rule's type has other tags or another base than the declared type of its message.
 #[derive(Drop)]
 pub struct Policy {
-    messages: Vec<Message>,
-    rules: Vec<Rule>,
+    pub(crate) kept: Kept,
     modules: Vec<String>,
-    index: Index,
-    pub ghost consistent: { IsConsistent (map message_view messages.items) (map rule_view rules.items) },
-    pub ghost indexed: { IsIndex (map message_view messages.items) (map rule_view rules.items) index } by { Prim.hlevel props },
 }
 
 impl Policy {
@@ -79,6 +73,8 @@ impl Policy {
     ghost use Rattle.guard_policy.specs.PolicyView.{policy_view};
     ghost use Rattle.guard_policy.specs.Policies.{declared_type, rule_name_of, module_name};
     ghost use Rattle.guard_policy.specs.Listings.{numbers_for};
+    ghost use Rattle.guard_policy.specs.inside.Keeping.{IsFirst};
+    ghost use Rattle.guard_tables.specs.TableView.{declared_of};
 
     /// A policy of these messages and rules, over a schema whose modules have these names.
     ///
@@ -102,13 +98,8 @@ impl Policy {
         ensures refused { IfErr result (λ r. IfSome (named r.fault) (λ f. parts_fault (map message_view messages.items) (map rule_view rules.items) ≡ Some f)) }
         ensures back { IfErr result (λ r. (r.messages ≡ messages) × (r.rules ≡ rules) × (r.modules ≡ modules)) }
     {
-        match indexed(alloc, &messages, &rules) {
-            Ok(index) => Ok(Policy {
-                messages,
-                rules,
-                modules,
-                index,
-            }),
+        match named_and_tabled(alloc, &messages, &rules) {
+            Ok(kept) => Ok(Policy { kept, modules }),
             Err(fault) => Err(Refused {
                 fault,
                 messages,
@@ -137,34 +128,29 @@ impl Policy {
         }) }
         ensures met { Meets (tables_fault (map rule_view rules.items) 1 (map message_view messages.items)) result }
     {
-        let index = tabled(alloc, &messages, &rules)?;
-        Ok(Policy {
-            messages,
-            rules,
-            modules,
-            index,
-        })
+        let kept = tabled(alloc, &messages, &rules)?;
+        Ok(Policy { kept, modules })
     }
 
     /// How many messages the policy declares.
     pub fn messages(&self) -> usize
         ensures { result ≡ length (policy_view self.now).messages }
     {
-        self.messages.len()
+        self.kept.messages.len()
     }
 
     /// How many rules it has.
     pub fn rules(&self) -> usize
         ensures { result ≡ length (policy_view self.now).rules }
     {
-        self.rules.len()
+        self.kept.rules.len()
     }
 
     /// The name of a rule by its number, from 0.
     pub fn rule_name(&self, rule: usize) -> Option<&str>
         ensures { option_map (λ name. name.now) result ≡ rule_name_of (policy_view self.now) rule }
     {
-        Some(self.rules.get(rule)?.name.as_str())
+        Some(self.kept.rules.get(rule)?.name.as_str())
     }
 
     /// The declared type of the message of this name.
@@ -179,9 +165,18 @@ impl Policy {
     fn listed(&self, message: &[u8]) -> Option<(&Ty, &[usize])>
         ensures { option_map {U = AbstractType × List ℕ} (λ p. (type_view p.0.now, p.1.now)) result ≡ option_map {U = AbstractType × List ℕ} (λ t. (t, numbers_for message.now 0 (policy_view self.now).rules)) (declared_type (policy_view self.now) message.now) }
     {
-        let listed = self.index.find(message)?;
-        let found = self.messages.get(listed.place)?;
-        Some((&found.ty, &listed.rules))
+        let (message, numbers) = self.found(message)?;
+        Some((message.table.declared(), numbers))
+    }
+
+    /// The message of this name, and the numbers of the rules that speak of it.
+    pub(crate) fn found(&self, message: &[u8]) -> Option<(&KeptMessage, &[usize])>
+        ensures listed { option_map {U = AbstractType × List ℕ} (λ p. (declared_of p.0.now.table, p.1.now)) result ≡ option_map {U = AbstractType × List ℕ} (λ t. (t, numbers_for message.now 0 (policy_view self.now).rules)) (declared_type (policy_view self.now) message.now) }
+        ensures first { IfSome result (λ p. IsFirst message.now self.now.kept.messages.items p.0.now) }
+    {
+        let listed = self.kept.index.find(message)?;
+        let found = self.kept.messages.get(listed.place)?;
+        Some((found, &listed.rules))
     }
 
     /// The name of the module at this place of the list of texts, from 1.
@@ -219,32 +214,42 @@ impl Policy {
             return Ok(Verdict::UnknownMessage);
         };
         match guard_der::decode(alloc, ty, octets) {
-            Ok(value) => judge(alloc, &self.rules, numbers, route, ty, &value),
+            Ok(value) => judge(alloc, &self.kept, numbers, route, ty, &value),
             Err(DecodeFault::Breach(breach)) => Ok(Verdict::Undecodable(breach)),
             Err(DecodeFault::OutOfMemory) => Err(OutOfMemory),
         }
     }
 }
 
-/// The index of messages and rules, where all their names are names and the types of each message and its rules make a table.
-fn indexed(alloc: Global, messages: &[Message], rules: &[Rule]) -> Result<Index, PolicyFault>
+/// What is kept of messages and rules, where all their names are names and the types of each message and its rules make a table.
+fn named_and_tabled(
+    alloc: Global,
+    messages: &[Message],
+    rules: &[Rule],
+) -> Result<Kept, PolicyFault>
     requires messages_sound { All (λ m. IsTrue (is_sound m.ty)) (map message_view messages.now) }
     requires rules_sound { All (λ r. IsTrue (is_sound r.ty)) (map rule_view rules.now) }
     ensures met { Meets (parts_fault (map message_view messages.now) (map rule_view rules.now)) result }
-    ensures tables { IfOk result (λ index. tables_fault (map rule_view rules.now) 1 (map message_view messages.now) ≡ None) }
-    ensures index { IfOk result (IsIndex (map message_view messages.now) (map rule_view rules.now)) }
+    ensures messages { IfOk result (λ kept. messages_kept kept ≡ map message_view messages.now) }
+    ensures rules { IfOk result (λ kept. rules_kept kept ≡ map rule_view rules.now) }
 {
     check_names(messages, rules)?;
     tabled(alloc, messages, rules)
 }
 
-/// The index of messages and rules, where the types of each message and its rules make a table.
-fn tabled(alloc: Global, messages: &[Message], rules: &[Rule]) -> Result<Index, PolicyFault>
+/// What is kept of messages and rules, where the types of each message and its rules make a table.
+fn tabled(alloc: Global, messages: &[Message], rules: &[Rule]) -> Result<Kept, PolicyFault>
     requires messages_sound { All (λ m. IsTrue (is_sound m.ty)) (map message_view messages.now) }
     requires rules_sound { All (λ r. IsTrue (is_sound r.ty)) (map rule_view rules.now) }
     ensures met { Meets (tables_fault (map rule_view rules.now) 1 (map message_view messages.now)) result }
-    ensures index { IfOk result (IsIndex (map message_view messages.now) (map rule_view rules.now)) }
+    ensures messages { IfOk result (λ kept. messages_kept kept ≡ map message_view messages.now) }
+    ensures rules { IfOk result (λ kept. rules_kept kept ≡ map rule_view rules.now) }
 {
-    check_tables(alloc, messages, rules)?;
-    Ok(Index::of(alloc, messages, rules)?)
+    let kept = keep_messages(alloc, messages, rules)?;
+    let (index, rules) = keep_rules(alloc, messages, rules)?;
+    Ok(Kept {
+        messages: kept,
+        rules,
+        index,
+    })
 }

@@ -1,50 +1,59 @@
-//! Whether the types of each message and its rules make a table.
+//! The tables of messages: of the type of each and those of its rules.
 ghost use Rattle.std.specs.Prelude.{◌≡◌, All, map, option_map, string_bytes, IfOk, IsTrue};
 ghost use Rattle.guard_der.specs.Sound.{is_sound};
 ghost use Rattle.guard_model.specs.TypeView.{type_view};
 ghost use Rattle.guard_tables.specs.Tables.{types_view, first_fault};
 ghost use Rattle.guard_policy.specs.inside.Answers.{Meets};
+ghost use Rattle.guard_policy.specs.inside.Keeping.{tabled_view, tabled};
 ghost use Rattle.guard_policy.specs.EntryFaults.{tables_fault};
 ghost use Rattle.guard_policy.specs.Consistency.{types_for};
 ghost use Rattle.guard_policy.specs.Policies.{message_view, rule_view};
 ghost use Rattle.guard_policy.specs.PolicyFaults.{bad_table};
 
 use super::fault::PolicyFault;
+use super::kept::KeptMessage;
 use super::policy::{Message, Rule};
 use guard_model::Ty;
 use guard_tables::{Table, TableFault};
 use std::alloc::{AllocError, Global};
 
-/// Refuses the first message whose types make no table with those of its rules.
-pub(crate) fn check_tables(
+/// Each message with its table, or the fault of the first whose types make none with those of its rules.
+pub(crate) fn keep_messages(
     alloc: Global,
     messages: &[Message],
     rules: &[Rule],
-) -> Result<(), PolicyFault>
+) -> Result<Vec<KeptMessage>, PolicyFault>
     requires messages_sound { All (λ m. IsTrue (is_sound m.ty)) (map message_view messages.now) }
     requires rules_sound { All (λ r. IsTrue (is_sound r.ty)) (map rule_view rules.now) }
-    ensures { Meets (tables_fault (map rule_view rules.now) 1 (map message_view messages.now)) result }
+    ensures met { Meets (tables_fault (map rule_view rules.now) 1 (map message_view messages.now)) result }
+    ensures kept { IfOk result (λ kept. map tabled_view kept.items ≡ map (tabled (map rule_view rules.now)) (map message_view messages.now)) }
 {
+    let mut kept = Vec::with_capacity(alloc, messages.len())?;
     for (index, message) in messages.iter().enumerate() {
-        check_table(alloc, index + 1, message, rules)?;
+        let message = keep_message(alloc, index + 1, message, rules)?;
+        kept.push(message)?;
     }
-    Ok(())
+    Ok(kept)
 }
 
-/// Refuses the message of this number where its types make no table.
-fn check_table(
+/// The message of this number with its table, or the fault of the table.
+fn keep_message(
     alloc: Global,
     number: usize,
     message: &Message,
     rules: &[Rule],
-) -> Result<(), PolicyFault>
+) -> Result<KeptMessage, PolicyFault>
     requires message_sound { IsTrue (is_sound (type_view message.now.ty)) }
     requires rules_sound { All (λ r. IsTrue (is_sound r.ty)) (map rule_view rules.now) }
-    ensures { Meets (option_map (bad_table number) (first_fault (type_view message.now.ty) (types_for (string_bytes message.now.name) (map rule_view rules.now)))) result }
+    ensures met { Meets (option_map (bad_table number) (first_fault (type_view message.now.ty) (types_for (string_bytes message.now.name) (map rule_view rules.now)))) result }
+    ensures kept { IfOk result (λ kept. tabled_view kept ≡ tabled (map rule_view rules.now) (message_view message.now)) }
 {
     let types = types_for(alloc, &message.name, rules)?;
     match Table::compile(alloc, &message.ty, &types) {
-        Ok(_) => Ok(()),
+        Ok(table) => {
+            let name = String::from_str(alloc, &message.name)?;
+            Ok(KeptMessage { name, table })
+        }
         Err(TableFault::OutOfMemory) => Err(PolicyFault::OutOfMemory),
         Err(fault) => Err(PolicyFault::Table(number, fault)),
     }

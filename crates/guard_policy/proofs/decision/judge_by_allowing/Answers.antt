@@ -2,7 +2,7 @@ use Rattle.std.proofs.Common.{◌+◌, sym, map, drop, get_or}
 use Rattle.std.proofs.lemmas.List.{map_push}
 use Rattle.guard_model.specs.ValueView.{value_view}
 use Rattle.guard_eval.specs.Violations.{violation_view, shortfall_view}
-use Rattle.guard_policy.specs.Policies.{rule_view}
+use Rattle.guard_policy.specs.inside.TypedRules.{rules_kept, typed_rule_view}
 use Rattle.guard_policy.specs.PolicyView.{route_view}
 use Rattle.guard_policy.specs.Listings.{rules_at, heard}
 use Rattle.guard_policy.proofs.Applicable.{applicable_number}
@@ -13,34 +13,34 @@ use Rattle.guard_policy.proofs.decision.judge_by_allowing.Goals.{in-Some+in-Some
 
 pub first_violation-requires-clause-sound : goal.first_violation-requires-clause-sound
 first_violation-requires-clause-sound c =
-    let rules = map rule_view c.args.rules.now in
+    let rules = rules_kept c.args.kept.now in
     let n = get_or c.args.numbers.now c.loop-number.number-index 0 in
-    let a = is_allowing_there rules n (route_view c.args.route.now) (rule_view c.in-Some.rule.now) (sym c.in-Some.ensures) in
-    (applicable_number (route_view c.args.route.now) (value_view c.args.value.now) rules n (rule_view c.in-Some.rule.now) a.stands c.requires).0
+    let a = is_allowing_there rules n (route_view c.args.route.now) (typed_rule_view c.in-Some.rule) (sym c.in-Some.ensures) in
+    (applicable_number (route_view c.args.route.now) (value_view c.args.value.now) rules n (typed_rule_view c.in-Some.rule) a.stands c.requires).0
 
 pub first_violation-requires-clause-fits : goal.first_violation-requires-clause-fits
 first_violation-requires-clause-fits c =
-    let rules = map rule_view c.args.rules.now in
+    let rules = rules_kept c.args.kept.now in
     let n = get_or c.args.numbers.now c.loop-number.number-index 0 in
-    let a = is_allowing_there rules n (route_view c.args.route.now) (rule_view c.in-Some.rule.now) (sym c.in-Some.ensures) in
-    (applicable_number (route_view c.args.route.now) (value_view c.args.value.now) rules n (rule_view c.in-Some.rule.now) a.stands c.requires).1 a.speaks
+    let a = is_allowing_there rules n (route_view c.args.route.now) (typed_rule_view c.in-Some.rule) (sym c.in-Some.ensures) in
+    (applicable_number (route_view c.args.route.now) (value_view c.args.value.now) rules n (typed_rule_view c.in-Some.rule) a.stands c.requires).1 a.speaks
 
 pub loop-number-preserved : goal.loop-number-preserved
 loop-number-preserved c =
     let route = route_view c.args.route.now in
     let v = value_view c.args.value.now in
-    let rules = map rule_view c.args.rules.now in
+    let rules = rules_kept c.args.kept.now in
     let i = c.loop-number.number-index in
     let n = get_or c.args.numbers.now i 0 in
     let all = heard route (rules_at rules c.args.numbers.now) in
     let begins = front_is c.args.numbers.now i 0 c.loop-number-test.true in
     elim c.match-allowing_at.branch [
       | in-Some+in-Some-first_violation+in_ok-push-in-Some-first_violation w ↦
-          let a = is_allowing_there rules n route (rule_view w.in-Some.rule.now) (sym w.in-Some.ensures) in
+          let a = is_allowing_there rules n route (typed_rule_view w.in-Some.rule) (sym w.in-Some.ensures) in
           rw (w.shortfalls-is, w.in_ok-push-in-Some-first_violation.ensures.items, map_push shortfall_view c.loop-number.shortfalls.items)
           (goes_on_with all rules route v (map shortfall_view c.loop-number.shortfalls.items) (drop i c.args.numbers.now) (drop (i + 1) c.args.numbers.now) n
-          (rule_view w.in-Some.rule.now) (violation_view w.in-Some-first_violation.violation) begins a
-          ((applicable_number route v rules n (rule_view w.in-Some.rule.now) a.stands c.requires).1 a.speaks)
+          (typed_rule_view w.in-Some.rule) (violation_view w.in-Some-first_violation.violation) begins a
+          ((applicable_number route v rules n (typed_rule_view w.in-Some.rule) a.stands c.requires).1 a.speaks)
           (sym w.in-Some-first_violation.ensures.first) c.loop-number.invariant)
       | in_default w ↦
           rw w.shortfalls-is

@@ -1,6 +1,6 @@
 use Rattle.std.proofs.Common.{map, drop}
 use Rattle.guard_model.specs.ValueView.{value_view}
-use Rattle.guard_policy.specs.Policies.{rule_view}
+use Rattle.guard_policy.specs.inside.TypedRules.{rules_kept}
 use Rattle.guard_policy.specs.PolicyView.{route_view}
 use Rattle.guard_policy.specs.Listings.{rules_at, heard}
 use Rattle.guard_policy.proofs.Shortfalls.{Gathered}
@@ -9,5 +9,5 @@ use Rattle.guard_policy.proofs.decision.judge_by_allowing.Given as goal
 
 abbrev pub invariant-loop-number : goal.invariant-loop-number
 invariant-loop-number l =
-    Gathered (heard (route_view l.route) (rules_at (map rule_view l.rules) l.numbers)) (heard (route_view l.route) (rules_at (map rule_view l.rules) (drop l.number-index l.numbers)))
+    Gathered (heard (route_view l.route) (rules_at (rules_kept l.kept) l.numbers)) (heard (route_view l.route) (rules_at (rules_kept l.kept) (drop l.number-index l.numbers)))
     (value_view l.value) (map shortfall_view l.shortfalls.items)

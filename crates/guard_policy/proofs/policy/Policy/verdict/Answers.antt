@@ -16,13 +16,13 @@ pub decode-requires : goal.decode-requires
 decode-requires c =
     let p = policy_view c.args.self.now in
     declared_sound p.messages p.rules c.args.route.now.message.now (type_view c.in-Some.ty.now)
-    c.args.self.now.consistent (declared_pair p.rules c.args.route.now.message.now (declared_type p c.args.route.now.message.now) (type_view c.in-Some.ty.now) c.in-Some.numbers.now c.in-Some.ensures).0
+    c.args.self.now.kept.consistent (declared_pair p.rules c.args.route.now.message.now (declared_type p c.args.route.now.message.now) (type_view c.in-Some.ty.now) c.in-Some.numbers.now c.in-Some.ensures).0
 
 pub judge-requires-clause-type_sound : goal.judge-requires-clause-type_sound
 judge-requires-clause-type_sound c =
     let p = policy_view c.args.self.now in
     declared_sound p.messages p.rules c.args.route.now.message.now (type_view c.in-Some.ty.now)
-    c.args.self.now.consistent (declared_pair p.rules c.args.route.now.message.now (declared_type p c.args.route.now.message.now) (type_view c.in-Some.ty.now) c.in-Some.numbers.now c.in-Some.ensures).0
+    c.args.self.now.kept.consistent (declared_pair p.rules c.args.route.now.message.now (declared_type p c.args.route.now.message.now) (type_view c.in-Some.ty.now) c.in-Some.numbers.now c.in-Some.ensures).0
 
 pub returns-in-Ok-clause-only : goal.returns-in-Ok-clause-only
 returns-in-Ok-clause-only c = λ w reason.
@@ -34,7 +34,7 @@ returns-in-Ok-clause-only c = λ w reason.
     if_ok_map (λ x. verdict_view x ≡ judged t (heard route (rules_at p.rules c.in-Some.numbers.now)) v) (λ x. verdict_view x ≡ w) c.judge.result
     (λ x e. e ∙ ap (λ (rs : List NumberedRule). judged t rs v) (heard_listed route p.rules c.in-Some.numbers.now declared.1)
     ∙ reason_of_value p route c.args.octets.now t v w declared.0 c.in-Ok.ensures.only c.in-Ok.ensures.breach_only reason)
-    (rw c.deref.ensures.value at c.judge.ensures)
+    c.judge.ensures
 
 pub returns-in-Ok-clause-passes : goal.returns-in-Ok-clause-passes
 returns-in-Ok-clause-passes c =
@@ -46,7 +46,7 @@ returns-in-Ok-clause-passes c =
     if_ok_map (λ x. verdict_view x ≡ judged t (heard route (rules_at p.rules c.in-Some.numbers.now)) v) (λ x. (verdict_view x ≡ pass) ↔ Goes p route c.args.octets.now) c.judge.result
     (λ x e. passes_exactly p route c.args.octets.now t v (verdict_view x) declared.0 c.in-Ok.ensures.decoded.0 c.in-Ok.ensures.decoded.1 c.in-Ok.ensures.only c.in-Ok.ensures.breach_only
     (e ∙ ap (λ (rs : List NumberedRule). judged t rs v) (heard_listed route p.rules c.in-Some.numbers.now declared.1)))
-    (rw c.deref.ensures.value at c.judge.ensures)
+    c.judge.ensures
 
 pub returns-in-Err-Breach-clause-only : goal.returns-in-Err-Breach-clause-only
 returns-in-Err-Breach-clause-only c = λ w reason.
@@ -58,9 +58,8 @@ returns-in-Err-Breach-clause-only c = λ w reason.
 pub judge-requires-clause-rules_applicable : goal.judge-requires-clause-rules_applicable
 judge-requires-clause-rules_applicable c =
     let p = policy_view c.args.self.now in
-    rw c.deref.ensures.value
-    (applicable_from_consistent p.messages p.rules (route_view c.args.route.now) (type_view c.in-Some.ty.now) (value_view c.in-Ok.value) c.args.self.now.consistent
-    (declared_pair p.rules c.args.route.now.message.now (declared_type p c.args.route.now.message.now) (type_view c.in-Some.ty.now) c.in-Some.numbers.now c.in-Some.ensures).0 c.in-Ok.ensures.decoded.0)
+    applicable_from_consistent p.messages p.rules (route_view c.args.route.now) (type_view c.in-Some.ty.now) (value_view c.in-Ok.value) c.args.self.now.kept.consistent
+    (declared_pair p.rules c.args.route.now.message.now (declared_type p c.args.route.now.message.now) (type_view c.in-Some.ty.now) c.in-Some.numbers.now c.in-Some.ensures).0 c.in-Ok.ensures.decoded.0
 
 pub returns-in-Ok-clause-reason : goal.returns-in-Ok-clause-reason
 returns-in-Ok-clause-reason c =
@@ -80,7 +79,7 @@ returns-in-Ok-clause-reason c =
         e ∙ ap (λ (rs : List NumberedRule). judged t rs v) (heard_listed route p.rules c.in-Some.numbers.now declared.1),
       ),
     ))
-    (rw c.deref.ensures.value at c.judge.ensures)
+    c.judge.ensures
 
 pub returns-in-Err-Breach-clause-reason : goal.returns-in-Err-Breach-clause-reason
 returns-in-Err-Breach-clause-reason c =

@@ -1,7 +1,7 @@
 use Rattle.std.proofs.Common.{map}
 use Rattle.guard_policy.specs.Policies.{rule_view}
 use Rattle.guard_policy.proofs.Consistent.{types_sound}
-use Rattle.guard_policy.proofs.tables.check_table.Goals as goal
+use Rattle.guard_policy.proofs.tables.keep_message.Goals as goal
 
 pub compile-requires-clause-rules_sound : goal.compile-requires-clause-rules_sound
 compile-requires-clause-rules_sound c =

@@ -1,0 +1,158 @@
+-- What is kept of messages and rules stands for them.
+use Rattle.std.proofs.Common.{◌≡◌, ℕ, zero, suc, ◌+◌, List, [], ◌∷◌, take, drop, map, slice_get, Bool, true, false, cond, Option, Some, None, option_map, option_and_then, unwrap_or, string_bytes, count_by, All, refl, ap, sym, ◌∙◌, subst, arith}
+use Rattle.std.specs.Prelude.{bytes_eq, IsTrue}
+use Rattle.std.specs.Borrow.{Bor}
+use Rattle.std.proofs.lemmas.List.Elements.{All-get_or}
+use Rattle.std.proofs.lemmas.List.Sums.{sum_by-cons}
+use Rattle.std.proofs.lemmas.Option.{same_Some, slice_get-map, slice_get_within, get_or_from_slice_get}
+use Rattle.std.proofs.lemmas.Slice.Eq.{bytes_eq-Decides}
+use Rattle.guard_model.specs.AbstractType.{AbstractType}
+use Rattle.guard_der.specs.Sound.{is_sound}
+use Rattle.guard_tables.specs.TableView.{rules_of}
+use Rattle.guard_policy.specs.declared.index.Listed.{Listed}
+use Rattle.guard_policy.specs.declared.kept.KeptMessage.{KeptMessage}
+use Rattle.guard_policy.specs.declared.kept.KeptRule.{KeptRule}
+use Rattle.guard_policy.specs.declared.kept.RuleType.{RuleType}
+use Rattle.guard_policy.specs.declared.kept.RuleType.TheVariants.{InTable, Own}
+use Rattle.guard_policy.specs.Consistency.{types_for}
+use Rattle.guard_policy.specs.KeptView.{kept_message_view, kept_rule_view, found_type, table_place, no_type}
+use Rattle.guard_policy.specs.Listings.{AbstractListed, place_among, numbers_for, listing, listed_view}
+use Rattle.guard_policy.specs.Policies.{AbstractMessage, AbstractRule}
+use Rattle.guard_policy.specs.inside.Keeping.{Tabled, tabled_view, tabled, IsTypeOf, IsSaid}
+use Rattle.guard_policy.proofs.Listed.{drop_get, drop_rest}
+
+-- ---- messages
+
+first_type : List AbstractType → AbstractType
+first_type [] = no_type
+first_type (t ∷ ts) = t
+
+as_message : Tabled → AbstractMessage
+as_message t = record { name = t.name; ty = first_type t.types }
+
+messages_in : (ms : List KeptMessage) → map as_message (map tabled_view ms) ≡ map kept_message_view ms
+unfolding as_message first_type
+messages_in [] = refl
+messages_in (m ∷ ms) = ap (λ (others : List AbstractMessage). kept_message_view m ∷ others) (messages_in ms)
+
+messages_of : (rules : List AbstractRule) (messages : List AbstractMessage) → map as_message (map (tabled rules) messages) ≡ messages
+unfolding as_message first_type
+messages_of rules [] = refl
+messages_of rules (m ∷ ms) = ap (λ (others : List AbstractMessage). m ∷ others) (messages_of rules ms)
+
+-- with their tables they are the messages
+pub same_messages : (ms : List KeptMessage) (rules : List AbstractRule) (messages : List AbstractMessage)
+    → map tabled_view ms ≡ map (tabled rules) messages → map kept_message_view ms ≡ messages
+same_messages ms rules messages e = sym (messages_in ms) ∙ ap (map as_message) e ∙ messages_of rules messages
+
+-- ---- the type of a rule in its table
+
+-- the first message of a name has it
+first_named : (all rest : List AbstractMessage) (i place : ℕ) (name : List ℕ) → drop i all ≡ rest → place_among name i rest ≡ Some place
+    → (m : AbstractMessage) × (slice_get all place ≡ Some m) × (m.name ≡ name)
+first_named all [] i place name is e = absurd cc
+first_named all (m ∷ ms) i place name is e =
+    let f = λ (b : Bool). bytes_eq m.name name ≡ b → cond b (Some i) (place_among name (i + 1) ms) ≡ Some place
+    → (x : AbstractMessage) × (slice_get all place ≡ Some x) × (x.name ≡ name) in
+    (elim (bytes_eq m.name name) as f [
+      | true ↦ λ same here. (m, ap (slice_get all) (sym (same_Some _ _ here)) ∙ drop_get all i m ms is, (bytes_eq-Decides m.name name).0 same)
+      | false ↦ λ other there. first_named all ms (i + 1) place name (drop_rest all i m ms is) there
+    ]) refl e
+
+-- the type of the rule after these is at the place that counts those of its message among them
+type_there : (all : List AbstractRule) (n : ℕ) (r : AbstractRule) (name : List ℕ) → slice_get all n ≡ Some r → bytes_eq r.message name ≡ true
+    → slice_get (types_for name all) (count_by (λ x. bytes_eq x.message name) (take n all)) ≡ Some r.ty
+type_there [] n r name there named = absurd cc
+type_there (x ∷ xs) zero r name there named =
+    let same : x ≡ r = same_Some _ _ there in
+    ap (λ (b : Bool). slice_get (cond b (x.ty ∷ types_for name xs) (types_for name xs)) 0) (ap (λ (y : AbstractRule). bytes_eq y.message name) same ∙ named)
+    ∙ ap (λ (y : AbstractRule). Some y.ty) same
+type_there (x ∷ xs) (suc n) r name there named =
+    let before = count_by (λ y. bytes_eq y.message name) (take n xs) in
+    ap (slice_get (types_for name (x ∷ xs))) (sum_by-cons (λ (y : AbstractRule). cond (bytes_eq y.message name) 1 0) x (take n xs))
+    ∙ (elim (bytes_eq x.message name) as (λ (b : Bool). slice_get (cond b (x.ty ∷ types_for name xs) (types_for name xs)) (cond b 1 0 + before) ≡ Some r.ty) [
+      | true ↦ let up : 1 + before ≡ suc before = omega arith in ap (slice_get (x.ty ∷ types_for name xs)) up ∙ type_there xs n r name there named
+      | false ↦ let same : 0 + before ≡ before = omega arith in ap (slice_get (types_for name xs)) same ∙ type_there xs n r name there named
+    ])
+
+tabled_there : (ms : List KeptMessage) (place : ℕ) (t : Tabled) → slice_get (map tabled_view ms) place ≡ Some t
+    → (m : KeptMessage) × (slice_get ms place ≡ Some m) × (tabled_view m ≡ t)
+tabled_there [] place t e = absurd cc
+tabled_there (m ∷ ms) zero t e = (m, refl, same_Some _ _ e)
+tabled_there (m ∷ ms) (suc place) t e = tabled_there ms place t e
+
+rest_of : List AbstractType → List AbstractType
+rest_of [] = []
+rest_of (t ∷ ts) = ts
+
+-- the type of a rule is found where it is kept
+type_found : (messages : List AbstractMessage) (all : List AbstractRule) (n : ℕ) (r : AbstractRule) (ty : RuleType) (ms : List KeptMessage)
+    → slice_get all n ≡ Some r → map tabled_view ms ≡ map (tabled all) messages
+    → (place : Option ℕ) → place_among r.message 0 messages ≡ place → IsTypeOf place (take n all) r ty
+    → (found_type ms ty ≡ Some r.ty) × (table_place ty ≡ place)
+unfolding rest_of
+type_found messages all n r (Own t) ms there tables None none is = (ap Some is, refl)
+type_found messages all n r (InTable message rule) ms there tables None none is = absurd is
+type_found messages all n r ty ms there tables (Some place) first is =
+    let message = first_named messages messages 0 place r.message refl first in
+    let kept = tabled_there ms place (tabled all message.0) (ap (λ (ts : List Tabled). slice_get ts place) tables ∙ slice_get-map (tabled all) messages place ∙ ap (option_map (tabled all)) message.1) in
+    let types : rules_of kept.0.table ≡ types_for r.message all = ap (λ (t : Tabled). rest_of t.types) kept.2 ∙ ap (λ (name : List ℕ). types_for name all) message.2 in
+    let count = count_by (λ x. bytes_eq x.message r.message) (take n all) in (
+      ap (found_type ms) is ∙ ap (λ (o : Option KeptMessage). option_and_then (λ (m : KeptMessage). slice_get (rules_of m.table) count) o) kept.1
+          ∙ ap (λ (ts : List AbstractType). slice_get ts count) types ∙ type_there all n r r.message there ((bytes_eq-Decides r.message r.message).1 refl),
+      ap table_place is,
+    )
+
+as_said : (ms : List KeptMessage) (kept : KeptRule) (r : AbstractRule) → IsSaid r kept → found_type ms kept.ty ≡ Some r.ty → kept_rule_view ms kept ≡ r
+as_said ms kept r said found =
+    let ty : unwrap_or (found_type ms kept.ty) no_type ≡ r.ty = ap (λ (o : Option AbstractType). unwrap_or o no_type) found in
+    let name = said.name in let effect = said.effect in let from = said.from in let to = said.to in let message = said.message in
+    rw (name, effect, from, to, message, ty) refl
+
+place_is : (r : AbstractRule) (ty : RuleType) (before : List AbstractRule) (place : Option ℕ) → IsTypeOf place before r ty → table_place ty ≡ place
+place_is r ty before (Some p) is = ap table_place is
+place_is r (Own t) before None is = refl
+place_is r (InTable message rule) before None is = absurd is
+
+-- what is kept of a rule that comes after these stands for it
+pub kept_one : (messages : List AbstractMessage) (all : List AbstractRule) (n : ℕ) (r : AbstractRule) (kept : KeptRule) (place : Option ℕ)
+    → slice_get all n ≡ Some r → place_among r.message 0 messages ≡ place → IsTypeOf place (take n all) r kept.ty → IsSaid r kept
+    → ((ms : List KeptMessage) → map tabled_view ms ≡ map (tabled all) messages → kept_rule_view ms kept ≡ r)
+    × (table_place kept.ty ≡ place_among (string_bytes kept.message) 0 messages)
+kept_one messages all n r kept place there first is said = (
+  λ ms tables. as_said ms kept r said (type_found messages all n r kept.ty ms there tables place first is).0,
+  place_is r kept.ty (take n all) place is ∙ sym first ∙ ap (λ (name : List ℕ). place_among name 0 messages) (sym said.message),
+)
+
+-- ---- the place of a message, as it is found by its name
+
+place_listed : (name : List ℕ) (rules : List AbstractRule) (o : Option ℕ)
+    → option_map (λ (l : AbstractListed). l.place) (option_map (λ place. record { place = place; numbers = numbers_for name 0 rules }) o) ≡ o
+place_listed name rules None = refl
+place_listed name rules (Some p) = refl
+
+place_viewed : (o : Option (Bor Listed)) → option_map (λ l. l.now.place) o ≡ option_map (λ (l : AbstractListed). l.place) (option_map (λ l. listed_view l.now) o)
+place_viewed None = refl
+place_viewed (Some l) = refl
+
+pub place_found : (messages : List AbstractMessage) (rules : List AbstractRule) (name : List ℕ) (found : Option (Bor Listed))
+    → option_map (λ l. listed_view l.now) found ≡ listing messages rules name → place_among name 0 messages ≡ option_map (λ l. l.now.place) found
+place_found messages rules name found e =
+    sym (place_viewed found ∙ ap (option_map (λ (l : AbstractListed). l.place)) e ∙ place_listed name rules (place_among name 0 messages))
+
+-- ---- a rule with its type
+
+pub type_missing : (ms : List KeptMessage) (rules : List AbstractRule) (n : ℕ) (r : KeptRule) → Some (kept_rule_view ms r) ≡ slice_get rules n
+    → All (λ x. IsTrue (is_sound x.ty)) rules → None ≡ found_type ms r.ty → ⊥
+type_missing ms rules n r there sound none =
+    let at = sym there in
+    let here : IsTrue (is_sound (kept_rule_view ms r).ty) =
+    subst (λ (x : AbstractRule). IsTrue (is_sound x.ty)) (get_or_from_slice_get rules n (kept_rule_view ms r) (kept_rule_view ms r) at)
+    (All-get_or (λ (x : AbstractRule). IsTrue (is_sound x.ty)) rules n (kept_rule_view ms r) (slice_get_within rules n (kept_rule_view ms r) at) sound) in
+    let e : false ≡ true = subst (λ (o : Option AbstractType). IsTrue (is_sound (unwrap_or o no_type))) (sym none) here in
+    absurd cc
+
+pub typed_is : (ms : List KeptMessage) (r : KeptRule) (t : AbstractType) → Some t ≡ found_type ms r.ty
+    → ◌≡◌ {A = AbstractRule} (record { name = string_bytes r.name; effect = r.effect; from = string_bytes r.from; to = string_bytes r.to; message = string_bytes r.message; ty = t }) (kept_rule_view ms r)
+typed_is ms r t e =
+    ap (λ (o : Option AbstractType). record { name = string_bytes r.name; effect = r.effect; from = string_bytes r.from; to = string_bytes r.to; message = string_bytes r.message; ty = unwrap_or o no_type }) e

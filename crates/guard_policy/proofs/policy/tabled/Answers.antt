@@ -1,0 +1,20 @@
+use Rattle.std.proofs.Common.{map}
+use Rattle.guard_policy.specs.Policies.{message_view, rule_view}
+use Rattle.guard_policy.proofs.Consistent.{consistent}
+use Rattle.guard_policy.proofs.Keeping.{same_messages}
+use Rattle.guard_policy.proofs.policy.tabled.Goals as goal
+
+pub invariant_of-result : goal.invariant_of-result
+invariant_of-result c =
+    let messages = map message_view c.args.messages.now in
+    let rules = map rule_view c.args.rules.now in
+    let e = same_messages c.in_ok-kept.kept.items rules messages c.in_ok-kept.ensures.kept in
+    let f = c.in_ok-index.ensures.rules c.in_ok-kept.kept.items c.in_ok-kept.ensures.kept in
+    record {
+      consistent = rw (e, f) (consistent messages rules c.requires.messages_sound c.requires.rules_sound c.in_ok-kept.ensures.met);
+      indexed = rw (e, f) c.in_ok-index.ensures.index;
+      placed = rw e c.in_ok-index.ensures.placed;
+    }
+
+pub returns-clause-messages : goal.returns-clause-messages
+returns-clause-messages c = same_messages c.in_ok-kept.kept.items (map rule_view c.args.rules.now) (map message_view c.args.messages.now) c.in_ok-kept.ensures.kept

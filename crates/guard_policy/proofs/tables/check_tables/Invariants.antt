@@ -1,7 +1,0 @@
-use Rattle.std.proofs.Common.{◌≡◌, ◌+◌, map, drop}
-use Rattle.guard_policy.specs.EntryFaults.{tables_fault}
-use Rattle.guard_policy.specs.Policies.{message_view, rule_view}
-use Rattle.guard_policy.proofs.tables.check_tables.Given as goal
-
-abbrev pub invariant-loop-index : goal.invariant-loop-index
-invariant-loop-index l = tables_fault (map rule_view l.rules) (l.index + 1) (map message_view (drop l.index l.messages)) ≡ tables_fault (map rule_view l.rules) 1 (map message_view l.messages)

@@ -1,0 +1,49 @@
+-- How what a policy keeps comes of messages and rules.
+use Rattle.std.specs.Prelude.{◌≡◌, ℕ, List, ◌∷◌, All, map, string_bytes, bytes_eq, count_by, slice_get, Option, Some, None}
+use Rattle.guard_model.specs.AbstractType.{AbstractType}
+use Rattle.guard_tables.specs.TableView.{table_types}
+use Rattle.guard_policy.specs.declared.kept.KeptMessage.{KeptMessage}
+use Rattle.guard_policy.specs.declared.kept.KeptRule.{KeptRule}
+use Rattle.guard_model.specs.TypeView.{type_view}
+use Rattle.guard_policy.specs.declared.kept.RuleType.{RuleType}
+use Rattle.guard_policy.specs.declared.kept.RuleType.TheVariants.{InTable, Own}
+use Rattle.guard_policy.specs.Consistency.{types_for}
+use Rattle.guard_policy.specs.KeptView.{kept_message_view, table_place}
+use Rattle.guard_policy.specs.Listings.{place_among}
+use Rattle.guard_policy.specs.Policies.{AbstractMessage, AbstractRule}
+
+-- a name, and the types of a table
+pub record Tabled : Type 0 where
+  pub name : List ℕ
+  pub types : List AbstractType
+
+abbrev pub tabled_view : KeptMessage → Tabled
+tabled_view m = record { name = string_bytes m.name; types = table_types m.table }
+
+-- the message with the table of its type and those of its rules
+abbrev pub tabled : List AbstractRule → AbstractMessage → Tabled
+tabled rules m = record { name = m.name; types = m.ty ∷ types_for m.name rules }
+
+-- The type of each rule is in the table of the first message of its name, where there is one.
+abbrev pub ArePlaced : List AbstractMessage → List KeptRule → Type 0
+ArePlaced messages rules = All (λ r. table_place r.ty ≡ place_among (string_bytes r.message) 0 messages) rules
+
+-- What is kept of the type of a rule after these, where its message is at this place or there is none.
+abbrev pub IsTypeOf : Option ℕ → List AbstractRule → AbstractRule → RuleType → Type 0
+IsTypeOf (Some message) before r kept = kept ≡ InTable message (count_by (λ x. bytes_eq x.message r.message) before)
+IsTypeOf None before r (Own ty) = type_view ty ≡ r.ty
+IsTypeOf None before r (InTable message rule) = ⊥
+
+-- the rule but for its type
+pub record IsSaid (r : AbstractRule) (kept : KeptRule) : Type 0 where
+  pub name : string_bytes kept.name ≡ r.name
+  pub effect : kept.effect ≡ r.effect
+  pub from : string_bytes kept.from ≡ r.from
+  pub to : string_bytes kept.to ≡ r.to
+  pub message : string_bytes kept.message ≡ r.message
+
+-- the first message of this name
+pub record IsFirst (name : List ℕ) (messages : List KeptMessage) (m : KeptMessage) : Type 0 where
+  pub place : ℕ
+  pub first : place_among name 0 (map kept_message_view messages) ≡ Some place
+  pub there : slice_get messages place ≡ Some m

@@ -6,7 +6,7 @@ use Rattle.guard_frames.specs.Prefix.{IsProperPrefix}
 use Rattle.guard_frames.proofs.Appending.{Prefix_first, Prefix_second}
 use Rattle.derguard_program.specs.Records.{record_octets}
 use Rattle.derguard_program.specs.Records.Record.{piece}
-use Rattle.derguard_program.specs.inside.Passing.{AreFull, InRecords, with_first, lines_of, marked, marked_line}
+use Rattle.derguard_program.specs.Passing.{AreFull, InRecords, with_first, lines_of, marked, marked_line}
 
 -- ---- lines
 

@@ -1,9 +1,9 @@
 -- Files that are read one after another.
-use Rattle.std.proofs.Common.{◌≡◌, ℕ, ◌+◌, ◌<◌, ◌≤◌, List, [], ◌∷◌, ◌++◌, map, length, drop, get_or, refl, sym, subst, inl, inr, append_assoc, String, string_bytes}
+use Rattle.std.proofs.Common.{◌≡◌, ◌∙◌, ap, ℕ, zero, suc, ◌+◌, ◌<◌, ◌≤◌, List, [], ◌∷◌, ◌++◌, map, length, drop, get_or, refl, sym, subst, inl, inr, append_assoc, String, string_bytes}
 use Rattle.std.proofs.lemmas.List.{append-nil, drop_all}
 use Rattle.std.specs.declared.alloc.Global.{Global}
 use Rattle.guard_policy.proofs.EntriesRead.{left_is}
-use Rattle.derguard_program.specs.Files.{Told, after_read, HasText, HasNone}
+use Rattle.derguard_program.specs.Files.{Told, after_read, after_reads, IsLater, HasText, HasNone}
 use Rattle.derguard_program.specs.Reading.{HaveTexts, FirstMissing}
 
 -- With these texts, of the names in front of what is left: what holds of the names that are left, by the reads to come, holds of all by the first ones.
@@ -47,3 +47,20 @@ pub read_whole : (told now : Told) (beside : List ℕ) (listed : List (String Gl
 read_whole told now beside listed i done past so_far =
     read_all told now beside (map string_bytes listed) done
     (subst (λ (left : List (String Global)). ReadSoFar told now beside (map string_bytes listed) (map string_bytes left) done) (drop_all i listed past) so_far)
+
+-- ---- how many reads later
+
+after_each : (n : ℕ) (told : Told) → after_read (after_reads n told) ≡ after_reads n (after_read told)
+after_each zero told = refl
+after_each (suc n) told = after_each n (after_read told)
+
+pub now_later : (told : Told) → IsLater told told
+now_later told = (0, refl)
+
+-- one read more
+pub later_read : (told now next : Told) → IsLater told now → next ≡ after_read now → IsLater told next
+later_read told now next h e = (suc h.0, e ∙ ap after_read h.1 ∙ after_each h.0 told)
+
+-- one read before
+pub read_later : (told now next : Told) → now ≡ after_read told → IsLater now next → IsLater told next
+read_later told now next e h = (suc h.0, h.1 ∙ ap (after_reads h.0) e)

@@ -1,10 +1,11 @@
 -- What is read of a record, part by part.
-use Rattle.std.proofs.Common.{◌≡◌, ◌∙◌, ◌+◌, ◌≤◌, ℕ, List, ◌++◌, ap, sym, subst, length, take, drop}
+use Rattle.std.proofs.Common.{◌≡◌, ◌∙◌, ◌+◌, ◌-◌, ◌<◌, ◌≤◌, arith, ℕ, List, ◌++◌, ap, sym, subst, length, take, drop}
 use Rattle.std.specs.Prelude.{Option}
 use Rattle.std.specs.Io.KnownBytes.{Consumes}
 use Rattle.std.proofs.lemmas.List.{length-take-le}
 use Rattle.std.proofs.Math.Seq.{take-add}
 use Rattle.guard_frames.proofs.Reading.{Consumes_trans}
+use Rattle.guard_frames.specs.Totals.{WentUpBy}
 use Rattle.derguard_program.specs.Records.{header, record_octets}
 use Rattle.derguard_program.specs.Records.Record.{piece}
 
@@ -22,3 +23,13 @@ piece_read a b c link size n first room is whole within p q =
     subst (λ (s : List ℕ). Consumes a b s) (is ∙ ap (header 0 link) (sym (length-take-le size room within))) p in
     let q₁ : Consumes b c (take size room) = subst (λ (k : ℕ). Consumes b c (take k room)) whole q in
     Consumes_trans a b c (header 0 link (length (take size room))) (take size room) p₁ q₁
+
+-- ---- how often a source is asked
+
+-- once more
+pub asked_once : (a b c reads left : ℕ) → 0 < left → left ≤ reads → WentUpBy a (reads - left) b → WentUpBy b 1 c → WentUpBy a (reads - (left - 1)) c
+asked_once a b c reads left some within p q = omega (arith, p, q, some, within)
+
+-- and as often again
+pub asked_more : (a b c reads left last : ℕ) → left ≤ reads → last ≤ left → WentUpBy a (reads - left) b → WentUpBy b (left - last) c → WentUpBy a (reads - last) c
+asked_more a b c reads left last within fewer p q = omega (arith, p, q, within, fewer)

@@ -1,5 +1,5 @@
 -- What reads of files find at a path.
-use Rattle.std.specs.Prelude.{◌≡◌, ℕ, suc, List, Option, Some, None}
+use Rattle.std.specs.Prelude.{◌≡◌, ℕ, zero, suc, List, Option, Some, None}
 
 -- What each of the reads to come finds at a path, a text or nothing, where the files tell it; the next read is number 0. A file may change from one read to
 -- another. Those of a disk tell nothing.
@@ -9,6 +9,15 @@ Told = ℕ → List ℕ → Option (Option (List ℕ))
 -- what the reads after the next one find
 abbrev pub after_read : Told → Told
 after_read told = λ n. told (suc n)
+
+-- what the reads after so many find
+abbrev pub after_reads : ℕ → Told → Told
+after_reads zero told = told
+after_reads (suc n) told = after_reads n (after_read told)
+
+-- some reads later
+abbrev pub IsLater : Told → Told → Type 0
+IsLater told later = (reads : ℕ) × (later ≡ after_reads reads told)
 
 -- it is what was told, or nothing was told of it
 abbrev pub IsAsTold : Option (Option (List ℕ)) → Option (List ℕ) → Type 0

@@ -13,6 +13,8 @@ pub mod Devices
 pub mod Writing
 -- ---- many links
 pub mod Records
+pub mod Passing
+pub mod Turns
 pub mod Muxing
 -- ---- what it is to meet a request
 pub mod Meeting

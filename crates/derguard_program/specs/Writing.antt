@@ -29,6 +29,12 @@ TellsLine text = TellsOctets (line_of text)
 abbrev pub TellsNoMemory : Device → ℕ → Type 0
 TellsNoMemory err result = TellsLine (codes "no-memory") 3 err result
 
+-- what is told of a fault, and the status; or that there was no memory to tell it
+abbrev pub IsFaultLine : Fault → List ℕ → ℕ → Type 0
+IsFaultLine f line status =
+    ((text : List ℕ) × IsText f text × (line ≡ line_of text) × (status ≡ fault_status f))
+    ⊎ ((line ≡ line_of (codes "no-memory")) × (status ≡ 3))
+
 -- a text is told, with this status
 abbrev pub TellsText : List ℕ → ℕ → Device → ℕ → Type 0
 TellsText text status err result = TellsLine text status err result ⊎ TellsNoMemory err result

@@ -1,4 +1,4 @@
 -- What only private contracts and proofs cite.
+pub mod Doing
 pub mod Headers
-pub mod Passing
 pub mod Texts

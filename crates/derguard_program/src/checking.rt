@@ -2,6 +2,7 @@
 ghost use Rattle.std.specs.Prelude.{◌≡◌, ◌++◌, codes, decimal, IfOk, IfErr};
 ghost use Rattle.guard_policy.specs.PolicyView.{policy_view};
 ghost use Rattle.derguard_program.specs.Answers.{answer_view, counts_text, IsChecked};
+ghost use Rattle.derguard_program.specs.Files.{IsLater};
 ghost use Rattle.derguard_program.specs.Reading.{IsPolicyAt, IsNoPolicyAt};
 
 use crate::answer::Answer;
@@ -37,6 +38,7 @@ fn counts(alloc: Global, policy: &Policy) -> Result<Vec<u8>, AllocError>
 pub fn load<F: Files>(alloc: Global, path: &str, files: &mut F) -> Result<Policy, Fault>
     ensures there { IfOk result (λ p. IsPolicyAt (F.told files.old) path.now (policy_view p)) }
     ensures none { IfErr result (IsNoPolicyAt (F.told files.old) path.now) }
+    ensures later { IsLater (F.told files.old) (F.told files.new) }
 {
     let texts = Texts::read(alloc, path, files)?;
     let modules = texts.module_slices(alloc)?;

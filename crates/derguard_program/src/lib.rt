@@ -29,6 +29,7 @@ mod outputs;
 mod passing;
 mod records;
 mod request;
+mod sinks;
 mod stop;
 mod texts;
 mod words;

@@ -1,14 +1,15 @@
 //! The links of one stream of records, in one gateway.
-ghost use Rattle.std.specs.Prelude.{◌≡◌, ◌≤◌, true, length, IfOk, IfErr};
-ghost use Rattle.derguard_program.specs.declared.stop.Stop.TheVariants.{WriteFailed, ErrorFailed};
+ghost use Rattle.std.specs.Prelude.{◌≡◌};
+ghost use Rattle.derguard_program.specs.inside.Doing.{is_closed};
 
 use crate::checking::load;
 use crate::files::Files;
-use crate::outputs::{FAILED, tell};
-use crate::passing::{put_fault, put_lines, put_pieces};
+use crate::outputs::{FAILED, report};
+use crate::passing::put_fault;
 use crate::records::LINKS;
+use crate::sinks::{end_link, feed_link, new_sinks, pass_on};
 use crate::stop::Stop;
-use guard_frames::{Ends, Event, Gateway, Kept, LinkFault, Sink, StepFault};
+use guard_frames::{Event, Gateway, Kept, LinkFault, Sink};
 use guard_model::OutOfMemory;
 use guard_policy::Policy;
 use std::alloc::Global;
@@ -20,29 +21,29 @@ pub struct Links {
     /// 0 where all frames passed, 1 where a line was reported, 2 where a policy couldn't be read again, 3 where a link
     /// has a fault or memory ran out; the greatest of these.
     status: u8,
-    ghost most: { status ≤ 3 },
-}
-
-/// So many pairs of sinks that have taken nothing.
-fn sinks(alloc: Global, count: u16) -> Result<Vec<Ends<Kept>>, OutOfMemory>
-    ensures { IfOk result (λ ends. length ends.items ≡ count) }
-{
-    let mut ends = Vec::with_capacity(alloc, usize::from(count))?;
-    for _ in 0..count {
-        ends.push(Ends {
-            out: Kept::new(alloc),
-            reports: Kept::new(alloc),
-        })?;
-    }
-    Ok(ends)
 }
 
 impl Links {
-    ghost use Rattle.std.specs.Prelude.{◌≡◌, ◌≤◌, true, IfErr};
-    ghost use Rattle.derguard_program.specs.declared.stop.Stop.TheVariants.{WriteFailed, ErrorFailed};
+    ghost use Rattle.std.specs.Prelude.{◌≡◌, ◌≤◌, ◌⊎◌, Option, List, [], ℕ, Bool, true, false, max, IfOk, OnOk, IfErr};
+    ghost use Rattle.std.specs.Io.KnownBytes.{Appends};
+    ghost use Rattle.guard_frames.specs.Prefix.{IsProperPrefix};
+    ghost use Rattle.derguard_program.specs.declared.stop.Stop.TheVariants.{ErrorFailed};
+    ghost use Rattle.guard_policy.specs.PolicyView.{policy_view};
+    ghost use Rattle.derguard_program.specs.Devices.{device};
+    ghost use Rattle.derguard_program.specs.Files.{Told};
+    ghost use Rattle.derguard_program.specs.Records.Record.{piece, end, reload};
+    ghost use Rattle.derguard_program.specs.Muxing.{new_mux, WritesPart, BreaksErr};
+    ghost use Rattle.derguard_program.specs.Passing.{fault_line};
+    ghost use Rattle.derguard_program.specs.Turns.{link_status};
+    ghost use Rattle.derguard_program.specs.inside.Doing.{IsReady, mux_of, IsTaken, IsCut, Is, HadEnded, AreEnded, IsEndCut};
 
-    pub fn new(alloc: Global, policy: Policy) -> Result<Links, OutOfMemory> {
-        let ends = sinks(alloc, LINKS)?;
+    /// Sixteen open links under this policy.
+    pub fn new(alloc: Global, policy: Policy) -> Result<Links, OutOfMemory>
+        ensures open { IfOk result (λ links. (told : Told) → mux_of told links ≡ new_mux (policy_view policy) told) }
+        ensures ready { IfOk result (λ links. IsReady links.gateway) }
+        ensures status { IfOk result (λ links. links.status ≡ 0) }
+    {
+        let ends = new_sinks(alloc, LINKS)?;
         match Gateway::new(alloc, policy, ends) {
             Ok(gateway) => Ok(Links { gateway, status: 0 }),
             Err(_) => Err(OutOfMemory),
@@ -51,7 +52,7 @@ impl Links {
 
     /// The status that comes of what happened so far.
     pub fn status(&self) -> u8
-        ensures { result ≤ 3 }
+        ensures { result ≡ self.now.status }
     {
         self.status
     }
@@ -65,36 +66,39 @@ impl Links {
         out: &mut O,
         err: &mut E,
     ) -> Result<(), Stop>
-        ensures written { IfErr result (λ s. s ≡ WriteFailed → O.has_failed out.new ≡ true) }
-        ensures reported { IfErr result (λ s. s ≡ ErrorFailed → E.has_failed err.new ≡ true) }
+        requires link { link ≤ 15 }
+        requires ready { IsReady self.old.gateway }
+        ensures done { OnOk result ((path : List ℕ) (told : Told) → IsTaken path told self.old (piece link octets.now) told self.new
+            (O.taken out.old, O.taken out.new) (E.taken err.old, E.taken err.new)) }
+        ensures cut { IfErr result (λ s. (path : List ℕ) (told : Told) → IsCut s path (mux_of told self.old) (piece link octets.now)
+            (device (O.taken out.old) (O.taken out.new) (O.has_failed out.new)) (device (E.taken err.old) (E.taken err.new) (E.has_failed err.new))) }
     {
-        let answer = self.gateway.step(alloc, Event::Piece(link, octets));
-        let has_reports = match self.gateway.ends_mut(link) {
-            Some(ends) => pass_on(link, ends, out, err)?,
-            None => false,
-        };
-        if has_reports {
-            self.status = self.status.max(1);
-        }
-        match answer {
-            Ok(()) | Err(StepFault::NoSuchLink) => Ok(()),
-            Err(StepFault::Link(fault)) => self.report(link, fault, err),
-        }
+        let answer = feed_link(&mut self.gateway, alloc, link, octets);
+        let is_reported = pass_on(&mut self.gateway, link, out, err)?;
+        self.status = self.status.max(u8::from(is_reported));
+        self.tell_answer(link, answer, err)
     }
 
     /// The end of a link's stream.
     pub fn end<E: Sink>(&mut self, alloc: Global, link: u16, err: &mut E) -> Result<(), Stop>
-        ensures { IfErr result (λ s. (s ≡ ErrorFailed) × (E.has_failed err.new ≡ true)) }
+        requires link { link ≤ 15 }
+        requires ready { IsReady self.old.gateway }
+        ensures done { OnOk result ((path : List ℕ) (told : Told) (out : Option (List ℕ)) →
+            IsTaken path told self.old (end link) told self.new (out, out) (E.taken err.old, E.taken err.new)) }
+        ensures cut { IfErr result (λ s. (path : List ℕ) (told : Told) (out : Option (List ℕ)) (failed : Bool) →
+            IsCut s path (mux_of told self.old) (end link) (device out out failed) (device (E.taken err.old) (E.taken err.new) (E.has_failed err.new))) }
     {
-        match self.gateway.step(alloc, Event::End(link)) {
-            Ok(()) | Err(StepFault::NoSuchLink) => Ok(()),
-            Err(StepFault::Link(fault)) => self.report(link, fault, err),
-        }
+        let answer = end_link(&mut self.gateway, alloc, link);
+        self.tell_answer(link, answer, err)
     }
 
     /// The end of each link's stream that hasn't ended, in order.
     pub fn end_all<E: Sink>(&mut self, alloc: Global, err: &mut E) -> Result<(), Stop>
-        ensures { IfErr result (λ s. (s ≡ ErrorFailed) × (E.has_failed err.new ≡ true)) }
+        requires ready { IsReady self.old.gateway }
+        ensures done { OnOk result ((path : List ℕ) (told : Told) →
+            AreEnded path told self.old self.new (E.taken err.old, E.taken err.new)) }
+        ensures cut { IfErr result (λ s. (s ≡ ErrorFailed) × ((path : List ℕ) (told : Told) (out : Option (List ℕ)) (failed : Bool) →
+            IsEndCut path told self.old (device out out failed) (device (E.taken err.old) (E.taken err.new) (E.has_failed err.new)))) }
     {
         for link in 0..LINKS {
             self.end_unless_ended(alloc, link, err)?;
@@ -109,12 +113,20 @@ impl Links {
         link: u16,
         err: &mut E,
     ) -> Result<(), Stop>
-        ensures { IfErr result (λ s. (s ≡ ErrorFailed) × (E.has_failed err.new ≡ true)) }
+        requires link { link ≤ 15 }
+        requires ready { IsReady self.old.gateway }
+        ensures done { OnOk result (HadEnded link self.old self.new (E.taken err.old, E.taken err.new)
+            ⊎ (Is false link self.old × ((path : List ℕ) (told : Told) (out : Option (List ℕ)) →
+            IsTaken path told self.old (end link) told self.new (out, out) (E.taken err.old, E.taken err.new)))) }
+        ensures cut { IfErr result (λ s. (s ≡ ErrorFailed) × Is false link self.old
+            × ((path : List ℕ) (told : Told) (out : Option (List ℕ)) (failed : Bool) → WritesPart path (mux_of told self.old) (end link) []
+            (device out out failed) (device (E.taken err.old) (E.taken err.new) (E.has_failed err.new)) BreaksErr)) }
     {
-        match self.gateway.step(alloc, Event::End(link)) {
-            Ok(()) | Err(StepFault::NoSuchLink) | Err(StepFault::Link(LinkFault::Closed)) => Ok(()),
-            Err(StepFault::Link(fault)) => self.report(link, fault, err),
+        let answer = end_link(&mut self.gateway, alloc, link);
+        if is_closed(answer) {
+            return Ok(());
         }
+        self.tell_answer(link, answer, err)
     }
 
     /// Reads the policy at the path again. Where there is none, that is reported, and the policy in force stays.
@@ -125,28 +137,44 @@ impl Links {
         files: &mut F,
         err: &mut E,
     ) -> Result<(), Stop>
-        ensures { IfErr result (λ s. (s ≡ ErrorFailed) × (E.has_failed err.new ≡ true)) }
+        requires ready { IsReady self.old.gateway }
+        ensures done { OnOk result ((out : Option (List ℕ)) → IsTaken path.now (F.told files.old) self.old reload (F.told files.new) self.new
+            (out, out) (E.taken err.old, E.taken err.new)) }
+        ensures cut { IfErr result (λ s. (out : Option (List ℕ)) (failed : Bool) → IsCut s path.now (mux_of (F.told files.old) self.old) reload
+            (device out out failed) (device (E.taken err.old) (E.taken err.new) (E.has_failed err.new))) }
     {
         match load(alloc, path, files) {
             Ok(policy) => {
                 let _ = self.gateway.step(alloc, Event::Reload(policy));
                 Ok(())
             }
-            Err(fault) => {
-                let status = tell(alloc, &fault, err);
-                if err.failed() {
-                    return Err(Stop::ErrorFailed);
+            Err(fault) => match report(alloc, &fault, err) {
+                Ok(status) => {
+                    self.status = self.status.max(status);
+                    Ok(())
                 }
-                self.status = self.status.max(status);
-                Ok(())
-            }
+                Err(_) => Err(Stop::ErrorFailed),
+            },
         }
     }
 
-    fn report<E: Sink>(&mut self, link: u16, fault: LinkFault, err: &mut E) -> Result<(), Stop>
-        ensures { IfErr result (λ s. (s ≡ ErrorFailed) × (E.has_failed err.new ≡ true)) }
+    /// Tells the fault of a link, where it answered with one.
+    fn tell_answer<E: Sink>(
+        &mut self,
+        link: u16,
+        answer: Result<(), LinkFault>,
+        err: &mut E,
+    ) -> Result<(), Stop>
+        ensures all { OnOk result (Appends (E.taken err.old) (E.taken err.new) (fault_line link answer)) }
+        ensures part { IfErr result (λ s. (s ≡ ErrorFailed) × (E.has_failed err.new ≡ true) × ((part : List ℕ)
+            × IsProperPrefix part (fault_line link answer) × Appends (E.taken err.old) (E.taken err.new) part)) }
+        ensures status { self.new.status ≡ max self.old.status (link_status [] answer) }
+        ensures gateway { self.new.gateway ≡ self.old.gateway }
     {
-        self.status = FAILED;
+        let Err(fault) = answer else {
+            return Ok(());
+        };
+        self.status = self.status.max(FAILED);
         match put_fault(err, link, fault) {
             Ok(()) => Ok(()),
             Err(_) => Err(Stop::ErrorFailed),
@@ -154,24 +182,9 @@ impl Links {
     }
 }
 
-/// Writes what a link's sinks took, and empties them; answers whether anything was reported.
-fn pass_on<O: Sink, E: Sink>(
-    link: u16,
-    ends: &mut Ends<Kept>,
-    out: &mut O,
-    err: &mut E,
-) -> Result<bool, Stop>
-    ensures written { IfErr result (λ s. s ≡ WriteFailed → O.has_failed out.new ≡ true) }
-    ensures reported { IfErr result (λ s. s ≡ ErrorFailed → E.has_failed err.new ≡ true) }
+/// Whether a link that takes no more has answered.
+fn is_closed(answer: Result<(), LinkFault>) -> bool
+    ensures { result ≡ is_closed answer }
 {
-    if put_pieces(out, link, ends.out.octets()).is_err() {
-        return Err(Stop::WriteFailed);
-    }
-    if put_lines(err, link, ends.reports.octets()).is_err() {
-        return Err(Stop::ErrorFailed);
-    }
-    let has_reports = !ends.reports.octets().is_empty();
-    ends.out.empty();
-    ends.reports.empty();
-    Ok(has_reports)
+    matches!(answer, Err(LinkFault::Closed))
 }

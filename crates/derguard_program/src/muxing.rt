@@ -1,8 +1,9 @@
 //! Guards the links of a stream of records.
-ghost use Rattle.std.specs.Prelude.{◌≡◌, true, length, OnOk, IfErr};
+ghost use Rattle.std.specs.Prelude.{◌≡◌, length, OnOk, IfErr};
 ghost use Rattle.derguard_program.specs.Devices.{input_of, device};
-ghost use Rattle.derguard_program.specs.Muxing.{GuardsLinks, ReadsAll, TellsStop};
-ghost use Rattle.derguard_program.specs.inside.Headers.{IsGood};
+ghost use Rattle.derguard_program.specs.Muxing.{GuardsLinks, Finishes, Stops, TellsStop};
+ghost use Rattle.derguard_program.specs.inside.Doing.{IsReady, mux_of, IsTaken, IsCut};
+ghost use Rattle.derguard_program.specs.inside.Headers.{IsGood, record_of};
 ghost use Rattle.derguard_program.specs.declared.stop.Stop.TheVariants as stop;
 
 use crate::checking::load;
@@ -80,19 +81,19 @@ fn guard<F: Files, S: Source, O: Sink, E: Sink>(
     out: &mut O,
     err: &mut E,
 ) -> Result<(), Stop>
-    requires { length room.old ≡ 1048576 }
-    ensures all { OnOk result (ReadsAll (S.tells input.old) (S.tells input.new)) }
-    ensures written { IfErr result (λ s. s ≡ stop.WriteFailed → O.has_failed out.new ≡ true) }
-    ensures reported { IfErr result (λ s. s ≡ stop.ErrorFailed → E.has_failed err.new ≡ true) }
+    requires room { length room.old ≡ 1048576 }
+    requires ready { IsReady links.old.gateway }
+    requires first { links.old.status ≡ 0 }
+    ensures done { OnOk result (Finishes path.now (mux_of (F.told files.old) links.old)
+        (input_of (S.tells input.old) (S.tells input.new) (S.takes input.old) (S.takes input.new) (S.has_failed input.new))
+        (device (O.taken out.old) (O.taken out.new) (O.has_failed out.new)) (device (E.taken err.old) (E.taken err.new) (E.has_failed err.new)) links.new.status) }
+    ensures stops { IfErr result (λ s. Stops s path.now (mux_of (F.told files.old) links.old)
+        (input_of (S.tells input.old) (S.tells input.new) (S.takes input.old) (S.takes input.new) (S.has_failed input.new))
+        (device (O.taken out.old) (O.taken out.new) (O.has_failed out.new)) (device (E.taken err.old) (E.taken err.new) (E.has_failed err.new))) }
 {
     let mut reads = MOST_READS;
     for _ in 0..MOST_READS {
-        let found = match next_record(input, room, &mut reads) {
-            Ok(found) => found,
-            Err(Stop::BadRecord) => return Err(Stop::BadRecord),
-            Err(_) => return Err(Stop::ReadFailed),
-        };
-        let Some(header) = found else {
+        let Some(header) = next_record(input, room, &mut reads)? else {
             return links.end_all(alloc, err);
         };
         take_record(alloc, path, files, header, room, links, out, err)?;
@@ -113,8 +114,11 @@ fn take_record<F: Files, O: Sink, E: Sink>(
 ) -> Result<(), Stop>
     requires good { IsGood header }
     requires room { length room.now ≡ 1048576 }
-    ensures written { IfErr result (λ s. s ≡ stop.WriteFailed → O.has_failed out.new ≡ true) }
-    ensures reported { IfErr result (λ s. s ≡ stop.ErrorFailed → E.has_failed err.new ≡ true) }
+    requires ready { IsReady links.old.gateway }
+    ensures done { OnOk result (IsTaken path.now (F.told files.old) links.old (record_of header room.now) (F.told files.new) links.new
+        (O.taken out.old, O.taken out.new) (E.taken err.old, E.taken err.new)) }
+    ensures cut { IfErr result (λ s. IsCut s path.now (mux_of (F.told files.old) links.old) (record_of header room.now)
+        (device (O.taken out.old) (O.taken out.new) (O.has_failed out.new)) (device (E.taken err.old) (E.taken err.new) (E.has_failed err.new))) }
 {
     match header {
         Header::Piece(link, size) => links.piece(alloc, link, &room[..size], out, err),

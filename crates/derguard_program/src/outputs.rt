@@ -1,10 +1,13 @@
 //! What goes to standard output and to standard error.
-ghost use Rattle.std.specs.Prelude.{◌≡◌, IfOk, codes, string_bytes};
+ghost use Rattle.std.specs.Prelude.{◌≡◌, ℕ, List, true, IfOk, OnErr, codes, string_bytes};
+ghost use Rattle.std.specs.Io.KnownBytes.{Appends};
+ghost use Rattle.guard_frames.specs.Prefix.{IsProperPrefix};
 ghost use Rattle.derguard_program.specs.Devices.{device};
-ghost use Rattle.derguard_program.specs.Writing.{line_of, TellsOctets, TellsLine, TellsNoMemory, TellsText, Tells, Writes};
+ghost use Rattle.derguard_program.specs.Faults.{IsText};
+ghost use Rattle.derguard_program.specs.Writing.{line_of, IsFaultLine, TellsOctets, TellsLine, TellsNoMemory, TellsText, Tells, Writes};
 
 use crate::fault::Fault;
-use guard_frames::{Sink, put_all};
+use guard_frames::{Failed, Sink, put_all};
 use std::alloc::{AllocError, Global};
 
 /// What is told where there is no memory to say anything else.
@@ -34,10 +37,33 @@ pub fn write<O: Sink, E: Sink>(octets: &[u8], status: u8, out: &mut O, err: &mut
 pub fn tell<E: Sink>(alloc: Global, fault: &Fault, err: &mut E) -> u8
     ensures { Tells fault.now (device (E.taken err.old) (E.taken err.new) (E.has_failed err.new)) result }
 {
-    match fault.text(alloc) {
-        Ok(text) => tell_text(alloc, &text, fault.status(), err),
-        Err(_) => tell_no_memory(err),
+    match report(alloc, fault, err) {
+        Ok(status) => status,
+        Err(_) => FAILED,
     }
+}
+
+/// Tells a fault behind `derguard: `, and answers its status, or 3 where there was no memory to tell it. It fails where standard error does.
+pub fn report<E: Sink>(alloc: Global, fault: &Fault, err: &mut E) -> Result<u8, Failed>
+    ensures all { IfOk result (λ status. (line : List ℕ) × IsFaultLine fault.now line status
+        × Appends (E.taken err.old) (E.taken err.new) line) }
+    ensures part { OnErr result ((line : List ℕ) × (status : ℕ) × (part : List ℕ) × IsFaultLine fault.now line status
+        × IsProperPrefix part line × Appends (E.taken err.old) (E.taken err.new) part) }
+    ensures failed { OnErr result (E.has_failed err.new ≡ true) }
+{
+    let Ok(line) = fault_line(alloc, fault) else {
+        put_all(err, NO_MEMORY)?;
+        return Ok(FAILED);
+    };
+    put_all(err, line.as_bytes())?;
+    Ok(fault.status())
+}
+
+fn fault_line(alloc: Global, fault: &Fault) -> Result<String, AllocError>
+    ensures { IfOk result (λ line. (text : List ℕ) × IsText fault.now text × (string_bytes line ≡ line_of text)) }
+{
+    let text = fault.text(alloc)?;
+    line(alloc, &text)
 }
 
 /// Tells a text behind `derguard: `, with this status.

@@ -4,7 +4,7 @@ ghost use Rattle.std.specs.Io.KnownBytes.{Appends};
 ghost use Rattle.guard_frames.specs.Prefix.{IsProperPrefix};
 ghost use Rattle.derguard_program.specs.Records.{header, record_octets};
 ghost use Rattle.derguard_program.specs.Records.Record.{piece};
-ghost use Rattle.derguard_program.specs.inside.Passing.{InRecords, marked, marked_line, fault_text, link_mark};
+ghost use Rattle.derguard_program.specs.Passing.{InRecords, marked, marked_line, fault_text, link_mark};
 
 use crate::records::LONGEST;
 use guard_frames::{Failed, LinkFault, Sink, put_all};

@@ -1,8 +1,9 @@
 //! The records of many links, in one stream.
 ghost use Rattle.std.specs.Prelude.{◌≡◌, ◌<◌, ◌≤◌, ◌⊎◌, ◌-◌, ℕ, List, [], true, length, take, drop, IfOk, IfErr, IfSome, OnErr, None};
 ghost use Rattle.std.specs.Io.KnownBytes.{Consumes, IsAtEnd};
+ghost use Rattle.guard_frames.specs.Totals.{WentUpBy};
 ghost use Rattle.derguard_program.specs.Records.{record_octets, IsBadHeader};
-ghost use Rattle.derguard_program.specs.inside.Headers.{record_of, header_octets, IsGood};
+ghost use Rattle.derguard_program.specs.inside.Headers.{record_of, header_octets, IsGood, IsNone};
 ghost use Rattle.derguard_program.specs.declared.stop.Stop.TheVariants as stop;
 
 use crate::stop::Stop;
@@ -67,10 +68,14 @@ pub fn next_record<S: Source>(
     reads: &mut u64,
 ) -> Result<Option<Header>, Stop>
     requires { length room.old ≡ 1048576 }
-    ensures record { IfOk result (λ found. IfSome found (λ h. IsGood h
+    ensures record { IfOk result (λ found. IfSome found (λ h. IsGood h × (reads.new < reads.old)
         × Consumes (S.tells source.old) (S.tells source.new) (record_octets (record_of h room.new)))) }
     ensures end { IfOk result (λ found. found ≡ None →
         Consumes (S.tells source.old) (S.tells source.new) [] × IsAtEnd (S.tells source.new)) }
+    ensures none { IfErr result (λ s. (rest : List ℕ) × Consumes (S.tells source.old) (S.tells source.new) rest
+        × IsNone s rest (IsAtEnd (S.tells source.new)) (S.has_failed source.new) reads.new) }
+    ensures counted { WentUpBy (S.takes source.old) (reads.old - reads.new) (S.takes source.new) }
+    ensures fewer { reads.new ≤ reads.old }
 {
     let count = fill_front(source, room, HEADER, reads)?;
     if count == 0 {
@@ -105,6 +110,9 @@ fn fill_front<S: Source>(
     ensures lost { OnErr result ((part : List ℕ) × (length part < size)
         × Consumes (S.tells source.old) (S.tells source.new) part) }
     ensures failed { IfErr result (λ f. (f ≡ stop.ReadFailed) × ((S.has_failed source.new ≡ true) ⊎ (reads.new ≡ 0))) }
+    ensures counted { WentUpBy (S.takes source.old) (reads.old - reads.new) (S.takes source.new) }
+    ensures fewer { reads.new ≤ reads.old }
+    ensures some { IfOk result (λ n. 0 < n → reads.new < reads.old) }
 {
     fill(source, &mut room[..size], reads)
 }
@@ -117,6 +125,9 @@ fn fill<S: Source>(source: &mut S, buffer: &mut [u8], reads: &mut u64) -> Result
     ensures lost { OnErr result ((part : List ℕ) × (length part < length buffer.old)
         × Consumes (S.tells source.old) (S.tells source.new) part) }
     ensures failed { IfErr result (λ f. (f ≡ stop.ReadFailed) × ((S.has_failed source.new ≡ true) ⊎ (reads.new ≡ 0))) }
+    ensures counted { WentUpBy (S.takes source.old) (reads.old - reads.new) (S.takes source.new) }
+    ensures fewer { reads.new ≤ reads.old }
+    ensures some { IfOk result (λ n. 0 < n → reads.new < reads.old) }
 {
     let mut filled = 0;
     while filled < buffer.len() {
@@ -144,6 +155,7 @@ fn take_more<S: Source>(source: &mut S, buffer: &mut [u8], filled: usize) -> Res
     ensures end { IfOk result (λ n. n ≡ 0 → IsAtEnd (S.tells source.new)) }
     ensures none { OnErr result (Consumes (S.tells source.old) (S.tells source.new) []) }
     ensures failed { OnErr result (S.has_failed source.new ≡ true) }
+    ensures counted { WentUpBy (S.takes source.old) 1 (S.takes source.new) }
 {
     source.take(&mut buffer[filled..])
 }

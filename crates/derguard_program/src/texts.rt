@@ -1,6 +1,6 @@
 //! The texts of a policy and of its modules.
 ghost use Rattle.std.specs.Prelude.{◌≡◌, ◌++◌, map, string_bytes, IfOk, IfErr};
-ghost use Rattle.derguard_program.specs.Files.{HasText, after_read};
+ghost use Rattle.derguard_program.specs.Files.{HasText, after_read, IsLater};
 ghost use Rattle.derguard_program.specs.Reading.{folder, HaveTexts, AreTexts, IsNoPolicyAt};
 ghost use Rattle.derguard_program.specs.inside.Texts.{CannotBeRead, CannotAllBeRead};
 
@@ -23,6 +23,7 @@ impl Texts {
     pub fn read<F: Files>(alloc: Global, path: &str, files: &mut F) -> Result<Texts, Fault>
         ensures read { IfOk result (λ texts. AreTexts (F.told files.old) path.now texts.policy.items (map (λ text. text.items) texts.modules.items)) }
         ensures missing { IfErr result (IsNoPolicyAt (F.told files.old) path.now) }
+        ensures later { IsLater (F.told files.old) (F.told files.new) }
     {
         let policy = read(alloc, path, files)?;
         let listed = module_files(alloc, &policy)?;
@@ -51,6 +52,7 @@ fn read_modules<F: Files>(
 ) -> Result<Vec<Vec<u8>>, Fault>
     ensures read { IfOk result (λ texts. HaveTexts (F.told files.old) (folder path.now) (map string_bytes listed.now) (map (λ text. text.items) texts.items)) }
     ensures missing { IfErr result (CannotAllBeRead (F.told files.old) (folder path.now) (map string_bytes listed.now)) }
+    ensures later { IsLater (F.told files.old) (F.told files.new) }
 {
     let mut texts = Vec::with_capacity(alloc, listed.len())?;
     for name in listed {

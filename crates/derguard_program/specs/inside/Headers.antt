@@ -1,8 +1,10 @@
 -- The header of a record, as the code has it.
-use Rattle.std.specs.Prelude.{ℕ, ◌≤◌, List, take}
+use Rattle.std.specs.Prelude.{◌≡◌, ◌<◌, ◌≤◌, ◌⊎◌, ℕ, Bool, true, List, length, take}
 use Rattle.derguard_program.specs.declared.records.Header.{Header}
 use Rattle.derguard_program.specs.declared.records.Header.TheVariants.{Piece, End, Reload}
-use Rattle.derguard_program.specs.Records.{Record, header}
+use Rattle.derguard_program.specs.declared.stop.Stop.{Stop}
+use Rattle.derguard_program.specs.declared.stop.Stop.TheVariants.{BadRecord, ReadFailed, WriteFailed, ErrorFailed}
+use Rattle.derguard_program.specs.Records.{Record, header, HasNoRecord, IsBadHeader}
 use Rattle.derguard_program.specs.Records.Record.{piece, end, reload}
 
 -- the record with this header, whose octets are the first ones in the room
@@ -20,3 +22,10 @@ abbrev pub IsGood : Header → Type 0
 IsGood (Piece link size) = (link ≤ 15) × (size ≤ 1048576)
 IsGood (End link) = link ≤ 15
 IsGood Reload = Unit {0}
+
+-- why no record could be read: these octets begin none, by how the source is after them
+abbrev pub IsNone : Stop → List ℕ → Type 0 → Bool → ℕ → Type 0
+IsNone BadRecord rest AtEnd failed reads = ((length rest ≡ 7) × IsBadHeader rest) ⊎ ((0 < length rest) × HasNoRecord rest × AtEnd)
+IsNone ReadFailed rest AtEnd failed reads = HasNoRecord rest × ((failed ≡ true) ⊎ (reads ≡ 0))
+IsNone WriteFailed rest AtEnd failed reads = ⊥
+IsNone ErrorFailed rest AtEnd failed reads = ⊥

@@ -1,5 +1,13 @@
-use Rattle.derguard_program.proofs.Muxes.{AreRead}
+use Rattle.std.proofs.Common.{◌≡◌, ◌+◌, ◌-◌, ◌≤◌, ◌^◌, length}
+use Rattle.guard_frames.specs.Totals.{WentUpBy}
+use Rattle.derguard_program.specs.inside.Doing.{mux_of}
+use Rattle.derguard_program.proofs.Taking.{TakenSoFar}
 use Rattle.derguard_program.proofs.muxing.guard.Given as goal
 
 abbrev pub invariant-loop : goal.invariant-loop
-invariant-loop g l = AreRead (g.S.Source.tells l.initial.input) (g.S.Source.tells l.input)
+invariant-loop g l = record {
+  taken : TakenSoFar l.path (mux_of (g.F.Files.told l.initial.files) l.initial.links) (g.S.Source.tells l.initial.input) (g.S.Source.tells l.input)
+      (g.O.Sink.taken l.initial.out) (g.O.Sink.taken l.out) (g.E.Sink.taken l.initial.err) (g.E.Sink.taken l.err) (g.F.Files.told l.files) l.links;
+  asked : WentUpBy (g.S.Source.takes l.initial.input) (2 ^ 40 - l.reads) (g.S.Source.takes l.input);
+  left : l.reads + l.counter ≤ 2 ^ 40;
+}

@@ -1,6 +1,6 @@
 use Rattle.std.proofs.Common.{◌∙◌, ◌+◌, ◌++◌, ap, sym, add-one, arith, drop, take}
 use Rattle.std.proofs.lemmas.List.{take_rest}
-use Rattle.derguard_program.specs.inside.Passing.{marked, marked_line}
+use Rattle.derguard_program.specs.Passing.{marked, marked_line}
 use Rattle.derguard_program.proofs.PassingLaws.{marked_first, marked_last}
 use Rattle.derguard_program.proofs.passing.first_line.Goals as goal
 

@@ -1,7 +1,7 @@
 use Rattle.std.proofs.Common.{◌++◌, codes}
 use Rattle.guard_frames.proofs.Appending.{Appends_trans, Prefix_first, Prefix_second}
 use Rattle.guard_frames.proofs.Steps.{on_err_of}
-use Rattle.derguard_program.specs.inside.Passing.{link_mark}
+use Rattle.derguard_program.specs.Passing.{link_mark}
 use Rattle.derguard_program.proofs.passing.put_line.Goals as goal
 
 pub returns-in_err-put_mark-clause-part : goal.returns-in_err-put_mark-clause-part

@@ -1,7 +1,7 @@
 use Rattle.std.proofs.Common.{◌++◌}
 use Rattle.guard_frames.proofs.Appending.{Appends_trans}
 use Rattle.guard_frames.proofs.Steps.{on_err_of}
-use Rattle.derguard_program.specs.inside.Passing.{marked_line}
+use Rattle.derguard_program.specs.Passing.{marked_line}
 use Rattle.derguard_program.proofs.PassingLaws.{lines_more, lines_part}
 use Rattle.derguard_program.proofs.passing.put_lines.Goals as goal
 

@@ -1,6 +1,6 @@
 use Rattle.std.proofs.Common.{◌≡◌, ◌++◌, ℕ, List, length}
 use Rattle.std.specs.Io.KnownBytes.{Appends}
-use Rattle.derguard_program.specs.inside.Passing.{marked}
+use Rattle.derguard_program.specs.Passing.{marked}
 use Rattle.derguard_program.proofs.passing.put_lines.Given as goal
 
 abbrev pub invariant-loop-rest : goal.invariant-loop-rest

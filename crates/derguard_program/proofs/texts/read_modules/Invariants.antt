@@ -1,4 +1,5 @@
 use Rattle.std.proofs.Common.{map, drop, string_bytes}
+use Rattle.derguard_program.specs.Files.{IsLater}
 use Rattle.derguard_program.specs.Reading.{folder}
 use Rattle.derguard_program.proofs.ReadingTexts.{ReadSoFar}
 use Rattle.derguard_program.proofs.texts.read_modules.Given as goal
@@ -7,3 +8,4 @@ abbrev pub invariant-loop-name : goal.invariant-loop-name
 invariant-loop-name g l =
     ReadSoFar (g.F.Files.told l.initial.files) (g.F.Files.told l.files) (folder l.path) (map string_bytes l.listed)
     (map string_bytes (drop l.name-index l.listed)) (map (λ text. text.items) l.texts.items)
+    × IsLater (g.F.Files.told l.initial.files) (g.F.Files.told l.files)

@@ -1,5 +1,5 @@
 -- What goes out of a link in records, and how its lines are marked.
-use Rattle.std.specs.Prelude.{◌≡◌, ◌<◌, ◌≤◌, ℕ, nat_eq, List, [], ◌∷◌, ◌++◌, length, map, if◌then◌else◌, codes, decimal}
+use Rattle.std.specs.Prelude.{◌≡◌, ◌<◌, ◌≤◌, ℕ, nat_eq, List, [], ◌∷◌, ◌++◌, length, map, if◌then◌else◌, codes, decimal, Result, Ok, Err}
 use Rattle.std.specs.List.{concat}
 use Rattle.guard_frames.specs.declared.link.LinkFault.{LinkFault}
 use Rattle.guard_frames.specs.declared.link.LinkFault.TheVariants.{FrameTooLong, WriteFailed, Closed, TornFrame}
@@ -48,3 +48,8 @@ fault_text FrameTooLong = codes "F1 FrameTooLong"
 fault_text WriteFailed = codes "F2 WriteFailed"
 fault_text Closed = codes "F3 Closed"
 fault_text TornFrame = codes "F4 TornFrame"
+
+-- the line of a link's fault, where it has one
+abbrev pub fault_line : ℕ → Result (Unit {0}) LinkFault → List ℕ
+fault_line link (Ok done) = []
+fault_line link (Err f) = marked_line link (fault_text f)

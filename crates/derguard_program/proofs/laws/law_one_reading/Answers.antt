@@ -1,0 +1,5 @@
+use Rattle.derguard_program.proofs.RecordReading.{one_reading}
+use Rattle.derguard_program.proofs.laws.law_one_reading.Goals as goal
+
+pub returns : goal.returns
+returns c = one_reading

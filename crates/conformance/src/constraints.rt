@@ -1,4 +1,5 @@
-//! Which of the values that are set have the constraints that a text writes on the type that is set; or the first fault.
+//! Which of the values that are set have the constraints that a text writes on the type that is set; or the first
+//! fault.
 ghost use Rattle.std.specs.Prelude.{IsTrue};
 ghost use Rattle.guard_der.specs.Sound.{is_sound};
 ghost use Rattle.guard_model.specs.TypeView.{type_view};
@@ -15,7 +16,7 @@ pub struct ConstraintsRows {
     ty: String,
     /// The lines of the assignments that are visible.
     visible: String,
-    /// Values of the type, parted by ` ; `.
+    /// Values of the type, separated by ` ; `.
     values: String,
 }
 
@@ -23,7 +24,9 @@ impl ConstraintsRows {
     /// A module with the constraints in its third line, on a reference to the type; what is visible is below them.
     fn module_text(&self, alloc: Global, text: &str) -> Result<String, AllocError> {
         let ConstraintsRows { ty, visible, .. } = self;
-        format!(in alloc; "M DEFINITIONS ::= BEGIN\nT ::= Base\n{text}\n{visible}Base ::= {ty}\nEND\n")
+        format!(in alloc;
+            "M DEFINITIONS ::= BEGIN\nT ::= Base\n{text}\n{visible}Base ::= {ty}\nEND\n"
+        )
     }
 
     /// The values that have all constraints, in the order in which they are set.

@@ -1,5 +1,5 @@
-//! `encode`: the encoding of a value of the type that is set. `decode` then answers the value again, `header` ends with the
-//! octets, and the octets without the last one or more end too early.
+//! `encode`: the encoding of a value of the type that is set. `decode` then answers the value again, `header` ends with
+//! the octets, and the octets without the last one or more end too early.
 ghost use Rattle.std.specs.Prelude.{IsTrue};
 ghost use Rattle.guard_model.specs.TypeView.{type_view};
 ghost use Rattle.guard_model.specs.ValueView.{value_view};

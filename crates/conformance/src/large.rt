@@ -1,5 +1,5 @@
-//! Large modules, each made by a word and a number. Their names have three letters and digits at most, so that 100,000 definitions that refer
-//! to one another fit a text of 1 MiB.
+//! Large modules, each made by a word and a number. Their names have three letters and digits at most, so that 100,000
+//! definitions that refer to one another fit a text of 1 MiB.
 use std::alloc::{AllocError, Global};
 
 const FIRST: &[u8] = b"ABCDEFGHIJKLMNOPQRSTUVWXYZ";
@@ -61,7 +61,7 @@ fn add_alone(alloc: Global, text: &mut String, module: &str, count: u32) -> Resu
 
 fn add_importing(alloc: Global, text: &mut String, count: u32) -> Result<(), AllocError> {
     text.push_str("N DEFINITIONS ::= BEGIN IMPORTS\n")?;
-    add_parted(alloc, text, count, ",\n")?;
+    add_separated(alloc, text, count, ",\n")?;
     text.push_str(" FROM M;\n")?;
     for number in 0..count {
         text.push_str("User")?;
@@ -73,8 +73,8 @@ fn add_importing(alloc: Global, text: &mut String, count: u32) -> Result<(), All
     text.push_str("END\n")
 }
 
-/// The names of these numbers, parted by a text.
-fn add_parted(
+/// The names of these numbers, separated by a text.
+fn add_separated(
     alloc: Global,
     text: &mut String,
     count: u32,

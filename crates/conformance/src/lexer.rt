@@ -18,7 +18,7 @@ pub struct Lexer {
 }
 
 impl Lexer {
-    /// The tokens, parted by semicolons.
+    /// The tokens, separated by semicolons.
     fn listed(&self, alloc: Global, found: &[Token]) -> Result<String, AllocError> {
         if found.is_empty() {
             return String::from_str(alloc, "no token");

@@ -121,8 +121,8 @@ impl Layer for Members {
         }
     }
 
-    /// `@type TYPE` sets the type, which is the third line of a module; `@module` after the lines of a module without its
-    /// END sets this.
+    /// `@type TYPE` sets the type, which is the third line of a module; `@module` after the lines of a module without
+    /// its END sets this.
     fn set(&mut self, alloc: Global, name: &str, text: &[u8]) -> Result<String, AllocError> {
         let text = text_of(text);
         match name {

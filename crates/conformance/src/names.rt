@@ -1,4 +1,5 @@
-//! `guard_names`: the order of the definitions in a list of modules, or the fault of their names; what a name means; and where a definition stands.
+//! `guard_names`: the order of the definitions in a list of modules, or the fault of their names; what a name means;
+//! and where a definition stands.
 use crate::answers::{definition, ends_of_order, order};
 use crate::large::large;
 use crate::texts::modules;

@@ -40,7 +40,7 @@ impl Policies {
     }
 }
 
-/// The files, parted by spaces.
+/// The files, separated by spaces.
 fn listed(alloc: Global, text: &[u8]) -> Result<String, AllocError> {
     match module_files(alloc, text) {
         Ok(files) if files.is_empty() => String::from_str(alloc, "none"),

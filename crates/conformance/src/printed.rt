@@ -32,7 +32,7 @@ fn step_of(words: &str) -> Option<Step> {
     }
 }
 
-/// Steps, parted by commas.
+/// Steps, separated by commas.
 fn path_of(steps: &str) -> Option<Path> {
     let mut path = Path::new();
     for words in steps.split(',') {

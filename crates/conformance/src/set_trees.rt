@@ -1,5 +1,5 @@
-//! `IntSet` beside plain lists of booleans: trees of operations on ranges, each worked out both ways and compared at every integer of a
-//! small range. `data/constraints/int_set_trees.rows` says which trees these are.
+//! `IntSet` beside plain lists of booleans: trees of operations on ranges, each worked out both ways and compared at
+//! every integer of a small range. `data/constraints/int_set_trees.rows` says which trees these are.
 use conformance_rows::{Layer, not_read, text_of};
 use guard_constraints::IntSet;
 use guard_model::OutOfMemory;

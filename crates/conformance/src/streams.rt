@@ -46,7 +46,7 @@ enum Asked {
 #[derive(Drop)]
 pub struct Streams {
     asked: Asked,
-    /// The texts of the modules that a policy stands on, parted by `====`.
+    /// The texts of the modules that a policy stands on, separated by `====`.
     modules: Vec<u8>,
     /// The policy that decides; where there is none, signs do.
     policy: Option<Policy>,

@@ -81,7 +81,7 @@ impl Layer for Tables {
         }
     }
 
-    /// The declared type and those of rules, parted by `;`.
+    /// The declared type and those of rules, separated by `;`.
     fn answer(&mut self, alloc: Global, input: &[u8]) -> Result<String, AllocError> {
         let row = text_of(input);
         let text = module_text(alloc, row, &self.visible)?;

@@ -1,4 +1,4 @@
-//! The module texts of a row, parted by `====`; the modules that they are read as; and values without names.
+//! The module texts of a row, separated by `====`; the modules that they are read as; and values without names.
 ghost use Rattle.std.specs.Prelude.{All, IfOk, IsTrue};
 ghost use Rattle.guard_der.specs.Fits.{fits};
 ghost use Rattle.guard_der.specs.Sound.{is_sound};

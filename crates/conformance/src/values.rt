@@ -38,8 +38,8 @@ pub struct ValuesRows {
 }
 
 impl ValuesRows {
-    /// A module with the value in its third line, and the visible ones below it; and the other module. The types in them
-    /// say nothing here.
+    /// A module with the value in its third line, and the visible ones below it; and the other module. The types in
+    /// them say nothing here.
     fn module_text(&self, alloc: Global, text: &str) -> Result<String, AllocError> {
         let mut whole = String::from_str(alloc, "M DEFINITIONS ::= BEGIN")?;
         if !self.imported.is_empty() {
@@ -260,8 +260,8 @@ impl Layer for ValuesRows {
         self.answer_of(alloc, &text)
     }
 
-    /// `@type TYPE`; `@visible NAME TYPE ::= VALUE`, and `@visible none`; `@other NAME TYPE ::= VALUE` in another module,
-    /// and `@imports NAMES` from it; `@show octets` and `@show count`.
+    /// `@type TYPE`; `@visible NAME TYPE ::= VALUE`, and `@visible none`; `@other NAME TYPE ::= VALUE` in another
+    /// module, and `@imports NAMES` from it; `@show octets` and `@show count`.
     fn set(&mut self, alloc: Global, name: &str, text: &[u8]) -> Result<String, AllocError> {
         match (name, text_of(text)) {
             ("type", text) => self.ty = String::from_str(alloc, text)?,

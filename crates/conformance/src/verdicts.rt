@@ -39,7 +39,7 @@ pub fn counted(alloc: Global, loaded: &Result<Policy, PolicyFault>) -> Result<St
     }
 }
 
-/// The modules of texts, parted by `====`, kept in place of those before them.
+/// The modules of texts, separated by `====`, kept in place of those before them.
 pub fn keep_modules(
     alloc: Global,
     kept: &mut Option<Modules>,

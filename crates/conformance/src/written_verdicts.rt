@@ -1,5 +1,5 @@
-//! Verdicts as rows write them: `Undecodable Truncated 7 $.0`, `NotAllowed 0 1:3:18 $, 1 2:9:44 $.0[2]`. Rules and components
-//! are written by their places, from 0.
+//! Verdicts as rows write them: `Undecodable Truncated 7 $.0`, `NotAllowed 0 1:3:18 $, 1 2:9:44 $.0[2]`. Rules and
+//! components are written by their places, from 0.
 use guard_der::{Breach, Code};
 use guard_eval::Violation;
 use guard_model::{Path, Site, Step};
@@ -68,7 +68,7 @@ fn code_of(name: &str) -> Option<Code> {
     None
 }
 
-/// `RULE SITE PATH`, and more of them, parted by commas.
+/// `RULE SITE PATH`, and more of them, separated by commas.
 fn shortfalls_of(alloc: Global, text: &str) -> Result<Option<Vec<(usize, Violation)>>, AllocError> {
     let mut shortfalls = Vec::new(alloc);
     for part in text.split(", ") {

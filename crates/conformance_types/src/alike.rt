@@ -1,5 +1,5 @@
-//! `Value::same` and `Value::copy`, `Ty::same_base` and `Ty::copy`: the row above that is like a row, or `new` where none is.
-//! The copy of each is like it, and prints as it does itself.
+//! `Value::same` and `Value::copy`, `Ty::same_base` and `Ty::copy`: the row above that is like a row, or `new` where
+//! none is. The copy of each is like it, and prints as it does itself.
 use conformance_notation::{Unread, read, type_of, typed_value_of};
 use conformance_rows::{Layer, not_read, text_of, unknown};
 use guard_model::{Ty, Value};

@@ -1,6 +1,7 @@
-//! Tries the calls on types and values that no text gives, on rows in the files of `data/`: tags, types that aren't sound,
-//! tags that clash, values that don't fit or are longer than a text, and members of types whose defaults are none. How they
-//! are written there is said in `conformance_notation`. Whatever a text can say is tried in `conformance`.
+//! Tries the calls on types and values that no text gives, on rows in the files of `data/`: tags, types that aren't
+//! sound, tags that clash, values that don't fit or are longer than a text, and members of types whose defaults are
+//! none. How they are written there is said in `conformance_notation`. Whatever a text can say is tried in
+//! `conformance`.
 //!
 //! | rows | what answers them |
 //! |---|---|

@@ -15,7 +15,7 @@
 //! | `tables` | `tables.rt` |
 //! | `policy` | `policies.rt`, of verdicts `verdicts.rt` |
 //! | `report` | `reports.rt`, `written_verdicts.rt` |
-//! | `frames` | `streams.rt`, `text_streams.rt`, `links.rt`, `link_orders.rt`, with `signs.rt` and `devices.rt` |
+//! | `frames` | `streams.rt`, `text_streams.rt`, `links.rt`, `link_orders.rt`, with `devices.rt` |
 //! | `program` | `programs.rt`, `memory.rt`, with `devices.rt` |
 //!
 //! Texts of modules are read by `texts.rt`, the type of a group of rows by `typed.rt`, files of rows by the crate
@@ -47,7 +47,6 @@ mod reports;
 mod schemas;
 mod set_trees;
 mod shown_types;
-mod signs;
 mod skeletons;
 mod streams;
 mod syntax;

@@ -1,11 +1,9 @@
 //! What comes of streams of frames.
 use crate::devices::{Breaking, Pieces, Room};
-use crate::signs::Signs;
 use crate::texts::texts_of;
 use conformance_rows::{Layer, text_of, unknown};
 use guard_frames::{
-    Kept, Link, LinkFault, RunFault, Sink, Source, Through, Totals, decide_stream, load_texts,
-    put_all, run,
+    Kept, Link, LinkFault, RunFault, Sink, Source, Through, Totals, load_texts, put_all, run,
 };
 use guard_policy::Policy;
 use std::alloc::{AllocError, Global};
@@ -48,7 +46,7 @@ pub struct Streams {
     asked: Asked,
     /// The texts of the modules that a policy stands on, separated by `====`.
     modules: Vec<u8>,
-    /// The policy that decides; where there is none, signs do.
+    /// The policy that decides.
     policy: Option<Policy>,
 }
 
@@ -74,23 +72,25 @@ struct Ending {
     reports: Room,
 }
 
-fn ran(alloc: Global, by: Option<&Policy>, source: Pieces, out: Room, reports: Room) -> Ending {
+fn ran(alloc: Global, policy: &Policy, source: Pieces, out: Room, reports: Room) -> Ending {
     let mut ran = Ending {
         end: Err(RunFault::OutOfMemory),
         out,
         reports,
     };
     let mut source = source;
-    let (out, reports) = (&mut ran.out, &mut ran.reports);
-    ran.end = match by {
-        Some(policy) => run(alloc, &mut source, out, reports, policy),
-        None => decide_stream(alloc, &mut source, out, reports, &Signs),
-    };
+    ran.end = run(alloc, &mut source, &mut ran.out, &mut ran.reports, policy);
     ran
 }
 
-fn ran_amply(alloc: Global, by: Option<&Policy>, source: Pieces) -> Ending {
-    ran(alloc, by, source, Room::ample(alloc), Room::ample(alloc))
+fn ran_amply(alloc: Global, policy: &Policy, source: Pieces) -> Ending {
+    ran(
+        alloc,
+        policy,
+        source,
+        Room::ample(alloc),
+        Room::ample(alloc),
+    )
 }
 
 /// The totals or the fault of a run, what went out, and the reports.
@@ -141,12 +141,12 @@ impl Ending {
 /// What comes of the first frames of the stream, for each number of them.
 fn of_first_frames(
     alloc: Global,
-    by: Option<&Policy>,
+    policy: &Policy,
     stream: &[u8],
 ) -> Result<Vec<Ending>, AllocError> {
     let mut endings = Vec::new(alloc);
     for end in 0..=stream.len() {
-        let ending = ran_amply(alloc, by, Pieces::whole(&stream[..end]));
+        let ending = ran_amply(alloc, policy, Pieces::whole(&stream[..end]));
         if ending.end.is_ok() {
             endings.push(ending)?;
         }
@@ -177,10 +177,10 @@ fn out_before(endings: &[Ending], room: usize) -> &[u8] {
 }
 
 /// The text of a run, or where a run on the stream in two pieces has another one.
-fn each_cut(alloc: Global, by: Option<&Policy>, stream: &[u8]) -> Result<String, AllocError> {
-    let whole = ran_amply(alloc, by, Pieces::whole(stream)).text(alloc)?;
+fn each_cut(alloc: Global, policy: &Policy, stream: &[u8]) -> Result<String, AllocError> {
+    let whole = ran_amply(alloc, policy, Pieces::whole(stream)).text(alloc)?;
     for first in 1..stream.len() {
-        let cut = ran_amply(alloc, by, Pieces::cut(stream, first, usize::MAX)).text(alloc)?;
+        let cut = ran_amply(alloc, policy, Pieces::cut(stream, first, usize::MAX)).text(alloc)?;
         if cut.as_str() != whole.as_str() {
             return format!(in alloc; "cut after {first}: {cut}");
         }
@@ -188,13 +188,19 @@ fn each_cut(alloc: Global, by: Option<&Policy>, stream: &[u8]) -> Result<String,
     Ok(whole)
 }
 
-fn each_out(alloc: Global, by: Option<&Policy>, stream: &[u8]) -> Result<String, AllocError> {
-    let whole = ran_amply(alloc, by, Pieces::whole(stream));
-    let first = of_first_frames(alloc, by, stream)?;
+fn each_out(alloc: Global, policy: &Policy, stream: &[u8]) -> Result<String, AllocError> {
+    let whole = ran_amply(alloc, policy, Pieces::whole(stream));
+    let first = of_first_frames(alloc, policy, stream)?;
     let out = whole.out.octets();
     for room in 0..out.len() {
         let full = Room::new(alloc, usize::MAX, room);
-        let cut = ran(alloc, by, Pieces::whole(stream), full, Room::ample(alloc));
+        let cut = ran(
+            alloc,
+            policy,
+            Pieces::whole(stream),
+            full,
+            Room::ample(alloc),
+        );
         let reports = reports_before(&first, room);
         if !cut.took(RunFault::WriteFailed, &out[..room], reports) {
             return format!(in alloc; "room for {room}: {}", cut.text(alloc)?);
@@ -203,13 +209,19 @@ fn each_out(alloc: Global, by: Option<&Policy>, stream: &[u8]) -> Result<String,
     format!(in alloc; "{}", out.len())
 }
 
-fn each_report(alloc: Global, by: Option<&Policy>, stream: &[u8]) -> Result<String, AllocError> {
-    let whole = ran_amply(alloc, by, Pieces::whole(stream));
-    let first = of_first_frames(alloc, by, stream)?;
+fn each_report(alloc: Global, policy: &Policy, stream: &[u8]) -> Result<String, AllocError> {
+    let whole = ran_amply(alloc, policy, Pieces::whole(stream));
+    let first = of_first_frames(alloc, policy, stream)?;
     let reports = whole.reports.octets();
     for room in 0..reports.len() {
         let full = Room::new(alloc, usize::MAX, room);
-        let cut = ran(alloc, by, Pieces::whole(stream), Room::ample(alloc), full);
+        let cut = ran(
+            alloc,
+            policy,
+            Pieces::whole(stream),
+            Room::ample(alloc),
+            full,
+        );
         let out = out_before(&first, room);
         if !cut.took(RunFault::WriteFailed, out, &reports[..room]) {
             return format!(in alloc; "room for {room}: {}", cut.text(alloc)?);
@@ -218,10 +230,10 @@ fn each_report(alloc: Global, by: Option<&Policy>, stream: &[u8]) -> Result<Stri
     format!(in alloc; "{}", reports.len())
 }
 
-fn each_read(alloc: Global, by: Option<&Policy>, stream: &[u8]) -> Result<String, AllocError> {
+fn each_read(alloc: Global, policy: &Policy, stream: &[u8]) -> Result<String, AllocError> {
     for read in 0..=stream.len() {
-        let cut = ran_amply(alloc, by, Pieces::failing(stream, 1, read));
-        let whole = ran_amply(alloc, by, Pieces::whole(&stream[..read]));
+        let cut = ran_amply(alloc, policy, Pieces::failing(stream, 1, read));
+        let whole = ran_amply(alloc, policy, Pieces::whole(&stream[..read]));
         if !cut.took(
             RunFault::ReadFailed,
             whole.out.octets(),
@@ -233,22 +245,22 @@ fn each_read(alloc: Global, by: Option<&Policy>, stream: &[u8]) -> Result<String
     format!(in alloc; "{}", stream.len())
 }
 
-fn through(alloc: Global, stream: &[u8]) -> Result<String, AllocError> {
+fn through(alloc: Global, policy: &Policy, stream: &[u8]) -> Result<String, AllocError> {
     let mut source = Through::new(stream);
     let mut out = Through::new(Vec::new(alloc));
     let mut reports = Through::new(Vec::new(alloc));
-    let end = decide_stream(alloc, &mut source, &mut out, &mut reports, &Signs);
+    let end = run(alloc, &mut source, &mut out, &mut reports, policy);
     text_of_run(alloc, end, &out.inner, &reports.inner)
 }
 
 /// How a run ends, what the writer with room for ten octets holds, what is reported, and whether the source and the
 /// sinks have failed.
-fn into_ten(alloc: Global, stream: &[u8]) -> Result<String, AllocError> {
+fn into_ten(alloc: Global, policy: &Policy, stream: &[u8]) -> Result<String, AllocError> {
     let mut room = [b'.'; 10];
     let mut source = Through::new(stream);
     let mut out = Through::new(&mut room[..]);
     let mut reports = Kept::new(alloc);
-    let end = decide_stream(alloc, &mut source, &mut out, &mut reports, &Signs);
+    let end = run(alloc, &mut source, &mut out, &mut reports, policy);
     let failed = (
         Source::failed(&source),
         Sink::failed(&out),
@@ -259,22 +271,22 @@ fn into_ten(alloc: Global, stream: &[u8]) -> Result<String, AllocError> {
 }
 
 /// How a run ends, and how many octets it leaves in its source.
-fn left(alloc: Global, stream: &[u8]) -> Result<String, AllocError> {
+fn left(alloc: Global, policy: &Policy, stream: &[u8]) -> Result<String, AllocError> {
     let mut source = Pieces::whole(stream);
     let mut out = Room::ample(alloc);
     let mut reports = Room::ample(alloc);
-    let end = decide_stream(alloc, &mut source, &mut out, &mut reports, &Signs);
+    let end = run(alloc, &mut source, &mut out, &mut reports, policy);
     let text = text_of_run(alloc, end, out.octets(), reports.octets())?;
     format!(in alloc; "{text} {}", source.left().len())
 }
 
 /// How a run ends whose reader ends with an error, and one whose writer for frames answers one, and whether the source
 /// and the sinks have failed.
-fn errors(alloc: Global, stream: &[u8]) -> Result<String, AllocError> {
+fn errors(alloc: Global, policy: &Policy, stream: &[u8]) -> Result<String, AllocError> {
     let mut source = Through::new(Breaking(stream));
     let mut out = Through::new(Vec::new(alloc));
     let mut reports = Kept::new(alloc);
-    let end = decide_stream(alloc, &mut source, &mut out, &mut reports, &Signs);
+    let end = run(alloc, &mut source, &mut out, &mut reports, policy);
     let failed = (
         Source::failed(&source),
         Sink::failed(&out),
@@ -285,7 +297,7 @@ fn errors(alloc: Global, stream: &[u8]) -> Result<String, AllocError> {
     let mut source = Through::new(stream);
     let mut out = Through::new(Breaking(b""));
     let mut reports = Kept::new(alloc);
-    let end = decide_stream(alloc, &mut source, &mut out, &mut reports, &Signs);
+    let end = run(alloc, &mut source, &mut out, &mut reports, policy);
     let failed = (
         Source::failed(&source),
         Sink::failed(&out),
@@ -312,17 +324,17 @@ fn kept(alloc: Global, octets: &[u8]) -> Result<String, AllocError> {
 }
 
 /// What a link answers to the stream, to one more octet, to its end, twice, and to one more octet.
-fn of_link(alloc: Global, stream: &[u8], out: Room) -> Result<String, AllocError> {
+fn of_link(alloc: Global, policy: &Policy, stream: &[u8], out: Room) -> Result<String, AllocError> {
     let Ok(mut link) = Link::new(alloc) else {
         return String::from_str(alloc, "no link");
     };
     let mut out = out;
     let mut reports = Room::ample(alloc);
-    let fed = link.feed(alloc, &Signs, stream, &mut out, &mut reports);
-    let more = link.feed(alloc, &Signs, b"\0", &mut out, &mut reports);
+    let fed = link.feed(alloc, policy, stream, &mut out, &mut reports);
+    let more = link.feed(alloc, policy, b"\0", &mut out, &mut reports);
     let ended = link.end();
     let again = link.end();
-    let late = link.feed(alloc, &Signs, b"\0", &mut out, &mut reports);
+    let late = link.feed(alloc, policy, b"\0", &mut out, &mut reports);
     let mut text = String::new(alloc);
     for answer in [fed, more, ended, again, late] {
         add_answer(&mut text, answer)?;
@@ -343,6 +355,43 @@ fn add_answer(text: &mut String, answer: Result<(), LinkFault>) -> Result<(), Al
     }
 }
 
+/// What comes of a stream under the policy.
+fn answer_of(
+    alloc: Global,
+    asked: Asked,
+    policy: &Policy,
+    input: &[u8],
+) -> Result<String, AllocError> {
+    match asked {
+        Asked::Run => ran_amply(alloc, policy, Pieces::whole(input)).text(alloc),
+        Asked::Pieces(size) => in_pieces(alloc, policy, input, size),
+        Asked::EachCut => each_cut(alloc, policy, input),
+        Asked::EachOut => each_out(alloc, policy, input),
+        Asked::EachReport => each_report(alloc, policy, input),
+        Asked::EachRead => each_read(alloc, policy, input),
+        Asked::Through => through(alloc, policy, input),
+        Asked::Ten => into_ten(alloc, policy, input),
+        Asked::Link => of_link(alloc, policy, input, Room::ample(alloc)),
+        Asked::FullLink => of_link(alloc, policy, input, Room::new(alloc, usize::MAX, 0)),
+        Asked::Left => left(alloc, policy, input),
+        Asked::Errors => errors(alloc, policy, input),
+        Asked::Kept => kept(alloc, input),
+    }
+}
+
+/// How a run ends whose source gives pieces of so many octets, and whose sinks take so many in one call.
+fn in_pieces(
+    alloc: Global,
+    policy: &Policy,
+    stream: &[u8],
+    size: usize,
+) -> Result<String, AllocError> {
+    let source = Pieces::cut(stream, size, size);
+    let out = Room::new(alloc, size, usize::MAX);
+    let reports = Room::new(alloc, size, usize::MAX);
+    ran(alloc, policy, source, out, reports).text(alloc)
+}
+
 impl Layer for Streams {
     fn new(alloc: Global) -> Streams {
         Streams {
@@ -353,32 +402,15 @@ impl Layer for Streams {
     }
 
     fn answer(&mut self, alloc: Global, input: &[u8]) -> Result<String, AllocError> {
-        let by = self.policy.as_ref();
-        match self.asked {
-            Asked::Run => ran_amply(alloc, by, Pieces::whole(input)).text(alloc),
-            Asked::Pieces(size) => {
-                let source = Pieces::cut(input, size, size);
-                let out = Room::new(alloc, size, usize::MAX);
-                let reports = Room::new(alloc, size, usize::MAX);
-                ran(alloc, by, source, out, reports).text(alloc)
-            }
-            Asked::EachCut => each_cut(alloc, by, input),
-            Asked::EachOut => each_out(alloc, by, input),
-            Asked::EachReport => each_report(alloc, by, input),
-            Asked::EachRead => each_read(alloc, by, input),
-            Asked::Through => through(alloc, input),
-            Asked::Ten => into_ten(alloc, input),
-            Asked::Link => of_link(alloc, input, Room::ample(alloc)),
-            Asked::FullLink => of_link(alloc, input, Room::new(alloc, usize::MAX, 0)),
-            Asked::Left => left(alloc, input),
-            Asked::Errors => errors(alloc, input),
-            Asked::Kept => kept(alloc, input),
+        match &self.policy {
+            Some(policy) => answer_of(alloc, self.asked, policy, input),
+            None => String::from_str(alloc, "no policy"),
         }
     }
 
     /// `@ask run`, `@ask each cut`, `@ask each out`, `@ask each report`, `@ask each read`, `@ask through`,
-    /// `@ask ten`, `@ask left`, `@ask errors`, `@ask link`, `@ask full link`, `@ask kept`; `@pieces SIZE`. A policy
-    /// decides the rows after `@modules` and `@policy` with their texts.
+    /// `@ask ten`, `@ask left`, `@ask errors`, `@ask link`, `@ask full link`, `@ask kept`; `@pieces SIZE`;
+    /// `@modules` and `@policy` with the texts of the policy that decides.
     fn set(&mut self, alloc: Global, name: &str, text: &[u8]) -> Result<String, AllocError> {
         match name {
             "modules" => {

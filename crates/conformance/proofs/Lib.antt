@@ -1,1 +1,4 @@
-pub mod Sound
+-- one definition more behind those that are built
+pub mod OneMore
+-- each place of a list
+pub mod Places

@@ -3,9 +3,13 @@ use conformance_rows::{Layer, text_of};
 use std::alloc::{AllocError, Global};
 
 #[derive(Drop)]
-pub struct Echo {}
+pub struct Echo;
 
 impl Layer for Echo {
+    fn new(_alloc: Global) -> Echo {
+        Echo
+    }
+
     fn answer(&mut self, alloc: Global, input: &[u8]) -> Result<String, AllocError> {
         String::from_str(alloc, text_of(input))
     }

@@ -1,9 +1,9 @@
 //! `guard_lexer`: a text's tokens, each with its kind and its span or its site, or the text's fault.
-use conformance_rows::{Layer, text_of};
+use conformance_rows::{Layer, text_of, unknown};
 use guard_lexer::{Token, tokens};
 use std::alloc::{AllocError, Global};
 
-/// What is shown of each token behind its kind.
+/// What is shown of each token after its kind.
 #[derive(Drop)]
 enum Shown {
     Spans,
@@ -18,14 +18,7 @@ pub struct Lexer {
 }
 
 impl Lexer {
-    pub fn new() -> Lexer {
-        Lexer {
-            shown: Shown::Spans,
-            place: 1,
-        }
-    }
-
-    /// The tokens, parted by semicolons.
+    /// The tokens, separated by semicolons.
     fn listed(&self, alloc: Global, found: &[Token]) -> Result<String, AllocError> {
         if found.is_empty() {
             return String::from_str(alloc, "no token");
@@ -55,6 +48,13 @@ impl Lexer {
 }
 
 impl Layer for Lexer {
+    fn new(_alloc: Global) -> Lexer {
+        Lexer {
+            shown: Shown::Spans,
+            place: 1,
+        }
+    }
+
     fn answer(&mut self, alloc: Global, input: &[u8]) -> Result<String, AllocError> {
         match tokens(alloc, self.place, input) {
             Ok(found) => self.listed(alloc, &found),
@@ -68,7 +68,7 @@ impl Layer for Lexer {
             ("show", "spans") => self.shown = Shown::Spans,
             ("show", "sites") => self.shown = Shown::Sites,
             ("place", number) => self.place = number.parse::<u32>().unwrap_or(0),
-            _ => return String::from_str(alloc, "unknown"),
+            _ => return unknown(alloc),
         }
         String::from_str(alloc, "ok")
     }

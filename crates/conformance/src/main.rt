@@ -1,40 +1,372 @@
-//! Tries the calls on texts, members and verdicts on rows: inputs with the answers that are expected, in the files
-//! of `data/`.
+//! Tries all layers on rows: inputs with the answers that are expected, in the files of `data/`, where each layer has a
+//! folder. Types, values and policies are read from texts. `data/README.md` says how each layer's rows are written.
 //!
-//! | question | file |
+//! | folder | what answers its rows |
 //! |---|---|
-//! | what answers a layer's rows | the file of the layer's name |
-//! | how a file of rows is read and compared | the crate `conformance_rows` |
+//! | `rows` | `echo.rt` |
+//! | `model` | `alphabets.rt`, `printed.rt` |
+//! | `lexer`, `syntax` | `lexer.rt`, `syntax.rt` |
+//! | `names` | `names.rt`, `answers.rt`; the large modules of `large.rt` |
+//! | `tagging` | `tagging.rt`, `skeletons.rt`; of octets `tagged_octets.rt` |
+//! | `values`, `constraints` | `values.rt`, `constraints.rt`; of sets of integers `int_sets.rt`, `set_trees.rt` |
+//! | `schema` | `schemas.rt`, `shown_types.rt`, `messages.rt` |
+//! | `der` | `encoding.rt`, `decoding.rt`, `headers.rt`, `digits.rt` |
+//! | `eval` | `members.rt` |
+//! | `tables` | `tables.rt` |
+//! | `policy` | `policies.rt`, of verdicts `verdicts.rt` |
+//! | `report` | `reports.rt`, `written_verdicts.rt` |
+//! | `frames` | `streams.rt`, `text_streams.rt`, `links.rt`, `link_orders.rt`, with `devices.rt` |
+//! | `program` | `programs.rt`, `memory.rt`, with `devices.rt` |
+//!
+//! Texts of modules are read by `texts.rt`, the type of a group of rows by `typed.rt`, files of rows by the crate
+//! `conformance_rows`.
 #![tactic(auto)]
 
+mod alphabets;
+mod answers;
+mod constraints;
+mod decoding;
+mod devices;
+mod digits;
 mod echo;
+mod encoding;
+mod headers;
+mod int_sets;
+mod large;
 mod lexer;
-mod member;
-mod parser;
+mod link_orders;
+mod links;
+mod members;
+mod memory;
+mod messages;
+mod names;
 mod policies;
-mod verdict;
-mod verdict_notation;
+mod printed;
+mod programs;
+mod reports;
+mod schemas;
+mod set_trees;
+mod shown_types;
+mod skeletons;
+mod streams;
+mod syntax;
+mod tables;
+mod tagged_octets;
+mod tagging;
+mod text_streams;
+mod texts;
+mod typed;
+mod values;
+mod verdicts;
+mod written_verdicts;
 
+use alphabets::Alphabets;
 use anyhow::ensure;
-use conformance_rows::check_rows;
+use conformance_rows::{Tally, check_files};
+use constraints::ConstraintsRows;
+use decoding::Decoding;
 use echo::Echo;
+use encoding::Encoding;
+use headers::Headers;
+use int_sets::IntSets;
 use lexer::Lexer;
-use member::Members;
-use parser::Parser;
-use verdict::Verdicts;
+use links::Links;
+use members::Members;
+use names::NamesRows;
+use policies::Policies;
+use printed::Printed;
+use programs::Programs;
+use reports::Reports;
+use schemas::Schemas;
+use set_trees::SetTrees;
+use std::io;
+use std::rt::Files;
+use streams::Streams;
+use syntax::Parser;
+use tables::Tables;
+use tagged_octets::TaggedOctets;
+use tagging::TaggingRows;
+use text_streams::TextStreams;
+use values::ValuesRows;
+use verdicts::Verdicts;
 
 fn main(rt: HostRuntime) -> anyhow::Result<()> {
-    let alloc = rt.alloc();
-    let rows = check_rows(&rt, "rows.rows", &mut Echo {})?;
-    let lexer = check_rows(&rt, "lexer.rows", &mut Lexer::new())?;
-    let parser = check_rows(&rt, "parser.rows", &mut Parser::new(alloc))?;
-    let member = check_rows(&rt, "member.rows", &mut Members::new())?;
-    let verdict = check_rows(&rt, "verdict.rows", &mut Verdicts::new(alloc))?;
-    let report = check_rows(&rt, "report.rows", &mut Verdicts::new(alloc))?;
-    let texts = rows && lexer && parser;
-    ensure!(
-        texts && member && verdict && report,
-        "a row has another answer"
-    );
+    let mut tally = Tally::new();
+    check_files::<HostRuntime, Echo>(&rt, &mut tally, &["rows/written.rows"])?;
+    try_model(&rt, &mut tally)?;
+    try_texts(&rt, &mut tally)?;
+    try_definitions(&rt, &mut tally)?;
+    try_schemas(&rt, &mut tally)?;
+    try_octets(&rt, &mut tally)?;
+    try_messages(&rt, &mut tally)?;
+    try_policies(&rt, &mut tally)?;
+    try_streams(&rt, &mut tally)?;
+    let as_expected = tally.close(&rt)?;
+    ensure!(as_expected, "a row has another answer");
     Ok(())
+}
+
+/// How tags, sites and characters are written.
+fn try_model<R: Files + Print + AllocGlobal>(rt: &R, tally: &mut Tally) -> io::Result<()> {
+    check_files::<R, Alphabets>(rt, tally, &["model/alphabets.rows"])?;
+    check_files::<R, Printed>(rt, tally, &["model/printed.rows"])
+}
+
+/// From a text to its tree, and what the names in trees mean.
+fn try_texts<R: Files + Print + AllocGlobal>(rt: &R, tally: &mut Tally) -> io::Result<()> {
+    check_files::<R, Lexer>(
+        rt,
+        tally,
+        &[
+            "lexer/marks.rows",
+            "lexer/reserved_words.rows",
+            "lexer/hyphens_and_comments.rows",
+            "lexer/strings.rows",
+            "lexer/numbers.rows",
+            "lexer/faults.rows",
+            "lexer/sites.rows",
+        ],
+    )?;
+    check_files::<R, Parser>(
+        rt,
+        tally,
+        &[
+            "syntax/productions.rows",
+            "syntax/unexpected.rows",
+            "syntax/left_out.rows",
+            "syntax/named_bits.rows",
+            "syntax/nesting.rows",
+            "syntax/sites.rows",
+            "syntax/session.rows",
+        ],
+    )?;
+    check_files::<R, NamesRows>(
+        rt,
+        tally,
+        &[
+            "names/order_of_definitions.rows",
+            "names/meanings.rows",
+            "names/faults.rows",
+            "names/large_modules.rows",
+        ],
+    )
+}
+
+/// Tags, values and constraints that are written in definitions.
+fn try_definitions<R: Files + Print + AllocGlobal>(rt: &R, tally: &mut Tally) -> io::Result<()> {
+    check_files::<R, TaggingRows>(
+        rt,
+        tally,
+        &[
+            "tagging/tags.rows",
+            "tagging/components_of.rows",
+            "tagging/names_and_numbers.rows",
+            "tagging/limits.rows",
+            "tagging/order_of_faults.rows",
+            "tagging/large_modules.rows",
+        ],
+    )?;
+    check_files::<R, TaggedOctets>(
+        rt,
+        tally,
+        &["tagging/octets.rows", "tagging/octets_from_asn1c.rows"],
+    )?;
+    check_files::<R, ValuesRows>(
+        rt,
+        tally,
+        &[
+            "values/numbers_and_items.rows",
+            "values/strings.rows",
+            "values/object_identifiers.rows",
+            "values/components_and_elements.rows",
+            "values/braces.rows",
+            "values/visible_names.rows",
+            "values/long_values.rows",
+            "values/large_lists.rows",
+        ],
+    )?;
+    try_constraints(rt, tally)
+}
+
+fn try_constraints<R: Files + Print + AllocGlobal>(rt: &R, tally: &mut Tally) -> io::Result<()> {
+    check_files::<R, ConstraintsRows>(
+        rt,
+        tally,
+        &[
+            "constraints/elements_by_kind.rows",
+            "constraints/contained_types.rows",
+            "constraints/ranges.rows",
+            "constraints/set_operations.rows",
+            "constraints/sizes.rows",
+            "constraints/alphabets.rows",
+            "constraints/with_components.rows",
+            "constraints/large_sets.rows",
+        ],
+    )?;
+    check_files::<R, IntSets>(rt, tally, &["constraints/int_sets.rows"])?;
+    check_files::<R, SetTrees>(rt, tally, &["constraints/int_set_trees.rows"])
+}
+
+/// Which lists of texts are a schema, and which types it has.
+fn try_schemas<R: Files + Print + AllocGlobal>(rt: &R, tally: &mut Tally) -> io::Result<()> {
+    check_files::<R, Schemas>(
+        rt,
+        tally,
+        &[
+            "schema/built_in.rows",
+            "schema/kinds_and_tags.rows",
+            "schema/clashes.rows",
+            "schema/each_fault.rows",
+            "schema/order_of_faults.rows",
+            "schema/limits.rows",
+            "schema/long_texts.rows",
+            "schema/three_tag_defaults.rows",
+            "schema/same_names.rows",
+            "schema/tags_by_module.rows",
+            "schema/filled_in.rows",
+            "schema/orders.rows",
+            "schema/beginnings.rows",
+            "schema/settlement.rows",
+            "schema/public_standards.rows",
+        ],
+    )
+}
+
+/// From values to octets, and back.
+fn try_octets<R: Files + Print + AllocGlobal>(rt: &R, tally: &mut Tally) -> io::Result<()> {
+    check_files::<R, Headers>(rt, tally, &["der/headers.rows"])?;
+    check_files::<R, Encoding>(
+        rt,
+        tally,
+        &[
+            "der/encodings/boolean_and_null.rows",
+            "der/encodings/integer.rows",
+            "der/encodings/enumerated.rows",
+            "der/encodings/bit_string.rows",
+            "der/encodings/octet_string.rows",
+            "der/encodings/object_identifier.rows",
+            "der/encodings/character_strings.rows",
+            "der/encodings/tags.rows",
+            "der/encodings/choice.rows",
+            "der/encodings/sequence.rows",
+            "der/encodings/set.rows",
+            "der/encodings/sequence_of.rows",
+            "der/encodings/set_of.rows",
+            "der/encodings/order.rows",
+            "der/encodings/personnel_record.rows",
+            "der/encodings/limits.rows",
+        ],
+    )?;
+    try_breaches(rt, tally)
+}
+
+/// What is wrong with octets that are no encoding.
+fn try_breaches<R: Files + Print + AllocGlobal>(rt: &R, tally: &mut Tally) -> io::Result<()> {
+    check_files::<R, Decoding>(
+        rt,
+        tally,
+        &[
+            "der/breaches/boolean_and_null.rows",
+            "der/breaches/integer.rows",
+            "der/breaches/enumerated.rows",
+            "der/breaches/bit_string.rows",
+            "der/breaches/octet_string.rows",
+            "der/breaches/object_identifier.rows",
+            "der/breaches/character_strings.rows",
+            "der/breaches/tags.rows",
+            "der/breaches/choice.rows",
+            "der/breaches/sequence.rows",
+            "der/breaches/set.rows",
+            "der/breaches/sequence_of.rows",
+            "der/breaches/set_of.rows",
+            "der/breaches/sites_and_paths.rows",
+            "der/breaches/order.rows",
+            "der/breaches/personnel_record.rows",
+            "der/breaches/limits.rows",
+        ],
+    )
+}
+
+/// Members of types, and the types of a message and its rules.
+fn try_messages<R: Files + Print + AllocGlobal>(rt: &R, tally: &mut Tally) -> io::Result<()> {
+    check_files::<R, Members>(
+        rt,
+        tally,
+        &[
+            "eval/ranges.rows",
+            "eval/parts.rows",
+            "eval/set_operations.rows",
+            "eval/single_values.rows",
+            "eval/sizes.rows",
+            "eval/alphabets.rows",
+            "eval/contained_types.rows",
+            "eval/with_components.rows",
+            "eval/with_component.rows",
+            "eval/definitions.rows",
+        ],
+    )?;
+    check_files::<R, Tables>(
+        rt,
+        tally,
+        &["tables/types_of_rules.rows", "tables/limits.rows"],
+    )
+}
+
+/// Policies, verdicts and their texts.
+fn try_policies<R: Files + Print + AllocGlobal>(rt: &R, tally: &mut Tally) -> io::Result<()> {
+    check_files::<R, Policies>(
+        rt,
+        tally,
+        &[
+            "policy/documents.rows",
+            "policy/messages.rows",
+            "policy/rules.rows",
+            "policy/tables.rows",
+            "policy/module_files.rows",
+            "policy/plain_routes.rows",
+        ],
+    )?;
+    check_files::<R, Verdicts>(
+        rt,
+        tally,
+        &[
+            "policy/verdicts/order_of_reasons.rows",
+            "policy/verdicts/built_in.rows",
+            "policy/verdicts/prefixes.rows",
+            "policy/verdicts/orders.rows",
+            "policy/verdicts/any_sender.rows",
+            "policy/verdicts/named_bits.rows",
+            "policy/verdicts/wider_rule.rows",
+            "policy/verdicts/outside.rows",
+            "policy/verdicts/outside_named_bits.rows",
+        ],
+    )?;
+    check_files::<R, Reports>(rt, tally, &["report/texts_of_verdicts.rows"])
+}
+
+/// Streams of frames, many links, and the program.
+fn try_streams<R: Files + Print + AllocGlobal>(rt: &R, tally: &mut Tally) -> io::Result<()> {
+    check_files::<R, Streams>(
+        rt,
+        tally,
+        &[
+            "frames/streams.rows",
+            "frames/bodies.rows",
+            "frames/long_bodies.rows",
+            "frames/pieces.rows",
+            "frames/failing_devices.rows",
+            "frames/one_link.rows",
+            "frames/under_a_policy.rows",
+        ],
+    )?;
+    check_files::<R, TextStreams>(rt, tally, &["frames/texts.rows"])?;
+    check_files::<R, Links>(rt, tally, &["frames/many_links.rows"])?;
+    check_files::<R, Programs>(
+        rt,
+        tally,
+        &[
+            "program/words_files_streams.rows",
+            "program/many_links.rows",
+        ],
+    )
 }

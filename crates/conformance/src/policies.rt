@@ -1,117 +1,112 @@
-//! A policy that is made of rows, a message and a rule at a time.
-ghost use Rattle.std.specs.Prelude.{◌≡◌, map, All, IsTrue, IfOk};
-ghost use Rattle.guard_model.specs.TypeView.{type_view};
-ghost use Rattle.guard_der.specs.Sound.{is_sound};
-ghost use Rattle.guard_policy.specs.Policies.{message_view, rule_view};
-
-use guard_der::sound;
-use guard_model::{OutOfMemory, Ty};
-use guard_policy::{Effect, Message, Policy, PolicyFault, Refused, Rule};
+//! `module_files`, `Policy::load` and `Route::is_plain`: what the text of a policy says over modules, else its first
+//! fault.
+use crate::verdicts::{counted, keep_modules};
+use conformance_rows::{Layer, text_of, unknown};
+use guard_frames::Modules;
+use guard_policy::{Policy, PolicyFault, Route, module_files};
 use std::alloc::{AllocError, Global};
 
-/// Messages and rules that a policy may have.
+/// What the rows ask.
+#[derive(Clone, Copy, Drop)]
+enum Asked {
+    /// How many messages and rules the policy of a text has.
+    Load,
+    /// The files of modules that a text lists.
+    Files,
+    /// Whether the sender, the receiver and the name of a message are names.
+    Plain,
+}
+
 #[derive(Drop)]
-pub struct Draft {
-    messages: Vec<Message>,
-    rules: Vec<Rule>,
-    ghost messages_sound: { All (λ m. IsTrue (is_sound m.ty)) (map message_view messages.items) },
-    ghost rules_sound: { All (λ r. IsTrue (is_sound r.ty)) (map rule_view rules.items) },
+pub struct Policies {
+    asked: Asked,
+    before: Vec<u8>,
+    modules: Option<Modules>,
 }
 
-/// What a rule speaks of.
-#[derive(Clone, Copy)]
-pub struct Heading<'a> {
-    pub name: &'a str,
-    pub effect: Effect,
-    pub from: &'a str,
-    pub to: &'a str,
-    pub message: &'a str,
-}
-
-impl Draft {
-    pub fn new(alloc: Global) -> Draft {
-        Draft {
-            messages: Vec::new(alloc),
-            rules: Vec::new(alloc),
-        }
+impl Policies {
+    /// The text of a policy, with what is before it.
+    fn whole(&self, alloc: Global, text: &[u8]) -> Result<Vec<u8>, AllocError> {
+        let mut whole = Vec::from_slice(alloc, &self.before)?;
+        whole.extend_from_slice(text)?;
+        Ok(whole)
     }
 
-    /// Adds a message, and answers whether that was possible: the type is sound.
-    pub fn declare(&mut self, alloc: Global, name: &str, ty: &Ty) -> Result<bool, OutOfMemory> {
-        if !sound(alloc, ty)? {
-            return Ok(false);
-        }
-        let name = String::from_str(alloc, name)?;
-        let ty = ty.copy(alloc)?;
-        self.add_message(Message { name, ty })?;
-        Ok(true)
-    }
-
-    /// Adds a rule, and answers whether that was possible: its type, or where none is given that of its message, is there and sound.
-    pub fn rule(
-        &mut self,
-        alloc: Global,
-        heading: &Heading,
-        ty: Option<&Ty>,
-    ) -> Result<bool, OutOfMemory> {
-        let given = match ty {
-            Some(ty) => Some(ty),
-            None => declared_type(&self.messages, heading.message),
-        };
-        let Some(ty) = given else {
-            return Ok(false);
-        };
-        if !sound(alloc, ty)? {
-            return Ok(false);
-        }
-        let rule = rule_of(alloc, heading, ty)?;
-        self.add_rule(rule)?;
-        Ok(true)
-    }
-
-    fn add_message(&mut self, message: Message) -> Result<(), AllocError>
-        requires { IsTrue (is_sound (type_view message.ty)) }
-    {
-        self.messages.push(message)?;
-        Ok(())
-    }
-
-    fn add_rule(&mut self, rule: Rule) -> Result<(), AllocError>
-        requires { IsTrue (is_sound (type_view rule.ty)) }
-    {
-        self.rules.push(rule)?;
-        Ok(())
-    }
-
-    /// The policy, over modules of these names, or why there is none.
-    pub fn policy(self, alloc: Global, modules: Vec<String>) -> Result<Policy, PolicyFault> {
-        let Draft { messages, rules } = self;
-        match Policy::new(alloc, messages, rules, modules) {
-            Ok(policy) => Ok(policy),
-            Err(Refused { fault, .. }) => Err(fault),
+    fn loaded(&self, alloc: Global, text: &[u8]) -> Result<String, AllocError> {
+        match &self.modules {
+            Some(modules) => counted(alloc, &Policy::load(alloc, text, modules)),
+            None => String::from_str(alloc, "no modules"),
         }
     }
 }
 
-/// The declared type of the first message of this name.
-fn declared_type<'a>(messages: &'a [Message], name: &str) -> Option<&'a Ty> {
-    for message in messages {
-        if message.name.as_str() == name {
-            return Some(&message.ty);
-        }
+/// The files, separated by spaces.
+fn listed(alloc: Global, text: &[u8]) -> Result<String, AllocError> {
+    match module_files(alloc, text) {
+        Ok(files) if files.is_empty() => String::from_str(alloc, "none"),
+        Ok(files) => joined(alloc, &files),
+        Err(PolicyFault::OutOfMemory) => Err(AllocError),
+        Err(fault) => format!(in alloc; "{fault}"),
     }
-    None
 }
 
-fn rule_of(alloc: Global, heading: &Heading, ty: &Ty) -> Result<Rule, OutOfMemory>
-    ensures { IfOk result (λ r. type_view r.ty ≡ type_view ty.now) }
-{
-    Ok(Rule {
-        name: String::from_str(alloc, heading.name)?,
-        effect: heading.effect,
-        from: String::from_str(alloc, heading.from)?,
-        to: String::from_str(alloc, heading.to)?,
-        message: String::from_str(alloc, heading.message)?,
-        ty: ty.copy(alloc)?,
-    })
+fn joined(alloc: Global, names: &[String]) -> Result<String, AllocError> {
+    let mut text = String::new(alloc);
+    for name in names {
+        if !text.is_empty() {
+            text.push_str(" ")?;
+        }
+        text.push_str(name)?;
+    }
+    Ok(text)
+}
+
+/// Whether `FROM TO MESSAGE` are names.
+fn plain(alloc: Global, text: &str) -> Result<String, AllocError> {
+    let (from, rest) = text.split_once(' ').unwrap_or((text, ""));
+    let (to, message) = rest.split_once(' ').unwrap_or((rest, ""));
+    let route = Route {
+        from: from.as_bytes(),
+        to: to.as_bytes(),
+        message: message.as_bytes(),
+    };
+    let answer = if route.is_plain() {
+        "plain"
+    } else {
+        "not plain"
+    };
+    String::from_str(alloc, answer)
+}
+
+impl Layer for Policies {
+    fn new(alloc: Global) -> Policies {
+        Policies {
+            asked: Asked::Load,
+            before: Vec::new(alloc),
+            modules: None,
+        }
+    }
+
+    fn answer(&mut self, alloc: Global, input: &[u8]) -> Result<String, AllocError> {
+        let text = self.whole(alloc, input)?;
+        match self.asked {
+            Asked::Load => self.loaded(alloc, &text),
+            Asked::Files => listed(alloc, &text),
+            Asked::Plain => plain(alloc, text_of(&text)),
+        }
+    }
+
+    /// `@schema` with the text of a module sets the modules; `@before` what is before each text; `@ask load`,
+    /// `@ask files` and `@ask plain`.
+    fn set(&mut self, alloc: Global, name: &str, text: &[u8]) -> Result<String, AllocError> {
+        match (name, text_of(text)) {
+            ("schema", _) => return keep_modules(alloc, &mut self.modules, text),
+            ("before", _) => self.before = Vec::from_slice(alloc, text)?,
+            ("ask", "load") => self.asked = Asked::Load,
+            ("ask", "files") => self.asked = Asked::Files,
+            ("ask", "plain") => self.asked = Asked::Plain,
+            _ => return unknown(alloc),
+        }
+        String::from_str(alloc, "ok")
+    }
 }

@@ -1,4 +1,5 @@
-//! Types, values and octets as rows write them: the notation of X.680, and a few words for what it can't write.
+//! Types and values that no text gives, as rows write them: the notation of X.680, and a few words for what it can't
+//! write.
 //!
 //! | written | what it is |
 //! |---|---|
@@ -13,8 +14,7 @@
 //! | `'A1'H UNUSED 5` | a string of bits by the octets that are kept for it, and how many of their last bits are none of its |
 //! | `'00'H` for a character string | the string by the octets of its UTF-8 |
 //!
-//! The notation is read and not checked: components may share a name or a tag, and any constraint may stand behind any
-//! type.
+//! The notation is read and not checked: components may share a name or a tag, and any constraint may follow any type.
 //!
 //! | question | file |
 //! |---|---|
@@ -33,8 +33,7 @@ mod unread;
 mod values;
 mod words;
 
-pub use octets::octets_of;
 pub use tags::tag_of;
-pub use types::{characters_of, type_of};
+pub use types::type_of;
 pub use unread::{Unread, read};
 pub use values::{typed_value_of, value_of};

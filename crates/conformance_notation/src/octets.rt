@@ -1,35 +1,15 @@
 //! Octets in hexadecimal digits, and bits.
 use crate::unread::Unread;
+use conformance_rows::octets_in;
 use guard_model::Bits;
 use std::alloc::Global;
 
-fn digit_of(letter: u8) -> Option<u8> {
-    match letter {
-        b'0'..=b'9' => Some(letter - b'0'),
-        b'A'..=b'F' => Some(letter - b'A' + 10),
-        _ => None,
-    }
-}
-
 /// The octets that hexadecimal digits write, two for each, the last one filled with zeros; spaces are for reading.
 pub fn octets_of(alloc: Global, text: &str) -> Result<Vec<u8>, Unread> {
-    let mut octets = Vec::new(alloc);
-    let mut high = None;
-    for letter in text.as_bytes() {
-        match (digit_of(*letter), high) {
-            (Some(digit), None) => high = Some(u8::wrapping_mul(digit, 16)),
-            (Some(digit), Some(upper)) => {
-                octets.push(upper | digit)?;
-                high = None;
-            }
-            (None, _) if *letter == b' ' => {}
-            _ => return Err(Unread::Malformed),
-        }
+    match octets_in(alloc, text)? {
+        Some(octets) => Ok(octets),
+        None => Err(Unread::Malformed),
     }
-    if let Some(upper) = high {
-        octets.push(upper)?;
-    }
-    Ok(octets)
 }
 
 /// The string of bits that hexadecimal digits write, four for each.

@@ -250,7 +250,7 @@ impl Words<'_> {
 }
 
 /// The kind of character string that has this name.
-pub fn characters_of(word: &str) -> Result<CharKind, Unread> {
+pub(crate) fn characters_of(word: &str) -> Result<CharKind, Unread> {
     match word {
         "UTF8String" => Ok(CharKind::Utf8),
         "NumericString" => Ok(CharKind::Numeric),

@@ -58,7 +58,7 @@ fn add(octets: &mut Vec<u8>, text: &str, copy: u32) -> Result<bool, AllocError> 
     Ok(true)
 }
 
-/// Adds what stands behind a backslash.
+/// Adds what comes after a backslash.
 fn add_escape(octets: &mut Vec<u8>, part: &[u8], copy: u32) -> Result<bool, AllocError> {
     let rest = match part {
         [b'n', rest @ ..] => {

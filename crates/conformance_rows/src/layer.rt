@@ -3,7 +3,10 @@ use std::alloc::{AllocError, Global};
 use std::str;
 
 /// What answers the rows of a file.
-pub trait Layer {
+pub trait Layer: Drop {
+    /// The layer at the head of a file, where nothing is set.
+    fn new(alloc: Global) -> Self;
+
     /// The answer to the input of a row.
     fn answer(&mut self, alloc: Global, input: &[u8]) -> Result<String, AllocError>;
 
@@ -18,4 +21,14 @@ pub fn text_of(input: &[u8]) -> &str {
         Ok(text) => text,
         Err(_) => "(not UTF-8)",
     }
+}
+
+/// What isn't written as it should be.
+pub fn not_read(alloc: Global) -> Result<String, AllocError> {
+    String::from_str(alloc, "(not read)")
+}
+
+/// A directive that a layer doesn't have.
+pub fn unknown(alloc: Global) -> Result<String, AllocError> {
+    String::from_str(alloc, "unknown")
 }

@@ -1,18 +1,22 @@
-//! Rows: inputs with the answers that are expected of a layer, read from a file and compared with what it answers.
+//! Rows: inputs with the answers that are expected of a layer, read from files and compared with what it answers.
 //!
 //! | question | file |
 //! |---|---|
+//! | which files are read, and how many rows they have in all | `tally.rt` |
 //! | what the lines of a file are, and which row differs | `rows.rt` |
-//! | how octets are written in a row | `escapes.rt` |
+//! | how octets are written in a row | `escapes.rt`, in hexadecimal digits `digits.rt` |
 //! | what a program says of its layer | `layer.rt` |
-//! | what stands round each text of a group of rows | `around.rt` |
+//! | what is before and after each text of a group of rows | `around.rt` |
 #![tactic(auto)]
 
 mod around;
+mod digits;
 mod escapes;
 mod layer;
 mod rows;
+mod tally;
 
 pub use around::Around;
-pub use layer::{Layer, text_of};
-pub use rows::check_rows;
+pub use digits::octets_in;
+pub use layer::{Layer, not_read, text_of, unknown};
+pub use tally::{Tally, check_files};

@@ -1,6 +1,7 @@
 //! The lines of a file of rows.
 use crate::escapes::octets_of;
 use crate::layer::Layer;
+use crate::tally::Tally;
 use std::alloc::{AllocError, Global};
 use std::rt::Files;
 use std::{fs, io};
@@ -8,14 +9,13 @@ use std::{fs, io};
 const NO_ESCAPE: &str = "(a backslash begins nothing)";
 
 /// Reads a file of rows, prints each row whose answer isn't the expected one, with both, and then how many rows there
-/// were; answers whether all were as expected.
-///
-/// The file lies where the program runs, or there in the folder `data`.
-pub fn check_rows<R: Files + Print + AllocGlobal, L: Layer>(
+/// were, and adds them to the tally.
+pub(crate) fn check_rows<R: Files + Print + AllocGlobal, L: Layer>(
     rt: &R,
+    tally: &mut Tally,
     file: &str,
     layer: &mut L,
-) -> io::Result<bool> {
+) -> io::Result<()> {
     let text = read(rt, file)?;
     let mut rows = Rows {
         file,
@@ -26,6 +26,8 @@ pub fn check_rows<R: Files + Print + AllocGlobal, L: Layer>(
     for (index, line) in text.lines().enumerate() {
         rows.take(rt, layer, index.saturating_add(1), line)?;
     }
+    tally.rows = tally.rows.saturating_add(rows.read);
+    tally.differing = tally.differing.saturating_add(rows.differing);
     rows.close(rt)
 }
 
@@ -50,7 +52,7 @@ struct Rows<'a> {
 
 impl Rows<'_> {
     /// Takes the next line.
-    fn take<R: Print + AllocGlobal, L: Layer>(
+    fn take<R: Files + Print + AllocGlobal, L: Layer>(
         &mut self,
         rt: &R,
         layer: &mut L,
@@ -58,6 +60,11 @@ impl Rows<'_> {
         line: &str,
     ) -> io::Result<()> {
         if line.is_empty() || line == "#" || line.starts_with("# ") {
+            return Ok(());
+        }
+        if let Some(file) = line.strip_prefix("|< ") {
+            let text = read(rt, file)?;
+            self.before.extend_from_slice(text.as_bytes())?;
             return Ok(());
         }
         if let Some(text) = line.strip_prefix('|') {
@@ -127,16 +134,15 @@ impl Rows<'_> {
         println!(rt; "    answered: {answer}")
     }
 
-    /// Prints the counts, and answers whether no row differed.
-    fn close<R: Print>(&self, rt: &R) -> io::Result<bool> {
+    /// Prints how many rows there were.
+    fn close<R: Print>(&self, rt: &R) -> io::Result<()> {
         let file = self.file;
         let read = self.read;
         let differing = self.differing;
         if differing == 0 {
-            println!(rt; "{file}: {read} rows")?;
+            println!(rt; "{file}: {read} rows")
         } else {
-            println!(rt; "{file}: {read} rows, {differing} with another answer")?;
+            println!(rt; "{file}: {read} rows, {differing} with another answer")
         }
-        Ok(differing == 0)
     }
 }

@@ -1,8 +1,0 @@
-use Rattle.std.proofs.Common.{All, sym, subst}
-use Rattle.std.proofs.lemmas.List.Elements.{All-map}
-use Rattle.guard_syntax.specs.ModuleViews.{module_view}
-use Rattle.guard_tagging.specs.Spelled.{IsSpelledModule}
-use Rattle.conformance_modules.proofs.tagging.TaggingRows.resolved.Goals as goal
-
-pub built-requires : goal.built-requires
-built-requires c = subst (All IsSpelledModule) (sym c.in-Ok.ensures.modules) (All-map IsSpelledModule module_view c.args.modules.now c.requires)

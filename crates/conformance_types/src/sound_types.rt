@@ -1,0 +1,25 @@
+//! `sound`: whether a type is sound.
+use crate::type_row::soundness;
+use conformance_notation::{read, type_of};
+use conformance_rows::{Layer, not_read, text_of, unknown};
+use std::alloc::{AllocError, Global};
+
+#[derive(Drop)]
+pub struct SoundTypes;
+
+impl Layer for SoundTypes {
+    fn new(_alloc: Global) -> SoundTypes {
+        SoundTypes
+    }
+
+    fn answer(&mut self, alloc: Global, input: &[u8]) -> Result<String, AllocError> {
+        match read(type_of(alloc, text_of(input)))? {
+            Some(ty) => soundness(alloc, &ty),
+            None => not_read(alloc),
+        }
+    }
+
+    fn set(&mut self, alloc: Global, _name: &str, _text: &[u8]) -> Result<String, AllocError> {
+        unknown(alloc)
+    }
+}

@@ -58,7 +58,7 @@ member_from (suc n) t base i end places os m left within room =
     let next : base + suc i ≡ suc k = omega arith in
     let rest = parts_between (spots_in t) (suc k) (end - suc k) in
     let later : member_judged rest (suc i) places os m ≡ (member_found rest (suc i) os >>= λ x. judged_there t base places m x) =
-        rw next at (member_from n t base (suc i) end places os m (omega (arith, left, next)) (omega (arith, lt, next)) room) in
+    rw next at (member_from n t base (suc i) end places os m (omega (arith, left, next)) (omega (arith, lt, next)) room) in
     ap (λ (ps : Parts). member_judged ps i places os m) (parts_step (spots_in t) k end lt (omega (arith, room, spots_length t)))
     ∙ first_judged s.side s.plan rest i places os m
     ∙ by_front t base i (sight_at (spots_in t) k os) places m (member_judged rest (suc i) places os m) (member_found rest (suc i) os) later

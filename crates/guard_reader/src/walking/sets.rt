@@ -6,7 +6,7 @@ ghost use Rattle.guard_reader.specs.Judging.{contents_judged};
 ghost use Rattle.guard_reader.specs.inside.Answers.{Answers};
 ghost use Rattle.guard_reader.specs.inside.NodeParts.{IsSet};
 
-use crate::members::{absences, is_read, member, next_tag, with_read};
+use crate::set_members::{absences, is_read, member, next_tag, with_read};
 use crate::walking::series::present;
 use guard_model::Tag;
 use guard_tables::{Nodes, Slots};

@@ -539,12 +539,14 @@ sets::set-loop-rest-preserved t c =
     let kept : AreRead ps c.args.octets.now c.in-Some-member.next.now c.with_read-read.result (c.in-Some-member.place ∷ places) = record {
       reach = (c.loop-rest.rest.now, c.in-Some-member.inside.now, c.loop-rest.invariant.1.reach, sym c.in-Some-member.ensures.found);
       kept = λ i low. c.with_read-read.ensures i low ∙ ap (λ (b : Bool). nat_eq c.in-Some-member.place i || b) (c.loop-rest.invariant.1.kept i low);
-    } in
-    (c.in-Some-member.place ∷ places, kept,
-    sym (one_member ps places c.loop-rest.last c.loop-rest.rest.now c.loop-rest.failed c.present.new.failed c.in-Some.tag c.in-Some-member.place c.in-Some-member.next.now some tag
-    (judged_new c.args.table.now h.first h.count places c.loop-rest.rest.now c.in-Some-member.inside.now c.in-Some-member.next.now c.loop-rest.failed c.in-Some-member.place (Some c.present.new.failed) room c.in-Some-member.ensures.found new
-    (yes c.present.result c.present.new.failed _ c.present.ensures c.if-not-present.false)))
-    ∙ c.loop-rest.invariant.2)
+    } in (
+      c.in-Some-member.place ∷ places,
+      kept,
+      sym (one_member ps places c.loop-rest.last c.loop-rest.rest.now c.loop-rest.failed c.present.new.failed c.in-Some.tag c.in-Some-member.place c.in-Some-member.next.now some tag
+          (judged_new c.args.table.now h.first h.count places c.loop-rest.rest.now c.in-Some-member.inside.now c.in-Some-member.next.now c.loop-rest.failed c.in-Some-member.place (Some c.present.new.failed) room c.in-Some-member.ensures.found new
+          (yes c.present.result c.present.new.failed _ c.present.ensures c.if-not-present.false)))
+          ∙ c.loop-rest.invariant.2,
+    )
 
 pub sets::set-absences-requires : goal.sets::set-absences-requires
 sets::set-absences-requires t c =

@@ -3,7 +3,7 @@ use Rattle.guard_tables.specs.NodesView.{spots_in}
 use Rattle.guard_tables.specs.TableNodes.{parts_between}
 use Rattle.guard_reader.specs.Judging.{absences_at}
 use Rattle.guard_reader.specs.inside.Members.{AreRead}
-use Rattle.guard_reader.proofs.members.absences.Given as goal
+use Rattle.guard_reader.proofs.set_members.absences.Given as goal
 
 abbrev pub invariant-loop-k : goal.invariant-loop-k
 invariant-loop-k l =

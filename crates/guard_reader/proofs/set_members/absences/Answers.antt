@@ -4,7 +4,7 @@ use Rattle.guard_reader.specs.Judging.{is_read}
 use Rattle.guard_reader.proofs.Elements.{bind_some, bind_none}
 use Rattle.guard_reader.proofs.SetSteps.{absences_read, absences_unread, absences_end}
 use Rattle.guard_reader.proofs.Steps.{yes, no}
-use Rattle.guard_reader.proofs.members.absences.Goals as goal
+use Rattle.guard_reader.proofs.set_members.absences.Goals as goal
 
 pub loop-k-preserved-then-was_read : goal.loop-k-preserved-then-was_read
 loop-k-preserved-then-was_read c = λ places read.

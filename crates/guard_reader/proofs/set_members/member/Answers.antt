@@ -5,7 +5,7 @@ use Rattle.guard_reader.specs.Fronts.{Front}
 use Rattle.guard_reader.specs.inside.Members.{found_at, member_found}
 use Rattle.guard_reader.proofs.FrontSteps.{front_within}
 use Rattle.guard_reader.proofs.MemberSteps.{member_step, member_end}
-use Rattle.guard_reader.proofs.members.member.Goals as goal
+use Rattle.guard_reader.proofs.set_members.member.Goals as goal
 
 pub loop-k-init : goal.loop-k-init
 loop-k-init c =

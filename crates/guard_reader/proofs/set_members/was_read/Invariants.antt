@@ -3,7 +3,7 @@ use Rattle.guard_tables.specs.NodesView.{spots_in}
 use Rattle.guard_tables.specs.TableNodes.{parts_between}
 use Rattle.guard_reader.specs.inside.Members.{Reach}
 use Rattle.guard_reader.proofs.MemberSteps.{Looked}
-use Rattle.guard_reader.proofs.members.was_read.Given as goal
+use Rattle.guard_reader.proofs.set_members.was_read.Given as goal
 
 abbrev pub invariant-loop-rest : goal.invariant-loop-rest
 invariant-loop-rest l =

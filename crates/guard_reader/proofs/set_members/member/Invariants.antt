@@ -2,7 +2,7 @@ use Rattle.std.proofs.Common.{◌≡◌, ◌-◌}
 use Rattle.guard_tables.specs.NodesView.{spots_in}
 use Rattle.guard_tables.specs.TableNodes.{parts_between}
 use Rattle.guard_reader.specs.inside.Members.{member_found}
-use Rattle.guard_reader.proofs.members.member.Given as goal
+use Rattle.guard_reader.proofs.set_members.member.Given as goal
 
 abbrev pub invariant-loop-k : goal.invariant-loop-k
 invariant-loop-k l =

@@ -2,12 +2,19 @@
 pub mod Lengths
 pub mod Small
 pub mod Elements
+pub mod FrontSteps
+pub mod Passes
 -- ---- contents of simple kinds
 pub mod Subidentifiers
 pub mod Utf8
 -- ---- what the walk takes from nodes, and one step of it
-pub mod NodeSteps
+pub mod ByHeader
+pub mod NodeTags
 pub mod Steps
+pub mod NodeSteps
+pub mod ElementCounts
+pub mod MemberSteps
+pub mod SetSteps
 -- ---- a pass reads octets as decoding does
 pub mod Fronts
 pub mod Places

@@ -1,3 +1,5 @@
 -- What only private contracts and proofs cite.
 pub mod NodeParts
 pub mod Answers
+pub mod FrontViews
+pub mod Members

@@ -2,7 +2,7 @@
 ghost use Rattle.std.specs.Prelude.{◌≡◌, ◌∷◌, ◌≤◌, option_map};
 ghost use Rattle.guard_der.specs.Head.{length_at};
 ghost use Rattle.guard_reader.specs.Octets.{split, cut, size_at};
-ghost use Rattle.guard_reader.specs.Judging.{after_one};
+ghost use Rattle.guard_reader.specs.Fronts.{after_one};
 
 /// The number that a length of the long form spells; 0 where it is at fault.
 #[cold]

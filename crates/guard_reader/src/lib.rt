@@ -1,12 +1,12 @@
 //! Reading octets by a table, in one pass and without memory.
 //!
-//! What is read as yet: BOOLEAN, INTEGER, ENUMERATED, BIT STRING, OCTET STRING, NULL, OBJECT IDENTIFIER, character strings,
-//! SEQUENCE, SEQUENCE OF and SET OF, each type with one tag below 31, what is asked of their values as a whole, and formulas.
-//! Of a table with other nodes nothing is claimed.
+//! All kinds are read, with tags of any number, each but the last explicit, and CHOICE without one.
 //!
 //! | question | code | definition |
 //! |---|---|---|
-//! | What fails at the value that octets encode? | `walking.rt` (`failures`), lengths `header.rt` | `specs/Judging.antt`, `specs/Fronts.antt` |
+//! | What fails at the value that octets encode? | `walking.rt` (`failures`), by kind `walking/`, plain numbers `plain.rt` | `specs/Judging.antt` |
+//! | Is an element of a node at the front of octets? | `element_fronts.rt`, tags `layers.rt`, lengths `header.rt` | `specs/Fronts.antt` |
+//! | Which component of a SET is next, and which were read? | `set_members.rt` | `specs/Judging.antt`, `specs/inside/Members.antt` |
 //! | Which contents octets are lawful for a simple kind, and what fails at their value? | `simple.rt`, `contents.rt`, `numbers.rt`, `object_id.rt` | `specs/Judging.antt`, and of `guard_der` `specs/Simple.antt` |
 //! | Do the elements of a SET OF ascend? | `order.rt` | of `guard_der` `specs/Fits.antt` |
 //! | What is asked of a value that has parts as a whole? | `whole.rt` | `specs/Judging.antt` |
@@ -19,12 +19,16 @@
 mod alphabet;
 mod conditions;
 mod contents;
+mod element_fronts;
 mod header;
 pub mod laws;
+mod layers;
 mod marks;
 mod numbers;
 mod object_id;
 mod order;
+mod plain;
+mod set_members;
 mod simple;
 mod table_walk;
 mod walking;

@@ -1,7 +1,7 @@
 //! The order of the elements of a SET OF (X.690 11.6).
 ghost use Rattle.std.specs.Prelude.{◌≡◌, ◌≤◌, length, slice_index};
 ghost use Rattle.guard_der.specs.Fits.{descends};
-ghost use Rattle.guard_reader.specs.Judging.{front_of};
+ghost use Rattle.guard_reader.specs.Fronts.{front_of};
 
 /// The first descends to the second, octet by octet, the shorter one padded with zero octets.
 pub fn descends(octets: &[u8], next: &[u8]) -> bool

@@ -1,14 +1,14 @@
 //! What is asked of a value that has parts as a whole: its size, and that it is one single value.
-ghost use Rattle.std.specs.Prelude.{◌≡◌, ◌<◌, pos, map, vec_len, option_map};
+ghost use Rattle.std.specs.Prelude.{◌≡◌, ◌<◌, pos, map, vec_len};
 ghost use Rattle.guard_tables.specs.Marking.{is_in_one, some_passes, test_passes, conditions_marked};
 ghost use Rattle.guard_tables.specs.NodesView.{spots_in};
 ghost use Rattle.guard_tables.specs.NodeViews.{condition_view, test_view};
 ghost use Rattle.guard_tables.specs.TableNodes.{body_at};
-ghost use Rattle.guard_reader.specs.Judging.{after_one, element_count, size_in, whole_facts};
-ghost use Rattle.guard_reader.specs.Octets.{split};
+ghost use Rattle.guard_reader.specs.Judging.{element_count, size_in, whole_facts};
+ghost use Rattle.guard_reader.specs.inside.NodeParts.{sight_at};
 
 use crate::conditions::{are_same, is_in_one};
-use crate::header::split_after;
+use crate::element_fronts::{element, front_at};
 use guard_tables::{Condition, Kind, Nodes, Range, Slots, Test};
 
 /// The size of a list whose octets are lawful; other kinds have none.
@@ -22,38 +22,29 @@ pub fn size_of(table: &Nodes, at: usize, inside: &[u8]) -> Option<usize>
         Kind::Series => None,
         Kind::Set => None,
         Kind::Choice => None,
-        Kind::List => Some(count(inside)),
-        Kind::SetOf => Some(count(inside)),
+        Kind::List => Some(count(table, node.first as usize, inside)),
+        Kind::SetOf => Some(count(table, node.first as usize, inside)),
         Kind::Wrapper => size_of(table, node.first as usize, inside),
         Kind::Asked => size_of(table, node.first as usize, inside),
         Kind::Formula => size_of(table, node.first as usize, inside),
     }
 }
 
-/// How many elements octets have.
-fn count(octets: &[u8]) -> usize
-    ensures { result ≡ element_count octets.now }
+/// How many elements octets have, each of this node.
+fn count(table: &Nodes, at: usize, octets: &[u8]) -> usize
+    requires { at < vec_len table.now.hots }
+    ensures { result ≡ element_count (sight_at (spots_in table.now) at) octets.now }
 {
     let mut count = 0;
     let mut rest = octets;
     while !rest.is_empty() {
-        let Some(next) = after_element(rest) else {
+        let Some((_, next)) = element(front_at(table, at, rest)) else {
             return count;
         };
         count += 1;
         rest = next;
     }
     count
-}
-
-/// What follows the first element.
-fn after_element(octets: &[u8]) -> Option<&[u8]>
-    ensures { option_map (λ next. next.now) result ≡ option_map (λ x. x.1) (split (after_one octets.now)) }
-{
-    match split_after(octets) {
-        Some((_, next)) => Some(next),
-        None => None,
-    }
 }
 
 /// Marks the slots of each condition that doesn't hold.

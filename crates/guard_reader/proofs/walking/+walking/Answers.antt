@@ -1,4 +1,5 @@
-use Rattle.std.proofs.Common.{◌≡◌, ◌∙◌, ◌+◌, ◌-◌, ap, sym, subst, refl, arith, drop, Some, None, Option, ℕ, get_or, ◌∷◌, [], add-one, map, List}
+use Rattle.std.proofs.Common.{◌≡◌, ◌∙◌, ◌+◌, ◌-◌, ◌≤◌, Bool, true, false, vec_len, ap, sym, subst, refl, arith, drop, Some, None, Option, ℕ, get_or, ◌∷◌, [], add-one, map, List, suc}
+use Rattle.std.specs.Prelude.{◌||◌, nat_eq}
 use Rattle.std.proofs.lemmas.List.{take_rest}
 use Rattle.std.proofs.lemmas.Bool.{cond-true, cond-false}
 use Rattle.guard_der.specs.Fits.{descends}
@@ -9,14 +10,20 @@ use Rattle.guard_tables.specs.TableNodes.{spot_at, body_at, parts_between, has_i
 use Rattle.guard_tables.specs.NodeViews.{raise_view}
 use Rattle.guard_tables.specs.Marking.{conditions_marked}
 use Rattle.guard_tables.specs.Formulas.{raised}
-use Rattle.guard_reader.specs.inside.NodeParts.{identifier_at, other_at}
 use Rattle.guard_tables.specs.NodesView.{spots_in}
-use Rattle.guard_reader.specs.Judging.{contents_judged, fields_judged, outside, then_marked, whole_facts, size_in, ordered, front_of}
+use Rattle.guard_reader.specs.Fronts.{element_in, front_of, here}
+use Rattle.guard_reader.specs.Judging.{is_read, chosen_at, chosen_judged, contents_judged, fields_judged, outside, then_marked, whole_facts, size_in, ordered}
 use Rattle.guard_reader.specs.inside.Answers.{Answers}
-use Rattle.guard_reader.proofs.Elements.{bind_some, bind_none, within}
-use Rattle.guard_reader.proofs.Steps.{none_left, none_ordered, not_ordered, one_ordered, yes, no, at_end, no_element, one_element, last_element, element_there, element_other, plain_there, absent_there, not_whole, present_there, refused, sent}
+use Rattle.guard_reader.specs.inside.Members.{AreRead}
+use Rattle.guard_reader.specs.inside.NodeParts.{has_layers, pass_at, sight_at}
+use Rattle.guard_reader.proofs.Elements.{bind_some, bind_none}
+use Rattle.guard_reader.proofs.FrontSteps.{front_within}
+use Rattle.guard_reader.proofs.NodeTags.{kind_of_choice}
+use Rattle.guard_reader.proofs.Passes.{element_here, last_element, no_element, none_left, none_ordered, not_ordered, one_element, one_ordered}
+use Rattle.guard_reader.proofs.SetSteps.{set_judged, kind_of_set, no_bit, nothing_left, no_tag, no_member, one_member, members_over, judged_none, judged_again, judged_new}
+use Rattle.guard_reader.proofs.Steps.{yes, no, at_end, absent_there, not_whole, present_there, refused, sent, chosen_more, chosen_alone, chosen_here, chosen_broken, chosen_later}
 use Rattle.guard_tables.proofs.Spots.{node_at, there_at, cold_at}
-use Rattle.guard_reader.proofs.NodeSteps.{list_judged, simple_judged, fields_all, formula_judged, fields_step, is_of_series, is_of_formula, identifier_is, plain_at, unread_judged, wrapper_judged, asked_judged, is_of_asked, set_of_judged}
+use Rattle.guard_reader.proofs.NodeSteps.{list_judged, simple_judged, fields_all, formula_judged, fields_step, is_of_series, is_of_formula, plain_at, plain_present, one_here, sees_within, inside_bare, inside_found, inside_none, unread_judged, wrapper_judged, asked_judged, is_of_asked, set_of_judged, choice_judged, choice_step, choice_end}
 use Rattle.guard_reader.proofs.walking.+walking.Goals as goal
 
 -- ---- contents
@@ -46,17 +53,8 @@ contents-returns-in-Simple t c =
     let n = node_at c.args.table.now c.args.at c.index-node.result.now c.requires c.index-node.ensures in
     subst (λ (r : Option Slots). Answers c.simple.result c.simple.new.failed r) (sym (simple_judged c.args.table.now c.args.at c.index-node.result.now c.index.result.now c.in-Simple.kind n c.in-Simple.is c.requires c.index.ensures c.args.inside.now c.args.failed.now)) c.simple.ensures
 
-pub contents-returns-in-Set : goal.contents-returns-in-Set
-unfolding contents_judged
-contents-returns-in-Set t c =
-    let n = node_at c.args.table.now c.args.at c.index-node.result.now c.requires c.index-node.ensures in
-    unread_judged c.args.table.now c.args.at c.index-node.result.now n kind.Set c.in-Set.is (λ d os m. refl) c.args.inside.now c.args.failed.now
-
-pub contents-returns-in-Choice : goal.contents-returns-in-Choice
-unfolding contents_judged
-contents-returns-in-Choice t c =
-    let n = node_at c.args.table.now c.args.at c.index-node.result.now c.requires c.index-node.ensures in
-    unread_judged c.args.table.now c.args.at c.index-node.result.now n kind.Choice c.in-Choice.is (λ d os m. refl) c.args.inside.now c.args.failed.now
+pub contents-set-requires : goal.contents-set-requires
+contents-set-requires t c = (omega arith, (c.requires, record { node = c.index-node.result.now; there = there_at c.args.table.now c.args.at c.index-node.result.now c.requires c.index-node.ensures; kind = c.in-Set.is }))
 
 pub contents-set_of-requires : goal.contents-set_of-requires
 contents-set_of-requires t c =
@@ -80,35 +78,53 @@ contents-returns-in-Wrapper t c =
     let n = node_at c.args.table.now c.args.at c.index-node.result.now c.requires c.index-node.ensures in
     subst (λ (r : Option Slots). Answers c.contents.result c.contents.new.failed r) (sym (wrapper_judged c.args.table.now c.args.at c.index-node.result.now n c.in-Wrapper.is c.args.inside.now c.args.failed.now)) c.contents.ensures
 
+pub contents-choice-requires : goal.contents-choice-requires
+contents-choice-requires t c = (omega arith, (c.requires, record { node = c.index-node.result.now; there = there_at c.args.table.now c.args.at c.index-node.result.now c.requires c.index-node.ensures; kind = c.in-Choice.is }))
+
+-- ---- inside the outermost tag
+
+pub within_tag-returns : goal.within_tag-returns
+within_tag-returns t c =
+    let h = c.index.result.now in
+    let n = node_at c.args.table.now c.args.at h c.requires c.index.ensures in
+    subst (λ (r : Option Slots). Answers c.contents.result c.contents.new.failed r) (sym (inside_bare c.args.table.now c.args.at h n (sym c.has_layers.ensures ∙ c.if-has_layers.false) c.args.inside.now c.args.failed.now)) c.contents.ensures
+
+pub layered-returns-in-Some : goal.layered-returns-in-Some
+layered-returns-in-Some t c =
+    subst (λ (r : Option Slots). Answers c.contents.result c.contents.new.failed r) (sym (inside_found c.args.table.now c.args.at c.args.inside.now c.in-Some.octets.now c.args.failed.now c.in-Some.ensures)) c.contents.ensures
+
+pub layered-returns-in-None : goal.layered-returns-in-None
+layered-returns-in-None t c = inside_none c.args.table.now c.args.at c.args.inside.now c.args.failed.now c.in-None.ensures
+
 -- ---- SEQUENCE
 
-pub series-loop-k-init : goal.series-loop-k-init
-series-loop-k-init t c =
+pub series::series-loop-k-init : goal.series::series-loop-k-init
+series::series-loop-k-init t c =
     let n = node_at c.args.table.now c.args.at c.index-node.result.now c.requires.room c.index-node.ensures in
     fields_all c.args.table.now c.args.at c.index-node.result.now n (is_of_series c.args.table.now c.args.at c.index-node.result.now c.requires.kind c.requires.room c.index-node.ensures) c.args.inside.now c.args.failed.now
 
-pub series-part-requires : goal.series-part-requires
-series-part-requires t c =
+pub series::series-part-requires : goal.series::series-part-requires
+series::series-part-requires t c =
     let n = node_at c.args.table.now c.args.at c.index-node.result.now c.requires.room c.index-node.ensures in
     (omega (arith, n.node.before, c.loop-k-test.true), omega (arith, n.node.before, c.loop-k-test.true, c.requires.room))
 
-pub series-returns-in_default : goal.series-returns-in_default
-series-returns-in_default t c =
+pub series::series-returns-in_default : goal.series::series-returns-in_default
+series::series-returns-in_default t c =
     let n = node_at c.args.table.now c.args.at c.index-node.result.now c.requires.room c.index-node.ensures in
     sym c.loop-k.invariant
     ∙ fields_step c.args.table.now c.loop-k.k (c.index-node.result.now.first + c.index-node.result.now.count) c.loop-k.rest.now c.loop-k.failed c.loop-k-test.true (omega (arith, n.node.before, c.requires.room))
     ∙ bind_none _ _ (sym c.in_default.ensures)
 
-pub series-loop-k-preserved : goal.series-loop-k-preserved
-series-loop-k-preserved t c =
+pub series::series-loop-k-preserved : goal.series::series-loop-k-preserved
+series::series-loop-k-preserved t c =
     let n = node_at c.args.table.now c.args.at c.index-node.result.now c.requires.room c.index-node.ensures in
     let end = c.index-node.result.now.first + c.index-node.result.now.count in
     let spots = spots_in c.args.table.now in
     rw add-one (sym (fields_step c.args.table.now c.loop-k.k end c.loop-k.rest.now c.loop-k.failed c.loop-k-test.true (omega (arith, n.node.before, c.requires.room))
     ∙ bind_some _ _ _ (sym c.in-Some.ensures)) ∙ c.loop-k.invariant)
 
-pub series-returns : goal.series-returns
-series-returns t c =
+pub series::series-returns : goal.series::series-returns
+series::series-returns t c =
     let end = c.index-node.result.now.first + c.index-node.result.now.count in
     let spots = spots_in c.args.table.now in
     let over : end - c.loop-k.k ≡ 0 = omega (arith, c.loop-k-test.false) in
@@ -172,183 +188,377 @@ formula-returns t c =
 
 -- ---- SEQUENCE OF
 
-pub list-returns-then-not-begins : goal.list-returns-then-not-begins
-list-returns-then-not-begins t c =
-    let n = node_at c.args.table.now c.loop-rest.at c.index-item.result.now (omega (arith, c.loop-rest.invariant.within, c.requires)) c.index-item.ensures in
+pub lists::list-returns-in_default : goal.lists::list-returns-in_default
+lists::list-returns-in_default t c =
     sym c.loop-rest.invariant.same
-    ∙ no_element _ _ c.loop-rest.rest.now c.loop-rest.failed (sym c.is_empty.ensures ∙ c.loop-rest-test.true) (rw (identifier_is c.args.table.now c.loop-rest.at c.index-item.result.now n) (element_other c.index-item.result.now.identifier c.loop-rest.rest.now (sym c.begins.ensures ∙ c.if-not-begins.true)))
+    ∙ no_element (sight_at (spots_in c.args.table.now) c.loop-rest.at) _ c.loop-rest.rest.now c.loop-rest.failed (sym c.is_empty.ensures ∙ c.loop-rest-test.true) (ap element_in (sym c.front_at.ensures) ∙ sym c.in_default.ensures)
 
-pub list-returns-in_default : goal.list-returns-in_default
-list-returns-in_default t c =
-    let n = node_at c.args.table.now c.loop-rest.at c.index-item.result.now (omega (arith, c.loop-rest.invariant.within, c.requires)) c.index-item.ensures in
-    sym c.loop-rest.invariant.same
-    ∙ no_element _ _ c.loop-rest.rest.now c.loop-rest.failed (sym c.is_empty.ensures ∙ c.loop-rest-test.true) (rw (identifier_is c.args.table.now c.loop-rest.at c.index-item.result.now n) (element_there c.index-item.result.now.identifier c.loop-rest.rest.now None (sym c.begins.ensures ∙ c.if-not-begins.false) (sym c.in_default.ensures)))
-
-pub list-after_plain-rest-requires-in-List : goal.list-after_plain-rest-requires-in-List
-list-after_plain-rest-requires-in-List t c =
+pub lists::list-after_plain-rest-requires-in-List : goal.lists::list-after_plain-rest-requires-in-List
+lists::list-after_plain-rest-requires-in-List t c =
     let n = node_at c.args.table.now c.loop-rest.at c.index-item.result.now (omega (arith, c.loop-rest.invariant.within, c.requires)) c.index-item.ensures in
     let inner = n.node.inner (ap has_inner c.in-List.is) in
     omega (arith, inner, c.loop-rest.invariant.within, c.requires)
 
-pub list-loop-rest-smaller-then-is_last : goal.list-loop-rest-smaller-then-is_last
-list-loop-rest-smaller-then-is_last t c =
-    omega (arith, c.after_plain-rest-in-List.ensures.shorter, (within c.loop-rest.rest.now c.in-Some.content.now c.in-Some.next.now (sym c.is_empty.ensures ∙ c.loop-rest-test.true) (sym c.in-Some.ensures)).0)
+pub lists::list-loop-rest-smaller-then-is_last : goal.lists::list-loop-rest-smaller-then-is_last
+lists::list-loop-rest-smaller-then-is_last t c =
+    let n = node_at c.args.table.now c.loop-rest.at c.index-item.result.now (omega (arith, c.loop-rest.invariant.within, c.requires)) c.index-item.ensures in
+    let inner = n.node.inner (ap has_inner c.in-List.is) in
+    let there = element_here _ _ (ap element_in (sym c.front_at.ensures) ∙ sym c.in-Some.ensures) in
+    let w = front_within (spot_at (spots_in c.args.table.now) c.loop-rest.at).plan c.loop-rest.rest.now c.in-Some.content.now c.in-Some.next.now there in
+    omega (arith, inner, c.after_plain-rest-in-List.ensures.shorter, w.inside_room)
 
-pub list-loop-rest-smaller : goal.list-loop-rest-smaller
-list-loop-rest-smaller t c =
-    omega (arith, c.after_plain-rest-in_default-kind.ensures.shorter, (within c.loop-rest.rest.now c.in-Some.content.now c.in-Some.next.now (sym c.is_empty.ensures ∙ c.loop-rest-test.true) (sym c.in-Some.ensures)).1)
+pub lists::list-loop-rest-smaller : goal.lists::list-loop-rest-smaller
+lists::list-loop-rest-smaller t c =
+    let there = element_here _ _ (ap element_in (sym c.front_at.ensures) ∙ sym c.in-Some.ensures) in
+    let w = front_within (spot_at (spots_in c.args.table.now) c.loop-rest.at).plan c.loop-rest.rest.now c.in-Some.content.now c.in-Some.next.now there in
+    omega (arith, c.after_plain-rest-in_default-kind.ensures.shorter, w.rest_room)
 
-pub list-loop-rest-preserved-then-is_last : goal.list-loop-rest-preserved-then-is_last
-list-loop-rest-preserved-then-is_last t c =
+pub lists::list-loop-rest-preserved-then-is_last : goal.lists::list-loop-rest-preserved-then-is_last
+lists::list-loop-rest-preserved-then-is_last t c =
     let k = c.loop-rest.at in
     let spots = spots_in c.args.table.now in
     let n = node_at c.args.table.now k c.index-item.result.now (omega (arith, c.loop-rest.invariant.within, c.requires)) c.index-item.ensures in
     let some = sym c.is_empty.ensures ∙ c.loop-rest-test.true in
-    let there = rw (← identifier_is c.args.table.now k c.index-item.result.now n) at (element_there c.index-item.result.now.identifier c.loop-rest.rest.now (Some (c.in-Some.content.now, c.in-Some.next.now)) (sym c.begins.ensures ∙ c.if-not-begins.false) (sym c.in-Some.ensures)) in
+    let there = element_here _ _ (ap element_in (sym c.front_at.ensures) ∙ sym c.in-Some.ensures) in
     let inner = n.node.inner (ap has_inner c.in-List.is) in
     record {
       within = omega (arith, inner, c.loop-rest.invariant.within);
       same = c.after_plain-rest-in-List.ensures.same c.loop-rest.failed
           ∙ sym (list_judged c.args.table.now k c.index-item.result.now n c.in-List.is c.in-Some.content.now c.loop-rest.failed)
-          ∙ sym (last_element (identifier_at spots k) (contents_judged (body_at spots k)) c.loop-rest.rest.now c.in-Some.content.now c.in-Some.next.now c.loop-rest.failed some there (sym c.is_empty-is_last.ensures ∙ c.if-is_last.true))
+          ∙ sym (inside_bare c.args.table.now k c.index-item.result.now n (ap has_layers c.in-List.is) c.in-Some.content.now c.loop-rest.failed)
+          ∙ sym (last_element (sight_at spots k) (pass_at spots k) c.loop-rest.rest.now c.in-Some.content.now c.in-Some.next.now c.loop-rest.failed (sees_within c.args.table.now k) some there (sym c.is_empty-is_last.ensures ∙ c.if-is_last.true))
           ∙ c.loop-rest.invariant.same;
     }
 
-pub list-returns-then-not-contents : goal.list-returns-then-not-contents
-list-returns-then-not-contents t c =
+pub lists::list-returns-then-not-within_tag : goal.lists::list-returns-then-not-within_tag
+lists::list-returns-then-not-within_tag t c =
     let k = c.loop-rest.at in
     let spots = spots_in c.args.table.now in
-    let n = node_at c.args.table.now k c.index-item.result.now (omega (arith, c.loop-rest.invariant.within, c.requires)) c.index-item.ensures in
     let some = sym c.is_empty.ensures ∙ c.loop-rest-test.true in
-    let there = rw (← identifier_is c.args.table.now k c.index-item.result.now n) at (element_there c.index-item.result.now.identifier c.loop-rest.rest.now (Some (c.in-Some.content.now, c.in-Some.next.now)) (sym c.begins.ensures ∙ c.if-not-begins.false) (sym c.in-Some.ensures)) in
+    let there = element_here _ _ (ap element_in (sym c.front_at.ensures) ∙ sym c.in-Some.ensures) in
     sym c.loop-rest.invariant.same
-    ∙ one_element (identifier_at spots k) (contents_judged (body_at spots k)) c.loop-rest.rest.now c.in-Some.content.now c.in-Some.next.now c.loop-rest.failed some there
-    ∙ bind_none _ _ (no c.contents.result c.contents.new.failed _ c.contents.ensures c.if-not-contents.true)
+    ∙ one_element (sight_at spots k) (pass_at spots k) c.loop-rest.rest.now c.in-Some.content.now c.in-Some.next.now c.loop-rest.failed (sees_within c.args.table.now k) some there
+    ∙ bind_none _ _ (no c.within_tag.result c.within_tag.new.failed _ c.within_tag.ensures c.if-not-within_tag.true)
 
-pub list-loop-rest-preserved : goal.list-loop-rest-preserved
-list-loop-rest-preserved t c =
+pub lists::list-loop-rest-preserved : goal.lists::list-loop-rest-preserved
+lists::list-loop-rest-preserved t c =
     let k = c.loop-rest.at in
     let spots = spots_in c.args.table.now in
-    let n = node_at c.args.table.now k c.index-item.result.now (omega (arith, c.loop-rest.invariant.within, c.requires)) c.index-item.ensures in
     let some = sym c.is_empty.ensures ∙ c.loop-rest-test.true in
-    let there = rw (← identifier_is c.args.table.now k c.index-item.result.now n) at (element_there c.index-item.result.now.identifier c.loop-rest.rest.now (Some (c.in-Some.content.now, c.in-Some.next.now)) (sym c.begins.ensures ∙ c.if-not-begins.false) (sym c.in-Some.ensures)) in
+    let there = element_here _ _ (ap element_in (sym c.front_at.ensures) ∙ sym c.in-Some.ensures) in
     record {
       within = c.loop-rest.invariant.within;
-      same = c.after_plain-rest-in_default-kind.ensures.same c.contents.new.failed
-          ∙ sym (one_element (identifier_at spots k) (contents_judged (body_at spots k)) c.loop-rest.rest.now c.in-Some.content.now c.in-Some.next.now c.loop-rest.failed some there
-          ∙ bind_some _ _ _ (yes c.contents.result c.contents.new.failed _ c.contents.ensures c.if-not-contents.false))
+      same = c.after_plain-rest-in_default-kind.ensures.same c.within_tag.new.failed
+          ∙ sym (one_element (sight_at spots k) (pass_at spots k) c.loop-rest.rest.now c.in-Some.content.now c.in-Some.next.now c.loop-rest.failed (sees_within c.args.table.now k) some there
+          ∙ bind_some _ _ _ (yes c.within_tag.result c.within_tag.new.failed _ c.within_tag.ensures c.if-not-within_tag.false))
           ∙ c.loop-rest.invariant.same;
     }
 
-pub list-returns : goal.list-returns
-list-returns t c = sym c.loop-rest.invariant.same ∙ none_left _ _ c.loop-rest.rest.now c.loop-rest.failed (sym c.is_empty.ensures ∙ c.loop-rest-test.false)
+pub lists::list-returns : goal.lists::list-returns
+lists::list-returns t c = sym c.loop-rest.invariant.same ∙ none_left (sight_at (spots_in c.args.table.now) c.loop-rest.at) _ c.loop-rest.rest.now c.loop-rest.failed (sym c.is_empty.ensures ∙ c.loop-rest-test.false)
 
 -- ---- SET OF
 
-pub set_of-returns-then-not-begins : goal.set_of-returns-then-not-begins
-set_of-returns-then-not-begins t c =
-    let n = node_at c.args.table.now c.args.first c.index-item.result.now c.requires c.index-item.ensures in
-    sym c.loop-item.invariant
-    ∙ not_ordered _ _ c.loop-item.before.now c.loop-item.rest.now c.loop-item.failed (sym c.is_empty.ensures ∙ c.loop-item-test.true) (rw (identifier_is c.args.table.now c.args.first c.index-item.result.now n) (element_other c.index-item.result.now.identifier c.loop-item.rest.now (sym c.begins.ensures ∙ c.if-not-begins.true)))
+pub lists::set_of-returns-in_default : goal.lists::set_of-returns-in_default
+lists::set_of-returns-in_default t c =
+    sym c.loop-before.invariant
+    ∙ not_ordered (sight_at (spots_in c.args.table.now) c.args.first) _ c.loop-before.before.now c.loop-before.rest.now c.loop-before.failed (sym c.is_empty.ensures ∙ c.loop-before-test.true) (ap element_in (sym c.front_at.ensures) ∙ sym c.in_default.ensures)
 
-pub set_of-returns-in_default : goal.set_of-returns-in_default
-set_of-returns-in_default t c =
-    let n = node_at c.args.table.now c.args.first c.index-item.result.now c.requires c.index-item.ensures in
-    sym c.loop-item.invariant
-    ∙ not_ordered _ _ c.loop-item.before.now c.loop-item.rest.now c.loop-item.failed (sym c.is_empty.ensures ∙ c.loop-item-test.true) (rw (identifier_is c.args.table.now c.args.first c.index-item.result.now n) (element_there c.index-item.result.now.identifier c.loop-item.rest.now None (sym c.begins.ensures ∙ c.if-not-begins.false) (sym c.in_default.ensures)))
+pub lists::set_of-returns-then-not-within_tag : goal.lists::set_of-returns-then-not-within_tag
+lists::set_of-returns-then-not-within_tag t c =
+    let sight = sight_at (spots_in c.args.table.now) c.args.first in
+    let pass = pass_at (spots_in c.args.table.now) c.args.first in
+    let some = sym c.is_empty.ensures ∙ c.loop-before-test.true in
+    let there = element_here _ _ (ap element_in (sym c.front_at.ensures) ∙ sym c.in-Some.ensures) in
+    let step = one_ordered sight pass c.loop-before.before.now c.loop-before.rest.now c.in-Some.content.now c.in-Some.next.now c.loop-before.failed (sees_within c.args.table.now c.args.first) some there in
+    sym c.loop-before.invariant ∙ step ∙ bind_none _ _ (no c.within_tag.result c.within_tag.new.failed _ c.within_tag.ensures c.if-not-within_tag.true)
 
-pub set_of-returns-then-not-contents : goal.set_of-returns-then-not-contents
-set_of-returns-then-not-contents t c =
-    let spots = spots_in c.args.table.now in
-    let n = node_at c.args.table.now c.args.first c.index-item.result.now c.requires c.index-item.ensures in
-    let some = sym c.is_empty.ensures ∙ c.loop-item-test.true in
-    let there = rw (← identifier_is c.args.table.now c.args.first c.index-item.result.now n) at (element_there c.index-item.result.now.identifier c.loop-item.rest.now (Some (c.in-Some.content.now, c.in-Some.next.now)) (sym c.begins.ensures ∙ c.if-not-begins.false) (sym c.in-Some.ensures)) in
-    let step = one_ordered (identifier_at spots c.args.first) (contents_judged (body_at spots c.args.first)) c.loop-item.before.now c.loop-item.rest.now c.in-Some.content.now c.in-Some.next.now c.loop-item.failed some there in
-    sym c.loop-item.invariant ∙ step ∙ bind_none _ _ (no c.contents.result c.contents.new.failed _ c.contents.ensures c.if-not-contents.true)
+pub lists::set_of-front_of-element-requires : goal.lists::set_of-front_of-element-requires
+lists::set_of-front_of-element-requires t c =
+    let there = element_here _ _ (ap element_in (sym c.front_at.ensures) ∙ sym c.in-Some.ensures) in
+    let w = front_within (spot_at (spots_in c.args.table.now) c.args.first).plan c.loop-before.rest.now c.in-Some.content.now c.in-Some.next.now there in
+    omega (arith, w.rest_room)
 
-pub set_of-front_of-element-requires : goal.set_of-front_of-element-requires
-set_of-front_of-element-requires t c =
-    omega (arith, (within c.loop-item.rest.now c.in-Some.content.now c.in-Some.next.now (sym c.is_empty.ensures ∙ c.loop-item-test.true) (sym c.in-Some.ensures)).1)
+pub lists::set_of-returns-then-descends : goal.lists::set_of-returns-then-descends
+lists::set_of-returns-then-descends t c =
+    let sight = sight_at (spots_in c.args.table.now) c.args.first in
+    let pass = pass_at (spots_in c.args.table.now) c.args.first in
+    let some = sym c.is_empty.ensures ∙ c.loop-before-test.true in
+    let there = element_here _ _ (ap element_in (sym c.front_at.ensures) ∙ sym c.in-Some.ensures) in
+    let step = one_ordered sight pass c.loop-before.before.now c.loop-before.rest.now c.in-Some.content.now c.in-Some.next.now c.loop-before.failed (sees_within c.args.table.now c.args.first) some there in
+    let tested = ap (descends c.loop-before.before.now) (sym c.front_of-element.ensures) ∙ sym c.descends.ensures ∙ c.if-descends.true in
+    sym c.loop-before.invariant ∙ step ∙ bind_some _ _ _ (yes c.within_tag.result c.within_tag.new.failed _ c.within_tag.ensures c.if-not-within_tag.false)
+    ∙ cond-true (descends c.loop-before.before.now (front_of c.loop-before.rest.now c.in-Some.next.now)) None _ tested
 
-pub set_of-returns-then-descends : goal.set_of-returns-then-descends
-set_of-returns-then-descends t c =
-    let spots = spots_in c.args.table.now in
-    let n = node_at c.args.table.now c.args.first c.index-item.result.now c.requires c.index-item.ensures in
-    let some = sym c.is_empty.ensures ∙ c.loop-item-test.true in
-    let there = rw (← identifier_is c.args.table.now c.args.first c.index-item.result.now n) at (element_there c.index-item.result.now.identifier c.loop-item.rest.now (Some (c.in-Some.content.now, c.in-Some.next.now)) (sym c.begins.ensures ∙ c.if-not-begins.false) (sym c.in-Some.ensures)) in
-    let step = one_ordered (identifier_at spots c.args.first) (contents_judged (body_at spots c.args.first)) c.loop-item.before.now c.loop-item.rest.now c.in-Some.content.now c.in-Some.next.now c.loop-item.failed some there in
-    let tested = ap (descends c.loop-item.before.now) (sym c.front_of-element.ensures) ∙ sym c.descends.ensures ∙ c.if-descends.true in
-    sym c.loop-item.invariant ∙ step ∙ bind_some _ _ _ (yes c.contents.result c.contents.new.failed _ c.contents.ensures c.if-not-contents.false)
-    ∙ cond-true (descends c.loop-item.before.now (front_of c.loop-item.rest.now c.in-Some.next.now)) None _ tested
+pub lists::set_of-loop-before-smaller : goal.lists::set_of-loop-before-smaller
+lists::set_of-loop-before-smaller t c =
+    let there = element_here _ _ (ap element_in (sym c.front_at.ensures) ∙ sym c.in-Some.ensures) in
+    let w = front_within (spot_at (spots_in c.args.table.now) c.args.first).plan c.loop-before.rest.now c.in-Some.content.now c.in-Some.next.now there in
+    w.rest_room
 
-pub set_of-loop-item-smaller : goal.set_of-loop-item-smaller
-set_of-loop-item-smaller t c = (within c.loop-item.rest.now c.in-Some.content.now c.in-Some.next.now (sym c.is_empty.ensures ∙ c.loop-item-test.true) (sym c.in-Some.ensures)).1
+pub lists::set_of-loop-before-preserved : goal.lists::set_of-loop-before-preserved
+lists::set_of-loop-before-preserved t c =
+    let sight = sight_at (spots_in c.args.table.now) c.args.first in
+    let pass = pass_at (spots_in c.args.table.now) c.args.first in
+    let some = sym c.is_empty.ensures ∙ c.loop-before-test.true in
+    let there = element_here _ _ (ap element_in (sym c.front_at.ensures) ∙ sym c.in-Some.ensures) in
+    let step = one_ordered sight pass c.loop-before.before.now c.loop-before.rest.now c.in-Some.content.now c.in-Some.next.now c.loop-before.failed (sees_within c.args.table.now c.args.first) some there in
+    let tested = ap (descends c.loop-before.before.now) (sym c.front_of-element.ensures) ∙ sym c.descends.ensures ∙ c.if-descends.false in
+    ap (λ (xs : List ℕ). ordered sight pass xs c.in-Some.next.now c.within_tag.new.failed) c.front_of-element.ensures
+    ∙ sym (step ∙ bind_some _ _ _ (yes c.within_tag.result c.within_tag.new.failed _ c.within_tag.ensures c.if-not-within_tag.false)
+    ∙ cond-false (descends c.loop-before.before.now (front_of c.loop-before.rest.now c.in-Some.next.now)) None _ tested)
+    ∙ c.loop-before.invariant
 
-pub set_of-loop-item-preserved : goal.set_of-loop-item-preserved
-set_of-loop-item-preserved t c =
-    let spots = spots_in c.args.table.now in
-    let n = node_at c.args.table.now c.args.first c.index-item.result.now c.requires c.index-item.ensures in
-    let some = sym c.is_empty.ensures ∙ c.loop-item-test.true in
-    let there = rw (← identifier_is c.args.table.now c.args.first c.index-item.result.now n) at (element_there c.index-item.result.now.identifier c.loop-item.rest.now (Some (c.in-Some.content.now, c.in-Some.next.now)) (sym c.begins.ensures ∙ c.if-not-begins.false) (sym c.in-Some.ensures)) in
-    let step = one_ordered (identifier_at spots c.args.first) (contents_judged (body_at spots c.args.first)) c.loop-item.before.now c.loop-item.rest.now c.in-Some.content.now c.in-Some.next.now c.loop-item.failed some there in
-    let tested = ap (descends c.loop-item.before.now) (sym c.front_of-element.ensures) ∙ sym c.descends.ensures ∙ c.if-descends.false in
-    ap (λ (xs : List ℕ). ordered (identifier_at spots c.args.first) (contents_judged (body_at spots c.args.first)) xs c.in-Some.next.now c.contents.new.failed) c.front_of-element.ensures
-    ∙ sym (step ∙ bind_some _ _ _ (yes c.contents.result c.contents.new.failed _ c.contents.ensures c.if-not-contents.false)
-    ∙ cond-false (descends c.loop-item.before.now (front_of c.loop-item.rest.now c.in-Some.next.now)) None _ tested)
-    ∙ c.loop-item.invariant
-
-pub set_of-returns : goal.set_of-returns
-set_of-returns t c = sym c.loop-item.invariant ∙ none_ordered _ _ c.loop-item.before.now c.loop-item.rest.now c.loop-item.failed (sym c.is_empty.ensures ∙ c.loop-item-test.false)
+pub lists::set_of-returns : goal.lists::set_of-returns
+lists::set_of-returns t c = sym c.loop-before.invariant ∙ none_ordered (sight_at (spots_in c.args.table.now) c.args.first) _ c.loop-before.before.now c.loop-before.rest.now c.loop-before.failed (sym c.is_empty.ensures ∙ c.loop-before-test.false)
 
 -- ---- components
 
-pub part-returns-then-begins_plainly : goal.part-returns-then-begins_plainly
-part-returns-then-begins_plainly t c =
-    let n = node_at c.args.table.now c.args.at c.index-node.result.now c.requires c.index-node.ensures in
+pub series::part-returns-then-begins_plainly : goal.series::part-returns-then-begins_plainly
+series::part-returns-then-begins_plainly t c =
+    let h = c.index-node.result.now in
+    let n = node_at c.args.table.now c.args.at h c.requires c.index-node.ensures in
     let o = c.begins_plainly.ensures c.if-begins_plainly.true in
-    let p = plain_there c.index-node.result.now.identifier c.index-node.result.now.low c.index-node.result.now.high c.args.octets.now o in
-    let plain = plain_at c.args.table.now c.args.at c.index-node.result.now n (get_or c.args.octets.now 2 0 ∷ []) c.args.failed.now o.small in
-    let pass = contents_judged (body_at (spots_in c.args.table.now) c.args.at) in
+    let one = get_or c.args.octets.now 2 0 ∷ [] in
+    let plain = plain_at c.args.table.now c.args.at h n one c.args.failed.now o.small in
     let side = (spot_at (spots_in c.args.table.now) c.args.at).side in
-    rw (take_rest c.args.octets.now 3) (sym (present_there side (identifier_at (spots_in c.args.table.now) c.args.at) (other_at (spots_in c.args.table.now) c.args.at) pass c.args.octets.now c.args.failed.now (get_or c.args.octets.now 2 0 ∷ []) (drop 3 c.args.octets.now) (Some c.args.failed.now)
-    (rw (identifier_is c.args.table.now c.args.at c.index-node.result.now n) p.0) p.1 (sent side pass (get_or c.args.octets.now 2 0 ∷ []) c.args.failed.now c.args.failed.now plain.0 ∙ plain.1)))
+    let pass = pass_at (spots_in c.args.table.now) c.args.at in
+    rw (take_rest c.args.octets.now 3) (sym (present_there side pass c.args.octets.now c.args.failed.now one (drop 3 c.args.octets.now) _ (Some c.args.failed.now)
+    (sym (one_here c.args.table.now c.args.at h c.args.octets.now n o)) (sent side pass one c.args.failed.now c.args.failed.now plain.0 ∙ plain.1)))
 
-pub part-returns-then-not-absent : goal.part-returns-then-not-absent
-part-returns-then-not-absent t c =
-    let n = node_at c.args.table.now c.args.at c.index-node.result.now c.requires c.index-node.ensures in
-    sym (absent_there _ _ _ _ c.args.octets.now c.args.failed.now None (rw (identifier_is c.args.table.now c.args.at c.index-node.result.now n) (sym c.begins.ensures ∙ c.if-not-begins.true)) (no c.absent.result c.absent.new.failed _ c.absent.ensures c.if-not-absent.true))
+pub series::part-returns-then-not-present : goal.series::part-returns-then-not-present
+series::part-returns-then-not-present t c =
+    let side = (spot_at (spots_in c.args.table.now) c.args.at).side in
+    let pass = pass_at (spots_in c.args.table.now) c.args.at in
+    sym (present_there side pass c.args.octets.now c.args.failed.now c.in-Here.inside.now c.in-Here.rest.now _ None c.in-Here.ensures (no c.present.result c.present.new.failed _ c.present.ensures c.if-not-present.true))
 
-pub part-returns-then-not-begins : goal.part-returns-then-not-begins
-part-returns-then-not-begins t c =
-    let n = node_at c.args.table.now c.args.at c.index-node.result.now c.requires c.index-node.ensures in
-    sym (absent_there _ _ _ _ c.args.octets.now c.args.failed.now (Some c.absent.new.failed) (rw (identifier_is c.args.table.now c.args.at c.index-node.result.now n) (sym c.begins.ensures ∙ c.if-not-begins.true)) (yes c.absent.result c.absent.new.failed _ c.absent.ensures c.if-not-absent.false))
+pub series::part-returns-else-not-present : goal.series::part-returns-else-not-present
+series::part-returns-else-not-present t c =
+    let side = (spot_at (spots_in c.args.table.now) c.args.at).side in
+    let pass = pass_at (spots_in c.args.table.now) c.args.at in
+    sym (present_there side pass c.args.octets.now c.args.failed.now c.in-Here.inside.now c.in-Here.rest.now _ (Some c.present.new.failed) c.in-Here.ensures (yes c.present.result c.present.new.failed _ c.present.ensures c.if-not-present.false))
 
-pub part-returns-in_default : goal.part-returns-in_default
-part-returns-in_default t c =
-    let n = node_at c.args.table.now c.args.at c.index-node.result.now c.requires c.index-node.ensures in
-    sym (not_whole _ _ _ _ c.args.octets.now c.args.failed.now (rw (identifier_is c.args.table.now c.args.at c.index-node.result.now n) (sym c.begins.ensures ∙ c.if-not-begins.false)) (sym c.in_default.ensures))
+pub series::part-returns-then-not-absent : goal.series::part-returns-then-not-absent
+series::part-returns-then-not-absent t c =
+    let side = (spot_at (spots_in c.args.table.now) c.args.at).side in
+    let pass = pass_at (spots_in c.args.table.now) c.args.at in
+    sym (absent_there side pass c.args.octets.now c.args.failed.now _ None c.in-Elsewhere.ensures (no c.absent.result c.absent.new.failed _ c.absent.ensures c.if-not-absent.true))
 
-pub part-returns-then-not-present : goal.part-returns-then-not-present
-part-returns-then-not-present t c =
-    let n = node_at c.args.table.now c.args.at c.index-node.result.now c.requires c.index-node.ensures in
-    sym (present_there _ _ _ _ c.args.octets.now c.args.failed.now c.in-Some.content.now c.in-Some.next.now None (rw (identifier_is c.args.table.now c.args.at c.index-node.result.now n) (sym c.begins.ensures ∙ c.if-not-begins.false)) (sym c.in-Some.ensures) (no c.present.result c.present.new.failed _ c.present.ensures c.if-not-present.true))
+pub series::part-returns-else-not-absent : goal.series::part-returns-else-not-absent
+series::part-returns-else-not-absent t c =
+    let side = (spot_at (spots_in c.args.table.now) c.args.at).side in
+    let pass = pass_at (spots_in c.args.table.now) c.args.at in
+    sym (absent_there side pass c.args.octets.now c.args.failed.now _ (Some c.absent.new.failed) c.in-Elsewhere.ensures (yes c.absent.result c.absent.new.failed _ c.absent.ensures c.if-not-absent.false))
 
-pub part-returns : goal.part-returns
-part-returns t c =
-    let n = node_at c.args.table.now c.args.at c.index-node.result.now c.requires c.index-node.ensures in
-    sym (present_there _ _ _ _ c.args.octets.now c.args.failed.now c.in-Some.content.now c.in-Some.next.now (Some c.present.new.failed) (rw (identifier_is c.args.table.now c.args.at c.index-node.result.now n) (sym c.begins.ensures ∙ c.if-not-begins.false)) (sym c.in-Some.ensures) (yes c.present.result c.present.new.failed _ c.present.ensures c.if-not-present.false))
+pub series::part-returns-in-Broken : goal.series::part-returns-in-Broken
+series::part-returns-in-Broken t c =
+    let side = (spot_at (spots_in c.args.table.now) c.args.at).side in
+    let pass = pass_at (spots_in c.args.table.now) c.args.at in
+    sym (not_whole side pass c.args.octets.now c.args.failed.now _ c.in-Broken.ensures)
 
-pub present-returns-then-is_plain : goal.present-returns-then-is_plain
-present-returns-then-is_plain t c =
+pub series::present-returns-then-is_plain : goal.series::present-returns-then-is_plain
+series::present-returns-then-is_plain t c =
     let n = node_at c.args.table.now c.args.at c.index.result.now c.requires c.index.ensures in
     let plain = plain_at c.args.table.now c.args.at c.index.result.now n c.args.inside.now c.args.failed.now (c.is_plain.ensures c.if-is_plain.true) in
-    sent _ _ c.args.inside.now c.args.failed.now c.args.failed.now plain.0 ∙ plain.1
+    let side = (spot_at (spots_in c.args.table.now) c.args.at).side in
+    let pass = pass_at (spots_in c.args.table.now) c.args.at in
+    sent side pass c.args.inside.now c.args.failed.now c.args.failed.now plain.0 ∙ plain.1
 
-pub present-returns-then-check : goal.present-returns-then-check
-present-returns-then-check t c =
-    subst (λ (r : Option Slots). Answers c.contents.result c.contents.new.failed r) (sym (sent (spot_at (spots_in c.args.table.now) c.args.at).side (contents_judged (body_at (spots_in c.args.table.now) c.args.at)) c.args.inside.now c.args.failed.now c.check.new.failed (yes c.check.result c.check.new.failed _ c.check.ensures c.if-check.true))) c.contents.ensures
+pub series::present-returns-then-check : goal.series::present-returns-then-check
+series::present-returns-then-check t c =
+    let side = (spot_at (spots_in c.args.table.now) c.args.at).side in
+    let pass = pass_at (spots_in c.args.table.now) c.args.at in
+    subst (λ (r : Option Slots). Answers c.within_tag.result c.within_tag.new.failed r) (sym (sent side pass c.args.inside.now c.args.failed.now c.check.new.failed (yes c.check.result c.check.new.failed _ c.check.ensures c.if-check.true))) c.within_tag.ensures
 
-pub present-returns-else-check : goal.present-returns-else-check
-present-returns-else-check t c =
+pub series::present-returns-else-check : goal.series::present-returns-else-check
+series::present-returns-else-check t c =
     let w = no c.check.result c.check.new.failed _ c.check.ensures c.if-check.false in
-    rw c.if-check.false (refused (spot_at (spots_in c.args.table.now) c.args.at).side (contents_judged (body_at (spots_in c.args.table.now) c.args.at)) c.args.inside.now c.args.failed.now w)
+    let side = (spot_at (spots_in c.args.table.now) c.args.at).side in
+    let pass = pass_at (spots_in c.args.table.now) c.args.at in
+    rw c.if-check.false (refused side pass c.args.inside.now c.args.failed.now w)
+
+-- ---- CHOICE
+
+pub choices::choice-loop-k-init : goal.choices::choice-loop-k-init
+choices::choice-loop-k-init t c =
+    let h = c.index-node.result.now in
+    let n = node_at c.args.table.now c.args.at h c.requires.room c.index-node.ensures in
+    choice_judged c.args.table.now c.args.at h n (kind_of_choice c.args.table.now c.args.at h c.requires.kind c.requires.room c.index-node.ensures) c.args.octets.now c.args.failed.now
+
+pub choices::choice-front_at-requires : goal.choices::choice-front_at-requires
+choices::choice-front_at-requires t c =
+    let n = node_at c.args.table.now c.args.at c.index-node.result.now c.requires.room c.index-node.ensures in
+    omega (arith, n.node.before, c.loop-k-test.true, c.requires.room)
+
+pub choices::choice-chosen-requires : goal.choices::choice-chosen-requires
+choices::choice-chosen-requires t c =
+    let n = node_at c.args.table.now c.args.at c.index-node.result.now c.requires.room c.index-node.ensures in
+    (omega (arith, n.node.before, c.loop-k-test.true), omega (arith, n.node.before, c.loop-k-test.true, c.requires.room))
+
+pub choices::choice-returns-in-Here : goal.choices::choice-returns-in-Here
+choices::choice-returns-in-Here t c =
+    let h = c.index-node.result.now in
+    let n = node_at c.args.table.now c.args.at h c.requires.room c.index-node.ensures in
+    let side = (spot_at (spots_in c.args.table.now) c.loop-k.k).side in
+    let pass = pass_at (spots_in c.args.table.now) c.loop-k.k in
+    let step = choice_step c.args.table.now c.loop-k.k (h.first + h.count) c.args.octets.now c.loop-k.failed c.loop-k-test.true (omega (arith, n.node.before, c.requires.room)) in
+    subst (λ (r : Option Slots). Answers c.chosen.result c.chosen.new.failed r) (sym (chosen_here side pass c.in-Here.inside.now c.in-Here.rest.now _ c.loop-k.failed _ c.in-Here.ensures) ∙ sym step ∙ c.loop-k.invariant) c.chosen.ensures
+
+pub choices::choice-returns-in-Broken : goal.choices::choice-returns-in-Broken
+choices::choice-returns-in-Broken t c =
+    let h = c.index-node.result.now in
+    let n = node_at c.args.table.now c.args.at h c.requires.room c.index-node.ensures in
+    let side = (spot_at (spots_in c.args.table.now) c.loop-k.k).side in
+    let pass = pass_at (spots_in c.args.table.now) c.loop-k.k in
+    let step = choice_step c.args.table.now c.loop-k.k (h.first + h.count) c.args.octets.now c.loop-k.failed c.loop-k-test.true (omega (arith, n.node.before, c.requires.room)) in
+    sym c.loop-k.invariant ∙ step ∙ chosen_broken side pass _ c.loop-k.failed _ c.in-Broken.ensures
+
+pub choices::choice-loop-k-preserved : goal.choices::choice-loop-k-preserved
+choices::choice-loop-k-preserved t c =
+    let h = c.index-node.result.now in
+    let n = node_at c.args.table.now c.args.at h c.requires.room c.index-node.ensures in
+    let side = (spot_at (spots_in c.args.table.now) c.loop-k.k).side in
+    let pass = pass_at (spots_in c.args.table.now) c.loop-k.k in
+    let step = choice_step c.args.table.now c.loop-k.k (h.first + h.count) c.args.octets.now c.loop-k.failed c.loop-k-test.true (omega (arith, n.node.before, c.requires.room)) in
+    rw add-one (sym (step ∙ chosen_later side pass _ c.loop-k.failed _ c.in-Elsewhere.ensures) ∙ c.loop-k.invariant)
+
+pub choices::choice-returns : goal.choices::choice-returns
+choices::choice-returns t c =
+    let h = c.index-node.result.now in
+    sym c.loop-k.invariant ∙ choice_end c.args.table.now c.loop-k.k (h.first + h.count) c.args.octets.now c.loop-k.failed (omega (arith, c.loop-k-test.false))
+
+pub choices::chosen-returns-then-not-is_empty : goal.choices::chosen-returns-then-not-is_empty
+choices::chosen-returns-then-not-is_empty t c =
+    let side = (spot_at (spots_in c.args.table.now) c.args.at).side in
+    let pass = pass_at (spots_in c.args.table.now) c.args.at in
+    chosen_more side pass c.args.inside.now c.args.rest.now c.args.failed.now None (sym c.is_empty.ensures ∙ c.if-not-is_empty.true)
+
+pub choices::chosen-returns-then-is_plain : goal.choices::chosen-returns-then-is_plain
+choices::chosen-returns-then-is_plain t c =
+    let h = c.index.result.now in
+    let n = node_at c.args.table.now c.args.at h c.requires c.index.ensures in
+    let small = c.is_plain.ensures c.if-is_plain.true in
+    let side = (spot_at (spots_in c.args.table.now) c.args.at).side in
+    let pass = pass_at (spots_in c.args.table.now) c.args.at in
+    chosen_alone side pass c.args.inside.now c.args.rest.now c.args.failed.now None (sym c.is_empty.ensures ∙ c.if-not-is_empty.false)
+    ∙ ap (pass c.args.inside.now) (plain_present c.args.table.now c.args.at h n c.args.inside.now c.args.failed.now small)
+    ∙ (plain_at c.args.table.now c.args.at h n c.args.inside.now c.args.failed.now small).1
+
+pub choices::chosen-returns : goal.choices::chosen-returns
+choices::chosen-returns t c =
+    let side = (spot_at (spots_in c.args.table.now) c.args.at).side in
+    let pass = pass_at (spots_in c.args.table.now) c.args.at in
+    subst (λ (r : Option Slots). Answers c.within_tag.result c.within_tag.new.failed r)
+    (ap (pass c.args.inside.now) c.choose.ensures ∙ sym (chosen_alone side pass c.args.inside.now c.args.rest.now c.args.failed.now None (sym c.is_empty.ensures ∙ c.if-not-is_empty.false))) c.within_tag.ensures
+
+-- ---- SET
+
+pub sets::set-loop-rest-init : goal.sets::set-loop-rest-init
+sets::set-loop-rest-init t c =
+    let h = c.index-node.result.now in
+    let n = node_at c.args.table.now c.args.at h c.requires.room c.index-node.ensures in
+    let kept : AreRead (parts_between (spots_in c.args.table.now) h.first h.count) c.args.octets.now c.args.octets.now 0 [] = record { reach = refl; kept = λ i low. no_bit i } in
+    ([], kept, set_judged c.args.table.now c.args.at h n (kind_of_set c.args.table.now c.args.at h c.requires.kind c.requires.room c.index-node.ensures) c.args.octets.now c.args.failed.now)
+
+pub sets::set-returns-in_default : goal.sets::set-returns-in_default
+sets::set-returns-in_default t c =
+    let h = c.index-node.result.now in
+    let n = node_at c.args.table.now c.args.at h c.requires.room c.index-node.ensures in
+    let ps = parts_between (spots_in c.args.table.now) h.first h.count in
+    let room : h.first + h.count ≤ vec_len c.args.table.now.hots = omega (arith, n.node.before, c.requires.room) in
+    let some = sym c.is_empty.ensures ∙ c.loop-rest-test.true in
+    let places = c.loop-rest.invariant.0 in
+    sym c.loop-rest.invariant.2 ∙ no_tag ps places c.loop-rest.last c.loop-rest.rest.now c.loop-rest.failed some (sym c.next_tag.ensures ∙ c.in_default.is)
+
+pub sets::set-member-requires : goal.sets::set-member-requires
+sets::set-member-requires t c =
+    let n = node_at c.args.table.now c.args.at c.index-node.result.now c.requires.room c.index-node.ensures in
+    omega (arith, n.node.before, c.requires.room)
+
+pub sets::set-returns-in_default-member : goal.sets::set-returns-in_default-member
+sets::set-returns-in_default-member t c =
+    let h = c.index-node.result.now in
+    let n = node_at c.args.table.now c.args.at h c.requires.room c.index-node.ensures in
+    let ps = parts_between (spots_in c.args.table.now) h.first h.count in
+    let room : h.first + h.count ≤ vec_len c.args.table.now.hots = omega (arith, n.node.before, c.requires.room) in
+    let some = sym c.is_empty.ensures ∙ c.loop-rest-test.true in
+    let places = c.loop-rest.invariant.0 in
+    let tag = sym c.next_tag.ensures ∙ c.in-Some.is in
+    sym c.loop-rest.invariant.2
+    ∙ no_member ps places c.loop-rest.last c.loop-rest.rest.now c.loop-rest.failed c.in-Some.tag some tag (judged_none c.args.table.now h.first h.count places c.loop-rest.rest.now c.loop-rest.failed room c.in_default-member.ensures.found)
+
+pub sets::set-is_read-requires : goal.sets::set-is_read-requires
+sets::set-is_read-requires t c =
+    let n = node_at c.args.table.now c.args.at c.index-node.result.now c.requires.room c.index-node.ensures in
+    omega (arith, n.node.before, c.requires.room)
+
+pub sets::set-returns-then-is_read : goal.sets::set-returns-then-is_read
+sets::set-returns-then-is_read t c =
+    let h = c.index-node.result.now in
+    let n = node_at c.args.table.now c.args.at h c.requires.room c.index-node.ensures in
+    let ps = parts_between (spots_in c.args.table.now) h.first h.count in
+    let room : h.first + h.count ≤ vec_len c.args.table.now.hots = omega (arith, n.node.before, c.requires.room) in
+    let some = sym c.is_empty.ensures ∙ c.loop-rest-test.true in
+    let places = c.loop-rest.invariant.0 in
+    let tag = sym c.next_tag.ensures ∙ c.in-Some.is in
+    let again : is_read places c.in-Some-member.place ≡ true = sym (c.is_read.ensures c.loop-rest.rest.now places refl c.loop-rest.invariant.1) ∙ c.if-is_read.true in
+    sym c.loop-rest.invariant.2
+    ∙ no_member ps places c.loop-rest.last c.loop-rest.rest.now c.loop-rest.failed c.in-Some.tag some tag
+    (judged_again c.args.table.now h.first h.count places c.loop-rest.rest.now c.in-Some-member.inside.now c.in-Some-member.next.now c.loop-rest.failed c.in-Some-member.place room c.in-Some-member.ensures.found again)
+
+pub sets::set-present-requires : goal.sets::set-present-requires
+sets::set-present-requires t c =
+    let n = node_at c.args.table.now c.args.at c.index-node.result.now c.requires.room c.index-node.ensures in
+    (omega (arith, n.node.before, c.in-Some-member.ensures.place), omega (arith, n.node.before, c.in-Some-member.ensures.place, c.requires.room))
+
+pub sets::set-returns-then-not-present : goal.sets::set-returns-then-not-present
+sets::set-returns-then-not-present t c =
+    let h = c.index-node.result.now in
+    let n = node_at c.args.table.now c.args.at h c.requires.room c.index-node.ensures in
+    let ps = parts_between (spots_in c.args.table.now) h.first h.count in
+    let room : h.first + h.count ≤ vec_len c.args.table.now.hots = omega (arith, n.node.before, c.requires.room) in
+    let some = sym c.is_empty.ensures ∙ c.loop-rest-test.true in
+    let places = c.loop-rest.invariant.0 in
+    let tag = sym c.next_tag.ensures ∙ c.in-Some.is in
+    let new : is_read places c.in-Some-member.place ≡ false = sym (c.is_read.ensures c.loop-rest.rest.now places refl c.loop-rest.invariant.1) ∙ c.if-is_read.false in
+    sym c.loop-rest.invariant.2
+    ∙ no_member ps places c.loop-rest.last c.loop-rest.rest.now c.loop-rest.failed c.in-Some.tag some tag
+    (judged_new c.args.table.now h.first h.count places c.loop-rest.rest.now c.in-Some-member.inside.now c.in-Some-member.next.now c.loop-rest.failed c.in-Some-member.place None room c.in-Some-member.ensures.found new
+    (no c.present.result c.present.new.failed _ c.present.ensures c.if-not-present.true))
+
+pub sets::set-loop-rest-preserved : goal.sets::set-loop-rest-preserved
+sets::set-loop-rest-preserved t c =
+    let h = c.index-node.result.now in
+    let n = node_at c.args.table.now c.args.at h c.requires.room c.index-node.ensures in
+    let ps = parts_between (spots_in c.args.table.now) h.first h.count in
+    let room : h.first + h.count ≤ vec_len c.args.table.now.hots = omega (arith, n.node.before, c.requires.room) in
+    let some = sym c.is_empty.ensures ∙ c.loop-rest-test.true in
+    let places = c.loop-rest.invariant.0 in
+    let tag = sym c.next_tag.ensures ∙ c.in-Some.is in
+    let new : is_read places c.in-Some-member.place ≡ false = sym (c.is_read.ensures c.loop-rest.rest.now places refl c.loop-rest.invariant.1) ∙ c.if-is_read.false in
+    let kept : AreRead ps c.args.octets.now c.in-Some-member.next.now c.with_read-read.result (c.in-Some-member.place ∷ places) = record {
+      reach = (c.loop-rest.rest.now, c.in-Some-member.inside.now, c.loop-rest.invariant.1.reach, sym c.in-Some-member.ensures.found);
+      kept = λ i low. c.with_read-read.ensures i low ∙ ap (λ (b : Bool). nat_eq c.in-Some-member.place i || b) (c.loop-rest.invariant.1.kept i low);
+    } in (
+      c.in-Some-member.place ∷ places,
+      kept,
+      sym (one_member ps places c.loop-rest.last c.loop-rest.rest.now c.loop-rest.failed c.present.new.failed c.in-Some.tag c.in-Some-member.place c.in-Some-member.next.now some tag
+          (judged_new c.args.table.now h.first h.count places c.loop-rest.rest.now c.in-Some-member.inside.now c.in-Some-member.next.now c.loop-rest.failed c.in-Some-member.place (Some c.present.new.failed) room c.in-Some-member.ensures.found new
+          (yes c.present.result c.present.new.failed _ c.present.ensures c.if-not-present.false)))
+          ∙ c.loop-rest.invariant.2,
+    )
+
+pub sets::set-absences-requires : goal.sets::set-absences-requires
+sets::set-absences-requires t c =
+    let n = node_at c.args.table.now c.args.at c.index-node.result.now c.requires.room c.index-node.ensures in
+    omega (arith, n.node.before, c.requires.room)
+
+pub sets::set-returns : goal.sets::set-returns
+sets::set-returns t c =
+    let h = c.index-node.result.now in
+    let ps = parts_between (spots_in c.args.table.now) h.first h.count in
+    let places = c.loop-rest.invariant.0 in
+    let empty = sym c.is_empty.ensures ∙ c.loop-rest-test.false in
+    let kept = subst (λ (rest : List ℕ). AreRead ps c.args.octets.now rest c.loop-rest.read places) (nothing_left c.loop-rest.rest.now empty) c.loop-rest.invariant.1 in
+    subst (λ (r : Option Slots). Answers c.absences.result c.absences.new.failed r)
+    (sym (members_over ps places c.loop-rest.last c.loop-rest.rest.now c.loop-rest.failed empty) ∙ c.loop-rest.invariant.2) (c.absences.ensures places kept)

@@ -1,50 +1,84 @@
-use Rattle.std.proofs.Common.{◌≡◌, ◌+◌, ◌-◌, ◌*◌, ◌≤◌, length, []}
-use Rattle.guard_tables.specs.TableNodes.{body_at, parts_between}
-use Rattle.guard_reader.specs.inside.NodeParts.{identifier_at}
+use Rattle.std.proofs.Common.{◌≡◌, ◌+◌, ◌-◌, ◌*◌, ◌≤◌, length, [], List, ℕ}
 use Rattle.guard_tables.specs.NodesView.{spots_in}
-use Rattle.guard_reader.specs.Judging.{contents_judged, fields_judged, elements, ordered}
+use Rattle.guard_tables.specs.TableNodes.{body_at, parts_between}
+use Rattle.guard_reader.specs.Judging.{chosen_judged, contents_judged, fields_judged, elements, ordered}
+use Rattle.guard_reader.specs.inside.Members.{AreRead}
+use Rattle.guard_reader.specs.inside.NodeParts.{pass_at, sight_at}
+use Rattle.guard_reader.proofs.SetSteps.{members}
 use Rattle.guard_reader.proofs.walking.+walking.Given as goal
 
-abbrev pub decreases-contents : goal.decreases-contents
-decreases-contents l = 5 * l.at + 2
+-- ---- parts stand before wholes
 
-abbrev pub decreases-series : goal.decreases-series
-decreases-series l = 5 * l.at + 1
+abbrev pub decreases-series::series : goal.decreases-series::series
+decreases-series::series l = 8 * l.at
+
+abbrev pub decreases-choices::choice : goal.decreases-choices::choice
+decreases-choices::choice l = 8 * l.at
+
+abbrev pub decreases-sets::set : goal.decreases-sets::set
+decreases-sets::set l = 8 * l.at
 
 abbrev pub decreases-asked : goal.decreases-asked
-decreases-asked l = 5 * l.at + 1
+decreases-asked l = 8 * l.at
 
 abbrev pub decreases-formula : goal.decreases-formula
-decreases-formula l = 5 * l.at + 1
+decreases-formula l = 8 * l.at
 
-abbrev pub decreases-list : goal.decreases-list
-decreases-list l = 5 * l.first + 3
+abbrev pub decreases-contents : goal.decreases-contents
+decreases-contents l = 8 * l.at + 1
 
-abbrev pub decreases-set_of : goal.decreases-set_of
-decreases-set_of l = 5 * l.first + 3
+abbrev pub decreases-layered : goal.decreases-layered
+decreases-layered l = 8 * l.at + 2
 
-abbrev pub invariant-set_of-loop-item : goal.invariant-set_of-loop-item
-invariant-set_of-loop-item l =
-    ordered (identifier_at (spots_in l.table) l.first) (contents_judged (body_at (spots_in l.table) l.first)) l.before l.rest l.failed
-    ≡ ordered (identifier_at (spots_in l.table) l.first) (contents_judged (body_at (spots_in l.table) l.first)) [] l.fn.octets l.fn.failed
+abbrev pub decreases-within_tag : goal.decreases-within_tag
+decreases-within_tag l = 8 * l.at + 3
 
-abbrev pub decreases-set_of-loop-item : goal.decreases-set_of-loop-item
-decreases-set_of-loop-item l = length l.rest
+abbrev pub decreases-lists::list : goal.decreases-lists::list
+decreases-lists::list l = 8 * l.first + 4
 
-abbrev pub decreases-present : goal.decreases-present
-decreases-present l = 5 * l.at + 3
+abbrev pub decreases-lists::set_of : goal.decreases-lists::set_of
+decreases-lists::set_of l = 8 * l.first + 4
 
-abbrev pub decreases-part : goal.decreases-part
-decreases-part l = 5 * l.at + 4
+abbrev pub decreases-choices::chosen : goal.decreases-choices::chosen
+decreases-choices::chosen l = 8 * l.at + 4
 
-abbrev pub invariant-series-loop-k : goal.invariant-series-loop-k
-invariant-series-loop-k l = fields_judged (parts_between (spots_in l.table) l.k (l.k-end - l.k)) l.rest l.failed ≡ contents_judged (body_at (spots_in l.table) l.at) l.fn.inside l.fn.failed
+abbrev pub decreases-series::present : goal.decreases-series::present
+decreases-series::present l = 8 * l.at + 4
 
-abbrev pub invariant-list-loop-rest : goal.invariant-list-loop-rest
-invariant-list-loop-rest l = record {
+abbrev pub decreases-series::part : goal.decreases-series::part
+decreases-series::part l = 8 * l.at + 5
+
+-- ---- what is left is judged as the whole is
+
+abbrev pub invariant-series::series-loop-k : goal.invariant-series::series-loop-k
+invariant-series::series-loop-k l = fields_judged (parts_between (spots_in l.table) l.k (l.k-end - l.k)) l.rest l.failed ≡ contents_judged (body_at (spots_in l.table) l.at) l.fn.inside l.fn.failed
+
+abbrev pub invariant-choices::choice-loop-k : goal.invariant-choices::choice-loop-k
+invariant-choices::choice-loop-k l = chosen_judged (parts_between (spots_in l.table) l.k (l.k-end - l.k)) l.octets l.failed ≡ contents_judged (body_at (spots_in l.table) l.at) l.octets l.fn.failed
+
+abbrev pub invariant-lists::list-loop-rest : goal.invariant-lists::list-loop-rest
+invariant-lists::list-loop-rest l = record {
   within : l.at ≤ l.first;
-  same : elements (identifier_at (spots_in l.table) l.at) (contents_judged (body_at (spots_in l.table) l.at)) l.rest l.failed ≡ elements (identifier_at (spots_in l.table) l.first) (contents_judged (body_at (spots_in l.table) l.first)) l.fn.octets l.fn.failed;
+  same : elements (sight_at (spots_in l.table) l.at) (pass_at (spots_in l.table) l.at) l.rest l.failed ≡ elements (sight_at (spots_in l.table) l.first) (pass_at (spots_in l.table) l.first) l.fn.octets l.fn.failed;
 }
 
-abbrev pub decreases-list-loop-rest : goal.decreases-list-loop-rest
-decreases-list-loop-rest l = length l.rest
+-- the octets that are left, or an earlier node
+abbrev pub decreases-lists::list-loop-rest : goal.decreases-lists::list-loop-rest
+decreases-lists::list-loop-rest l = length l.rest + l.at
+
+abbrev pub invariant-lists::set_of-loop-before : goal.invariant-lists::set_of-loop-before
+invariant-lists::set_of-loop-before l =
+    ordered (sight_at (spots_in l.table) l.first) (pass_at (spots_in l.table) l.first) l.before l.rest l.failed
+    ≡ ordered (sight_at (spots_in l.table) l.first) (pass_at (spots_in l.table) l.first) [] l.fn.octets l.fn.failed
+
+abbrev pub decreases-lists::set_of-loop-before : goal.decreases-lists::set_of-loop-before
+decreases-lists::set_of-loop-before l = length l.rest
+
+-- which components were read
+abbrev pub invariant-sets::set-loop-rest : goal.invariant-sets::set-loop-rest
+invariant-sets::set-loop-rest l =
+    (places : List ℕ) × AreRead (parts_between (spots_in l.table) l.first l.count) l.fn.octets l.rest l.read places
+    × (members (parts_between (spots_in l.table) l.first l.count) places l.last l.rest l.failed ≡ contents_judged (body_at (spots_in l.table) l.at) l.fn.octets l.fn.failed)
+
+abbrev pub decreases-sets::set-loop-rest : goal.decreases-sets::set-loop-rest
+decreases-sets::set-loop-rest l = length l.rest

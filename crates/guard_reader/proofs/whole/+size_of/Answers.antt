@@ -22,6 +22,18 @@ size_of-requires-in-Formula t c =
     let inner = n.node.inner (ap has_inner c.in-Formula.is) in
     (omega (arith, inner), omega (arith, inner, c.requires))
 
+pub count-requires : goal.count-requires
+count-requires t c =
+    let n = node_at c.args.table.now c.args.at c.index-node.result.now c.requires c.index-node.ensures in
+    let inner = n.node.inner (ap has_inner c.in-List.is) in
+    omega (arith, inner, c.requires)
+
+pub count-requires-in-SetOf : goal.count-requires-in-SetOf
+count-requires-in-SetOf t c =
+    let n = node_at c.args.table.now c.args.at c.index-node.result.now c.requires c.index-node.ensures in
+    let inner = n.node.inner (ap has_inner c.in-SetOf.is) in
+    omega (arith, inner, c.requires)
+
 pub returns-in-Simple : goal.returns-in-Simple
 returns-in-Simple t c =
     let n = node_at c.args.table.now c.args.at c.index-node.result.now c.requires c.index-node.ensures in

@@ -8,21 +8,13 @@ use Rattle.guard_tables.specs.TableNodes.{Spot, spot_of}
 use Rattle.guard_tables.proofs.SlotSums.{added_none}
 use Rattle.guard_tables.proofs.Spots.{node_at, cold_at}
 use Rattle.guard_reader.specs.Judging.{absent_part}
-use Rattle.guard_reader.proofs.NodeSteps.{other_is}
-use Rattle.guard_reader.proofs.Steps.{like, unlike}
-use Rattle.guard_reader.proofs.walking.absent.Goals as goal
-
-pub returns-then-begins : goal.returns-then-begins
-returns-then-begins c =
-    let n = node_at c.args.table.now c.args.at c.index-part.result.now c.requires c.index-part.ensures in
-    unlike _ _ c.args.octets.now c.args.failed.now (rw (other_is c.args.table.now c.args.at c.index-part.result.now n) (sym c.begins.ensures ∙ c.if-begins.true))
+use Rattle.guard_reader.proofs.walking.series.absent.Goals as goal
 
 pub returns-in-Free : goal.returns-in-Free
 unfolding spot_of
 returns-in-Free c =
     let n = node_at c.args.table.now c.args.at c.index-part.result.now c.requires c.index-part.ensures in
-    like _ _ c.args.octets.now c.args.failed.now (rw (other_is c.args.table.now c.args.at c.index-part.result.now n) (sym c.begins.ensures ∙ c.if-begins.false))
-    ∙ ap (λ (s : Spot). absent_part s.side.absent c.args.failed.now) n.spot
+    ap (λ (s : Spot). absent_part s.side.absent c.args.failed.now) n.spot
     ∙ ap (λ (need : Need). absent_part (absence_of need n.cold.absent) c.args.failed.now) c.in-Free.is
     ∙ ap (λ (m : Slots). Some m) (added_none c.args.failed.now)
 
@@ -30,16 +22,14 @@ pub returns-in-Mandatory : goal.returns-in-Mandatory
 unfolding spot_of
 returns-in-Mandatory c =
     let n = node_at c.args.table.now c.args.at c.index-part.result.now c.requires c.index-part.ensures in
-    like _ _ c.args.octets.now c.args.failed.now (rw (other_is c.args.table.now c.args.at c.index-part.result.now n) (sym c.begins.ensures ∙ c.if-begins.false))
-    ∙ ap (λ (s : Spot). absent_part s.side.absent c.args.failed.now) n.spot
+    ap (λ (s : Spot). absent_part s.side.absent c.args.failed.now) n.spot
     ∙ ap (λ (need : Need). absent_part (absence_of need n.cold.absent) c.args.failed.now) c.in-Mandatory.is
 
 pub returns-in-Costs : goal.returns-in-Costs
 unfolding spot_of
 returns-in-Costs c =
     let n = node_at c.args.table.now c.args.at c.index-part.result.now c.requires c.index-part.ensures in
-    like _ _ c.args.octets.now c.args.failed.now (rw (other_is c.args.table.now c.args.at c.index-part.result.now n) (sym c.begins.ensures ∙ c.if-begins.false))
-    ∙ ap (λ (s : Spot). absent_part s.side.absent c.args.failed.now) n.spot
+    ap (λ (s : Spot). absent_part s.side.absent c.args.failed.now) n.spot
     ∙ ap (λ (need : Need). absent_part (absence_of need n.cold.absent) c.args.failed.now) c.in-Costs.is
     ∙ ap (λ (k : Cold). Some (added c.args.failed.now k.absent)) (cold_at c.args.table.now c.args.at c.index-part.result.now c.index.result.now n c.requires c.index.ensures)
     ∙ ap (λ (m : Slots). Some m) (sym c.cost.ensures)

@@ -1,7 +1,7 @@
 use Rattle.std.proofs.Common.{◌∙◌, arith, length-drop, length-take, length, drop, ◌-◌}
 use Rattle.guard_tables.proofs.Spots.{node_at}
 use Rattle.guard_reader.proofs.NodeSteps.{over_plain}
-use Rattle.guard_reader.proofs.walking.after_plain.Goals as goal
+use Rattle.guard_reader.proofs.plain.after_plain.Goals as goal
 
 pub loop-node-preserved : goal.loop-node-preserved
 loop-node-preserved c =

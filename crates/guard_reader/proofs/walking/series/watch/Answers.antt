@@ -4,7 +4,7 @@ use Rattle.guard_tables.specs.Slots.{added}
 use Rattle.guard_reader.specs.Judging.{watched}
 use Rattle.guard_tables.specs.TableNodes.{Spot, spot_of}
 use Rattle.guard_tables.proofs.Spots.{cold_spot}
-use Rattle.guard_reader.proofs.walking.watch.Goals as goal
+use Rattle.guard_reader.proofs.walking.series.watch.Goals as goal
 
 pub returns-then-is_default : goal.returns-then-is_default
 unfolding watched spot_of

@@ -1,0 +1,201 @@
+//! What is at the front of octets, seen from a node.
+ghost use Rattle.std.specs.Prelude.{◌≡◌, ◌<◌, true, vec_len, option_map};
+ghost use Rattle.guard_model.specs.Tags.{same_tag};
+ghost use Rattle.guard_der.specs.Reading.{same_form};
+ghost use Rattle.guard_tables.specs.NodesView.{spots_in};
+ghost use Rattle.guard_tables.specs.Plan.{body_in, form_in, tags_in};
+ghost use Rattle.guard_tables.specs.TableNodes.{body_at, spot_at};
+ghost use Rattle.guard_reader.specs.Fronts.{all_inside, alone, begins, body_front, element_in, far_front, front, front_cut, head_front, innermost, parts_front, after_one};
+ghost use Rattle.guard_reader.specs.Octets.{split};
+ghost use Rattle.guard_reader.specs.inside.FrontViews.{front_view};
+ghost use Rattle.guard_reader.specs.inside.NodeParts.{IsChoice};
+
+use crate::header::split_after;
+use crate::layers::{has_layers, has_two_tags, is_choice, outermost, tag_round};
+use crate::order::front_of;
+use guard_der::header;
+use guard_model::Tag;
+use guard_tables::{Kind, Nodes};
+
+/// What is there.
+#[derive(Clone, Copy)]
+pub enum Front<'a> {
+    /// An element of the node: what is inside its outermost tag, of a CHOICE without a tag all of it; and what follows it.
+    Here(&'a [u8], &'a [u8]),
+    /// The end, or an element with another tag.
+    Elsewhere,
+    /// An element with the node's tag in the other form, or none.
+    Broken,
+}
+
+/// Whether this octet is at the front.
+#[inline(always)]
+pub fn begins(octet: u16, octets: &[u8]) -> bool
+    ensures same { result ≡ begins octet octets.now }
+    ensures small { result ≡ true → octet < 256 }
+{
+    match octets {
+        [first, ..] => u16::from(*first) == octet,
+        [] => false,
+    }
+}
+
+/// An element of a node, where it may come next.
+#[cycle(fronts)]
+#[inline(always)]
+pub fn front_at<'a>(table: &Nodes, at: usize, octets: &'a [u8]) -> Front<'a>
+    requires { at < vec_len table.now.hots }
+    ensures { front_view result ≡ front (spot_at (spots_in table.now) at).plan octets.now }
+{
+    let node = &table.hots[at];
+    if begins(node.identifier, octets) {
+        return cut_off(octets);
+    }
+    if node.identifier == 256 {
+        return far_front(table, at, octets);
+    }
+    if begins(node.other, octets) {
+        return Front::Broken;
+    }
+    Front::Elsewhere
+}
+
+/// The element after one identifier octet that was read.
+#[inline(always)]
+fn cut_off(octets: &[u8]) -> Front<'_>
+    ensures { front_view result ≡ front_cut (split (after_one octets.now)) }
+{
+    match split_after(octets) {
+        Some((inside, rest)) => Front::Here(inside, rest),
+        None => Front::Broken,
+    }
+}
+
+/// An element of a node that has no identifier octet of its own.
+#[cycle(fronts)]
+#[cold]
+#[inline(never)]
+fn far_front<'a>(table: &Nodes, at: usize, octets: &'a [u8]) -> Front<'a>
+    requires { at < vec_len table.now.hots }
+    ensures { front_view result ≡ far_front (tags_in (spot_at (spots_in table.now) at).plan) (form_in (spot_at (spots_in table.now) at).plan)
+        octets.now (body_front (body_at (spots_in table.now) at) octets.now) }
+{
+    let outside = outermost(table, at);
+    match outside.tag {
+        Some(tag) => head_front(&tag, outside.constructed, octets),
+        None => untagged(table, at, octets),
+    }
+}
+
+/// An element with this tag, of any number, in this form.
+#[tactic(auto, unfolding(crate::specs::Fronts::head_front))]
+fn head_front<'a>(tag: &Tag, constructed: bool, octets: &'a [u8]) -> Front<'a>
+    ensures { front_view result ≡ head_front tag.now constructed octets.now }
+{
+    if octets.is_empty() {
+        return Front::Elsewhere;
+    }
+    let Ok(head) = header(octets, 0) else {
+        return Front::Broken;
+    };
+    if !are_same(tag, &head.tag) {
+        return Front::Elsewhere;
+    }
+    if !is_in_form(head.constructed, constructed) {
+        return Front::Broken;
+    }
+    Front::Here(&octets[head.contents..head.end], &octets[head.end..])
+}
+
+fn are_same(tag: &Tag, other: &Tag) -> bool
+    ensures { result ≡ same_tag tag.now other.now }
+{
+    tag == other
+}
+
+fn is_in_form(constructed: bool, wanted: bool) -> bool
+    ensures { result ≡ same_form constructed wanted }
+{
+    constructed == wanted
+}
+
+/// An element of a node that has no tag: of a CHOICE the element of an alternative.
+#[cycle(fronts)]
+fn untagged<'a>(table: &Nodes, at: usize, octets: &'a [u8]) -> Front<'a>
+    requires { at < vec_len table.now.hots }
+    ensures { front_view result ≡ body_front (body_at (spots_in table.now) at) octets.now }
+{
+    let node = &table.hots[at];
+    if has_layers(node.kind) {
+        return untagged(table, node.first as usize, octets);
+    }
+    if is_choice(node.kind) {
+        return alternatives(table, at, octets);
+    }
+    Front::Elsewhere
+}
+
+/// The element of the first alternative that has its tag.
+#[cycle(fronts)]
+fn alternatives<'a>(table: &Nodes, at: usize, octets: &'a [u8]) -> Front<'a>
+    requires room { at < vec_len table.now.hots }
+    requires kind { IsChoice table.now at }
+    ensures { front_view result ≡ body_front (body_at (spots_in table.now) at) octets.now }
+{
+    let node = &table.hots[at];
+    let first = node.first as usize;
+    for k in first..first + node.count as usize {
+        match front_at(table, k, octets) {
+            Front::Here(_, rest) => return Front::Here(front_of(octets, rest), rest),
+            Front::Broken => return Front::Broken,
+            Front::Elsewhere => {}
+        }
+    }
+    Front::Elsewhere
+}
+
+/// An element and nothing after it.
+#[inline(always)]
+pub fn alone(front: Front<'_>) -> Option<&[u8]>
+    ensures { option_map (λ inside. inside.now) result ≡ alone (front_view front.entry) }
+{
+    match front {
+        Front::Here(inside, []) => Some(inside),
+        _ => None,
+    }
+}
+
+/// An element where one is due, and what follows it.
+#[inline(always)]
+pub fn element(front: Front<'_>) -> Option<(&[u8], &[u8])>
+    ensures { option_map (λ p. (p.0.now, p.1.now)) result ≡ element_in (front_view front.entry) }
+{
+    match front {
+        Front::Here(inside, rest) => Some((inside, rest)),
+        Front::Elsewhere => None,
+        Front::Broken => None,
+    }
+}
+
+/// Of what is inside the outermost tag of a node, what is inside the last one.
+#[cold]
+#[inline(never)]
+pub fn innermost<'a>(table: &Nodes, at: usize, octets: &'a [u8]) -> Option<&'a [u8]>
+    requires { at < vec_len table.now.hots }
+    ensures { option_map (λ inside. inside.now) result
+        ≡ innermost (tags_in (spot_at (spots_in table.now) at).plan) (form_in (spot_at (spots_in table.now) at).plan) octets.now }
+{
+    let node = &table.hots[at];
+    if !has_layers(node.kind) {
+        return Some(octets);
+    }
+    let first = node.first as usize;
+    let round = tag_round(node.kind, table.colds[at].tag);
+    if has_two_tags(round, outermost(table, first)) {
+        return match alone(front_at(table, first, octets)) {
+            Some(inside) => innermost(table, first, inside),
+            None => None,
+        };
+    }
+    innermost(table, first, octets)
+}

@@ -1,0 +1,71 @@
+//! SEQUENCE OF and SET OF.
+ghost use Rattle.std.specs.Prelude.{◌<◌, [], vec_len};
+ghost use Rattle.guard_tables.specs.NodesView.{spots_in};
+ghost use Rattle.guard_reader.specs.Judging.{elements, ordered};
+ghost use Rattle.guard_reader.specs.inside.Answers.{Answers};
+ghost use Rattle.guard_reader.specs.inside.NodeParts.{pass_at, sight_at};
+
+use crate::element_fronts::{element, front_at};
+use crate::order::{descends, front_of};
+use crate::plain::after_plain;
+use crate::walking::within_tag;
+use guard_tables::{Kind, Nodes, Slots};
+
+/// Elements of a node, all of the octets.
+#[cycle(walking)]
+#[inline(never)]
+pub fn list(table: &Nodes, first: usize, octets: &[u8], failed: &mut Slots) -> bool
+    requires { first < vec_len table.now.hots }
+    ensures { Answers result failed.new
+        (elements (sight_at (spots_in table.now) first) (pass_at (spots_in table.now) first) octets.now failed.old) }
+{
+    let mut at = first;
+    let mut rest = after_plain(table, at, octets);
+    while !rest.is_empty() {
+        let item = &table.hots[at];
+        let Some((content, next)) = element(front_at(table, at, rest)) else {
+            return false;
+        };
+        let is_last = next.is_empty();
+        match item.kind {
+            Kind::List if is_last => {
+                at = item.first as usize;
+                rest = after_plain(table, at, content);
+            }
+            _ => {
+                if !within_tag(table, at, content, failed) {
+                    return false;
+                }
+                rest = after_plain(table, at, next);
+            }
+        }
+    }
+    true
+}
+
+/// Elements of a SET OF, all of the octets: no element's octets descend to those of the one after it (X.690 11.6).
+#[cycle(walking)]
+#[inline(never)]
+pub fn set_of(table: &Nodes, first: usize, octets: &[u8], failed: &mut Slots) -> bool
+    requires { first < vec_len table.now.hots }
+    ensures { Answers result failed.new
+        (ordered (sight_at (spots_in table.now) first) (pass_at (spots_in table.now) first) [] octets.now failed.old) }
+{
+    let mut before = &octets[..0];
+    let mut rest = octets;
+    while !rest.is_empty() {
+        let Some((content, next)) = element(front_at(table, first, rest)) else {
+            return false;
+        };
+        if !within_tag(table, first, content, failed) {
+            return false;
+        }
+        let element = front_of(rest, next);
+        if descends(before, element) {
+            return false;
+        }
+        before = element;
+        rest = next;
+    }
+    true
+}

@@ -1,0 +1,131 @@
+//! SEQUENCE, and what is said of components.
+ghost use Rattle.std.specs.Prelude.{◌≡◌, ◌<◌, vec_len, option_map};
+ghost use Rattle.guard_tables.specs.NodesView.{spots_in};
+ghost use Rattle.guard_tables.specs.Slots.{added};
+ghost use Rattle.guard_tables.specs.TableNodes.{body_at, spot_at};
+ghost use Rattle.guard_reader.specs.Judging.{contents_judged, present_part, absent_part, part_at, watched};
+ghost use Rattle.guard_reader.specs.inside.Answers.{Answers};
+ghost use Rattle.guard_reader.specs.inside.NodeParts.{IsSeries, pass_at, sight_at};
+
+use crate::conditions::is_default;
+use crate::element_fronts::{Front, front_at};
+use crate::plain::{begins_plainly, is_plain};
+use crate::walking::within_tag;
+use guard_tables::{Cold, Need, Nodes, Slots};
+
+/// Components of a node, all of the octets.
+#[cycle(walking)]
+#[inline(never)]
+pub fn series(table: &Nodes, at: usize, inside: &[u8], failed: &mut Slots) -> bool
+    requires room { at < vec_len table.now.hots }
+    requires kind { IsSeries table.now at }
+    ensures { Answers result failed.new (contents_judged (body_at (spots_in table.now) at) inside.now failed.old) }
+{
+    let node = &table.hots[at];
+    let first = node.first as usize;
+    let mut rest = inside;
+    for k in first..first + node.count as usize {
+        let Some(next) = part(table, k, rest, failed) else {
+            return false;
+        };
+        rest = next;
+    }
+    rest.is_empty()
+}
+
+/// A component where it may come next: what is left after it.
+#[cycle(walking)]
+#[inline(always)]
+fn part<'a>(table: &Nodes, at: usize, octets: &'a [u8], failed: &mut Slots) -> Option<&'a [u8]>
+    requires { at < vec_len table.now.hots }
+    ensures { option_map (λ r. (failed.new, r.now)) result
+        ≡ part_at (spot_at (spots_in table.now) at).side (sight_at (spots_in table.now) at octets.now)
+        (pass_at (spots_in table.now) at) octets.now failed.old }
+{
+    let node = &table.hots[at];
+    if begins_plainly(node, octets) {
+        return Some(&octets[3..]);
+    }
+    match front_at(table, at, octets) {
+        Front::Here(inside, rest) => {
+            if !present(table, at, inside, failed) {
+                return None;
+            }
+            Some(rest)
+        }
+        Front::Elsewhere => {
+            if !absent(table, at, failed) {
+                return None;
+            }
+            Some(octets)
+        }
+        Front::Broken => None,
+    }
+}
+
+/// What is inside the outermost tag of a component.
+#[cycle(walking)]
+#[inline(always)]
+pub fn present(table: &Nodes, at: usize, inside: &[u8], failed: &mut Slots) -> bool
+    requires { at < vec_len table.now.hots }
+    ensures { Answers result failed.new
+        (present_part (spot_at (spots_in table.now) at).side (pass_at (spots_in table.now) at) inside.now failed.old) }
+{
+    if is_plain(&table.hots[at], inside) {
+        return true;
+    }
+    check(table, at, inside, failed) && within_tag(table, at, inside, failed)
+}
+
+/// Whether contents are none of a default; what their presence costs fails.
+#[inline(always)]
+fn check(table: &Nodes, at: usize, inside: &[u8], failed: &mut Slots) -> bool
+    requires { at < vec_len table.now.hots }
+    ensures { Answers result failed.new (watched (spot_at (spots_in table.now) at).side inside.now failed.old) }
+{
+    if !table.hots[at].watched {
+        return true;
+    }
+    watch(table, at, inside, failed)
+}
+
+/// The same of a node that is watched.
+#[cold]
+#[inline(never)]
+fn watch(table: &Nodes, at: usize, inside: &[u8], failed: &mut Slots) -> bool
+    requires { at < vec_len table.now.hots }
+    ensures { Answers result failed.new (watched (spot_at (spots_in table.now) at).side inside.now failed.old) }
+{
+    let cold = &table.colds[at];
+    if is_default(&cold.default, inside) {
+        return false;
+    }
+    failed.add(&cold.present);
+    true
+}
+
+/// Whether a component may be absent.
+#[inline(always)]
+pub fn absent(table: &Nodes, at: usize, failed: &mut Slots) -> bool
+    requires { at < vec_len table.now.hots }
+    ensures { Answers result failed.new
+        (absent_part (spot_at (spots_in table.now) at).side.absent failed.old) }
+{
+    let part = &table.hots[at];
+    match part.need {
+        Need::Free => true,
+        Need::Mandatory => false,
+        Need::Costs => {
+            cost(&table.colds[at], failed);
+            true
+        }
+    }
+}
+
+#[cold]
+#[inline(never)]
+fn cost(cold: &Cold, failed: &mut Slots)
+    ensures { failed.new ≡ added failed.old cold.now.absent }
+{
+    failed.add(&cold.absent);
+}

@@ -1,0 +1,46 @@
+//! SET.
+ghost use Rattle.std.specs.Prelude.{◌≡◌, ◌<◌, vec_len};
+ghost use Rattle.guard_tables.specs.NodesView.{spots_in};
+ghost use Rattle.guard_tables.specs.TableNodes.{body_at};
+ghost use Rattle.guard_reader.specs.Judging.{contents_judged};
+ghost use Rattle.guard_reader.specs.inside.Answers.{Answers};
+ghost use Rattle.guard_reader.specs.inside.NodeParts.{IsSet};
+
+use crate::set_members::{absences, is_read, member, next_tag, with_read};
+use crate::walking::series::present;
+use guard_model::Tag;
+use guard_tables::{Nodes, Slots};
+
+/// Components of a node in ascending order of tags (X.690 8.11, 10.3), all of the octets.
+#[cycle(walking)]
+#[inline(never)]
+pub fn set(table: &Nodes, at: usize, octets: &[u8], failed: &mut Slots) -> bool
+    requires room { at < vec_len table.now.hots }
+    requires kind { IsSet table.now at }
+    ensures { Answers result failed.new (contents_judged (body_at (spots_in table.now) at) octets.now failed.old) }
+{
+    let node = &table.hots[at];
+    let first = node.first as usize;
+    let count = node.count as usize;
+    let mut read = 0;
+    let mut last: Option<Tag> = None;
+    let mut rest = octets;
+    while !rest.is_empty() {
+        let Some(tag) = next_tag(last, rest) else {
+            return false;
+        };
+        let Some((place, inside, next)) = member(table, first, count, rest) else {
+            return false;
+        };
+        if is_read(table, first, count, octets, rest.len(), read, place) {
+            return false;
+        }
+        if !present(table, first + place, inside, failed) {
+            return false;
+        }
+        read = with_read(read, place);
+        last = Some(tag);
+        rest = next;
+    }
+    absences(table, first, count, octets, read, failed)
+}

@@ -1,6 +1,6 @@
 -- An element by its header.
-use Rattle.std.proofs.Common.{◌≡◌, ℕ, ◌+◌, ◌-◌, ◌≤◌, Bool, true, false, eqb, List, [], ◌∷◌, length, take, drop, Result, Ok, Err, refl, sym, ap, ◌∙◌, arith}
-use Rattle.std.proofs.lemmas.Bool.{cond-true, cond-false}
+use Rattle.std.proofs.Common.{◌≡◌, ℕ, ◌+◌, ◌-◌, Bool, true, false, eqb, List, [], ◌∷◌, length, take, drop, Result, Ok, Err, refl, sym, ap, ◌∙◌, arith}
+use Rattle.std.proofs.lemmas.Bool.{cond-true}
 use Rattle.std.proofs.lemmas.List.{take_rest}
 use Rattle.guard_model.specs.declared.tag.Tag.{Tag}
 use Rattle.guard_model.specs.Tags.{same_tag}
@@ -11,7 +11,7 @@ use Rattle.guard_der.specs.Breach.{AbstractBreach}
 use Rattle.guard_der.specs.Head.{Head, head_of}
 use Rattle.guard_der.specs.Header.{header_at, placed}
 use Rattle.guard_der.specs.Reading.{same_form}
-use Rattle.guard_reader.specs.Fronts.{Front, here, head_front, front_headed}
+use Rattle.guard_reader.specs.Fronts.{here, head_front, front_headed}
 
 headed : (tag : Tag) (constructed : Bool) (os : List ℕ) (r : Result Head Code) (h : Header) → placed 0 r ≡ Ok h → same_tag tag h.tag ≡ true → same_form h.constructed constructed ≡ true
     → here (take (h.end - h.contents) (drop h.contents os)) (take (length os - h.end) (drop h.end os)) ≡ front_headed tag constructed os r

@@ -1,5 +1,5 @@
 -- What is at the front of octets is within them.
-use Rattle.std.proofs.Common.{◌≡◌, ℕ, zero, suc, ◌+◌, ◌-◌, ◌*◌, ◌%◌, ◌<◌, ◌≤◌, Bool, true, false, eqb, ltb, cond, List, [], ◌∷◌, length, take, drop, Option, Some, None, Result, Ok, Err, refl, ap, arith, inl, inr, length-drop, length-take}
+use Rattle.std.proofs.Common.{◌≡◌, ℕ, zero, suc, ◌+◌, ◌-◌, ◌*◌, ◌%◌, ◌<◌, ◌≤◌, Bool, eqb, ltb, cond, List, [], ◌∷◌, length, take, drop, Option, Some, None, Result, Ok, Err, refl, ap, arith, inl, inr, length-drop, length-take}
 use Rattle.std.specs.Prelude.{nat_le}
 use Rattle.std.proofs.lemmas.Bool.{ne_eqb}
 use Rattle.guard_model.specs.declared.tag.Tag.{Tag}
@@ -11,8 +11,8 @@ use Rattle.guard_der.specs.declared.breach.Code.TheVariants as code
 use Rattle.guard_der.specs.Head.{Head, class_of, number_from, high_number, tag_number, length_at, head_of}
 use Rattle.guard_der.specs.Reading.{same_form}
 use Rattle.guard_tables.specs.NodeViews.{outer_form, identifier_of, other_of}
-use Rattle.guard_tables.specs.Plan.{Plan, Body, Parts, Side, plan, simple, series, set, choice, list, set_of, asked, formula, no_parts, part}
-use Rattle.guard_reader.specs.Fronts.{Front, here, elsewhere, broken, alone, begins, after_one, front_cut, octet_front, front_headed, head_front, far_front, tagged_front, front_of, all_inside, or_front, front, body_front, parts_front, innermost}
+use Rattle.guard_tables.specs.Plan.{Plan, Body, Parts, plan, simple, series, set, choice, list, set_of, asked, formula, no_parts, part}
+use Rattle.guard_reader.specs.Fronts.{Front, here, elsewhere, broken, front_cut, octet_front, front_headed, head_front, far_front, tagged_front, front_of, all_inside, or_front, front, body_front, parts_front}
 use Rattle.guard_reader.specs.Octets.{split}
 use Rattle.guard_reader.proofs.Elements.{after_length, within}
 

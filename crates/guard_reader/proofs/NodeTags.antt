@@ -18,7 +18,7 @@ use Rattle.guard_tables.proofs.Spots.{NodeAt, there_at, parts_step, spots_length
 use Rattle.guard_reader.specs.Fronts.{Front, broken, elsewhere, after_one, all_inside, alone, begins, body_front, far_front, front, front_cut, head_front, innermost, octet_front, or_front, parts_front, tagged_front}
 use Rattle.guard_reader.specs.Judging.{identifier_in, other_in}
 use Rattle.guard_reader.specs.Octets.{◌>>=◌, split}
-use Rattle.guard_reader.specs.inside.FrontViews.{outermost, outermost_of, wrapped, wrapped_form}
+use Rattle.guard_reader.specs.inside.FrontViews.{outermost, outermost_of, wrapped}
 use Rattle.guard_reader.specs.inside.NodeParts.{IsChoice, has_layers, is_choice, is_simple, tag_round}
 
 abbrev with_tag : Option Tag → List Tag → List Tag

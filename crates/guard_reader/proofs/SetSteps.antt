@@ -12,7 +12,7 @@ use Rattle.guard_tables.specs.declared.node_list.Nodes.{Nodes}
 use Rattle.guard_tables.specs.declared.slots.Slots.{Slots}
 use Rattle.guard_tables.specs.NodesView.{spots_in}
 use Rattle.guard_tables.specs.Plan.{Body, Parts, Plan, Side, set, no_parts, part}
-use Rattle.guard_tables.specs.TableNodes.{Spot, spot_at, body_at, parts_between}
+use Rattle.guard_tables.specs.TableNodes.{spot_at, body_at, parts_between}
 use Rattle.guard_tables.proofs.Spots.{NodeAt, parts_step, spots_length, there_at}
 use Rattle.guard_reader.specs.Fronts.{Front, here, elsewhere, broken, front}
 use Rattle.guard_reader.specs.Judging.{Member, Pass, absences_at, absent_part, contents_judged, inside_judged, is_read, member_at, member_judged, members_at, present_part, tag_after, tag_at}

@@ -1,5 +1,5 @@
 -- Components of a SET, one after the other.
-use Rattle.std.specs.Prelude.{◌≡◌, ℕ, suc, ◌<◌, Bool, List, [], ◌∷◌, nat_eq, Option, Some, None}
+use Rattle.std.specs.Prelude.{◌≡◌, ℕ, suc, ◌<◌, List, [], ◌∷◌, nat_eq, Option, Some, None}
 use Rattle.std.specs.Int.{bit_at}
 use Rattle.guard_tables.specs.Plan.{Parts, no_parts, part}
 use Rattle.guard_reader.specs.Fronts.{Front, here, elsewhere, broken, front}

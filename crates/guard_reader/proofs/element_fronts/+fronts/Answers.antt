@@ -1,10 +1,10 @@
-use Rattle.std.proofs.Common.{◌≡◌, ◌∙◌, ◌+◌, ◌-◌, ap, sym, subst, refl, arith, Some, None, Option, ℕ, suc, add-one, List, eqb, false, Bool}
+use Rattle.std.proofs.Common.{◌≡◌, ◌∙◌, ◌+◌, ◌-◌, ap, sym, arith, Option, ℕ, suc, add-one, List, Bool}
 use Rattle.std.proofs.lemmas.Bool.{ne_eqb, eq-eqb}
 use Rattle.guard_model.specs.declared.tag.Tag.{Tag}
 use Rattle.guard_tables.specs.NodesView.{spots_in}
 use Rattle.guard_tables.specs.TableNodes.{spot_at, parts_between}
 use Rattle.guard_tables.proofs.Spots.{node_at, there_at}
-use Rattle.guard_reader.specs.Fronts.{Front, here, broken, all_inside, or_front, front, front_of, parts_front}
+use Rattle.guard_reader.specs.Fronts.{Front, here, all_inside, or_front, parts_front}
 use Rattle.guard_reader.proofs.FrontSteps.{front_within}
 use Rattle.guard_reader.proofs.NodeTags.{is_kind_choice, layered_inner, body_layered, body_bare, near_front, far_away, octet_there, octet_turned, octet_elsewhere, far_tagged, far_untagged, choice_front, alternatives_step, alternatives_end, kind_of_choice}
 use Rattle.guard_reader.proofs.element_fronts.+fronts.Goals as goal

@@ -1,15 +1,10 @@
-use Rattle.std.proofs.Common.{◌≡◌, ◌∙◌, ap, sym, arith, Some, None, Option, ℕ, List}
-use Rattle.std.specs.Prelude.{◌&&◌, Bool, true, false}
-use Rattle.std.specs.Option.{is_some}
-use Rattle.guard_model.specs.declared.tag.Tag.{Tag}
-use Rattle.guard_tables.specs.declared.node.Cold.{Cold}
+use Rattle.std.proofs.Common.{◌∙◌, ap, sym, arith}
+use Rattle.std.specs.Prelude.{true, false}
 use Rattle.guard_tables.specs.NodesView.{spots_in}
 use Rattle.guard_tables.specs.Plan.{form_in, tags_in}
 use Rattle.guard_tables.specs.TableNodes.{spot_at}
 use Rattle.guard_tables.proofs.Spots.{node_at, cold_at}
-use Rattle.guard_reader.specs.Fronts.{Front, alone, front, innermost}
-use Rattle.guard_reader.specs.Octets.{◌>>=◌}
-use Rattle.guard_reader.specs.inside.NodeParts.{tag_round}
+use Rattle.guard_reader.specs.Fronts.{alone, front, innermost}
 use Rattle.guard_reader.proofs.Elements.{bind_some, bind_none}
 use Rattle.guard_reader.proofs.NodeTags.{layered_inner, innermost_bare, innermost_once, innermost_twice, two_tags}
 use Rattle.guard_reader.proofs.element_fronts.+innermost.Goals as goal

@@ -1,5 +1,4 @@
-use Rattle.std.proofs.Common.{◌≡◌, ◌∙◌, Ok, sym, subst, Result}
-use Rattle.guard_model.specs.Answer.{Gives}
+use Rattle.std.proofs.Common.{◌∙◌, sym}
 use Rattle.guard_reader.proofs.ByHeader.{front_read}
 use Rattle.guard_reader.proofs.element_fronts.head_front.Goals as goal
 

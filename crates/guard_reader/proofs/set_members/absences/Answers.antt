@@ -1,7 +1,6 @@
 use Rattle.std.proofs.Common.{◌≡◌, ◌∙◌, ◌+◌, ◌-◌, suc, sym, arith, add-one, refl, []}
 use Rattle.std.specs.Prelude.{true, false, Some, None}
 use Rattle.guard_reader.specs.Judging.{is_read}
-use Rattle.guard_reader.proofs.Elements.{bind_some, bind_none}
 use Rattle.guard_reader.proofs.SetSteps.{absences_read, absences_unread, absences_end}
 use Rattle.guard_reader.proofs.Steps.{yes, no}
 use Rattle.guard_reader.proofs.set_members.absences.Goals as goal

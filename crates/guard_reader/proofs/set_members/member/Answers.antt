@@ -1,4 +1,4 @@
-use Rattle.std.proofs.Common.{◌≡◌, ◌∙◌, ◌+◌, ◌-◌, suc, refl, ap, sym, arith, ℕ, List, Option, add-one}
+use Rattle.std.proofs.Common.{◌≡◌, ◌∙◌, ◌+◌, ◌-◌, suc, refl, ap, sym, arith, add-one}
 use Rattle.guard_tables.specs.NodesView.{spots_in}
 use Rattle.guard_tables.specs.TableNodes.{spot_at, parts_between}
 use Rattle.guard_reader.specs.Fronts.{Front}

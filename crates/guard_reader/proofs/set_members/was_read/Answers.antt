@@ -1,6 +1,4 @@
-use Rattle.std.proofs.Common.{◌≡◌, ◌∙◌, sym, arith, refl}
-use Rattle.guard_tables.specs.NodesView.{spots_in}
-use Rattle.guard_tables.specs.TableNodes.{parts_between}
+use Rattle.std.proofs.Common.{sym, arith, refl}
 use Rattle.guard_reader.proofs.MemberSteps.{looked_over, looked_none, looked_found, looked_on}
 use Rattle.guard_reader.proofs.set_members.was_read.Goals as goal
 

@@ -1,18 +1,17 @@
-use Rattle.std.proofs.Common.{◌≡◌, ◌∙◌, ◌+◌, ◌-◌, ◌≤◌, Bool, true, false, vec_len, ap, sym, subst, refl, arith, drop, Some, None, Option, ℕ, get_or, ◌∷◌, [], add-one, map, List, suc}
+use Rattle.std.proofs.Common.{◌≡◌, ◌∙◌, ◌+◌, ◌-◌, ◌≤◌, Bool, true, false, vec_len, ap, sym, subst, refl, arith, drop, Some, None, Option, ℕ, get_or, ◌∷◌, [], add-one, map, List}
 use Rattle.std.specs.Prelude.{◌||◌, nat_eq}
 use Rattle.std.proofs.lemmas.List.{take_rest}
 use Rattle.std.proofs.lemmas.Bool.{cond-true, cond-false}
 use Rattle.guard_der.specs.Fits.{descends}
 use Rattle.guard_tables.specs.declared.slots.Slots.{Slots}
 use Rattle.guard_tables.specs.declared.node.Cold.{Cold}
-use Rattle.guard_tables.specs.declared.node.Kind.TheVariants as kind
 use Rattle.guard_tables.specs.TableNodes.{spot_at, body_at, parts_between, has_inner, conditions_of}
 use Rattle.guard_tables.specs.NodeViews.{raise_view}
 use Rattle.guard_tables.specs.Marking.{conditions_marked}
 use Rattle.guard_tables.specs.Formulas.{raised}
 use Rattle.guard_tables.specs.NodesView.{spots_in}
-use Rattle.guard_reader.specs.Fronts.{element_in, front_of, here}
-use Rattle.guard_reader.specs.Judging.{is_read, chosen_at, chosen_judged, contents_judged, fields_judged, outside, then_marked, whole_facts, size_in, ordered}
+use Rattle.guard_reader.specs.Fronts.{element_in, front_of}
+use Rattle.guard_reader.specs.Judging.{is_read, fields_judged, outside, then_marked, whole_facts, size_in, ordered}
 use Rattle.guard_reader.specs.inside.Answers.{Answers}
 use Rattle.guard_reader.specs.inside.Members.{AreRead}
 use Rattle.guard_reader.specs.inside.NodeParts.{has_layers, pass_at, sight_at}
@@ -23,7 +22,7 @@ use Rattle.guard_reader.proofs.Passes.{element_here, last_element, no_element, n
 use Rattle.guard_reader.proofs.SetSteps.{set_judged, kind_of_set, no_bit, nothing_left, no_tag, no_member, one_member, members_over, judged_none, judged_again, judged_new}
 use Rattle.guard_reader.proofs.Steps.{yes, no, at_end, absent_there, not_whole, present_there, refused, sent, chosen_more, chosen_alone, chosen_here, chosen_broken, chosen_later}
 use Rattle.guard_tables.proofs.Spots.{node_at, there_at, cold_at}
-use Rattle.guard_reader.proofs.NodeSteps.{list_judged, simple_judged, fields_all, formula_judged, fields_step, is_of_series, is_of_formula, plain_at, plain_present, one_here, sees_within, inside_bare, inside_found, inside_none, unread_judged, wrapper_judged, asked_judged, is_of_asked, set_of_judged, choice_judged, choice_step, choice_end}
+use Rattle.guard_reader.proofs.NodeSteps.{list_judged, simple_judged, fields_all, formula_judged, fields_step, is_of_series, is_of_formula, plain_at, plain_present, one_here, sees_within, inside_bare, inside_found, inside_none, wrapper_judged, asked_judged, is_of_asked, set_of_judged, choice_judged, choice_step, choice_end}
 use Rattle.guard_reader.proofs.walking.+walking.Goals as goal
 
 -- ---- contents

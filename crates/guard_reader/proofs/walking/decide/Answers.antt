@@ -1,4 +1,4 @@
-use Rattle.std.proofs.Common.{◌≡◌, ◌∙◌, ◌-◌, ap, sym, subst, arith, length, None, ℕ}
+use Rattle.std.proofs.Common.{◌≡◌, ◌∙◌, ◌-◌, ap, subst, arith, length, None, ℕ}
 use Rattle.guard_tables.specs.declared.slots.Slots.{Slots}
 use Rattle.guard_tables.specs.NodesView.{spots_in}
 use Rattle.guard_tables.specs.TableNodes.{spot_at}

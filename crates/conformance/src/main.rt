@@ -44,6 +44,7 @@ mod policies;
 mod printed;
 mod programs;
 mod reports;
+mod row_types;
 mod schemas;
 mod set_trees;
 mod shown_types;
@@ -58,6 +59,9 @@ mod texts;
 mod typed;
 mod values;
 mod verdicts;
+mod walk_files;
+mod walked;
+mod walks;
 mod written_verdicts;
 
 use alphabets::Alphabets;
@@ -89,6 +93,7 @@ use tagging::TaggingRows;
 use text_streams::TextStreams;
 use values::ValuesRows;
 use verdicts::Verdicts;
+use walked::try_walks;
 
 fn main(rt: HostRuntime) -> anyhow::Result<()> {
     let mut tally = Tally::new();
@@ -101,8 +106,9 @@ fn main(rt: HostRuntime) -> anyhow::Result<()> {
     try_messages(&rt, &mut tally)?;
     try_policies(&rt, &mut tally)?;
     try_streams(&rt, &mut tally)?;
+    let walk_agrees = try_walks(&rt)?;
     let as_expected = tally.close(&rt)?;
-    ensure!(as_expected, "a row has another answer");
+    ensure!(as_expected && walk_agrees, "a row has another answer");
     Ok(())
 }
 

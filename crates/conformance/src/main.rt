@@ -13,6 +13,7 @@
 //! | `der` | `encoding.rt`, `decoding.rt`, `headers.rt`, `digits.rt` |
 //! | `eval` | `members.rt` |
 //! | `tables` | `tables.rt` |
+//! | `reader` | `reader.rt`; on the octets of the rows of `der`, `eval`, `tagging` and `schema` `walked.rt` |
 //! | `policy` | `policies.rt`, of verdicts `verdicts.rt` |
 //! | `report` | `reports.rt`, `written_verdicts.rt` |
 //! | `frames` | `streams.rt`, `text_streams.rt`, `links.rt`, `link_orders.rt`, with `devices.rt` |
@@ -40,9 +41,11 @@ mod members;
 mod memory;
 mod messages;
 mod names;
+mod near;
 mod policies;
 mod printed;
 mod programs;
+mod reader;
 mod reports;
 mod row_types;
 mod schemas;
@@ -80,6 +83,7 @@ use names::NamesRows;
 use policies::Policies;
 use printed::Printed;
 use programs::Programs;
+use reader::Reader;
 use reports::Reports;
 use schemas::Schemas;
 use set_trees::SetTrees;
@@ -315,6 +319,20 @@ fn try_messages<R: Files + Print + AllocGlobal>(rt: &R, tally: &mut Tally) -> io
         rt,
         tally,
         &["tables/types_of_rules.rows", "tables/limits.rows"],
+    )?;
+    try_reader(rt, tally)
+}
+
+/// One pass over octets, by a table.
+fn try_reader<R: Files + Print + AllocGlobal>(rt: &R, tally: &mut Tally) -> io::Result<()> {
+    check_files::<R, Reader>(
+        rt,
+        tally,
+        &[
+            "reader/messages.rows",
+            "reader/places_of_rules.rows",
+            "reader/ranges.rows",
+        ],
     )
 }
 

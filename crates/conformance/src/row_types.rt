@@ -4,7 +4,9 @@ ghost use Rattle.guard_der.specs.Sound.{is_sound};
 ghost use Rattle.guard_model.specs.TypeView.{type_view};
 ghost use Rattle.guard_tables.specs.Tables.{types_view};
 
+use crate::near::Compared;
 use crate::texts::{modules, texts_of, value_of};
+use crate::walk_files::Subject;
 use conformance_rows::{octets_in, text_of};
 use guard_der::encode;
 use guard_model::Ty;
@@ -21,7 +23,7 @@ struct TypeName {
 
 /// What a row asks about: a value or octets under the type of this name.
 #[derive(Clone, Copy)]
-pub struct Asked<'a> {
+struct Asked<'a> {
     module: &'a str,
     name: &'a str,
     text: &'a str,
@@ -64,31 +66,6 @@ impl RowTypes {
         types
     }
 
-    /// `@type TYPE`, which is the third line of a module; `@module` after the lines of a module without its END;
-    /// `@modules` and `@schema` after those of whole modules; `@ask octets` of values, and `@ask value` and
-    /// `@ask messages` of octets.
-    pub fn set(&mut self, alloc: Global, name: &str, text: &[u8]) -> Result<(), AllocError> {
-        match (name, text_of(text)) {
-            ("type", text) => {
-                let whole = format!(in alloc; "M DEFINITIONS ::= BEGIN\nT ::=\n{text}\nEND\n")?;
-                self.one = true;
-                self.build(alloc, &whole)
-            }
-            ("module", text) => {
-                self.one = false;
-                let whole = format!(in alloc; "{text}END\n")?;
-                self.build(alloc, &whole)
-            }
-            ("modules" | "schema", text) => {
-                self.one = false;
-                self.build(alloc, text)
-            }
-            ("ask", "octets") => self.ask(Form::Value),
-            ("ask", "value" | "messages") => self.ask(Form::Octets),
-            _ => Ok(()),
-        }
-    }
-
     fn ask(&mut self, form: Form) -> Result<(), AllocError> {
         self.form = form;
         Ok(())
@@ -102,7 +79,7 @@ impl RowTypes {
     }
 
     /// What a row asks: a value or octets, after `NAME ::= `, `MODULE NAME : ` or `MODULE.NAME ` where no type is set.
-    pub fn asked<'a>(&'a self, row: &'a str) -> Option<Asked<'a>> {
+    fn asked<'a>(&'a self, row: &'a str) -> Option<Asked<'a>> {
         if self.one {
             return Some(Asked {
                 module: "M",
@@ -120,11 +97,7 @@ impl RowTypes {
     }
 
     /// The octets that a row is about, and the table of its type and of those that have the same tags and base.
-    pub fn read(
-        &self,
-        alloc: Global,
-        asked: Asked,
-    ) -> Result<Option<(Table, Vec<u8>)>, AllocError> {
+    fn read(&self, alloc: Global, asked: Asked) -> Result<Option<(Table, Vec<u8>)>, AllocError> {
         let Some(schema) = &self.schema else {
             return Ok(None);
         };
@@ -193,6 +166,51 @@ impl TypeName {
     }
 }
 
+impl Subject for RowTypes {
+    /// `@type TYPE`, which is the third line of a module; `@module` after the lines of a module without its END;
+    /// `@modules` and `@schema` after those of whole modules; `@ask octets` of values, and `@ask value` and
+    /// `@ask messages` of octets.
+    fn set(&mut self, alloc: Global, name: &str, text: &[u8]) -> Result<(), AllocError> {
+        match (name, text_of(text)) {
+            ("type", text) => {
+                let whole = format!(in alloc; "M DEFINITIONS ::= BEGIN\nT ::=\n{text}\nEND\n")?;
+                self.one = true;
+                self.build(alloc, &whole)
+            }
+            ("module", text) => {
+                self.one = false;
+                let whole = format!(in alloc; "{text}END\n")?;
+                self.build(alloc, &whole)
+            }
+            ("modules" | "schema", text) => {
+                self.one = false;
+                self.build(alloc, text)
+            }
+            ("ask", "octets") => self.ask(Form::Value),
+            ("ask", "value" | "messages") => self.ask(Form::Octets),
+            _ => Ok(()),
+        }
+    }
+
+    fn try_row(
+        &self,
+        alloc: Global,
+        row: &[u8],
+        compared: &mut Compared,
+    ) -> Result<bool, AllocError> {
+        let Some(asked) = self.asked(text_of(row)) else {
+            return Ok(false);
+        };
+        match self.read(alloc, asked)? {
+            Some((table, octets)) => {
+                compared.try_around(alloc, &table, &octets)?;
+                Ok(true)
+            }
+            None => Ok(false),
+        }
+    }
+}
+
 /// The names that are assigned in modules; none where a text is no module.
 fn names_in(alloc: Global, text: &str) -> Result<Vec<TypeName>, AllocError> {
     let mut names = Vec::new(alloc);
@@ -210,7 +228,8 @@ fn names_in(alloc: Global, text: &str) -> Result<Vec<TypeName>, AllocError> {
     Ok(names)
 }
 
-/// The table of these types; with the declared type as the only rule's, where they ask too much.
+/// The table of these types, or where they ask too much of the declared type and a rule with the same; none where that
+/// asks too much.
 fn table(alloc: Global, declared: &Ty, rules: &[&Ty]) -> Result<Option<Table>, AllocError>
     requires declared_sound { IsTrue (is_sound (type_view declared.now)) }
     requires rules_sound { All (λ t. IsTrue (is_sound t)) (types_view rules.now) }

@@ -1,46 +1,43 @@
-//! `walk` on the octets of the rows of other layers' files, and on octets that are near them.
-use crate::row_types::RowTypes;
-use crate::walks::Compared;
+//! Rows of other layers' files, and octets that are near theirs: whether two ways to judge them agree.
+use crate::near::Compared;
 use conformance_rows::octets_of;
 use std::alloc::{AllocError, Global};
 use std::rt::Files;
 use std::{fs, io};
 
-/// Tries the rows of files whose rows are values; prints for each how many there are, and where the answers differ.
-pub fn walk_values<R: Files + Print + AllocGlobal>(rt: &R, files: &[&str]) -> io::Result<bool> {
-    let mut agree = true;
-    for file in files {
-        agree &= walk_file(rt, file, RowTypes::of_values(rt.alloc()))?;
-    }
-    Ok(agree)
-}
+/// What stands above a row, and how a row is tried under it.
+pub trait Subject: Drop {
+    /// Sets for the rows below what the line `@NAME TEXT` names, if that is of use here.
+    fn set(&mut self, alloc: Global, name: &str, text: &[u8]) -> Result<(), AllocError>;
 
-/// The same of files whose rows are octets.
-pub fn walk_octets<R: Files + Print + AllocGlobal>(rt: &R, files: &[&str]) -> io::Result<bool> {
-    let mut agree = true;
-    for file in files {
-        agree &= walk_file(rt, file, RowTypes::of_octets(rt.alloc()))?;
-    }
-    Ok(agree)
+    /// Tries the octets of a row and those near them, and answers whether the row has some.
+    fn try_row(
+        &self,
+        alloc: Global,
+        row: &[u8],
+        compared: &mut Compared,
+    ) -> Result<bool, AllocError>;
 }
 
 /// What has been read of a file.
 #[derive(Drop)]
-struct Walks {
-    types: RowTypes,
+struct Walks<S: Subject> {
+    subject: S,
     /// The lines that stand in front of the next row.
     before: Vec<u8>,
     rows: u32,
     compared: Compared,
 }
 
-fn walk_file<R: Files + Print + AllocGlobal>(
+/// Tries the rows of a file, prints how many have octets and how many octet strings were tried, and where the answers
+/// differ, and answers whether none do.
+pub fn walk_file<R: Files + Print + AllocGlobal, S: Subject>(
     rt: &R,
     file: &str,
-    types: RowTypes,
+    subject: S,
 ) -> io::Result<bool> {
     let mut walks = Walks {
-        types,
+        subject,
         before: Vec::new(rt.alloc()),
         rows: 0,
         compared: Compared::new(rt.alloc()),
@@ -61,7 +58,7 @@ fn read<R: Files + AllocGlobal>(rt: &R, file: &str) -> io::Result<String> {
     fs::read_to_string(rt, path.as_str())
 }
 
-impl Walks {
+impl<S: Subject> Walks<S> {
     /// Takes the next line.
     fn take<R: Files + AllocGlobal>(&mut self, rt: &R, line: &str) -> io::Result<()> {
         if line.is_empty() || line == "#" || line.starts_with("# ") {
@@ -98,19 +95,15 @@ impl Walks {
         };
         let (name, text) = directive.split_once(' ').unwrap_or((directive, ""));
         self.add(alloc, text.trim_start())?;
-        self.types.set(alloc, name, &self.before)
+        self.subject.set(alloc, name, &self.before)
     }
 
     fn take_row(&mut self, alloc: Global) -> Result<(), AllocError> {
-        let Ok(row) = str::from_utf8(&self.before) else {
-            return Ok(());
-        };
-        let Some(asked) = self.types.asked(row) else {
-            return Ok(());
-        };
-        if let Some((table, octets)) = self.types.read(alloc, asked)? {
+        if self
+            .subject
+            .try_row(alloc, &self.before, &mut self.compared)?
+        {
             self.rows = self.rows.saturating_add(1);
-            self.compared.try_around(alloc, &table, &octets)?;
         }
         Ok(())
     }

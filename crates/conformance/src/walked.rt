@@ -1,19 +1,23 @@
 //! The files on whose rows `walk` is tried.
-use crate::walk_files::{walk_octets, walk_values};
+use crate::row_types::RowTypes;
+use crate::walk_files::walk_file;
 use std::io;
 use std::rt::Files;
 
 /// Tries all of them, and answers whether `walk` agrees with `decode` and `member` on each octet string.
 pub fn try_walks<R: Files + Print + AllocGlobal>(rt: &R) -> io::Result<bool> {
-    let encodings = walk_values(rt, &ENCODINGS)?;
-    let breaches = walk_octets(rt, &BREACHES)?;
-    let members = walk_values(rt, &MEMBERS)?;
-    let tagged = walk_values(rt, &TAGGED)?;
-    let messages = walk_octets(rt, &MESSAGES)?;
-    Ok(encodings && breaches && members && tagged && messages)
+    let mut agree = true;
+    for file in VALUES {
+        agree &= walk_file(rt, file, RowTypes::of_values(rt.alloc()))?;
+    }
+    for file in OCTETS {
+        agree &= walk_file(rt, file, RowTypes::of_octets(rt.alloc()))?;
+    }
+    Ok(agree)
 }
 
-const ENCODINGS: [&str; 16] = [
+/// Of values.
+const VALUES: [&str; 28] = [
     "der/encodings/boolean_and_null.rows",
     "der/encodings/integer.rows",
     "der/encodings/enumerated.rows",
@@ -30,9 +34,22 @@ const ENCODINGS: [&str; 16] = [
     "der/encodings/order.rows",
     "der/encodings/personnel_record.rows",
     "der/encodings/limits.rows",
+    "eval/ranges.rows",
+    "eval/parts.rows",
+    "eval/set_operations.rows",
+    "eval/single_values.rows",
+    "eval/sizes.rows",
+    "eval/alphabets.rows",
+    "eval/contained_types.rows",
+    "eval/with_components.rows",
+    "eval/with_component.rows",
+    "eval/definitions.rows",
+    "tagging/octets.rows",
+    "tagging/octets_from_asn1c.rows",
 ];
 
-const BREACHES: [&str; 17] = [
+/// Of octets under a type, or under the types of schemas.
+const OCTETS: [&str; 23] = [
     "der/breaches/boolean_and_null.rows",
     "der/breaches/integer.rows",
     "der/breaches/enumerated.rows",
@@ -50,26 +67,6 @@ const BREACHES: [&str; 17] = [
     "der/breaches/order.rows",
     "der/breaches/personnel_record.rows",
     "der/breaches/limits.rows",
-];
-
-const MEMBERS: [&str; 10] = [
-    "eval/ranges.rows",
-    "eval/parts.rows",
-    "eval/set_operations.rows",
-    "eval/single_values.rows",
-    "eval/sizes.rows",
-    "eval/alphabets.rows",
-    "eval/contained_types.rows",
-    "eval/with_components.rows",
-    "eval/with_component.rows",
-    "eval/definitions.rows",
-];
-
-/// Values, and where their rows ask it octets, of types with tags.
-const TAGGED: [&str; 2] = ["tagging/octets.rows", "tagging/octets_from_asn1c.rows"];
-
-/// Messages under the types of schemas.
-const MESSAGES: [&str; 6] = [
     "schema/three_tag_defaults.rows",
     "schema/tags_by_module.rows",
     "schema/filled_in.rows",

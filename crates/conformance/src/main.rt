@@ -42,6 +42,7 @@ mod memory;
 mod messages;
 mod names;
 mod near;
+mod passing;
 mod policies;
 mod printed;
 mod programs;

@@ -1,10 +1,12 @@
-//! The files on whose rows `walk` is tried.
+//! The files on whose rows `walk` and `passes` are tried.
+use crate::passing::{PolicyRows, Said};
 use crate::row_types::RowTypes;
 use crate::walk_files::walk_file;
 use std::io;
 use std::rt::Files;
 
-/// Tries all of them, and answers whether `walk` agrees with `decode` and `member` on each octet string.
+/// Tries all of them, and answers whether `walk` agrees with `decode` and `member` on each octet string, and `passes`
+/// with the verdict.
 pub fn try_walks<R: Files + Print + AllocGlobal>(rt: &R) -> io::Result<bool> {
     let mut agree = true;
     for file in VALUES {
@@ -12,6 +14,17 @@ pub fn try_walks<R: Files + Print + AllocGlobal>(rt: &R) -> io::Result<bool> {
     }
     for file in OCTETS {
         agree &= walk_file(rt, file, RowTypes::of_octets(rt.alloc()))?;
+    }
+    Ok(agree & try_passes(rt)?)
+}
+
+fn try_passes<R: Files + Print + AllocGlobal>(rt: &R) -> io::Result<bool> {
+    let mut agree = true;
+    for file in ROUTES {
+        agree &= walk_file(rt, file, PolicyRows::new(rt.alloc(), Said::Route))?;
+    }
+    for file in FRAMES {
+        agree &= walk_file(rt, file, PolicyRows::new(rt.alloc(), Said::Frames))?;
     }
     Ok(agree)
 }
@@ -73,4 +86,28 @@ const OCTETS: [&str; 23] = [
     "schema/orders.rows",
     "schema/settlement.rows",
     "schema/public_standards.rows",
+];
+
+/// Of routes and octets under policies.
+const ROUTES: [&str; 9] = [
+    "policy/verdicts/order_of_reasons.rows",
+    "policy/verdicts/built_in.rows",
+    "policy/verdicts/prefixes.rows",
+    "policy/verdicts/orders.rows",
+    "policy/verdicts/any_sender.rows",
+    "policy/verdicts/named_bits.rows",
+    "policy/verdicts/wider_rule.rows",
+    "policy/verdicts/outside.rows",
+    "policy/verdicts/outside_named_bits.rows",
+];
+
+/// Of frames under policies.
+const FRAMES: [&str; 7] = [
+    "frames/streams.rows",
+    "frames/bodies.rows",
+    "frames/long_bodies.rows",
+    "frames/pieces.rows",
+    "frames/failing_devices.rows",
+    "frames/one_link.rows",
+    "frames/under_a_policy.rows",
 ];

@@ -13,6 +13,7 @@
 //! | `der` | `encoding.rt`, `decoding.rt`, `headers.rt`, `digits.rt` |
 //! | `eval` | `members.rt` |
 //! | `tables` | `tables.rt` |
+//! | `reader` | `reader.rt`; on the octets of the rows of `der`, `eval`, `tagging` and `schema` `walked.rt` |
 //! | `policy` | `policies.rt`, of verdicts `verdicts.rt` |
 //! | `report` | `reports.rt`, `written_verdicts.rt` |
 //! | `frames` | `streams.rt`, `text_streams.rt`, `links.rt`, `link_orders.rt`, with `devices.rt` |
@@ -40,10 +41,14 @@ mod members;
 mod memory;
 mod messages;
 mod names;
+mod near;
+mod passing;
 mod policies;
 mod printed;
 mod programs;
+mod reader;
 mod reports;
+mod row_types;
 mod schemas;
 mod set_trees;
 mod shown_types;
@@ -58,6 +63,9 @@ mod texts;
 mod typed;
 mod values;
 mod verdicts;
+mod walk_files;
+mod walked;
+mod walks;
 mod written_verdicts;
 
 use alphabets::Alphabets;
@@ -76,6 +84,7 @@ use names::NamesRows;
 use policies::Policies;
 use printed::Printed;
 use programs::Programs;
+use reader::Reader;
 use reports::Reports;
 use schemas::Schemas;
 use set_trees::SetTrees;
@@ -89,6 +98,7 @@ use tagging::TaggingRows;
 use text_streams::TextStreams;
 use values::ValuesRows;
 use verdicts::Verdicts;
+use walked::try_walks;
 
 fn main(rt: HostRuntime) -> anyhow::Result<()> {
     let mut tally = Tally::new();
@@ -101,8 +111,9 @@ fn main(rt: HostRuntime) -> anyhow::Result<()> {
     try_messages(&rt, &mut tally)?;
     try_policies(&rt, &mut tally)?;
     try_streams(&rt, &mut tally)?;
+    let walk_agrees = try_walks(&rt)?;
     let as_expected = tally.close(&rt)?;
-    ensure!(as_expected, "a row has another answer");
+    ensure!(as_expected && walk_agrees, "a row has another answer");
     Ok(())
 }
 
@@ -309,6 +320,20 @@ fn try_messages<R: Files + Print + AllocGlobal>(rt: &R, tally: &mut Tally) -> io
         rt,
         tally,
         &["tables/types_of_rules.rows", "tables/limits.rows"],
+    )?;
+    try_reader(rt, tally)
+}
+
+/// One pass over octets, by a table.
+fn try_reader<R: Files + Print + AllocGlobal>(rt: &R, tally: &mut Tally) -> io::Result<()> {
+    check_files::<R, Reader>(
+        rt,
+        tally,
+        &[
+            "reader/messages.rows",
+            "reader/places_of_rules.rows",
+            "reader/ranges.rows",
+        ],
     )
 }
 

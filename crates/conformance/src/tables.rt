@@ -25,7 +25,7 @@ fn counted(part: &str) -> (u32, &str) {
 }
 
 /// A module in which the types of the parts have the names T0, T1 and so on, before what is visible.
-fn module_text(alloc: Global, row: &str, visible: &str) -> Result<String, AllocError> {
+pub fn module_text(alloc: Global, row: &str, visible: &str) -> Result<String, AllocError> {
     let mut text = String::from_str(alloc, "M DEFINITIONS ::= BEGIN\n")?;
     for (place, part) in row.split(';').enumerate() {
         let (_, ty) = counted(part);
@@ -37,7 +37,11 @@ fn module_text(alloc: Global, row: &str, visible: &str) -> Result<String, AllocE
 }
 
 /// The types of the rules, each as often as the row says.
-fn rule_types<'a>(alloc: Global, schema: &'a Schema, row: &str) -> Result<Vec<&'a Ty>, AllocError>
+pub fn rule_types<'a>(
+    alloc: Global,
+    schema: &'a Schema,
+    row: &str,
+) -> Result<Vec<&'a Ty>, AllocError>
     ensures { IfOk result (λ found. All (λ t. IsTrue (is_sound t)) (types_view found.items)) }
 {
     let mut rules = Vec::new(alloc);

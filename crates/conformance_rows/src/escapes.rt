@@ -7,7 +7,7 @@ ghost use Rattle.std.specs.Prelude.{◌<◌, IfSome};
 use std::alloc::{AllocError, Global};
 
 /// The octets that are written, or none where a backslash begins nothing of the above.
-pub(crate) fn octets_of(alloc: Global, written: &str) -> Result<Option<Vec<u8>>, AllocError> {
+pub fn octets_of(alloc: Global, written: &str) -> Result<Option<Vec<u8>>, AllocError> {
     let mut octets = Vec::new(alloc);
     let mut parts = written.split("\\[");
     let Some(first) = parts.next() else {

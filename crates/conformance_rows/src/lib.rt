@@ -18,5 +18,6 @@ mod tally;
 
 pub use around::Around;
 pub use digits::octets_in;
+pub use escapes::octets_of;
 pub use layer::{Layer, not_read, text_of, unknown};
 pub use tally::{Tally, check_files};

@@ -1,9 +1,9 @@
 -- Which frames go out.
-use Rattle.std.proofs.Common.{◌≡◌, ◌⊎◌, ℕ, List, ◌∙◌, ◌↔◌, sym, subst, drop, true, false, inl, inr}
+use Rattle.std.proofs.Common.{◌≡◌, ℕ, List, ◌∙◌, ◌↔◌, sym, subst, drop, true, false, inl, inr}
 use Rattle.std.proofs.lemmas.Bool.{false≢true}
 use Rattle.guard_frames.specs.Bodies.{AbstractBody, IsBody}
 use Rattle.guard_frames.specs.Outcomes.{Decision, Goes, Outcome}
-use Rattle.guard_frames.specs.Guarding.{Adds, StaysNoMemory}
+use Rattle.guard_frames.specs.Guarding.{Adds}
 use Rattle.guard_frames.proofs.HeaderLaws.{same_Some, body_again}
 
 one_body : (octets : List ℕ) (b c : AbstractBody) → IsBody octets b → IsBody octets c → b ≡ c
@@ -17,21 +17,7 @@ stays_exactly d o b stays is decided = (
   λ go. absurd (decided (subst d.Goes (one_body (drop 4 o.frame) go.body b go.is is) go.decided)),
 )
 
-pub goes_but_for_memory : (d : Decision) (n : ℕ) (o : Outcome) (line : List ℕ) → Adds d n o line → StaysNoMemory d n o line ⊎ ((o.goes ≡ true) ↔ Goes d o.frame)
-goes_but_for_memory d n o line (inl x) = inr (λ e. x.goes, λ go. x.out)
-goes_but_for_memory d n o line (inr (inl x)) = inr (stays_exactly d o x.body x.stays x.is x.decided)
-goes_but_for_memory d n o line (inr (inr (inl x))) = inr (λ e. absurd (false≢true (sym x.stays ∙ e)), λ go. absurd (x.none go.body go.is))
-goes_but_for_memory d n o line (inr (inr (inr x))) = inl x
-
--- where deciding takes no memory
-memory_exactly : (d : Decision) (n : ℕ) (o : Outcome) (line : List ℕ) → d.takes_memory ≡ false → StaysNoMemory d n o line → (o.goes ≡ true) ↔ Goes d o.frame
-memory_exactly d n o line none x = elim x.wanting [
-  | inl decided ↦ stays_exactly d o x.body x.stays x.is decided
-  | inr short ↦ absurd (false≢true (sym none ∙ short))
-]
-
-pub goes_exactly : (d : Decision) (n : ℕ) (o : Outcome) (line : List ℕ) → d.takes_memory ≡ false → Adds d n o line → (o.goes ≡ true) ↔ Goes d o.frame
-goes_exactly d n o line none adds = elim (goes_but_for_memory d n o line adds) [
-  | inl x ↦ memory_exactly d n o line none x
-  | inr exactly ↦ exactly
-]
+pub goes_exactly : (d : Decision) (n : ℕ) (o : Outcome) (line : List ℕ) → Adds d n o line → (o.goes ≡ true) ↔ Goes d o.frame
+goes_exactly d n o line (inl x) = (λ e. x.goes, λ go. x.out)
+goes_exactly d n o line (inr (inl x)) = stays_exactly d o x.body x.stays x.is x.decided
+goes_exactly d n o line (inr (inr x)) = (λ e. absurd (false≢true (sym x.stays ∙ e)), λ go. absurd (x.none go.body go.is))

@@ -15,7 +15,7 @@ use Rattle.guard_frames.specs.Prefix.{IsProperPrefix}
 abbrev pub text_out : List Outcome → List ℕ
 text_out outcomes = concat (frames_of (filter (λ o. o.goes) outcomes))
 
--- ---- what is reported: a frame and the line that it adds, in four cases
+-- ---- what is reported: a frame and the line that it adds, in three cases
 
 -- It goes: it is three names and a message, and is decided to go. Nothing is said of it.
 pub record GoesOut (d : Decision) (o : Outcome) (line : List ℕ) : Type 0 where
@@ -23,13 +23,13 @@ pub record GoesOut (d : Decision) (o : Outcome) (line : List ℕ) : Type 0 where
   pub goes : Goes d o.frame
   pub text : line ≡ []
 
--- It stays, since it is decided to stay: its line has the reason.
+-- It stays, since it is decided to stay: its line has the reason, or says that there was no memory for it.
 pub record StaysDecided (d : Decision) (n : ℕ) (o : Outcome) (line : List ℕ) : Type 0 where
   pub stays : o.goes ≡ false
   pub body : AbstractBody
   pub is : IsBody (drop 4 o.frame) body
   pub decided : d.Goes body → ⊥
-  pub text : d.Reports n body line
+  pub text : d.Reports n body line ⊎ (line ≡ decimal n ++ codes " no-memory\n")
 
 -- It stays, since it isn't three names and a message.
 pub record StaysBadHeader (n : ℕ) (o : Outcome) (line : List ℕ) : Type 0 where
@@ -37,17 +37,9 @@ pub record StaysBadHeader (n : ℕ) (o : Outcome) (line : List ℕ) : Type 0 whe
   pub none : (body : AbstractBody) → IsBody (drop 4 o.frame) body → ⊥
   pub text : line ≡ decimal n ++ codes " bad-header\n"
 
--- It stays, since there was no memory to write its line; or to decide it, where that takes memory.
-pub record StaysNoMemory (d : Decision) (n : ℕ) (o : Outcome) (line : List ℕ) : Type 0 where
-  pub stays : o.goes ≡ false
-  pub body : AbstractBody
-  pub is : IsBody (drop 4 o.frame) body
-  pub wanting : (d.Goes body → ⊥) ⊎ (d.takes_memory ≡ true)
-  pub text : line ≡ decimal n ++ codes " no-memory\n"
-
 -- the line that the frame of number n adds to the reports
 abbrev pub Adds : Decision → ℕ → Outcome → List ℕ → Type 0
-Adds d n o line = GoesOut d o line ⊎ StaysDecided d n o line ⊎ StaysBadHeader n o line ⊎ StaysNoMemory d n o line
+Adds d n o line = GoesOut d o line ⊎ StaysDecided d n o line ⊎ StaysBadHeader n o line
 
 -- The lines that frames numbered on from n add, in order. Each frame has a decision of its own, since a policy may be
 -- replaced between two frames: `decisions k` is that of the frame with k of these before it. Where nothing is replaced

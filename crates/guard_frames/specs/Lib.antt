@@ -8,7 +8,6 @@ pub mod Prefix
 pub mod Added
 pub mod Guarding
 -- ---- what the calls do
-pub mod Rulings
 pub mod ThroughView
 pub mod KeptView
 pub mod LinkView

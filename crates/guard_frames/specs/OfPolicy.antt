@@ -1,5 +1,5 @@
 -- What a policy decides of the body of a frame.
-use Rattle.std.specs.Prelude.{◌≡◌, true}
+use Rattle.std.specs.Prelude.{◌≡◌}
 use Rattle.guard_policy.specs.Policies.{AbstractPolicy, AbstractRoute}
 use Rattle.guard_policy.specs.Verdicts.{AbstractVerdict}
 use Rattle.guard_policy.specs.Decisions.{Goes, IsReason}
@@ -17,5 +17,4 @@ decision_of p = record {
   Goes = λ b. Goes p (route_of b) b.message;
   Reports = λ n b text. (w : AbstractVerdict) × IsReason p (route_of b) b.message w
       × (text ≡ line_octets p (route_of b) n w);
-  takes_memory = true;
 }

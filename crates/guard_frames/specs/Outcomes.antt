@@ -3,11 +3,9 @@ use Rattle.std.specs.Prelude.{ℕ, Bool, true, false, List, drop, map}
 use Rattle.guard_frames.specs.Bodies.{AbstractBody, IsBody}
 
 -- What is decided of a body: whether it goes, and the report line, with the frame's number, of one that stays.
--- Deciding may take memory.
 pub record Decision : Type 1 where
   pub Goes : AbstractBody → Type 0
   pub Reports : ℕ → AbstractBody → List ℕ → Type 0
-  pub takes_memory : Bool
 
 -- a frame goes where its body is three names and a message, and is decided to go
 pub record Goes (d : Decision) (frame : List ℕ) : Type 0 where

@@ -4,7 +4,7 @@ ghost use Rattle.std.specs.Prelude.{◌≡◌, ◌⊎◌, ℕ, List, ◌++◌, �
 ghost use Rattle.guard_frames.specs.Bodies.{AbstractBody, IsBody, body_in};
 ghost use Rattle.guard_frames.specs.Frames.{ConsistsOf};
 ghost use Rattle.guard_frames.specs.Outcomes.{Goes, Outcome};
-ghost use Rattle.guard_frames.specs.Guarding.{Adds, StaysNoMemory};
+ghost use Rattle.guard_frames.specs.Guarding.{Adds};
 ghost use Rattle.guard_frames.specs.LinkView.{new_link};
 ghost use Rattle.guard_frames.specs.Gateways.{AbstractGateway};
 ghost use Rattle.guard_frames.specs.GatewaySteps.{Turn, AreSteps};
@@ -28,17 +28,10 @@ pub fn law_one_reading()
         ConsistsOf stream frames rest → ConsistsOf stream others last → (frames ≡ others) × (rest ≡ last) }
 {}
 
-/// Where it takes no memory to decide, exactly those frames go out that are decided to go.
+/// Exactly those frames go out that are decided to go.
 pub fn law_goes_exactly<D: Decide>(policy: &D)
-    ensures { (n : ℕ) (o : Outcome) (line : List ℕ) →
-        (D.decides policy.now).takes_memory ≡ false → Adds (D.decides policy.now) n o line →
-        (o.goes ≡ true) ↔ Goes (D.decides policy.now) o.frame }
-{}
-
-/// Exactly those frames go out that are decided to go, but for one whose line says that there was no memory.
-pub fn law_goes_but_for_memory<D: Decide>(policy: &D)
     ensures { (n : ℕ) (o : Outcome) (line : List ℕ) → Adds (D.decides policy.now) n o line →
-        StaysNoMemory (D.decides policy.now) n o line ⊎ ((o.goes ≡ true) ↔ Goes (D.decides policy.now) o.frame) }
+        (o.goes ≡ true) ↔ Goes (D.decides policy.now) o.frame }
 {}
 
 /// A body that is read is there, and one that is there is read: three names, each after its length, and the message.

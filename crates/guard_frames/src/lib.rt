@@ -45,7 +45,7 @@ mod through;
 mod totals;
 
 pub use body::Body;
-pub use decision::{Decide, Report, Ruling};
+pub use decision::Decide;
 pub use devices::{Failed, Sink, Source, put_all};
 pub use gateway::{Event, Gateway, NoRoom, StepFault};
 pub use guarding::run;

@@ -6,26 +6,23 @@ ghost use Rattle.guard_frames.specs.Bodies.{body_view};
 ghost use Rattle.guard_frames.specs.OfPolicy.{route_of, decision_of};
 
 use crate::body::Body;
-use crate::decision::{Decide, Report, Ruling};
-use guard_policy::{Policy, Route, Verdict};
+use crate::decision::Decide;
+use guard_model::OutOfMemory;
+use guard_policy::{Policy, Route};
 use guard_report::line;
 use std::alloc::Global;
 
 impl Decide for Policy {
     ghost decides = { λ policy. decision_of (policy_view policy) };
 
-    fn decide(&self, alloc: Global, number: u64, body: &Body) -> Ruling {
+    fn goes(&self, body: &Body) -> bool {
+        self.passes(&route_of(body), body.message)
+    }
+
+    fn line(&self, alloc: Global, number: u64, body: &Body) -> Result<Vec<u8>, OutOfMemory> {
         let route = route_of(body);
-        let Ok(verdict) = self.verdict(alloc, &route, body.message) else {
-            return Ruling::Stays(Report::NoMemory);
-        };
-        if let Verdict::Pass = verdict {
-            return Ruling::Goes;
-        }
-        match line(alloc, number, &route, &verdict, self) {
-            Ok(line) => Ruling::Stays(Report::Line(line)),
-            Err(_) => Ruling::Stays(Report::NoMemory),
-        }
+        let verdict = self.verdict(alloc, &route, body.message)?;
+        line(alloc, number, &route, &verdict, self)
     }
 }
 

@@ -7,9 +7,9 @@ ghost use Rattle.guard_frames.specs.Guarding.{BreaksOff};
 ghost use Rattle.guard_frames.specs.inside.Putting.{ArePut};
 
 use crate::cut::{Cut, Rest, first_cut};
-use crate::decision::{Decide, Ruling};
+use crate::decision::Decide;
 use crate::devices::{Failed, Sink, put_all};
-use crate::report::{judge, put_report};
+use crate::report::{Ruling, judge, put_report};
 use crate::totals::Totals;
 use std::alloc::Global;
 

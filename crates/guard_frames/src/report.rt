@@ -3,28 +3,63 @@
 ghost use Rattle.std.specs.Prelude.{◌≡◌, ◌++◌, true, List, ℕ, drop, OnOk, OnErr, decimal};
 ghost use Rattle.std.specs.Io.KnownBytes.{Appends};
 ghost use Rattle.guard_frames.specs.Prefix.{IsProperPrefix};
-ghost use Rattle.guard_frames.specs.inside.Judged.{IsJudged, report_line};
+ghost use Rattle.guard_frames.specs.inside.Judged.{IsJudged, IsReportOf, report_line};
+ghost use Rattle.guard_frames.specs.Bodies.{body_view, HasNames};
 
+use crate::body::Body;
 use crate::cut::Frame;
-use crate::decision::{Decide, Report, Ruling};
+use crate::decision::Decide;
 use crate::devices::{Failed, Sink, put_all};
 use crate::header::read_body;
 use itoa::Buffer;
 use std::alloc::Global;
 
-/// What becomes of the frame of this number.
-pub fn judge<D: Decide>(alloc: Global, policy: &D, number: u64, frame: &Frame) -> Ruling
+/// What becomes of a frame.
+#[derive(Drop)]
+pub(crate) enum Ruling {
+    /// It goes out.
+    Goes,
+    /// It stays, and this is reported of it.
+    Stays(Report),
+}
+
+/// What is reported of a frame that stays.
+#[derive(Drop)]
+pub(crate) enum Report {
+    /// Its body isn't three names and a message.
+    BadHeader,
+    /// There was no memory for its line.
+    NoMemory,
+    /// This line, with the frame's number and its line feed.
+    Line(Vec<u8>),
+}
+
+/// What becomes of the frame of this number. No memory is taken for one that goes.
+pub(crate) fn judge<D: Decide>(alloc: Global, policy: &D, number: u64, frame: &Frame) -> Ruling
     requires { frame.now.body.now ≡ drop 4 frame.now.octets.now }
     ensures { IsJudged (D.decides policy.now) number frame.now.octets.now result }
 {
     match read_body(frame.body) {
-        Some(body) => policy.decide(alloc, number, &body),
+        Some(body) if policy.goes(&body) => Ruling::Goes,
+        Some(body) => Ruling::Stays(report_of(alloc, policy, number, &body)),
         None => Ruling::Stays(Report::BadHeader),
     }
 }
 
+/// What is reported of the frame of this number and with this body, which stays.
+fn report_of<D: Decide>(alloc: Global, policy: &D, number: u64, body: &Body) -> Report
+    requires names { HasNames (body_view body.now) }
+    requires stays { (D.decides policy.now).Goes (body_view body.now) → ⊥ }
+    ensures { IsReportOf (D.decides policy.now) number (body_view body.now) result }
+{
+    match policy.line(alloc, number, body) {
+        Ok(line) => Report::Line(line),
+        Err(_) => Report::NoMemory,
+    }
+}
+
 /// Puts the line that says why the frame of this number stays.
-pub fn put_report<S: Sink>(sink: &mut S, number: u64, report: &Report) -> Result<(), Failed>
+pub(crate) fn put_report<S: Sink>(sink: &mut S, number: u64, report: &Report) -> Result<(), Failed>
     ensures all { OnOk result (Appends (S.taken sink.old) (S.taken sink.new) (report_line number report.now)) }
     ensures part { OnErr result ((part : List ℕ) × IsProperPrefix part (report_line number report.now)
         × Appends (S.taken sink.old) (S.taken sink.new) part) }

@@ -1,17 +1,24 @@
 -- What becomes of one frame, and its line.
 use Rattle.std.specs.Prelude.{ℕ, List, ◌++◌, codes, decimal}
+use Rattle.guard_frames.specs.Bodies.{AbstractBody}
 use Rattle.guard_frames.specs.Outcomes.{Decision, Goes, staying}
 use Rattle.guard_frames.specs.Guarding.{Adds}
-use Rattle.guard_frames.specs.declared.decision.Ruling.{Ruling}
-use Rattle.guard_frames.specs.declared.decision.Ruling.TheVariants as ruling
-use Rattle.guard_frames.specs.declared.decision.Report.{Report}
-use Rattle.guard_frames.specs.declared.decision.Report.TheVariants.{BadHeader, NoMemory, Line}
+use Rattle.guard_frames.specs.declared.report.Ruling.{Ruling}
+use Rattle.guard_frames.specs.declared.report.Ruling.TheVariants as ruling
+use Rattle.guard_frames.specs.declared.report.Report.{Report}
+use Rattle.guard_frames.specs.declared.report.Report.TheVariants.{BadHeader, NoMemory, Line}
 
 -- the line that says why the frame of this number stays
 abbrev pub report_line : ℕ → Report → List ℕ
 report_line n BadHeader = decimal n ++ codes " bad-header\n"
 report_line n NoMemory = decimal n ++ codes " no-memory\n"
 report_line n (Line line) = line.items
+
+-- what is reported of this body, which stays
+abbrev pub IsReportOf : Decision → ℕ → AbstractBody → Report → Type 0
+IsReportOf d n b (Line line) = d.Reports n b line.items
+IsReportOf d n b NoMemory = Unit {0}
+IsReportOf d n b BadHeader = ⊥
 
 -- the frame of this number goes, or stays and adds this report
 abbrev pub IsJudged : Decision → ℕ → List ℕ → Ruling → Type 0

@@ -1,4 +1,4 @@
-use Rattle.std.proofs.Common.{◌≡◌, ◌≤◌, map, replicate, vec_capacity}
+use Rattle.std.proofs.Common.{◌≡◌, ◌≤◌, map, replicate}
 use Rattle.guard_frames.specs.LinkView.{link_view, new_link}
 use Rattle.guard_frames.proofs.seats.new_links.Given as goal
 

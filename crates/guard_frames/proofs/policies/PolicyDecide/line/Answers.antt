@@ -1,0 +1,25 @@
+use Rattle.std.proofs.Common.{◌≡◌, subst}
+use Rattle.guard_policy.specs.Policies.{AbstractRoute}
+use Rattle.guard_policy.specs.PolicyView.{policy_view, route_view}
+use Rattle.guard_policy.specs.Verdicts.{verdict_view}
+use Rattle.guard_policy.specs.Decisions.{IsReason}
+use Rattle.guard_policy.proofs.Reasons.{if_ok_map}
+use Rattle.guard_report.specs.Lines.{line_octets}
+use Rattle.guard_frames.specs.Bodies.{body_view}
+use Rattle.guard_frames.specs.OfPolicy.{route_of, decision_of}
+use Rattle.guard_frames.proofs.policies.PolicyDecide.line.Goals as goal
+
+pub returns : goal.returns
+returns c =
+    let p = policy_view c.args.self.now in
+    let octets = c.args.body.now.message.now in
+    let w = verdict_view c.in_ok-verdict.verdict in
+    let same : route_view c.route_of-route.result ≡ route_of (body_view c.args.body.now) = c.route_of-route.ensures in
+    if_ok_map (λ line. line.items ≡ line_octets p (route_view c.route_of-route.result) c.args.number w)
+    (λ line. (decision_of p).Reports c.args.number (body_view c.args.body.now) line.items) c.line.result
+    (λ line e. (
+      w,
+      subst (λ (r : AbstractRoute). IsReason p r octets w) same c.in_ok-verdict.ensures.reason,
+      subst (λ (r : AbstractRoute). line.items ≡ line_octets p r c.args.number w) same e,
+    ))
+    c.line.ensures

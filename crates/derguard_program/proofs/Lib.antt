@@ -12,4 +12,10 @@ pub mod Meetings
 pub mod VerdictsFound
 pub mod RecordLaws
 pub mod PassingLaws
-pub mod Muxes
+pub mod RecordReading
+pub mod RecordsRead
+pub mod Turning
+pub mod Doings
+pub mod EndsTaken
+pub mod Taking
+pub mod Statuses

@@ -104,7 +104,7 @@ cut_none l n part p q short reload more ok is =
 
 -- ---- one reading
 
-joined_first : (r : Record) (records : List Record) (rest : List ℕ) → concat (map record_octets (r ∷ records)) ++ rest ≡ record_octets r ++ (concat (map record_octets records) ++ rest)
+pub joined_first : (r : Record) (records : List Record) (rest : List ℕ) → concat (map record_octets (r ∷ records)) ++ rest ≡ record_octets r ++ (concat (map record_octets records) ++ rest)
 joined_first r records rest = append_assoc (record_octets r) (concat (map record_octets records)) rest
 
 same_records : (records others : List Record) (rest last : List ℕ) → All IsAllowed records → All IsAllowed others → HasNoRecord rest → HasNoRecord last

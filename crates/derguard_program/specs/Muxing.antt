@@ -53,11 +53,11 @@ IsLost input rest =
 -- All that comes of the records before these octets is out, and nothing else: no link gets its end.
 pub record StopsAt (path : List ℕ) (first : AbstractMux) (input : Input) (out err : Device) (IsRest : List ℕ → Type 0) : Type 0
   where
-  pub rest : List ℕ
-  pub all : Takes path first input rest
-  pub is : IsRest rest
-  pub sent : Appends out.before out.after (all_out all.written)
-  pub told : Appends err.before err.after (all_err all.written)
+    pub rest : List ℕ
+    pub all : Takes path first input rest
+    pub is : IsRest rest
+    pub sent : Appends out.before out.after (all_out all.written)
+    pub told : Appends err.before err.after (all_err all.written)
 
 -- ---- an output fails
 

@@ -1,5 +1,6 @@
 use Rattle.derguard_program.proofs.RecordReading.{one_reading}
+use Rattle.derguard_program.proofs.RecordsRead.{some_reading}
 use Rattle.derguard_program.proofs.laws.law_one_reading.Goals as goal
 
 pub returns : goal.returns
-returns c = one_reading
+returns c = record { exists = some_reading; one = one_reading }

@@ -47,8 +47,8 @@ returns g c =
         s,
         reported,
         stops_told s c.args.path.now _ input out (g.E.Sink.taken c.args.err.now) reported (g.E.Sink.has_failed c.guard-guarded.new.err) (g.E.Sink.has_failed c.tell_stop.new.err)
-        (λ same. ap g.E.Sink.has_failed (c.tell_stop.ensures.silent same))
-        (subst (λ (m : AbstractMux). Stops s c.args.path.now m input out err) (c.in-Ok-new.ensures.open later) e.stops),
+            (λ same. ap g.E.Sink.has_failed (c.tell_stop.ensures.silent same))
+            (subst (λ (m : AbstractMux). Stops s c.args.path.now m input out err) (c.in-Ok-new.ensures.open later) e.stops),
         c.tell_stop.ensures.told,
       ),
     )

@@ -33,8 +33,8 @@ returns-else-count-size-clause-record g c =
       good,
       omega (arith, s.fewer, f.some (omega (arith, c.if-count-lt-HEADER.false))),
       whole_piece _ _ _ c.in-Some.header c.in-Piece.field-0 c.in-Piece.size c.in_ok-count.count c.in_ok-count-2.count c.fill_front.new.room c.fill_front-in-Piece.new.room
-      c.in-Piece.is h.0 h.1 f.within c.if-count-lt-HEADER.false f.given s.given (omega (arith, s.within, c.if-count-size.false))
-      (omega (arith, good.1, c.requires, c.fill_front.auto.room, c.fill_front-in-Piece.auto.room)),
+          c.in-Piece.is h.0 h.1 f.within c.if-count-lt-HEADER.false f.given s.given (omega (arith, s.within, c.if-count-size.false))
+          (omega (arith, good.1, c.requires, c.fill_front.auto.room, c.fill_front-in-Piece.auto.room)),
     )
 
 pub returns-in_default-header : goal.returns-in_default-header

@@ -16,5 +16,5 @@ returns-clause-done g c = λ ends there. (
     let has : HasEnds c.args.gateway.now c.args.link emptied lender = some_of c.ends_mut.result c.in-Some.ends c.in-Some.is (c.ends_mut.follows.holds emptied) in (
       passed_of c.args.gateway.now c.args.link lent ends lender emptied _ _ _ _ same c.in_ok-put_ends.ensures.done has c.empty.ensures,
       ap not c.is_empty-is_reported.ensures
-      ∙ ap (λ (s : List ℕ). not (nat_eq (length s) 0)) (c.octets.ensures ∙ ap (λ (e : Ends Kept). kept_octets e.reports) same),
+          ∙ ap (λ (s : List ℕ). not (nat_eq (length s) 0)) (c.octets.ensures ∙ ap (λ (e : Ends Kept). kept_octets e.reports) same),
     ))

@@ -29,8 +29,11 @@ returns-in_err-end_unless_ended-clause-cut g c =
     let i = c.loop-link.invariant in
     let n = c.end_unless_ended.new in
     let cut = c.in_err-end_unless_ended.ensures.cut in
-    rw (e.1, e.2) (cut.0, λ path told out failed. end_cut_at path told c.args.self.now c.loop-link.self out (g.E.Sink.taken c.args.err.now) (g.E.Sink.taken c.loop-link.err) (g.E.Sink.taken n.err)
-    failed (g.E.Sink.has_failed n.err) c.loop-link.link cut.1 (i.ended path told) (cut.2 path told out failed))
+    rw (e.1, e.2) (
+      cut.0,
+      λ path told out failed. end_cut_at path told c.args.self.now c.loop-link.self out (g.E.Sink.taken c.args.err.now) (g.E.Sink.taken c.loop-link.err) (g.E.Sink.taken n.err)
+          failed (g.E.Sink.has_failed n.err) c.loop-link.link cut.1 (i.ended path told) (cut.2 path told out failed),
+    )
 
 pub returns-clause-done : goal.returns-clause-done
 returns-clause-done g c = λ path told.

@@ -4,5 +4,5 @@ use Rattle.guard_der.specs.Sound.{is_sound}
 use Rattle.guard_tables.specs.Tables.{types_view}
 use Rattle.conformance.proofs.tables.rule_types.Given as goal
 
-abbrev pub invariant-loop : goal.invariant-loop
-invariant-loop l = All (λ t. IsTrue (is_sound t)) (types_view l.rules.items)
+abbrev pub invariant-loop-place : goal.invariant-loop-place
+invariant-loop-place l = All (λ t. IsTrue (is_sound t)) (types_view l.rules.items)

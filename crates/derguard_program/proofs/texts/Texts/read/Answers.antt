@@ -16,3 +16,6 @@ returns-in_err-modules-clause-later g c =
 pub returns-clause-later : goal.returns-clause-later
 returns-clause-later g c =
     read_later (g.F.Files.told c.args.files.now) (g.F.Files.told c.read.new.files) (g.F.Files.told c.read_modules.new.files) c.read.ensures.next c.read_modules.ensures.later
+
+pub returns-in_err-listed-clause-later : goal.returns-in_err-listed-clause-later
+returns-in_err-listed-clause-later g c = (1, c.read.ensures.next)

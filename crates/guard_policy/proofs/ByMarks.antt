@@ -30,7 +30,7 @@ use Rattle.guard_policy.specs.declared.policy.Effect.{Effect}
 use Rattle.guard_policy.specs.declared.policy.Effect.TheVariants.{Allow, Deny}
 use Rattle.guard_policy.specs.Decisions.{NumberedRule, speaks_of, is_allow, allows, denies, rules_of as route_rules, Goes}
 use Rattle.guard_policy.specs.KeptView.{kept_message_view, kept_rule_view, found_type, table_place, no_type}
-use Rattle.guard_policy.specs.Listings.{place_among, numbers_for, rules_at, heard}
+use Rattle.guard_policy.specs.inside.Listings.{place_among, numbers_for, rules_at, heard}
 use Rattle.guard_policy.specs.PolicyView.{policy_view}
 use Rattle.guard_policy.specs.Policies.{AbstractPolicy, AbstractMessage, AbstractRule, AbstractRoute, declared_type, declared_among}
 use Rattle.guard_policy.specs.inside.Keeping.{IsFirst, ArePlaced}

@@ -3,7 +3,7 @@ use Rattle.std.proofs.Common.{◌≡◌, ℕ, List, ◌∷◌, Bool, true, false
 use Rattle.guard_model.specs.AbstractValue.{AbstractValue}
 use Rattle.guard_policy.specs.Policies.{AbstractRule, AbstractRoute}
 use Rattle.guard_policy.specs.Decisions.{NumberedRule, speaks_of, denies, first_denying}
-use Rattle.guard_policy.specs.Listings.{rules_at, heard, denies_at}
+use Rattle.guard_policy.specs.inside.Listings.{rules_at, heard, denies_at}
 
 -- the first one of a list whose first rule speaks of the route or doesn't, and denies the value or doesn't
 by_tests : (speaks denying : Bool) (here there : Option ℕ) → cond speaks (cond denying here there) there ≡ cond (speaks && denying) here there

@@ -16,7 +16,7 @@ use Rattle.guard_policy.specs.declared.kept.RuleType.{RuleType}
 use Rattle.guard_policy.specs.declared.kept.RuleType.TheVariants.{InTable, Own}
 use Rattle.guard_policy.specs.Consistency.{types_for}
 use Rattle.guard_policy.specs.KeptView.{kept_message_view, kept_rule_view, found_type, table_place, no_type}
-use Rattle.guard_policy.specs.Listings.{AbstractListed, place_among, numbers_for, listing, listed_view}
+use Rattle.guard_policy.specs.inside.Listings.{AbstractListed, place_among, numbers_for, listing, listed_view}
 use Rattle.guard_policy.specs.Policies.{AbstractMessage, AbstractRule}
 use Rattle.guard_policy.specs.inside.Keeping.{Tabled, tabled_view, tabled, IsTypeOf, IsSaid}
 use Rattle.guard_policy.proofs.Listed.{drop_get, drop_rest}

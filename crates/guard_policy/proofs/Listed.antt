@@ -13,7 +13,7 @@ use Rattle.guard_model.specs.AbstractType.{AbstractType}
 use Rattle.guard_policy.specs.declared.index.Listed.{Listed}
 use Rattle.guard_policy.specs.Decisions.{NumberedRule, speaks_of, speaking}
 use Rattle.guard_policy.specs.Names.{is_meant}
-use Rattle.guard_policy.specs.Listings.{AbstractListed, place_among, numbers_for, listing, listed_view, rules_at, heard}
+use Rattle.guard_policy.specs.inside.Listings.{AbstractListed, place_among, numbers_for, listing, listed_view, rules_at, heard}
 use Rattle.guard_policy.specs.Policies.{AbstractMessage, AbstractRule, AbstractRoute, declared_among}
 
 -- ---- what stands at a place of a list

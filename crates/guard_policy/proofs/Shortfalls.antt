@@ -10,7 +10,7 @@ use Rattle.guard_eval.specs.Violations.{AbstractViolation, violation}
 use Rattle.guard_policy.specs.Verdicts.{pass, not_allowed, no_rule}
 use Rattle.guard_policy.specs.Policies.{AbstractRule, AbstractRoute}
 use Rattle.guard_policy.specs.Decisions.{NumberedRule, speaks_of, is_allowing, allows, shortfalls, by_allowing}
-use Rattle.guard_policy.specs.Listings.{rules_at, heard, allowing_at}
+use Rattle.guard_policy.specs.inside.Listings.{rules_at, heard, allowing_at}
 use Rattle.guard_eval.proofs.Law.{type_clear, is_clear}
 use Rattle.guard_model.proofs.Tests.{not_both}
 use Rattle.std.proofs.lemmas.Bool.{and_parts}

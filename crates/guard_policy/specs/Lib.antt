@@ -14,7 +14,6 @@ pub mod PolicyFaults
 pub mod EntryFaults
 pub mod Loads
 -- ---- what private contracts cite
-pub mod Listings
 -- ---- what only private contracts and proofs cite
 pub mod inside
 -- ---- worked examples

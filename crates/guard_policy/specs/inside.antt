@@ -1,4 +1,5 @@
 -- What only private contracts and proofs cite.
+pub mod Listings
 pub mod Answers
 pub mod Applicable
 pub mod Keeping

@@ -11,7 +11,7 @@ ghost use Rattle.guard_policy.specs.inside.Marked.{kept_speaks_of};
 ghost use Rattle.guard_policy.specs.inside.TypedRules.{rules_kept, typed_rule_view};
 ghost use Rattle.guard_policy.specs.Decisions.{is_allow, denies, first_denying, by_allowing, judged};
 ghost use Rattle.guard_policy.specs.Names.{is_meant};
-ghost use Rattle.guard_policy.specs.Listings.{rules_at, heard, denies_at, allowing_at};
+ghost use Rattle.guard_policy.specs.inside.Listings.{rules_at, heard, denies_at, allowing_at};
 
 use super::kept::{Kept, KeptRule, TypedRule};
 use super::policy::Effect;

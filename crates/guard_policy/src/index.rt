@@ -1,6 +1,6 @@
 //! Look-ups by the name of a message.
 ghost use Rattle.std.specs.Prelude.{◌≡◌, ◌+◌, map, option_map, string_bytes, IfOk};
-ghost use Rattle.guard_policy.specs.Listings.{IsIndex, found_in, listed_view, numbers_for};
+ghost use Rattle.guard_policy.specs.inside.Listings.{IsIndex, found_in, listed_view, numbers_for};
 ghost use Rattle.guard_policy.specs.Policies.{message_view, rule_view};
 
 use super::policy::{Message, Rule};

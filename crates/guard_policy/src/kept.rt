@@ -4,7 +4,7 @@ ghost use Rattle.std.proofs.Props.{props};
 ghost use Rattle.guard_model.specs.TypeView.{type_view};
 ghost use Rattle.guard_policy.specs.Consistency.{IsConsistent};
 ghost use Rattle.guard_policy.specs.KeptView.{kept_message_view, kept_rule_view, found_type};
-ghost use Rattle.guard_policy.specs.Listings.{IsIndex};
+ghost use Rattle.guard_policy.specs.inside.Listings.{IsIndex};
 ghost use Rattle.guard_policy.specs.Policies.{message_view, rule_view};
 ghost use Rattle.guard_policy.specs.inside.Keeping.{IsTypeOf, IsSaid, ArePlaced, tabled_view, tabled};
 ghost use Rattle.guard_policy.specs.declared.kept.KeptMessage.{KeptMessage};

@@ -72,7 +72,7 @@ impl Policy {
     ghost use Rattle.guard_policy.specs.PolicyFaults.{named};
     ghost use Rattle.guard_policy.specs.PolicyView.{policy_view};
     ghost use Rattle.guard_policy.specs.Policies.{declared_type, rule_name_of, module_name};
-    ghost use Rattle.guard_policy.specs.Listings.{numbers_for};
+    ghost use Rattle.guard_policy.specs.inside.Listings.{numbers_for};
     ghost use Rattle.guard_policy.specs.inside.Keeping.{IsFirst};
     ghost use Rattle.guard_tables.specs.TableView.{declared_of};
 

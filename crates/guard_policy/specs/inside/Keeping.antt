@@ -9,7 +9,7 @@ use Rattle.guard_policy.specs.declared.kept.RuleType.{RuleType}
 use Rattle.guard_policy.specs.declared.kept.RuleType.TheVariants.{InTable, Own}
 use Rattle.guard_policy.specs.Consistency.{types_for}
 use Rattle.guard_policy.specs.KeptView.{kept_message_view, table_place}
-use Rattle.guard_policy.specs.Listings.{place_among}
+use Rattle.guard_policy.specs.inside.Listings.{place_among}
 use Rattle.guard_policy.specs.Policies.{AbstractMessage, AbstractRule}
 
 -- a name, and the types of a table

@@ -3,7 +3,7 @@ use Rattle.guard_model.specs.ValueView.{value_view}
 use Rattle.guard_policy.specs.inside.TypedRules.{rules_kept}
 use Rattle.guard_policy.specs.PolicyView.{route_view}
 use Rattle.guard_policy.specs.Decisions.{first_denying}
-use Rattle.guard_policy.specs.Listings.{rules_at, heard}
+use Rattle.guard_policy.specs.inside.Listings.{rules_at, heard}
 use Rattle.guard_policy.proofs.decision.first_denying_rule.Given as goal
 
 -- the first of what is left is the first of all

@@ -4,7 +4,7 @@ use Rattle.guard_model.specs.ValueView.{value_view}
 use Rattle.guard_eval.specs.Violations.{violation_view, shortfall_view}
 use Rattle.guard_policy.specs.inside.TypedRules.{rules_kept, typed_rule_view}
 use Rattle.guard_policy.specs.PolicyView.{route_view}
-use Rattle.guard_policy.specs.Listings.{rules_at, heard}
+use Rattle.guard_policy.specs.inside.Listings.{rules_at, heard}
 use Rattle.guard_policy.proofs.Applicable.{applicable_number}
 use Rattle.guard_policy.proofs.Listed.{front_is}
 use Rattle.guard_policy.proofs.Shortfalls.{is_allowing_there, goes_on_past, goes_on_with}

@@ -2,7 +2,7 @@ use Rattle.std.proofs.Common.{map, drop}
 use Rattle.guard_model.specs.ValueView.{value_view}
 use Rattle.guard_policy.specs.inside.TypedRules.{rules_kept}
 use Rattle.guard_policy.specs.PolicyView.{route_view}
-use Rattle.guard_policy.specs.Listings.{rules_at, heard}
+use Rattle.guard_policy.specs.inside.Listings.{rules_at, heard}
 use Rattle.guard_policy.proofs.Shortfalls.{Gathered}
 use Rattle.guard_eval.specs.Violations.{shortfall_view}
 use Rattle.guard_policy.proofs.decision.judge_by_allowing.Given as goal

@@ -1,5 +1,5 @@
 use Rattle.std.proofs.Common.{◌≡◌, ◌++◌, map, drop}
-use Rattle.guard_policy.specs.Listings.{numbers_for}
+use Rattle.guard_policy.specs.inside.Listings.{numbers_for}
 use Rattle.guard_policy.specs.Policies.{rule_view}
 use Rattle.guard_policy.proofs.index.numbers_for.Given as goal
 

@@ -4,7 +4,7 @@ use Rattle.std.proofs.lemmas.List.Elements.{All-push}
 use Rattle.std.proofs.lemmas.Option.{slice_get_read, slice_get-map}
 use Rattle.guard_policy.specs.declared.kept.KeptRule.{KeptRule}
 use Rattle.guard_policy.specs.KeptView.{kept_rule_view, table_place}
-use Rattle.guard_policy.specs.Listings.{place_among}
+use Rattle.guard_policy.specs.inside.Listings.{place_among}
 use Rattle.guard_policy.specs.Policies.{AbstractRule, message_view, rule_view}
 use Rattle.guard_policy.proofs.EntriesRead.{taken_is}
 use Rattle.guard_policy.proofs.Keeping.{kept_one, place_found}

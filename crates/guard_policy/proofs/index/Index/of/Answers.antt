@@ -2,7 +2,7 @@ use Rattle.std.proofs.Common.{◌≡◌, ℕ, List, length, false, true, ap, sym
 use Rattle.std.specs.Prelude.{bytes_eq}
 use Rattle.std.specs.Map.{lookup}
 use Rattle.guard_policy.specs.declared.index.Listed.{Listed}
-use Rattle.guard_policy.specs.Listings.{AbstractListed, listing, listed_view, numbers_for}
+use Rattle.guard_policy.specs.inside.Listings.{AbstractListed, listing, listed_view, numbers_for}
 use Rattle.guard_policy.specs.Policies.{message_view, rule_view}
 use Rattle.guard_policy.proofs.EntriesRead.{taken_is}
 use Rattle.guard_policy.proofs.Listed.{taken_length, says_new, says_old, inserted_last, is_some-map}

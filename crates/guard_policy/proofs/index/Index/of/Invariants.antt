@@ -1,7 +1,7 @@
 use Rattle.std.proofs.Common.{◌≡◌, ℕ, List, map, take, option_map}
 use Rattle.std.specs.Prelude.{bytes_eq}
 use Rattle.std.specs.Map.{lookup}
-use Rattle.guard_policy.specs.Listings.{listing, listed_view}
+use Rattle.guard_policy.specs.inside.Listings.{listing, listed_view}
 use Rattle.guard_policy.specs.Policies.{message_view, rule_view}
 use Rattle.guard_policy.proofs.index.Index.of.Given as goal
 

@@ -1,5 +1,5 @@
 use Rattle.std.proofs.Common.{rules, ◌≡◌, sym, ◌∙◌, Some, None}
-use Rattle.guard_policy.specs.Listings.{listed_view}
+use Rattle.guard_policy.specs.inside.Listings.{listed_view}
 use Rattle.guard_policy.specs.KeptView.{kept_message_view}
 use Rattle.guard_policy.specs.PolicyView.{policy_view}
 use Rattle.guard_policy.proofs.Keeping.{place_found}

@@ -3,7 +3,7 @@ use Rattle.guard_model.specs.TypeView.{type_view}
 use Rattle.guard_model.specs.ValueView.{value_view}
 use Rattle.guard_der.specs.Views.{breach_view}
 use Rattle.guard_policy.specs.Policies.{declared_type}
-use Rattle.guard_policy.specs.Listings.{rules_at, heard}
+use Rattle.guard_policy.specs.inside.Listings.{rules_at, heard}
 use Rattle.guard_policy.specs.PolicyView.{policy_view, route_view}
 use Rattle.guard_policy.specs.Verdicts.{verdict_view, pass}
 use Rattle.guard_policy.specs.Decisions.{NumberedRule, judged, IsReason, Goes}

@@ -13,7 +13,6 @@ pub mod Entries
 pub mod PolicyFaults
 pub mod EntryFaults
 pub mod Loads
--- ---- what private contracts cite
 -- ---- what only private contracts and proofs cite
 pub mod inside
 -- ---- worked examples

@@ -4,7 +4,7 @@
 //! |---|---|---|
 //! | Which messages and rules has a policy, and what is asked of them? | `policy.rt` | `specs/Policies.antt`, `specs/PolicyView.antt`, `specs/Consistency.antt` |
 //! | What is kept of messages and rules? | `kept.rt`, `tables.rt` | `specs/KeptView.antt`, `specs/inside/Keeping.antt` |
-//! | What does the name of a message lead to? | `index.rt` | `specs/Listings.antt` |
+//! | What does the name of a message lead to? | `index.rt` | `specs/inside/Listings.antt` |
 //! | Who sends what to whom? | `route.rt` | `specs/Policies.antt`, `specs/PolicyView.antt` |
 //! | Which verdicts are there? | `verdict.rt` | `specs/Verdicts.antt` |
 //! | When does a message go? | `passing.rt` (`passes`) | `specs/Decisions.antt`, in the code `specs/inside/Marked.antt` |

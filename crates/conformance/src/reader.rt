@@ -4,7 +4,7 @@ ghost use Rattle.guard_der.specs.Sound.{is_sound};
 ghost use Rattle.guard_model.specs.TypeView.{type_view};
 ghost use Rattle.guard_tables.specs.Tables.{types_view};
 
-use crate::tables::{module_text, rule_types};
+use crate::tables::{add_copies, module_text, rule_types};
 use conformance_rows::{Layer, not_read, octets_in, text_of, unknown};
 use guard_model::Ty;
 use guard_reader::{Marks, all_in, walk};
@@ -97,7 +97,7 @@ fn named_types<'a>(
     let mut types = Vec::new(alloc);
     for name in names.split("; ") {
         if let Some(ty) = named(schema, name) {
-            types.push(ty)?;
+            types = add_copies(types, ty, 1)?;
         }
     }
     Ok(types)

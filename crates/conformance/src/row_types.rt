@@ -5,6 +5,7 @@ ghost use Rattle.guard_model.specs.TypeView.{type_view};
 ghost use Rattle.guard_tables.specs.Tables.{types_view};
 
 use crate::near::Compared;
+use crate::tables::add_copies;
 use crate::texts::{modules, texts_of, value_of};
 use crate::walk_files::Subject;
 use conformance_rows::{octets_in, text_of};
@@ -140,11 +141,11 @@ impl RowTypes {
         let mut rules = Vec::new(alloc);
         for other in &self.names {
             if let Some(ty) = other.rule(schema, asked, declared) {
-                rules.push(ty)?;
+                rules = add_copies(rules, ty, 1)?;
             }
         }
         if rules.is_empty() {
-            rules.push(declared)?;
+            rules = add_copies(rules, declared, 1)?;
         }
         Ok(rules)
     }

@@ -55,7 +55,7 @@ pub fn rule_types<'a>(
 }
 
 /// The types, and one more so many times.
-fn add_copies<'a>(types: Vec<&'a Ty>, ty: &'a Ty, count: u32) -> Result<Vec<&'a Ty>, AllocError>
+pub fn add_copies<'a>(types: Vec<&'a Ty>, ty: &'a Ty, count: u32) -> Result<Vec<&'a Ty>, AllocError>
     requires old { All (λ t. IsTrue (is_sound t)) (types_view types.items) }
     requires sound { IsTrue (is_sound (type_view ty.now)) }
     ensures { IfOk result (λ found. All (λ t. IsTrue (is_sound t)) (types_view found.items)) }

@@ -45,16 +45,19 @@ use Rattle.derguard_program.specs.inside.Doing.{AreEmpty, IsReady, IsFed, ArePas
 
 -- ---- one place of a list
 
-pub set_here : {X : Type 0} (xs : List X) (i : ℕ) (old new : X) → slice_get xs i ≡ Some old → slice_get (slice_set xs i new) i ≡ Some new
+pub set_here : {X : Type 0} (xs : List X) (i : ℕ) (old new : X) → slice_get xs i ≡ Some old
+    → slice_get (slice_set xs i new) i ≡ Some new
 set_here [] i old new h = absurd (none-some old h)
 set_here (x ∷ xs) zero old new h = refl
 set_here (x ∷ xs) (suc i) old new h = set_here xs i old new h
 
-pub all_set_twice : {X : Type 0} (P : X → Type 0) (xs : List X) (i : ℕ) (a b : X) → All P xs → P b → All P (slice_set (slice_set xs i a) i b)
+pub all_set_twice : {X : Type 0} (P : X → Type 0) (xs : List X) (i : ℕ) (a b : X) → All P xs → P b
+    → All P (slice_set (slice_set xs i a) i b)
 all_set_twice P [] i a b h pb = h
 all_set_twice P (x ∷ xs) zero a b h pb = All-cons P b xs pb (All_rest P x xs h)
 all_set_twice P (x ∷ xs) (suc i) a b h pb =
-    All-cons P x (slice_set (slice_set xs i a) i b) (All_first P x xs h) (all_set_twice P xs i a b (All_rest P x xs h) pb)
+    All-cons P x (slice_set (slice_set xs i a) i b) (All_first P x xs h)
+    (all_set_twice P xs i a b (All_rest P x xs h) pb)
 
 pub all_at : {X : Type 0} (P : X → Type 0) (xs : List X) (i : ℕ) (x : X) → All P xs → slice_get xs i ≡ Some x → P x
 all_at P [] i x h there = absurd (none-some x there)
@@ -63,7 +66,8 @@ all_at P (y ∷ xs) (suc i) x h there = all_at P xs i x (All_rest P y xs h) ther
 
 pub is_there : {X : Type 0} (xs : List X) (i : ℕ) → i ≤ 15 → length xs ≡ 16 → slice_get xs i ≡ None → ⊥
 is_there [] i few many none = omega (arith, many)
-is_there (x ∷ xs) i few many none = none-some (get_or (x ∷ xs) i x) (sym none ∙ slice_get-get_or (x ∷ xs) i x (omega (arith, few, many)))
+is_there (x ∷ xs) i few many none =
+    none-some (get_or (x ∷ xs) i x) (sym none ∙ slice_get-get_or (x ∷ xs) i x (omega (arith, few, many)))
 
 -- ---- the answers of links that are there
 
@@ -71,12 +75,14 @@ not_answered : (answer : Result (Unit {0}) LinkFault) → step_answer answer ≡
 not_answered (Ok done) e = absurd cc
 not_answered (Err f) e = absurd cc
 
-pub fed_there : (old new : AbstractGateway) (i : ℕ) (octets : List ℕ) (told : Result (Unit {0}) StepFault) (added : Added) → i ≤ 15 → length old.links ≡ 16
+pub fed_there : (old new : AbstractGateway) (i : ℕ) (octets : List ℕ) (told : Result (Unit {0}) StepFault)
+    (added : Added) → i ≤ 15 → length old.links ≡ 16
     → Step old (event.piece i octets) told added new → told ≡ Err NoSuchLink → ⊥
 fed_there old new i octets told added few many (inl h) e = is_there old.links i few many h.none
 fed_there old new i octets told added few many (inr h) e = not_answered h.link_answer (sym h.answered ∙ e)
 
-pub ended_there : (old new : AbstractGateway) (i : ℕ) (told : Result (Unit {0}) StepFault) (added : Added) → i ≤ 15 → length old.links ≡ 16
+pub ended_there : (old new : AbstractGateway) (i : ℕ) (told : Result (Unit {0}) StepFault) (added : Added) → i ≤ 15
+    → length old.links ≡ 16
     → Step old (event.end i) told added new → told ≡ Err NoSuchLink → ⊥
 ended_there old new i told added few many (inl h) e = is_there old.links i few many h.none
 ended_there old new i told added few many (inr h) e = not_answered h.0.link_answer (sym h.0.answered ∙ e)
@@ -86,18 +92,22 @@ ended_there old new i told added few many (inr h) e = not_answered h.0.link_answ
 pub same_length : (g : Gateway Kept) → length (gateway_ends g) ≡ length (gateway_view g).links
 same_length g = length-map g.seats.items (λ x. x.ends) ∙ sym (length-map g.seats.items (λ x. link_view x.link))
 
-pub fed_of : (old new : Gateway Kept) (link : ℕ) (octets : List ℕ) (told : Result (Unit {0}) StepFault) (answer : Result (Unit {0}) LinkFault) (added : Added)
+pub fed_of : (old new : Gateway Kept) (link : ℕ) (octets : List ℕ) (told : Result (Unit {0}) StepFault)
+    (answer : Result (Unit {0}) LinkFault) (added : Added)
     → All AreEmpty (gateway_ends old) → length (gateway_ends old) ≡ 16 → link ≤ 15 → told ≡ step_answer answer
     → Step (gateway_view old) (event.piece link octets) told added (gateway_view new)
-    → Took (λ (s : Kept). Some (kept_octets s)) kept_failed (gateway_ends old) (event.piece link octets) told added (gateway_ends new)
+    → Took (λ (s : Kept). Some (kept_octets s)) kept_failed (gateway_ends old) (event.piece link octets) told added
+    (gateway_ends new)
     → IsFed link old octets answer new
 fed_of old new link octets told answer added empty many few is step (inl t) =
     let was = all_at AreEmpty (gateway_ends old) link t.old_ends empty t.there in
     record {
       added = added;
-      step = subst (λ (x : Result (Unit {0}) StepFault). Step (gateway_view old) (event.piece link octets) x added (gateway_view new)) is step;
+      step = subst (λ (x : Result (Unit {0}) StepFault). Step (gateway_view old) (event.piece link octets) x added
+          (gateway_view new)) is step;
       ends = t.new_ends;
-      there = ap (λ (es : List (Ends Kept)). slice_get es link) t.others ∙ set_here (gateway_ends old) link t.old_ends t.new_ends t.there;
+      there = ap (λ (es : List (Ends Kept)). slice_get es link) t.others
+          ∙ set_here (gateway_ends old) link t.old_ends t.new_ends t.there;
       out = t.took.sent ∙ ap (λ (s : List ℕ). s ++ added.out) was.out;
       reports = t.took.reported ∙ ap (λ (s : List ℕ). s ++ added.reports) was.reports;
       others = t.others;
@@ -107,7 +117,8 @@ fed_of old new link octets told answer added empty many few is step (inr none) =
 
 -- ---- a piece is taken
 
-link_status_is : (reports : List ℕ) (answer : Result (Unit {0}) LinkFault) → max (cond (not (nat_eq (length reports) 0)) 1 0) (link_status [] answer) ≡ link_status reports answer
+link_status_is : (reports : List ℕ) (answer : Result (Unit {0}) LinkFault)
+    → max (cond (not (nat_eq (length reports) 0)) 1 0) (link_status [] answer) ≡ link_status reports answer
 link_status_is [] (Ok done) = omega arith
 link_status_is [] (Err f) = omega arith
 link_status_is (o ∷ reports) (Ok done) = grind arith
@@ -117,8 +128,10 @@ byte_is : (b : Bool) → bool_byte b ≡ cond b 1 0
 byte_is true = refl
 byte_is false = refl
 
-pub status_after : (any : Bool) (was one now last : ℕ) (reports : List ℕ) (answer : Result (Unit {0}) LinkFault) → any ≡ not (nat_eq (length reports) 0)
-    → one ≡ bool_byte any → now ≡ max was one → last ≡ max now (link_status [] answer) → last ≡ max was (link_status reports answer)
+pub status_after : (any : Bool) (was one now last : ℕ) (reports : List ℕ) (answer : Result (Unit {0}) LinkFault)
+    → any ≡ not (nat_eq (length reports) 0)
+    → one ≡ bool_byte any → now ≡ max was one → last ≡ max now (link_status [] answer)
+    → last ≡ max was (link_status reports answer)
 status_after any was one now last reports answer is one_is now_is last_is =
     let num : Bool → ℕ = λ b. cond b 1 0 in
     let all = link_status_is reports answer in
@@ -126,8 +139,10 @@ status_after any was one now last reports answer is one_is now_is last_is =
     omega (arith, all, same, now_is, last_is)
 
 -- what the sinks of a link took is passed on, and they are lent for that
-pub passed_of : (old : Gateway Kept) (link : ℕ) (lent ends : Ends Kept) (lender : Gateway Kept) (emptied : Ends Kept) (o o₁ e e₁ : Option (List ℕ)) → lent ≡ ends
-    → (written : List ℕ) × InRecords link (kept_octets lent.out) written × Appends o o₁ written × Appends e e₁ (marked link (kept_octets lent.reports))
+pub passed_of : (old : Gateway Kept) (link : ℕ) (lent ends : Ends Kept) (lender : Gateway Kept)
+    (emptied : Ends Kept) (o o₁ e e₁ : Option (List ℕ)) → lent ≡ ends
+    → (written : List ℕ) × InRecords link (kept_octets lent.out) written × Appends o o₁ written
+    × Appends e e₁ (marked link (kept_octets lent.reports))
     → HasEnds old link emptied lender → AreEmpty emptied → ArePassed link ends old lender (o, o₁) (e, e₁)
 passed_of old link lent ends lender emptied o o₁ e e₁ same h has empty = record {
   written = h.0;
@@ -140,34 +155,46 @@ passed_of old link lent ends lender emptied o o₁ e e₁ same h has empty = rec
   others = has.ends;
 }
 
-pub passed_there : (link : ℕ) (ends : Ends Kept) (old new same : Gateway Kept) (out err : Octets) → same ≡ new → ArePassed link ends old new out err → ArePassed link ends old same out err
-passed_there link ends old new same out err is h = subst (λ (x : Gateway Kept). ArePassed link ends old x out err) (sym is) h
+pub passed_there : (link : ℕ) (ends : Ends Kept) (old new same : Gateway Kept) (out err : Octets) → same ≡ new
+    → ArePassed link ends old new out err → ArePassed link ends old same out err
+passed_there link ends old new same out err is h =
+    subst (λ (x : Gateway Kept). ArePassed link ends old x out err) (sym is) h
 
 pub some_of : {A P : Type 0} (r : Option A) (x : A) → r ≡ Some x → OnSome r P → P
 some_of None x e p = absurd (none-some x e)
 some_of (Some y) x e p = p
 
-module _ (path : List ℕ) (told : Told) (old : Links) (link : ℕ) (octets : List ℕ) (answer : Result (Unit {0}) LinkFault) (g : Gateway Kept)
+module _ (path : List ℕ) (told : Told) (old : Links) (link : ℕ) (octets : List ℕ)
+    (answer : Result (Unit {0}) LinkFault) (g : Gateway Kept)
     (fed : IsFed link old.gateway octets answer g) where
   abbrev written_of : List ℕ → Written
-  written_of out = record { out = out; err = marked link fed.added.reports ++ fault_line link answer; status = link_status fed.added.reports answer }
+  written_of out = record {
+    out = out;
+    err = marked link fed.added.reports ++ fault_line link answer;
+    status =
+        link_status fed.added.reports answer;
+  }
 
-  passes : (out : List ℕ) (new : Gateway Kept) → InRecords link (kept_octets fed.ends.out) out → gateway_view new ≡ gateway_view g
+  passes : (out : List ℕ) (new : Gateway Kept) → InRecords link (kept_octets fed.ends.out) out
+      → gateway_view new ≡ gateway_view g
       → PassesOn link (gateway_view old.gateway) (event.piece link octets) (written_of out) (gateway_view new)
   passes out new records view = record {
     answer = answer;
     added = fed.added;
-    step = subst (λ (x : AbstractGateway). Step (gateway_view old.gateway) (event.piece link octets) (step_answer answer) fed.added x) (sym view) fed.step;
+    step = subst (λ (x : AbstractGateway). Step (gateway_view old.gateway) (event.piece link octets)
+        (step_answer answer) fed.added x) (sym view) fed.step;
     out = subst (λ (s : List ℕ). InRecords link s out) fed.out records;
     err = refl;
     status = refl;
   }
 
-  pub piece_taken : (new : Links) (out : Octets) (e e₁ e₂ : Option (List ℕ)) → IsReady old.gateway → (p : ArePassed link fed.ends g new.gateway out (e, e₁))
+  pub piece_taken : (new : Links) (out : Octets) (e e₁ e₂ : Option (List ℕ)) → IsReady old.gateway
+      → (p : ArePassed link fed.ends g new.gateway out (e, e₁))
       → Appends e₁ e₂ (fault_line link answer) → new.status ≡ max old.status (link_status fed.added.reports answer)
       → IsTaken path told old (piece link octets) told new out (e, e₂)
   piece_taken new out e e₁ e₂ ready p said status =
-      let after : gateway_ends new.gateway ≡ slice_set (slice_set (gateway_ends old.gateway) link fed.ends) link p.emptied =
+      let after : gateway_ends new.gateway ≡ slice_set (slice_set (gateway_ends old.gateway) link fed.ends) link
+      p.emptied =
       p.others ∙ ap (λ (es : List (Ends Kept)). slice_set es link p.emptied) fed.others in
       record {
         w = written_of p.written;
@@ -177,13 +204,16 @@ module _ (path : List ℕ) (told : Told) (old : Links) (link : ℕ) (octets : Li
             (subst (λ (s : List ℕ). Appends e e₁ (marked link s)) fed.reports p.told) said;
         status = status;
         ready = record {
-          many = sym (same_length new.gateway) ∙ ap length after ∙ length-set (slice_set (gateway_ends old.gateway) link fed.ends) link p.emptied
+          many = sym (same_length new.gateway) ∙ ap length after
+              ∙ length-set (slice_set (gateway_ends old.gateway) link fed.ends) link p.emptied
               ∙ length-set (gateway_ends old.gateway) link fed.ends ∙ same_length old.gateway ∙ ready.many;
-          empty = subst (All AreEmpty) (sym after) (all_set_twice AreEmpty (gateway_ends old.gateway) link fed.ends p.emptied ready.empty p.empty);
+          empty = subst (All AreEmpty) (sym after) (all_set_twice AreEmpty
+              (gateway_ends old.gateway) link fed.ends p.emptied ready.empty p.empty);
         };
       }
 
-  pub piece_cut_passing : (s : Stop) (o o₁ e e₁ : Option (List ℕ)) (f k : Bool) → AreCut s link fed.ends (device o o₁ f) (device e e₁ k)
+  pub piece_cut_passing : (s : Stop) (o o₁ e e₁ : Option (List ℕ)) (f k : Bool)
+      → AreCut s link fed.ends (device o o₁ f) (device e e₁ k)
       → IsCut s path (mux_of told old) (piece link octets) (device o o₁ f) (device e e₁ k)
   piece_cut_passing BadRecord o o₁ e e₁ f k h = h
   piece_cut_passing ReadFailed o o₁ e e₁ f k h = h
@@ -206,17 +236,21 @@ module _ (path : List ℕ) (told : Told) (old : Links) (link : ℕ) (octets : Li
     breaks = (
       h.failed,
       refl,
-      Prefix_first h.part (marked link fed.added.reports) (fault_line link answer) (subst (λ (s : List ℕ). IsProperPrefix h.part (marked link s)) fed.reports h.prefix),
+      Prefix_first h.part (marked link fed.added.reports) (fault_line link answer)
+          (subst (λ (s : List ℕ). IsProperPrefix h.part (marked link s)) fed.reports h.prefix),
     );
     sent = h.sent;
     told = h.told;
   }
 
-  pub piece_cut_telling : (s : Stop) (new : Gateway Kept) (o o₁ e e₁ e₂ : Option (List ℕ)) (f k : Bool) → ArePassed link fed.ends g new (o, o₁) (e, e₁)
-      → (s ≡ ErrorFailed) × (k ≡ true) × ((part : List ℕ) × IsProperPrefix part (fault_line link answer) × Appends e₁ e₂ part)
+  pub piece_cut_telling : (s : Stop) (new : Gateway Kept) (o o₁ e e₁ e₂ : Option (List ℕ)) (f k : Bool)
+      → ArePassed link fed.ends g new (o, o₁) (e, e₁)
+      → (s ≡ ErrorFailed) × (k ≡ true) × ((part : List ℕ) × IsProperPrefix part (fault_line link answer)
+      × Appends e₁ e₂ part)
       → IsCut s path (mux_of told old) (piece link octets) (device o o₁ f) (device e e₂ k)
   piece_cut_telling s new o o₁ e e₁ e₂ f k p h =
-      let cut : WritesPart path (mux_of told old) (piece link octets) [] (device o o₁ f) (device e e₂ k) BreaksErr = record {
+      let cut : WritesPart path (mux_of told old) (piece link octets) [] (device o o₁ f) (device e e₂ k) BreaksErr =
+      record {
         w = written_of p.written;
         new = record { told = told; gateway = gateway_view new };
         happens = (passes p.written new p.records p.view, refl);
@@ -224,9 +258,11 @@ module _ (path : List ℕ) (told : Told) (old : Links) (link : ℕ) (octets : Li
         err_part = marked link fed.added.reports ++ h.2.0;
         breaks = (h.1, refl, Prefix_second h.2.0 (marked link fed.added.reports) (fault_line link answer) h.2.1);
         sent = p.sent;
-        told = Appends_trans e e₁ e₂ (marked link fed.added.reports) h.2.0 (subst (λ (s : List ℕ). Appends e e₁ (marked link s)) fed.reports p.told) h.2.2;
+        told = Appends_trans e e₁ e₂ (marked link fed.added.reports) h.2.0
+            (subst (λ (s : List ℕ). Appends e e₁ (marked link s)) fed.reports p.told) h.2.2;
       } in
-      subst (λ (x : Stop). IsCut x path (mux_of told old) (piece link octets) (device o o₁ f) (device e e₂ k)) (sym h.0) cut
+      subst (λ (x : Stop). IsCut x path (mux_of told old) (piece link octets) (device o o₁ f) (device e e₂ k))
+      (sym h.0) cut
 
 -- ---- a link is ended
 
@@ -245,7 +281,8 @@ not_both : (b : Bool) → b ≡ true → b ≡ false → ⊥
 not_both b p q = cc
 
 -- it is open before, where it answers anything but that it takes no more
-closes_open : (l l₁ : AbstractLink) (answer : Result (Unit {0}) LinkFault) → is_closed answer ≡ false → Ended l answer l₁ → l.closed ≡ false
+closes_open : (l l₁ : AbstractLink) (answer : Result (Unit {0}) LinkFault) → is_closed answer ≡ false
+    → Ended l answer l₁ → l.closed ≡ false
 closes_open l l₁ answer is (inl h) = absurd (not_both (is_closed answer) (ap is_closed h.answered) is)
 closes_open l l₁ answer is (inr h) = h.open_before
 
@@ -253,7 +290,8 @@ held_some : (held : List ℕ) → (held ≡ []) ⊎ (0 < length held)
 held_some [] = inl refl
 held_some (o ∷ held) = inr (omega arith)
 
-closed_stays : (l l₁ : AbstractLink) (answer : Result (Unit {0}) LinkFault) → is_closed answer ≡ true → Ended l answer l₁ → (l.closed ≡ true) × (l₁ ≡ l)
+closed_stays : (l l₁ : AbstractLink) (answer : Result (Unit {0}) LinkFault) → is_closed answer ≡ true
+    → Ended l answer l₁ → (l.closed ≡ true) × (l₁ ≡ l)
 closed_stays l l₁ answer is (inl h) = (h.closed, h.same)
 closed_stays l l₁ answer is (inr h) = elim (held_some l.held) [
   | inl none ↦ absurd (not_both (is_closed answer) is (ap is_closed (h.whole none)))
@@ -265,17 +303,20 @@ module _ (old : Links) (link : ℕ) (answer : Result (Unit {0}) LinkFault) (g : 
   abbrev ended_written : Written
   ended_written = record { out = []; err = fault_line link answer; status = link_status [] answer }
 
-  end_passes : (new : Gateway Kept) → new ≡ g → PassesOn link (gateway_view old.gateway) (event.end link) ended_written (gateway_view new)
+  end_passes : (new : Gateway Kept) → new ≡ g → PassesOn link (gateway_view old.gateway)
+      (event.end link) ended_written (gateway_view new)
   end_passes new same = record {
     answer = answer;
     added = nothing;
-    step = subst (λ (x : Gateway Kept). Step (gateway_view old.gateway) (event.end link) (step_answer answer) nothing (gateway_view x)) (sym same) step;
+    step = subst (λ (x : Gateway Kept). Step (gateway_view old.gateway) (event.end link)
+        (step_answer answer) nothing (gateway_view x)) (sym same) step;
     out = all_records link [] refl;
     err = refl;
     status = refl;
   }
 
-  pub end_taken : (path : List ℕ) (told : Told) (new : Links) (o e e₁ : Option (List ℕ)) → new.gateway ≡ g → IsReady g → Appends e e₁ (fault_line link answer)
+  pub end_taken : (path : List ℕ) (told : Told) (new : Links) (o e e₁ : Option (List ℕ)) → new.gateway ≡ g
+      → IsReady g → Appends e e₁ (fault_line link answer)
       → new.status ≡ max old.status (link_status [] answer) → IsTaken path told old (end link) told new (o, o) (e, e₁)
   end_taken path told new o e e₁ same ready said status = record {
     w = ended_written;
@@ -286,7 +327,8 @@ module _ (old : Links) (link : ℕ) (answer : Result (Unit {0}) LinkFault) (g : 
     ready = subst IsReady (sym same) ready;
   }
 
-  pub end_cut : (path : List ℕ) (told : Told) (o e e₁ : Option (List ℕ)) (f k : Bool) → k ≡ true → (part : List ℕ) → IsProperPrefix part (fault_line link answer)
+  pub end_cut : (path : List ℕ) (told : Told) (o e e₁ : Option (List ℕ)) (f k : Bool) → k ≡ true → (part : List ℕ)
+      → IsProperPrefix part (fault_line link answer)
       → Appends e e₁ part → WritesPart path (mux_of told old) (end link) [] (device o o f) (device e e₁ k) BreaksErr
   end_cut path told o e e₁ f k failed part prefix said = record {
     w = ended_written;
@@ -304,17 +346,24 @@ module _ (old : Links) (link : ℕ) (answer : Result (Unit {0}) LinkFault) (g : 
     | inl h ↦ absurd (not_answered answer h.answered)
     | inr h ↦
         let same : answer ≡ h.0.link_answer = same_answer answer h.0.link_answer h.0.answered in
-        record { one = h.0.old_link; there = h.0.there; is = closes_open h.0.old_link h.0.new_link h.0.link_answer (ap is_closed (sym same) ∙ is) h.0.does }
+        record {
+          one = h.0.old_link;
+          there = h.0.there;
+          is =
+              closes_open h.0.old_link h.0.new_link h.0.link_answer (ap is_closed (sym same) ∙ is) h.0.does;
+        }
   ]
 
-  pub had_ended : is_closed answer ≡ true → (e : Option (List ℕ)) → IsReady g → HadEnded link old (record { gateway = g; status = old.status }) (e, e)
+  pub had_ended : is_closed answer ≡ true → (e : Option (List ℕ)) → IsReady g
+      → HadEnded link old (record { gateway = g; status = old.status }) (e, e)
   had_ended is e ready = elim step [
     | inl h ↦ absurd (not_answered answer h.answered)
     | inr h ↦
         let same : answer ≡ h.0.link_answer = same_answer answer h.0.link_answer h.0.answered in
         let stays = closed_stays h.0.old_link h.0.new_link h.0.link_answer (ap is_closed (sym same) ∙ is) h.0.does in
         let links : slice_set (gateway_view old.gateway).links link h.0.new_link ≡ (gateway_view old.gateway).links =
-        ap (λ (l : AbstractLink). slice_set (gateway_view old.gateway).links link l) stays.1 ∙ set_same (gateway_view old.gateway).links link h.0.old_link h.0.there in
+        ap (λ (l : AbstractLink). slice_set (gateway_view old.gateway).links link l) stays.1
+        ∙ set_same (gateway_view old.gateway).links link h.0.old_link h.0.there in
         record {
           before = record { one = h.0.old_link; there = h.0.there; is = stays.0 };
           same = h.0.others ∙ ap (λ (ls : List AbstractLink). record (gateway_view old.gateway) { links = ls }) links;
@@ -334,17 +383,30 @@ pub told_err : {A E : Type 0} {P Q : E → Type 0} (r : Result A E) → IfErr r 
 told_err (Ok x) p f = tt
 told_err (Err e) p f = f e p
 
-pub cut_as_error : (s : Stop) (path : List ℕ) (old : AbstractMux) (r : Record) (out err : Device) → s ≡ ErrorFailed → WritesPart path old r [] out err BreaksErr → IsCut s path old r out err
+pub cut_as_error : (s : Stop) (path : List ℕ) (old : AbstractMux) (r : Record) (out err : Device) → s ≡ ErrorFailed
+    → WritesPart path old r [] out err BreaksErr → IsCut s path old r out err
 cut_as_error s path old r out err is h = subst (λ (x : Stop). IsCut x path old r out err) (sym is) h
 
 -- ---- a new policy
 
-pub renewed : (path : List ℕ) (told later : Told) (old new : Links) (p : AbstractPolicy) (answer : Result (Unit {0}) StepFault) (added : Added) (o e : Option (List ℕ))
-    → IsReady old.gateway → IsPolicyAt told path p → IsLater told later → Step (gateway_view old.gateway) (event.reload p) answer added (gateway_view new.gateway)
-    → gateway_ends new.gateway ≡ gateway_ends old.gateway → new.status ≡ old.status → IsTaken path told old reload later new (o, o) (e, e)
+pub renewed : (path : List ℕ) (told later : Told) (old new : Links) (p : AbstractPolicy)
+    (answer : Result (Unit {0}) StepFault) (added : Added) (o e : Option (List ℕ))
+    → IsReady old.gateway → IsPolicyAt told path p → IsLater told later
+    → Step (gateway_view old.gateway) (event.reload p) answer added (gateway_view new.gateway)
+    → gateway_ends new.gateway ≡ gateway_ends old.gateway → new.status ≡ old.status
+    → IsTaken path told old reload later new (o, o) (e, e)
 renewed path told later old new p answer added o e ready read later_is step ends status = record {
   w = record { out = []; err = []; status = 0 };
-  happens = (inl (record { policy = p; read = read; step = record { answered = refl; same = step.same; adds = refl }; silent = refl }), later_is);
+  happens = (
+    inl (record {
+      policy = p;
+      read = read;
+      step =
+          record { answered = refl; same = step.same; adds = refl };
+      silent = refl;
+    }),
+    later_is,
+  );
   sent = Appends_none o;
   told = Appends_none e;
   status = omega (arith, status);
@@ -357,9 +419,12 @@ renewed path told later old new p answer added o e ready read later_is step ends
 abbrev kept_written : List ℕ → ℕ → Written
 kept_written line status = record { out = []; err = line; status = status }
 
-pub kept_old : (path : List ℕ) (told later : Told) (old new : Links) (f : Fault) (line : List ℕ) (status : ℕ) (o e e₁ : Option (List ℕ))
-    → IsReady old.gateway → IsNoPolicyAt told path f → IsLater told later → IsFaultLine f line status → Appends e e₁ line
-    → new.gateway ≡ old.gateway → new.status ≡ max old.status status → IsTaken path told old reload later new (o, o) (e, e₁)
+pub kept_old : (path : List ℕ) (told later : Told) (old new : Links) (f : Fault) (line : List ℕ) (status : ℕ)
+    (o e e₁ : Option (List ℕ))
+    → IsReady old.gateway → IsNoPolicyAt told path f → IsLater told later → IsFaultLine f line status
+    → Appends e e₁ line
+    → new.gateway ≡ old.gateway → new.status ≡ max old.status status
+    → IsTaken path told old reload later new (o, o) (e, e₁)
 kept_old path told later old new f line status o e e₁ ready none later_is is said same greatest = record {
   w = kept_written line status;
   happens = (inr (record { fault = f; none = none; same = ap gateway_view same; out = refl; told = is }), later_is);
@@ -369,8 +434,10 @@ kept_old path told later old new f line status o e e₁ ready none later_is is s
   ready = subst IsReady (sym same) ready;
 }
 
-pub kept_cut : (path : List ℕ) (told later : Told) (old : Links) (f : Fault) (line part : List ℕ) (status : ℕ) (o e e₁ : Option (List ℕ)) (b k : Bool)
-    → IsNoPolicyAt told path f → IsLater told later → IsFaultLine f line status → k ≡ true → IsProperPrefix part line → Appends e e₁ part
+pub kept_cut : (path : List ℕ) (told later : Told) (old : Links) (f : Fault) (line part : List ℕ) (status : ℕ)
+    (o e e₁ : Option (List ℕ)) (b k : Bool)
+    → IsNoPolicyAt told path f → IsLater told later → IsFaultLine f line status → k ≡ true
+    → IsProperPrefix part line → Appends e e₁ part
     → WritesPart path (mux_of told old) reload [] (device o o b) (device e e₁ k) BreaksErr
 kept_cut path told later old f line part status o e e₁ b k none later_is is failed prefix said = record {
   w = kept_written line status;

@@ -57,7 +57,8 @@ kind_of (piece link octets) = 0
 kind_of (end link) = 1
 kind_of reload = 2
 
-pub same_record : (r q : Record) (x y : List ℕ) → IsAllowed r → IsAllowed q → record_octets r ++ x ≡ record_octets q ++ y → (r ≡ q) × (x ≡ y)
+pub same_record : (r q : Record) (x y : List ℕ) → IsAllowed r → IsAllowed q
+    → record_octets r ++ x ≡ record_octets q ++ y → (r ≡ q) × (x ≡ y)
 same_record (piece l a) (piece m b) x y p q e =
     let e₁ : header 0 l (length a) ++ (a ++ x) ≡ header 0 m (length b) ++ (b ++ y) = e in
     let link = same_link 0 l (length a) 0 m (length b) (a ++ x) (b ++ y) e₁ p.0 q.0 in
@@ -88,7 +89,9 @@ record_size (end l) more = omega arith
 record_size reload more = omega arith
 
 pub short_none : (s : List ℕ) → length s < 7 → HasNoRecord s
-short_none s short = λ r more ok is. (let size = record_size r more in let same : length s ≡ length (record_octets r ++ more) = ap length is in omega (arith, short, size, same))
+short_none s short = λ r more ok is. (let size =
+    record_size r more in let same : length s ≡ length (record_octets r ++ more) =
+    ap length is in omega (arith, short, size, same))
 
 -- the header of a piece, and fewer octets than it says
 pub cut_none : (l n : ℕ) (part : List ℕ) → l ≤ 15 → n ≤ 1048576 → length part < n → HasNoRecord (header 0 l n ++ part)
@@ -104,23 +107,32 @@ cut_none l n part p q short reload more ok is =
 
 -- ---- one reading
 
-pub joined_first : (r : Record) (records : List Record) (rest : List ℕ) → concat (map record_octets (r ∷ records)) ++ rest ≡ record_octets r ++ (concat (map record_octets records) ++ rest)
+pub joined_first : (r : Record) (records : List Record) (rest : List ℕ)
+    → concat (map record_octets (r ∷ records)) ++ rest ≡ record_octets r ++
+    (concat (map record_octets records) ++ rest)
 joined_first r records rest = append_assoc (record_octets r) (concat (map record_octets records)) rest
 
-same_records : (records others : List Record) (rest last : List ℕ) → All IsAllowed records → All IsAllowed others → HasNoRecord rest → HasNoRecord last
-    → concat (map record_octets records) ++ rest ≡ concat (map record_octets others) ++ last → (records ≡ others) × (rest ≡ last)
+same_records : (records others : List Record) (rest last : List ℕ) → All IsAllowed records → All IsAllowed others
+    → HasNoRecord rest → HasNoRecord last
+    → concat (map record_octets records) ++ rest ≡ concat (map record_octets others) ++ last → (records ≡ others)
+    × (rest ≡ last)
 same_records [] [] rest last p q none none₁ e = (refl, e)
 same_records [] (o ∷ others) rest last p q none none₁ e =
-    absurd (none o (concat (map record_octets others) ++ last) (All_first IsAllowed o others q) (e ∙ joined_first o others last))
+    absurd (none o (concat (map record_octets others) ++ last) (All_first IsAllowed o others q)
+    (e ∙ joined_first o others last))
 same_records (r ∷ records) [] rest last p q none none₁ e =
-    absurd (none₁ r (concat (map record_octets records) ++ rest) (All_first IsAllowed r records p) (sym e ∙ joined_first r records rest))
+    absurd (none₁ r (concat (map record_octets records) ++ rest) (All_first IsAllowed r records p)
+    (sym e ∙ joined_first r records rest))
 same_records (r ∷ records) (o ∷ others) rest last p q none none₁ e =
     let first = same_record r o (concat (map record_octets records) ++ rest) (concat (map record_octets others) ++ last)
-    (All_first IsAllowed r records p) (All_first IsAllowed o others q) (sym (joined_first r records rest) ∙ e ∙ joined_first o others last) in
-    let more = same_records records others rest last (All_rest IsAllowed r records p) (All_rest IsAllowed o others q) none none₁ first.1 in
+    (All_first IsAllowed r records p) (All_first IsAllowed o others q)
+    (sym (joined_first r records rest) ∙ e ∙ joined_first o others last) in
+    let more = same_records records others rest last (All_rest IsAllowed r records p)
+    (All_rest IsAllowed o others q) none none₁ first.1 in
     (cc (first.0, more.0), more.1)
 
-pub one_reading : (stream : List ℕ) (records others : List Record) (rest last : List ℕ) → AreRecords stream records rest → AreRecords stream others last
+pub one_reading : (stream : List ℕ) (records others : List Record) (rest last : List ℕ)
+    → AreRecords stream records rest → AreRecords stream others last
     → HasNoRecord rest → HasNoRecord last → (records ≡ others) × (rest ≡ last)
 one_reading stream records others rest last h k none none₁ =
     same_records records others rest last h.allowed k.allowed none none₁ (sym h.whole ∙ k.whole)
@@ -128,7 +140,8 @@ one_reading stream records others rest last h k none none₁ =
 -- ---- what was read of a record that isn't whole
 
 -- a header of a piece, and fewer octets than it says
-pub piece_lost : (a b c : Option (List ℕ)) (h : Header) (l n k : ℕ) (room part : List ℕ) → h ≡ Piece l n → IsGood h → take 7 room ≡ header_octets h → k ≤ 7 → 7 ≤ k
+pub piece_lost : (a b c : Option (List ℕ)) (h : Header) (l n k : ℕ) (room part : List ℕ) → h ≡ Piece l n → IsGood h
+    → take 7 room ≡ header_octets h → k ≤ 7 → 7 ≤ k
     → Consumes a b (take k room) → Consumes b c part → length part < n
     → (rest : List ℕ) × Consumes a c rest × HasNoRecord rest × (0 < length rest)
 piece_lost a b c h l n k room part is good first most least p q short =
@@ -141,26 +154,32 @@ piece_lost a b c h l n k room part is good first most least p q short =
       omega arith,
     )
 
-pub lost_none : (s : Stop) (rest : List ℕ) (AtEnd : Type 0) (failed : Bool) (reads : ℕ) → s ≡ ReadFailed → HasNoRecord rest → (failed ≡ true) ⊎ (reads ≡ 0)
+pub lost_none : (s : Stop) (rest : List ℕ) (AtEnd : Type 0) (failed : Bool) (reads : ℕ) → s ≡ ReadFailed
+    → HasNoRecord rest → (failed ≡ true) ⊎ (reads ≡ 0)
     → IsNone s rest AtEnd failed reads
-lost_none s rest AtEnd failed reads is none why = subst (λ (x : Stop). IsNone x rest AtEnd failed reads) (sym is) (none, why)
+lost_none s rest AtEnd failed reads is none why =
+    subst (λ (x : Stop). IsNone x rest AtEnd failed reads) (sym is) (none, why)
 
 -- a header of a piece, and as many octets as it says
-pub whole_piece : (a b c : Option (List ℕ)) (h : Header) (l n k m : ℕ) (room new : List ℕ) → h ≡ Piece l n → IsGood h → take 7 room ≡ header_octets h → k ≤ 7 → 7 ≤ k
-    → Consumes a b (take k room) → Consumes b c (take m new) → m ≡ n → n ≤ length new → Consumes a c (record_octets (piece l (take n new)))
+pub whole_piece : (a b c : Option (List ℕ)) (h : Header) (l n k m : ℕ) (room new : List ℕ) → h ≡ Piece l n
+    → IsGood h → take 7 room ≡ header_octets h → k ≤ 7 → 7 ≤ k
+    → Consumes a b (take k room) → Consumes b c (take m new) → m ≡ n → n ≤ length new
+    → Consumes a c (record_octets (piece l (take n new)))
 whole_piece a b c h l n k m room new is good first most least p q enough within =
     let whole : k ≡ 7 = omega (arith, most, least) in
     let same : take k room ≡ header 0 l n = ap (λ (j : ℕ). take j room) whole ∙ first ∙ ap header_octets is in
     piece_read a b c l n m (take k room) new same enough within p q
 
-other_read : (a b : Option (List ℕ)) (h : Header) (first room : List ℕ) → ((l n : ℕ) → h ≡ Piece l n → ⊥) → first ≡ header_octets h → Consumes a b first
+other_read : (a b : Option (List ℕ)) (h : Header) (first room : List ℕ) → ((l n : ℕ) → h ≡ Piece l n → ⊥)
+    → first ≡ header_octets h → Consumes a b first
     → Consumes a b (record_octets (record_of h room))
 other_read a b (Piece l n) first room other is p = absurd (other l n refl)
 other_read a b (End l) first room other is p = subst (λ (s : List ℕ). Consumes a b s) is p
 other_read a b Reload first room other is p = subst (λ (s : List ℕ). Consumes a b s) is p
 
 -- a header alone
-pub header_read : (a b : Option (List ℕ)) (h : Header) (k : ℕ) (room : List ℕ) → ((l n : ℕ) → h ≡ Piece l n → ⊥) → take 7 room ≡ header_octets h → k ≤ 7 → 7 ≤ k
+pub header_read : (a b : Option (List ℕ)) (h : Header) (k : ℕ) (room : List ℕ) → ((l n : ℕ) → h ≡ Piece l n → ⊥)
+    → take 7 room ≡ header_octets h → k ≤ 7 → 7 ≤ k
     → Consumes a b (take k room) → Consumes a b (record_octets (record_of h room))
 header_read a b h k room other first most least p =
     let whole : k ≡ 7 = omega (arith, most, least) in

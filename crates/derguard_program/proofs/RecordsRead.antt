@@ -25,13 +25,21 @@ same_by [] [] = inl refl
 same_by [] (y ∷ ys) = inr (λ e. cc)
 same_by (x ∷ xs) [] = inr (λ e. cc)
 same_by (x ∷ xs) (y ∷ ys) = elim (eq_by x y (nat_eq x y) refl) [
-  | inl first ↦ elim (same_by xs ys) [ inl rest ↦ inl (cc (first, rest)) | inr differs ↦ inr (λ e. differs (ap (λ (s : List ℕ). drop 1 s) e)) ]
+  | inl first ↦ elim (same_by xs ys) [
+    | inl rest ↦ inl (cc (first, rest))
+    | inr differs ↦ inr
+        (λ e. differs (ap (λ (s : List ℕ). drop 1 s) e))
+  ]
   | inr differs ↦ inr (λ e. differs (ap (λ (s : List ℕ). get_or s 0 0) e))
 ]
 
 allowed_by : (r : Record) → IsAllowed r ⊎ (IsAllowed r → ⊥)
 allowed_by (piece link octets) = elim (le_by link 15 (nat_le link 15) refl) [
-  | inl few ↦ elim (le_by (length octets) 1048576 (nat_le (length octets) 1048576) refl) [ inl most ↦ inl (few, most) | inr long ↦ inr (λ h. long h.1) ]
+  | inl few ↦ elim (le_by (length octets) 1048576 (nat_le (length octets) 1048576) refl) [
+    | inl most ↦ inl
+        (few, most)
+    | inr long ↦ inr (λ h. long h.1)
+  ]
   | inr great ↦ inr (λ h. great h.0)
 ]
 allowed_by (end link) = le_by link 15 (nat_le link 15) refl
@@ -45,13 +53,16 @@ record_by (suc zero) link size s = end link
 record_by (suc (suc k)) link size s = reload
 
 abbrev candidate : List ℕ → Record
-candidate s = record_by (get_or s 0 7) (from_be_bytes w16 (take 2 (drop 1 s))) (from_be_bytes w32 (take 4 (drop 3 s))) (drop 7 s)
+candidate s = record_by (get_or s 0 7) (from_be_bytes w16 (take 2 (drop 1 s)))
+    (from_be_bytes w32 (take 4 (drop 3 s))) (drop 7 s)
 
 candidate_is : (r : Record) (more : List ℕ) → IsAllowed r → candidate (record_octets r ++ more) ≡ r
 unfolding record_by
 candidate_is (piece link octets) more ok =
-    ap (λ (k : ℕ). piece k (take (from_be_bytes w32 (take 4 (drop 3 (record_octets (piece link octets))))) (octets ++ more))) (from_be_bytes-to_be_bytes_2 link (omega (arith, ok.0)))
-    ∙ ap (piece link) (ap (λ (n : ℕ). take n (octets ++ more)) (from_be_bytes-to_be_bytes_4 (length octets) (omega (arith, ok.1))) ∙ take-append_seam octets more)
+    ap (λ (k : ℕ). piece k (take (from_be_bytes w32 (take 4 (drop 3 (record_octets (piece link octets)))))
+    (octets ++ more))) (from_be_bytes-to_be_bytes_2 link (omega (arith, ok.0)))
+    ∙ ap (piece link) (ap (λ (n : ℕ). take n (octets ++ more)) (from_be_bytes-to_be_bytes_4 (length octets)
+    (omega (arith, ok.1))) ∙ take-append_seam octets more)
 candidate_is (end link) more ok = ap end (from_be_bytes-to_be_bytes_2 link (omega (arith, ok)))
 candidate_is reload more ok = refl
 
@@ -61,15 +72,18 @@ Begins s r = s ≡ record_octets r ++ drop (length (record_octets r)) s
 
 begins_with : (s : List ℕ) (r : Record) (more : List ℕ) → s ≡ record_octets r ++ more → Begins s r
 begins_with s r more is =
-    is ∙ ap (λ (t : List ℕ). record_octets r ++ t) (sym (drop-append_seam (record_octets r) more) ∙ ap (drop (length (record_octets r))) (sym is))
+    is ∙ ap (λ (t : List ℕ). record_octets r ++ t) (sym (drop-append_seam (record_octets r) more)
+    ∙ ap (drop (length (record_octets r))) (sym is))
 
 first_of : (s : List ℕ) → ((r : Record) × IsAllowed r × Begins s r) ⊎ HasNoRecord s
 first_of s = elim (allowed_by (candidate s)) [
   | inl ok ↦ elim (same_by s (record_octets (candidate s) ++ drop (length (record_octets (candidate s))) s)) [
     | inl is ↦ inl (candidate s, ok, is)
-    | inr differs ↦ inr (λ q more allowed is. differs (subst (Begins s) (sym (ap candidate is ∙ candidate_is q more allowed)) (begins_with s q more is)))
+    | inr differs ↦ inr (λ q more allowed is. differs (subst (Begins s)
+        (sym (ap candidate is ∙ candidate_is q more allowed)) (begins_with s q more is)))
   ]
-  | inr refused ↦ inr (λ q more allowed is. refused (subst IsAllowed (sym (ap candidate is ∙ candidate_is q more allowed)) allowed))
+  | inr refused ↦ inr (λ q more allowed is. refused (subst IsAllowed
+      (sym (ap candidate is ∙ candidate_is q more allowed)) allowed))
 ]
 
 -- ---- all records
@@ -82,7 +96,8 @@ octets_size reload = omega arith
 abbrev pub Reading : List ℕ → Type 0
 Reading s = (records : List Record) × (rest : List ℕ) × AreRecords s records rest × HasNoRecord rest
 
-one_before : (s : List ℕ) (r : Record) (more : List ℕ) → IsAllowed r → s ≡ record_octets r ++ more → Reading more → Reading s
+one_before : (s : List ℕ) (r : Record) (more : List ℕ) → IsAllowed r → s ≡ record_octets r ++ more → Reading more
+    → Reading s
 one_before s r more ok is h = (
   r ∷ h.0,
   h.1,
@@ -102,7 +117,8 @@ read_within (suc fuel) s most = elim (first_of s) [
   | inl h ↦
       let more : List ℕ = drop (length (record_octets h.0)) s in
       let size = octets_size h.0 in
-      let whole : length s ≡ length (record_octets h.0) + length more = ap length h.2 ∙ length-append (record_octets h.0) more in
+      let whole : length s ≡ length (record_octets h.0) + length more = ap length h.2
+      ∙ length-append (record_octets h.0) more in
       one_before s h.0 more h.1 h.2 (read_within fuel more (omega (arith, size, whole, most)))
   | inr none ↦ none_before s none
 ]

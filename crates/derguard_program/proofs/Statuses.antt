@@ -62,16 +62,20 @@ link_most [] (Err f) = omega arith
 link_most (o ∷ reports) (Err f) = omega arith
 
 -- nothing is said where the status is 0
-link_silent : (link : ℕ) (reports : List ℕ) (answer : Result (Unit {0}) LinkFault) → link_status reports answer ≡ 0 → marked link reports ++ fault_line link answer ≡ []
+link_silent : (link : ℕ) (reports : List ℕ) (answer : Result (Unit {0}) LinkFault) → link_status reports answer ≡ 0
+    → marked link reports ++ fault_line link answer ≡ []
 link_silent link [] (Ok done) none = refl
 link_silent link (o ∷ reports) (Ok done) none = absurd (omega arith)
 link_silent link [] (Err f) none = absurd (omega arith)
 link_silent link (o ∷ reports) (Err f) none = absurd (omega arith)
 
-passed_most : (link : ℕ) (g new : AbstractGateway) (e : AbstractEvent) (w : Written) → PassesOn link g e w new → w.status ≤ 3
-passed_most link g new e w h = let most = link_most h.added.reports h.answer in let is = h.status in omega (arith, is, most)
+passed_most : (link : ℕ) (g new : AbstractGateway) (e : AbstractEvent) (w : Written) → PassesOn link g e w new
+    → w.status ≤ 3
+passed_most link g new e w h = let most = link_most h.added.reports h.answer in let is =
+    h.status in omega (arith, is, most)
 
-passed_silent : (link : ℕ) (g new : AbstractGateway) (e : AbstractEvent) (w : Written) → PassesOn link g e w new → w.status ≡ 0 → w.err ≡ []
+passed_silent : (link : ℕ) (g new : AbstractGateway) (e : AbstractEvent) (w : Written) → PassesOn link g e w new
+    → w.status ≡ 0 → w.err ≡ []
 passed_silent link g new e w h none = h.err ∙ link_silent link h.added.reports h.answer (sym h.status ∙ none)
 
 line_most : (f : Fault) (line : List ℕ) (status : ℕ) → IsFaultLine f line status → status ≤ 3
@@ -82,13 +86,16 @@ line_some : (f : Fault) (line : List ℕ) (status : ℕ) → IsFaultLine f line 
 line_some f line status (inl (text, is, same, greatest)) none = fault_some f (sym greatest ∙ none)
 line_some f line status (inr (same, greatest)) none = omega arith
 
-happens_most : (path : List ℕ) (r : Record) (old new : AbstractMux) (w : Written) → Happens path old r w new → w.status ≤ 3
+happens_most : (path : List ℕ) (r : Record) (old new : AbstractMux) (w : Written) → Happens path old r w new
+    → w.status ≤ 3
 happens_most path (piece link octets) old new w h = passed_most link old.gateway new.gateway _ w h.0
 happens_most path (end link) old new w h = passed_most link old.gateway new.gateway _ w h.0
-happens_most path reload old new w (inl h, later) = let is : w.status ≡ 0 = ap (λ (x : Written). x.status) h.silent in omega (arith, is)
+happens_most path reload old new w (inl h, later) = let is : w.status ≡ 0 =
+    ap (λ (x : Written). x.status) h.silent in omega (arith, is)
 happens_most path reload old new w (inr h, later) = line_most h.fault w.err w.status h.told
 
-happens_silent : (path : List ℕ) (r : Record) (old new : AbstractMux) (w : Written) → Happens path old r w new → w.status ≡ 0 → w.err ≡ []
+happens_silent : (path : List ℕ) (r : Record) (old new : AbstractMux) (w : Written) → Happens path old r w new
+    → w.status ≡ 0 → w.err ≡ []
 happens_silent path (piece link octets) old new w h none = passed_silent link old.gateway new.gateway _ w h.0 none
 happens_silent path (end link) old new w h none = passed_silent link old.gateway new.gateway _ w h.0 none
 happens_silent path reload old new w (inl h, later) none = ap (λ (x : Written). x.err) h.silent
@@ -96,7 +103,8 @@ happens_silent path reload old new w (inr h, later) none = absurd (line_some h.f
 
 -- ---- records in turn
 
-turns_most : (path : List ℕ) (rs : List Record) (old new : AbstractMux) (ws : List Written) → InTurn path old rs ws new → status_of ws ≤ 3
+turns_most : (path : List ℕ) (rs : List Record) (old new : AbstractMux) (ws : List Written)
+    → InTurn path old rs ws new → status_of ws ≤ 3
 turns_most path [] old new ws h = let is : status_of ws ≡ 0 = ap status_of h.0 in omega (arith, is)
 turns_most path (r ∷ rs) old new ws h =
     let is : status_of ws ≡ max h.0.status (status_of h.1) = ap status_of h.3 in
@@ -104,7 +112,8 @@ turns_most path (r ∷ rs) old new ws h =
     let others = turns_most path rs h.2 new h.1 h.5 in
     omega (arith, is, one, others)
 
-turns_silent : (path : List ℕ) (rs : List Record) (old new : AbstractMux) (ws : List Written) → InTurn path old rs ws new → status_of ws ≡ 0 → all_err ws ≡ []
+turns_silent : (path : List ℕ) (rs : List Record) (old new : AbstractMux) (ws : List Written)
+    → InTurn path old rs ws new → status_of ws ≡ 0 → all_err ws ≡ []
 turns_silent path [] old new ws h none = ap all_err h.0
 turns_silent path (r ∷ rs) old new ws h none =
     let is : status_of ws ≡ max h.0.status (status_of h.1) = ap status_of h.3 in
@@ -114,7 +123,8 @@ turns_silent path (r ∷ rs) old new ws h none =
 
 -- ---- the whole stream
 
-pub links_most : (told : Told) (path : List ℕ) (input : Input) (out err : Device) (status : ℕ) → GuardsLinks told path input out err status → status ≤ 3
+pub links_most : (told : Told) (path : List ℕ) (input : Input) (out err : Device) (status : ℕ)
+    → GuardsLinks told path input out err status → status ≤ 3
 links_most told path input out err status (inl h) = told_most h.0 err status h.4
 links_most told path input out err status (inr (p, later, read, is, inl h)) =
     let first = turns_most path h.all.records _ h.all.last h.all.written h.all.in_turn in
@@ -122,9 +132,11 @@ links_most told path input out err status (inr (p, later, read, is, inl h)) =
     let both = status_of-append h.all.written h.closed in
     let all = h.greatest in
     omega (arith, all, both, first, last)
-links_most told path input out err status (inr (p, later, read, is, inr h)) = let three = stop_is h.0 _ status h.3 in omega (arith, three)
+links_most told path input out err status (inr (p, later, read, is, inr h)) = let three =
+    stop_is h.0 _ status h.3 in omega (arith, three)
 
-octets_zero : (octets : List ℕ) (k status : ℕ) (err : Device) → (k ≡ 0 → ⊥) → TellsOctets octets k err status → status ≡ 0 → ⊥
+octets_zero : (octets : List ℕ) (k status : ℕ) (err : Device) → (k ≡ 0 → ⊥) → TellsOctets octets k err status
+    → status ≡ 0 → ⊥
 octets_zero octets k status err some (inl (all, same)) none = some (sym same ∙ none)
 octets_zero octets k status err some (inr (part, same)) none = omega arith
 
@@ -132,7 +144,8 @@ told_zero : (f : Fault) (err : Device) (status : ℕ) → Tells f err status →
 told_zero f err status (inl (text, is, told)) none = octets_zero _ (fault_status f) status err (fault_some f) told none
 told_zero f err status (inr told) none = octets_zero _ 3 status err (λ e. omega arith) told none
 
-pub links_silent : (told : Told) (path : List ℕ) (input : Input) (out err : Device) → GuardsLinks told path input out err 0 → Appends err.before err.after []
+pub links_silent : (told : Told) (path : List ℕ) (input : Input) (out err : Device)
+    → GuardsLinks told path input out err 0 → Appends err.before err.after []
 links_silent told path input out err (inl h) = absurd (told_zero h.0 err 0 h.4 refl)
 links_silent told path input out err (inr (p, later, read, is, inl h)) =
     let both = status_of-append h.all.written h.closed in
@@ -141,4 +154,5 @@ links_silent told path input out err (inr (p, later, read, is, inl h)) =
     let last = turns_silent path _ h.all.last h.after h.closed h.ends (omega (arith, all, both)) in
     Appends_is err.before err.after (all_err (h.all.written ++ h.closed)) []
     (all_err-append h.all.written h.closed ∙ ap (λ (s : List ℕ). s ++ all_err h.closed) first ∙ last) h.told
-links_silent told path input out err (inr (p, later, read, is, inr h)) = absurd (let three = stop_is h.0 _ 0 h.3 in omega (arith, three))
+links_silent told path input out err (inr (p, later, read, is, inr h)) =
+    absurd (let three = stop_is h.0 _ 0 h.3 in omega (arith, three))

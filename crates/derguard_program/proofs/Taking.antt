@@ -25,7 +25,8 @@ use Rattle.derguard_program.specs.inside.Headers.{record_of, IsGood, IsNone}
 use Rattle.derguard_program.proofs.Turning.{one_more, all_out-append, all_err-append, sent_more, told_more, status_of-append, status_of-more, after}
 
 -- These records were read and taken, and all that is written of them is out.
-pub record TakenSoFar (path : List ℕ) (first : AbstractMux) (a b : Option (List ℕ)) (o o₁ e e₁ : Option (List ℕ)) (told : Told) (links : Links) : Type 0 where
+pub record TakenSoFar (path : List ℕ) (first : AbstractMux) (a b : Option (List ℕ)) (o o₁ e e₁ : Option (List ℕ))
+    (told : Told) (links : Links) : Type 0 where
   pub records : List Record
   pub allowed : All IsAllowed records
   pub given : Consumes a b (concat (map record_octets records))
@@ -36,7 +37,8 @@ pub record TakenSoFar (path : List ℕ) (first : AbstractMux) (a b : Option (Lis
   pub status : links.status ≡ status_of written
   pub ready : IsReady links.gateway
 
-pub none_taken : (path : List ℕ) (a o e : Option (List ℕ)) (told : Told) (links : Links) → links.status ≡ 0 → IsReady links.gateway
+pub none_taken : (path : List ℕ) (a o e : Option (List ℕ)) (told : Told) (links : Links) → links.status ≡ 0
+    → IsReady links.gateway
     → TakenSoFar path (mux_of told links) a a o o e e told links
 none_taken path a o e told links status ready = record {
   records = [];
@@ -57,14 +59,18 @@ allowed_of (Piece link size) room good whole =
 allowed_of (End link) room good whole = good
 allowed_of Reload room good whole = tt
 
-joined_last : (records : List Record) (r : Record) → concat (map record_octets (records ++ r ∷ [])) ≡ concat (map record_octets records) ++ record_octets r
+joined_last : (records : List Record) (r : Record)
+    → concat (map record_octets (records ++ r ∷ [])) ≡ concat (map record_octets records) ++ record_octets r
 joined_last records r =
-    ap concat (map-append record_octets records (r ∷ [])) ∙ concat-append (map record_octets records) (record_octets r ∷ [])
+    ap concat (map-append record_octets records (r ∷ []))
+    ∙ concat-append (map record_octets records) (record_octets r ∷ [])
     ∙ ap (λ s. concat (map record_octets records) ++ s) (append-nil (record_octets r))
 
-module _ (path : List ℕ) (first : AbstractMux) (a b : Option (List ℕ)) (o o₁ e e₁ : Option (List ℕ)) (told : Told) (links : Links)
+module _ (path : List ℕ) (first : AbstractMux) (a b : Option (List ℕ)) (o o₁ e e₁ : Option (List ℕ)) (told : Told)
+    (links : Links)
     (so_far : TakenSoFar path first a b o o₁ e e₁ told links) where
-  pub one_taken : (c o₂ e₂ : Option (List ℕ)) (r : Record) (told₁ : Told) (links₁ : Links) → IsAllowed r → Consumes b c (record_octets r)
+  pub one_taken : (c o₂ e₂ : Option (List ℕ)) (r : Record) (told₁ : Told) (links₁ : Links) → IsAllowed r
+      → Consumes b c (record_octets r)
       → IsTaken path told links r told₁ links₁ (o₁, o₂) (e₁, e₂) → TakenSoFar path first a c o o₂ e e₂ told₁ links₁
   one_taken c o₂ e₂ r told₁ links₁ ok read h =
       let greatest = status_of-more so_far.written h.w in
@@ -76,14 +82,16 @@ module _ (path : List ℕ) (first : AbstractMux) (a b : Option (List ℕ)) (o o�
         given = subst (λ (s : List ℕ). Consumes a c s) (sym (joined_last so_far.records r))
             (Consumes_trans a b c (concat (map record_octets so_far.records)) (record_octets r) so_far.given read);
         written = so_far.written ++ h.w ∷ [];
-        in_turn = one_more path first (mux_of told links) (mux_of told₁ links₁) so_far.records so_far.written r h.w so_far.in_turn h.happens;
+        in_turn = one_more path first (mux_of told links) (mux_of told₁ links₁) so_far.records so_far.written r h.w
+            so_far.in_turn h.happens;
         sent = sent_more o o₁ o₂ so_far.written h.w so_far.sent h.sent;
         said = told_more e e₁ e₂ so_far.written h.w so_far.said h.told;
         status = omega (arith, is, was, greatest);
         ready = h.ready;
       }
 
-  abbrev takes : (c : Option (List ℕ)) (m n : ℕ) (failed : Bool) (rest : List ℕ) → Consumes b c rest → Takes path first (input_of a c m n failed) rest
+  abbrev takes : (c : Option (List ℕ)) (m n : ℕ) (failed : Bool) (rest : List ℕ) → Consumes b c rest
+      → Takes path first (input_of a c m n failed) rest
   takes c m n failed rest read = record {
     records = so_far.records;
     allowed = so_far.allowed;
@@ -94,7 +102,8 @@ module _ (path : List ℕ) (first : AbstractMux) (a b : Option (List ℕ)) (o o�
   }
 
   -- the ends of the links are taken after all records
-  pub finishes : (c e₂ : Option (List ℕ)) (m n : ℕ) (failed f k : Bool) (links₁ : Links) → Consumes b c [] → IsAtEnd c → AreEnded path told links links₁ (e₁, e₂)
+  pub finishes : (c e₂ : Option (List ℕ)) (m n : ℕ) (failed f k : Bool) (links₁ : Links) → Consumes b c []
+      → IsAtEnd c → AreEnded path told links links₁ (e₁, e₂)
       → Finishes path first (input_of a c m n failed) (device o o₁ f) (device e e₂ k) links₁.status
   finishes c e₂ m n failed f k links₁ read at_end h =
       let greatest = status_of-append so_far.written h.ws in
@@ -107,40 +116,53 @@ module _ (path : List ℕ) (first : AbstractMux) (a b : Option (List ℕ)) (o o�
         after = mux_of told links₁;
         ends = h.ends;
         sent = Appends_is o o₁ (all_out so_far.written) (all_out (so_far.written ++ h.ws))
-            (sym (all_out-append so_far.written h.ws ∙ ap (λ (s : List ℕ). all_out so_far.written ++ s) h.silent ∙ append-nil (all_out so_far.written))) so_far.sent;
-        told = Appends_is e e₂ (all_err so_far.written ++ all_err h.ws) (all_err (so_far.written ++ h.ws)) (sym (all_err-append so_far.written h.ws))
+            (sym (all_out-append so_far.written h.ws ∙ ap (λ (s : List ℕ). all_out so_far.written ++ s) h.silent
+            ∙ append-nil (all_out so_far.written))) so_far.sent;
+        told = Appends_is e e₂ (all_err so_far.written ++ all_err h.ws) (all_err (so_far.written ++ h.ws))
+            (sym (all_err-append so_far.written h.ws))
             (Appends_trans e e₁ e₂ (all_err so_far.written) (all_err h.ws) so_far.said h.reported);
         greatest = omega (arith, is, was, greatest);
       }
 
-  pub stops_at : (c : Option (List ℕ)) (m n : ℕ) (failed f k : Bool) (rest : List ℕ) (IsRest : List ℕ → Type 0) → Consumes b c rest → IsRest rest
+  pub stops_at : (c : Option (List ℕ)) (m n : ℕ) (failed f k : Bool) (rest : List ℕ) (IsRest : List ℕ → Type 0)
+      → Consumes b c rest → IsRest rest
       → StopsAt path first (input_of a c m n failed) (device o o₁ f) (device e e₁ k) IsRest
   stops_at c m n failed f k rest IsRest read is =
       record { rest = rest; all = takes c m n failed rest read; is = is; sent = so_far.sent; told = so_far.said }
 
-  breaks_at : (c o₂ e₂ : Option (List ℕ)) (m n : ℕ) (failed f k : Bool) (r : Record) (Breaks : Device → Device → Written → List ℕ → List ℕ → Type 0)
-      → ((w : Written) (s t : List ℕ) → Breaks (device o₁ o₂ f) (device e₁ e₂ k) w s t → Breaks (device o o₂ f) (device e e₂ k) w s t)
-      → IsAllowed r → Consumes b c (record_octets r) → WritesPart path (mux_of told links) r [] (device o₁ o₂ f) (device e₁ e₂ k) Breaks
+  breaks_at : (c o₂ e₂ : Option (List ℕ)) (m n : ℕ) (failed f k : Bool) (r : Record)
+      (Breaks : Device → Device → Written → List ℕ → List ℕ → Type 0)
+      → ((w : Written) (s t : List ℕ) → Breaks (device o₁ o₂ f) (device e₁ e₂ k) w s t
+      → Breaks (device o o₂ f) (device e e₂ k) w s t)
+      → IsAllowed r → Consumes b c (record_octets r)
+      → WritesPart path (mux_of told links) r [] (device o₁ o₂ f) (device e₁ e₂ k) Breaks
       → BreaksAtRecord path first (input_of a c m n failed) (device o o₂ f) (device e e₂ k) Breaks
   breaks_at c o₂ e₂ m n failed f k r Breaks moved ok read h = record {
     next = r;
     allowed = ok;
     all = takes c m n failed (record_octets r) read;
-    part = subst (λ (ws : List Written). WritesPart path (mux_of told links) r ws (device o o₂ f) (device e e₂ k) Breaks) (append-nil so_far.written)
+    part = subst (λ (ws : List Written). WritesPart path (mux_of told links) r ws (device o o₂ f)
+        (device e e₂ k) Breaks) (append-nil so_far.written)
         (after path (mux_of told links) r so_far.written [] o o₁ o₂ e e₁ e₂ f k Breaks moved so_far.sent so_far.said h);
   }
 
   -- an output fails in what is written of a record
-  pub cut_at : (s : Stop) (c o₂ e₂ : Option (List ℕ)) (m n : ℕ) (failed f k : Bool) (r : Record) → IsAllowed r → Consumes b c (record_octets r)
-      → IsCut s path (mux_of told links) r (device o₁ o₂ f) (device e₁ e₂ k) → Stops s path first (input_of a c m n failed) (device o o₂ f) (device e e₂ k)
+  pub cut_at : (s : Stop) (c o₂ e₂ : Option (List ℕ)) (m n : ℕ) (failed f k : Bool) (r : Record) → IsAllowed r
+      → Consumes b c (record_octets r)
+      → IsCut s path (mux_of told links) r (device o₁ o₂ f) (device e₁ e₂ k)
+      → Stops s path first (input_of a c m n failed) (device o o₂ f) (device e e₂ k)
   cut_at BadRecord c o₂ e₂ m n failed f k r ok read h = absurd h
   cut_at ReadFailed c o₂ e₂ m n failed f k r ok read h = absurd h
-  cut_at WriteFailed c o₂ e₂ m n failed f k r ok read h = breaks_at c o₂ e₂ m n failed f k r BreaksOut (λ w s t b. b) ok read h
-  cut_at ErrorFailed c o₂ e₂ m n failed f k r ok read h = inl (breaks_at c o₂ e₂ m n failed f k r BreaksErr (λ w s t b. b) ok read h)
+  cut_at WriteFailed c o₂ e₂ m n failed f k r ok read h =
+      breaks_at c o₂ e₂ m n failed f k r BreaksOut (λ w s t b. b) ok read h
+  cut_at ErrorFailed c o₂ e₂ m n failed f k r ok read h =
+      inl (breaks_at c o₂ e₂ m n failed f k r BreaksErr (λ w s t b. b) ok read h)
 
   -- or of the end of a link
-  pub cut_at_end : (s : Stop) (c e₂ : Option (List ℕ)) (m n : ℕ) (failed f k : Bool) → s ≡ ErrorFailed → Consumes b c [] → IsAtEnd c
-      → IsEndCut path told links (device o₁ o₁ f) (device e₁ e₂ k) → Stops s path first (input_of a c m n failed) (device o o₁ f) (device e e₂ k)
+  pub cut_at_end : (s : Stop) (c e₂ : Option (List ℕ)) (m n : ℕ) (failed f k : Bool) → s ≡ ErrorFailed
+      → Consumes b c [] → IsAtEnd c
+      → IsEndCut path told links (device o₁ o₁ f) (device e₁ e₂ k)
+      → Stops s path first (input_of a c m n failed) (device o o₁ f) (device e e₂ k)
   cut_at_end s c e₂ m n failed f k is read at_end h =
       let cut : Stops ErrorFailed path first (input_of a c m n failed) (device o o₁ f) (device e e₂ k) = inr (record {
         all = takes c m n failed [] read;
@@ -152,23 +174,30 @@ module _ (path : List ℕ) (first : AbstractMux) (a b : Option (List ℕ)) (o o�
         closed = h.closed;
         last = h.last;
         in_turn = h.in_turn;
-        part = after path h.last h.next so_far.written h.closed o o₁ o₁ e e₁ e₂ f k BreaksErr (λ w s t b. b) so_far.sent so_far.said h.part;
+        part = after path h.last h.next so_far.written h.closed o o₁ o₁ e e₁ e₂ f k BreaksErr
+            (λ w s t b. b) so_far.sent so_far.said h.part;
       }) in
       subst (λ (x : Stop). Stops x path first (input_of a c m n failed) (device o o₁ f) (device e e₂ k)) (sym is) cut
 
   -- no more can be read
-  pub none_read : (s : Stop) (c : Option (List ℕ)) (m n reads : ℕ) (failed f k : Bool) (rest : List ℕ) → Consumes b c rest → IsNone s rest (IsAtEnd c) failed reads
-      → (reads ≡ 0 → WentUpBy m (2 ^ 40) n) → Stops s path first (input_of a c m n failed) (device o o₁ f) (device e e₁ k)
+  pub none_read : (s : Stop) (c : Option (List ℕ)) (m n reads : ℕ) (failed f k : Bool) (rest : List ℕ)
+      → Consumes b c rest → IsNone s rest (IsAtEnd c) failed reads
+      → (reads ≡ 0 → WentUpBy m (2 ^ 40) n) → Stops s path first (input_of a c m n failed) (device o o₁ f)
+      (device e e₁ k)
   none_read BadRecord c m n reads failed f k rest read why asked = stops_at c m n failed f k rest _ read why
-  none_read ReadFailed c m n reads failed f k rest read why asked = stops_at c m n failed f k rest _ read (why.0, elim why.1 [ inl x ↦ inl x | inr x ↦ inr (asked x) ])
+  none_read ReadFailed c m n reads failed f k rest read why asked =
+      stops_at c m n failed f k rest _ read (why.0, elim why.1 [ inl x ↦ inl x | inr x ↦ inr (asked x) ])
   none_read WriteFailed c m n reads failed f k rest read why asked = absurd why
   none_read ErrorFailed c m n reads failed f k rest read why asked = absurd why
 
 -- the reason is reported after what standard error took, which changes nothing of which output failed
-pub stops_told : (s : Stop) (path : List ℕ) (first : AbstractMux) (input : Input) (out : Device) (e e₁ : Option (List ℕ)) (was is : Bool) → (s ≡ ErrorFailed → is ≡ was)
+pub stops_told : (s : Stop) (path : List ℕ) (first : AbstractMux) (input : Input) (out : Device)
+    (e e₁ : Option (List ℕ)) (was is : Bool) → (s ≡ ErrorFailed → is ≡ was)
     → Stops s path first input out (device e e₁ was) → Stops s path first input out (device e e₁ is)
-stops_told BadRecord path first input out e e₁ was is same h = record { rest = h.rest; all = h.all; is = h.is; sent = h.sent; told = h.told }
-stops_told ReadFailed path first input out e e₁ was is same h = record { rest = h.rest; all = h.all; is = h.is; sent = h.sent; told = h.told }
+stops_told BadRecord path first input out e e₁ was is same h =
+    record { rest = h.rest; all = h.all; is = h.is; sent = h.sent; told = h.told }
+stops_told ReadFailed path first input out e e₁ was is same h =
+    record { rest = h.rest; all = h.all; is = h.is; sent = h.sent; told = h.told }
 stops_told WriteFailed path first input out e e₁ was is same h = record {
   next = h.next;
   allowed = h.allowed;
@@ -184,15 +213,19 @@ stops_told WriteFailed path first input out e e₁ was is same h = record {
     told = h.part.told;
   };
 }
-stops_told ErrorFailed path first input out e e₁ was is same h = subst (λ (b : Bool). Stops ErrorFailed path first input out (device e e₁ b)) (sym (same refl)) h
+stops_told ErrorFailed path first input out e e₁ was is same h =
+    subst (λ (b : Bool). Stops ErrorFailed path first input out (device e e₁ b)) (sym (same refl)) h
 
 -- ---- how often the source was asked
 
-pub asked_all : (a b c left last : ℕ) → left ≤ 2 ^ 40 → last ≤ left → WentUpBy a (2 ^ 40 - left) b → WentUpBy b (left - last) c → last ≡ 0 → WentUpBy a (2 ^ 40) c
+pub asked_all : (a b c left last : ℕ) → left ≤ 2 ^ 40 → last ≤ left → WentUpBy a (2 ^ 40 - left) b
+    → WentUpBy b (left - last) c → last ≡ 0 → WentUpBy a (2 ^ 40) c
 asked_all a b c left last within fewer p q none = omega (arith, p, q, none, within, fewer)
 
 pub found_is : (reads last : ℕ) (b c : Option (List ℕ)) (room : List ℕ) (o : Option Header) (x : Header) → o ≡ Some x
-    → IfSome o (λ h. IsGood h × (last < reads) × Consumes b c (record_octets (record_of h room))) → IsGood x × (last < reads) × Consumes b c (record_octets (record_of x room))
+    → IfSome o (λ h. IsGood h × (last < reads) × Consumes b c (record_octets (record_of h room))) → IsGood x
+    × (last < reads) × Consumes b c (record_octets (record_of x room))
 found_is reads last b c room None x e h = absurd (none-some x e)
 found_is reads last b c room (Some y) x e h =
-    subst (λ (z : Header). IsGood z × (last < reads) × Consumes b c (record_octets (record_of z room))) (same_Some y x e) h
+    subst (λ (z : Header). IsGood z × (last < reads) × Consumes b c (record_octets (record_of z room)))
+    (same_Some y x e) h

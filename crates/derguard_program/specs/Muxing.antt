@@ -51,13 +51,13 @@ IsLost input rest =
     HasNoRecord rest × ((input.failed ≡ true) ⊎ WentUpBy input.asked_before (2 ^ 40) input.asked_after)
 
 -- All that comes of the records before these octets is out, and nothing else: no link gets its end.
-pub record StopsAt (path : List ℕ) (first : AbstractMux) (input : Input) (out err : Device) (IsRest : List ℕ → Type 0) : Type 0
-  where
-    pub rest : List ℕ
-    pub all : Takes path first input rest
-    pub is : IsRest rest
-    pub sent : Appends out.before out.after (all_out all.written)
-    pub told : Appends err.before err.after (all_err all.written)
+pub record StopsAt (path : List ℕ) (first : AbstractMux) (input : Input) (out err : Device)
+    (IsRest : List ℕ → Type 0) : Type 0 where
+  pub rest : List ℕ
+  pub all : Takes path first input rest
+  pub is : IsRest rest
+  pub sent : Appends out.before out.after (all_out all.written)
+  pub told : Appends err.before err.after (all_err all.written)
 
 -- ---- an output fails
 

@@ -36,14 +36,14 @@ link_status reports (Err f) = 3
 
 -- The gateway takes an event of this link. What it adds goes out in records, and is reported after the link's number;
 -- then comes the link's fault.
-pub record PassesOn (link : ℕ) (old : AbstractGateway) (event : AbstractEvent) (w : Written) (new : AbstractGateway) : Type 0
-  where
-    pub answer : Result (Unit {0}) LinkFault
-    pub added : Added
-    pub step : Step old event (step_answer answer) added new
-    pub out : InRecords link added.out w.out
-    pub err : w.err ≡ marked link added.reports ++ fault_line link answer
-    pub status : w.status ≡ link_status added.reports answer
+pub record PassesOn (link : ℕ) (old : AbstractGateway) (event : AbstractEvent) (w : Written)
+    (new : AbstractGateway) : Type 0 where
+  pub answer : Result (Unit {0}) LinkFault
+  pub added : Added
+  pub step : Step old event (step_answer answer) added new
+  pub out : InRecords link added.out w.out
+  pub err : w.err ≡ marked link added.reports ++ fault_line link answer
+  pub status : w.status ≡ link_status added.reports answer
 
 -- The policy at the path is in force from now on, and nothing is written.
 pub record Renews (path : List ℕ) (old : AbstractMux) (w : Written) (new : AbstractMux) : Type 0 where

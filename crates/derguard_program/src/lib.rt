@@ -2,12 +2,13 @@
 //!
 //! | question | code | definition |
 //! |---|---|---|
-//! | Which words are which request? Is it one? | `words.rt`, `laws.rt` | `specs/Words.antt`; a request is a value of `Request` (`request.rt`, `specs/Requests.antt`) |
+//! | Which words are which request? Is it one? Is a stream of records read in one way? | `words.rt`, `laws.rt` | `specs/Words.antt`; a request is a value of `Request` (`request.rt`, `specs/Requests.antt`) |
 //! | What is it to meet a request? | `meeting.rt` (`program`, `meet`) | `specs/Meeting.antt` |
 //! | What is answered to `check` and `decide`, and which fault stands? | `checking.rt`, `deciding.rt`, `answer.rt` | `specs/Answers.antt` |
-//! | What comes of many links in one stream of records? | `muxing.rt`, `links.rt` | `specs/Muxing.antt` (`GuardsLinks`) |
+//! | What comes of many links in one stream of records? | `muxing.rt` | `specs/Muxing.antt` (`GuardsLinks`) |
+//! | What does one record do, and what is written of it? | `links.rt`, `sinks.rt` | `specs/Turns.antt` (`Happens`), `specs/inside/Doing.antt` |
 //! | What is a record, and how are its octets read? | `records.rt` | `specs/Records.antt`, `specs/inside/Headers.antt` |
-//! | What goes out of a link, and how are its lines marked? | `passing.rt` | `specs/inside/Passing.antt` |
+//! | What goes out of a link, and how are its lines marked? | `passing.rt` | `specs/Passing.antt` |
 //! | What comes of a stream? | `guarding.rt` | `specs/Meeting.antt` (`GuardsStream`) |
 //! | Which texts does a policy at a path need? | `texts.rt`, `files.rt` | `specs/Reading.antt`, `specs/Files.antt` |
 //! | What is told of a fault, and which status is it? | `fault.rt`, `outputs.rt` | `specs/Faults.antt`, `specs/Writing.antt` |

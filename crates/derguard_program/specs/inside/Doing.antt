@@ -38,15 +38,15 @@ pub record IsReady (g : Gateway Kept) : Type 0 where
   pub empty : All AreEmpty (gateway_ends g)
 
 -- A piece was fed to this link, whose sinks took what it added.
-pub record IsFed (link : ℕ) (old : Gateway Kept) (octets : List ℕ) (answer : Result (Unit {0}) LinkFault) (new : Gateway Kept) : Type 0
-  where
-    pub added : Added
-    pub step : Step (gateway_view old) (event.piece link octets) (step_answer answer) added (gateway_view new)
-    pub ends : Ends Kept
-    pub there : slice_get (gateway_ends new) link ≡ Some ends
-    pub out : kept_octets ends.out ≡ added.out
-    pub reports : kept_octets ends.reports ≡ added.reports
-    pub others : gateway_ends new ≡ slice_set (gateway_ends old) link ends
+pub record IsFed (link : ℕ) (old : Gateway Kept) (octets : List ℕ) (answer : Result (Unit {0}) LinkFault)
+    (new : Gateway Kept) : Type 0 where
+  pub added : Added
+  pub step : Step (gateway_view old) (event.piece link octets) (step_answer answer) added (gateway_view new)
+  pub ends : Ends Kept
+  pub there : slice_get (gateway_ends new) link ≡ Some ends
+  pub out : kept_octets ends.out ≡ added.out
+  pub reports : kept_octets ends.reports ≡ added.reports
+  pub others : gateway_ends new ≡ slice_set (gateway_ends old) link ends
 
 -- What the sinks of this link took is written, and they are emptied; all else stays.
 pub record ArePassed (link : ℕ) (ends : Ends Kept) (old new : Gateway Kept) (out err : Octets) : Type 0 where

@@ -25,7 +25,8 @@ IsGood Reload = Unit {0}
 
 -- why no record could be read: these octets begin none, by how the source is after them
 abbrev pub IsNone : Stop → List ℕ → Type 0 → Bool → ℕ → Type 0
-IsNone BadRecord rest AtEnd failed reads = ((length rest ≡ 7) × IsBadHeader rest) ⊎ ((0 < length rest) × HasNoRecord rest × AtEnd)
+IsNone BadRecord rest AtEnd failed reads =
+    ((length rest ≡ 7) × IsBadHeader rest) ⊎ ((0 < length rest) × HasNoRecord rest × AtEnd)
 IsNone ReadFailed rest AtEnd failed reads = HasNoRecord rest × ((failed ≡ true) ⊎ (reads ≡ 0))
 IsNone WriteFailed rest AtEnd failed reads = ⊥
 IsNone ErrorFailed rest AtEnd failed reads = ⊥

@@ -6,8 +6,10 @@ use Rattle.derguard_program.proofs.muxing.guard.Given as goal
 
 abbrev pub invariant-loop : goal.invariant-loop
 invariant-loop g l = record {
-  taken : TakenSoFar l.path (mux_of (g.F.Files.told l.initial.files) l.initial.links) (g.S.Source.tells l.initial.input) (g.S.Source.tells l.input)
-      (g.O.Sink.taken l.initial.out) (g.O.Sink.taken l.out) (g.E.Sink.taken l.initial.err) (g.E.Sink.taken l.err) (g.F.Files.told l.files) l.links;
+  taken : TakenSoFar l.path (mux_of (g.F.Files.told l.initial.files) l.initial.links)
+      (g.S.Source.tells l.initial.input) (g.S.Source.tells l.input)
+      (g.O.Sink.taken l.initial.out) (g.O.Sink.taken l.out) (g.E.Sink.taken l.initial.err) (g.E.Sink.taken l.err)
+      (g.F.Files.told l.files) l.links;
   asked : WentUpBy (g.S.Source.takes l.initial.input) (2 ^ 40 - l.reads) (g.S.Source.takes l.input);
   left : l.reads + l.counter ≤ 2 ^ 40;
 }

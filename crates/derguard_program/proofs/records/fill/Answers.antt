@@ -6,7 +6,8 @@ use Rattle.derguard_program.proofs.records.fill.Goals as goal
 pub returns-in_default-clause-counted : goal.returns-in_default-clause-counted
 returns-in_default-clause-counted g c =
     let i = c.loop-filled.invariant in
-    asked_once _ _ _ c.args.reads.now c.loop-filled.reads (omega (arith, c.if-reads-eq0.false)) i.fewer i.counted c.in_default.ensures.counted
+    asked_once _ _ _ c.args.reads.now c.loop-filled.reads (omega (arith, c.if-reads-eq0.false)) i.fewer i.counted
+    c.in_default.ensures.counted
 
 pub returns-in_default-clause-fewer : goal.returns-in_default-clause-fewer
 returns-in_default-clause-fewer g c = omega (arith, c.loop-filled.invariant.fewer)
@@ -14,7 +15,8 @@ returns-in_default-clause-fewer g c = omega (arith, c.loop-filled.invariant.fewe
 pub returns-then-count-eq0-clause-counted : goal.returns-then-count-eq0-clause-counted
 returns-then-count-eq0-clause-counted g c =
     let i = c.loop-filled.invariant in
-    asked_once _ _ _ c.args.reads.now c.loop-filled.reads (omega (arith, c.if-reads-eq0.false)) i.fewer i.counted c.in-Ok.ensures.counted
+    asked_once _ _ _ c.args.reads.now c.loop-filled.reads (omega (arith, c.if-reads-eq0.false)) i.fewer i.counted
+    c.in-Ok.ensures.counted
 
 pub returns-then-count-eq0-clause-fewer : goal.returns-then-count-eq0-clause-fewer
 returns-then-count-eq0-clause-fewer g c = omega (arith, c.loop-filled.invariant.fewer)
@@ -26,8 +28,10 @@ loop-filled-preserved g c =
     let kept = c.take_more.auto.buffer in
     record {
       within = omega (arith, i.within, e.within, kept);
-      given = Consumes_more _ _ _ c.loop-filled.filled c.in-Ok.count c.loop-filled.buffer c.take_more.new.buffer e.kept i.given e.given;
+      given = Consumes_more _ _ _ c.loop-filled.filled c.in-Ok.count c.loop-filled.buffer c.take_more.new.buffer
+          e.kept i.given e.given;
       fewer = omega (arith, i.fewer);
       some = λ _. omega (arith, i.fewer, c.if-reads-eq0.false);
-      counted = asked_once _ _ _ c.args.reads.now c.loop-filled.reads (omega (arith, c.if-reads-eq0.false)) i.fewer i.counted e.counted;
+      counted = asked_once _ _ _ c.args.reads.now c.loop-filled.reads
+          (omega (arith, c.if-reads-eq0.false)) i.fewer i.counted e.counted;
     }

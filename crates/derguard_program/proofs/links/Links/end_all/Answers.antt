@@ -4,7 +4,11 @@ use Rattle.derguard_program.proofs.EndsTaken.{none_ended, closed_more, open_more
 use Rattle.derguard_program.proofs.links.Links.end_all.Goals as goal
 
 pub loop-link-init : goal.loop-link-init
-loop-link-init g c = record { ready = c.requires.ready; ended = λ path told. none_ended path told c.args.self.now (g.E.Sink.taken c.args.err.now) }
+loop-link-init g c = record {
+  ready = c.requires.ready;
+  ended =
+      λ path told. none_ended path told c.args.self.now (g.E.Sink.taken c.args.err.now);
+}
 
 pub loop-link-preserved : goal.loop-link-preserved
 loop-link-preserved g c =
@@ -13,12 +17,14 @@ loop-link-preserved g c =
     elim c.in_ok-end_unless_ended.ensures.done [
       | inl h ↦ record {
         ready = h.ready;
-        ended = λ path told. closed_more path told c.args.self.now c.loop-link.self n.self (g.E.Sink.taken c.args.err.now) (g.E.Sink.taken c.loop-link.err) (g.E.Sink.taken n.err)
+        ended = λ path told. closed_more path told c.args.self.now c.loop-link.self n.self
+            (g.E.Sink.taken c.args.err.now) (g.E.Sink.taken c.loop-link.err) (g.E.Sink.taken n.err)
             c.loop-link.link h (i.ended path told);
       }
       | inr h ↦ record {
         ready = (h.1 [] (λ k p. None) (Some [])).ready;
-        ended = λ path told. open_more path told c.args.self.now c.loop-link.self n.self (g.E.Sink.taken c.args.err.now) (g.E.Sink.taken c.loop-link.err) (g.E.Sink.taken n.err)
+        ended = λ path told. open_more path told c.args.self.now c.loop-link.self n.self
+            (g.E.Sink.taken c.args.err.now) (g.E.Sink.taken c.loop-link.err) (g.E.Sink.taken n.err)
             c.loop-link.link h.0 (h.1 path told (Some [])) (i.ended path told);
       }
     ]
@@ -31,11 +37,13 @@ returns-in_err-end_unless_ended-clause-cut g c =
     let cut = c.in_err-end_unless_ended.ensures.cut in
     rw (e.1, e.2) (
       cut.0,
-      λ path told out failed. end_cut_at path told c.args.self.now c.loop-link.self out (g.E.Sink.taken c.args.err.now) (g.E.Sink.taken c.loop-link.err) (g.E.Sink.taken n.err)
+      λ path told out failed. end_cut_at path told c.args.self.now c.loop-link.self out
+          (g.E.Sink.taken c.args.err.now) (g.E.Sink.taken c.loop-link.err) (g.E.Sink.taken n.err)
           failed (g.E.Sink.has_failed n.err) c.loop-link.link cut.1 (i.ended path told) (cut.2 path told out failed),
     )
 
 pub returns-clause-done : goal.returns-clause-done
 returns-clause-done g c = λ path told.
-    all_ended path told c.args.self.now c.loop-link.self (g.E.Sink.taken c.args.err.now) (g.E.Sink.taken c.loop-link.err) c.loop-link.link
+    all_ended path told c.args.self.now c.loop-link.self (g.E.Sink.taken c.args.err.now)
+    (g.E.Sink.taken c.loop-link.err) c.loop-link.link
     (omega (arith, c.loop-link.invariant.ready.many, c.loop-link-test.false)) (c.loop-link.invariant.ended path told)

@@ -7,5 +7,6 @@ use Rattle.derguard_program.proofs.links.Links.end_all.Given as goal
 abbrev pub invariant-loop-link : goal.invariant-loop-link
 invariant-loop-link g l = record {
   ready : IsReady l.self.gateway;
-  ended : (path : List ℕ) (told : Told) → EndedSoFar path told l.initial.self l.self (g.E.Sink.taken l.initial.err) (g.E.Sink.taken l.err) l.link;
+  ended : (path : List ℕ) (told : Told) → EndedSoFar path told l.initial.self l.self (g.E.Sink.taken l.initial.err)
+      (g.E.Sink.taken l.err) l.link;
 }

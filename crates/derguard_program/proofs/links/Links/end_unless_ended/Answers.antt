@@ -5,16 +5,20 @@ use Rattle.derguard_program.proofs.links.Links.end_unless_ended.Goals as goal
 pub returns-then-is_closed-clause-done : goal.returns-then-is_closed-clause-done
 returns-then-is_closed-clause-done g c =
     let e = c.end_link-answer in
-    inl (had_ended c.args.self.now c.args.link e.result e.new.gateway e.ensures.step (sym c.is_closed.ensures ∙ c.if-is_closed.true) (g.E.Sink.taken c.args.err.now) e.ensures.ready)
+    inl (had_ended c.args.self.now c.args.link e.result e.new.gateway e.ensures.step
+    (sym c.is_closed.ensures ∙ c.if-is_closed.true) (g.E.Sink.taken c.args.err.now) e.ensures.ready)
 
 pub returns-clause-done : goal.returns-clause-done
 returns-clause-done g c =
     let e = c.end_link-answer in
     let t = c.tell_answer in
     told_ok t.result t.ensures.all (λ said. inr (
-      was_open c.args.self.now c.args.link e.result e.new.gateway e.ensures.step (sym c.is_closed.ensures ∙ c.if-is_closed.false),
-      λ path told out. end_taken c.args.self.now c.args.link e.result e.new.gateway e.ensures.step path told t.new.self out
-          (g.E.Sink.taken c.args.err.now) (g.E.Sink.taken t.new.err) t.ensures.gateway e.ensures.ready said t.ensures.status,
+      was_open c.args.self.now c.args.link e.result e.new.gateway e.ensures.step
+          (sym c.is_closed.ensures ∙ c.if-is_closed.false),
+      λ path told out. end_taken c.args.self.now c.args.link e.result e.new.gateway e.ensures.step path told
+          t.new.self out
+          (g.E.Sink.taken c.args.err.now) (g.E.Sink.taken t.new.err) t.ensures.gateway e.ensures.ready said
+          t.ensures.status,
     ))
 
 pub returns-clause-cut : goal.returns-clause-cut
@@ -23,7 +27,9 @@ returns-clause-cut g c =
     let t = c.tell_answer in
     told_err t.result t.ensures.part (λ s p. (
       p.0,
-      was_open c.args.self.now c.args.link e.result e.new.gateway e.ensures.step (sym c.is_closed.ensures ∙ c.if-is_closed.false),
+      was_open c.args.self.now c.args.link e.result e.new.gateway e.ensures.step
+          (sym c.is_closed.ensures ∙ c.if-is_closed.false),
       λ path told out failed. end_cut c.args.self.now c.args.link e.result e.new.gateway e.ensures.step path told out
-          (g.E.Sink.taken c.args.err.now) (g.E.Sink.taken t.new.err) failed (g.E.Sink.has_failed t.new.err) p.1 p.2.0 p.2.1 p.2.2,
+          (g.E.Sink.taken c.args.err.now) (g.E.Sink.taken t.new.err) failed
+          (g.E.Sink.has_failed t.new.err) p.1 p.2.0 p.2.1 p.2.2,
     ))

@@ -8,7 +8,8 @@ pub returns-in_err-is_reported-clause-cut : goal.returns-in_err-is_reported-clau
 returns-in_err-is_reported-clause-cut g c =
     let e = err_from_is_err_and c.from_residual.result c.from_residual.ensures.1 in
     let f = c.feed_link-answer in
-    rw (e.1, e.2) (λ path told. piece_cut_passing path told c.args.self.now c.args.link c.args.octets.now f.result f.new.gateway f.ensures
+    rw (e.1, e.2) (λ path told. piece_cut_passing path told c.args.self.now c.args.link c.args.octets.now f.result
+    f.new.gateway f.ensures
     c.in_err-is_reported.field-0.0 _ _ _ _ _ _ (c.in_err-is_reported.ensures.cut f.ensures.ends f.ensures.there))
 
 pub returns-clause-done : goal.returns-clause-done
@@ -17,16 +18,22 @@ returns-clause-done g c =
     let t = c.tell_answer in
     let p = c.in_ok-is_reported.ensures.done f.ensures.ends f.ensures.there in
     let greatest : t.new.self.status ≡ max c.args.self.now.status (link_status f.ensures.added.reports f.result) =
-    status_after c.in_ok-is_reported.is_reported c.args.self.now.status c.from.result c.max-self.result t.new.self.status f.ensures.added.reports f.result
-    (p.1 ∙ ap (λ (s : List ℕ). not (nat_eq (length s) 0)) f.ensures.reports) c.from.ensures c.max-self.ensures t.ensures.status in
-    told_ok t.result t.ensures.all (λ said path told. piece_taken path told c.args.self.now c.args.link c.args.octets.now f.result f.new.gateway f.ensures
-    t.new.self (g.O.Sink.taken c.args.out.now, g.O.Sink.taken c.pass_on.new.out) (g.E.Sink.taken c.args.err.now) (g.E.Sink.taken c.pass_on.new.err) (g.E.Sink.taken t.new.err)
-    c.requires.ready (passed_there c.args.link f.ensures.ends f.new.gateway c.pass_on.new.gateway t.new.self.gateway _ _ t.ensures.gateway p.0) said greatest)
+    status_after c.in_ok-is_reported.is_reported c.args.self.now.status c.from.result c.max-self.result
+    t.new.self.status f.ensures.added.reports f.result
+    (p.1 ∙ ap (λ (s : List ℕ). not (nat_eq (length s) 0)) f.ensures.reports) c.from.ensures c.max-self.ensures
+    t.ensures.status in
+    told_ok t.result t.ensures.all (λ said path told. piece_taken path told c.args.self.now c.args.link
+    c.args.octets.now f.result f.new.gateway f.ensures
+    t.new.self (g.O.Sink.taken c.args.out.now, g.O.Sink.taken c.pass_on.new.out) (g.E.Sink.taken c.args.err.now)
+    (g.E.Sink.taken c.pass_on.new.err) (g.E.Sink.taken t.new.err)
+    c.requires.ready (passed_there c.args.link f.ensures.ends f.new.gateway c.pass_on.new.gateway t.new.self.gateway
+    _ _ t.ensures.gateway p.0) said greatest)
 
 pub returns-clause-cut : goal.returns-clause-cut
 returns-clause-cut g c =
     let f = c.feed_link-answer in
     let t = c.tell_answer in
     let p = c.in_ok-is_reported.ensures.done f.ensures.ends f.ensures.there in
-    told_err t.result t.ensures.part (λ s cut path told. piece_cut_telling path told c.args.self.now c.args.link c.args.octets.now f.result f.new.gateway f.ensures
+    told_err t.result t.ensures.part (λ s cut path told. piece_cut_telling path told c.args.self.now c.args.link
+    c.args.octets.now f.result f.new.gateway f.ensures
     s c.pass_on.new.gateway _ _ _ _ _ _ _ p.0 cut)

@@ -5,7 +5,7 @@
 //! |---|---|---|
 //! | What is a frame, and how is a stream cut into frames? | `cut.rt` (`first_cut`) | `specs/Frames.antt`, `specs/inside/Cut.antt` |
 //! | What is the header of a frame? | `body.rt`, `header.rt` | `specs/Bodies.antt`; a name: `specs/Names.antt` of `guard_policy` |
-//! | Who decides which bodies go, and what may it answer? | `decision.rt` (`Decide`, `Ruling`, `Report`) | `specs/Outcomes.antt` (`Decision`, `Goes`), `specs/Rulings.antt` |
+//! | Who decides which bodies go, and what is reported of the others? | `decision.rt` (`Decide`) | `specs/Outcomes.antt` (`Decision`, `Goes`) |
 //! | What becomes of one frame, and which line is reported of one that stays? | `report.rt` (`judge`, `put_report`) | `specs/Guarding.antt` (`Adds`), `specs/inside/Judged.antt` |
 //! | What goes out of some octets that lie in memory, and what is reported of them? | `putting.rt` (`put_frames`) | `specs/Guarding.antt` (`text_out`, `AllAdd`, `BreaksOff`), `specs/inside/Putting.antt` |
 //! | How many frames were there? | `totals.rt` (`Totals`) | `specs/Totals.antt`, `specs/Guarding.antt` (`Counts`) |

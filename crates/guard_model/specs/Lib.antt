@@ -15,7 +15,6 @@ pub mod SameBase
 -- ---- which of them a value or type of the code stands for
 pub mod ValueView
 pub mod TypeView
--- ---- what private contracts cite
 pub mod SameType
 -- ---- what only private contracts and proofs cite
 pub mod inside

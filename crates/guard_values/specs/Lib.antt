@@ -12,7 +12,6 @@ pub mod Arrangement
 pub mod Denotes
 pub mod Faults
 pub mod FirstFault
--- ---- what private contracts cite
 pub mod Views
 -- ---- what only private contracts and proofs cite
 pub mod inside

@@ -1,6 +1,7 @@
 /* A library to load before the C library's own calls (LD_PRELOAD), by which tests/hostile refuses memory and breaks
    devices in a program that is built. The environment says what fails; numbers count from 1:
      FAULT_ALLOC=N           the Nth growth of memory is refused, FAULT_ALLOC=N.. that one and all after it
+     FAULT_ALLOC=input       each growth is refused once standard input has been read
      FAULT_READ=N            the Nth read of standard input fails
      FAULT_WRITE=FD:OCTETS   the output FD takes so many octets, and then fails
      SHORT_READ=N            a read of standard input gives at most N octets
@@ -20,7 +21,7 @@ extern void *__libc_calloc(size_t, size_t);
 extern void *__libc_realloc(void *, size_t);
 extern void *__libc_memalign(size_t, size_t);
 
-static long refused, refused_after, failed_read, failing_output = -1, left, short_read, short_write;
+static long refused, refused_after, refused_input, failed_read, failing_output = -1, left, short_read, short_write;
 static long growths, growths_before, reads;
 static const char *count;
 
@@ -34,6 +35,7 @@ __attribute__((constructor)) static void begin(void) {
     if (text) {
         refused = atol(text);
         refused_after = strstr(text, "..") != NULL;
+        refused_input = strcmp(text, "input") == 0;
     }
     text = getenv("FAULT_WRITE");
     if (text) {
@@ -60,6 +62,7 @@ __attribute__((destructor)) static void end(void) {
 
 static int is_refused(void) {
     growths++;
+    if (refused_input) return reads > 0;
     return refused && (growths == refused || (refused_after && growths > refused));
 }
 

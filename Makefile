@@ -31,13 +31,11 @@ install:
 	install -D -m 644 completions/derguard.fish $(fishdir)/derguard.fish
 	install -D -m 644 CHANGELOG.md $(docdir)/CHANGELOG.md
 
-# Folders go where nothing else is in them.
+# Folders that others may use are left.
 uninstall:
 	rm -f $(bindir)/derguard $(man1dir)/derguard.1 $(man5dir)/derguard-policy.5
 	rm -f $(bashdir)/derguard $(zshdir)/_derguard $(fishdir)/derguard.fish $(docdir)/CHANGELOG.md
-	-for folder in $(bindir) $(man1dir) $(man5dir) $(bashdir) $(zshdir) $(fishdir) $(docdir); do \
-	    if [ -d $$folder ]; then rmdir -p --ignore-fail-on-non-empty $$folder; fi; \
-	done
+	if [ -d $(docdir) ]; then rmdir --ignore-fail-on-non-empty $(docdir); fi
 
 deb:
 	packaging/make-deb out

@@ -9,6 +9,7 @@ that are given here, by whoever knows from where the packets come; nothing in a 
 come, and only the few octets of a header are held. A packet that is too long for a frame, and a stream that ends inside
 one, end the program with status 1, the latter after what there is of it is out: the guard then says F4.
 """
+import os
 import sys
 
 LONGEST = 1_048_576
@@ -90,12 +91,11 @@ def main(words):
         return 2
     while octets := sys.stdin.buffer.read1(65536):
         try:
-            out = stream.feed(octets)
-        except ValueError as fault:
+            sys.stdout.buffer.write(stream.feed(octets))
+            sys.stdout.buffer.flush()
+        except (ValueError, BrokenPipeError) as fault:
             print(f"packets.py: {fault}", file=sys.stderr)
-            return 1
-        sys.stdout.buffer.write(out)
-        sys.stdout.buffer.flush()
+            os._exit(1)
     return 0 if stream.is_between_packets() else 1
 
 

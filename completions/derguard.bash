@@ -1,0 +1,55 @@
+# Completion of derguard for bash. It goes to share/bash-completion/completions/derguard.
+
+# The names that a policy's text gives with a key in its tables: TABLE KEY POLICY. It knows tables that are written with
+# [[message]] and [[rule]], each key on a line of its own.
+_derguard_names() {
+    [ -r "$3" ] && awk -v table="[[$1]]" -v key="$2" '
+        { sub(/[ \t]*(#.*)?$/, ""); sub(/^[ \t]*/, "") }
+        /^\[/ { here = $0 == table }
+        here && match($0, "^" key "[ \t]*=") && match($0, /"[^"]*"$/) { print substr($0, RSTART + 1, RLENGTH - 2) }
+    ' "$3" | grep -vxF '*' | sort -u
+}
+
+_derguard() {
+    local current=${COMP_WORDS[COMP_CWORD]} before=${COMP_WORDS[COMP_CWORD - 1]} command= policy= word number
+    COMPREPLY=()
+    for ((number = 1; number < COMP_CWORD; number++)); do
+        word=${COMP_WORDS[number]}
+        case $word in
+            --from | --to | --message) ((number++)) ;;
+            -*) ;;
+            *) if [ -z "$command" ]; then command=$word; elif [ -z "$policy" ]; then policy=$word; fi ;;
+        esac
+    done
+    if [ "$command" = decide ] && [ -n "$policy" ]; then
+        case $before in
+            --message) mapfile -t COMPREPLY < <(compgen -W "$(_derguard_names message name "$policy")" -- "$current") ;;
+            --from) mapfile -t COMPREPLY < <(compgen -W "$(_derguard_names rule from "$policy")" -- "$current") ;;
+            --to) mapfile -t COMPREPLY < <(compgen -W "$(_derguard_names rule to "$policy")" -- "$current") ;;
+        esac
+    fi
+    case $before in
+        --from | --to | --message) return ;;
+    esac
+    case $command in
+        '') mapfile -t COMPREPLY < <(compgen -W 'check decide run mux help --help' -- "$current") ;;
+        help) [ -n "$policy" ] || mapfile -t COMPREPLY < <(compgen -W 'check decide run mux' -- "$current") ;;
+        check | run | mux | decide)
+            if [[ $current == -* ]]; then
+                word=--help
+                if [ "$command" = decide ]; then word='--from --to --message --help'; fi
+                mapfile -t COMPREPLY < <(compgen -W "$word" -- "$current")
+            elif [ -z "$policy" ]; then
+                compopt -o filenames 2> /dev/null
+                mapfile -t COMPREPLY < <(
+                    compgen -f -X '!*.toml' -- "$current"
+                    compgen -d -- "$current"
+                )
+            elif [ "$command" = decide ]; then
+                mapfile -t COMPREPLY < <(compgen -W '--from --to --message' -- "$current")
+            fi
+            ;;
+    esac
+}
+
+complete -F _derguard derguard

@@ -1,0 +1,48 @@
+# Completion of derguard for fish. It goes to share/fish/vendor_completions.d.
+
+# The policy on the command line: the first word after the command that is no option's value.
+function __derguard_policy
+    set -l words (commandline -opc)
+    set -l passed
+    set -e words[1]
+    while set -q words[1]
+        switch $words[1]
+            case --from --to --message
+                set -e words[1]
+            case '-*'
+            case '*'
+                set -a passed $words[1]
+        end
+        set -e words[1]
+    end
+    echo $passed[2]
+end
+
+# The names that the policy's text gives with a key in its tables: TABLE KEY. It knows tables that are written with
+# [[message]] and [[rule]], each key on a line of its own.
+function __derguard_names
+    set -l policy (__derguard_policy)
+    test -r "$policy"; or return
+    awk -v table="[[$argv[1]]]" -v key="$argv[2]" '
+        { sub(/[ \t]*(#.*)?$/, ""); sub(/^[ \t]*/, "") }
+        /^\[/ { here = $0 == table }
+        here && match($0, "^" key "[ \t]*=") && match($0, /"[^"]*"$/) { print substr($0, RSTART + 1, RLENGTH - 2) }
+    ' $policy | grep -vxF '*' | sort -u
+end
+
+complete -c derguard -f
+complete -c derguard -s h -l help -d 'show help'
+complete -c derguard -n __fish_use_subcommand -a check -d 'say whether a policy and its modules are accepted'
+complete -c derguard -n __fish_use_subcommand -a decide -d 'say what becomes of one message, and why'
+complete -c derguard -n __fish_use_subcommand -a run -d 'guard a stream of frames'
+complete -c derguard -n __fish_use_subcommand -a mux -d 'guard sixteen links in one stream of records'
+complete -c derguard -n __fish_use_subcommand -a help -d 'show what a command does'
+complete -c derguard -n '__fish_seen_subcommand_from help' -a 'check decide run mux'
+complete -c derguard -n '__fish_seen_subcommand_from check decide run mux; and test -z (__derguard_policy)' \
+    -a '(__fish_complete_suffix .toml)'
+complete -c derguard -n '__fish_seen_subcommand_from decide' -l from -x -a '(__derguard_names rule from)' \
+    -d 'the name of the sender'
+complete -c derguard -n '__fish_seen_subcommand_from decide' -l to -x -a '(__derguard_names rule to)' \
+    -d 'the name of the receiver'
+complete -c derguard -n '__fish_seen_subcommand_from decide' -l message -x -a '(__derguard_names message name)' \
+    -d 'the name of the message in the policy'

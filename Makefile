@@ -8,7 +8,6 @@
 PREFIX = /usr/local
 DESTDIR =
 PROGRAM = crates/derguard/out/derguard
-VERSION != cat VERSION
 
 bindir = $(DESTDIR)$(PREFIX)/bin
 man1dir = $(DESTDIR)$(PREFIX)/share/man/man1

@@ -5,7 +5,8 @@
 //! | What is a table, and which types make one? | `table.rt` (`Table::compile`) | `specs/TableView.antt`, `specs/Tables.antt` |
 //! | Why do types make none, and which reason comes first? | `fault.rt` | `specs/Tables.antt` |
 //! | What is asked of a value at a node, and how much is too much? | `conditions.rt` | `specs/Conditions.antt`, as it is counted `specs/inside/Counting.antt` |
-//! | At which nodes is that looked at? | `nodes.rt` | `specs/Conditions.antt` |
+//! | At which nodes is that looked at, and what is laid on parts? | `nodes.rt`, `handing_down.rt` | `specs/Conditions.antt`, as it is looked for `specs/inside/Search.antt`, `specs/inside/HandingDown.antt` |
+//! | Which types does a table keep once, and what do they ask together? | `sharing.rt`, `same_types.rt` | `specs/SharedTypes.antt`, `specs/inside/Sharing.antt`, `specs/inside/SameParts.antt` |
 //! | Which slots have failed? | `slots.rt` | `specs/Slots.antt` |
 //! | How are the nodes of a table put together? | `layout.rt` (`lay_nodes`), a node `drafts.rt`, `kinds_of_nodes.rt`, `identifiers.rt`, steps `assembly.rt`, `laid.rt` | `specs/Lay.antt`, `specs/inside/Laid.antt`, `specs/inside/Bare.antt`, `specs/inside/Aside.antt` |
 //! | Which tests has a node, and what is said of a component beside its type? | `conditions_at_node.rt`, `sides.rt`, octets `encoded.rt` | `specs/Lay.antt`, `specs/inside/SideViews.antt` |
@@ -30,6 +31,7 @@ mod fault;
 mod form_terms;
 mod form_trees;
 mod gathering;
+mod handing_down;
 mod identifiers;
 mod kinds_of_nodes;
 mod laid;
@@ -46,6 +48,8 @@ mod plain_interval;
 mod presence;
 mod range_lists;
 mod scalars;
+mod same_types;
+mod sharing;
 mod sides;
 mod simple_tests;
 mod slots;

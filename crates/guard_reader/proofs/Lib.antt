@@ -7,6 +7,10 @@ pub mod Passes
 -- ---- contents of simple kinds
 pub mod Subidentifiers
 pub mod Utf8
+pub mod Blocks
+pub mod Lanes
+pub mod KindAlphabets
+pub mod AtOnce
 -- ---- what the walk takes from nodes, and one step of it
 pub mod ByHeader
 pub mod NodeTags

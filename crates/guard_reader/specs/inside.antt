@@ -3,3 +3,4 @@ pub mod NodeParts
 pub mod Answers
 pub mod FrontViews
 pub mod Members
+pub mod AtOnce

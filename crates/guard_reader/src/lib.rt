@@ -13,6 +13,7 @@
 //! | Is it a default, and what do formulas say? | `conditions.rt` | of `guard_tables` `specs/Formulas.antt` |
 //! | Which types of a table have the value? | `table_walk.rt` (`walk`), `marks.rt` | `specs/Marking.antt` |
 //! | Does each octet lie in one of some ranges? | `alphabet.rt` (`all_in`) | of `guard_eval` `specs/Elements.antt` |
+//! | Is each octet a character of its kind, and of what FROM permits? | `kind_alphabets.rt` | of `guard_model` `specs/Alphabets.antt` |
 //! | What does a pass tell? | `laws.rt` | `specs/Laws.antt` |
 #![tactic(auto)]
 
@@ -21,6 +22,7 @@ mod conditions;
 mod contents;
 mod element_fronts;
 mod header;
+mod kind_alphabets;
 pub mod laws;
 mod layers;
 mod marks;

@@ -11,6 +11,7 @@ pub mod Blocks
 pub mod Lanes
 pub mod KindAlphabets
 pub mod AtOnce
+pub mod Firsts
 -- ---- what the walk takes from nodes, and one step of it
 pub mod ByHeader
 pub mod NodeTags

@@ -4,3 +4,4 @@ pub mod Answers
 pub mod FrontViews
 pub mod Members
 pub mod AtOnce
+pub mod Firsts

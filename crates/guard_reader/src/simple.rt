@@ -19,6 +19,7 @@ use crate::conditions::{are_same, has_one, is_in_one};
 use crate::contents::is_lawful;
 use crate::kind_alphabets::{are_octets_in, has_one_octet, has_ranges, is_in_some};
 use crate::numbers::twos_complement;
+use crate::texts::count_utf8;
 use guard_model::CharKind;
 use guard_tables::{Cold, Condition, Range, SimpleKind, Slots, Test};
 
@@ -179,22 +180,6 @@ fn count(kind: CharKind, inside: &[u8]) -> usize
         CharKind::Ia5 => inside.len(),
         CharKind::Visible => inside.len(),
     }
-}
-
-fn count_utf8(inside: &[u8]) -> usize
-    requires { is_utf8 inside.now ≡ true }
-    ensures { result ≡ length (chars inside.now) }
-{
-    match str::from_utf8(inside) {
-        Ok(text) => count_characters(text),
-        Err(_) => 0,
-    }
-}
-
-fn count_characters(text: &str) -> usize
-    ensures { result ≡ length (chars text.now) }
-{
-    text.chars().count()
 }
 
 /// Whether all characters lie in one of the ranges; kinds without characters have none that doesn't.

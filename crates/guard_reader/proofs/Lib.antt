@@ -19,6 +19,7 @@ pub mod Steps
 pub mod NodeSteps
 pub mod ElementCounts
 pub mod MemberSteps
+pub mod Ranks
 pub mod SetSteps
 -- ---- a pass reads octets as decoding does
 pub mod Fronts

@@ -5,3 +5,4 @@ pub mod FrontViews
 pub mod Members
 pub mod AtOnce
 pub mod Firsts
+pub mod Ranks

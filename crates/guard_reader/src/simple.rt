@@ -24,6 +24,7 @@ use guard_model::CharKind;
 use guard_tables::{Cold, Condition, Range, SimpleKind, Slots, Test};
 
 /// Contents octets of a simple kind, and what is asked of the value.
+#[inline(never)]
 #[tactic(auto, unfolding(crate::specs::Judging::contents_judged))]
 pub fn simple(cold: &Cold, kind: SimpleKind, inside: &[u8], failed: &mut Slots) -> bool
     ensures { Answers result failed.new

@@ -100,23 +100,23 @@ module _ (names : Visible) where
 
 -- ---- tags change no kind
 
-kind_put : (explicit : Bool) (tag : Tag) (t : AbstractType) → kind_of (put_tag explicit tag t) ≡ kind_of t
+pub kind_put : (explicit : Bool) (tag : Tag) (t : AbstractType) → kind_of (put_tag explicit tag t) ≡ kind_of t
 kind_put true tag (type_of tags kind cons) = refl
 kind_put false tag (type_of [] kind cons) = refl
 kind_put false tag (type_of (outermost ∷ tags) kind cons) = refl
 
-kind_tagged : (default : TagDefault) (ws : List WrittenTag) (t : AbstractType) → kind_of (with_tags default ws t) ≡ kind_of t
+pub kind_tagged : (default : TagDefault) (ws : List WrittenTag) (t : AbstractType) → kind_of (with_tags default ws t) ≡ kind_of t
 kind_tagged default [] t = refl
 kind_tagged default (w ∷ ws) t =
     kind_put (is_explicit w.mode default (is_untagged_choice (with_tags default ws t))) (tag_of w) (with_tags default ws t) ∙ kind_tagged default ws t
 
-parts_there : (t : AbstractType) → parts_of t ≡ components_in (kind_of t)
+pub parts_there : (t : AbstractType) → parts_of t ≡ components_in (kind_of t)
 parts_there (type_of tags kind cons) = refl
 
 of_kind_there : (k : Collection) (t : AbstractType) → is_of_kind k t ≡ is_kind_of k (kind_of t)
 of_kind_there k (type_of tags kind cons) = refl
 
-parts_in : (k : Collection) (cs : Components) → components_in (structure_kind k cs) ≡ cs
+pub parts_in : (k : Collection) (cs : Components) → components_in (structure_kind k cs) ≡ cs
 parts_in collection.Sequence cs = refl
 parts_in collection.Set cs = refl
 
@@ -173,17 +173,17 @@ not_null collection.Set e = never e
 
 -- ---- what COMPONENTS OF may take in, where there is no fault
 
-neither : {A : Type 0} (a b : Option A) → option_or a b ≡ None → (a ≡ None) × (b ≡ None)
+pub neither : {A : Type 0} (a b : Option A) → option_or a b ≡ None → (a ≡ None) × (b ≡ None)
 neither None b h = (refl, h)
 neither (Some x) b h = absurd cc
 
 module _ (around : Surroundings) where
-  abbrev TakesRightly : Collection → Bool → WrittenComponents → Type 0
+  abbrev pub TakesRightly : Collection → Bool → WrittenComponents → Type 0
   TakesRightly k automatic no_components = Unit {0}
   TakesRightly k automatic (component site name t presence cs) = TakesRightly k automatic cs
   TakesRightly k automatic (components_from site t cs) = (is_of_kind k (denoted around t) ≡ true) × (automatic ≡ false) × (is_automatic around t ≡ false) × TakesRightly k automatic cs
 
-passed : {A : Type 0} (wrong : Bool) (a : A) (rest : Option A) → (if wrong then Some a else rest) ≡ None → (wrong ≡ false) × (rest ≡ None)
+pub passed : {A : Type 0} (wrong : Bool) (a : A) (rest : Option A) → (if wrong then Some a else rest) ≡ None → (wrong ≡ false) × (rest ≡ None)
 passed true a rest e = absurd cc
 passed false a rest e = (refl, e)
 
@@ -210,17 +210,17 @@ module _ (around : Surroundings) where
       (yes (is_of_kind k (denoted around t)) kind.0, both.0, both.1, takes k automatic cs kind.1 auto.1)
 
   -- a list has no fault of its own
-  abbrev IsListed : WrittenBase → Type 0
+  abbrev pub IsListed : WrittenBase → Type 0
   IsListed base = (site : Site) × (list_fault around site base ≡ None)
 
-  takes_rightly : (k : Collection) (cs : WrittenComponents) → IsListed (structure k cs) → TakesRightly around k (is_automatic_list around.tag_default cs) cs
+  pub takes_rightly : (k : Collection) (cs : WrittenComponents) → IsListed (structure k cs) → TakesRightly around k (is_automatic_list around.tag_default cs) cs
   takes_rightly k cs (site, h) =
       let taken = neither (taken_fault around k (is_automatic_list around.tag_default cs) cs) _ h in
       let kind = neither (option_map (λ s. ComponentsOfKind s) (first_taking (takes_other_kind around k) cs)) _ taken.0 in
       let auto = neither (option_map (λ s. ComponentsOfAutomatic s) (first_taking (takes_automatic around (is_automatic_list around.tag_default cs)) cs)) _ kind.1 in
       takes k (is_automatic_list around.tag_default cs) cs (no_site (λ s. ComponentsOfKind s) (first_taking (takes_other_kind around k) cs) kind.0) (no_site (λ s. ComponentsOfAutomatic s) (first_taking (takes_automatic around (is_automatic_list around.tag_default cs)) cs) auto.0)
 
-  listed_so : (automatic : Bool) (count : ℕ) (site : Site) (tags : List WrittenTag) (base : WrittenBase) (cons : List WrittenConstraint) → own_fault around automatic count (type_node site tags base cons) ≡ None → IsListed base
+  pub listed_so : (automatic : Bool) (count : ℕ) (site : Site) (tags : List WrittenTag) (base : WrittenBase) (cons : List WrittenConstraint) → own_fault around automatic count (type_node site tags base cons) ≡ None → IsListed base
   listed_so automatic count site tags base cons h =
       let a = neither (universal_tag tags) _ h in
       let b = neither (implicit_choice (denoted_base around base) tags) _ a.1 in
@@ -288,7 +288,7 @@ module _ (names : Visible) (around : Surroundings) (agree : (name : List ℕ) �
         let n = neither (fault_in around false before (before + nodes_within (denoted around t)) t) _ h in
         (parts_of (denoted around t), denoted_components around cs, refl, is_taken k before (before + nodes_within (denoted around t)) t n.0 r.0 r.2, are_bare k automatic (before + nodes_put_in around k automatic t) cs n.1 r.3)
 
-    is_taken : (k : Collection) (before count : ℕ) (t : WrittenType) → fault_in around false before count t ≡ None → is_of_kind k (denoted around t) ≡ true → is_automatic around t ≡ false → IsTaken names t (parts_of (denoted around t))
+    pub is_taken : (k : Collection) (before count : ℕ) (t : WrittenType) → fault_in around false before count t ≡ None → is_of_kind k (denoted around t) ≡ true → is_automatic around t ≡ false → IsTaken names t (parts_of (denoted around t))
     is_taken k before count (type_node site tags base cons) h of auto =
         let n = neither (fault_in_parts around before base) (own_fault around false count (type_node site tags base cons)) h in
         let same = kind_tagged around.tag_default tags (denoted_base around base) in

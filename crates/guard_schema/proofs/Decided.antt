@@ -1,12 +1,11 @@
 -- Texts denote one schema at most, and then they have no fault: step by step.
-use Rattle.std.proofs.Common.{◌≡◌, ◌+◌, ℕ, suc, true, false, List, [], ◌∷◌, Option, Some, None, Ok, Err, inl, inr, refl, sym, ap, subst, ◌∙◌, arith}
+use Rattle.std.proofs.Common.{◌≡◌, ℕ, true, false, List, [], ◌∷◌, Option, Some, None, Ok, Err, inl, inr, refl, sym, ap, ◌∙◌, arith}
 use Rattle.std.proofs.lemmas.Option.{same_Some}
 use Rattle.guard_model.specs.declared.site.Site.{Site}
 use Rattle.guard_model.specs.AbstractType as type
 use Rattle.guard_model.specs.AbstractType.{AbstractType, AbstractKind, Components, Constraint, type_of}
 use Rattle.guard_model.specs.Counts.{component_count}
 use Rattle.guard_model.specs.AbstractValue.{AbstractValue}
-use Rattle.guard_model.specs.TypeView.{OneComponent}
 use Rattle.guard_syntax.specs.declared.tree.Collection.{Collection}
 use Rattle.guard_syntax.specs.declared.tree.Collection.TheVariants as collection
 use Rattle.guard_syntax.specs.Trees.{WrittenValue, value_node, WrittenConstraint, WrittenOfConstraint, WrittenPresence, mandatory, optional, default, WrittenType, type_node, WrittenBase, plain, numbers, named_bits, enumerated, structure, choice, of_type, named_type, WrittenComponents, no_components, component, components_from, WrittenAlternatives, no_alternatives, alternative}
@@ -14,7 +13,7 @@ use Rattle.guard_values.specs.declared.fault.ValueFault.{ValueFault}
 use Rattle.guard_values.specs.Denotes as values
 use Rattle.guard_values.specs.FirstFault.{IsFirstFault}
 use Rattle.guard_values.specs.Meanings.{Meaning}
-use Rattle.guard_tagging.specs.Types.{structure_kind, of_kind, presence_of, parts_of, join}
+use Rattle.guard_tagging.specs.Types.{structure_kind, of_kind, presence_of, join}
 use Rattle.guard_constraints.specs.Visible.{Visible}
 use Rattle.guard_constraints.specs.declared.fault.ConsFault.{ConsFault}
 use Rattle.guard_constraints.specs.Denotes as constraints
@@ -104,18 +103,18 @@ module _ (one_value : OneValue) (one_constraint : OneConstraint) (one_cons_fault
 
 -- ---- the parts of a list, of which there is one division
 
-one_structure : (k : Collection) (xs ys : Components) → structure_kind k xs ≡ structure_kind k ys → xs ≡ ys
+pub one_structure : (k : Collection) (xs ys : Components) → structure_kind k xs ≡ structure_kind k ys → xs ≡ ys
 one_structure collection.Sequence xs ys e = cc
 one_structure collection.Set xs ys e = cc
 
-one_choice : (xs ys : Components) → type.choice xs ≡ type.choice ys → xs ≡ ys
+pub one_choice : (xs ys : Components) → type.choice xs ≡ type.choice ys → xs ≡ ys
 one_choice xs ys e = cc
 
-one_element : (k : Collection) (t u : AbstractType) → of_kind k t ≡ of_kind k u → t ≡ u
+pub one_element : (k : Collection) (t u : AbstractType) → of_kind k t ≡ of_kind k u → t ≡ u
 one_element collection.Sequence t u e = cc
 one_element collection.Set t u e = cc
 
-one_join : (a b c d : Components) → component_count a ≡ component_count c → join a b ≡ join c d → (a ≡ c) × (b ≡ d)
+pub one_join : (a b c d : Components) → component_count a ≡ component_count c → join a b ≡ join c d → (a ≡ c) × (b ≡ d)
 one_join type.no_components b type.no_components d n e = (refl, e)
 one_join type.no_components b (type.component name t p c) d n e = absurd (omega (arith, n))
 one_join (type.component name t p a) b type.no_components d n e = absurd (omega (arith, n))

@@ -1,5 +1,5 @@
 -- What is filled component by component is what the written type says, where the bare type is the one that it has by its tags.
-use Rattle.std.proofs.Common.{◌≡◌, ℕ, zero, suc, List, [], ◌∷◌, ◌++◌, take, drop, Option, Some, None, Result, Ok, Err, inl, inr, refl, sym, ap, subst, ◌∙◌, append_assoc}
+use Rattle.std.proofs.Common.{◌≡◌, ℕ, List, [], ◌∷◌, ◌++◌, take, drop, Result, Ok, Err, inl, inr, refl, sym, ap, subst, ◌∙◌, append_assoc}
 use Rattle.std.proofs.lemmas.List.{append-nil}
 use Rattle.guard_model.proofs.Results.{same_Ok, same_Err}
 use Rattle.guard_model.specs.declared.site.Site.{Site}
@@ -10,12 +10,12 @@ use Rattle.guard_model.specs.TypeView.{OneComponent, components_of}
 use Rattle.guard_syntax.specs.declared.tree.Collection.{Collection}
 use Rattle.guard_syntax.specs.declared.tree.Collection.TheVariants as collection
 use Rattle.guard_syntax.specs.Trees.{WrittenPresence, mandatory, WrittenType, type_node, WrittenBase, plain, numbers, named_bits, enumerated, structure, choice, of_type, named_type, WrittenComponents, no_components, component, components_from, WrittenAlternatives, no_alternatives, alternative}
-use Rattle.guard_tagging.specs.Types.{structure_kind, of_kind, presence_of, parts_of, join}
+use Rattle.guard_tagging.specs.Types.{structure_kind, of_kind, presence_of, join}
 use Rattle.guard_constraints.specs.Visible.{Visible}
 use Rattle.guard_schema.specs.Outcomes.{Is, Then}
 use Rattle.guard_schema.specs.Faults.{AbstractFault, Outcome}
-use Rattle.guard_schema.specs.Finishing.{put_before, site_of_type, constraint_before, count_of_meant, count_put_in, ConstrainsBefore, Constrains, FinishesComponent, FillsPresence, Finishes, FinishesKind, Fills, FillsFrom, FillsFromBase, FillsOthers}
-use Rattle.guard_schema.specs.inside.InTurn.{Filling, listed, moved, FillsAll, FillsNext, OneInTurn, ListInTurn, ElementInTurn, FinishesInTurn, KindInTurn, FillsInTurn, FromInTurn, FromBaseInTurn, OthersInTurn}
+use Rattle.guard_schema.specs.Finishing.{put_before, site_of_type, constraint_before, count_of_meant, ConstrainsBefore, Constrains, FinishesComponent, FillsPresence, Finishes, FinishesKind, Fills, FillsFrom, FillsFromBase, FillsOthers}
+use Rattle.guard_schema.specs.inside.InTurn.{Filling, listed, moved, FillsAll, FillsNext, ListInTurn, ElementInTurn, FinishesInTurn, KindInTurn, FillsInTurn, FromInTurn, FromBaseInTurn, OthersInTurn}
 use Rattle.guard_schema.proofs.Outcomes.{flattened}
 use Rattle.guard_schema.proofs.BareTypes.{IsBare, IsBareKind, AreBare, IsTaken, IsTakenBase, AreBareOthers, taken_counted}
 

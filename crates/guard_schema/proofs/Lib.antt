@@ -23,6 +23,10 @@ pub mod FinishedNodes
 pub mod Unfinished
 pub mod OneDefinition
 pub mod AllDefinitions
+-- ---- what a definition is where all is built
+pub mod Throughout
+-- ---- what keeps a finished type from being sound
+pub mod Unsound
 -- ---- the schema
 pub mod ModuleNames
 pub mod ByName

@@ -1,5 +1,5 @@
 -- A finished type without what is filled into it is the bare type.
-use Rattle.std.proofs.Common.{◌≡◌, ℕ, zero, suc, ◌+◌, Bool, true, false, List, [], ◌∷◌, Option, Some, None, Ok, Err, inl, inr, refl, sym, ap, subst, ◌∙◌, arith}
+use Rattle.std.proofs.Common.{◌≡◌, ℕ, zero, suc, ◌+◌, Bool, true, false, List, [], ◌∷◌, Option, Some, None, Ok, inl, inr, refl, sym, ap, ◌∙◌, arith}
 use Rattle.guard_model.proofs.Results.{same_Ok}
 use Rattle.guard_model.specs.declared.site.Site.{Site}
 use Rattle.guard_model.specs.AbstractType as type
@@ -9,14 +9,12 @@ use Rattle.guard_model.specs.TypeView.{OneComponent}
 use Rattle.guard_syntax.specs.declared.tree.Collection.{Collection}
 use Rattle.guard_syntax.specs.declared.tree.Collection.TheVariants as collection
 use Rattle.guard_syntax.specs.Trees.{WrittenTag, WrittenConstraint, WrittenOfConstraint, WrittenPresence, mandatory, optional, default, WrittenType, type_node, WrittenBase, plain, numbers, named_bits, enumerated, structure, choice, of_type, named_type, WrittenComponents, no_components, component, components_from, WrittenAlternatives, no_alternatives, alternative}
-use Rattle.guard_names.specs.Declarations.{Definition}
-use Rattle.guard_tagging.specs.Types.{structure_kind, of_kind, presence_of, parts_of, join, denoted}
+use Rattle.guard_tagging.specs.Types.{structure_kind, of_kind, presence_of, join}
 use Rattle.guard_constraints.specs.Visible.{Visible}
-use Rattle.guard_schema.specs.Outcomes.{Is, Then}
 use Rattle.guard_schema.specs.Faults.{Outcome}
-use Rattle.guard_schema.specs.Known.{Built, Known, visible, around}
+use Rattle.guard_schema.specs.Known.{Built, visible}
 use Rattle.guard_schema.specs.Finishing.{add, with_constraint, put_before, constraint_before, site_of_type, count_of_meant, count_written, count_put_in, count_within, Adds, Constrains, ConstrainsByOne, ConstrainsBefore, FillsPresence, FinishesComponent, Finishes, FinishesKind, Fills, FillsFrom, FillsFromBase, FillsOthers}
-use Rattle.guard_schema.specs.Building.{Builds, HasValue}
+use Rattle.guard_schema.specs.Building.{HasValue}
 use Rattle.guard_schema.specs.Unfinished.{without_last, without_written, without_before, first_ones, other_ones, with_first, without_default, with_parts, with_element, unfinished, unfinished_kind, unfinished_list, unfinished_from, unfinished_from_base, unfinished_others, IsBareAgain, IsTaggedAgain}
 use Rattle.guard_schema.proofs.BareTypes.{count_join}
 

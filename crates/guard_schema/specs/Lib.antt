@@ -12,6 +12,8 @@ pub mod Schemas
 pub mod Accepts
 pub mod OneAnswer
 pub mod Unfinished
+pub mod EachType
+pub mod OnlyLong
 -- what the values of the code stand for
 pub mod Entries
 pub mod Views

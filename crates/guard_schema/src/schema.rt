@@ -27,6 +27,7 @@ impl Schema {
     ghost use Rattle.guard_schema.specs.Faults.{named};
     ghost use Rattle.guard_schema.specs.Views.{schema_view};
     ghost use Rattle.guard_schema.specs.Accepts.{Accepts, IsRefused};
+    ghost use Rattle.guard_schema.specs.EachType.{HasTypesOf};
     ghost use Rattle.guard_schema.specs.Schemas.{AbstractSchema, module_named};
 
     /// The schema that texts denote, each the text of one module.
@@ -43,6 +44,8 @@ impl Schema {
         ensures refused { IfErr result (λ f. IfSome (named f) (IsRefused (map (λ t. t.now) texts.now))) }
         // The schema that the texts denote is answered, unless memory runs out.
         ensures only { (s : AbstractSchema) → Accepts (map (λ t. t.now) texts.now) s → Gives schema_view named result (Ok s) }
+        // It has a type for each definition in the texts that assigns one, the finished type of what its tree denotes, and no others.
+        ensures types { IfOk result (λ schema. HasTypesOf (map (λ t. t.now) texts.now) (schema_view schema)) }
         // Each of its types is sound.
         ensures sound { IfOk result (λ schema. (home name : List ℕ) → IfSome ((schema_view schema).types home name) (λ t. IsTrue (is_sound t))) }
     {

@@ -1,7 +1,7 @@
 use Rattle.std.proofs.Common.{sym, arith, ◌<◌, length}
 use Rattle.std.proofs.lemmas.List.{map_push}
 use Rattle.guard_tagging.specs.inside.Views.{place_view}
-use Rattle.guard_tagging.proofs.Places.{one_place}
+use Rattle.guard_tagging.proofs.Numbers.Repeated.{one_place}
 use Rattle.guard_tagging.proofs.names.component_places.Goals as goal
 
 pub loop-index-preserved : goal.loop-index-preserved

@@ -3,7 +3,7 @@ use Rattle.std.specs.Prelude.{bytes_eq}
 use Rattle.guard_tagging.specs.Faults.{repeated, same_number}
 use Rattle.guard_tagging.specs.inside.ReadNames.{signed_key}
 use Rattle.guard_tagging.specs.inside.Views.{place_view}
-use Rattle.guard_tagging.proofs.Places.{seen_after, seen_or, name_hit, number_new, found_again, goes_on}
+use Rattle.guard_tagging.proofs.Numbers.Repeated.{seen_after, seen_or, name_hit, number_new, found_again, goes_on}
 use Rattle.guard_tagging.proofs.names.first_repeated.Goals as goal
 use Rattle.guard_tagging.proofs.names.first_repeated.Goals.{then-not-is_new_name-via-then-not-is_new_name, then-not-is_new_name-via-else-not-is_new_name+then-not-is_new_number}
 

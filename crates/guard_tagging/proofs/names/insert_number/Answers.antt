@@ -1,5 +1,5 @@
 use Rattle.std.proofs.Common.{not, ap}
-use Rattle.guard_tagging.proofs.Places.{none_hit, keys_after, nothing_more}
+use Rattle.guard_tagging.proofs.Numbers.Repeated.{none_hit, keys_after, nothing_more}
 use Rattle.guard_tagging.proofs.names.insert_number.Goals as goal
 
 pub returns-in-None : goal.returns-in-None

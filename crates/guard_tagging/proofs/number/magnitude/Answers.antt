@@ -1,6 +1,6 @@
 use Rattle.std.proofs.Common.{◌^◌, ◌-◌, arith}
 use Rattle.std.specs.Prelude.{min}
-use Rattle.guard_tagging.proofs.Digits.{one_more, all_read}
+use Rattle.guard_tagging.proofs.Numbers.Digits.{one_more, all_read}
 use Rattle.guard_lexer.specs.Items.{number_value}
 use Rattle.guard_tagging.proofs.number.magnitude.Goals as goal
 

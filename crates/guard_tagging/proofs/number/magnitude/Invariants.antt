@@ -1,6 +1,6 @@
 use Rattle.std.proofs.Common.{◌≡◌, ◌^◌, ◌-◌, ◌<◌, drop}
 use Rattle.std.specs.Prelude.{fold, min}
-use Rattle.guard_tagging.proofs.Digits.{with_digit}
+use Rattle.guard_tagging.proofs.Numbers.Digits.{with_digit}
 use Rattle.guard_lexer.specs.Items.{number_value}
 use Rattle.guard_tagging.proofs.number.magnitude.Given as goal
 

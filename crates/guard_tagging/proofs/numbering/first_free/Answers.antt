@@ -2,7 +2,7 @@ use Rattle.std.proofs.Common.{◌∙◌, sym, ◌-◌, ◌<◌, ◌^◌, arith}
 use Rattle.std.specs.Int.{w128}
 use Rattle.std.proofs.lemmas.Int.{to_z_pos}
 use Rattle.guard_tagging.specs.Enumerations.{free_from}
-use Rattle.guard_tagging.proofs.ItemLoops.{found_free, next_free}
+use Rattle.guard_tagging.proofs.Numbers.Items.{found_free, next_free}
 use Rattle.guard_tagging.proofs.numbering.first_free.Goals as goal
 
 pub returns-then-not-contains-clause-first : goal.returns-then-not-contains-clause-first

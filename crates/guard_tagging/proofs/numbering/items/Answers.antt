@@ -1,4 +1,4 @@
-use Rattle.guard_tagging.proofs.ItemLoops.{items_read}
+use Rattle.guard_tagging.proofs.Numbers.Items.{items_read}
 use Rattle.guard_tagging.proofs.numbering.items.Goals as goal
 
 pub returns : goal.returns

@@ -5,7 +5,7 @@ use Rattle.guard_model.specs.TypeView.{named_view}
 use Rattle.guard_syntax.specs.TypeViews.{item_view}
 use Rattle.guard_tagging.specs.Named.{named}
 use Rattle.guard_tagging.specs.inside.ReadItems.{read_numbered}
-use Rattle.guard_tagging.proofs.ItemLoops.{numbering_stops, next_numbered, all_numbered}
+use Rattle.guard_tagging.proofs.Numbers.Items.{numbering_stops, next_numbered, all_numbered}
 use Rattle.guard_tagging.proofs.numbering.numbered.Goals as goal
 
 pub returns-in_err-item : goal.returns-in_err-item

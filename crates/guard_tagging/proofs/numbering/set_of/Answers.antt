@@ -2,7 +2,7 @@ use Rattle.std.proofs.Common.{rules, get_or, pos}
 use Rattle.std.specs.Int.{w128}
 use Rattle.std.proofs.lemmas.Int.{to_z-of_z}
 use Rattle.std.specs.Prelude.{FitsSigned}
-use Rattle.guard_tagging.proofs.ItemLoops.{taken_more}
+use Rattle.guard_tagging.proofs.Numbers.Items.{taken_more}
 use Rattle.guard_tagging.proofs.numbering.set_of.Goals as goal
 
 pub loop-number-preserved : goal.loop-number-preserved

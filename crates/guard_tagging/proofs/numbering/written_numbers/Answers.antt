@@ -3,7 +3,7 @@ use Rattle.std.proofs.lemmas.Result.{err_from_is_err_and}
 use Rattle.guard_syntax.specs.TypeViews.{item_view}
 use Rattle.guard_tagging.specs.Named.{named}
 use Rattle.guard_tagging.specs.inside.ReadItems.{read_written}
-use Rattle.guard_tagging.proofs.ItemLoops.{written_stops, next_written, all_written}
+use Rattle.guard_tagging.proofs.Numbers.Items.{written_stops, next_written, all_written}
 use Rattle.guard_tagging.proofs.numbering.written_numbers.Goals as goal
 
 pub returns-in_err-own : goal.returns-in_err-own

@@ -4,7 +4,7 @@ use Rattle.std.proofs.lemmas.Result.{err_from_is_err_and}
 use Rattle.guard_syntax.specs.TypeViews.{tag_view}
 use Rattle.guard_tagging.specs.Named.{named}
 use Rattle.guard_tagging.specs.inside.ReadTags.{in_front, read_tags, unless_replaced}
-use Rattle.guard_tagging.proofs.TagLoops.{tag_stops, next_tag, no_tag}
+use Rattle.guard_tagging.proofs.TagLists.OneByOne.{tag_stops, next_tag, no_tag}
 use Rattle.guard_tagging.proofs.tags.with_written.Goals as goal
 use Rattle.guard_tagging.proofs.tags.with_written.Goals.{then-not-replaced+in_ok-push, else-not-replaced}
 

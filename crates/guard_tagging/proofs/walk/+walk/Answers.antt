@@ -7,7 +7,7 @@ use Rattle.guard_tagging.specs.Named.{named}
 use Rattle.guard_tagging.specs.inside.PartViews.{parts_view}
 use Rattle.guard_tagging.specs.inside.ReadTypes.{read_list, read_choice}
 use Rattle.guard_tagging.specs.ScopeView.{scope_view}
-use Rattle.guard_tagging.proofs.WalkLoops.{component_stops, next_component, no_component, component_known, alternative_stops, next_alternative, no_alternative, alternative_known}
+use Rattle.guard_tagging.proofs.Lists.OneByOne.{component_stops, next_component, no_component, component_known, alternative_stops, next_alternative, no_alternative, alternative_known}
 use Rattle.guard_tagging.proofs.walk.+walk.Goals as goal
 
 pub components-entry-requires : goal.components-entry-requires

@@ -1,6 +1,6 @@
 use Rattle.std.proofs.Common.{sym, ◌∙◌, ap, option_map}
 use Rattle.guard_names.proofs.LookedUp.{read}
-use Rattle.guard_tagging.proofs.Scopes.{no_type, no_flag, type_and_flag}
+use Rattle.guard_tagging.proofs.Definitions.AtPlaces.{no_type, no_flag, type_and_flag}
 use Rattle.guard_tagging.proofs.scope.Done.at.Goals as goal
 
 pub returns-in_err-ty : goal.returns-in_err-ty

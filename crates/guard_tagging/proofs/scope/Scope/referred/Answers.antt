@@ -1,7 +1,7 @@
 use Rattle.std.proofs.Common.{None, Some, sym, ◌∙◌, ap, option_map}
 use Rattle.guard_names.specs.NamesView.{modules_of, order_of}
 use Rattle.guard_tagging.specs.ScopeView.{meaning_view, done_view}
-use Rattle.guard_tagging.proofs.Scopes.{known_placed}
+use Rattle.guard_tagging.proofs.Definitions.AtPlaces.{known_placed}
 use Rattle.guard_tagging.proofs.scope.Scope.referred.Goals as goal
 
 pub returns-in_err-place : goal.returns-in_err-place

@@ -25,7 +25,7 @@ use Rattle.guard_tagging.specs.Tagged.{KeepLimits}
 use Rattle.guard_tagging.specs.Tagging.{is_explicit, is_untagged_choice, tag_of, put_tag, with_tags, with_automatic_tags}
 use Rattle.guard_tagging.specs.Types as types
 use Rattle.guard_tagging.specs.Types.{Surroundings, Meaning, meant, denoted, denoted_base, denoted_components, denoted_alternatives, plain_number, plain_kind, universal, structure_kind, of_kind, is_automatic_list, is_automatic_choice, tagged_where, parts_of, join}
-use Rattle.guard_tagging.proofs.TaggedParts.{tagged_count}
+use Rattle.guard_tagging.proofs.Lists.AutomaticTags.{tagged_count}
 
 -- ---- several faults, none of which is there
 

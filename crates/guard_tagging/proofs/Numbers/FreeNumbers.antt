@@ -7,7 +7,7 @@ use Rattle.std.proofs.lemmas.Bool.Decides.{Decides-int_eq}
 use Rattle.guard_syntax.specs.Trees.{WrittenItem, WrittenNumber}
 use Rattle.guard_tagging.specs.Enumerations.{written_number, written_numbers, free_from, given_number, next_number, numbered_from, numbered, is_among, HasNumber, AreNumbered}
 use Rattle.guard_tagging.specs.Numbers.{number_of}
-use Rattle.guard_tagging.proofs.ItemLoops.{free_now, free_next}
+use Rattle.guard_tagging.proofs.Numbers.Items.{free_now, free_next}
 
 -- ---- how many of some numbers are as great as this one or greater
 

@@ -21,11 +21,11 @@ use Rattle.guard_tagging.specs.inside.ReadTypes.{read_type, read_base, read_comp
 use Rattle.guard_tagging.specs.Spelled.{IsSpelled, IsSpelledInside, AreSpelled, AreSpelledOthers}
 use Rattle.guard_tagging.specs.Tagged.{KeepLimits}
 use Rattle.guard_tagging.specs.Types.{Surroundings, Meaning, meant, denoted, denoted_alternatives, presence_of, plain_kind, is_automatic, is_automatic_list, is_automatic_choice}
-use Rattle.guard_tagging.proofs.NodeKinds.{node_at, counted, made_of, plain_is, integer_is, bits_is, enumerated_is, of_is, referred_is}
-use Rattle.guard_tagging.proofs.Wholes.{then_unless}
-use Rattle.guard_tagging.proofs.WrittenNumbers.{text_is}
-use Rattle.guard_tagging.proofs.WrittenLists.{alternative_sites, kept_sites, kept_components, refused_in, with_more, with_none, one_more, taken_is, counted_is, not_itself}
-use Rattle.guard_tagging.proofs.ListKinds.{structure_is, choice_is}
+use Rattle.guard_tagging.proofs.Types.WithoutParts.{node_at, counted, made_of, plain_is, integer_is, bits_is, enumerated_is, of_is, referred_is}
+use Rattle.guard_tagging.proofs.Types.OwnFaults.{then_unless}
+use Rattle.guard_tagging.proofs.Numbers.WrittenNumbers.{text_is}
+use Rattle.guard_tagging.proofs.Lists.WrittenParts.{alternative_sites, kept_sites, kept_components, refused_in, with_more, with_none, one_more, taken_is, counted_is, not_itself}
+use Rattle.guard_tagging.proofs.Lists.WithParts.{structure_is, choice_is}
 
 -- what is read of a type of this form
 abbrev pub read_as : Surroundings → Bool → Option Tag → ℕ → WrittenType → Result Made TagFault

@@ -12,7 +12,7 @@ use Rattle.guard_tagging.specs.Faults.{nodes, nodes_of_components}
 use Rattle.guard_tagging.specs.inside.ReadParts.{place_tag, listed}
 use Rattle.guard_tagging.specs.Tagging.{is_untagged_choice, put_tag, automatic_tag, with_automatic_tag, with_automatic_tags}
 use Rattle.guard_tagging.specs.Types.{tagged_where, join}
-use Rattle.guard_tagging.proofs.WrittenTags.{with_automatic}
+use Rattle.guard_tagging.proofs.TagLists.WrittenTags.{with_automatic}
 
 -- the components from a place on, with their automatic tags as they are read
 abbrev pub tagged_from : Bool → ℕ → Components → Components

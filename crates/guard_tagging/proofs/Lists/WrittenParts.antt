@@ -25,10 +25,10 @@ use Rattle.guard_tagging.specs.inside.ReadNodes.{Made}
 use Rattle.guard_tagging.specs.inside.ReadParts.{PartList, none_refused, no_parts, place_tag, next_tag, named_component, with_component, listed, with_list, site_where, refused_at, is_refused, or_refused, with_refused, taken_in, list_result, check_list}
 use Rattle.guard_tagging.specs.inside.ReadTypes.{read_components}
 use Rattle.guard_tagging.specs.Types.{Surroundings, denoted, denoted_components, denoted_alternatives, presence_of, is_automatic, parts_of, join}
-use Rattle.guard_tagging.proofs.NodeKinds.{counted, made_of}
-use Rattle.guard_tagging.proofs.Wholes.{or_assoc, or_nothing}
-use Rattle.guard_tagging.proofs.WrittenTags.{with_automatic}
-use Rattle.guard_tagging.proofs.TaggedParts.{tagged_from, listed_count, listed_join, deepest_join, nodes_join, tagged_not}
+use Rattle.guard_tagging.proofs.Types.WithoutParts.{counted, made_of}
+use Rattle.guard_tagging.proofs.Types.OwnFaults.{or_assoc, or_nothing}
+use Rattle.guard_tagging.proofs.TagLists.WrittenTags.{with_automatic}
+use Rattle.guard_tagging.proofs.Lists.AutomaticTags.{tagged_from, listed_count, listed_join, deepest_join, nodes_join, tagged_not}
 
 -- ---- where components stand
 

@@ -1,4 +1,4 @@
-use Rattle.std.proofs.Common.{◌≡◌, ◌+◌, ◌≤◌, ℕ, List, Option, None, true, IfSome, length, map, slice_get, Some, Ok, sym, ap, subst, ◌∙◌}
+use Rattle.std.proofs.Common.{◌≡◌, ◌↔◌, ◌+◌, ◌≤◌, ℕ, Bool, List, Option, None, true, IfSome, length, map, slice_get, Some, Ok, refl, sym, ap, subst, ◌∙◌}
 use Rattle.std.proofs.lemmas.List.{length-map}
 use Rattle.std.proofs.lemmas.Result.{err_from_is_err_and}
 use Rattle.guard_model.specs.AbstractType.{AbstractType}
@@ -15,6 +15,7 @@ use Rattle.guard_names.specs.NamesView.{modules_of, order_of}
 use Rattle.guard_names.proofs.Placing.{listed_there, order_below}
 use Rattle.guard_names.proofs.Refusals.{none_is}
 use Rattle.guard_tagcheck.specs.Limits.{is_within_limits}
+use Rattle.guard_tagging.specs.Automatic.{Automatic}
 use Rattle.guard_tagging.specs.declared.fault.TagFault.{TagFault}
 use Rattle.guard_tagging.specs.declared.made.Made.{Made}
 use Rattle.guard_tagging.specs.Faults.{nodes, most_nodes}
@@ -22,17 +23,19 @@ use Rattle.guard_tagging.specs.inside.KnownNames.{IsKnown}
 use Rattle.guard_tagging.specs.Named.{named}
 use Rattle.guard_tagging.specs.inside.NodeViews.{made_view}
 use Rattle.guard_tagging.specs.inside.ReadTypes.{read_type}
-use Rattle.guard_tagging.specs.ScopeView.{scope_view}
-use Rattle.guard_tagging.specs.Skeletons.{surroundings_of, IsTypeOf, IsFaultOf}
+use Rattle.guard_tagging.specs.ScopeView.{scope_view, done_view}
+use Rattle.guard_tagging.specs.Skeletons.{AreSurroundings, IsTypeOf, IsFaultOf}
 use Rattle.guard_tagging.specs.Spelled.{IsSpelled}
-use Rattle.guard_tagging.specs.Surroundings.{surroundings}
+use Rattle.guard_tagging.specs.Surroundings.{surroundings, is_automatic_definition}
 use Rattle.guard_tagging.specs.Tagged.{KeepLimits}
-use Rattle.guard_tagging.specs.Types.{Surroundings}
-use Rattle.guard_tagging.proofs.Builds.{no_such, known_kept}
-use Rattle.guard_tagging.proofs.KnownNames.{known_in_type}
-use Rattle.guard_tagging.proofs.Skeletons.{all_spelled, all_kept, tagged_so, counted_so, few_so, within_so, refused_so}
-use Rattle.guard_tagging.proofs.definition.skeleton_behind.Goals as goal
-use Rattle.guard_tagging.proofs.definition.skeleton_behind.Goals.{After-deref}
+use Rattle.guard_tagging.specs.Types.{Meaning, Surroundings}
+use Rattle.guard_tagging.proofs.Builds.{no_such}
+use Rattle.guard_tagging.proofs.Definitions.AtPlaces.{known_kept}
+use Rattle.guard_tagging.proofs.Definitions.AutomaticLists.{definition_right}
+use Rattle.guard_tagging.proofs.Definitions.KnownNames.{known_in_type}
+use Rattle.guard_tagging.proofs.Definitions.OneDefinition.{all_spelled, all_kept, tagged_so, counted_so, few_so, within_so, refused_so}
+use Rattle.guard_tagging.proofs.definition.skeleton_after.Goals as goal
+use Rattle.guard_tagging.proofs.definition.skeleton_after.Goals.{After-deref}
 
 pub unreachable-requires : goal.unreachable-requires
 unreachable-requires c =
@@ -65,8 +68,14 @@ module _ (c : After-deref) where
   is : Some d ≡ slice_get (definitions ms) c.args.id
   is = c.in-Some.ensures
 
-  same : around ≡ surroundings_of ms order types d
-  same = c.scope_in-scope.ensures ∙ ap (λ known. surroundings ms order known d.home) c.requires.known
+  abbrev known : List Meaning
+  known = done_view c.args.done.now
+
+  same : around ≡ surroundings ms order known d.home
+  same = c.scope_in-scope.ensures
+
+  are : AreSurroundings ms order types d around
+  are = (known, c.requires.known, same)
 
   spelled : IsSpelled d.assignment.ty
   spelled = all_spelled ms c.requires.spelled c.args.id d (sym is)
@@ -77,32 +86,45 @@ module _ (c : After-deref) where
   tree : c.deref.result.now ≡ c.in-Some.assignment.now.ty.value
   tree = cc (c.deref.ensures)
 
-  -- the names in its type
-  known : IsKnown around (written.type_view c.deref.result.now)
-  known =
+  next : slice_get order (length types) ≡ Some c.args.id
+  next =
       let many : length types ≡ length c.args.done.now.types.now = length-map c.args.done.now.types.now type_view in
-      let next : slice_get order (length types) ≡ Some c.args.id = ap (slice_get order) many ∙ c.requires.next in
-      let here = known_in_type ms (none_is (fault_of_names ms) c.args.names.now.faultless) order c.args.names.now.ordered types c.args.id next d (sym is) in
+      ap (slice_get order) many ∙ c.requires.next
+
+  no_fault : fault_of_names ms ≡ None
+  no_fault = none_is (fault_of_names ms) c.args.names.now.faultless
+
+  -- the names in its type
+  names_known : IsKnown around (written.type_view c.deref.result.now)
+  names_known =
+      let here = known_in_type ms no_fault order c.args.names.now.ordered types known c.requires.known c.args.id next d (sym is) in
       subst (λ (t : TypeTree). IsKnown around (written.type_view t)) (sym tree) (subst (λ (a : Surroundings). IsKnown a d.assignment.ty) (sym same) here)
+
+  -- whether it is a list that is tagged automatically
+  automatic : (flag : Bool) → flag ≡ is_automatic_definition ms order known (slice_get (definitions ms) c.args.id)
+      → (flag ≡ true) ↔ Automatic ms c.args.id
+  automatic flag found =
+      subst (λ (f : Bool). (f ≡ true) ↔ Automatic ms c.args.id) (sym found)
+      (definition_right ms no_fault order c.args.names.now.ordered types known c.requires.known c.args.id next (slice_get (definitions ms) c.args.id) refl)
 
   -- the fault that the walk met
   refusal : (f : Option TagFault) → Refuses f (read_type around true None before (written.type_view c.deref.result.now)) → IfSome f (IsFaultOf ms order types c.args.id)
   refusal f met =
-      refused_so ms order types c.args.id d is around same before c.requires.counted spelled kept f (subst (λ (t : TypeTree). Refuses f (read_type around true None before (written.type_view t))) tree met)
+      refused_so ms order types c.args.id d is around are before c.requires.counted spelled kept f (subst (λ (t : TypeTree). Refuses f (read_type around true None before (written.type_view t))) tree met)
 
   -- the type that it made
   answer : (m : Made) → read_type around true None before (written.type_view c.deref.result.now) ≡ Ok (made_view m)
       → IsTypeOf ms order types c.args.id (type_view m.ty) × (is_within_limits (type_view m.ty) ≡ true) × (m.nodes ≡ before + nodes (type_view m.ty)) × (m.nodes ≤ most_nodes)
   answer m read =
       let made : read_type around true None before d.assignment.ty ≡ Ok (made_view m) = ap (λ (t : TypeTree). read_type around true None before (written.type_view t)) (sym tree) ∙ read in (
-        tagged_so ms order types c.args.id d is around same before c.requires.counted spelled kept (made_view m) made,
-        within_so ms order types c.args.id d is around same before c.requires.counted spelled kept (made_view m) made,
-        counted_so ms order types c.args.id d is around same before c.requires.counted spelled kept (made_view m) made,
-        few_so ms order types c.args.id d is around same before c.requires.counted spelled kept (made_view m) made,
+        tagged_so ms order types c.args.id d is around are before c.requires.counted spelled kept (made_view m) made,
+        within_so ms order types c.args.id d is around are before c.requires.counted spelled kept (made_view m) made,
+        counted_so ms order types c.args.id d is around are before c.requires.counted spelled kept (made_view m) made,
+        few_so ms order types c.args.id d is around are before c.requires.counted spelled kept (made_view m) made,
       )
 
 pub type_of-requires : goal.type_of-requires
-type_of-requires c = record { known = known (goal.at.type_of-requires c).After-deref }
+type_of-requires c = record { known = names_known (goal.at.type_of-requires c).After-deref }
 
 pub returns-in_err-made-clause-refused : goal.returns-in_err-made-clause-refused
 returns-in_err-made-clause-refused c =
@@ -123,3 +145,7 @@ returns-clause-counted c = (answer (goal.at.returns-clause-counted c).After-dere
 
 pub returns-clause-few : goal.returns-clause-few
 returns-clause-few c = (answer (goal.at.returns-clause-few c).After-deref c.into_inner-ty.result (read_so c)).3
+
+pub returns-clause-known : goal.returns-clause-known
+returns-clause-known c =
+    automatic (goal.at.returns-clause-known c).After-deref c.is_automatic_definition-is_automatic.result c.is_automatic_definition-is_automatic.ensures

@@ -11,10 +11,10 @@ use Rattle.guard_tagging.specs.inside.ReadTypes.{read_type}
 use Rattle.guard_tagging.specs.Spelled.{IsSpelled}
 use Rattle.guard_tagging.specs.Tagged.{IsTagged, IsFirstFault, KeepLimits}
 use Rattle.guard_tagging.specs.Types.{Surroundings, denoted}
-use Rattle.guard_tagging.proofs.KeptLimits as limits
-use Rattle.guard_tagging.proofs.NodeKinds.{made_of}
-use Rattle.guard_tagging.proofs.WrittenLists.{counted_is}
-use Rattle.guard_tagging.proofs.WrittenTypes.{type_is}
+use Rattle.guard_tagging.proofs.Types.WithinLimits as limits
+use Rattle.guard_tagging.proofs.Types.WithoutParts.{made_of}
+use Rattle.guard_tagging.proofs.Lists.WrittenParts.{counted_is}
+use Rattle.guard_tagging.proofs.Types.WrittenTypes.{type_is}
 
 module _ (around : Surroundings) (kept : KeepLimits around) (before : ℕ) (t : WrittenType) (spelled : IsSpelled t) where
   abbrev made : Made

@@ -23,10 +23,10 @@ use Rattle.guard_tagging.specs.inside.ReadBases as make
 use Rattle.guard_tagging.specs.inside.ReadNodes.{Node, Whole, Made, one_where, tags_of, made_from, made_with}
 use Rattle.guard_tagging.specs.inside.ReadParts.{none_refused, no_parts, listed, check_list}
 use Rattle.guard_tagging.specs.Types.{Surroundings, denoted, denoted_components, denoted_alternatives, universal, collection_number, structure_kind, is_automatic_list, is_automatic_choice, tagged_where}
-use Rattle.guard_tagging.proofs.Wholes.{all_tags, node_fault, whole_made, node_made}
-use Rattle.guard_tagging.proofs.NodeKinds.{node_at, counted, made_of, node_is, deep_capped, same_steps}
-use Rattle.guard_tagging.proofs.TaggedParts.{tagged_from, listed_forth, tagged_is, tagged_nodes}
-use Rattle.guard_tagging.proofs.WrittenLists.{alternative_sites, alternative_places_are, kept_sites, kept_components, refused_in, nothing_refused, with_more, components_checked, alternatives_checked}
+use Rattle.guard_tagging.proofs.Types.OwnFaults.{all_tags, node_fault, whole_made, node_made}
+use Rattle.guard_tagging.proofs.Types.WithoutParts.{node_at, counted, made_of, node_is, deep_capped, same_steps}
+use Rattle.guard_tagging.proofs.Lists.AutomaticTags.{tagged_from, listed_forth, tagged_is, tagged_nodes}
+use Rattle.guard_tagging.proofs.Lists.WrittenParts.{alternative_sites, alternative_places_are, kept_sites, kept_components, refused_in, nothing_refused, with_more, components_checked, alternatives_checked}
 
 -- ---- where a list is refused, what follows doesn't matter
 

@@ -1,7 +1,7 @@
 -- The names of types in a definition mean definitions that stand before it in the order, so that they are known when it is built.
-use Rattle.std.proofs.Common.{◌≡◌, ℕ, zero, suc, ◌+◌, ◌<◌, ◌≤◌, Bool, true, false, cond, not, ◌&&◌, List, [], ◌∷◌, ◌++◌, length, map, take, Option, Some, None, option_map, is_some, slice_get, Contains, refl, sym, subst, arith, append_assoc}
+use Rattle.std.proofs.Common.{◌≡◌, ℕ, zero, suc, ◌<◌, ◌≤◌, Bool, true, false, cond, not, ◌&&◌, List, [], ◌∷◌, ◌++◌, length, map, take, Option, Some, None, option_map, is_some, slice_get, Contains, refl, sym, subst, arith, append_assoc}
 use Rattle.std.specs.Option.{option_or, option_and_then}
-use Rattle.std.proofs.lemmas.List.{append-nil, length-append}
+use Rattle.std.proofs.lemmas.List.{append-nil}
 use Rattle.std.proofs.lemmas.Option.{same_Some, slice_get_within}
 use Rattle.guard_model.specs.AbstractType.{AbstractType}
 use Rattle.std.specs.List.{flat_map}
@@ -15,10 +15,11 @@ use Rattle.guard_names.specs.Order.{is_listed, Follow, IsOrder}
 use Rattle.guard_names.specs.Places.{place_in}
 use Rattle.guard_names.proofs.Places.{placed_before}
 use Rattle.guard_names.proofs.SameUses.{are_means}
-use Rattle.guard_tagging.specs.Surroundings.{meaning_at, known_behind, known_from}
-use Rattle.guard_tagging.specs.Skeletons.{surroundings_of}
+use Rattle.guard_tagging.specs.Skeletons.{AreMeanings}
+use Rattle.guard_tagging.specs.Surroundings.{surroundings}
 use Rattle.guard_tagging.specs.Types.{Surroundings, Meaning}
 use Rattle.guard_tagging.specs.inside.KnownNames.{IsKnown, IsKnownInside, AreKnown, AreKnownOthers}
+use Rattle.guard_tagging.proofs.Definitions.Meanings.{as_many}
 
 -- ---- a name of a type that means nothing would be a fault of names
 
@@ -138,42 +139,34 @@ known_listed order known place number l h =
     let p = placed_before order place number h in
     subst (λ (o : Option ℕ). is_some (option_and_then (slice_get known) o) ≡ true) (sym p.1) (there_is known p.0 (omega (arith, p.2, l)))
 
--- ---- as much is known as is built
-
-module _ (ms : List WrittenModule) (order : List ℕ) where
-  as_many_behind : (known : List Meaning) (rest : List ℕ) (types : List AbstractType) → length types ≤ length rest → length (known_behind ms order known rest types) ≡ length known + length types
-  as_many_behind known [] [] l = omega arith
-  as_many_behind known [] (t ∷ types) l = absurd (omega (arith, l))
-  as_many_behind known (n ∷ rest) [] l = omega arith
-  as_many_behind known (n ∷ rest) (t ∷ types) l =
-      let more = as_many_behind (known ++ meaning_at ms order known n t ∷ []) rest types (omega (arith, l)) in omega (arith, more, length-append known (meaning_at ms order known n t ∷ []))
-
-  known_as_many : (types : List AbstractType) → length types ≤ length order → length (known_from ms order types) ≡ length types
-  known_as_many types l = let e = as_many_behind [] order types l in omega (arith, e)
-
 -- ---- so each name of a type is known
 
-module _ (ms : List WrittenModule) (none : fault_of_names ms ≡ None) (order : List ℕ) (ordered : IsOrder (length (definitions ms)) (Uses ms) order) (types : List AbstractType) (id : ℕ)
-    (next : slice_get order (length types) ≡ Some id) (d : Definition) (is : slice_get (definitions ms) id ≡ Some d) where
+module _ (ms : List WrittenModule) (none : fault_of_names ms ≡ None) (order : List ℕ) (ordered : IsOrder (length (definitions ms)) (Uses ms) order)
+    (types : List AbstractType) (known : List Meaning) (are : AreMeanings ms order types known)
+    (id : ℕ) (next : slice_get order (length types) ≡ Some id) (d : Definition) (is : slice_get (definitions ms) id ≡ Some d) where
+  abbrev around : Surroundings
+  around = surroundings ms order known d.home
+
   abbrev by_name : Numbers
   by_name = definition_of (origin_there (declarations ms))
 
-  known : (number : ℕ) → Uses ms id number → is_some (option_and_then (slice_get (known_from ms order types)) (place_in order number)) ≡ true
-  known number u =
+  used_known : (number : ℕ) → Uses ms id number → is_some (option_and_then (slice_get known) (place_in order number)) ≡ true
+  used_known number u =
       let within = slice_get_within order (length types) id next in
-      let many = known_as_many ms order types (omega (arith, within)) in
-      known_listed order (known_from ms order types) (length types) number (omega (arith, many)) (listed_before (length (definitions ms)) (Uses ms) [] order ordered.follow (length types) id number next u)
+      let many = as_many ms order types known are (omega (arith, within)) in
+      known_listed order known (length types) number (omega (arith, many))
+      (listed_before (length (definitions ms)) (Uses ms) [] order ordered.follow (length types) id number next u)
 
-  meant : (x : Mention) → Contains (mentions d.assignment) x → is_type x.kind ≡ true → is_some ((surroundings_of ms order types d).meaning x.name) ≡ true
+  meant : (x : Mention) → Contains (mentions d.assignment) x → is_type x.kind ≡ true → is_some (around.meaning x.name) ≡ true
   meant x here kind =
       let n = have_numbers by_name d.home.name (mentions d.assignment) (all_defined by_name (origin_there (declarations ms)) ms (undefined_none ms none) id d is) x here kind in
-      subst (λ (o : Option ℕ). is_some (option_and_then (slice_get (known_from ms order types)) (option_and_then (place_in order) o)) ≡ true) (sym n.1) (known n.0 (d, is, x, here, are_means ms none d.home.name x.name n.0 n.1))
+      subst (λ (o : Option ℕ). is_some (option_and_then (slice_get known) (option_and_then (place_in order) o)) ≡ true) (sym n.1)
+      (used_known n.0 (d, is, x, here, are_means ms none d.home.name x.name n.0 n.1))
 
-  all_meant : (xs : List Mention) → ((x : Mention) → Contains xs x → is_type x.kind ≡ true → is_some ((surroundings_of ms order types d).meaning x.name) ≡ true) → AreMeant (surroundings_of ms order types d) xs
+  all_meant : (xs : List Mention) → ((x : Mention) → Contains xs x → is_type x.kind ≡ true → is_some (around.meaning x.name) ≡ true) → AreMeant around xs
   all_meant [] h = tt
   all_meant (x ∷ xs) h = (h x (zero, omega arith, refl), all_meant xs (λ y c. h y (suc c.0, omega (arith, c.1), c.2)))
 
-  pub known_in_type : IsKnown (surroundings_of ms order types d) d.assignment.ty
+  pub known_in_type : IsKnown around d.assignment.ty
   known_in_type =
-      type_known (surroundings_of ms order types d) d.assignment.ty
-      (first_meant (surroundings_of ms order types d) (in_type d.assignment.ty) (in_perhaps_value d.assignment.value) (all_meant (mentions d.assignment) meant))
+      type_known around d.assignment.ty (first_meant around (in_type d.assignment.ty) (in_perhaps_value d.assignment.value) (all_meant (mentions d.assignment) meant))

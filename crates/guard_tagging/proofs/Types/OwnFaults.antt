@@ -13,7 +13,7 @@ use Rattle.guard_tagging.specs.Named.{unless, allowed}
 use Rattle.guard_tagging.specs.inside.ReadNodes.{Node, Whole, Made, tags_of, one_where, nodes_with, whole_with}
 use Rattle.guard_tagging.specs.inside.ReadTags.{in_front, read_tags}
 use Rattle.guard_tagging.specs.Tagging.{is_untagged_choice}
-use Rattle.guard_tagging.proofs.WrittenTags.{put_all, put_automatic, front_is, tags_read, implicit_is}
+use Rattle.guard_tagging.proofs.TagLists.WrittenTags.{put_all, put_automatic, front_is, tags_read, implicit_is}
 
 -- ---- one step after the other
 

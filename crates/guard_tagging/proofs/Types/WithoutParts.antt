@@ -28,9 +28,9 @@ use Rattle.guard_tagging.specs.inside.ReadNodes.{Node, Whole, Made, one_where, t
 use Rattle.guard_tagging.specs.Spelled.{AreNamed, AreItems}
 use Rattle.guard_tagging.specs.Tagging.{is_untagged_choice, with_tags}
 use Rattle.guard_tagging.specs.Types.{Surroundings, denoted, denoted_base, universal, plain_number, plain_kind, collection_number, of_kind}
-use Rattle.guard_tagging.proofs.WrittenNumbers.{named_places_are, item_places_are, named_read, bits_read, items_are}
-use Rattle.guard_tagging.proofs.WrittenTags.{put_all, put_automatic, with_automatic, with_automatic_is, nesting_there, all_tagged, with_tags_is}
-use Rattle.guard_tagging.proofs.Wholes.{node_fault, whole_made, node_made, whole_then}
+use Rattle.guard_tagging.proofs.Numbers.WrittenNumbers.{named_places_are, item_places_are, named_read, bits_read, items_are}
+use Rattle.guard_tagging.proofs.TagLists.WrittenTags.{put_all, put_automatic, with_automatic, with_automatic_is, nesting_there, all_tagged, with_tags_is}
+use Rattle.guard_tagging.proofs.Types.OwnFaults.{node_fault, whole_made, node_made, whole_then}
 
 abbrev pub node_at : Surroundings → Site → List WrittenTag → Bool → Option Tag → Node
 node_at around site tags counts own = record { site = site; tags = tags; tag_default = around.tag_default; counts = counts; automatic = own }

@@ -9,7 +9,8 @@ use Rattle.guard_tagging.specs.Surroundings.{surroundings, known_from, nodes_of_
 use Rattle.guard_tagging.specs.Tagged.{IsTagged, IsFirstFault}
 use Rattle.guard_tagging.specs.Types.{Meaning, Surroundings}
 
--- what is known of the definition of this number: that it has this type, and whether it is a list that is tagged automatically
+-- what is known of the definition of this number: that it has this type, and whether it is a list that is tagged
+-- automatically
 abbrev pub IsMeaning : List WrittenModule → ℕ → AbstractType → Meaning → Type 0
 IsMeaning ms number t m = (m.ty ≡ t) × ((m.is_automatic ≡ true) ↔ Automatic ms number)
 
@@ -20,7 +21,8 @@ AreMeanings ms (number ∷ order) [] known = known ≡ []
 AreMeanings ms (number ∷ order) (t ∷ types) [] = ⊥
 AreMeanings ms (number ∷ order) (t ∷ types) (m ∷ known) = IsMeaning ms number t m × AreMeanings ms order types known
 
--- under this the type of a definition is written: the tag default of its module, and what is known of what names mean there
+-- under this the type of a definition is written: the tag default of its module, and what is known of what names mean
+-- there
 abbrev pub AreSurroundings : List WrittenModule → List ℕ → List AbstractType → Definition → Surroundings → Type 0
 AreSurroundings ms order types d around =
     (known : List Meaning) × AreMeanings ms order types known × (around ≡ surroundings ms order known d.home)
@@ -29,14 +31,16 @@ AreSurroundings ms order types d around =
 abbrev pub IsTypeOf : List WrittenModule → List ℕ → List AbstractType → ℕ → AbstractType → Type 0
 IsTypeOf ms order types id t =
     (d : Definition) × (slice_get (definitions ms) id ≡ Some d)
-    × (around : Surroundings) × AreSurroundings ms order types d around × IsTagged around (nodes_of_all types) d.assignment.ty t
+    × (around : Surroundings) × AreSurroundings ms order types d around
+    × IsTagged around (nodes_of_all types) d.assignment.ty t
 
 -- The written type of the definition of this number has this fault first.
 abbrev pub IsFaultOf : List WrittenModule → List ℕ → List AbstractType → ℕ → TagFault → Type 0
 IsFaultOf ms order types id fault =
     (d : Definition) × (slice_get (definitions ms) id ≡ Some d)
-    × (around : Surroundings) × AreSurroundings ms order types d around × IsFirstFault around (nodes_of_all types) d.assignment.ty fault
+    × (around : Surroundings) × AreSurroundings ms order types d around
+    × IsFirstFault around (nodes_of_all types) d.assignment.ty fault
 
--- the same surroundings as a function, where the definitions are gone through in their order
+-- the same surroundings as a function, by going through the definitions in their order
 abbrev pub surroundings_of : List WrittenModule → List ℕ → List AbstractType → Definition → Surroundings
 surroundings_of ms order types d = surroundings ms order (known_from ms order types) d.home

@@ -29,15 +29,16 @@ use std::alloc::{AllocError, Global};
 #[derive(Drop)]
 pub struct TaggedType {
     pub ty: Ty,
-    /// Whether it is a list of components or alternatives that was tagged automatically.
+    /// Whether it is a list of components or alternatives that is tagged automatically.
     pub is_automatic: bool,
     /// How many types it and the definitions before it are made of.
     pub nodes: usize,
 }
 
-/// The type of a definition with its tags, its parts and their numbering, or the first fault of its written type; of a value the type that
-/// governs it. `done` are the types of the definitions before it in the order of definitions. A new type has no constraints yet, and what is a
-/// default is pending; a type that is referred to keeps what it has. OutOfMemory may stand in place of any answer.
+/// The type of a definition with its tags, its parts and their numbering, or the first fault of its written type; of a
+/// value the type that governs it. `done` are the types of the definitions before it in the order of definitions. A new
+/// type has no constraints yet, and what is a default is pending; a type that is referred to keeps what it has. The
+/// answer may be OutOfMemory in place of any other.
 pub fn skeleton(alloc: Global, names: &Names, done: &[Ty], id: Id) -> Result<Ty, TagFault>
     requires next { slice_get (order_of names.now) (length done.now) ≡ Some id }
     requires few { nodes_of_all (map type_view done.now) ≤ faults.most_nodes }
@@ -59,7 +60,8 @@ pub fn skeleton(alloc: Global, names: &Names, done: &[Ty], id: Id) -> Result<Ty,
     Ok(ty)
 }
 
-/// The same, where what a build keeps of the definitions before it is handed in, so that it isn't looked for again for each definition.
+/// The same, where what a build keeps of the definitions before it is handed in, so that it isn't looked for again for
+/// each definition.
 pub fn skeleton_after(
     alloc: Global,
     names: &Names,
@@ -75,7 +77,8 @@ pub fn skeleton_after(
     ensures tagged { IfOk result (λ s. IsTypeOf (modules_of names.now) (order_of names.now) (map type_view done.now.types.now) id (type_view s.ty)) }
     ensures refused { IfErr result (λ f. IfSome (named f) (IsFaultOf (modules_of names.now) (order_of names.now) (map type_view done.now.types.now) id)) }
     ensures limits { IfOk result (λ s. IsTrue (is_within_limits (type_view s.ty))) }
-    // What is kept for the next one: how many types there are with it, and whether it is a list that is tagged automatically.
+    // What is kept for the next one: how many types there are with it, and whether it is a list that is tagged
+    // automatically.
     ensures counted { IfOk result (λ s. s.nodes ≡ done.now.nodes + faults.nodes (type_view s.ty)) }
     ensures few { IfOk result (λ s. s.nodes ≤ faults.most_nodes) }
     ensures known { IfOk result (λ s. (s.is_automatic ≡ true) ↔ Automatic (modules_of names.now) id) }
@@ -94,7 +97,7 @@ pub fn skeleton_after(
     })
 }
 
-/// What is written in a module stands in this scope.
+/// The scope of what is written in a module.
 fn scope_in<'s, 'm, 'a, 'd>(
     names: &'s Names<'m, 'a>,
     home: &Module<'a>,
@@ -110,7 +113,7 @@ fn scope_in<'s, 'm, 'a, 'd>(
     }
 }
 
-/// Which of the definitions are lists that were tagged automatically, in their order; of as many as there are types.
+/// Which of the definitions are lists that are tagged automatically, in their order; of as many as there are types.
 fn automatic_lists(alloc: Global, names: &Names, types: &[Ty]) -> Result<Vec<bool>, AllocError>
     requires { length types.now ≤ length (order_of names.now) }
     ensures { IfOk result (λ v. AreMeanings (modules_of names.now) (order_of names.now) (map type_view types.now) (known_list (map type_view types.now) v.items)) }

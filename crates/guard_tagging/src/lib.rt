@@ -9,7 +9,7 @@
 //! | Which lists are tagged automatically? | `automatic.rt` | `specs/Types.antt`; of definitions `specs/Automatic.antt` |
 //! | What may COMPONENTS OF take in? | `taken.rt` | `specs/Faults.antt`, `specs/inside/ReadParts.antt` |
 //! | Which numbers do items and named numbers have? | `numbering.rt`, `number.rt` | `specs/Enumerations.antt`, `specs/Numbers.antt`, `specs/inside/ReadItems.antt` |
-//! | Which names and numbers stand twice? | `names.rt` | `specs/Faults.antt`, `specs/inside/ReadNames.antt` |
+//! | Which names and numbers are there twice? | `names.rt` | `specs/Faults.antt`, `specs/inside/ReadNames.antt` |
 //! | What is too deep or too large? | `node.rt`, of a finished type `measure.rt` | `specs/Faults.antt`, `specs/inside/ReadNodes.antt` |
 //! | What does a name mean where a type is written? | `scope.rt` | `specs/Surroundings.antt`, `specs/ScopeView.antt` |
 //! | Which kind and universal tag has a type? | `kinds.rt` | `specs/Types.antt` |

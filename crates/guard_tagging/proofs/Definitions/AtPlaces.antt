@@ -1,4 +1,4 @@
--- What is known of a definition stands at its place in the order.
+-- What is known of a definition is at its place in the order.
 use Rattle.std.proofs.Common.{◌≡◌, ℕ, zero, suc, Bool, true, List, [], ◌∷◌, map, Option, Some, None, option_map, slice_get, refl, sym, ◌∙◌, ap}
 use Rattle.std.specs.Prelude.{IfSome}
 use Rattle.std.specs.Option.{option_and_then}
@@ -23,7 +23,8 @@ both None flag = None
 both (Some t) None = None
 both (Some t) (Some b) = Some (record { ty = t; is_automatic = b })
 
-pub known_at : (types : List AbstractType) (automatic : List Bool) (place : ℕ) → slice_get (known_list types automatic) place ≡ both (slice_get types place) (slice_get automatic place)
+pub known_at : (types : List AbstractType) (automatic : List Bool) (place : ℕ)
+    → slice_get (known_list types automatic) place ≡ both (slice_get types place) (slice_get automatic place)
 known_at [] automatic place = refl
 known_at (t ∷ types) [] place = by (slice_get (t ∷ types) place)
   where
@@ -35,10 +36,12 @@ known_at (t ∷ types) (b ∷ automatic) (suc place) = known_at types automatic 
 
 -- ---- what is known of the definition that a name means, by its number and its place
 
-pub known_placed : (ms : List WrittenModule) (order : List ℕ) (known : List Meaning) (home name : List ℕ) (id : ℕ) (place : Option ℕ) → number_meant ms home name ≡ Some id → place_in order id ≡ place
+pub known_placed : (ms : List WrittenModule) (order : List ℕ) (known : List Meaning) (home name : List ℕ) (id : ℕ)
+    (place : Option ℕ) → number_meant ms home name ≡ Some id → place_in order id ≡ place
     → known_meant ms order known home name ≡ option_and_then (slice_get known) place
 known_placed ms order known home name id place n p =
-    ap (λ (o : Option ℕ). option_and_then (slice_get known) (option_and_then (place_in order) o)) n ∙ ap (option_and_then (slice_get known)) p
+    ap (λ (o : Option ℕ). option_and_then (slice_get known) (option_and_then (place_in order) o)) n
+    ∙ ap (option_and_then (slice_get known)) p
 
 -- ---- what a look-up among the built definitions answers
 
@@ -47,18 +50,28 @@ both_none None = refl
 both_none (Some t) = refl
 
 module _ (types : List Ty) (automatic : List Bool) (place : ℕ) where
-  types_at : (t : Option Ty) → t ≡ slice_get types place → slice_get (map type_view types) place ≡ option_map type_view t
+  types_at : (t : Option Ty) → t ≡ slice_get types place
+      → slice_get (map type_view types) place ≡ option_map type_view t
   types_at t h = slice_get-map type_view types place ∙ ap (option_map type_view) (sym h)
 
-  pub no_type : (r : Option Known) → r ≡ None → None ≡ slice_get types place → option_map meaning_view r ≡ slice_get (known_list (map type_view types) automatic) place
-  no_type r e h = ap (option_map meaning_view) e ∙ sym (known_at (map type_view types) automatic place ∙ ap (λ t. both t (slice_get automatic place)) (types_at None h))
+  pub no_type : (r : Option Known) → r ≡ None → None ≡ slice_get types place
+      → option_map meaning_view r ≡ slice_get (known_list (map type_view types) automatic) place
+  no_type r e h =
+      ap (option_map meaning_view) e ∙ sym (known_at (map type_view types) automatic place
+      ∙ ap (λ t. both t (slice_get automatic place)) (types_at None h))
 
-  pub no_flag : (r : Option Known) → r ≡ None → None ≡ slice_get automatic place → option_map meaning_view r ≡ slice_get (known_list (map type_view types) automatic) place
-  no_flag r e h = ap (option_map meaning_view) e ∙ sym (known_at (map type_view types) automatic place ∙ ap (both (slice_get (map type_view types) place)) (sym h) ∙ both_none (slice_get (map type_view types) place))
+  pub no_flag : (r : Option Known) → r ≡ None → None ≡ slice_get automatic place
+      → option_map meaning_view r ≡ slice_get (known_list (map type_view types) automatic) place
+  no_flag r e h =
+      ap (option_map meaning_view) e ∙ sym (known_at (map type_view types) automatic place
+      ∙ ap (both (slice_get (map type_view types) place)) (sym h) ∙ both_none (slice_get (map type_view types) place))
 
   pub type_and_flag : (t : Ty) (b : Bool) → Some t ≡ slice_get types place → Some b ≡ slice_get automatic place
-      → Some (record { ty = type_view t; is_automatic = b }) ≡ slice_get (known_list (map type_view types) automatic) place
-  type_and_flag t b h g = sym (known_at (map type_view types) automatic place ∙ ap (λ x. both x (slice_get automatic place)) (types_at (Some t) h) ∙ ap (both (Some (type_view t))) (sym g))
+      → Some (record { ty = type_view t; is_automatic = b })
+      ≡ slice_get (known_list (map type_view types) automatic) place
+  type_and_flag t b h g =
+      sym (known_at (map type_view types) automatic place
+      ∙ ap (λ x. both x (slice_get automatic place)) (types_at (Some t) h) ∙ ap (both (Some (type_view t))) (sym g))
 
 -- ---- what is known keeps the limits
 
@@ -67,14 +80,20 @@ is_type None b m h = absurd cc
 is_type (Some t) None m h = absurd cc
 is_type (Some t) (Some b) m h = ap (λ (x : Meaning). Some x.ty) (same_Some _ m h)
 
-module _ (types : List AbstractType) (automatic : List Bool) (limits : (place : ℕ) (t : AbstractType) → slice_get types place ≡ Some t → is_within_limits t ≡ true) where
-  kept_at : (place : ℕ) (found : Option Meaning) → slice_get (known_list types automatic) place ≡ found → IfSome found (λ m. is_within_limits m.ty ≡ true)
+module _ (types : List AbstractType) (automatic : List Bool)
+    (limits : (place : ℕ) (t : AbstractType) → slice_get types place ≡ Some t → is_within_limits t ≡ true) where
+  kept_at : (place : ℕ) (found : Option Meaning) → slice_get (known_list types automatic) place ≡ found
+      → IfSome found (λ m. is_within_limits m.ty ≡ true)
   kept_at place None e = tt
-  kept_at place (Some m) e = limits place m.ty (is_type (slice_get types place) (slice_get automatic place) m (sym (known_at types automatic place) ∙ e))
+  kept_at place (Some m) e =
+      limits place m.ty (is_type (slice_get types place) (slice_get automatic place) m
+      (sym (known_at types automatic place) ∙ e))
 
-  meant_kept : (place : Option ℕ) → IfSome (option_and_then (slice_get (known_list types automatic)) place) (λ m. is_within_limits m.ty ≡ true)
+  meant_kept : (place : Option ℕ) → IfSome (option_and_then
+      (slice_get (known_list types automatic)) place) (λ m. is_within_limits m.ty ≡ true)
   meant_kept None = tt
   meant_kept (Some place) = kept_at place (slice_get (known_list types automatic) place) refl
 
-  pub known_kept : (ms : List WrittenModule) (order : List ℕ) (home : WrittenModule) → KeepLimits (surroundings ms order (known_list types automatic) home)
+  pub known_kept : (ms : List WrittenModule) (order : List ℕ) (home : WrittenModule)
+      → KeepLimits (surroundings ms order (known_list types automatic) home)
   known_kept ms order home = λ name. meant_kept (place_meant ms order home.name name)

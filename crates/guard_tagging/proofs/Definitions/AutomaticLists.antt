@@ -1,4 +1,5 @@
--- What the code finds for a definition from what is known of those before it is whether it is a list that is tagged automatically.
+-- What the code finds for a definition from what is known of those before it is whether it is a list that is tagged
+-- automatically.
 use Rattle.std.proofs.Common.{◌≡◌, ◌↔◌, ℕ, true, List, length, Option, Some, None, is_some, slice_get, refl, sym, subst, ap, ◌∙◌}
 use Rattle.std.specs.Option.{option_and_then}
 use Rattle.std.proofs.lemmas.Option.{same_Some}
@@ -37,17 +38,20 @@ defined : (ms : List WrittenModule) (number : ℕ) → Automatic ms number → s
 defined ms number (as_list d is list) h = cc
 defined ms number (by_name d is site name base other means found) h = cc
 
-module _ (ms : List WrittenModule) (none : fault_of_names ms ≡ None) (order : List ℕ) (ordered : IsOrder (length (definitions ms)) (Uses ms) order)
+module _ (ms : List WrittenModule) (none : fault_of_names ms ≡ None) (order : List ℕ)
+    (ordered : IsOrder (length (definitions ms)) (Uses ms) order)
     (types : List AbstractType) (known : List Meaning) (are : AreMeanings ms order types known) where
   -- ---- what is known of the definition that a name means
 
   at_place : (other : ℕ) (m : Meaning) (place : Option ℕ) → place_in order other ≡ place
       → option_and_then (slice_get known) place ≡ Some m → (m.is_automatic ≡ true) ↔ Automatic ms other
   at_place other m None e h = absurd cc
-  at_place other m (Some place) e h = automatic_there ms order types known are place other m (placed_there order other place e) h
+  at_place other m (Some place) e h =
+      automatic_there ms order types known are place other m (placed_there order other place e) h
 
   abbrev IsNamedSo : List ℕ → List ℕ → Meaning → Type 0
-  IsNamedSo home name m = (other : ℕ) × (number_meant ms home name ≡ Some other) × ((m.is_automatic ≡ true) ↔ Automatic ms other)
+  IsNamedSo home name m =
+      (other : ℕ) × (number_meant ms home name ≡ Some other) × ((m.is_automatic ≡ true) ↔ Automatic ms other)
 
   by_number : (home name : List ℕ) (m : Meaning) (number : Option ℕ) → number_meant ms home name ≡ number
       → option_and_then (slice_get known) (option_and_then (place_in order) number) ≡ Some m → IsNamedSo home name m
@@ -70,7 +74,8 @@ module _ (ms : List WrittenModule) (none : fault_of_names ms ≡ None) (order : 
         let s = named_so d.home.name name m e in
         by_name d is site name b s.0 (are_means ms none d.home.name name s.0 s.1) (s.2.0 h)
 
-    base_right : (base : WrittenBase) → base_of d.assignment.ty ≡ base → is_automatic_base around base ≡ true → Automatic ms number
+    base_right : (base : WrittenBase) → base_of d.assignment.ty ≡ base → is_automatic_base around base ≡ true
+        → Automatic ms number
     base_right (plain p) b h = absurd cc
     base_right (numbers ns) b h = absurd cc
     base_right (named_bits bs) b h = absurd cc
@@ -101,24 +106,30 @@ module _ (ms : List WrittenModule) (none : fault_of_names ms ≡ None) (order : 
         let same : c ≡ d = same_Some c d (sym at ∙ is) in
         list_found around base
         (subst (λ (x : WrittenBase). IsAutomaticList (tag_default_of d.home.tag_default) x) b
-        (subst (λ (x : Definition). IsAutomaticList (tag_default_of x.home.tag_default) (base_of x.assignment.ty)) same list))
+        (subst (λ (x : Definition). IsAutomaticList (tag_default_of x.home.tag_default)
+        (base_of x.assignment.ty)) same list))
     base_found base b met (by_name c at site name written other means found) =
         let same : c ≡ d = same_Some c d (sym at ∙ is) in
-        let name_is : base ≡ named_type site name = sym b ∙ ap (λ (x : Definition). base_of x.assignment.ty) (sym same) ∙ written in
+        let name_is : base ≡ named_type site name =
+        sym b ∙ ap (λ (x : Definition). base_of x.assignment.ty) (sym same) ∙ written in
         subst (λ (x : WrittenBase). is_automatic_base around x ≡ true) (sym name_is)
-        (name_found name other (subst (λ (x : Definition). Means ms x.home.name name other) same means) found (around.meaning name) refl
+        (name_found name other (subst (λ (x : Definition). Means ms x.home.name name other) same means) found
+        (around.meaning name) refl
         (subst (IsKnownInside around) name_is met))
 
-    type_found : (t : WrittenType) → d.assignment.ty ≡ t → IsKnown around t → Automatic ms number → is_automatic around t ≡ true
+    type_found : (t : WrittenType) → d.assignment.ty ≡ t → IsKnown around t → Automatic ms number
+        → is_automatic around t ≡ true
     type_found (type_node site tags base cons) e met found = base_found base (ap base_of e) met found
 
-    pub found_right : slice_get order (length types) ≡ Some number → (is_automatic around d.assignment.ty ≡ true) ↔ Automatic ms number
+    pub found_right : slice_get order (length types) ≡ Some number
+        → (is_automatic around d.assignment.ty ≡ true) ↔ Automatic ms number
     found_right next = (
       type_right d.assignment.ty refl,
       type_found d.assignment.ty refl (known_in_type ms none order ordered types known are number next d is),
     )
 
-  pub definition_right : (number : ℕ) → slice_get order (length types) ≡ Some number → (o : Option Definition) → slice_get (definitions ms) number ≡ o
+  pub definition_right : (number : ℕ) → slice_get order (length types) ≡ Some number → (o : Option Definition)
+      → slice_get (definitions ms) number ≡ o
       → (is_automatic_definition ms order known o ≡ true) ↔ Automatic ms number
   definition_right number next None e = (λ h. absurd cc, λ found. absurd (defined ms number found e))
   definition_right number next (Some d) e = found_right number d e next

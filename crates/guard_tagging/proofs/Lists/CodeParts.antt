@@ -17,11 +17,20 @@ listed_back (c ∷ cs) = ap (λ (rest : List OneComponent). c ∷ rest) (listed_
 abbrev inside : AbstractKind → List OneComponent
 inside kind = listed (components_in kind)
 
-pub taken_sequence : (kind : Kind) (comps : Vec Comp) → kind ≡ code.Sequence comps → map component_view comps.items ≡ listed (components_in (kind_view kind))
-taken_sequence kind comps is = sym (ap (λ (k : Kind). inside (kind_view k)) is ∙ ap inside (kind_view_sequence comps) ∙ listed_back (map component_view comps.items))
+pub taken_sequence : (kind : Kind) (comps : Vec Comp) → kind ≡ code.Sequence comps
+    → map component_view comps.items ≡ listed (components_in (kind_view kind))
+taken_sequence kind comps is =
+    sym (ap (λ (k : Kind). inside (kind_view k)) is ∙ ap inside (kind_view_sequence comps)
+    ∙ listed_back (map component_view comps.items))
 
-pub taken_set : (kind : Kind) (comps : Vec Comp) → kind ≡ code.Set comps → map component_view comps.items ≡ listed (components_in (kind_view kind))
-taken_set kind comps is = sym (ap (λ (k : Kind). inside (kind_view k)) is ∙ ap inside (kind_view_set comps) ∙ listed_back (map component_view comps.items))
+pub taken_set : (kind : Kind) (comps : Vec Comp) → kind ≡ code.Set comps
+    → map component_view comps.items ≡ listed (components_in (kind_view kind))
+taken_set kind comps is =
+    sym (ap (λ (k : Kind). inside (kind_view k)) is ∙ ap inside (kind_view_set comps)
+    ∙ listed_back (map component_view comps.items))
 
-pub taken_choice : (kind : Kind) (comps : Vec Comp) → kind ≡ code.Choice comps → map component_view comps.items ≡ listed (components_in (kind_view kind))
-taken_choice kind comps is = sym (ap (λ (k : Kind). inside (kind_view k)) is ∙ ap inside (kind_view_choice comps) ∙ listed_back (map component_view comps.items))
+pub taken_choice : (kind : Kind) (comps : Vec Comp) → kind ≡ code.Choice comps
+    → map component_view comps.items ≡ listed (components_in (kind_view kind))
+taken_choice kind comps is =
+    sym (ap (λ (k : Kind). inside (kind_view k)) is ∙ ap inside (kind_view_choice comps)
+    ∙ listed_back (map component_view comps.items))

@@ -14,7 +14,9 @@ use Rattle.guard_tagging.proofs.definition.automatic_lists.Goals as goal
 pub loop-place-init : goal.loop-place-init
 loop-place-init c = record {
   counted = ap length c.in_ok-automatic.ensures.items;
-  known = none_flagged (modules_of c.args.names.now) (order_of c.args.names.now) (map type_view c.args.types.now) c.in_ok-automatic.automatic.items c.in_ok-automatic.ensures.items;
+  known =
+      none_flagged (modules_of c.args.names.now) (order_of c.args.names.now)
+      (map type_view c.args.types.now) c.in_ok-automatic.automatic.items c.in_ok-automatic.ensures.items;
 }
 
 pub loop-place-preserved : goal.loop-place-preserved
@@ -28,14 +30,19 @@ loop-place-preserved c =
     let many : length types ≡ length c.args.types.now = length-map c.args.types.now type_view in
     let below : place < length c.args.types.now = c.loop-place-test.true in
     let listed : length c.args.types.now ≤ length order = c.requires in
-    let appended : length c.push.new.self.items ≡ length flags + 1 = ap length c.in_ok-push.ensures.items ∙ length-append flags (flag ∷ []) in
+    let appended : length c.push.new.self.items ≡ length flags + 1 =
+    ap length c.in_ok-push.ensures.items ∙ length-append flags (flag ∷ []) in
     record {
       counted = appended ∙ ap (λ n. n + 1) c.loop-place.invariant.counted;
-      known = one_flag_more ms (none_is (fault_of_names ms) c.args.names.now.faultless) order c.args.names.now.ordered types flags place
-          c.loop-place.invariant.counted c.loop-place.invariant.known (omega (arith, below, listed)) (omega (arith, below, many)) _ flag
+      known =
+          one_flag_more ms (none_is
+          (fault_of_names ms) c.args.names.now.faultless) order c.args.names.now.ordered types flags place
+          c.loop-place.invariant.counted c.loop-place.invariant.known (omega (arith, below, listed))
+          (omega (arith, below, many)) _ flag
           (ap (λ (xs : List ℕ). get_or xs place 0) c.order.ensures.same)
           (c.is_automatic_definition-is_automatic.ensures
-          ∙ ap (λ (fs : List Bool). is_automatic_definition ms order (known_list types fs) (slice_get (definitions ms) (get_or c.order.result.now place 0))) c.deref.ensures.value)
+          ∙ ap (λ (fs : List Bool). is_automatic_definition ms order (known_list types fs)
+          (slice_get (definitions ms) (get_or c.order.result.now place 0))) c.deref.ensures.value)
           c.push.new.self.items c.in_ok-push.ensures.items;
     }
 
@@ -44,5 +51,6 @@ returns c =
     let types = map type_view c.args.types.now in
     let many : length types ≡ length c.args.types.now = length-map c.args.types.now type_view in
     let past : length c.args.types.now ≤ c.loop-place.place = c.loop-place-test.false in
-    all_flagged (modules_of c.args.names.now) (order_of c.args.names.now) types c.loop-place.automatic.items c.loop-place.place
+    all_flagged (modules_of c.args.names.now)
+    (order_of c.args.names.now) types c.loop-place.automatic.items c.loop-place.place
     (omega (arith, past, many)) c.loop-place.invariant.known

@@ -8,5 +8,6 @@ use Rattle.guard_tagging.proofs.definition.automatic_lists.Given as goal
 abbrev pub invariant-loop-place : goal.invariant-loop-place
 invariant-loop-place l = record {
   counted : length l.automatic.items ≡ l.place;
-  known : AreMeanings (modules_of l.names) (order_of l.names) (take l.place (map type_view l.types)) (known_list (map type_view l.types) l.automatic.items);
+  known : AreMeanings (modules_of l.names) (order_of l.names) (take l.place (map type_view l.types))
+      (known_list (map type_view l.types) l.automatic.items);
 }

@@ -42,7 +42,8 @@ unreachable-requires c =
     let ms = modules_of c.args.names.now in
     let order = order_of c.args.names.now in
     no_such (definitions ms) c.args.id
-    (order_below (length (definitions ms)) (Uses ms) order c.args.names.now.ordered c.args.id (listed_there order (length c.args.done.now.types.now) c.args.id c.requires.next)) c.in_default.ensures
+    (order_below (length (definitions ms)) (Uses ms) order c.args.names.now.ordered c.args.id
+    (listed_there order (length c.args.done.now.types.now) c.args.id c.requires.next)) c.in_default.ensures
 
 -- ---- the definition, and where its type is written
 
@@ -81,7 +82,10 @@ module _ (c : After-deref) where
   spelled = all_spelled ms c.requires.spelled c.args.id d (sym is)
 
   kept : KeepLimits around
-  kept = subst KeepLimits (sym c.scope_in-scope.ensures) (known_kept types c.args.done.now.automatic.now (all_kept c.args.done.now.types.now c.requires.limits) ms order d.home)
+  kept =
+      subst KeepLimits (sym c.scope_in-scope.ensures)
+      (known_kept types c.args.done.now.automatic.now
+      (all_kept c.args.done.now.types.now c.requires.limits) ms order d.home)
 
   tree : c.deref.result.now ≡ c.in-Some.assignment.now.ty.value
   tree = cc (c.deref.ensures)
@@ -97,26 +101,33 @@ module _ (c : After-deref) where
   -- the names in its type
   names_known : IsKnown around (written.type_view c.deref.result.now)
   names_known =
-      let here = known_in_type ms no_fault order c.args.names.now.ordered types known c.requires.known c.args.id next d (sym is) in
-      subst (λ (t : TypeTree). IsKnown around (written.type_view t)) (sym tree) (subst (λ (a : Surroundings). IsKnown a d.assignment.ty) (sym same) here)
+      let here =
+      known_in_type ms no_fault order c.args.names.now.ordered types known c.requires.known c.args.id next d (sym is) in
+      subst (λ (t : TypeTree). IsKnown around (written.type_view t)) (sym tree)
+      (subst (λ (a : Surroundings). IsKnown a d.assignment.ty) (sym same) here)
 
   -- whether it is a list that is tagged automatically
   automatic : (flag : Bool) → flag ≡ is_automatic_definition ms order known (slice_get (definitions ms) c.args.id)
       → (flag ≡ true) ↔ Automatic ms c.args.id
   automatic flag found =
       subst (λ (f : Bool). (f ≡ true) ↔ Automatic ms c.args.id) (sym found)
-      (definition_right ms no_fault order c.args.names.now.ordered types known c.requires.known c.args.id next (slice_get (definitions ms) c.args.id) refl)
+      (definition_right ms no_fault order c.args.names.now.ordered types known c.requires.known c.args.id next
+      (slice_get (definitions ms) c.args.id) refl)
 
   -- the fault that the walk met
-  refusal : (f : Option TagFault) → Refuses f (read_type around true None before (written.type_view c.deref.result.now)) → IfSome f (IsFaultOf ms order types c.args.id)
+  refusal : (f : Option TagFault) → Refuses f (read_type around true None before (written.type_view c.deref.result.now))
+      → IfSome f (IsFaultOf ms order types c.args.id)
   refusal f met =
-      refused_so ms order types c.args.id d is around are before c.requires.counted spelled kept f (subst (λ (t : TypeTree). Refuses f (read_type around true None before (written.type_view t))) tree met)
+      refused_so ms order types c.args.id d is around are before c.requires.counted spelled kept f
+      (subst (λ (t : TypeTree). Refuses f (read_type around true None before (written.type_view t))) tree met)
 
   -- the type that it made
   answer : (m : Made) → read_type around true None before (written.type_view c.deref.result.now) ≡ Ok (made_view m)
-      → IsTypeOf ms order types c.args.id (type_view m.ty) × (is_within_limits (type_view m.ty) ≡ true) × (m.nodes ≡ before + nodes (type_view m.ty)) × (m.nodes ≤ most_nodes)
+      → IsTypeOf ms order types c.args.id (type_view m.ty) × (is_within_limits (type_view m.ty) ≡ true)
+      × (m.nodes ≡ before + nodes (type_view m.ty)) × (m.nodes ≤ most_nodes)
   answer m read =
-      let made : read_type around true None before d.assignment.ty ≡ Ok (made_view m) = ap (λ (t : TypeTree). read_type around true None before (written.type_view t)) (sym tree) ∙ read in (
+      let made : read_type around true None before d.assignment.ty ≡ Ok (made_view m) =
+      ap (λ (t : TypeTree). read_type around true None before (written.type_view t)) (sym tree) ∙ read in (
         tagged_so ms order types c.args.id d is around are before c.requires.counted spelled kept (made_view m) made,
         within_so ms order types c.args.id d is around are before c.requires.counted spelled kept (made_view m) made,
         counted_so ms order types c.args.id d is around are before c.requires.counted spelled kept (made_view m) made,
@@ -129,9 +140,12 @@ type_of-requires c = record { known = names_known (goal.at.type_of-requires c).A
 pub returns-in_err-made-clause-refused : goal.returns-in_err-made-clause-refused
 returns-in_err-made-clause-refused c =
     let p = err_from_is_err_and c.from_residual.result c.from_residual.ensures.1 in
-    rw (p.1, p.2) (refusal (goal.at.returns-in_err-made-clause-refused c).After-deref (named c.in_err-made.field-0.0) c.in_err-made.ensures)
+    rw (p.1, p.2) (refusal (goal.at.returns-in_err-made-clause-refused c).After-deref
+    (named c.in_err-made.field-0.0) c.in_err-made.ensures)
 
-read_so : (c : goal.After-into_inner-ty) → read_type (scope_view c.scope_in-scope.result) true None c.args.done.now.nodes (written.type_view c.deref.result.now) ≡ Ok (made_view c.into_inner-ty.result)
+read_so : (c : goal.After-into_inner-ty)
+    → read_type (scope_view c.scope_in-scope.result) true None c.args.done.now.nodes
+    (written.type_view c.deref.result.now) ≡ Ok (made_view c.into_inner-ty.result)
 read_so c = c.in_ok-made.ensures ∙ ap (λ (m : Made). Ok (made_view m)) (sym c.into_inner-ty.ensures)
 
 pub returns-clause-tagged : goal.returns-clause-tagged

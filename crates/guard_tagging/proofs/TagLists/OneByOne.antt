@@ -10,26 +10,32 @@ use Rattle.guard_tagging.specs.declared.fault.TagFault.{TagFault}
 use Rattle.guard_tagging.specs.Tagging.{is_explicit}
 use Rattle.guard_tagging.specs.inside.ReadTags.{read_tag, read_tags, kept, unless_replaced}
 
-module _ (default : TagDefault) (replaced : Bool) (front : List Tag) (ws : List TagTree) (i : ℕ) (base : List Tag) (total : Result (List Tag) TagFault)
+module _ (default : TagDefault) (replaced : Bool) (front : List Tag) (ws : List TagTree) (i : ℕ) (base : List Tag)
+    (total : Result (List Tag) TagFault)
     (so_far : read_tags default replaced front (map tag_view (drop i ws)) base ≡ total) where
-  pub tag_stops : (d : TagTree) → i < length ws → (f : Option TagFault) → Refuses f (read_tag (tag_view (get_or ws i d))) → Refuses f total
+  pub tag_stops : (d : TagTree) → i < length ws → (f : Option TagFault)
+      → Refuses f (read_tag (tag_view (get_or ws i d))) → Refuses f total
   unfolding read_tags
   tag_stops d lt None refused = tt
   tag_stops d lt (Some f) refused =
-      let all : read_tags default replaced front (map tag_view (drop i ws)) base ≡ Err f = rw (at_drop_more (map tag_view) ws i d lt, refused) refl in
+      let all : read_tags default replaced front (map tag_view (drop i ws)) base ≡ Err f =
+      rw (at_drop_more (map tag_view) ws i d lt, refused) refl in
       sym so_far ∙ all
 
   pub next_tag : (d : TagTree) → i < length ws → (tag : Tag) → read_tag (tag_view (get_or ws i d)) ≡ Ok tag
-      → read_tags default (not (is_explicit (get_or ws i d).mode default false)) (unless_replaced replaced front tag) (map tag_view (drop (i + 1) ws)) base ≡ total
+      → read_tags default (not (is_explicit (get_or ws i d).mode default false)) (unless_replaced replaced front tag)
+      (map tag_view (drop (i + 1) ws)) base ≡ total
   unfolding read_tags
   next_tag d lt tag read =
       let all : read_tags default replaced front (map tag_view (drop i ws)) base
-      ≡ read_tags default (not (is_explicit (get_or ws i d).mode default false)) (unless_replaced replaced front tag) (map tag_view (drop (i + 1) ws)) base =
+      ≡ read_tags default (not (is_explicit (get_or ws i d).mode default false)) (unless_replaced replaced front tag)
+      (map tag_view (drop (i + 1) ws)) base =
       rw (at_drop_more (map tag_view) ws i d lt, read) refl in
       sym all ∙ so_far
 
   pub no_tag : length ws ≤ i → total ≡ Ok (front ++ kept replaced base)
   unfolding read_tags
   no_tag le =
-      let all : read_tags default replaced front (map tag_view (drop i ws)) base ≡ Ok (front ++ kept replaced base) = rw (at_drop_all (map tag_view) ws i le) refl in
+      let all : read_tags default replaced front (map tag_view (drop i ws)) base ≡ Ok (front ++ kept replaced base) =
+      rw (at_drop_all (map tag_view) ws i le) refl in
       sym so_far ∙ all

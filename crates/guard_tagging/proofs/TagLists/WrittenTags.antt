@@ -34,23 +34,28 @@ put_all default [] base = base
 put_all default (w ∷ ws) base = put (is_explicit w.mode default false) (tag_of w) (put_all default ws base)
 
 -- a type that has a tag, or is a CHOICE, has a tag with one more
-put_tagged : (explicit : Bool) (tag : Tag) (tags : List Tag) (kind : AbstractKind) → is_tagged (put explicit tag tags) kind ≡ true
+put_tagged : (explicit : Bool) (tag : Tag) (tags : List Tag) (kind : AbstractKind)
+    → is_tagged (put explicit tag tags) kind ≡ true
 put_tagged true tag tags kind = refl
 put_tagged false tag [] kind = refl
 put_tagged false tag (outermost ∷ tags) kind = refl
 
-pub all_tagged : (default : TagDefault) (ws : List WrittenTag) (base : List Tag) (kind : AbstractKind) → is_tagged base kind ≡ true → is_tagged (put_all default ws base) kind ≡ true
+pub all_tagged : (default : TagDefault) (ws : List WrittenTag) (base : List Tag) (kind : AbstractKind)
+    → is_tagged base kind ≡ true → is_tagged (put_all default ws base) kind ≡ true
 all_tagged default [] base kind h = h
-all_tagged default (w ∷ ws) base kind h = put_tagged (is_explicit w.mode default false) (tag_of w) (put_all default ws base) kind
+all_tagged default (w ∷ ws) base kind h =
+    put_tagged (is_explicit w.mode default false) (tag_of w) (put_all default ws base) kind
 
-put_nonempty : (explicit : Bool) (tag : Tag) (tags : List Tag) (kind : AbstractKind) (cons : Constraints) → is_untagged_choice (type_of (put explicit tag tags) kind cons) ≡ false
+put_nonempty : (explicit : Bool) (tag : Tag) (tags : List Tag) (kind : AbstractKind) (cons : Constraints)
+    → is_untagged_choice (type_of (put explicit tag tags) kind cons) ≡ false
 put_nonempty true tag tags kind cons = refl
 put_nonempty false tag [] kind cons = refl
 put_nonempty false tag (t ∷ tags) kind cons = refl
 
 -- ---- one tag: without the word IMPLICIT it is explicit on an untagged CHOICE
 
-explicit_there : (m : Option TagMode) (default : TagDefault) → (is_implicit m && true) ≡ false → is_explicit m default true ≡ true
+explicit_there : (m : Option TagMode) (default : TagDefault) → (is_implicit m && true) ≡ false
+    → is_explicit m default true ≡ true
 explicit_there (Some mode.Explicit) default h = refl
 explicit_there (Some mode.Implicit) default h = absurd cc
 explicit_there None by_default.Explicit h = refl
@@ -63,26 +68,33 @@ first_put true tag = refl
 first_put false tag = refl
 
 put_on : (explicit : Bool) (tag outermost : Tag) (tags : List Tag) (kind : AbstractKind) (cons : Constraints)
-    → put_tag explicit tag (type_of (outermost ∷ tags) kind cons) ≡ type_of (put explicit tag (outermost ∷ tags)) kind cons
+    → put_tag explicit tag (type_of (outermost ∷ tags) kind cons)
+    ≡ type_of (put explicit tag (outermost ∷ tags)) kind cons
 put_on true tag outermost tags kind cons = refl
 put_on false tag outermost tags kind cons = refl
 
 module _ (default : TagDefault) (w : WrittenTag) where
   one_on_choice : (cs : Components) (cons : Constraints) → (is_implicit w.mode && true) ≡ false
-      → with_tag default w (type_of [] (type.choice cs) cons) ≡ type_of (put (is_explicit w.mode default false) (tag_of w) []) (type.choice cs) cons
+      → with_tag default w (type_of [] (type.choice cs) cons)
+      ≡ type_of (put (is_explicit w.mode default false) (tag_of w) []) (type.choice cs) cons
   one_on_choice cs cons lawful =
-      ap (λ (explicit : Bool). put_tag explicit (tag_of w) (type_of [] (type.choice cs) cons)) (explicit_there w.mode default lawful)
-      ∙ ap (λ (tags : List Tag). type_of tags (type.choice cs) cons) (first_put (is_explicit w.mode default false) (tag_of w))
+      ap (λ (explicit : Bool). put_tag explicit (tag_of w) (type_of [] (type.choice cs) cons))
+      (explicit_there w.mode default lawful)
+      ∙ ap (λ (tags : List Tag). type_of tags (type.choice cs) cons)
+      (first_put (is_explicit w.mode default false) (tag_of w))
 
-  one_put : (tags : List Tag) (kind : AbstractKind) (cons : Constraints) → is_tagged tags kind ≡ true → (is_implicit w.mode && is_untagged_choice (type_of tags kind cons)) ≡ false
-      → with_tag default w (type_of tags kind cons) ≡ type_of (put (is_explicit w.mode default false) (tag_of w) tags) kind cons
-  one_put (outermost ∷ tags) kind cons tagged lawful = put_on (is_explicit w.mode default false) (tag_of w) outermost tags kind cons
+  one_put : (tags : List Tag) (kind : AbstractKind) (cons : Constraints) → is_tagged tags kind ≡ true
+      → (is_implicit w.mode && is_untagged_choice (type_of tags kind cons)) ≡ false
+      → with_tag default w (type_of tags kind cons)
+      ≡ type_of (put (is_explicit w.mode default false) (tag_of w) tags) kind cons
+  one_put (outermost ∷ tags) kind cons tagged lawful =
+      put_on (is_explicit w.mode default false) (tag_of w) outermost tags kind cons
   one_put [] (type.choice cs) cons tagged lawful = one_on_choice cs cons lawful
   one_put [] _ cons tagged lawful = absurd cc
 
 -- ---- all that are written
 
-no_fault : (wrong : Bool) (f : TagFault) → fault_where wrong f ≡ None → wrong ≡ false
+pub no_fault : (wrong : Bool) (f : TagFault) → fault_where wrong f ≡ None → wrong ≡ false
 no_fault true f h = absurd cc
 no_fault false f h = refl
 
@@ -90,15 +102,19 @@ and_false : (a b : Bool) → b ≡ false → (a && b) ≡ false
 and_false true b h = h
 and_false false b h = refl
 
-pub with_tags_is : (default : TagDefault) (ws : List WrittenTag) (base : List Tag) (kind : AbstractKind) (cons : Constraints) → is_tagged base kind ≡ true → implicit_choice (type_of base kind cons) ws ≡ None
+pub with_tags_is : (default : TagDefault) (ws : List WrittenTag) (base : List Tag) (kind : AbstractKind)
+    (cons : Constraints) → is_tagged base kind ≡ true → implicit_choice (type_of base kind cons) ws ≡ None
     → with_tags default ws (type_of base kind cons) ≡ type_of (put_all default ws base) kind cons
 with_tags_is default [] base kind cons tagged lawful = refl
-with_tags_is default (w ∷ []) base kind cons tagged lawful = one_put default w base kind cons tagged (no_fault (is_implicit w.mode && is_untagged_choice (type_of base kind cons)) (ImplicitChoice w.site) lawful)
+with_tags_is default (w ∷ []) base kind cons tagged lawful =
+    one_put default w base kind cons tagged
+    (no_fault (is_implicit w.mode && is_untagged_choice (type_of base kind cons)) (ImplicitChoice w.site) lawful)
 with_tags_is default (w ∷ v ∷ ws) base kind cons tagged lawful =
     let inner = put_all default (v ∷ ws) base in
     ap (with_tag default w) (with_tags_is default (v ∷ ws) base kind cons tagged lawful)
     ∙ one_put default w inner kind cons (all_tagged default (v ∷ ws) base kind tagged)
-    (and_false (is_implicit w.mode) (is_untagged_choice (type_of inner kind cons)) (put_nonempty (is_explicit v.mode default false) (tag_of v) (put_all default ws base) kind cons))
+    (and_false (is_implicit w.mode) (is_untagged_choice (type_of inner kind cons))
+    (put_nonempty (is_explicit v.mode default false) (tag_of v) (put_all default ws base) kind cons))
 
 -- ---- the automatic tag
 
@@ -110,12 +126,14 @@ abbrev pub with_automatic : Option Tag → AbstractType → AbstractType
 with_automatic None t = t
 with_automatic (Some tag) t = with_automatic_tag tag t
 
-pub front_is : (automatic : Option Tag) (tags : List Tag) → in_front automatic ++ kept (is_some automatic) tags ≡ put_automatic automatic tags
+pub front_is : (automatic : Option Tag) (tags : List Tag)
+    → in_front automatic ++ kept (is_some automatic) tags ≡ put_automatic automatic tags
 front_is None tags = refl
 front_is (Some tag) [] = refl
 front_is (Some tag) (outermost ∷ tags) = refl
 
-pub with_automatic_is : (automatic : Option Tag) (tags : List Tag) (kind : AbstractKind) (cons : Constraints) → is_tagged tags kind ≡ true
+pub with_automatic_is : (automatic : Option Tag) (tags : List Tag) (kind : AbstractKind) (cons : Constraints)
+    → is_tagged tags kind ≡ true
     → with_automatic automatic (type_of tags kind cons) ≡ type_of (put_automatic automatic tags) kind cons
 with_automatic_is None tags kind cons tagged = refl
 with_automatic_is (Some tag) (outermost ∷ tags) kind cons tagged = refl
@@ -123,23 +141,27 @@ with_automatic_is (Some tag) [] (type.choice cs) cons tagged = refl
 with_automatic_is (Some tag) [] _ cons tagged = absurd cc
 
 -- its number doesn't matter for the nesting
-same_nesting : (explicit : Bool) (a b : Tag) (t : AbstractType) → nesting (put_tag explicit a t) ≡ nesting (put_tag explicit b t)
+same_nesting : (explicit : Bool) (a b : Tag) (t : AbstractType)
+    → nesting (put_tag explicit a t) ≡ nesting (put_tag explicit b t)
 same_nesting true a b (type_of tags kind cons) = refl
 same_nesting false a b (type_of [] kind cons) = refl
 same_nesting false a b (type_of (outermost ∷ tags) kind cons) = refl
 
-pub nesting_there : (automatic : Option Tag) (t : AbstractType) → nesting (with_tag_there (is_some automatic) t) ≡ nesting (with_automatic automatic t)
+pub nesting_there : (automatic : Option Tag) (t : AbstractType)
+    → nesting (with_tag_there (is_some automatic) t) ≡ nesting (with_automatic automatic t)
 nesting_there None t = refl
 nesting_there (Some tag) t = same_nesting (is_untagged_choice t) (automatic_tag 0) tag t
 
 -- ---- reading from the outside in
 
-after_replacing : (explicit : Bool) (front : List Tag) (tag : Tag) (tags : List Tag) → front ++ kept (not explicit) tags ≡ front ++ kept true (put explicit tag tags)
+after_replacing : (explicit : Bool) (front : List Tag) (tag : Tag) (tags : List Tag)
+    → front ++ kept (not explicit) tags ≡ front ++ kept true (put explicit tag tags)
 after_replacing true front tag tags = refl
 after_replacing false front tag [] = refl
 after_replacing false front tag (t ∷ tags) = refl
 
-after_wrapping : (explicit : Bool) (front : List Tag) (tag : Tag) (tags : List Tag) → (front ++ tag ∷ []) ++ kept (not explicit) tags ≡ front ++ put explicit tag tags
+after_wrapping : (explicit : Bool) (front : List Tag) (tag : Tag) (tags : List Tag)
+    → (front ++ tag ∷ []) ++ kept (not explicit) tags ≡ front ++ put explicit tag tags
 after_wrapping true front tag tags = append_assoc front (tag ∷ []) tags
 after_wrapping false front tag [] = append_assoc front (tag ∷ []) []
 after_wrapping false front tag (t ∷ tags) = append_assoc front (tag ∷ []) tags
@@ -149,20 +171,24 @@ one_step : (replaced explicit : Bool) (front : List Tag) (tag : Tag) (tags : Lis
 one_step true explicit front tag tags = after_replacing explicit front tag tags
 one_step false explicit front tag tags = after_wrapping explicit front tag tags
 
-too_large : (large : Bool) (f : TagFault) (tag : Tag) (rest : Option TagFault) (next : Tag → Result (List Tag) TagFault) (tags : List Tag)
-    → next tag ≡ unless rest tags → (cond large (Err f) (Ok tag) >>= next) ≡ unless (option_or (fault_where large f) rest) tags
+too_large : (large : Bool) (f : TagFault) (tag : Tag) (rest : Option TagFault) (next : Tag → Result (List Tag) TagFault)
+    (tags : List Tag)
+    → next tag ≡ unless rest tags → (cond large (Err f) (Ok tag) >>= next) ≡ unless (option_or
+    (fault_where large f) rest) tags
 too_large true f tag rest next tags e = refl
 too_large false f tag rest next tags e = e
 
 pub tags_read : (default : TagDefault) (replaced : Bool) (front : List Tag) (ws : List WrittenTag) (base : List Tag)
-    → read_tags default replaced front ws base ≡ unless (tag_too_large ws) (front ++ kept replaced (put_all default ws base))
+    → read_tags default replaced front ws base
+    ≡ unless (tag_too_large ws) (front ++ kept replaced (put_all default ws base))
 unfolding read_tags
 tags_read default replaced front [] base = refl
 tags_read default replaced front (w ∷ ws) base =
     let explicit = is_explicit w.mode default false in
     let inner = put_all default ws base in
     too_large (nat_lt greatest_tag_number (number_value w.number)) (TagTooLarge w.site) (tag_of w) (tag_too_large ws)
-    (λ tag. read_tags default (not explicit) (unless_replaced replaced front tag) ws base) (front ++ kept replaced (put explicit (tag_of w) inner))
+    (λ tag. read_tags default (not explicit) (unless_replaced replaced front tag) ws base)
+    (front ++ kept replaced (put explicit (tag_of w) inner))
     (tags_read default (not explicit) (unless_replaced replaced front (tag_of w)) ws base
     ∙ ap (unless (tag_too_large ws)) (one_step replaced explicit front (tag_of w) inner))
 
@@ -174,7 +200,8 @@ and-comm true false = refl
 and-comm false true = refl
 and-comm false false = refl
 
-last_of_more : (w v : WrittenTag) (ws : List WrittenTag) → slice_get (w ∷ v ∷ ws) (length (w ∷ v ∷ ws) - 1) ≡ slice_get (v ∷ ws) (length (v ∷ ws) - 1)
+last_of_more : (w v : WrittenTag) (ws : List WrittenTag)
+    → slice_get (w ∷ v ∷ ws) (length (w ∷ v ∷ ws) - 1) ≡ slice_get (v ∷ ws) (length (v ∷ ws) - 1)
 last_of_more w v ws =
     let e : length (w ∷ v ∷ ws) - 1 ≡ suc (length (v ∷ ws) - 1) = omega arith in
     ap (slice_get (w ∷ v ∷ ws)) e
@@ -182,5 +209,9 @@ last_of_more w v ws =
 pub implicit_is : (ws : List WrittenTag) (base : List Tag) (kind : AbstractKind) (cons : Constraints)
     → implicit_choice (type_of base kind cons) ws ≡ implicit_last (is_untagged_choice (type_of base kind cons)) ws
 implicit_is [] base kind cons = refl
-implicit_is (w ∷ []) base kind cons = ap (λ (b : Bool). fault_where b (ImplicitChoice w.site)) (and-comm (is_implicit w.mode) (is_untagged_choice (type_of base kind cons)))
-implicit_is (w ∷ v ∷ ws) base kind cons = implicit_is (v ∷ ws) base kind cons ∙ ap (implicit_at (is_untagged_choice (type_of base kind cons))) (sym (last_of_more w v ws))
+implicit_is (w ∷ []) base kind cons =
+    ap (λ (b : Bool). fault_where b (ImplicitChoice w.site))
+    (and-comm (is_implicit w.mode) (is_untagged_choice (type_of base kind cons)))
+implicit_is (w ∷ v ∷ ws) base kind cons =
+    implicit_is (v ∷ ws) base kind cons ∙ ap (implicit_at (is_untagged_choice (type_of base kind cons))) (sym
+    (last_of_more w v ws))

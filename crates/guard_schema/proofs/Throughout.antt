@@ -1,4 +1,5 @@
--- What a definition is where it is built, it is where all is built: more is known there, and nothing is known otherwise.
+-- What a definition is where it is built, it is where all is built: more is known there, and nothing is known
+-- otherwise.
 pub mod Values
 pub mod Constraints
 pub mod Finished

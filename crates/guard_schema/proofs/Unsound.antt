@@ -5,3 +5,4 @@ pub mod Retagged
 pub mod Bare
 pub mod Finished
 pub mod ByValues
+pub mod Built

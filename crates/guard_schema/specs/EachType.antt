@@ -1,6 +1,6 @@
 -- Each type of a schema, by the definition that assigns it: it is the type that the definition's tree denotes by its
 -- tags, with the constraints and defaults of that tree filled in. All names mean what the schema makes of them.
-use Rattle.std.specs.Prelude.{◌≡◌, ℕ, List, [], Contains, Some, None, Ok}
+use Rattle.std.specs.Prelude.{◌≡◌, ℕ, List, [], All, Contains, Some, None, Ok}
 use Rattle.guard_model.specs.AbstractType.{AbstractType}
 use Rattle.guard_names.specs.Declarations.{Definition, definitions}
 use Rattle.guard_tagging.specs.Types.{denoted}
@@ -10,6 +10,7 @@ use Rattle.guard_schema.specs.Finishing.{Finishes}
 use Rattle.guard_schema.specs.Schemas.{AbstractSchema, schema_of}
 use Rattle.guard_schema.specs.Accepts.{OrdersNames, Accepts}
 use Rattle.guard_schema.specs.Unfinished.{unfinished}
+use Rattle.guard_schema.specs.OnlyLong.{IsSoundBuilt}
 
 -- The type is this definition's, where all of these are built.
 pub record IsFinished (whole : Known) (d : Definition) (t : AbstractType) : Type 0 where
@@ -25,6 +26,8 @@ pub record HasTypesOf (texts : List (List ℕ)) (s : AbstractSchema) : Type 0 wh
   pub read : ReadsTexts [] texts (Ok whole.modules)
   pub ordered : OrdersNames whole.modules (Ok whole.order)
   pub schema : s ≡ schema_of whole
+  -- each type is sound, and each value that is assigned is one of its type
+  pub sound : All IsSoundBuilt whole.built
   -- each definition that assigns a type has its finished type in the schema, by its two names
   pub each : (d : Definition) → Contains (definitions whole.modules) d → d.assignment.value ≡ None
       → (t : AbstractType) × (s.types d.home.name d.assignment.name ≡ Some t) × IsFinished whole d t

@@ -29,7 +29,8 @@ abbrev pub HasBare : Surroundings → WrittenType → AbstractType → Type 0
 HasBare surroundings tree bare =
     (automatic : Bool) × (before : ℕ) × (count : ℕ) × (fault_in surroundings automatic before count tree ≡ None)
     × ((bare ≡ denoted surroundings tree)
-    ⊎ ((number : ℕ) × (number ≤ most_components) × (bare ≡ with_automatic_tag (automatic_tag number) (denoted surroundings tree))))
+    ⊎ ((number : ℕ) × (number ≤ most_components)
+    × (bare ≡ with_automatic_tag (automatic_tag number) (denoted surroundings tree))))
 
 -- The finished type is sound, or a value in one of its constraints is too long. The first of these is the one that is
 -- blamed (`IsSoundAt`).
@@ -43,7 +44,8 @@ OnlyLongValues =
     → IsTagged (around k d) (nodes_of_all (types_of k.built)) d.assignment.ty bare → Distinct bare
     → Finishes (visible k d.home.name) d.assignment.ty bare (Ok t) → IsUnsoundByValue t
 
--- And so it is with each part of it, and with a part before the constraints at its end are added: that is a tree without
+-- And so it is with each part of it, and with a part before the constraints at its end are added: that is a tree
+-- without
 -- them. These are the types that have to be sound before a constraint, a default or a value is read under them.
 abbrev pub OnlyLongInParts : Type 0
 OnlyLongInParts =

@@ -28,7 +28,7 @@ pub fn law_unfinished()
 {}
 
 /// A type that is finished from what its tree denotes by its tags is sound, or a single value in one of its constraints is too long: the fault that a
-/// build names then (V8) is where the first of these values stands. So it is with the type of a definition, and with each part of it before something is
+/// build names then (V8) is where the first of these values is. So it is with the type of a definition, and with each part of it before something is
 /// read under that.
 pub fn law_only_long_values()
     ensures definitions { OnlyLongValues }

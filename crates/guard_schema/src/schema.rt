@@ -36,7 +36,7 @@ impl Schema {
     /// one another (P1 to P3); names over all modules (N1 to N6, in the order of `resolve`); then one definition after the other, each after those that it
     /// uses: tags and parts (G1 to G12), tags that don't tell parts apart (S1), constraints and defaults, inside out in written order (C1 to C10,
     /// V1 to V8, and S2 directly after the default's value), the value that is assigned (V1 to V8, S2), the limit on constraints and values (S3).
-    /// OutOfMemory may stand in place of any answer.
+    /// OutOfMemory may come in place of any answer.
     pub fn build(alloc: Global, texts: &[&[u8]]) -> Result<Schema, SchemaFault>
         // What is answered is what the texts denote.
         ensures accepted { IfOk result (λ schema. Accepts (map (λ t. t.now) texts.now) (schema_view schema)) }

@@ -1,5 +1,6 @@
 -- Where all definitions are built in an order, each one was built where those before it were.
-use Rattle.std.proofs.Common.{◌≡◌, ℕ, zero, suc, ◌+◌, List, [], ◌∷◌, ◌++◌, length, slice_get, Some, Ok, inl, inr, refl, sym, subst, ◌∙◌, arith, append_assoc}
+use Rattle.std.proofs.Common.{◌≡◌, ℕ, zero, suc, ◌+◌, List, [], ◌∷◌, ◌++◌, length, slice_get, Some, Ok, inl, inr, refl}
+use Rattle.std.proofs.Common.{sym, subst, ◌∙◌, arith, append_assoc}
 use Rattle.std.proofs.lemmas.List.{append-nil, length-append}
 use Rattle.std.proofs.lemmas.Option.{same_Some}
 use Rattle.guard_model.proofs.Results.{same_Ok}
@@ -8,7 +9,8 @@ use Rattle.guard_schema.specs.Known.{Built, Known, with_built}
 use Rattle.guard_schema.specs.Building.{BuildsNumber, BuildsAll}
 
 -- what is built so far stays, and more follows it
-built_more : (numbers : List ℕ) (k : Known) (built : List Built) → BuildsAll k numbers (Ok built) → (more : List Built) × (built ≡ k.built ++ more)
+built_more : (numbers : List ℕ) (k : Known) (built : List Built) → BuildsAll k numbers (Ok built) → (more : List Built)
+    × (built ≡ k.built ++ more)
 built_more [] k built e = ([], same_Ok built k.built e ∙ sym (append-nil k.built))
 built_more (n ∷ ns) k built (inl (b, h, rest)) =
     let later = built_more ns (with_built k b) built rest in
@@ -24,7 +26,8 @@ pub record BuiltThere (ms : List WrittenModule) (order : List ℕ) (built : List
   pub many : length before ≡ place
   pub builds : BuildsNumber (record { modules = ms; order = order; built = before }) number (Ok definition)
 
-pub built_there : (numbers : List ℕ) (k : Known) (built : List Built) → BuildsAll k numbers (Ok built) → (place number : ℕ) → slice_get numbers place ≡ Some number
+pub built_there : (numbers : List ℕ) (k : Known) (built : List Built) → BuildsAll k numbers (Ok built)
+    → (place number : ℕ) → slice_get numbers place ≡ Some number
     → BuiltThere k.modules k.order built (length k.built + place) number
 built_there [] k built h place number e = absurd cc
 built_there (n ∷ ns) k built (inr (f, h, d)) place number e = absurd cc
@@ -51,7 +54,8 @@ built_there (n ∷ ns) k built (inl (b, h, rest)) (suc place) number e =
     }
 
 -- what stands after others
-pub at_seam : {A : Type 0} (xs : List A) (y : A) (ys : List A) (place : ℕ) → length xs ≡ place → slice_get (xs ++ y ∷ ys) place ≡ Some y
+pub at_seam : {A : Type 0} (xs : List A) (y : A) (ys : List A) (place : ℕ) → length xs ≡ place
+    → slice_get (xs ++ y ∷ ys) place ≡ Some y
 at_seam [] y ys zero e = refl
 at_seam [] y ys (suc place) e = absurd (omega (arith, e))
 at_seam (x ∷ xs) y ys zero e = absurd (omega (arith, e))

@@ -1,5 +1,5 @@
 use Rattle.guard_schema.proofs.Throughout.EachType.{have_their_types}
-use Rattle.guard_schema.proofs.Unfinished.{bare_again, tagged_again}
+use Rattle.guard_schema.proofs.Filled.Unfinished.{bare_again, tagged_again}
 use Rattle.guard_schema.proofs.laws.law_unfinished.Goals as goal
 
 pub returns-clause-bare : goal.returns-clause-bare

@@ -1,5 +1,5 @@
 -- What it is to meet a request, by what is read, what goes out, and the status. This is the page to read first.
-use Rattle.std.specs.Prelude.{◌≡◌, ◌⊎◌, ℕ, Bool, nat_eq, true, false, List, Option, Result, Ok, Err, if◌then◌else◌}
+use Rattle.std.specs.Prelude.{◌≡◌, ◌⊎◌, ℕ, Bool, nat_eq, true, false, List, ◌++◌, codes, Option, Result, Ok, Err, if◌then◌else◌}
 use Rattle.clap.specs.declared.error.kind.ErrorKind.{ErrorKind}
 use Rattle.clap.specs.declared.error.kind.ErrorKind.TheVariants as code
 use Rattle.clap.specs.declared.error.kind.ErrorKind.TheVariants.{InvalidValue, UnknownArgument, InvalidSubcommand, NoEquals, ValueValidation, TooManyValues, TooFewValues, WrongNumberOfValues, ArgumentConflict, MissingRequiredArgument, MissingSubcommand, DisplayHelp, DisplayHelpOnMissingArgumentOrSubcommand, DisplayVersion, Io, Format}
@@ -16,7 +16,7 @@ use Rattle.derguard_program.specs.declared.fault.Fault.{Fault}
 use Rattle.derguard_program.specs.declared.fault.Fault.TheVariants.{BadHex, CannotRead, Schema, Policy, Run, NoMemory}
 use Rattle.derguard_program.specs.Files.{Told}
 use Rattle.derguard_program.specs.Requests.{AbstractRequest, first, check, decide, run, mux}
-use Rattle.derguard_program.specs.Words.{Asks, the_app}
+use Rattle.derguard_program.specs.Words.{Asks, the_app, version}
 use Rattle.derguard_program.specs.Reading.{IsPolicyAt, IsNoPolicyAt}
 use Rattle.derguard_program.specs.Answers.{AbstractAnswer, IsFirst, IsNoFirst, IsChecked, IsDecided, IsUndecided}
 use Rattle.derguard_program.specs.Devices.{Input, Device, IsUnread, IsUntouched}
@@ -108,11 +108,15 @@ is_help Io = false
 is_help Format = false
 is_help code.OutOfMemory = false
 
--- Help goes to standard output, with status 0, and what is wrong with the words is reported, with status 2. The text is that of the reader of words, which
--- tests show.
+-- what is printed for `--version`
+abbrev pub version_line : List ℕ
+version_line = codes "derguard " ++ version ++ codes "\n"
+
+-- Help and the version go to standard output, with status 0, and what is wrong with the words is reported, with status 2. The text of help and of what is
+-- wrong is that of the reader of words, which tests show.
 abbrev pub ShowsKind : ErrorKind → Device → Device → ℕ → Type 0
 ShowsKind said out err status =
-    ((is_help said ≡ true) × ((text : List ℕ) × Writes text 0 out err status))
+    ((is_help said ≡ true) × ((text : List ℕ) × (said ≡ DisplayVersion → text ≡ version_line) × Writes text 0 out err status))
     ⊎ ((is_help said ≡ false) × IsUntouched out × ((text : List ℕ) × TellsLine text 2 err status))
 
 -- One of these kinds is shown; or memory ran out, and that is reported.

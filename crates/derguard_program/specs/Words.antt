@@ -5,6 +5,10 @@ use Rattle.clap.specs.Simple.{new_shape}
 use Rattle.clap.specs.declared.builder.action.ArgAction.TheVariants.{Set}
 use Rattle.derguard_program.specs.Requests.{AbstractRequest, first, check, decide, run, mux}
 
+-- the program's version
+abbrev pub version : Text
+version = codes "0.1.0"
+
 -- ---- the commands
 
 -- an argument that must be given, with a value
@@ -39,10 +43,10 @@ run_shape = command_shape (codes "run") (place_rule (codes "policy") ∷ [])
 abbrev pub mux_shape : Shape
 mux_shape = command_shape (codes "mux") (place_rule (codes "policy") ∷ [])
 
--- one of these commands, after the program's name
+-- one of these commands, after the program's name; or `--version`
 abbrev pub the_app : App
 the_app = record {
-  top = record (new_shape (codes "derguard")) { is_leaf = false; subcommand_required = true };
+  top = record (new_shape (codes "derguard")) { is_leaf = false; subcommand_required = true; has_version = true };
   subs = check_shape ∷ decide_shape ∷ run_shape ∷ mux_shape ∷ [];
 }
 

@@ -8,6 +8,9 @@ use crate::request::{Message, Request};
 use clap::{Arg, ArgAction, ArgMatches, Command, Error};
 use std::alloc::{AllocError, Global};
 
+/// The program's version. Nothing else of the code says it.
+pub const VERSION: &str = "0.1.0";
+
 const ABOUT: &str =
     "Lets through the DER messages that a policy over ASN.1 types allows, and says why it stops others. Without words it decides four messages that are built in.";
 
@@ -69,6 +72,7 @@ fn command<'a>(alloc: Global) -> Result<Command<'a>, AllocError>
     ensures { IfOk result (λ c. app_of c ≡ the_app) }
 {
     Command::new(alloc, "derguard")
+        .version(VERSION)
         .about(ABOUT)
         .after_help(EXAMPLE)
         .subcommand_required(true)

@@ -1,5 +1,6 @@
 -- The items of a list at their places.
-use Rattle.std.proofs.Common.{◌≡◌, ℕ, zero, suc, ◌<◌, ◌≤◌, length, get_or, List, [], ◌∷◌, Option, Some, None, Bor, MatchOption, option_map, refl, sym, ap, arith}
+use Rattle.std.proofs.Common.{◌≡◌, ℕ, zero, suc, ◌<◌, ◌≤◌, length, get_or, List, [], ◌∷◌, Option, Some, None, Bor}
+use Rattle.std.proofs.Common.{MatchOption, option_map, refl, sym, ap, arith}
 use Rattle.std.specs.List.{HoldsAt}
 use Rattle.guard_model.specs.ValueView.{value_view, items_view}
 use Rattle.guard_model.specs.declared.value.Value.{Value}

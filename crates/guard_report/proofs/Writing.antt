@@ -1,5 +1,7 @@
 -- What is written step by step: levels of indentation, characters in quotes and in lists.
-use Rattle.std.proofs.Common.{◌≡◌, ℕ, suc, ◌+◌, ◌-◌, ◌<◌, Bool, true, false, cond, List, [], ◌∷◌, ◌++◌, length, drop, get_or, flat_map, Option, Result, Ok, Err, refl, sym, ap, ◌∙◌, append_assoc, not, ◌&&◌, arith}
+use Rattle.std.proofs.Common.{◌≡◌, ℕ, suc, ◌+◌, ◌-◌, ◌<◌, Bool, true, false, cond, List, [], ◌∷◌, ◌++◌, length, drop}
+use Rattle.std.proofs.Common.{get_or, flat_map, Option, Result, Ok, Err, refl, sym, ap, ◌∙◌, append_assoc, not, ◌&&◌}
+use Rattle.std.proofs.Common.{arith}
 use Rattle.std.specs.Prelude.{OnOk}
 use Rattle.std.specs.List.{list_all}
 use Rattle.std.proofs.lemmas.List.{at_drop_more, drop_all, append-nil}
@@ -7,7 +9,8 @@ use Rattle.guard_model.specs.declared.ty.CharKind.{CharKind}
 use Rattle.guard_report.specs.declared.characters.Last.{Last}
 use Rattle.guard_report.specs.declared.characters.Last.TheVariants.{Nothing, Run, Numbers}
 use Rattle.guard_report.specs.Layouts.{spaces}
-use Rattle.guard_report.specs.CharacterStrings.{Piece, run, hidden, is_hidden, as_quoted, numbers_of, pieces_of, before_pieces}
+use Rattle.guard_report.specs.CharacterStrings.{Piece, run, hidden, is_hidden, as_quoted, numbers_of, pieces_of}
+use Rattle.guard_report.specs.CharacterStrings.{before_pieces}
 use Rattle.guard_report.specs.inside.Listing.{end_of, end_of_list, opening, listed, last_of, rest_of, still_to_come}
 
 -- ---- what is appended step by step

@@ -32,7 +32,8 @@ closing (Lines level) false = new_line level ++ codes "}"
 -- these parts, the first of which is the first of all, or not, and what closes them
 abbrev pub parts_from : Layout → Bool → List (List ℕ) → List ℕ
 parts_from layout is_first [] = closing layout is_first
-parts_from layout is_first (part ∷ parts) = before_part (inside layout) is_first ++ part ++ parts_from layout false parts
+parts_from layout is_first (part ∷ parts) =
+    before_part (inside layout) is_first ++ part ++ parts_from layout false parts
 
 -- parts with commas between them
 abbrev pub in_braces : Layout → List (List ℕ) → List ℕ

@@ -1,5 +1,6 @@
 -- How strings of bits and octets are written (X.680 clauses 22 and 23).
-use Rattle.std.specs.Prelude.{ℕ, zero, suc, ◌+◌, ◌-◌, ◌/◌, ◌%◌, ℤ, pos, Bool, true, ◌&&◌, List, [], ◌∷◌, ◌++◌, codes, flat_map, length, map, nat_lt, take, Option, Some, None, if◌then◌else◌}
+use Rattle.std.specs.Prelude.{ℕ, zero, suc, ◌+◌, ◌-◌, ◌/◌, ◌%◌, ℤ, pos, Bool, true, ◌&&◌, List, [], ◌∷◌, ◌++◌, codes}
+use Rattle.std.specs.Prelude.{flat_map, length, map, nat_lt, take, Option, Some, None, if◌then◌else◌}
 use Rattle.std.specs.Ordering.{int_eq}
 use Rattle.std.specs.Option.{is_some}
 use Rattle.guard_model.specs.AbstractType.{NamedNumber}
@@ -24,7 +25,8 @@ hexadecimal octets = codes "'" ++ flat_map two_digits octets ++ codes "'H"
 -- the first bit is the highest
 abbrev pub eight_bits : ℕ → List ℕ
 eight_bits octet =
-    octet / 128 ∷ octet / 64 % 2 ∷ octet / 32 % 2 ∷ octet / 16 % 2 ∷ octet / 8 % 2 ∷ octet / 4 % 2 ∷ octet / 2 % 2 ∷ octet % 2 ∷ []
+    octet / 128 ∷ octet / 64 % 2 ∷ octet / 32 % 2 ∷ octet / 16 % 2
+    ∷ octet / 8 % 2 ∷ octet / 4 % 2 ∷ octet / 2 % 2 ∷ octet % 2 ∷ []
 
 -- but for the last ones, which are unused
 abbrev pub without_last : ℕ → List ℕ → List ℕ
@@ -69,4 +71,5 @@ names_of_ones names i (suc b ∷ bits) = name_or_number (name_of names (pos i)) 
 abbrev pub bits_text : List NamedNumber → List ℕ → ℕ → List ℕ
 bits_text [] octets unused = bits_as_digits octets unused
 bits_text (n ∷ ns) octets unused =
-    if are_named (n ∷ ns) 0 (bits_of octets unused) then in_braces Line (names_of_ones (n ∷ ns) 0 (bits_of octets unused)) else bits_as_digits octets unused
+    if are_named (n ∷ ns) 0 (bits_of octets unused) then in_braces Line (names_of_ones (n ∷ ns) 0 (bits_of octets unused))
+    else bits_as_digits octets unused

@@ -1,6 +1,7 @@
--- The text of a value in ASN.1 value notation (X.680), by its kind. The type says how items, bits, components and alternatives
--- are called; what the type doesn't know stands by its number.
-use Rattle.std.specs.Prelude.{ℕ, suc, ℤ, Bool, true, false, List, [], ◌∷◌, ◌++◌, codes, decimal, option_map, Option, Some, None}
+-- The text of a value in ASN.1 value notation (X.680), by its kind. The type says how items, bits, components and
+-- alternatives are called; what the type doesn't know stands by its number.
+use Rattle.std.specs.Prelude.{ℕ, suc, ℤ, Bool, true, false, List, [], ◌∷◌, ◌++◌, codes, decimal, option_map, Option}
+use Rattle.std.specs.Prelude.{Some, None}
 use Rattle.std.specs.Fmt.{signed_decimal}
 use Rattle.guard_model.specs.declared.ty.CharKind.{CharKind}
 use Rattle.guard_model.specs.declared.site.Step.TheVariants.{Component}
@@ -82,13 +83,15 @@ abbrev mutual
   -- clauses 26 and 28
   value_octets layout t (value.items vs) = in_braces layout (element_texts (inside layout) (element_type t) vs)
   -- clause 29
-  value_octets layout t (value.chosen i v) = part_name t i ++ codes ": " ++ value_octets layout (type_within t (Component i)) v
+  value_octets layout t (value.chosen i v) =
+      part_name t i ++ codes ": " ++ value_octets layout (type_within t (Component i)) v
 
   -- Each component that is there, with its name. The first of these stands at place i.
   pub field_texts : Layout → Option AbstractType → ℕ → Fields → List (List ℕ)
   field_texts layout t i value.no_fields = []
   field_texts layout t i (value.present v fs) =
-      (part_name t i ++ codes " " ++ value_octets layout (type_within t (Component i)) v) ∷ field_texts layout t (suc i) fs
+      (part_name t i ++ codes " " ++ value_octets layout (type_within t (Component i)) v)
+      ∷ field_texts layout t (suc i) fs
   field_texts layout t i (value.absent fs) = field_texts layout t (suc i) fs
 
   -- the elements, each of this type

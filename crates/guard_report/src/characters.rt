@@ -7,8 +7,8 @@ ghost use Rattle.guard_report.specs.inside.Listing.{end_of, end_of_list, opening
 use super::words::{add, add_number};
 use guard_model::{CharKind, OutOfMemory};
 
-/// Appends the string in quotes where each character can be seen, else the list of what is seen and of hidden characters by
-/// their numbers.
+/// Appends the string in quotes where each character can be seen, else the list of what is seen and of hidden characters
+/// by their numbers.
 pub(crate) fn add_characters(
     text: &mut Vec<u8>,
     kind: Option<CharKind>,

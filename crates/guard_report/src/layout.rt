@@ -10,7 +10,8 @@ use guard_model::OutOfMemory;
 pub enum Layout {
     /// All on one line: `{qty 11, side buy}`.
     Line,
-    /// Each on a line of its own, one level further in than the whole, which stands at this level. A level is two spaces.
+    /// Each on a line of its own, one level further in than the whole, which stands at this level. A level is two
+    /// spaces.
     Lines(u8),
 }
 

@@ -56,15 +56,16 @@ pub fn type_at<'a>(ty: &'a Ty, path: &[Step]) -> Option<&'a Ty>
     inner
 }
 
-/// The text of the part of a value of the type that the path names, on one line; None where there is no such part. Its one
-/// refusal is want of memory.
+/// The text of the part of a value of the type that the path names, on one line; None where there is no such part. Its
+/// one refusal is want of memory.
 pub fn part_text(
     alloc: Global,
     ty: &Ty,
     value: &Value,
     path: &[Step],
 ) -> Result<Option<Vec<u8>>, OutOfMemory>
-    ensures { IfOk result (λ text. option_map (λ t. t.items) text ≡ part_octets (type_view ty.now) (value_view value.now) path.now) }
+    ensures { IfOk result (λ text.
+        option_map (λ t. t.items) text ≡ part_octets (type_view ty.now) (value_view value.now) path.now) }
 {
     let Some(part) = value_at(value, path) else {
         return Ok(None);

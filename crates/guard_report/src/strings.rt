@@ -1,7 +1,8 @@
 //! Strings of octets and bits.
 ghost use Rattle.std.specs.Prelude.{◌≡◌, ◌++◌, ◌<◌, OnOk, IfOk, map, option_map};
 ghost use Rattle.guard_model.specs.TypeView.{named_view};
-ghost use Rattle.guard_report.specs.Strings.{digit, hexadecimal, eight_bits, bits_of, binary, bits_as_digits, name_of, are_named, names_of_ones, bits_text};
+ghost use Rattle.guard_report.specs.Strings.{digit, hexadecimal, eight_bits, bits_of, binary, bits_as_digits};
+ghost use Rattle.guard_report.specs.Strings.{name_of, are_named, names_of_ones, bits_text};
 ghost use Rattle.guard_report.specs.Layouts.{in_braces};
 ghost use Rattle.guard_report.specs.declared.layout.Layout.TheVariants.{Line};
 
@@ -40,7 +41,8 @@ pub(crate) fn add_bits(
     names: &[Named],
     bits: &Bits,
 ) -> Result<(), OutOfMemory>
-    ensures { OnOk result (text.new.items ≡ text.old.items ++ bits_text (map named_view names.now) bits.now.octets.items bits.now.unused) }
+    ensures { OnOk result (text.new.items
+        ≡ text.old.items ++ bits_text (map named_view names.now) bits.now.octets.items bits.now.unused) }
 {
     let list = bits_of(alloc, bits)?;
     if !names.is_empty() && are_named(names, &list) {
@@ -120,7 +122,8 @@ fn are_named(names: &[Named], bits: &[u8]) -> bool
 
 /// Appends the names of the bits that are one in braces.
 fn add_names(text: &mut Vec<u8>, names: &[Named], bits: &[u8]) -> Result<(), OutOfMemory>
-    ensures { OnOk result (text.new.items ≡ text.old.items ++ in_braces Line (names_of_ones (map named_view names.now) 0 bits.now)) }
+    ensures { OnOk result (text.new.items
+        ≡ text.old.items ++ in_braces Line (names_of_ones (map named_view names.now) 0 bits.now)) }
 {
     add(text, b"{")?;
     let mut is_first = true;

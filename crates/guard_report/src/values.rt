@@ -7,7 +7,9 @@ ghost use Rattle.guard_model.specs.ValueView.{value_view, fields_view, items_vie
 ghost use Rattle.guard_report.specs.Layouts.{inside, in_braces};
 ghost use Rattle.guard_report.specs.Strings.{name_of};
 ghost use Rattle.guard_report.specs.Text.{type_within};
-ghost use Rattle.guard_report.specs.ValueText.{value_octets, field_texts, element_texts, boolean_text, item_text, arcs_text, part_name, items_known, bits_known, characters_known};
+ghost use Rattle.guard_report.specs.ValueText.{value_octets, field_texts, element_texts, boolean_text, item_text};
+ghost use Rattle.guard_report.specs.ValueText.{arcs_text};
+ghost use Rattle.guard_report.specs.ValueText.{part_name, items_known, bits_known, characters_known};
 
 use super::characters::add_characters;
 use super::layout::{Layout, add_before_part, add_closing};
@@ -18,15 +20,16 @@ use guard_model::{CharKind, Kind, Named, OutOfMemory, Ty, Value};
 use itoa::Buffer;
 use std::alloc::Global;
 
-/// The text of a value in the value notation of ASN.1, with the names that the type has for its parts. Its one refusal is want
-/// of memory.
+/// The text of a value in the value notation of ASN.1, with the names that the type has for its parts. Its one refusal
+/// is want of memory.
 pub fn value_text(
     alloc: Global,
     ty: &Ty,
     value: &Value,
     layout: Layout,
 ) -> Result<Vec<u8>, OutOfMemory>
-    ensures { IfOk result (λ text. text.items ≡ value_octets layout (Some (type_view ty.now)) (value_view value.now)) }
+    ensures { IfOk result (λ text.
+        text.items ≡ value_octets layout (Some (type_view ty.now)) (value_view value.now)) }
 {
     let mut text = Vec::new(alloc);
     add_value(alloc, &mut text, layout, Some(ty), value)?;
@@ -42,7 +45,8 @@ pub(crate) fn add_value(
     ty: Option<&Ty>,
     value: &Value,
 ) -> Result<(), OutOfMemory>
-    ensures { OnOk result (text.new.items ≡ text.old.items ++ value_octets layout (option_map (λ ty. type_view ty.now) ty.entry) (value_view value.now)) }
+    ensures { OnOk result (text.new.items
+        ≡ text.old.items ++ value_octets layout (option_map (λ ty. type_view ty.now) ty.entry) (value_view value.now)) }
 {
     match value {
         Value::Bool(truth) => add_truth(text, *truth),
@@ -70,7 +74,8 @@ fn add_fields(
     ty: Option<&Ty>,
     fields: &[Option<Value>],
 ) -> Result<(), OutOfMemory>
-    ensures { OnOk result (text.new.items ≡ text.old.items ++ in_braces layout (field_texts (inside layout) (option_map (λ ty. type_view ty.now) ty.entry) 0 (fields_view fields.now))) }
+    ensures { OnOk result (text.new.items ≡ text.old.items ++ in_braces layout
+        (field_texts (inside layout) (option_map (λ ty. type_view ty.now) ty.entry) 0 (fields_view fields.now))) }
 {
     add(text, b"{")?;
     let mut is_first = true;
@@ -93,7 +98,8 @@ fn add_elements(
     ty: Option<&Ty>,
     items: &[Value],
 ) -> Result<(), OutOfMemory>
-    ensures { OnOk result (text.new.items ≡ text.old.items ++ in_braces layout (element_texts (inside layout) (option_map (λ ty. type_view ty.now) ty.entry) (items_view items.now))) }
+    ensures { OnOk result (text.new.items ≡ text.old.items ++ in_braces layout
+        (element_texts (inside layout) (option_map (λ ty. type_view ty.now) ty.entry) (items_view items.now))) }
 {
     add(text, b"{")?;
     let mut is_first = true;
@@ -116,7 +122,9 @@ fn add_part(
     mark: &[u8],
     value: &Value,
 ) -> Result<(), OutOfMemory>
-    ensures { OnOk result (text.new.items ≡ text.old.items ++ (part_name (option_map (λ ty. type_view ty.now) ty.entry) place ++ mark.now ++ value_octets layout (type_within (option_map (λ ty. type_view ty.now) ty.entry) (Component place)) (value_view value.now))) }
+    ensures { let t = option_map (λ ty. type_view ty.now) ty.entry in
+        OnOk result (text.new.items ≡ text.old.items ++ (part_name t place ++ mark.now
+        ++ value_octets layout (type_within t (Component place)) (value_view value.now))) }
 {
     add_part_name(text, ty, place)?;
     add(text, mark)?;
@@ -124,7 +132,8 @@ fn add_part(
 }
 
 fn add_part_name(text: &mut Vec<u8>, ty: Option<&Ty>, place: usize) -> Result<(), OutOfMemory>
-    ensures { OnOk result (text.new.items ≡ text.old.items ++ part_name (option_map (λ ty. type_view ty.now) ty.entry) place) }
+    ensures { OnOk result (text.new.items
+        ≡ text.old.items ++ part_name (option_map (λ ty. type_view ty.now) ty.entry) place) }
 {
     let name = component_at(ty, place).map(|comp| comp.name.as_str());
     add_name(text, name, place as u64)
@@ -151,7 +160,8 @@ fn add_integer(text: &mut Vec<u8>, number: i128) -> Result<(), OutOfMemory>
 
 /// An item by its name.
 fn add_item(text: &mut Vec<u8>, items: &[Named], number: i128) -> Result<(), OutOfMemory>
-    ensures { OnOk result (text.new.items ≡ text.old.items ++ item_text (name_of (map named_view items.now) number) number) }
+    ensures { OnOk result (text.new.items
+        ≡ text.old.items ++ item_text (name_of (map named_view items.now) number) number) }
 {
     match name_of(items, number) {
         Some(name) => add(text, name.as_bytes()),

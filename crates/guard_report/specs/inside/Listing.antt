@@ -5,7 +5,8 @@ use Rattle.guard_report.specs.declared.characters.Last.{Last}
 use Rattle.guard_report.specs.declared.characters.Last.TheVariants.{Nothing, Run, Numbers}
 use Rattle.guard_report.specs.declared.layout.Layout.TheVariants.{Line}
 use Rattle.guard_report.specs.Layouts.{in_braces, parts_from}
-use Rattle.guard_report.specs.CharacterStrings.{Piece, run, hidden, is_hidden, as_quoted, numbers_of, piece_text, pieces_of}
+use Rattle.guard_report.specs.CharacterStrings.{Piece, run, hidden, is_hidden, as_quoted, numbers_of, piece_text}
+use Rattle.guard_report.specs.CharacterStrings.{pieces_of}
 
 abbrev pub end_of : Last → List ℕ
 end_of Nothing = []
@@ -35,8 +36,10 @@ end_of_list Numbers = codes "}"
 
 -- after a run whose quotes are open
 abbrev pub after_run : Option CharKind → List Piece → List ℕ
-after_run kind (run characters ∷ pieces) = flat_map as_quoted characters ++ codes "\"" ++ parts_from Line false (map (piece_text kind) pieces)
-after_run kind (hidden code ∷ pieces) = codes "\"" ++ parts_from Line false (map (piece_text kind) (hidden code ∷ pieces))
+after_run kind (run characters ∷ pieces) =
+    flat_map as_quoted characters ++ codes "\"" ++ parts_from Line false (map (piece_text kind) pieces)
+after_run kind (hidden code ∷ pieces) =
+    codes "\"" ++ parts_from Line false (map (piece_text kind) (hidden code ∷ pieces))
 after_run kind [] = codes "\"" ++ parts_from Line false []
 
 abbrev pub rest_of : Option CharKind → Last → List Piece → List ℕ

@@ -5,7 +5,9 @@ use Rattle.guard_model.specs.declared.site.Step.TheVariants.{Component, Element}
 use Rattle.guard_model.specs.declared.ty.CharKind.TheVariants.{Ia5, Utf8}
 use Rattle.guard_model.specs.AbstractType as type
 use Rattle.guard_model.specs.AbstractType.{AbstractType, NamedNumber, no_components, component}
-use Rattle.guard_model.specs.AbstractValue.{AbstractValue, boolean, integer, enumerated, null, octet_string, object_identifier, fields, items, chosen, no_fields, present, absent, no_items, item}
+use Rattle.guard_model.specs.AbstractValue.{AbstractValue, boolean, integer, enumerated, null, octet_string}
+use Rattle.guard_model.specs.AbstractValue.{object_identifier, fields, items, chosen, no_fields, present, absent}
+use Rattle.guard_model.specs.AbstractValue.{no_items, item}
 use Rattle.guard_eval.specs.rows.Rows.{plain}
 use Rattle.guard_report.specs.declared.layout.Layout.TheVariants.{Line, Lines}
 use Rattle.guard_report.specs.Strings.{bits_text}
@@ -16,24 +18,30 @@ use Rattle.guard_report.specs.rows.Rows.{order}
 
 -- an order with one line, which is the empty list of alternative `all`
 abbrev bought : AbstractValue
-bought = fields (present (integer (pos 11)) (present (boolean true) (present (items (item (chosen 1 (items no_items)) no_items)) no_fields)))
+bought =
+    fields (present (integer (pos 11)) (present (boolean true) (present (items (item (chosen 1 (items no_items)) no_items))
+    no_fields)))
 
 on_one_line : value_octets Line (Some order) bought ≡ codes "{qty 11, urgent TRUE, lines {all: {}}}"
 unfolding digits
 on_one_line = refl
 
-on_lines : value_octets (Lines 0) (Some order) bought ≡ codes "{\n  qty 11,\n  urgent TRUE,\n  lines {\n    all: {}\n  }\n}"
+on_lines : value_octets (Lines 0) (Some order) bought
+    ≡ codes "{\n  qty 11,\n  urgent TRUE,\n  lines {\n    all: {}\n  }\n}"
 unfolding digits
 on_lines = refl
 
 -- a component that is left out, and one that the type doesn't have
-without_urgent : value_octets Line (Some order) (fields (present (integer (negsuc 4)) (absent (absent (present null no_fields))))) ≡ codes "{qty -5, 3 NULL}"
+without_urgent : value_octets Line (Some order) (fields (present (integer (negsuc 4)) (absent (absent (present null no_fields)))))
+    ≡ codes "{qty -5, 3 NULL}"
 unfolding digits
 without_urgent = refl
 
 -- ENUMERATED { buy (0), sell (7) }
 abbrev side : AbstractType
-side = plain 10 (type.enumerated (record { name = codes "buy"; number = pos 0 } ∷ record { name = codes "sell"; number = pos 7 } ∷ []))
+side =
+    plain 10 (type.enumerated
+    (record { name = codes "buy"; number = pos 0 } ∷ record { name = codes "sell"; number = pos 7 } ∷ []))
 
 sold : value_octets Line (Some side) (enumerated (pos 7)) ≡ codes "sell"
 unfolding digits

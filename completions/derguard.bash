@@ -32,7 +32,7 @@ _derguard() {
         --from | --to | --message) return ;;
     esac
     case $command in
-        '') mapfile -t COMPREPLY < <(compgen -W 'check decide run mux help --help' -- "$current") ;;
+        '') mapfile -t COMPREPLY < <(compgen -W 'check decide run mux help --help --version' -- "$current") ;;
         help) [ -n "$policy" ] || mapfile -t COMPREPLY < <(compgen -W 'check decide run mux' -- "$current") ;;
         check | run | mux | decide)
             if [[ $current == -* ]]; then

@@ -32,6 +32,7 @@ end
 
 complete -c derguard -f
 complete -c derguard -s h -l help -d 'show help'
+complete -c derguard -n __fish_use_subcommand -s V -l version -d 'show the version'
 complete -c derguard -n __fish_use_subcommand -a check -d 'say whether a policy and its modules are accepted'
 complete -c derguard -n __fish_use_subcommand -a decide -d 'say what becomes of one message, and why'
 complete -c derguard -n __fish_use_subcommand -a run -d 'guard a stream of frames'

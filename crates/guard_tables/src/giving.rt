@@ -50,11 +50,7 @@ fn give<'a>(
 }
 
 /// To the part at this place, if there is one.
-fn put<'a>(
-    place: usize,
-    term: Term<'a>,
-    parts: &mut Vec<Vec<Term<'a>>>,
-) -> Result<(), OutOfMemory>
+fn put<'a>(place: usize, term: Term<'a>, parts: &mut Vec<Vec<Term<'a>>>) -> Result<(), OutOfMemory>
     ensures { OnOk result (given_view parts.new.items ≡ given place (term_view term.entry) (given_view parts.old.items)) }
 {
     if place < parts.len() {
@@ -63,10 +59,7 @@ fn put<'a>(
     Ok(())
 }
 
-fn put_everywhere<'a>(
-    term: Term<'a>,
-    parts: &mut Vec<Vec<Term<'a>>>,
-) -> Result<(), OutOfMemory>
+fn put_everywhere<'a>(term: Term<'a>, parts: &mut Vec<Vec<Term<'a>>>) -> Result<(), OutOfMemory>
     ensures { OnOk result (given_view parts.new.items ≡ given_at_all (term_view term.entry) (given_view parts.old.items)) }
 {
     let mut left = parts.len();

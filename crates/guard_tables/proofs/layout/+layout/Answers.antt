@@ -84,15 +84,18 @@ pub lay_each-lay_part-requires : goal.lay_each-lay_part-requires
 lay_each-lay_part-requires t c =
     let comps = c.args.comps.now in
     let place = c.loop-place.place in
-    let all = terms_view c.args.terms.now in
-    (
+    let all = terms_view c.args.terms.now in (
       search (rules, the_lemmas),
-      (c.loop-place.invariant.nodes, (
-      part_may c.args.group comps place c.index-comps-place.result (terms_view c.deref.result.now) all c.loop-place-test.true c.index-comps-place.is
-      (own_given (is_exclusive c.args.group) all comps c.in_ok-given.given.items place c.index.result.now c.deref.result.now c.deref.ensures.value
-      c.is_exclusive.result c.is_exclusive.ensures c.in_ok-given.ensures c.loop-place-test.true c.index.ensures)
-      c.loop-place.invariant.rest,
-      part_proper comps place c.index-comps-place.result all c.loop-place-test.true c.index-comps-place.is c.loop-place.invariant.rest)),
+      (
+        c.loop-place.invariant.nodes,
+        (
+          part_may c.args.group comps place c.index-comps-place.result (terms_view c.deref.result.now) all c.loop-place-test.true c.index-comps-place.is
+              (own_given (is_exclusive c.args.group) all comps c.in_ok-given.given.items place c.index.result.now c.deref.result.now c.deref.ensures.value
+              c.is_exclusive.result c.is_exclusive.ensures c.in_ok-given.ensures c.loop-place-test.true c.index.ensures)
+              c.loop-place.invariant.rest,
+          part_proper comps place c.index-comps-place.result all c.loop-place-test.true c.index-comps-place.is c.loop-place.invariant.rest,
+        ),
+      ),
     )
 
 pub lay_each-loop-place-preserved : goal.lay_each-loop-place-preserved

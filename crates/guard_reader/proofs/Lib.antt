@@ -23,6 +23,7 @@ pub mod Ranks
 pub mod SetSteps
 -- ---- a pass reads octets as decoding does
 pub mod Fronts
+pub mod LowTags
 pub mod Places
 pub mod Heads
 pub mod Sights

@@ -1,20 +1,24 @@
 //! Components of a SET: which one is next, and which were read.
-ghost use Rattle.std.specs.Prelude.{◌≡◌, ◌+◌, ◌<◌, ◌≤◌, ◌||◌, ℕ, List, [], true, length, nat_eq, vec_len, IfSome, Some, option_map};
+ghost use Rattle.std.specs.Prelude.{◌≡◌, ◌+◌, ◌%◌, ◌<◌, ◌≤◌, ◌||◌, slice_index, ℕ, List, [], true, length, nat_eq, vec_len, IfSome, Some, option_map};
 ghost use Rattle.std.specs.Int.{bit_at};
 ghost use Rattle.guard_der.specs.Reading.{follows};
 ghost use Rattle.guard_tables.specs.NodesView.{spots_in};
 ghost use Rattle.guard_tables.specs.TableNodes.{parts_between};
 ghost use Rattle.guard_reader.specs.Judging.{absences_at, is_read, tag_after, tag_at};
-ghost use Rattle.guard_reader.specs.Fronts.{elsewhere};
+ghost use Rattle.guard_der.specs.Head.{class_of};
+ghost use Rattle.guard_reader.specs.Fronts.{after_one, elsewhere};
+ghost use Rattle.guard_reader.specs.Octets.{split};
+ghost use Rattle.std.specs.Option.{is_some};
 ghost use Rattle.guard_reader.specs.inside.Answers.{Answers};
 ghost use Rattle.guard_reader.specs.inside.Members.{AreRead, Reach, member_found};
 ghost use Rattle.guard_reader.specs.inside.NodeParts.{sight_at};
 ghost use Rattle.guard_reader.specs.inside.Ranks.{AreBelow, IsBelow, IsLow, rank, rank_of};
 
 use crate::element_fronts::{Front, front_at};
+use crate::header::split_after;
 use crate::walking::series::absent;
 use guard_der::header;
-use guard_model::Tag;
+use guard_model::{Class, Tag};
 use guard_tables::{Nodes, Slots};
 use std::cmp::Ordering;
 
@@ -22,9 +26,72 @@ use std::cmp::Ordering;
 pub fn next_tag(last: Option<Tag>, octets: &[u8]) -> Option<Tag>
     ensures { result ≡ tag_after last (tag_at octets.now) }
 {
+    match front_tag(octets) {
+        Some(tag) => tag_after(last, tag),
+        None => None,
+    }
+}
+
+/// The tag of the element at the front.
+#[inline(always)]
+fn front_tag(octets: &[u8]) -> Option<Tag>
+    ensures { result ≡ tag_at octets.now }
+{
+    if octets.is_empty() {
+        return None;
+    }
+    if octets[0] % 32 == 31 {
+        return far_tag(octets);
+    }
+    low_tag(octets)
+}
+
+/// The same of a number from 31 on.
+#[cold]
+#[inline(never)]
+fn far_tag(octets: &[u8]) -> Option<Tag>
+    ensures { result ≡ tag_at octets.now }
+{
     match header(octets, 0) {
-        Ok(head) => tag_after(last, head.tag),
+        Ok(head) => Some(head.tag),
         Err(_) => None,
+    }
+}
+
+/// The same of a number up to 30, which stands in the first octet (X.690 8.1.2).
+#[inline(always)]
+fn low_tag(octets: &[u8]) -> Option<Tag>
+    requires some { 0 < length octets.now }
+    requires low { slice_index octets.now 0 % 32 < 31 }
+    ensures { result ≡ tag_at octets.now }
+{
+    if !is_whole(octets) {
+        return None;
+    }
+    let first = octets[0];
+    Some(Tag {
+        class: class_of(first),
+        number: u32::from(first % 32),
+    })
+}
+
+/// Whether the length after an identifier octet is lawful, and so many octets are there.
+#[inline(always)]
+fn is_whole(octets: &[u8]) -> bool
+    ensures { result ≡ is_some (split (after_one octets.now)) }
+{
+    split_after(octets).is_some()
+}
+
+#[inline(always)]
+fn class_of(octet: u8) -> Class
+    ensures { result ≡ class_of octet }
+{
+    match octet {
+        0..64 => Class::Universal,
+        64..128 => Class::Application,
+        128..192 => Class::Context,
+        _ => Class::Private,
     }
 }
 

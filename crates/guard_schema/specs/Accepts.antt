@@ -20,8 +20,8 @@ OrdersNames ms (Err (Name f)) = IsFirstFault ms f
 OrdersNames ms (Err _) = ⊥
 
 -- What texts denote, or their first fault, in the order of looking: how many texts there are; each text in turn, its
--- tokens and its tree; the names of
--- all modules; and each definition after those that it uses. The types get their names in the end.
+-- tokens and its tree; the names of all modules; and each definition after those that it uses. The types get their
+-- names in the end.
 abbrev pub Denotes : List (List ℕ) → Outcome AbstractSchema → Type 0
 Denotes texts =
     Then (CountsTexts texts) (λ _.

@@ -1,6 +1,6 @@
 -- What can keep a finished type from being sound: only a single value in a constraint whose encoding is longer than may
 -- be. Tags, lists, nesting, defaults and all other elements of constraints are as they should be.
-use Rattle.std.specs.Prelude.{◌≡◌, ◌≤◌, ◌⊎◌, ℕ, Bool, false, All, IfSome, IsTrue, None, Some, Ok}
+use Rattle.std.specs.Prelude.{◌≡◌, ◌≤◌, ◌⊎◌, ℕ, Bool, All, IfSome, IsTrue, None, Some, Ok, Err}
 use Rattle.guard_model.specs.declared.site.Site.{Site}
 use Rattle.guard_model.specs.AbstractType.{AbstractType}
 use Rattle.guard_model.specs.Limits.{most_components, deepest_nesting}
@@ -15,7 +15,10 @@ use Rattle.guard_tagging.specs.Surroundings.{nodes_of_all}
 use Rattle.guard_tagging.specs.Tagged.{IsTagged}
 use Rattle.guard_tagging.specs.Tagging.{automatic_tag, with_automatic_tag}
 use Rattle.guard_tagging.specs.Types.{Surroundings, denoted}
+use Rattle.guard_values.specs.declared.fault.ValueFault.TheVariants as value_fault
+use Rattle.guard_schema.specs.Faults.{AbstractFault, Value}
 use Rattle.guard_schema.specs.LongValues.{first_long}
+use Rattle.guard_schema.specs.Readings.{IsSoundAt}
 use Rattle.guard_schema.specs.Known.{Built, Known, types_of, visible, around}
 use Rattle.guard_schema.specs.Finishing.{Finishes}
 
@@ -32,10 +35,12 @@ HasBare surroundings tree bare =
     ⊎ ((number : ℕ) × (number ≤ most_components)
     × (bare ≡ with_automatic_tag (automatic_tag number) (denoted surroundings tree))))
 
--- The finished type is sound, or a value in one of its constraints is too long. The first of these is the one that is
--- blamed (`IsSoundAt`).
+-- Where the type isn't sound, a value in one of its constraints is too long, and the fault (V8) names the place of the
+-- first of these, wherever the type itself is written.
 abbrev pub IsUnsoundByValue : AbstractType → Type 0
-IsUnsoundByValue t = is_sound t ≡ false → (site : Site) × (first_long t ≡ Some site)
+IsUnsoundByValue t =
+    (written : Site) (fault : AbstractFault) → IsSoundAt written t (Err fault)
+    → (site : Site) × (first_long t ≡ Some site) × (fault ≡ Value (value_fault.TooLarge site))
 
 -- Where all that is built so far is sound, so it is with the type of a definition that has no fault of tags.
 abbrev pub OnlyLongValues : Type 0
@@ -45,8 +50,7 @@ OnlyLongValues =
     → Finishes (visible k d.home.name) d.assignment.ty bare (Ok t) → IsUnsoundByValue t
 
 -- And so it is with each part of it, and with a part before the constraints at its end are added: that is a tree
--- without
--- them. These are the types that have to be sound before a constraint, a default or a value is read under them.
+-- without them. These are the types that have to be sound before a constraint, a default or a value is read under them.
 abbrev pub OnlyLongInParts : Type 0
 OnlyLongInParts =
     (k : Known) (d : Definition) (tree : WrittenType) (bare t : AbstractType) → All IsSoundBuilt k.built

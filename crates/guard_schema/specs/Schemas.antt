@@ -9,8 +9,7 @@ use Rattle.guard_names.specs.Places.{place_in}
 use Rattle.guard_schema.specs.Known.{Built, Known, built_at}
 
 -- The names of the modules in the order of their texts, and the type of each name to which the module of a name assigns
--- one. A name that a module
--- imports is one of the module that assigns it.
+-- one. A name that a module imports is one of the module that assigns it.
 pub record AbstractSchema : Type 0 where
   pub modules : List (List ℕ)
   pub types : List ℕ → List ℕ → Option AbstractType

@@ -31,6 +31,7 @@ pub mod Laying
 pub mod Spots
 pub mod Growing
 pub mod Comings
+pub mod GivenOut
 pub mod LaidSteps
 pub mod LaidTypes
 -- ---- what loops gather

@@ -7,7 +7,6 @@ use Rattle.guard_model.specs.AbstractValue.{AbstractValue}
 use Rattle.guard_eval.specs.Member.{is_member}
 use Rattle.guard_tables.specs.Demands.{asks_fail}
 use Rattle.guard_tables.specs.Laws.{has_failed}
-use Rattle.guard_tables.specs.Lay.{added_if}
 use Rattle.guard_tables.specs.Slots.{none, only, has}
 use Rattle.guard_tables.specs.inside.Sharing.{slots_for, asks_by}
 use Rattle.guard_tables.proofs.SlotSets.{none_law, only_law}

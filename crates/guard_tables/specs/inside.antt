@@ -14,5 +14,6 @@ pub mod Intervals
 pub mod Aside
 pub mod Bare
 pub mod Laid
+pub mod Giving
 pub mod SameParts
 pub mod Sharing

@@ -107,10 +107,7 @@ fn hand_constraint<'a>(
 }
 
 #[cycle(handing)]
-fn hand_rule<'a>(
-    rule: &'a Rule,
-    parts: &mut Vec<Vec<Source<'a>>>,
-) -> Result<(), OutOfMemory>
+fn hand_rule<'a>(rule: &'a Rule, parts: &mut Vec<Vec<Source<'a>>>) -> Result<(), OutOfMemory>
     ensures { OnOk result (handed_view parts.new.items
         ≡ hand_element (element_view rule.now) (handed_view parts.old.items)) }
 {
@@ -129,10 +126,7 @@ fn hand_rule<'a>(
 }
 
 /// Of the parts of WITH COMPONENTS.
-fn hand_parts<'a>(
-    listed: &'a [Part],
-    parts: &mut Vec<Vec<Source<'a>>>,
-) -> Result<(), OutOfMemory>
+fn hand_parts<'a>(listed: &'a [Part], parts: &mut Vec<Vec<Source<'a>>>) -> Result<(), OutOfMemory>
     ensures { OnOk result (handed_view parts.new.items
         ≡ hand_parts (parts_of (map part_view listed.now)) (handed_view parts.old.items)) }
 {
@@ -142,18 +136,11 @@ fn hand_parts<'a>(
     Ok(())
 }
 
-fn hand_part<'a>(
-    part: &'a Part,
-    parts: &mut Vec<Vec<Source<'a>>>,
-) -> Result<(), OutOfMemory>
+fn hand_part<'a>(part: &'a Part, parts: &mut Vec<Vec<Source<'a>>>) -> Result<(), OutOfMemory>
     ensures { OnOk result (handed_view parts.new.items ≡ hand_part (part_view part.now) (handed_view parts.old.items)) }
 {
     match &part.cons {
-        Some(constraint) => put(
-            usize::from(part.at),
-            Source::Constraint(constraint),
-            parts,
-        ),
+        Some(constraint) => put(usize::from(part.at), Source::Constraint(constraint), parts),
         None => Ok(()),
     }
 }

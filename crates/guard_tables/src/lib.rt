@@ -16,7 +16,7 @@
 //! | Which nodes are there, and what keeps them in order? | `node.rt`, `node_list.rt` | `specs/NodeViews.antt`, `specs/TableNodes.antt`, `specs/NodesView.antt` |
 //! | How is what types and constraints ask tested at one node? | `slots.rt` | `specs/Demands.antt`, `specs/Spread.antt`, `specs/Forms.antt` |
 //! | Which plan asks all of it, and how many slots does a node need? | laws in `laws.rt` | `specs/Lay.antt`, `specs/Handed.antt`, `specs/Laws.antt` |
-//! | What is asked at a node, in code? | `asks.rt`; as tests `spreading.rt`, `parts.rt`, as formulas `form_terms.rt`, `asks_at_node.rt`, of parts `gathering.rt`, `presence.rt` | `specs/inside/AskViews.antt`, as it is put together `specs/inside/OnePart.antt`, `specs/inside/FormSteps.antt` |
+//! | What is asked at a node, in code? | `asks.rt`; as tests `spreading.rt`, `parts.rt`, as formulas `form_terms.rt`, `asks_at_node.rt`, of parts `giving.rt`, `gathering.rt`, `presence.rt` | `specs/inside/AskViews.antt`, as it is put together `specs/inside/OnePart.antt`, `specs/inside/FormSteps.antt` |
 //! | Which numbers, sizes and scalar values does a constraint have, as one set? | `number_sets.rt`, `range_lists.rt`, `simple_tests.rt`, `scalars.rt` | `specs/inside/NumberSets.antt`, `specs/inside/Pieces.antt`, `specs/inside/Scalars.antt` |
 #![tactic(auto)]
 
@@ -31,6 +31,7 @@ mod fault;
 mod form_terms;
 mod form_trees;
 mod gathering;
+mod giving;
 mod handing_down;
 mod identifiers;
 mod kinds_of_nodes;
@@ -47,8 +48,8 @@ mod plain;
 mod plain_interval;
 mod presence;
 mod range_lists;
-mod scalars;
 mod same_types;
+mod scalars;
 mod sharing;
 mod sides;
 mod simple_tests;

@@ -44,11 +44,7 @@ fn sources_of<'a>(
 
 /// Whether this is so from the type on, whose conditions these lay.
 #[cycle(nodes)]
-fn is_crowded_from(
-    ty: &Ty,
-    alloc: Global,
-    sources: &[Source<'_>],
-) -> Result<bool, OutOfMemory>
+fn is_crowded_from(ty: &Ty, alloc: Global, sources: &[Source<'_>]) -> Result<bool, OutOfMemory>
     ensures { IfOk result (λ found. found ≡ crowded_from (sources_view sources.now) (type_view ty.now)) }
 {
     if is_crowded(sources) {

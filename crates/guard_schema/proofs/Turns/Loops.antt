@@ -1,6 +1,5 @@
 -- Lists of what is written, one entry after another as a loop reads them: whatever the entries that are left make of
--- what there is so far, all make of
--- what there was first.
+-- what there is so far, all make of what there was first.
 use Rattle.std.proofs.Common.{◌≡◌, ℕ, ◌+◌, ◌<◌, ◌≤◌, List, [], ◌∷◌, length, get_or, drop, Option, Some, None, Result}
 use Rattle.std.proofs.Common.{Ok, Err, refl, sym, ap, subst, ◌∙◌, inl, inr}
 use Rattle.std.proofs.lemmas.List.{at_drop_more, at_drop_all}

@@ -1,6 +1,5 @@
 -- The bare type that a written type has by its tags is made up of types that are written there, which have no
--- constraints yet, and of types that names mean,
--- under other tags perhaps. Its tags and its lists keep the limits.
+-- constraints yet, and of types that names mean, under other tags perhaps. Its tags and its lists keep the limits.
 use Rattle.std.proofs.Common.{◌≡◌, ◌⊎◌, inl, inr, ℕ, suc, ◌+◌, ◌≤◌, Bool, true, false, ◌&&◌, List, [], ◌∷◌, Option}
 use Rattle.std.proofs.Common.{Some, None, option_map, IsTrue, refl, sym, ap, subst, ◌∙◌, arith}
 use Rattle.std.specs.Prelude.{nat_le, nat_lt}
@@ -268,11 +267,6 @@ module _ (names : Visible) (around : Surroundings)
       let a = neither (universal_tag tags) _ h in
       let b = neither (implicit_choice (denoted_base around base) tags) _ a.1 in
       (neither (tag_too_large tags) _ b.1).0
-
-  proper_inside : (t : AbstractType) → IsTrue (is_proper t) → IsTrue (is_proper_kind (kind_of t))
-  proper_inside (type_of tags kind cons) h =
-      (and_parts (is_tagged tags kind && are_low tags && are_proper_constraints cons (type_of tags kind cons))
-      (is_proper_kind kind) h).1
 
   -- what is said of a type and its kind
   abbrev Base : WrittenBase → AbstractType → Type 0

@@ -1,7 +1,7 @@
 -- Only a value that is too long keeps a finished type from being sound.
 use Rattle.std.proofs.Common.{◌≡◌, ◌+◌, ◌≤◌, inl, inr, arith, ℕ, true, false, ◌&&◌, List, Option, Some, None, Ok}
 use Rattle.std.proofs.Common.{option_map, slice_get, IsTrue, refl, sym, ap, subst, ◌∙◌}
-use Rattle.std.specs.Prelude.{All, IfSome, nat_le}
+use Rattle.std.specs.Prelude.{All, IfSome, nat_le, unwrap_or}
 use Rattle.std.specs.Option.{option_and_then}
 use Rattle.std.proofs.lemmas.Bool.{and_parts, and_from}
 use Rattle.std.proofs.lemmas.Bool.Decides.{nat_tests}
@@ -26,6 +26,8 @@ use Rattle.guard_tagging.specs.Tagging.{is_untagged_choice, automatic_tag}
 use Rattle.guard_tagging.specs.Types.{Meaning, denoted}
 use Rattle.guard_tagging.proofs.Types.Denoted.{within}
 use Rattle.guard_values.specs.Meanings.{AreFitting}
+use Rattle.guard_values.specs.declared.fault.ValueFault.TheVariants as value_fault
+use Rattle.guard_schema.specs.Faults.{Value}
 use Rattle.guard_schema.specs.LongValues.{first_long}
 use Rattle.guard_schema.specs.Known.{Built, Known, types_of, governed_value, governed, type_alone, meant, visible}
 use Rattle.guard_schema.specs.Known.{around}
@@ -123,14 +125,19 @@ module _ (k : Known) (d : Definition) (all : All IsSoundBuilt k.built) where
         (and_from (is_proper t) (has_distinct_tags t) (near none) (ap none_clash no_clash)) not_deep
 
     pub value_there : IsUnsoundByValue t
-    value_there unsound = by (first_long t) refl
+    value_there written fault unsound = by (first_long t) refl
       where
         true_false : true ≡ false → ⊥
         true_false h = cc
 
-        by : (o : Option Site) → first_long t ≡ o → (site : Site) × (first_long t ≡ Some site)
-        by (Some site) e = (site, e)
-        by None e = absurd (true_false (sym (sound_then e) ∙ unsound))
+        by : (o : Option Site) → first_long t ≡ o
+            → (site : Site) × (first_long t ≡ Some site) × (fault ≡ Value (value_fault.TooLarge site))
+        by (Some site) e = (
+          site,
+          e,
+          unsound.0 ∙ ap (λ (o : Option Site). Value (value_fault.TooLarge (unwrap_or o written))) e,
+        )
+        by None e = absurd (true_false (sym (sound_then e) ∙ unsound.1))
 
 shallow_then : (n : ℕ) → n ≤ 32 → nat_le n deepest_nesting ≡ true
 shallow_then n l = grind (arith, nat_tests)

@@ -1,6 +1,5 @@
 -- How the code fills a type: component by component, from those that are left to those that are finished. What it makes
--- so is what `Finishes` says, where
--- the bare type is the one that the written type has by its tags.
+-- so is what `Finishes` says, where the bare type is the one that the written type has by its tags.
 use Rattle.std.specs.Prelude.{◌≡◌, ℕ, List, [], ◌∷◌, ◌++◌, take, drop, Some, slice_get}
 use Rattle.guard_model.specs.declared.site.Site.{Site}
 use Rattle.guard_model.specs.AbstractType as type

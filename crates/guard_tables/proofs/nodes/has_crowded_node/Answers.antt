@@ -1,9 +1,8 @@
 use Rattle.std.proofs.Common.{◌∷◌, ap, ◌∙◌}
 use Rattle.guard_model.specs.TypeView.{type_view}
 use Rattle.guard_tables.specs.Tables.{types_view}
-use Rattle.guard_tables.specs.inside.Counting.{AbstractSource, by_types, sources_view}
-use Rattle.guard_tables.specs.inside.Search.{crowded_from}
-use Rattle.guard_tables.proofs.HandedDown.{looked_through, told_through}
+use Rattle.guard_tables.specs.inside.Counting.{sources_view}
+use Rattle.guard_tables.proofs.HandedDown.{told_through}
 use Rattle.guard_tables.proofs.nodes.has_crowded_node.Goals as goal
 
 pub returns : goal.returns

@@ -1,4 +1,4 @@
-use Rattle.std.proofs.Common.{List, ◌∷◌, ap, ◌∙◌, ◌≡◌, subst, length, ◌≤◌, sym, ℕ}
+use Rattle.std.proofs.Common.{List, ◌∷◌, ap, ◌∙◌, subst, length, ◌≤◌, sym, ℕ}
 use Rattle.std.specs.Borrow.{Bor}
 use Rattle.guard_model.specs.TypeView.{type_view}
 use Rattle.guard_model.specs.declared.ty.Ty.{Ty}

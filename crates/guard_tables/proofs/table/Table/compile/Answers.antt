@@ -1,5 +1,4 @@
-use Rattle.std.proofs.Common.{◌≡◌, List, map, ap, ◌∙◌}
-use Rattle.guard_model.specs.AbstractType.{AbstractType}
+use Rattle.std.proofs.Common.{◌≡◌, map, ap, ◌∙◌}
 use Rattle.guard_model.specs.TypeView.{type_view}
 use Rattle.guard_tables.specs.Tables.{types_view}
 use Rattle.guard_tables.proofs.Faultless.{faultless_alike}

@@ -1,4 +1,3 @@
-use Rattle.std.proofs.Common.{map}
 use Rattle.guard_model.specs.TypeView.{type_view}
 use Rattle.guard_tables.proofs.OfTables.{type_there, type_nowhere}
 use Rattle.guard_tables.proofs.table.Table.type_at.Goals as goal

@@ -1,5 +1,5 @@
 -- What the marks of a table say by a route's rules is what the rules say of the value.
-use Rattle.std.proofs.Common.{◌≡◌, ◌≢◌, ℕ, zero, suc, ◌+◌, ◌≤◌, List, [], ◌∷◌, length, map, slice_get, Bool, true, false, ◌&&◌, ◌||◌, not, cond, ◌↔◌, Option, Some, None, option_map, string_bytes, All, refl, ap, sym, ◌∙◌, subst}
+use Rattle.std.proofs.Common.{◌≡◌, ◌≢◌, ℕ, zero, suc, ◌+◌, List, [], ◌∷◌, map, slice_get, Bool, true, false, ◌&&◌, ◌||◌, not, cond, ◌↔◌, Option, Some, option_map, string_bytes, All, refl, ap, sym, ◌∙◌, subst}
 use Rattle.std.specs.Prelude.{IsTrue, bytes_eq}
 use Rattle.std.proofs.lemmas.Bool.{false≢true}
 use Rattle.std.specs.List.{list_any, list_all}
@@ -14,7 +14,7 @@ use Rattle.guard_der.proofs.Types.Messages.{one_encoding}
 use Rattle.guard_eval.specs.Member.{is_member}
 use Rattle.guard_tables.specs.declared.slots.Slots.{Slots}
 use Rattle.guard_tables.specs.Slots.{none, has}
-use Rattle.guard_tables.specs.TableView.{declared_of, rules_of, table_types}
+use Rattle.guard_tables.specs.TableView.{declared_of, table_types}
 use Rattle.guard_reader.specs.declared.marks.Marks.{Marks}
 use Rattle.guard_reader.specs.Marking.{is_in, HasMarks}
 use Rattle.guard_policy.specs.declared.kept.Kept.{Kept}

@@ -20,6 +20,7 @@ use Rattle.derguard_program.specs.Words.{Asks, the_app, version}
 use Rattle.derguard_program.specs.Reading.{IsPolicyAt, IsNoPolicyAt}
 use Rattle.derguard_program.specs.Answers.{AbstractAnswer, IsFirst, IsNoFirst, IsChecked, IsDecided, IsUndecided}
 use Rattle.derguard_program.specs.Devices.{Input, Device, IsUnread, IsUntouched}
+use Rattle.derguard_program.specs.Explaining.{IsExplained, IsUndecidedExplained, TellsWith}
 use Rattle.derguard_program.specs.Muxing.{GuardsLinks}
 use Rattle.derguard_program.specs.Writing.{Writes, Tells, TellsLine, TellsNoMemory}
 
@@ -29,6 +30,13 @@ Answers IsAnswer IsFault input out err status =
     IsUnread input
     × (((a : AbstractAnswer) × IsAnswer a × Writes a.out a.status out err status)
     ⊎ ((f : Fault) × IsFault f × IsUntouched out × Tells f err status))
+
+-- The same, where a fault is reported with what explains it.
+abbrev pub AnswersExplained : (AbstractAnswer → Type 0) → (Fault → List ℕ → Type 0) → Input → Device → Device → ℕ → Type 0
+AnswersExplained IsAnswer IsFault input out err status =
+    IsUnread input
+    × (((a : AbstractAnswer) × IsAnswer a × Writes a.out a.status out err status)
+    ⊎ ((f : Fault) × (note : List ℕ) × IsFault f note × IsUntouched out × TellsWith f note err status))
 
 -- 0 where all frames passed
 abbrev pub totals_status : Totals → ℕ
@@ -83,8 +91,11 @@ GuardsStream told path input out err status =
 -- what is read, written and told, and the status, by the request
 abbrev pub Meets : Told → AbstractRequest → Input → Device → Device → ℕ → Type 0
 Meets told first = Answers IsFirst IsNoFirst
-Meets told (check path) = Answers (IsChecked told path) (IsNoPolicyAt told path)
-Meets told (decide path route digits) = Answers (IsDecided told path route digits) (IsUndecided told path digits)
+Meets told (check path false) = Answers (IsChecked told path) (IsNoPolicyAt told path)
+Meets told (check path true) = AnswersExplained (IsChecked told path) (IsExplained told path)
+Meets told (decide path route digits false) = Answers (IsDecided told path route digits) (IsUndecided told path digits)
+Meets told (decide path route digits true) =
+    AnswersExplained (IsDecided told path route digits) (IsUndecidedExplained told path digits)
 Meets told (run path) = GuardsStream told path
 Meets told (mux path) = GuardsLinks told path
 

@@ -2,20 +2,22 @@
 ghost use Rattle.std.specs.Prelude.{◌≡◌, ◌≤◌, ◌∷◌, [], length, map, string_bytes, true, false, IfOk, IfErr};
 ghost use Rattle.derguard_program.specs.Requests.{request_view, first};
 ghost use Rattle.derguard_program.specs.Devices.{input_of, device, IsUntouched};
+ghost use Rattle.derguard_program.specs.Explaining.{TellsWith};
 ghost use Rattle.derguard_program.specs.Writing.{Writes, Tells, TellsNoMemory};
 ghost use Rattle.derguard_program.specs.Meeting.{Meets, Programs, Shows, is_help, version_line};
 ghost use Rattle.clap.specs.Words.{kind_of};
 ghost use Rattle.clap.specs.declared.error.kind.ErrorKind.TheVariants.{DisplayVersion, OutOfMemory};
 
 use crate::answer::Answer;
-use crate::checking::check;
-use crate::deciding::decide;
+use crate::checking::{check, check_explained};
+use crate::deciding::{decide, decide_explained};
+use crate::explaining::Refusal;
 use crate::fault::Fault;
 use crate::files::Files;
 use crate::first_run::first_run;
 use crate::guarding::run;
 use crate::muxing::mux;
-use crate::outputs::{tell, tell_no_memory, tell_text, write};
+use crate::outputs::{tell, tell_no_memory, tell_text, tell_with, write};
 use crate::request::Request;
 use crate::words::{VERSION, request_in};
 use clap::Error;
@@ -66,8 +68,20 @@ pub fn meet<F: Files, S: Source, O: Sink, E: Sink>(
 {
     match request {
         Request::First => give(alloc, first_run(alloc), out, err),
-        Request::Check { policy } => give(alloc, check(alloc, policy, files), out, err),
-        Request::Decide(message) => give(alloc, decide(alloc, message, files), out, err),
+        Request::Check { policy, explain } => {
+            if *explain {
+                give_explained(alloc, check_explained(alloc, policy, files), out, err)
+            } else {
+                give(alloc, check(alloc, policy, files), out, err)
+            }
+        }
+        Request::Decide(message) => {
+            if message.explain {
+                give_explained(alloc, decide_explained(alloc, message, files), out, err)
+            } else {
+                give(alloc, decide(alloc, message, files), out, err)
+            }
+        }
         Request::Run { policy } => run(alloc, policy, files, input, out, err),
         Request::Mux { policy } => mux(alloc, policy, files, input, out, err),
     }
@@ -87,6 +101,24 @@ fn give<O: Sink, E: Sink>(
     match found {
         Ok(answer) => write(&answer.out, answer.status, out, err),
         Err(fault) => tell(alloc, &fault, err),
+    }
+}
+
+/// Writes the answer, or tells the fault with what explains it.
+fn give_explained<O: Sink, E: Sink>(
+    alloc: Global,
+    found: Result<Answer, Refusal>,
+    out: &mut O,
+    err: &mut E,
+) -> u8
+    ensures written { IfOk found (λ a. Writes a.out.items a.status (device (O.taken out.old) (O.taken out.new) (O.has_failed out.new))
+        (device (E.taken err.old) (E.taken err.new) (E.has_failed err.new)) result) }
+    ensures told { IfErr found (λ r. (O.taken out.new ≡ O.taken out.old)
+        × TellsWith r.fault (string_bytes r.note) (device (E.taken err.old) (E.taken err.new) (E.has_failed err.new)) result) }
+{
+    match found {
+        Ok(answer) => write(&answer.out, answer.status, out, err),
+        Err(refusal) => tell_with(alloc, &refusal.fault, &refusal.note, err),
     }
 }
 

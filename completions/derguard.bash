@@ -37,7 +37,8 @@ _derguard() {
         check | run | mux | decide)
             if [[ $current == -* ]]; then
                 word=--help
-                if [ "$command" = decide ]; then word='--from --to --message --help'; fi
+                if [ "$command" = check ]; then word='--explain --help'; fi
+                if [ "$command" = decide ]; then word='--from --to --message --explain --help'; fi
                 mapfile -t COMPREPLY < <(compgen -W "$word" -- "$current")
             elif [ -z "$policy" ]; then
                 compopt -o filenames 2> /dev/null

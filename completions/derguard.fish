@@ -41,6 +41,7 @@ complete -c derguard -n __fish_use_subcommand -a help -d 'show what a command do
 complete -c derguard -n '__fish_seen_subcommand_from help' -a 'check decide run mux'
 complete -c derguard -n '__fish_seen_subcommand_from check decide run mux; and test -z (__derguard_policy)' \
     -a '(__fish_complete_suffix .toml)'
+complete -c derguard -n '__fish_seen_subcommand_from check decide' -l explain -d 'show the place of a fault, and what to do'
 complete -c derguard -n '__fish_seen_subcommand_from decide' -l from -x -a '(__derguard_names rule from)' \
     -d 'the name of the sender'
 complete -c derguard -n '__fish_seen_subcommand_from decide' -l to -x -a '(__derguard_names rule to)' \

@@ -11,7 +11,6 @@ pub mod Streams
 pub mod Meetings
 pub mod VerdictsFound
 pub mod MarkingLaws
-pub mod Explained
 pub mod RecordLaws
 pub mod PassingLaws
 pub mod RecordReading

@@ -5,6 +5,7 @@
 //! prints how many of the rules have the message, and then, where TIMES isn't 0, how many nanoseconds so many calls of
 //! `walk` take, the least of nine rounds.
 #![tactic(auto)]
+
 ghost use Rattle.std.specs.Prelude.{All, IsTrue, IfOk};
 ghost use Rattle.guard_der.specs.Sound.{is_sound};
 ghost use Rattle.guard_model.specs.TypeView.{type_view};

@@ -58,4 +58,3 @@ returns-else-message g c =
     subst (λ (r : Request). Meets told (request_view r) input out err c.give-else-message.result) (sym c.in-Decide.is)
     (subst (λ (b : Bool). Meets told (decide c.in-Decide.message.policy.now (message_route c.in-Decide.message) c.in-Decide.message.hex.now b) input out err c.give-else-message.result) (sym c.if-message.false)
     (given (IsDecided told c.in-Decide.message.policy.now (message_route c.in-Decide.message) c.in-Decide.message.hex.now) (IsUndecided told c.in-Decide.message.policy.now c.in-Decide.message.hex.now) input out err c.give-else-message.result c.decide.result (refl, refl) c.decide.ensures.decided c.decide.ensures.undecided c.give-else-message.ensures.written c.give-else-message.ensures.told))
-

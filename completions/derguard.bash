@@ -32,12 +32,13 @@ _derguard() {
         --from | --to | --message) return ;;
     esac
     case $command in
-        '') mapfile -t COMPREPLY < <(compgen -W 'check decide run mux help --help' -- "$current") ;;
+        '') mapfile -t COMPREPLY < <(compgen -W 'check decide run mux help --help --version' -- "$current") ;;
         help) [ -n "$policy" ] || mapfile -t COMPREPLY < <(compgen -W 'check decide run mux' -- "$current") ;;
         check | run | mux | decide)
             if [[ $current == -* ]]; then
                 word=--help
-                if [ "$command" = decide ]; then word='--from --to --message --help'; fi
+                if [ "$command" = check ]; then word='--explain --help'; fi
+                if [ "$command" = decide ]; then word='--from --to --message --explain --help'; fi
                 mapfile -t COMPREPLY < <(compgen -W "$word" -- "$current")
             elif [ -z "$policy" ]; then
                 compopt -o filenames 2> /dev/null

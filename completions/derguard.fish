@@ -32,6 +32,7 @@ end
 
 complete -c derguard -f
 complete -c derguard -s h -l help -d 'show help'
+complete -c derguard -n __fish_use_subcommand -s V -l version -d 'show the version'
 complete -c derguard -n __fish_use_subcommand -a check -d 'say whether a policy and its modules are accepted'
 complete -c derguard -n __fish_use_subcommand -a decide -d 'say what becomes of one message, and why'
 complete -c derguard -n __fish_use_subcommand -a run -d 'guard a stream of frames'
@@ -40,6 +41,7 @@ complete -c derguard -n __fish_use_subcommand -a help -d 'show what a command do
 complete -c derguard -n '__fish_seen_subcommand_from help' -a 'check decide run mux'
 complete -c derguard -n '__fish_seen_subcommand_from check decide run mux; and test -z (__derguard_policy)' \
     -a '(__fish_complete_suffix .toml)'
+complete -c derguard -n '__fish_seen_subcommand_from check decide' -l explain -d 'show the place of a fault, and what to do'
 complete -c derguard -n '__fish_seen_subcommand_from decide' -l from -x -a '(__derguard_names rule from)' \
     -d 'the name of the sender'
 complete -c derguard -n '__fish_seen_subcommand_from decide' -l to -x -a '(__derguard_names rule to)' \

@@ -1,5 +1,5 @@
--- One definition more behind those that are built.
-use Rattle.std.proofs.Common.{◌≡◌, ℕ, ◌+◌, ◌<◌, Bool, List, [], ◌∷◌, ◌++◌, length, map, get_or, slice_get, Some, refl, sym, ◌∙◌, ap, arith}
+-- One definition more after those that are built.
+use Rattle.std.proofs.Common.{◌≡◌, ◌↔◌, ℕ, ◌+◌, ◌<◌, Bool, true, List, [], ◌∷◌, ◌++◌, length, map, get_or, slice_get, Some, refl, sym, subst, ◌∙◌, ap, arith}
 use Rattle.std.specs.Prelude.{IsTrue}
 use Rattle.std.proofs.lemmas.List.{map-append, length-map}
 use Rattle.std.proofs.lemmas.Option.{slice_get-get_or}
@@ -7,13 +7,15 @@ use Rattle.guard_model.specs.AbstractType.{AbstractType}
 use Rattle.guard_model.specs.TypeView.{type_view}
 use Rattle.guard_model.specs.declared.ty.Ty.{Ty}
 use Rattle.guard_syntax.specs.Trees.{WrittenModule}
-use Rattle.guard_names.specs.Declarations.{definitions}
 use Rattle.guard_tagcheck.specs.Limits.{is_within_limits}
 use Rattle.guard_tagging.specs.Faults.{nodes}
 use Rattle.guard_tagging.specs.ScopeView.{known_list}
-use Rattle.guard_tagging.specs.Surroundings.{is_automatic_definition, known_from, nodes_of_all}
+use Rattle.guard_tagging.specs.Automatic.{Automatic}
+use Rattle.guard_tagging.specs.Skeletons.{AreMeanings}
+use Rattle.guard_tagging.specs.Surroundings.{nodes_of_all}
 use Rattle.guard_tagging.specs.Types.{Meaning}
-use Rattle.guard_tagging.proofs.Builds.{known_from_more, nodes_more}
+use Rattle.guard_tagging.proofs.Builds.{nodes_more}
+use Rattle.guard_tagging.proofs.Definitions.Meanings.{one_meaning_more}
 
 list_more : (types : List AbstractType) (flags : List Bool) (t : AbstractType) (b : Bool) → length types ≡ length flags
     → known_list (types ++ t ∷ []) (flags ++ b ∷ []) ≡ known_list types flags ++ record { ty = t; is_automatic = b } ∷ []
@@ -29,17 +31,16 @@ module _ (ms : List WrittenModule) (order : List ℕ) (types : List Ty) (flags :
   more : map type_view (types ++ ty ∷ []) ≡ map type_view types ++ type_view ty ∷ []
   more = map-append type_view types (ty ∷ [])
 
-  pub known_more : (number : ℕ) (b : Bool) → length types ≡ length flags → slice_get order (length (map type_view types)) ≡ Some number → known_list (map type_view types) flags ≡ known_from ms order (map type_view types)
-      → b ≡ is_automatic_definition ms order (known_list (map type_view types) flags) (slice_get (definitions ms) number)
-      → known_list (map type_view (types ++ ty ∷ [])) (flags ++ b ∷ []) ≡ known_from ms order (map type_view (types ++ ty ∷ []))
+  pub known_more : (number : ℕ) (b : Bool) → length types ≡ length flags → slice_get order (length (map type_view types)) ≡ Some number
+      → AreMeanings ms order (map type_view types) (known_list (map type_view types) flags) → (b ≡ true) ↔ Automatic ms number
+      → AreMeanings ms order (map type_view (types ++ ty ∷ [])) (known_list (map type_view (types ++ ty ∷ [])) (flags ++ b ∷ []))
   known_more number b many next known flag =
       let t = type_view ty in
-      ap (λ (ts : List AbstractType). known_list ts (flags ++ b ∷ [])) more
-      ∙ list_more before flags t b (length-map types type_view ∙ many)
-      ∙ (λ i. known i ++ record { ty = t; is_automatic = flag i } ∷ [])
-      ∙ ap (λ (k : List Meaning). known_from ms order before ++ record { ty = t; is_automatic = is_automatic_definition ms order k (slice_get (definitions ms) number) } ∷ []) known
-      ∙ sym (known_from_more ms order before t number next)
-      ∙ ap (known_from ms order) (sym more)
+      let with_flag : known_list (map type_view (types ++ ty ∷ [])) (flags ++ b ∷ []) ≡ known_list before flags ++ record { ty = t; is_automatic = b } ∷ [] =
+      ap (λ (ts : List AbstractType). known_list ts (flags ++ b ∷ [])) more ∙ list_more before flags t b (length-map types type_view ∙ many) in
+      subst (λ (ts : List AbstractType). AreMeanings ms order ts (known_list (map type_view (types ++ ty ∷ [])) (flags ++ b ∷ []))) (sym more)
+      (subst (λ (ks : List Meaning). AreMeanings ms order (before ++ t ∷ []) ks) (sym with_flag)
+      (one_meaning_more ms order before (known_list before flags) t (record { ty = t; is_automatic = b }) number known next (refl, flag)))
 
 pub sum_more : (types : List Ty) (ty : Ty) → nodes_of_all (map type_view (types ++ ty ∷ [])) ≡ nodes_of_all (map type_view types) + nodes (type_view ty)
 sum_more types ty = ap nodes_of_all (map-append type_view types (ty ∷ [])) ∙ nodes_more (map type_view types) (type_view ty)

@@ -4,7 +4,7 @@ ghost use Rattle.guard_names.specs.NamesView.{modules_of};
 ghost use Rattle.guard_tagging.specs.Spelled.{IsSpelledModule};
 
 use guard_names::Names;
-use guard_tagging::{Done, TagFault, skeleton_behind};
+use guard_tagging::{Done, TagFault, skeleton_after};
 use std::alloc::Global;
 
 /// How many types all definitions are made of, where what is known of those before each is kept.
@@ -20,7 +20,7 @@ pub fn number_of_types(alloc: Global, names: &Names) -> Result<usize, TagFault>
             automatic: &automatic,
             nodes,
         };
-        let next = skeleton_behind(alloc, names, &done, *id)?;
+        let next = skeleton_after(alloc, names, &done, *id)?;
         nodes = next.nodes;
         automatic.push(next.is_automatic)?;
         types.push(next.ty)?;

@@ -14,8 +14,8 @@ use Rattle.clap.specs.Kinds.{Kinds, or_else}
 use Rattle.clap.specs.Simple.{App, Shape, argument_words, built, built_leaf, entered, filled, help_rule, help_shape, inherited, label_of, marked_built, names_of, rows_at, subcommand_of, with_index, with_leaf_noted}
 use Rattle.clap.specs.declared.error.kind.ErrorKind.TheVariants as kind
 use Rattle.derguard_program.specs.Requests.{AbstractRequest, first, check, decide, run, mux}
-use Rattle.derguard_program.specs.Words.{Asks, IsCommand, check_shape, decide_shape, mux_shape, option_rule, place_rule, run_shape, the_app}
-use Rattle.derguard_program.proofs.Filled.{AllFill, Filled, Fills, IsFilled, both_none, finished_filled, help_fills, set_fills, some_kind, walk_filled}
+use Rattle.derguard_program.specs.Words.{Asks, IsCommand, check_shape, decide_shape, flag_of, flag_rule, mux_shape, option_rule, place_rule, run_shape, the_app}
+use Rattle.derguard_program.proofs.Filled.{AllFill, Filled, Fills, IsFilled, both_none, finished_filled, flag_fills, help_fills, set_fills, some_kind, walk_filled}
 
 -- ---- a walk in which nothing is wrong stops at no word help
 
@@ -173,21 +173,24 @@ place_fills place id = set_fills (ready_rule place (place_rule id)) refl refl
 option_fills : (name : Text) → Fills (ready_rule 2 (option_rule name))
 option_fills name = set_fills (ready_rule 2 (option_rule name)) refl refl
 
-flag_fills : Fills (ready_rule 2 help_rule)
-flag_fills = help_fills (ready_rule 2 help_rule) refl
+switch_fills : (place : ℕ) (name : Text) → Fills (ready_rule place (flag_rule name))
+switch_fills place name = flag_fills (ready_rule place (flag_rule name)) refl (codes "true") refl
+
+help_flag_fills : (place : ℕ) → Fills (ready_rule place help_rule)
+help_flag_fills place = help_fills (ready_rule place help_rule) refl
 
 check_fills : AllFill built_check.rules
-check_fills = (place_fills 1 (codes "policy"), (flag_fills, tt))
+check_fills = (place_fills 1 (codes "policy"), (switch_fills 2 (codes "explain"), (help_flag_fills 2, tt)))
 
 decide_fills : AllFill built_decide.rules
 decide_fills =
-    (place_fills 1 (codes "policy"), (option_fills (codes "from"), (option_fills (codes "to"), (option_fills (codes "message"), (place_fills 2 (codes "hex"), (flag_fills, tt))))))
+    (place_fills 1 (codes "policy"), (option_fills (codes "from"), (option_fills (codes "to"), (option_fills (codes "message"), (place_fills 2 (codes "hex"), (switch_fills 3 (codes "explain"), (help_flag_fills 3, tt)))))))
 
 run_fills : AllFill built_run.rules
-run_fills = (place_fills 1 (codes "policy"), (flag_fills, tt))
+run_fills = (place_fills 1 (codes "policy"), (help_flag_fills 2, tt))
 
 mux_fills : AllFill built_mux.rules
-mux_fills = (place_fills 1 (codes "policy"), (flag_fills, tt))
+mux_fills = (place_fills 1 (codes "policy"), (help_flag_fills 2, tt))
 
 -- a command with these words asks for a request
 abbrev Requests : Shape → List Text → Type 0
@@ -198,7 +201,7 @@ check_asks words e =
     let rows = rows_filled built_check [] words false [] e check_fills in
     let policy = given_next _ _ (check_none built_check [] words false [] e) in
     let path = given_value (codes "policy") (rows_after built_check.rules [] words) rows policy.0 in
-    (check path.0, (refl, path.1))
+    (check path.0 (flag_of (codes "explain") (rows_after built_check.rules [] words)), (refl, path.1, refl))
 
 run_asks : (words : List Text) → level_fault built_run [] nothing_held words false [] ≡ [] → Requests built_run words
 run_asks words e =
@@ -228,7 +231,7 @@ decide_asks words e =
     let t = given_value (codes "to") rows filled to.0 in
     let m = given_value (codes "message") rows filled message.0 in
     let h = given_value (codes "hex") rows filled hex.0 in
-    (decide p.0 (record { from = f.0; to = t.0; message = m.0 }) h.0, (refl, p.1, f.1, t.1, m.1, h.1))
+    (decide p.0 (record { from = f.0; to = t.0; message = m.0 }) h.0 (flag_of (codes "explain") rows), (refl, p.1, f.1, t.1, m.1, h.1, refl))
 
 -- ---- the command that the words name
 
@@ -295,30 +298,34 @@ module _ (rows : List Row) where
 
   one_command : (name : Text) (r s : AbstractRequest) → IsCommand name rows r → IsCommand name rows s → r ≡ s
   one_command name first s h g = absurd h
-  one_command name (check path) first h g = absurd g
-  one_command name (check path) (check other) h g = ap check (same_at (codes "policy") path other h.1 g.1)
-  one_command name (check path) (decide other route digits) h g = absurd (let bad : 99 ≡ 100 = another_name _ _ (sym h.0 ∙ g.0) in omega arith)
-  one_command name (check path) (run other) h g = absurd (let bad : 99 ≡ 114 = another_name _ _ (sym h.0 ∙ g.0) in omega arith)
-  one_command name (check path) (mux other) h g = absurd (let bad : 99 ≡ 109 = another_name _ _ (sym h.0 ∙ g.0) in omega arith)
-  one_command name (decide path route digits) first h g = absurd g
-  one_command name (decide path route digits) (check other) h g = absurd (let bad : 100 ≡ 99 = another_name _ _ (sym h.0 ∙ g.0) in omega arith)
-  one_command name (decide path route digits) (decide other another octets) h g =
+  one_command name (check path explain) first h g = absurd g
+  one_command name (check path explain) (check other more) h g =
+      let policy = same_at (codes "policy") path other h.1 g.1 in
+      let flag = h.2 ∙ sym g.2 in
+      λ i. check (policy i) (flag i)
+  one_command name (check path explain) (decide other route digits more) h g = absurd (let bad : 99 ≡ 100 = another_name _ _ (sym h.0 ∙ g.0) in omega arith)
+  one_command name (check path explain) (run other) h g = absurd (let bad : 99 ≡ 114 = another_name _ _ (sym h.0 ∙ g.0) in omega arith)
+  one_command name (check path explain) (mux other) h g = absurd (let bad : 99 ≡ 109 = another_name _ _ (sym h.0 ∙ g.0) in omega arith)
+  one_command name (decide path route digits explain) first h g = absurd g
+  one_command name (decide path route digits explain) (check other more) h g = absurd (let bad : 100 ≡ 99 = another_name _ _ (sym h.0 ∙ g.0) in omega arith)
+  one_command name (decide path route digits explain) (decide other another octets more) h g =
       let policy = same_at (codes "policy") path other h.1 g.1 in
       let from = same_at (codes "from") route.from another.from h.2 g.2 in
       let to = same_at (codes "to") route.to another.to h.3 g.3 in
       let message = same_at (codes "message") route.message another.message h.4 g.4 in
       let hex = same_at (codes "hex") digits octets h.5 g.5 in
-      λ i. decide (policy i) (record { from = from i; to = to i; message = message i }) (hex i)
-  one_command name (decide path route digits) (run other) h g = absurd (let bad : 100 ≡ 114 = another_name _ _ (sym h.0 ∙ g.0) in omega arith)
-  one_command name (decide path route digits) (mux other) h g = absurd (let bad : 100 ≡ 109 = another_name _ _ (sym h.0 ∙ g.0) in omega arith)
+      let flag = h.6 ∙ sym g.6 in
+      λ i. decide (policy i) (record { from = from i; to = to i; message = message i }) (hex i) (flag i)
+  one_command name (decide path route digits explain) (run other) h g = absurd (let bad : 100 ≡ 114 = another_name _ _ (sym h.0 ∙ g.0) in omega arith)
+  one_command name (decide path route digits explain) (mux other) h g = absurd (let bad : 100 ≡ 109 = another_name _ _ (sym h.0 ∙ g.0) in omega arith)
   one_command name (run path) first h g = absurd g
-  one_command name (run path) (check other) h g = absurd (let bad : 114 ≡ 99 = another_name _ _ (sym h.0 ∙ g.0) in omega arith)
-  one_command name (run path) (decide other route digits) h g = absurd (let bad : 114 ≡ 100 = another_name _ _ (sym h.0 ∙ g.0) in omega arith)
+  one_command name (run path) (check other more) h g = absurd (let bad : 114 ≡ 99 = another_name _ _ (sym h.0 ∙ g.0) in omega arith)
+  one_command name (run path) (decide other route digits more) h g = absurd (let bad : 114 ≡ 100 = another_name _ _ (sym h.0 ∙ g.0) in omega arith)
   one_command name (run path) (run other) h g = ap run (same_at (codes "policy") path other h.1 g.1)
   one_command name (run path) (mux other) h g = absurd (let bad : 114 ≡ 109 = another_name _ _ (sym h.0 ∙ g.0) in omega arith)
   one_command name (mux path) first h g = absurd g
-  one_command name (mux path) (check other) h g = absurd (let bad : 109 ≡ 99 = another_name _ _ (sym h.0 ∙ g.0) in omega arith)
-  one_command name (mux path) (decide other route digits) h g = absurd (let bad : 109 ≡ 100 = another_name _ _ (sym h.0 ∙ g.0) in omega arith)
+  one_command name (mux path) (check other more) h g = absurd (let bad : 109 ≡ 99 = another_name _ _ (sym h.0 ∙ g.0) in omega arith)
+  one_command name (mux path) (decide other route digits more) h g = absurd (let bad : 109 ≡ 100 = another_name _ _ (sym h.0 ∙ g.0) in omega arith)
   one_command name (mux path) (run other) h g = absurd (let bad : 109 ≡ 114 = another_name _ _ (sym h.0 ∙ g.0) in omega arith)
   one_command name (mux path) (mux other) h g = ap mux (same_at (codes "policy") path other h.1 g.1)
 

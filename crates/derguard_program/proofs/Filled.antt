@@ -12,7 +12,7 @@ use Rattle.clap.specs.Faults.{bundle_fault, bundle_step_fault, flag_word_fault, 
 use Rattle.clap.specs.Kinds.{Kinds, or_else, range_kinds}
 use Rattle.clap.specs.Simple.{Shape}
 use Rattle.clap.specs.declared.builder.action.ArgAction.{ArgAction}
-use Rattle.clap.specs.declared.builder.action.ArgAction.TheVariants.{Set, Help}
+use Rattle.clap.specs.declared.builder.action.ArgAction.TheVariants.{Set, SetTrue, Help}
 use Rattle.clap.specs.declared.builder.value_parser.Reading.{Reading}
 use Rattle.clap.specs.declared.error.kind.ErrorKind.{ErrorKind}
 use Rattle.clap.specs.declared.error.kind.ErrorKind.TheVariants as kind
@@ -96,6 +96,16 @@ set_fills a set least again [] rows e h = absurd (some_kind kind.InvalidValue []
     none_given : {n : ℕ} → n ≡ 1 → range_kinds n (most_values a) 0 ≡ [] → ◌≡◌ {A = Kinds} (kind.InvalidValue ∷ []) []
     none_given {n} one e = subst (λ (k : ℕ). range_kinds k (most_values a) 0 ≡ []) one e
 set_fills a set least again (v ∷ vs) rows e h =
+    subst (λ (x : ArgAction). Filled (used_as x a.id (reading_by a) (v ∷ vs) rows)) (sym set)
+    (filled_with a.id (reading_by a) CommandLine v vs (without a.id rows) (filled_without a.id rows h))
+
+-- no value, in whose place this one comes
+pub flag_fills : (a : Rule) → action_of a ≡ SetTrue → (v : Text) → a.missing ≡ v ∷ [] → Fills a
+flag_fills a set w missing again [] rows e h =
+    subst (λ (x : ArgAction). Filled (used_as x a.id (reading_by a) a.missing rows)) (sym set)
+    (subst (λ (ws : List Text). Filled (with_values a.id (reading_by a) CommandLine ws (without a.id rows))) (sym missing)
+    (filled_with a.id (reading_by a) CommandLine w [] (without a.id rows) (filled_without a.id rows h)))
+flag_fills a set w missing again (v ∷ vs) rows e h =
     subst (λ (x : ArgAction). Filled (used_as x a.id (reading_by a) (v ∷ vs) rows)) (sym set)
     (filled_with a.id (reading_by a) CommandLine v vs (without a.id rows) (filled_without a.id rows h))
 

@@ -10,6 +10,7 @@ pub mod Refusals
 pub mod Streams
 pub mod Meetings
 pub mod VerdictsFound
+pub mod MarkingLaws
 pub mod RecordLaws
 pub mod PassingLaws
 pub mod RecordReading

@@ -1,5 +1,5 @@
 -- What a call refuses is why there is no policy at the path.
-use Rattle.std.proofs.Common.{◌≡◌, ◌⊎◌, ℕ, List, Option, Some, None, inl, inr, refl, subst, MatchOption}
+use Rattle.std.proofs.Common.{◌≡◌, ◌⊎◌, ℕ, List, Option, Some, None, inl, inr, refl, subst, sym, MatchOption}
 use Rattle.std.specs.Prelude.{IfSome}
 use Rattle.guard_policy.specs.declared.fault.PolicyFault.{PolicyFault}
 use Rattle.guard_policy.specs.Policies.{AbstractPolicy}
@@ -13,7 +13,7 @@ use Rattle.derguard_program.specs.declared.fault.Fault.TheVariants.{BadHex, Cann
 use Rattle.derguard_program.specs.Faults.{StandsForPolicy, of_texts}
 use Rattle.derguard_program.specs.Files.{Told, after_read, HasText}
 use Rattle.derguard_program.specs.Reading.{folder, AreTexts, SayNothing, IsNoPolicyAt}
-use Rattle.derguard_program.specs.inside.Texts.{CannotBeRead, CannotAllBeRead}
+use Rattle.derguard_program.specs.inside.Texts.{CannotBeRead, CannotAllBeRead, IsBeforeModules}
 
 module _ (told : Told) (path : List ℕ) where
   -- the policy's file
@@ -43,6 +43,14 @@ module _ (told : Told) (path : List ℕ) where
     modules_unread files listed (Schema f) h = absurd h
     modules_unread files listed (Policy f) h = absurd h
     modules_unread files listed (Run f) h = absurd h
+
+-- a fault of the policy's text alone
+pub before_modules : (p : PolicyFault) (f : Fault) → StandsForPolicy p f → IsBeforeModules f
+before_modules p f is = go (policy.named p) is
+  where
+    go : (named : Option policy.AbstractFault) → MatchOption named (f ≡ NoMemory) (λ _. f ≡ Policy p) → IsBeforeModules f
+    go None e = subst IsBeforeModules (sym e) tt
+    go (Some fault) e = subst IsBeforeModules (sym e) tt
 
 -- what the texts say
 pub say_nothing : (modules : List (List ℕ)) (text : List ℕ) (f : TextsFault) → SayNone modules text f → SayNothing modules text (of_texts f) ⊎ (of_texts f ≡ NoMemory)

@@ -16,6 +16,10 @@ pub mod Records
 pub mod Passing
 pub mod Turns
 pub mod Muxing
+-- ---- what explains a fault
+pub mod Marking
+pub mod Notes
+pub mod Explaining
 -- ---- what it is to meet a request
 pub mod Meeting
 -- ---- what only private contracts and proofs cite

@@ -1,5 +1,5 @@
 -- What it is to meet a request, by what is read, what goes out, and the status. This is the page to read first.
-use Rattle.std.specs.Prelude.{◌≡◌, ◌⊎◌, ℕ, Bool, nat_eq, true, false, List, Option, Result, Ok, Err, if◌then◌else◌}
+use Rattle.std.specs.Prelude.{◌≡◌, ◌⊎◌, ℕ, Bool, nat_eq, true, false, List, ◌++◌, codes, Option, Result, Ok, Err, if◌then◌else◌}
 use Rattle.clap.specs.declared.error.kind.ErrorKind.{ErrorKind}
 use Rattle.clap.specs.declared.error.kind.ErrorKind.TheVariants as code
 use Rattle.clap.specs.declared.error.kind.ErrorKind.TheVariants.{InvalidValue, UnknownArgument, InvalidSubcommand, NoEquals, ValueValidation, TooManyValues, TooFewValues, WrongNumberOfValues, ArgumentConflict, MissingRequiredArgument, MissingSubcommand, DisplayHelp, DisplayHelpOnMissingArgumentOrSubcommand, DisplayVersion, Io, Format}
@@ -16,10 +16,11 @@ use Rattle.derguard_program.specs.declared.fault.Fault.{Fault}
 use Rattle.derguard_program.specs.declared.fault.Fault.TheVariants.{BadHex, CannotRead, Schema, Policy, Run, NoMemory}
 use Rattle.derguard_program.specs.Files.{Told}
 use Rattle.derguard_program.specs.Requests.{AbstractRequest, first, check, decide, run, mux}
-use Rattle.derguard_program.specs.Words.{Asks, the_app}
+use Rattle.derguard_program.specs.Words.{Asks, the_app, version}
 use Rattle.derguard_program.specs.Reading.{IsPolicyAt, IsNoPolicyAt}
 use Rattle.derguard_program.specs.Answers.{AbstractAnswer, IsFirst, IsNoFirst, IsChecked, IsDecided, IsUndecided}
 use Rattle.derguard_program.specs.Devices.{Input, Device, IsUnread, IsUntouched}
+use Rattle.derguard_program.specs.Explaining.{IsExplained, IsUndecidedExplained, TellsWith}
 use Rattle.derguard_program.specs.Muxing.{GuardsLinks}
 use Rattle.derguard_program.specs.Writing.{Writes, Tells, TellsLine, TellsNoMemory}
 
@@ -29,6 +30,13 @@ Answers IsAnswer IsFault input out err status =
     IsUnread input
     × (((a : AbstractAnswer) × IsAnswer a × Writes a.out a.status out err status)
     ⊎ ((f : Fault) × IsFault f × IsUntouched out × Tells f err status))
+
+-- The same, where a fault is reported with what explains it.
+abbrev pub AnswersExplained : (AbstractAnswer → Type 0) → (Fault → List ℕ → Type 0) → Input → Device → Device → ℕ → Type 0
+AnswersExplained IsAnswer IsFault input out err status =
+    IsUnread input
+    × (((a : AbstractAnswer) × IsAnswer a × Writes a.out a.status out err status)
+    ⊎ ((f : Fault) × (note : List ℕ) × IsFault f note × IsUntouched out × TellsWith f note err status))
 
 -- 0 where all frames passed
 abbrev pub totals_status : Totals → ℕ
@@ -83,8 +91,11 @@ GuardsStream told path input out err status =
 -- what is read, written and told, and the status, by the request
 abbrev pub Meets : Told → AbstractRequest → Input → Device → Device → ℕ → Type 0
 Meets told first = Answers IsFirst IsNoFirst
-Meets told (check path) = Answers (IsChecked told path) (IsNoPolicyAt told path)
-Meets told (decide path route digits) = Answers (IsDecided told path route digits) (IsUndecided told path digits)
+Meets told (check path false) = Answers (IsChecked told path) (IsNoPolicyAt told path)
+Meets told (check path true) = AnswersExplained (IsChecked told path) (IsExplained told path)
+Meets told (decide path route digits false) = Answers (IsDecided told path route digits) (IsUndecided told path digits)
+Meets told (decide path route digits true) =
+    AnswersExplained (IsDecided told path route digits) (IsUndecidedExplained told path digits)
 Meets told (run path) = GuardsStream told path
 Meets told (mux path) = GuardsLinks told path
 
@@ -108,11 +119,15 @@ is_help Io = false
 is_help Format = false
 is_help code.OutOfMemory = false
 
--- Help goes to standard output, with status 0, and what is wrong with the words is reported, with status 2. The text is that of the reader of words, which
--- tests show.
+-- what is printed for `--version`
+abbrev pub version_line : List ℕ
+version_line = codes "derguard " ++ version ++ codes "\n"
+
+-- Help and the version go to standard output, with status 0, and what is wrong with the words is reported, with status 2. The text of help and of what is
+-- wrong is that of the reader of words, which tests show.
 abbrev pub ShowsKind : ErrorKind → Device → Device → ℕ → Type 0
 ShowsKind said out err status =
-    ((is_help said ≡ true) × ((text : List ℕ) × Writes text 0 out err status))
+    ((is_help said ≡ true) × ((text : List ℕ) × (said ≡ DisplayVersion → text ≡ version_line) × Writes text 0 out err status))
     ⊎ ((is_help said ≡ false) × IsUntouched out × ((text : List ℕ) × TellsLine text 2 err status))
 
 -- One of these kinds is shown; or memory ran out, and that is reported.

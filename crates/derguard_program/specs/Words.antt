@@ -1,9 +1,14 @@
 -- Which words of the command line are which request, in the terms of `clap`: its definitions say what is found in words of a command, and what is wrong with them.
-use Rattle.std.specs.Prelude.{◌≡◌, true, false, List, [], ◌∷◌, Some, codes}
+use Rattle.std.specs.Prelude.{◌≡◌, Bool, true, false, List, [], ◌∷◌, Some, codes, bytes_eq}
+use Rattle.std.specs.Option.{option_map_or}
 use Rattle.clap.specs.Words.{App, Rule, Row, Shape, Text, first_of, fault_of, new_rule, subcommand_of}
 use Rattle.clap.specs.Simple.{new_shape}
-use Rattle.clap.specs.declared.builder.action.ArgAction.TheVariants.{Set}
+use Rattle.clap.specs.declared.builder.action.ArgAction.TheVariants.{Set, SetTrue}
 use Rattle.derguard_program.specs.Requests.{AbstractRequest, first, check, decide, run, mux}
+
+-- the program's version
+abbrev pub version : Text
+version = codes "0.1.0"
 
 -- ---- the commands
 
@@ -19,17 +24,21 @@ place_rule id = record (required_rule id) { value_names = 1 }
 abbrev pub option_rule : Text → Rule
 option_rule name = record (required_rule name) { long = Some name }
 
+-- `--name` alone, which may be left out
+abbrev pub flag_rule : Text → Rule
+flag_rule name = record (new_rule name) { long = Some name; action = Some SetTrue }
+
 abbrev pub command_shape : Text → List Rule → Shape
 command_shape name arguments = record (new_shape name) { rules = arguments }
 
--- check POLICY
+-- check POLICY [--explain]
 abbrev pub check_shape : Shape
-check_shape = command_shape (codes "check") (place_rule (codes "policy") ∷ [])
+check_shape = command_shape (codes "check") (place_rule (codes "policy") ∷ flag_rule (codes "explain") ∷ [])
 
--- decide POLICY --from FROM --to TO --message MESSAGE HEX
+-- decide POLICY --from FROM --to TO --message MESSAGE HEX [--explain]
 abbrev pub decide_shape : Shape
 decide_shape = command_shape (codes "decide")
-    (place_rule (codes "policy") ∷ option_rule (codes "from") ∷ option_rule (codes "to") ∷ option_rule (codes "message") ∷ place_rule (codes "hex") ∷ [])
+    (place_rule (codes "policy") ∷ option_rule (codes "from") ∷ option_rule (codes "to") ∷ option_rule (codes "message") ∷ place_rule (codes "hex") ∷ flag_rule (codes "explain") ∷ [])
 
 -- run POLICY
 abbrev pub run_shape : Shape
@@ -39,22 +48,28 @@ run_shape = command_shape (codes "run") (place_rule (codes "policy") ∷ [])
 abbrev pub mux_shape : Shape
 mux_shape = command_shape (codes "mux") (place_rule (codes "policy") ∷ [])
 
--- one of these commands, after the program's name
+-- one of these commands, after the program's name; or `--version`
 abbrev pub the_app : App
 the_app = record {
-  top = record (new_shape (codes "derguard")) { is_leaf = false; subcommand_required = true };
+  top = record (new_shape (codes "derguard")) { is_leaf = false; subcommand_required = true; has_version = true };
   subs = check_shape ∷ decide_shape ∷ run_shape ∷ mux_shape ∷ [];
 }
 
 -- ---- the requests
 
+-- the flag was given: its value is `true`, and else `false`
+abbrev pub flag_of : Text → List Row → Bool
+flag_of id rows = option_map_or (λ value. bytes_eq value (codes "true")) (first_of id rows) false
+
 -- what a command with these values asks for
 abbrev pub IsCommand : Text → List Row → AbstractRequest → Type 0
 IsCommand name rows first = ⊥
-IsCommand name rows (check path) = (name ≡ codes "check") × (first_of (codes "policy") rows ≡ Some path)
-IsCommand name rows (decide path route digits) =
+IsCommand name rows (check path explain) =
+    (name ≡ codes "check") × (first_of (codes "policy") rows ≡ Some path) × (explain ≡ flag_of (codes "explain") rows)
+IsCommand name rows (decide path route digits explain) =
     (name ≡ codes "decide") × (first_of (codes "policy") rows ≡ Some path) × (first_of (codes "from") rows ≡ Some route.from)
     × (first_of (codes "to") rows ≡ Some route.to) × (first_of (codes "message") rows ≡ Some route.message) × (first_of (codes "hex") rows ≡ Some digits)
+    × (explain ≡ flag_of (codes "explain") rows)
 IsCommand name rows (run path) = (name ≡ codes "run") × (first_of (codes "policy") rows ≡ Some path)
 IsCommand name rows (mux path) = (name ≡ codes "mux") × (first_of (codes "policy") rows ≡ Some path)
 

@@ -1,11 +1,15 @@
 //! Whether a policy and its modules are accepted.
-ghost use Rattle.std.specs.Prelude.{◌≡◌, ◌++◌, codes, decimal, IfOk, IfErr};
+ghost use Rattle.std.specs.Prelude.{◌≡◌, ◌⊎◌, ◌++◌, [], codes, decimal, map, string_bytes, IfOk, IfErr};
+ghost use Rattle.guard_frames.specs.Texts.{SayPolicy};
 ghost use Rattle.guard_policy.specs.PolicyView.{policy_view};
 ghost use Rattle.derguard_program.specs.Answers.{answer_view, counts_text, IsChecked};
+ghost use Rattle.derguard_program.specs.Explaining.{IsExplained, explanation, sources};
 ghost use Rattle.derguard_program.specs.Files.{IsLater};
-ghost use Rattle.derguard_program.specs.Reading.{IsPolicyAt, IsNoPolicyAt};
+ghost use Rattle.derguard_program.specs.Reading.{IsPolicyAt, IsNoPolicyAt, SayNothing};
+ghost use Rattle.derguard_program.specs.declared.fault.Fault.TheVariants.{NoMemory};
 
 use crate::answer::Answer;
+use crate::explaining::{Refusal, Sources};
 use crate::fault::Fault;
 use crate::files::Files;
 use crate::texts::Texts;
@@ -21,6 +25,24 @@ pub fn check<F: Files>(alloc: Global, path: &str, files: &mut F) -> Result<Answe
     let policy = load(alloc, path, files)?;
     let out = counts(alloc, &policy)?;
     Ok(Answer { out, status: 0 })
+}
+
+/// The same, with what explains a fault.
+pub fn check_explained<F: Files>(
+    alloc: Global,
+    path: &str,
+    files: &mut F,
+) -> Result<Answer, Refusal>
+    ensures checked { IfOk result (λ a. IsChecked (F.told files.old) path.now (answer_view a)) }
+    ensures none { IfErr result (λ r. IsExplained (F.told files.old) path.now r.fault (string_bytes r.note)) }
+{
+    match load_explained(alloc, path, files) {
+        Ok(policy) => match counts(alloc, &policy) {
+            Ok(out) => Ok(Answer { out, status: 0 }),
+            Err(_) => Err(Refusal::no_memory(alloc)),
+        },
+        Err(refusal) => Err(refusal),
+    }
 }
 
 fn counts(alloc: Global, policy: &Policy) -> Result<Vec<u8>, AllocError>
@@ -41,6 +63,39 @@ pub fn load<F: Files>(alloc: Global, path: &str, files: &mut F) -> Result<Policy
     ensures later { IsLater (F.told files.old) (F.told files.new) }
 {
     let texts = Texts::read(alloc, path, files)?;
+    let modules = texts.module_slices(alloc)?;
+    Ok(load_texts(alloc, &modules, &texts.policy)?)
+}
+
+/// The policy at the path, as `load` finds it; or why there is none, with what explains it.
+pub fn load_explained<F: Files>(alloc: Global, path: &str, files: &mut F) -> Result<Policy, Refusal>
+    ensures there { IfOk result (λ p. IsPolicyAt (F.told files.old) path.now (policy_view p)) }
+    ensures none { IfErr result (λ r. IsExplained (F.told files.old) path.now r.fault (string_bytes r.note)) }
+{
+    match Texts::read(alloc, path, files) {
+        Ok(texts) => said_explained(alloc, path, &texts),
+        Err(fault) => Err(Refusal::new(alloc, &Sources::of_path(path), fault)),
+    }
+}
+
+/// The policy that the texts say; or why they say none, explained over them.
+fn said_explained(alloc: Global, path: &str, texts: &Texts) -> Result<Policy, Refusal>
+    ensures there { IfOk result (λ p. SayPolicy (map (λ text. text.items) texts.now.modules.items) texts.now.policy.items (policy_view p)) }
+    ensures none { IfErr result (λ r. (SayNothing (map (λ text. text.items) texts.now.modules.items) texts.now.policy.items r.fault
+        × (string_bytes r.note ≡ explanation (sources path.now (map string_bytes texts.now.files.items) (map (λ text. text.items) texts.now.modules.items)) r.fault))
+        ⊎ ((r.fault ≡ NoMemory) × (string_bytes r.note ≡ []))) }
+{
+    match said_by(alloc, texts) {
+        Ok(policy) => Ok(policy),
+        Err(fault) => Err(Refusal::new(alloc, &Sources::of_texts(path, texts), fault)),
+    }
+}
+
+/// The policy that the texts say.
+fn said_by(alloc: Global, texts: &Texts) -> Result<Policy, Fault>
+    ensures there { IfOk result (λ p. SayPolicy (map (λ text. text.items) texts.now.modules.items) texts.now.policy.items (policy_view p)) }
+    ensures none { IfErr result (λ f. SayNothing (map (λ text. text.items) texts.now.modules.items) texts.now.policy.items f ⊎ (f ≡ NoMemory)) }
+{
     let modules = texts.module_slices(alloc)?;
     Ok(load_texts(alloc, &modules, &texts.policy)?)
 }

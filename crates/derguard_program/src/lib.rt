@@ -11,6 +11,9 @@
 //! | What goes out of a link, and how are its lines marked? | `passing.rt` | `specs/Passing.antt` |
 //! | What comes of a stream? | `guarding.rt` | `specs/Meeting.antt` (`GuardsStream`) |
 //! | Which texts does a policy at a path need? | `texts.rt`, `files.rt` | `specs/Reading.antt`, `specs/Files.antt` |
+//! | What is shown of a fault where it is to be explained, and of which texts? | `explaining.rt` | `specs/Explaining.antt` |
+//! | What is said of each numbered fault? | `notes.rt` | `specs/Notes.antt` |
+//! | How is a line shown with a mark under a column? | `marking.rt` | `specs/Marking.antt` |
 //! | What is told of a fault, and which status is it? | `fault.rt`, `outputs.rt` | `specs/Faults.antt`, `specs/Writing.antt` |
 //! | Which policy is built in, and what is printed for its messages? | `first_run.rt` | `specs/FirstRun.antt`, `specs/Printing.antt` |
 #![tactic(auto)]
@@ -18,14 +21,17 @@
 mod answer;
 mod checking;
 mod deciding;
+mod explaining;
 mod fault;
 mod files;
 mod first_run;
 mod guarding;
 pub mod laws;
 mod links;
+mod marking;
 mod meeting;
 mod muxing;
+mod notes;
 mod outputs;
 mod passing;
 mod records;

@@ -1,27 +1,29 @@
 //! The program over any files, source and sinks.
-ghost use Rattle.std.specs.Prelude.{◌≡◌, ◌≤◌, ◌∷◌, [], length, map, true, false, IfOk, IfErr};
+ghost use Rattle.std.specs.Prelude.{◌≡◌, ◌≤◌, ◌∷◌, [], length, map, string_bytes, true, false, IfOk, IfErr};
 ghost use Rattle.derguard_program.specs.Requests.{request_view, first};
 ghost use Rattle.derguard_program.specs.Devices.{input_of, device, IsUntouched};
+ghost use Rattle.derguard_program.specs.Explaining.{TellsWith};
 ghost use Rattle.derguard_program.specs.Writing.{Writes, Tells, TellsNoMemory};
-ghost use Rattle.derguard_program.specs.Meeting.{Meets, Programs, Shows, is_help};
+ghost use Rattle.derguard_program.specs.Meeting.{Meets, Programs, Shows, is_help, version_line};
 ghost use Rattle.clap.specs.Words.{kind_of};
-ghost use Rattle.clap.specs.declared.error.kind.ErrorKind.TheVariants.{OutOfMemory};
+ghost use Rattle.clap.specs.declared.error.kind.ErrorKind.TheVariants.{DisplayVersion, OutOfMemory};
 
 use crate::answer::Answer;
-use crate::checking::check;
-use crate::deciding::decide;
+use crate::checking::{check, check_explained};
+use crate::deciding::{decide, decide_explained};
+use crate::explaining::Refusal;
 use crate::fault::Fault;
 use crate::files::Files;
 use crate::first_run::first_run;
 use crate::guarding::run;
 use crate::muxing::mux;
-use crate::outputs::{tell, tell_no_memory, tell_text, write};
+use crate::outputs::{tell, tell_no_memory, tell_text, tell_with, write};
 use crate::request::Request;
-use crate::words::request_in;
+use crate::words::{VERSION, request_in};
 use clap::Error;
 use clap::error::ErrorKind;
 use guard_frames::{Sink, Source};
-use std::alloc::Global;
+use std::alloc::{AllocError, Global};
 
 /// Does what the words ask for, the first of which is the program's name, and answers the status: 0 where all passed, the policy is accepted or help was
 /// asked for; 1 where something was denied; 2 for bad words, hexadecimal digits, a bad policy, bad modules or a file that can't be read; 3 where the stream or a
@@ -66,8 +68,20 @@ pub fn meet<F: Files, S: Source, O: Sink, E: Sink>(
 {
     match request {
         Request::First => give(alloc, first_run(alloc), out, err),
-        Request::Check { policy } => give(alloc, check(alloc, policy, files), out, err),
-        Request::Decide(message) => give(alloc, decide(alloc, message, files), out, err),
+        Request::Check { policy, explain } => {
+            if *explain {
+                give_explained(alloc, check_explained(alloc, policy, files), out, err)
+            } else {
+                give(alloc, check(alloc, policy, files), out, err)
+            }
+        }
+        Request::Decide(message) => {
+            if message.explain {
+                give_explained(alloc, decide_explained(alloc, message, files), out, err)
+            } else {
+                give(alloc, decide(alloc, message, files), out, err)
+            }
+        }
         Request::Run { policy } => run(alloc, policy, files, input, out, err),
         Request::Mux { policy } => mux(alloc, policy, files, input, out, err),
     }
@@ -90,7 +104,25 @@ fn give<O: Sink, E: Sink>(
     }
 }
 
-/// Shows what `clap` says of the words: help on standard output, with status 0, and what is wrong with them on standard error, with status 2.
+/// Writes the answer, or tells the fault with what explains it.
+fn give_explained<O: Sink, E: Sink>(
+    alloc: Global,
+    found: Result<Answer, Refusal>,
+    out: &mut O,
+    err: &mut E,
+) -> u8
+    ensures written { IfOk found (λ a. Writes a.out.items a.status (device (O.taken out.old) (O.taken out.new) (O.has_failed out.new))
+        (device (E.taken err.old) (E.taken err.new) (E.has_failed err.new)) result) }
+    ensures told { IfErr found (λ r. (O.taken out.new ≡ O.taken out.old)
+        × TellsWith r.fault (string_bytes r.note) (device (E.taken err.old) (E.taken err.new) (E.has_failed err.new)) result) }
+{
+    match found {
+        Ok(answer) => write(&answer.out, answer.status, out, err),
+        Err(refusal) => tell_with(alloc, &refusal.fault, &refusal.note, err),
+    }
+}
+
+/// Shows what `clap` says of the words: help and the version on standard output, with status 0, and what is wrong with them on standard error, with status 2.
 fn show<O: Sink, E: Sink>(alloc: Global, said: &Error, out: &mut O, err: &mut E) -> u8
     ensures shown { Shows (kind_of said.now ∷ []) (device (O.taken out.old) (O.taken out.new) (O.has_failed out.new))
         (device (E.taken err.old) (E.taken err.new) (E.has_failed err.new)) result }
@@ -100,7 +132,7 @@ fn show<O: Sink, E: Sink>(alloc: Global, said: &Error, out: &mut O, err: &mut E)
     if is_no_memory(said.kind()) {
         return tell_no_memory(err);
     }
-    let Ok(text) = format!(in alloc; "{said}") else {
+    let Ok(text) = text_of(alloc, said) else {
         return tell_no_memory(err);
     };
     if is_help(said.kind()) {
@@ -108,6 +140,23 @@ fn show<O: Sink, E: Sink>(alloc: Global, said: &Error, out: &mut O, err: &mut E)
     } else {
         tell_text(alloc, text.trim_end(), 2, err)
     }
+}
+
+/// What is shown of the words. The version is the program's own text, all else is that of `clap`.
+fn text_of(alloc: Global, said: &Error) -> Result<String, AllocError>
+    ensures { IfOk result (λ text. kind_of said.now ≡ DisplayVersion → string_bytes text ≡ version_line) }
+{
+    if is_version(said.kind()) {
+        return format!(in alloc; "derguard {VERSION}\n");
+    }
+    format!(in alloc; "{said}")
+}
+
+fn is_version(said: ErrorKind) -> bool
+    ensures yes { result ≡ true → said ≡ DisplayVersion }
+    ensures no { result ≡ false → said ≡ DisplayVersion → ⊥ }
+{
+    matches!(said, ErrorKind::DisplayVersion)
 }
 
 fn is_help(said: ErrorKind) -> bool

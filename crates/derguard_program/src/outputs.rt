@@ -1,8 +1,9 @@
 //! What goes to standard output and to standard error.
-ghost use Rattle.std.specs.Prelude.{◌≡◌, ℕ, List, true, IfOk, OnErr, codes, string_bytes};
+ghost use Rattle.std.specs.Prelude.{◌≡◌, ◌++◌, ℕ, List, true, IfOk, OnErr, codes, string_bytes};
 ghost use Rattle.std.specs.Io.KnownBytes.{Appends};
 ghost use Rattle.guard_frames.specs.Prefix.{IsProperPrefix};
 ghost use Rattle.derguard_program.specs.Devices.{device};
+ghost use Rattle.derguard_program.specs.Explaining.{TellsWith};
 ghost use Rattle.derguard_program.specs.Faults.{IsText};
 ghost use Rattle.derguard_program.specs.Writing.{line_of, IsFaultLine, TellsOctets, TellsLine, TellsNoMemory, TellsText, Tells, Writes};
 
@@ -57,6 +58,23 @@ pub fn report<E: Sink>(alloc: Global, fault: &Fault, err: &mut E) -> Result<u8, 
     };
     put_all(err, line.as_bytes())?;
     Ok(fault.status())
+}
+
+/// Tells a fault with what comes after its line.
+pub fn tell_with<E: Sink>(alloc: Global, fault: &Fault, note: &str, err: &mut E) -> u8
+    ensures { TellsWith fault.now note.now (device (E.taken err.old) (E.taken err.new) (E.has_failed err.new)) result }
+{
+    match lines_with(alloc, fault, note) {
+        Ok(lines) => tell_line(lines.as_bytes(), fault.status(), err),
+        Err(_) => tell_no_memory(err),
+    }
+}
+
+fn lines_with(alloc: Global, fault: &Fault, note: &str) -> Result<String, AllocError>
+    ensures { IfOk result (λ lines. (text : List ℕ) × IsText fault.now text × (string_bytes lines ≡ line_of text ++ note.now)) }
+{
+    let line = fault_line(alloc, fault)?;
+    format!(in alloc; "{line}{note}")
 }
 
 fn fault_line(alloc: Global, fault: &Fault) -> Result<String, AllocError>

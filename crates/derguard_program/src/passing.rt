@@ -91,7 +91,7 @@ fn first_line(text: &[u8]) -> (&[u8], &[u8])
 }
 
 /// Where the first line feed is, or where the text ends.
-fn line_end(text: &[u8]) -> usize
+pub fn line_end(text: &[u8]) -> usize
     ensures within { result ≤ length text.now }
     ensures before { (k : ℕ) → k < result → slice_index text.now k ≢ 10 }
     ensures there { result < length text.now → slice_index text.now result ≡ 10 }

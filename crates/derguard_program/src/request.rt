@@ -5,8 +5,8 @@
 pub enum Request<'a> {
     /// No words: the messages that are built in.
     First,
-    /// Whether a policy and its modules are accepted.
-    Check { policy: &'a str },
+    /// Whether a policy and its modules are accepted. A fault may be asked to be explained.
+    Check { policy: &'a str, explain: bool },
     /// What becomes of one message.
     Decide(Message<'a>),
     /// What may pass of the frames that come in.
@@ -24,4 +24,6 @@ pub struct Message<'a> {
     pub message: &'a str,
     /// Its octets, in hexadecimal digits.
     pub hex: &'a str,
+    /// Whether a fault is to be explained.
+    pub explain: bool,
 }

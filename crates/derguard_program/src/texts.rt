@@ -2,17 +2,19 @@
 ghost use Rattle.std.specs.Prelude.{◌≡◌, ◌++◌, map, string_bytes, IfOk, IfErr};
 ghost use Rattle.derguard_program.specs.Files.{HasText, after_read, IsLater};
 ghost use Rattle.derguard_program.specs.Reading.{folder, HaveTexts, AreTexts, IsNoPolicyAt};
-ghost use Rattle.derguard_program.specs.inside.Texts.{CannotBeRead, CannotAllBeRead};
+ghost use Rattle.derguard_program.specs.Explaining.{AreTextsOf};
+ghost use Rattle.derguard_program.specs.inside.Texts.{CannotBeRead, CannotAllBeRead, IsBeforeModules};
 
 use crate::fault::Fault;
 use crate::files::{Files, FilesFault};
 use guard_policy::module_files;
 use std::alloc::{AllocError, Global};
 
-/// The text of a policy, and those of the modules that it lists, in order.
+/// The text of a policy, the files of the modules that it lists, in order, and their texts.
 #[derive(Drop)]
 pub struct Texts {
     pub policy: Vec<u8>,
+    pub files: Vec<String>,
     pub modules: Vec<Vec<u8>>,
 }
 
@@ -22,13 +24,19 @@ impl Texts {
     /// It refuses with CannotRead by the path at which nothing can be read, and with Policy where the policy's text lists no modules (Q1 to Q3 of its top).
     pub fn read<F: Files>(alloc: Global, path: &str, files: &mut F) -> Result<Texts, Fault>
         ensures read { IfOk result (λ texts. AreTexts (F.told files.old) path.now texts.policy.items (map (λ text. text.items) texts.modules.items)) }
+        ensures listed { IfOk result (λ texts. AreTextsOf (F.told files.old) path.now texts.policy.items (map string_bytes texts.files.items) (map (λ text. text.items) texts.modules.items)) }
         ensures missing { IfErr result (IsNoPolicyAt (F.told files.old) path.now) }
+        ensures before { IfErr result IsBeforeModules }
         ensures later { IsLater (F.told files.old) (F.told files.new) }
     {
         let policy = read(alloc, path, files)?;
         let listed = module_files(alloc, &policy)?;
         let modules = read_modules(alloc, path, &listed, files)?;
-        Ok(Texts { policy, modules })
+        Ok(Texts {
+            policy,
+            files: listed,
+            modules,
+        })
     }
 
     /// The texts of the modules, as a schema is built from them.
@@ -77,7 +85,7 @@ fn read<F: Files>(alloc: Global, path: &str, files: &mut F) -> Result<Vec<u8>, F
 }
 
 /// The path of a file of this name in the folder of the other path: that one up to and with its last `/`, and then the name.
-fn beside(alloc: Global, path: &str, name: &str) -> Result<String, AllocError>
+pub fn beside(alloc: Global, path: &str, name: &str) -> Result<String, AllocError>
     ensures { IfOk result (λ place. string_bytes place ≡ folder path.now ++ name.now) }
 {
     match path.rsplit_once('/') {

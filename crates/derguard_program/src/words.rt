@@ -2,11 +2,14 @@
 ghost use Rattle.std.specs.Prelude.{◌≡◌, ℕ, List, Some, codes, false, map, IfOk, IfErr};
 ghost use Rattle.clap.specs.Words.{HasKind, Row, Text, app_of, fault_of, first_of, found_of, rows_of, rule_of, shape_of, subcommand_rows_of};
 ghost use Rattle.derguard_program.specs.Requests.{AbstractRequest, request_view};
-ghost use Rattle.derguard_program.specs.Words.{Asks, IsCommand, check_shape, decide_shape, mux_shape, option_rule, place_rule, required_rule, run_shape, the_app};
+ghost use Rattle.derguard_program.specs.Words.{Asks, IsCommand, check_shape, decide_shape, flag_of, flag_rule, mux_shape, option_rule, place_rule, required_rule, run_shape, the_app};
 
 use crate::request::{Message, Request};
 use clap::{Arg, ArgAction, ArgMatches, Command, Error};
 use std::alloc::{AllocError, Global};
+
+/// The program's version. Nothing else of the code says it.
+pub const VERSION: &str = "0.1.0";
 
 const ABOUT: &str =
     "Lets through the DER messages that a policy over ASN.1 types allows, and says why it stops others. Without words it decides four messages that are built in.";
@@ -14,7 +17,7 @@ const ABOUT: &str =
 const EXAMPLE: &str =
     "Example:\n  derguard check examples/orders.toml\n\nStatuses: 0 all passed, 1 something was denied, 2 bad words, policy, modules or hexadecimal digits, or a file that can't be read, 3 a stream or a device failed, or no memory.";
 
-const CHECK_EXAMPLE: &str = "Example:\n  derguard check examples/orders.toml";
+const CHECK_EXAMPLE: &str = "Example:\n  derguard check examples/orders.toml --explain";
 
 const DECIDE_EXAMPLE: &str =
     "Example:\n  derguard decide examples/orders.toml --from north --to south --message order 300B800105810101A403020107\n\nA value that begins with a hyphen is given in one word with its option, as --from=-a.";
@@ -41,6 +44,7 @@ fn request_of<'a>(matches: &ArgMatches<'a>) -> Request<'a>
     match matches.subcommand() {
         Some(("check", found)) => Request::Check {
             policy: text(found, "policy"),
+            explain: flag(found, "explain"),
         },
         Some(("run", found)) => Request::Run {
             policy: text(found, "policy"),
@@ -54,6 +58,7 @@ fn request_of<'a>(matches: &ArgMatches<'a>) -> Request<'a>
             to: text(found, "to"),
             message: text(found, "message"),
             hex: text(found, "hex"),
+            explain: flag(found, "explain"),
         }),
         None => Request::First,
     }
@@ -65,10 +70,21 @@ fn text<'a>(matches: &ArgMatches<'a>, id: &str) -> &'a str
     matches.get_str(id).unwrap_or("")
 }
 
+/// Whether the flag was given.
+fn flag(matches: &ArgMatches, id: &str) -> bool
+    ensures { result ≡ flag_of id.now (rows_of (found_of matches.now)) }
+{
+    match matches.get_str(id) {
+        Some(value) => value == "true",
+        None => false,
+    }
+}
+
 fn command<'a>(alloc: Global) -> Result<Command<'a>, AllocError>
     ensures { IfOk result (λ c. app_of c ≡ the_app) }
 {
     Command::new(alloc, "derguard")
+        .version(VERSION)
         .about(ABOUT)
         .after_help(EXAMPLE)
         .subcommand_required(true)
@@ -84,7 +100,12 @@ fn check<'a>(alloc: Global) -> Result<Command<'a>, AllocError>
     Command::new(alloc, "check")
         .about("Says whether a policy and its modules are accepted.")
         .after_help(CHECK_EXAMPLE)
-        .arg(policy(alloc))
+        .arg(policy(alloc))?
+        .arg(switch(
+            alloc,
+            "explain",
+            "Shows the place of a fault, and what to do.",
+        ))
 }
 
 fn decide<'a>(alloc: Global) -> Result<Command<'a>, AllocError>
@@ -101,7 +122,12 @@ fn decide<'a>(alloc: Global) -> Result<Command<'a>, AllocError>
             required(alloc, "hex")
                 .value_name("HEX")
                 .help("The message's octets, in hexadecimal digits."),
-        )
+        )?
+        .arg(switch(
+            alloc,
+            "explain",
+            "Shows the place of a fault, and what to do.",
+        ))
 }
 
 fn run<'a>(alloc: Global) -> Result<Command<'a>, AllocError>
@@ -141,6 +167,17 @@ fn option<'a>(alloc: Global, name: &'a str, help: &'a str) -> Arg<'a>
     ensures local { result.global ≡ false }
 {
     required(alloc, name).long(name).help(help)
+}
+
+/// An option without a value, which may be left out.
+fn switch<'a>(alloc: Global, name: &'a str, help: &'a str) -> Arg<'a>
+    ensures rule { rule_of result ≡ flag_rule name.entry.now }
+    ensures local { result.global ≡ false }
+{
+    Arg::new(alloc, name)
+        .long(name)
+        .action(ArgAction::SetTrue)
+        .help(help)
 }
 
 fn required<'a>(alloc: Global, name: &'a str) -> Arg<'a>

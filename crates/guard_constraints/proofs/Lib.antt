@@ -4,15 +4,15 @@ mod Overlaps
 mod Sets
 mod Searching
 -- ---- constraint trees: what is read is what is denoted, and its fault the first
-mod SoundParts
+pub mod SoundParts
 mod Agreement
 mod Elements
 mod Inner
 mod Trees
 mod Said
 mod OneConstraint
-mod Values
-mod Proper
+pub mod Values
+pub mod Proper
 mod Answered
 -- ---- steps of the code
 mod Gathering

@@ -1,7 +1,7 @@
--- What rules say by marks is what they say of the value.
-use Rattle.std.proofs.Common.{◌≡◌, ℕ, zero, suc, ◌<◌, ◌≤◌, List, [], ◌∷◌, length, map, slice_get, Bool, true, false, ◌&&◌, ◌||◌, not, cond, ◌↔◌, inl, inr, Option, Some, None, option_map, unwrap_or, string_bytes, All, refl, ap, sym, ◌∙◌, subst, arith, tests, rules}
-use Rattle.std.specs.Prelude.{IsTrue, nat_lt, nat_le, ◌⊎◌}
-use Rattle.std.proofs.lemmas.Bool.Decides.{nat_tests}
+-- What the marks of a table say by a route's rules is what the rules say of the value.
+use Rattle.std.proofs.Common.{◌≡◌, ◌≢◌, ℕ, zero, suc, ◌+◌, List, [], ◌∷◌, map, slice_get, Bool, true, false, ◌&&◌, ◌||◌, not, cond, ◌↔◌, Option, Some, option_map, string_bytes, All, refl, ap, sym, ◌∙◌, subst}
+use Rattle.std.specs.Prelude.{IsTrue, bytes_eq}
+use Rattle.std.proofs.lemmas.Bool.{false≢true}
 use Rattle.std.specs.List.{list_any, list_all}
 use Rattle.std.proofs.lemmas.Option.{same_Some, slice_get-map, slice_get_within, get_or_from_slice_get}
 use Rattle.std.proofs.lemmas.List.Elements.{All-get_or}
@@ -13,264 +13,220 @@ use Rattle.guard_der.specs.Sound.{is_sound}
 use Rattle.guard_der.proofs.Types.Messages.{one_encoding}
 use Rattle.guard_eval.specs.Member.{is_member}
 use Rattle.guard_tables.specs.declared.slots.Slots.{Slots}
-use Rattle.guard_tables.specs.Slots.{has}
-use Rattle.guard_tables.specs.Tables.{first_fault}
-use Rattle.guard_tables.specs.declared.fault.TableFault.{TableFault}
-use Rattle.guard_tables.specs.declared.fault.TableFault.TheVariants.{TooManyRules}
-use Rattle.guard_tables.specs.TableView.{declared_of, rules_of, table_types}
+use Rattle.guard_tables.specs.Slots.{none, has}
+use Rattle.guard_tables.specs.TableView.{declared_of, table_types}
 use Rattle.guard_reader.specs.declared.marks.Marks.{Marks}
 use Rattle.guard_reader.specs.Marking.{is_in, HasMarks}
 use Rattle.guard_policy.specs.declared.kept.Kept.{Kept}
 use Rattle.guard_policy.specs.declared.kept.KeptMessage.{KeptMessage}
-use Rattle.guard_policy.specs.declared.kept.KeptRule.{KeptRule}
-use Rattle.guard_policy.specs.declared.kept.RuleType.{RuleType}
-use Rattle.guard_policy.specs.declared.kept.RuleType.TheVariants.{InTable, Own}
 use Rattle.guard_policy.specs.declared.policy.Policy.{Policy}
 use Rattle.guard_policy.specs.declared.policy.Effect.{Effect}
 use Rattle.guard_policy.specs.declared.policy.Effect.TheVariants.{Allow, Deny}
-use Rattle.guard_policy.specs.Decisions.{NumberedRule, speaks_of, is_allow, allows, denies, rules_of as route_rules, Goes}
-use Rattle.guard_policy.specs.KeptView.{kept_message_view, kept_rule_view, found_type, table_place, no_type}
-use Rattle.guard_policy.specs.inside.Listings.{place_among, numbers_for, rules_at, heard}
+use Rattle.guard_policy.specs.declared.routing.RouteRules.{RouteRules}
+use Rattle.guard_policy.specs.declared.routing.Routing.{Routing}
+use Rattle.guard_policy.specs.Decisions.{NumberedRule, speaks_of, speaking, allows, denies, rules_of as route_rules, Goes}
+use Rattle.guard_policy.specs.KeptView.{kept_message_view}
+use Rattle.guard_policy.specs.Names.{is_meant}
 use Rattle.guard_policy.specs.PolicyView.{policy_view}
 use Rattle.guard_policy.specs.Policies.{AbstractPolicy, AbstractMessage, AbstractRule, AbstractRoute, declared_type, declared_among}
-use Rattle.guard_policy.specs.inside.Keeping.{IsFirst, ArePlaced}
-use Rattle.guard_policy.specs.inside.Marked.{is_marked, kept_speaks_of, kept_effect, effect_at, is_let, is_stopped, lets_go}
+use Rattle.guard_policy.specs.inside.Keeping.{IsFirst}
+use Rattle.guard_policy.specs.inside.Routing.{rules_named, slots_where, has_effect, common, speaking_slots, slots_for, IsRouting, IsRouted}
 use Rattle.guard_policy.specs.inside.TypedRules.{messages_kept, rules_kept}
-use Rattle.guard_policy.proofs.Applicable.{speaks_of-message, declared_sound}
-use Rattle.guard_policy.proofs.Listed.{heard_listed, with_numbers, declared_pair}
+use Rattle.guard_policy.proofs.Applicable.{declared_sound}
+use Rattle.guard_policy.proofs.Keeping.{first_named}
+use Rattle.guard_policy.proofs.Listed.{speaks_not, with_numbers, declared_pair}
+use Rattle.guard_policy.proofs.RuleSlots.{Says, true_at, any, says_slots, common_says, both_mapped, filled, empty, filled_any, empty_any, any_mapped}
+use Rattle.guard_policy.proofs.RulesNamed.{types_named}
 
--- ---- one rule
+-- ---- the rules of a message, by their slots
 
-is_in_found : (ts : List AbstractType) (place : ℕ) (t : AbstractType) (v : AbstractValue) → slice_get ts place ≡ Some t → is_in ts v place ≡ is_member t v
-is_in_found [] place t v e = absurd cc
-is_in_found (x ∷ ts) zero t v e = ap (λ (y : AbstractType). is_member y v) (same_Some _ _ e)
-is_in_found (x ∷ ts) (suc place) t v e = is_in_found ts place t v e
+is_in_at : (rs : List AbstractRule) (v : AbstractValue) (n : ℕ) → is_in (map (λ r. r.ty) rs) v n ≡ true_at (map (λ r. is_member r.ty v) rs) n
+is_in_at [] v n = refl
+is_in_at (r ∷ rs) v zero = refl
+is_in_at (r ∷ rs) v (suc n) = is_in_at rs v n
 
--- a place where a type is found that is sound
-found_there : (ts : List AbstractType) (place : ℕ) → IsTrue (is_sound (unwrap_or (slice_get ts place) no_type))
-    → (t : AbstractType) × (slice_get ts place ≡ Some t)
-found_there ts place sound = there (slice_get ts place) sound
-  where
-    there : (o : Option AbstractType) → IsTrue (is_sound (unwrap_or o no_type)) → (t : AbstractType) × (o ≡ Some t)
-    there None sound = absurd (let e : false ≡ true = sound in cc)
-    there (Some t) sound = (t, refl)
+common_mapped : (f g : AbstractRule → Bool) (rs : List AbstractRule) (m k : Slots) → Says (map f rs) m → ((n : ℕ) → has k (suc n) ≡ true_at (map g rs) n)
+    → Says (map (λ r. f r && g r) rs) (common m k)
+common_mapped f g rs m k p shows = subst (λ (bs : List Bool). Says bs (common m k)) (both_mapped f g rs) (common_says (map f rs) (map g rs) m k p shows)
 
--- the marks of the table of the first message of this name
-record Told (members : Slots) (name : List ℕ) (messages : List KeptMessage) (m : KeptMessage) (v : AbstractValue) : Type 0 where
-  first : IsFirst name messages m
-  marks : (slot : ℕ) → has members slot ≡ is_in (table_types m.table) v slot
-  few : length (rules_of m.table) ≤ 255
+-- a rule that speaks of the parties, has the effect, and whose type has the value
+abbrev answers : Effect → AbstractRoute → AbstractValue → AbstractRule → Bool
+answers effect route v r = ((is_meant r.from route.from && is_meant r.to route.to) && has_effect effect r) && is_member r.ty v
 
--- of a rule of the message
-marked_here : (members : Slots) (messages : List KeptMessage) (m : KeptMessage) (v : AbstractValue) (place rule : ℕ)
-    → slice_get messages place ≡ Some m → ((slot : ℕ) → has members slot ≡ is_in (table_types m.table) v slot) → length (rules_of m.table) ≤ 255
-    → IsTrue (is_sound (unwrap_or (found_type messages (InTable place rule)) no_type))
-    → is_marked members (InTable place rule) ≡ is_member (unwrap_or (found_type messages (InTable place rule)) no_type) v
-marked_here members messages m v place rule there marks few sound =
-    let found : found_type messages (InTable place rule) ≡ slice_get (rules_of m.table) rule =
-    ap (λ (o : Option KeptMessage). elim o [ Some x ↦ slice_get (rules_of x.table) rule | None ↦ None ]) there in
-    let t = found_there (rules_of m.table) rule (subst (λ (o : Option AbstractType). IsTrue (is_sound (unwrap_or o no_type))) found sound) in
-    let within : rule < length (rules_of m.table) = slice_get_within (rules_of m.table) rule t.0 t.1 in
-    let low : rule < 255 = omega arith in
-    let is_low : nat_lt rule 255 ≡ true = search (rules, tests) in
-    ap (λ b. b && has members (suc rule)) is_low ∙ marks (suc rule) ∙ is_in_found (rules_of m.table) rule t.0 v t.1
-    ∙ ap (λ (o : Option AbstractType). is_member (unwrap_or o no_type) v) (sym (found ∙ t.1))
+says_where : (f : AbstractRule → Bool) (rs : List AbstractRule) (m : Slots) → m ≡ slots_where f rs → Says (map f rs) m
+says_where f rs m e = subst (Says (map f rs)) (sym e) (says_slots (map f rs))
 
-marked_is : (members : Slots) (name : List ℕ) (messages : List KeptMessage) (m : KeptMessage) (v : AbstractValue) (ty : RuleType)
-    → Told members name messages m v → table_place ty ≡ place_among name 0 (map kept_message_view messages)
-    → IsTrue (is_sound (unwrap_or (found_type messages ty) no_type))
-    → is_marked members ty ≡ is_member (unwrap_or (found_type messages ty) no_type) v
-marked_is members name messages m v (Own t) told placed sound = absurd (let e = placed ∙ told.first.first in cc)
-marked_is members name messages m v (InTable place rule) told placed sound =
-    let same : place ≡ told.first.place = same_Some _ _ (placed ∙ told.first.first) in
-    marked_here members messages m v place rule (ap (slice_get messages) same ∙ told.first.there) told.marks told.few sound
+-- the slots of such rules
+answering : (effect : Effect) (route : AbstractRoute) (v : AbstractValue) (rs : List AbstractRule) (r : Routing) (own members : Slots)
+    → IsRouting rs r → own ≡ slots_where (has_effect effect) rs → ((n : ℕ) → has members (suc n) ≡ true_at (map (λ x. is_member x.ty v) rs) n)
+    → Says (map (answers effect route v) rs) (common (common (speaking_slots r route) own) members)
+answering effect route v rs r own members routing is shows =
+    let senders = says_where (λ x. is_meant x.from route.from) rs (slots_for r.senders route.from) (routing.senders route.from) in
+    let receivers = says_where (λ x. is_meant x.to route.to) rs (slots_for r.receivers route.to) (routing.receivers route.to) in
+    let parties = common_mapped (λ x. is_meant x.from route.from) (λ x. is_meant x.to route.to) rs (slots_for r.senders route.from) (slots_for r.receivers route.to) senders receivers.others in
+    let effects = says_where (has_effect effect) rs own is in
+    let of_effect = common_mapped (λ x. is_meant x.from route.from && is_meant x.to route.to) (has_effect effect) rs (speaking_slots r route) own parties effects.others in
+    common_mapped (λ x. (is_meant x.from route.from && is_meant x.to route.to) && has_effect effect x) (λ x. is_member x.ty v) rs
+    (common (speaking_slots r route) own) members of_effect shows
 
--- ---- all rules
+-- ---- they are the rules of the route
 
-abbrev rule_effect : AbstractRoute → AbstractValue → AbstractRule → Option Effect
-rule_effect route v r = cond (speaks_of route r && is_member r.ty v) (Some r.effect) None
+all_true : (a b c : Bool) → c ≡ true → (a && b && c) ≡ (a && b)
+all_true true true c e = e
+all_true true false c e = refl
+all_true false b c e = refl
 
--- ---- what rules let and stop
+grouped : (s e m : Bool) → ((s && e) && m) ≡ (s && (e && m))
+grouped true e m = refl
+grouped false e m = refl
 
-let_one : (b : Bool) (e : Effect) → is_let (cond b (Some e) None) ≡ (is_allow e && b)
-let_one true Allow = refl
-let_one true Deny = refl
-let_one false Allow = refl
-let_one false Deny = refl
+any_first : (test : NumberedRule → Bool) (b s : Bool) (x : NumberedRule) (xs : List NumberedRule) → b ≡ (s && test x) → (b || list_any test xs) ≡ list_any test (cond s (x ∷ xs) xs)
+any_first test b true x xs e = ap (λ c. c || list_any test xs) e
+any_first test b false x xs e = ap (λ c. c || list_any test xs) e
 
-stopped_one : (b : Bool) (e : Effect) → is_stopped (cond b (Some e) None) ≡ (not (is_allow e) && b)
-stopped_one true Allow = refl
-stopped_one true Deny = refl
-stopped_one false Allow = refl
-stopped_one false Deny = refl
+-- what such a rule says of the value
+abbrev says_of : Effect → AbstractValue → NumberedRule → Bool
+says_of effect v x = has_effect effect x.rule && is_member x.rule.ty v
 
-abbrev first_heard : AbstractRoute → ℕ → AbstractRule → List NumberedRule → List NumberedRule
-first_heard route n r others = cond (speaks_of route r) (record { number = n; rule = r } ∷ others) others
+any_speaking : (effect : Effect) (route : AbstractRoute) (v : AbstractValue) (i : ℕ) (rules : List AbstractRule)
+    → list_any (answers effect route v) (rules_named route.message rules) ≡ list_any (says_of effect v) (speaking route i rules)
+any_speaking effect route v i [] = refl
+any_speaking effect route v i (r ∷ rs) =
+    let more = any_speaking effect route v (i + 1) rs in
+    let x : NumberedRule = record { number = i; rule = r } in
+    let xs = speaking route (i + 1) rs in
+    (elim (bytes_eq r.message route.message) as (λ (b : Bool). bytes_eq r.message route.message ≡ b
+    → list_any (answers effect route v) (cond b (r ∷ rules_named route.message rs) (rules_named route.message rs)) ≡ list_any (says_of effect v) (cond (speaks_of route r) (x ∷ xs) xs)) [
+      | true ↦ λ same.
+          ap (λ b. answers effect route v r || b) more
+          ∙ any_first (says_of effect v) (answers effect route v r) (speaks_of route r) x xs
+          (grouped (is_meant r.from route.from && is_meant r.to route.to) (has_effect effect r) (is_member r.ty v)
+          ∙ ap (λ s. s && says_of effect v x) (sym (all_true (is_meant r.from route.from) (is_meant r.to route.to) (bytes_eq r.message route.message) same)))
+      | false ↦ λ other. more ∙ ap (λ b. list_any (says_of effect v) (cond b (x ∷ xs) xs)) (sym (speaks_not route r other))
+    ]) refl
 
-let_first : (route : AbstractRoute) (v : AbstractValue) (n : ℕ) (r : AbstractRule) (others : List NumberedRule)
-    → (is_let (rule_effect route v r) || list_any (λ x. allows x.rule v) others) ≡ list_any (λ x. allows x.rule v) (first_heard route n r others)
-let_first route v n r others =
-    elim (speaks_of route r) as (λ (b : Bool). (is_let (cond (b && is_member r.ty v) (Some r.effect) None) || list_any (λ x. allows x.rule v) others)
-    ≡ list_any (λ x. allows x.rule v) (cond b (record { number = n; rule = r } ∷ others) others)) [
-      | true ↦ ap (λ b. b || list_any (λ (x : NumberedRule). allows x.rule v) others) (let_one (is_member r.ty v) r.effect)
-      | false ↦ refl
+all_not : {A : Type 0} (p : A → Bool) (xs : List A) → list_all (λ x. not (p x)) xs ≡ not (list_any p xs)
+all_not p [] = refl
+all_not p (x ∷ xs) =
+    elim (p x) as (λ (b : Bool). (not b && list_all (λ y. not (p y)) xs) ≡ not (b || list_any p xs)) [
+      | true ↦ refl
+      | false ↦ all_not p xs
     ]
 
-stopped_first : (route : AbstractRoute) (v : AbstractValue) (n : ℕ) (r : AbstractRule) (others : List NumberedRule)
-    → (not (is_stopped (rule_effect route v r)) && list_all (λ x. not (denies x.rule v)) others) ≡ list_all (λ x. not (denies x.rule v)) (first_heard route n r others)
-stopped_first route v n r others =
-    elim (speaks_of route r) as (λ (b : Bool). (not (is_stopped (cond (b && is_member r.ty v) (Some r.effect) None)) && list_all (λ x. not (denies x.rule v)) others)
-    ≡ list_all (λ x. not (denies x.rule v)) (cond b (record { number = n; rule = r } ∷ others) others)) [
-      | true ↦ ap (λ b. not b && list_all (λ (x : NumberedRule). not (denies x.rule v)) others) (stopped_one (is_member r.ty v) r.effect)
-      | false ↦ refl
-    ]
-
--- What each number leads to: nothing, or a rule whose effect is this.
-abbrev IsAt : AbstractRoute → AbstractValue → List AbstractRule → ℕ → Option Effect → Type 0
-IsAt route v all n e =
-    ((slice_get all n ≡ None) × (e ≡ None)) ⊎ ((r : AbstractRule) × (slice_get all n ≡ Some r) × (e ≡ rule_effect route v r))
-
-let_all : (route : AbstractRoute) (v : AbstractValue) (all : List AbstractRule) (effect : ℕ → Option Effect) → ((n : ℕ) → IsAt route v all n (effect n)) → (numbers : List ℕ)
-    → list_any is_let (map effect numbers) ≡ list_any (λ x. allows x.rule v) (heard route (rules_at all numbers))
-let_all route v all effect is [] = refl
-let_all route v all effect is (n ∷ ns) = here (is n) (let_all route v all effect is ns)
-  where
-    here : IsAt route v all n (effect n) → list_any is_let (map effect ns) ≡ list_any (λ x. allows x.rule v) (heard route (rules_at all ns))
-        → list_any is_let (map effect (n ∷ ns)) ≡ list_any (λ x. allows x.rule v) (heard route (rules_at all (n ∷ ns)))
-    here (inl (none, e)) more =
-        ap (λ (o : Option Effect). is_let o || list_any is_let (map effect ns)) e ∙ more
-        ∙ ap (λ (o : Option AbstractRule). list_any (λ x. allows x.rule v) (heard route (elim o [ Some r ↦ record { number = n; rule = r } ∷ rules_at all ns | None ↦ rules_at all ns ]))) (sym none)
-    here (inr (r, there, e)) more =
-        ap (λ (o : Option Effect). is_let o || list_any is_let (map effect ns)) e
-        ∙ ap (λ b. is_let (rule_effect route v r) || b) more
-        ∙ let_first route v n r (heard route (rules_at all ns))
-        ∙ ap (λ (o : Option AbstractRule). list_any (λ x. allows x.rule v) (heard route (elim o [ Some x ↦ record { number = n; rule = x } ∷ rules_at all ns | None ↦ rules_at all ns ]))) (sym there)
-
-stopped_all : (route : AbstractRoute) (v : AbstractValue) (all : List AbstractRule) (effect : ℕ → Option Effect) → ((n : ℕ) → IsAt route v all n (effect n)) → (numbers : List ℕ)
-    → list_all (λ e. not (is_stopped e)) (map effect numbers) ≡ list_all (λ x. not (denies x.rule v)) (heard route (rules_at all numbers))
-stopped_all route v all effect is [] = refl
-stopped_all route v all effect is (n ∷ ns) = here (is n) (stopped_all route v all effect is ns)
-  where
-    here : IsAt route v all n (effect n) → list_all (λ e. not (is_stopped e)) (map effect ns) ≡ list_all (λ x. not (denies x.rule v)) (heard route (rules_at all ns))
-        → list_all (λ e. not (is_stopped e)) (map effect (n ∷ ns)) ≡ list_all (λ x. not (denies x.rule v)) (heard route (rules_at all (n ∷ ns)))
-    here (inl (none, e)) more =
-        ap (λ (o : Option Effect). not (is_stopped o) && list_all (λ e. not (is_stopped e)) (map effect ns)) e ∙ more
-        ∙ ap (λ (o : Option AbstractRule). list_all (λ x. not (denies x.rule v)) (heard route (elim o [ Some r ↦ record { number = n; rule = r } ∷ rules_at all ns | None ↦ rules_at all ns ]))) (sym none)
-    here (inr (r, there, e)) more =
-        ap (λ (o : Option Effect). not (is_stopped o) && list_all (λ e. not (is_stopped e)) (map effect ns)) e
-        ∙ ap (λ b. not (is_stopped (rule_effect route v r)) && b) more
-        ∙ stopped_first route v n r (heard route (rules_at all ns))
-        ∙ ap (λ (o : Option AbstractRule). list_all (λ x. not (denies x.rule v)) (heard route (elim o [ Some x ↦ record { number = n; rule = x } ∷ rules_at all ns | None ↦ rules_at all ns ]))) (sym there)
-
--- ---- by the marks of a table
-
-module _ (members : Slots) (route : AbstractRoute) (messages : List KeptMessage) (m : KeptMessage) (v : AbstractValue) (told : Told members route.message messages m v) where
-  effect_is : (r : KeptRule) → table_place r.ty ≡ place_among (string_bytes r.message) 0 (map kept_message_view messages)
-      → IsTrue (is_sound (kept_rule_view messages r).ty) → kept_effect members route r ≡ rule_effect route v (kept_rule_view messages r)
-  effect_is r placed sound =
-      elim (kept_speaks_of route r) as (λ (b : Bool). kept_speaks_of route r ≡ b
-      → cond (b && is_marked members r.ty) (Some r.effect) None ≡ cond (b && is_member (kept_rule_view messages r).ty v) (Some r.effect) None) [
-        | true ↦ λ speaks.
-            let same : string_bytes r.message ≡ route.message = speaks_of-message route (kept_rule_view messages r) speaks in
-            ap (λ b. cond b (Some r.effect) None)
-            (marked_is members route.message messages m v r.ty told (placed ∙ ap (λ (name : List ℕ). place_among name 0 (map kept_message_view messages)) same) sound)
-        | false ↦ λ silent. refl
-      ] refl
-
-  effects_are : (rules : List KeptRule) → ArePlaced (map kept_message_view messages) rules → All (λ r. IsTrue (is_sound r.ty)) (map (kept_rule_view messages) rules)
-      → (n : ℕ) → IsAt route v (map (kept_rule_view messages) rules) n (effect_at members route rules n)
-  effects_are rules placed sound n = there (slice_get rules n) refl
-    where
-      here : (r : KeptRule) → slice_get rules n ≡ Some r → kept_effect members route r ≡ rule_effect route v (kept_rule_view messages r)
-      here r is =
-          let viewed : slice_get (map (kept_rule_view messages) rules) n ≡ Some (kept_rule_view messages r) = slice_get-map (kept_rule_view messages) rules n ∙ ap (option_map (kept_rule_view messages)) is in
-          effect_is r
-          (subst (λ (x : KeptRule). table_place x.ty ≡ place_among (string_bytes x.message) 0 (map kept_message_view messages)) (get_or_from_slice_get rules n r r is)
-          (All-get_or (λ (x : KeptRule). table_place x.ty ≡ place_among (string_bytes x.message) 0 (map kept_message_view messages)) rules n r (slice_get_within rules n r is) placed))
-          (subst (λ (x : AbstractRule). IsTrue (is_sound x.ty)) (get_or_from_slice_get (map (kept_rule_view messages) rules) n (kept_rule_view messages r) (kept_rule_view messages r) viewed)
-          (All-get_or (λ (x : AbstractRule). IsTrue (is_sound x.ty)) (map (kept_rule_view messages) rules) n (kept_rule_view messages r)
-          (slice_get_within (map (kept_rule_view messages) rules) n (kept_rule_view messages r) viewed) sound))
-
-      there : (o : Option KeptRule) → slice_get rules n ≡ o → IsAt route v (map (kept_rule_view messages) rules) n (effect_at members route rules n)
-      there None is = inl (
-        slice_get-map (kept_rule_view messages) rules n ∙ ap (option_map (kept_rule_view messages)) is,
-        ap (λ (o : Option KeptRule). elim o [ Some x ↦ kept_effect members route x | None ↦ None ]) is,
-      )
-      there (Some r) is = inr (
-        kept_rule_view messages r,
-        slice_get-map (kept_rule_view messages) rules n ∙ ap (option_map (kept_rule_view messages)) is,
-        ap (λ (o : Option KeptRule). elim o [ Some x ↦ kept_effect members route x | None ↦ None ]) is ∙ here r is,
-      )
-
--- ---- how many rules a message has
-
-few_from : (b : Bool) (other : Option TableFault) → cond b other (Some TooManyRules) ≡ None → b ≡ true
-few_from true other e = refl
-few_from false other e = absurd cc
-
--- a message has at most 255 rules
-pub few_rules : (declared : AbstractType) (types : List AbstractType) → first_fault declared types ≡ None → length types ≤ 255
-few_rules declared types faultless = let few : nat_le (length types) 255 ≡ true = few_from (nat_le (length types) 255) _ faultless in grind (arith, nat_tests)
+is_false : (b : Bool) → not b ≡ true → b ≡ false
+is_false true e = absurd cc
+is_false false e = refl
 
 -- ---- the message goes
 
-open_three : (a b c : Bool) → (a && (b && c)) ≡ true → (a ≡ true) × (b ≡ true) × (c ≡ true)
-open_three true true true e = (refl, refl, refl)
-open_three true true false e = absurd cc
-open_three true false c e = absurd cc
-open_three false b c e = absurd cc
+-- the declared type has the value, some allowing rule is among those that have it, and no denying one
+abbrev pub LetsGo : Slots → Slots → Slots → Type 0
+LetsGo allowing denying members = IsTrue (has members 0) × (common allowing members ≢ none) × (common denying members ≡ none)
 
--- With the marks of the value that the octets encode, the message goes exactly where the declared type has it and the rules let it go.
-pub goes_exactly : (p : Kept) (policy : AbstractPolicy) (route : AbstractRoute) (octets numbers : List ℕ) (m : KeptMessage) (marks : Marks) (v : AbstractValue)
-    → policy.messages ≡ messages_kept p → policy.rules ≡ rules_kept p → declared_type policy route.message ≡ Some (declared_of m.table)
-    → numbers ≡ numbers_for route.message 0 policy.rules → IsFirst route.message p.messages.items m → length (rules_of m.table) ≤ 255
-    → IsTrue (fits (declared_of m.table) v) → der (declared_of m.table) v ≡ Some octets → HasMarks marks (table_types m.table) v
-    → IsTrue (has marks.members 0 && lets_go (map (effect_at marks.members route p.rules.items) numbers)) ↔ Goes policy route octets
-goes_exactly p policy route octets numbers m marks v same_messages same_rules declared listed first few fitting encoded has_marks = (goes, only)
-  where
-    heard_all : heard route (rules_at (rules_kept p) numbers) ≡ route_rules policy route
-    heard_all = ap (λ (all : List AbstractRule). heard route (rules_at all numbers)) (sym same_rules) ∙ heard_listed route policy.rules numbers listed
+module _ (p : Kept) (policy : AbstractPolicy) (route : AbstractRoute) (octets : List ℕ) (m : KeptMessage) (marks : Marks) (v : AbstractValue)
+    (same_messages : policy.messages ≡ messages_kept p) (same_rules : policy.rules ≡ rules_kept p) (declared : declared_type policy route.message ≡ Some (declared_of m.table))
+    (routed : IsRouted (rules_kept p) m) (name : string_bytes m.name ≡ route.message)
+    (fitting : IsTrue (fits (declared_of m.table) v)) (encoded : der (declared_of m.table) v ≡ Some octets) (has_marks : HasMarks marks (table_types m.table) v) where
+  abbrev named : List AbstractRule
+  named = rules_named (string_bytes m.name) (rules_kept p)
 
-    effects : (n : ℕ) → IsAt route v (rules_kept p) n (effect_at marks.members route p.rules.items n)
-    effects = effects_are marks.members route p.messages.items m v (record { first = first; marks = has_marks; few = few }) p.rules.items p.placed p.consistent.rules_sound
+  shows : (n : ℕ) → has marks.members (suc n) ≡ true_at (map (λ r. is_member r.ty v) named) n
+  shows n =
+      has_marks (suc n)
+      ∙ routed.types v n ∙ ap (λ (ts : List AbstractType). is_in ts v n) (sym (types_named (string_bytes m.name) (rules_kept p))) ∙ is_in_at named v n
 
-    by_value : (has marks.members 0 && lets_go (map (effect_at marks.members route p.rules.items) numbers))
-        ≡ (is_member (declared_of m.table) v && (list_any (λ r. allows r.rule v) (route_rules policy route) && list_all (λ r. not (denies r.rule v)) (route_rules policy route)))
-    by_value =
-        ap (λ b. b && lets_go (map (effect_at marks.members route p.rules.items) numbers)) (has_marks 0)
-        ∙ ap (λ b. is_member (declared_of m.table) v && (b && list_all (λ e. not (is_stopped e)) (map (effect_at marks.members route p.rules.items) numbers)))
-        (let_all route v (rules_kept p) (effect_at marks.members route p.rules.items) effects numbers ∙ ap (list_any (λ r. allows r.rule v)) heard_all)
-        ∙ ap (λ b. is_member (declared_of m.table) v && (list_any (λ r. allows r.rule v) (route_rules policy route) && b))
-        (stopped_all route v (rules_kept p) (effect_at marks.members route p.rules.items) effects numbers ∙ ap (list_all (λ r. not (denies r.rule v))) heard_all)
+  abbrev slots_of : Slots → Slots
+  slots_of own = common (common (speaking_slots m.routing route) own) marks.members
 
-    goes : IsTrue (has marks.members 0 && lets_go (map (effect_at marks.members route p.rules.items) numbers)) → Goes policy route octets
-    goes is =
-        let three = open_three (is_member (declared_of m.table) v) (list_any (λ r. allows r.rule v) (route_rules policy route)) (list_all (λ r. not (denies r.rule v)) (route_rules policy route)) (sym by_value ∙ is) in
-        (declared_of m.table, v, declared, fitting, encoded, three.0, three.1, three.2)
+  said : (effect : Effect) → any (map (answers effect route v) named) ≡ list_any (says_of effect v) (route_rules policy route)
+  said effect =
+      any_mapped (answers effect route v) named
+      ∙ ap (λ (n : List ℕ). list_any (answers effect route v) (rules_named n (rules_kept p))) name
+      ∙ any_speaking effect route v 0 (rules_kept p)
+      ∙ ap (λ (rules : List AbstractRule). list_any (says_of effect v) (speaking route 0 rules)) (sym same_rules)
 
-    sound : IsTrue (is_sound (declared_of m.table))
-    sound =
-        declared_sound (messages_kept p) (rules_kept p) route.message (declared_of m.table) p.consistent
-        (ap (λ (ms : List AbstractMessage). declared_among ms route.message) (sym same_messages) ∙ declared)
+  allowed : Says (map (answers Allow route v) named) (slots_of m.routing.allowing)
+  allowed = answering Allow route v named m.routing m.routing.allowing marks.members routed.routing routed.routing.allowing shows
 
-    only : Goes policy route octets → IsTrue (has marks.members 0 && lets_go (map (effect_at marks.members route p.rules.items) numbers))
-    only (u, w, declared_too, fitting_too, encoded_too, is_in_too, some, none) =
-        let same : u ≡ declared_of m.table = same_Some _ _ (sym declared_too ∙ declared) in
-        let is_v : w ≡ v = one_encoding (declared_of m.table) w v octets sound (subst (λ (x : AbstractType). IsTrue (fits x w)) same fitting_too) fitting (subst (λ (x : AbstractType). der x w ≡ Some octets) same encoded_too) encoded in
-        by_value
-        ∙ ap (λ b. b && (list_any (λ r. allows r.rule v) (route_rules policy route) && list_all (λ r. not (denies r.rule v)) (route_rules policy route)))
-        (subst (λ (x : AbstractValue). is_member (declared_of m.table) x ≡ true) is_v (subst (λ (x : AbstractType). is_member x w ≡ true) same is_in_too))
-        ∙ ap (λ b. b && list_all (λ r. not (denies r.rule v)) (route_rules policy route)) (subst (λ (x : AbstractValue). list_any (λ r. allows r.rule x) (route_rules policy route) ≡ true) is_v some)
-        ∙ subst (λ (x : AbstractValue). list_all (λ r. not (denies r.rule x)) (route_rules policy route) ≡ true) is_v none
+  denied : Says (map (answers Deny route v) named) (slots_of m.routing.denying)
+  denied = answering Deny route v named m.routing m.routing.denying marks.members routed.routing routed.routing.denying shows
 
--- as the code has it
+  sound : IsTrue (is_sound (declared_of m.table))
+  sound =
+      declared_sound (messages_kept p) (rules_kept p) route.message (declared_of m.table) p.consistent
+      (ap (λ (ms : List AbstractMessage). declared_among ms route.message) (sym same_messages) ∙ declared)
+
+  abbrev Lets : Type 0
+  Lets = LetsGo (common (speaking_slots m.routing route) m.routing.allowing) (common (speaking_slots m.routing route) m.routing.denying) marks.members
+
+  goes : Lets → Goes policy route octets
+  goes (of_type, some, none_denies) = (
+    declared_of m.table,
+    v,
+    declared,
+    fitting,
+    encoded,
+    sym (has_marks 0) ∙ of_type,
+    sym (said Allow) ∙ filled_any (map (answers Allow route v) named) (slots_of m.routing.allowing) allowed some,
+    all_not (says_of Deny v) (route_rules policy route)
+        ∙ ap not (sym (said Deny) ∙ empty_any (map (answers Deny route v) named) (slots_of m.routing.denying) denied none_denies),
+  )
+
+  only : Goes policy route octets → Lets
+  only (u, w, declared_too, fitting_too, encoded_too, is_in_too, some, none_denies) =
+      let same : u ≡ declared_of m.table = same_Some _ _ (sym declared_too ∙ declared) in
+      let is_v : w ≡ v = one_encoding (declared_of m.table) w v octets sound (subst (λ (x : AbstractType). IsTrue (fits x w)) same fitting_too) fitting (subst (λ (x : AbstractType). der x w ≡ Some octets) same encoded_too) encoded in (
+        has_marks 0 ∙ subst (λ (x : AbstractValue). is_member (declared_of m.table) x ≡ true) is_v (subst (λ (x : AbstractType). is_member x w ≡ true) same is_in_too),
+        filled (map (answers Allow route v) named) (slots_of m.routing.allowing) allowed
+            (said Allow ∙ subst (λ (x : AbstractValue). list_any (λ r. allows r.rule x) (route_rules policy route) ≡ true) is_v some),
+        empty (map (answers Deny route v) named) (slots_of m.routing.denying) denied
+            (said Deny ∙ is_false (list_any (says_of Deny v) (route_rules policy route)) (sym (all_not (says_of Deny v) (route_rules policy route))
+            ∙ subst (λ (x : AbstractValue). list_all (λ r. not (denies r.rule x)) (route_rules policy route) ≡ true) is_v none_denies)),
+      )
+
+-- ---- as the code has it
+
+routed_first : (messages : List KeptMessage) (rules : List AbstractRule) (name : List ℕ) (m : KeptMessage) → All (IsRouted rules) messages → IsFirst name messages m
+    → IsRouted rules m × (string_bytes m.name ≡ name)
+routed_first messages rules name m routed first =
+    let named = first_named (map kept_message_view messages) (map kept_message_view messages) 0 first.place name refl first.first in
+    let viewed : slice_get (map kept_message_view messages) first.place ≡ Some (kept_message_view m) = slice_get-map kept_message_view messages first.place ∙ ap (option_map kept_message_view) first.there in (
+      subst (IsRouted rules) (get_or_from_slice_get messages first.place m m first.there)
+          (All-get_or (IsRouted rules) messages first.place m (slice_get_within messages first.place m first.there) routed),
+      ap (λ (x : AbstractMessage). x.name) (same_Some _ _ (sym viewed ∙ named.1)) ∙ named.2,
+    )
+
+-- With the marks of the value that the octets encode, the message goes exactly where the declared type has it and the route's rules let it go.
 pub policy_goes : (policy : Policy) (route : AbstractRoute) (octets numbers : List ℕ) (m : KeptMessage) (marks : Marks)
     → ◌≡◌ {A = Option (AbstractType × List ℕ)} (Some (declared_of m.table, numbers)) (option_map (with_numbers (policy_view policy).rules route.message) (declared_type (policy_view policy) route.message))
     → IsFirst route.message policy.kept.messages.items m
     → ((v : AbstractValue) × IsTrue (fits (declared_of m.table) v) × (der (declared_of m.table) v ≡ Some octets) × HasMarks marks (table_types m.table) v)
-    → IsTrue (has marks.members 0 && lets_go (map (effect_at marks.members route policy.kept.rules.items) numbers)) ↔ Goes (policy_view policy) route octets
+    → LetsGo (common (speaking_slots m.routing route) m.routing.allowing) (common (speaking_slots m.routing route) m.routing.denying) marks.members ↔ Goes (policy_view policy) route octets
 policy_goes policy route octets numbers m marks listed first (v, fitting, encoded, has_marks) =
     let p = policy_view policy in
     let found = declared_pair p.rules route.message (declared_type p route.message) (declared_of m.table) numbers listed in
-    goes_exactly policy.kept p route octets numbers m marks v refl refl found.0 found.1 first (few_rules (declared_of m.table) (rules_of m.table) m.table.consistent.faultless)
-    fitting encoded has_marks
+    let routed = routed_first policy.kept.messages.items (rules_kept policy.kept) route.message m policy.kept.routed first in (
+      goes policy.kept p route octets m marks v refl refl found.0 routed.0 routed.1 fitting encoded has_marks,
+      only policy.kept p route octets m marks v refl refl found.0 routed.0 routed.1 fitting encoded has_marks,
+    )
+
+-- where the declared type has the value
+pub lets_exactly : (goes : Type 0) (rules : RouteRules) (allowing denying members : Slots) (result : Bool)
+    → (LetsGo allowing denying members ↔ goes) → rules.allowing ≡ allowing → rules.denying ≡ denying → has members 0 ≡ true
+    → (IsTrue result ↔ ((common rules.allowing members ≢ none) × (common rules.denying members ≡ none))) → IsTrue result ↔ goes
+lets_exactly goes rules allowing denying members result exactly allows denies of_type lets = (
+  λ is.
+      let l = lets.0 is in
+      exactly.0 (of_type, subst (λ (m : Slots). common m members ≢ none) allows l.0, subst (λ (m : Slots). common m members ≡ none) denies l.1),
+  λ g.
+      let x = exactly.1 g in
+      lets.1 (subst (λ (m : Slots). common m members ≢ none) (sym allows) x.1, subst (λ (m : Slots). common m members ≡ none) (sym denies) x.2),
+)
+
+-- where it hasn't
+pub stays_exactly : (goes : Type 0) (allowing denying members : Slots) (result : Bool)
+    → (LetsGo allowing denying members ↔ goes) → has members 0 ≡ false → result ≡ false → IsTrue result ↔ goes
+stays_exactly goes allowing denying members result exactly outside is = (
+  λ lets. absurd (false≢true (sym is ∙ lets)),
+  λ g. absurd (false≢true (sym outside ∙ (exactly.1 g).0)),
+)

@@ -48,7 +48,7 @@ same_messages ms rules messages e = sym (messages_in ms) ∙ ap (map as_message)
 -- ---- the type of a rule in its table
 
 -- the first message of a name has it
-first_named : (all rest : List AbstractMessage) (i place : ℕ) (name : List ℕ) → drop i all ≡ rest → place_among name i rest ≡ Some place
+pub first_named : (all rest : List AbstractMessage) (i place : ℕ) (name : List ℕ) → drop i all ≡ rest → place_among name i rest ≡ Some place
     → (m : AbstractMessage) × (slice_get all place ≡ Some m) × (m.name ≡ name)
 first_named all [] i place name is e = absurd cc
 first_named all (m ∷ ms) i place name is e =

@@ -10,6 +10,10 @@ pub mod Shortfalls
 pub mod Goes
 pub mod Reasons
 pub mod OneReason
+-- ---- by the rules of a route
+pub mod RuleSlots
+pub mod PartyNames
+pub mod RulesNamed
 pub mod ByMarks
 -- ---- the text of a policy
 pub mod Gathered

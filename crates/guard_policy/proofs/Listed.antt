@@ -57,7 +57,7 @@ taken_length view (x ∷ xs) (suc i) lt = ap suc (taken_length view xs i (omega 
 
 -- ---- the rules that speak of the message are those that its name leads to
 
-speaks_not : (route : AbstractRoute) (r : AbstractRule) → bytes_eq r.message route.message ≡ false → speaks_of route r ≡ false
+pub speaks_not : (route : AbstractRoute) (r : AbstractRule) → bytes_eq r.message route.message ≡ false → speaks_of route r ≡ false
 speaks_not route r e =
     ap (λ b. is_meant r.from route.from && is_meant r.to route.to && b) e ∙ neither (is_meant r.from route.from) (is_meant r.to route.to)
   where
@@ -159,7 +159,7 @@ lookup-push p (e ∷ es) k v =
     ]
 
 -- names are alike whichever stands first
-alike : (a b : List ℕ) → bytes_eq a b ≡ bytes_eq b a
+pub alike : (a b : List ℕ) → bytes_eq a b ≡ bytes_eq b a
 alike a b =
     (elim (bytes_eq a b) as (λ (x : Bool). bytes_eq a b ≡ x → x ≡ bytes_eq b a) [
       | true ↦ λ same. let e : a ≡ b = (bytes_eq-Decides a b).0 same in sym (ap (λ (c : List ℕ). bytes_eq b c) e ∙ (bytes_eq-Decides b b).1 refl)

@@ -51,6 +51,10 @@ declared_among (m ∷ ms) name = if bytes_eq m.name name then Some m.ty else dec
 abbrev pub declared_type : AbstractPolicy → List ℕ → Option AbstractType
 declared_type p name = declared_among p.messages name
 
+-- the name of a message by its place, from 0
+abbrev pub message_name_of : AbstractPolicy → ℕ → Option (List ℕ)
+message_name_of p i = option_map (λ m. m.name) (slice_get p.messages i)
+
 -- the name of a rule by its number, from 0
 abbrev pub rule_name_of : AbstractPolicy → ℕ → Option (List ℕ)
 rule_name_of p i = option_map (λ r. r.name) (slice_get p.rules i)

@@ -3,5 +3,6 @@ pub mod Listings
 pub mod Answers
 pub mod Applicable
 pub mod Keeping
-pub mod Marked
+pub mod Routing
+pub mod Speaking
 pub mod TypedRules

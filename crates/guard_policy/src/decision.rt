@@ -7,7 +7,7 @@ ghost use Rattle.guard_der.specs.Sound.{is_sound};
 ghost use Rattle.guard_policy.specs.PolicyView.{route_view};
 ghost use Rattle.guard_policy.specs.Verdicts.{verdict_view};
 ghost use Rattle.guard_policy.specs.inside.Applicable.{AreApplicable};
-ghost use Rattle.guard_policy.specs.inside.Marked.{kept_speaks_of};
+ghost use Rattle.guard_policy.specs.inside.Speaking.{kept_speaks_of};
 ghost use Rattle.guard_policy.specs.inside.TypedRules.{rules_kept, typed_rule_view};
 ghost use Rattle.guard_policy.specs.Decisions.{is_allow, denies, first_denying, by_allowing, judged};
 ghost use Rattle.guard_policy.specs.Names.{is_meant};
@@ -121,7 +121,7 @@ fn may_allow(route: &Route, rule: &KeptRule) -> bool
 }
 
 /// The rule speaks of this sender, receiver and message.
-pub(crate) fn speaks_of(route: &Route, rule: &KeptRule) -> bool
+fn speaks_of(route: &Route, rule: &KeptRule) -> bool
     ensures { result ≡ kept_speaks_of (route_view route.now) rule.now }
 {
     is_meant(&rule.from, route.from)
@@ -130,7 +130,7 @@ pub(crate) fn speaks_of(route: &Route, rule: &KeptRule) -> bool
 }
 
 /// Whether what a rule gives for its sender or its receiver is this name, or `*`.
-fn is_meant(given: &str, name: &[u8]) -> bool
+pub(crate) fn is_meant(given: &str, name: &[u8]) -> bool
     ensures { result ≡ is_meant given.now name.now }
 {
     given.as_bytes() == name || is_anyone(given)

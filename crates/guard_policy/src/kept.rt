@@ -1,5 +1,5 @@
 //! What a policy keeps of messages and rules: each type once, in the table of its message.
-ghost use Rattle.std.specs.Prelude.{◌≡◌, List, map, count_by, string_bytes, bytes_eq, option_map, slice_get, IfOk};
+ghost use Rattle.std.specs.Prelude.{◌≡◌, All, List, map, count_by, string_bytes, bytes_eq, option_map, slice_get, IfOk};
 ghost use Rattle.std.proofs.Props.{props};
 ghost use Rattle.guard_model.specs.TypeView.{type_view};
 ghost use Rattle.guard_policy.specs.Consistency.{IsConsistent};
@@ -7,19 +7,22 @@ ghost use Rattle.guard_policy.specs.KeptView.{kept_message_view, kept_rule_view,
 ghost use Rattle.guard_policy.specs.inside.Listings.{IsIndex};
 ghost use Rattle.guard_policy.specs.Policies.{message_view, rule_view};
 ghost use Rattle.guard_policy.specs.inside.Keeping.{IsTypeOf, IsSaid, ArePlaced, tabled_view, tabled};
+ghost use Rattle.guard_policy.specs.inside.Routing.{IsRouted};
 ghost use Rattle.guard_policy.specs.declared.kept.KeptMessage.{KeptMessage};
 
 use super::index::{Index, Listed};
 use super::policy::{Effect, Message, Rule};
+use super::routing::Routing;
 use guard_model::{OutOfMemory, Ty};
 use guard_tables::Table;
 use std::alloc::{AllocError, Global};
 
-/// A message, with the table of its declared type and the types of its rules.
+/// A message, with the table of its declared type and the types of its rules, and how routes lead to these.
 #[derive(Drop)]
 pub(crate) struct KeptMessage {
     pub name: String,
     pub table: Table,
+    pub routing: Routing,
 }
 
 /// Where the type of a rule is.
@@ -51,6 +54,7 @@ pub(crate) struct Kept {
     pub ghost consistent: { IsConsistent (map kept_message_view messages.items) (map (kept_rule_view messages.items) rules.items) },
     pub ghost indexed: { IsIndex (map kept_message_view messages.items) (map (kept_rule_view messages.items) rules.items) index } by { Prim.hlevel props },
     pub ghost placed: { ArePlaced (map kept_message_view messages.items) rules.items } by { Prim.hlevel props },
+    pub ghost routed: { All (IsRouted (map (kept_rule_view messages.items) rules.items)) messages.items } by { Prim.hlevel props },
 }
 
 /// A rule and its type.

@@ -7,7 +7,8 @@
 //! | What does the name of a message lead to? | `index.rt` | `specs/inside/Listings.antt` |
 //! | Who sends what to whom? | `route.rt` | `specs/Policies.antt`, `specs/PolicyView.antt` |
 //! | Which verdicts are there? | `verdict.rt` | `specs/Verdicts.antt` |
-//! | When does a message go? | `passing.rt` (`passes`) | `specs/Decisions.antt`, in the code `specs/inside/Marked.antt` |
+//! | When does a message go? | `passing.rt` (`passes`) | `specs/Decisions.antt` |
+//! | How does a route lead to its rules? | `routing.rt` | `specs/inside/Routing.antt` |
 //! | Which verdict stands? | `policy.rt` (`verdict`), `decision.rt` | `specs/Decisions.antt` |
 //! | What holds of every message? | `laws.rt` | `specs/Decisions.antt` |
 //! | Which octets are names, and what may a rule give for its sender and receiver? | `route.rt` (`is_name`, `is_party`, `Route::is_plain`) | `specs/Names.antt` |
@@ -32,6 +33,7 @@ mod names;
 mod passing;
 mod policy;
 mod route;
+mod routing;
 mod rules;
 mod tables;
 mod types;
@@ -40,7 +42,7 @@ mod verdict;
 pub use entry::{Entry, Key};
 pub use fault::PolicyFault;
 pub use files::module_files;
-pub use policy::{Effect, Message, Policy, Refused, Rule};
+pub use policy::{Effect, Message, Policy, Refused, Rule, SaidRule};
 pub use route::{Route, is_name};
 pub use types::Types;
 pub use verdict::Verdict;

@@ -46,6 +46,17 @@ pub struct Rule {
     pub ty: Ty,
 }
 
+/// A rule of a policy, as it says it.
+#[derive(Clone, Copy)]
+pub struct SaidRule<'a> {
+    pub name: &'a str,
+    pub effect: Effect,
+    pub from: &'a str,
+    pub to: &'a str,
+    pub message: &'a str,
+    pub ty: &'a Ty,
+}
+
 /// What was given for a policy, and why there is none.
 #[derive(Drop)]
 pub struct Refused {
@@ -70,8 +81,9 @@ impl Policy {
     ghost use Rattle.guard_policy.specs.inside.Answers.{Meets};
     ghost use Rattle.guard_policy.specs.EntryFaults.{tables_fault, parts_fault};
     ghost use Rattle.guard_policy.specs.PolicyFaults.{named};
-    ghost use Rattle.guard_policy.specs.PolicyView.{policy_view};
-    ghost use Rattle.guard_policy.specs.Policies.{declared_type, rule_name_of, module_name};
+    ghost use Rattle.std.specs.Prelude.{slice_get};
+    ghost use Rattle.guard_policy.specs.PolicyView.{policy_view, said_view};
+    ghost use Rattle.guard_policy.specs.Policies.{declared_type, message_name_of, rule_name_of, module_name};
     ghost use Rattle.guard_policy.specs.inside.Listings.{numbers_for};
     ghost use Rattle.guard_policy.specs.inside.Keeping.{IsFirst};
     ghost use Rattle.guard_tables.specs.TableView.{declared_of};
@@ -144,6 +156,28 @@ impl Policy {
         ensures { result ≡ length (policy_view self.now).rules }
     {
         self.kept.rules.len()
+    }
+
+    /// The name of a message by its place, from 0.
+    pub fn message_name(&self, message: usize) -> Option<&str>
+        ensures { option_map (λ name. name.now) result ≡ message_name_of (policy_view self.now) message }
+    {
+        Some(self.kept.messages.get(message)?.name.as_str())
+    }
+
+    /// A rule by its number, from 0.
+    pub fn rule(&self, number: usize) -> Option<SaidRule<'_>>
+        ensures { option_map said_view result ≡ slice_get (policy_view self.now).rules number }
+    {
+        let rule = self.kept.rule(number)?;
+        Some(SaidRule {
+            name: &rule.said.name,
+            effect: rule.said.effect,
+            from: &rule.said.from,
+            to: &rule.said.to,
+            message: &rule.said.message,
+            ty: rule.ty,
+        })
     }
 
     /// The name of a rule by its number, from 0.

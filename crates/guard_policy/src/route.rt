@@ -7,6 +7,9 @@ ghost use Rattle.guard_policy.specs.Names.{is_name, is_name_octet, is_party, is_
 /// The most octets of a name.
 const LONGEST_NAME: usize = 63;
 
+/// What stands in a rule for every sender, or for every receiver.
+pub(crate) const ANYONE: &str = "*";
+
 /// The sender, the receiver and the name of the message, as a frame gives them. They are taken as given.
 #[derive(Clone, Copy)]
 pub struct Route<'a> {
@@ -42,7 +45,7 @@ pub(crate) fn is_party(text: &str) -> bool
 pub(crate) fn is_anyone(text: &str) -> bool
     ensures { result ≡ bytes_eq text.now anyone }
 {
-    text == "*"
+    text == ANYONE
 }
 
 fn are_name_octets(octets: &[u8]) -> bool

@@ -1,10 +1,12 @@
 //! The tables of messages: of the type of each and those of its rules.
-ghost use Rattle.std.specs.Prelude.{◌≡◌, All, map, option_map, string_bytes, IfOk, IsTrue};
+ghost use Rattle.std.specs.Prelude.{◌≡◌, ◌∷◌, All, map, option_map, string_bytes, IfOk, IsTrue};
 ghost use Rattle.guard_der.specs.Sound.{is_sound};
 ghost use Rattle.guard_model.specs.TypeView.{type_view};
+ghost use Rattle.guard_tables.specs.TableView.{table_types};
 ghost use Rattle.guard_tables.specs.Tables.{types_view, first_fault};
 ghost use Rattle.guard_policy.specs.inside.Answers.{Meets};
 ghost use Rattle.guard_policy.specs.inside.Keeping.{tabled_view, tabled};
+ghost use Rattle.guard_policy.specs.inside.Routing.{rules_named, rules_view, IsRouted};
 ghost use Rattle.guard_policy.specs.EntryFaults.{tables_fault};
 ghost use Rattle.guard_policy.specs.Consistency.{types_for};
 ghost use Rattle.guard_policy.specs.Policies.{message_view, rule_view};
@@ -13,6 +15,7 @@ ghost use Rattle.guard_policy.specs.PolicyFaults.{bad_table};
 use super::fault::PolicyFault;
 use super::kept::KeptMessage;
 use super::policy::{Message, Rule};
+use super::routing::Routing;
 use guard_model::Ty;
 use guard_tables::{Table, TableFault};
 use std::alloc::{AllocError, Global};
@@ -27,6 +30,7 @@ pub(crate) fn keep_messages(
     requires rules_sound { All (λ r. IsTrue (is_sound r.ty)) (map rule_view rules.now) }
     ensures met { Meets (tables_fault (map rule_view rules.now) 1 (map message_view messages.now)) result }
     ensures kept { IfOk result (λ kept. map tabled_view kept.items ≡ map (tabled (map rule_view rules.now)) (map message_view messages.now)) }
+    ensures routed { IfOk result (λ kept. All (IsRouted (map rule_view rules.now)) kept.items) }
 {
     let mut kept = Vec::with_capacity(alloc, messages.len())?;
     for (index, message) in messages.iter().enumerate() {
@@ -47,16 +51,35 @@ fn keep_message(
     requires rules_sound { All (λ r. IsTrue (is_sound r.ty)) (map rule_view rules.now) }
     ensures met { Meets (option_map (bad_table number) (first_fault (type_view message.now.ty) (types_for (string_bytes message.now.name) (map rule_view rules.now)))) result }
     ensures kept { IfOk result (λ kept. tabled_view kept ≡ tabled (map rule_view rules.now) (message_view message.now)) }
+    ensures routed { IfOk result (IsRouted (map rule_view rules.now)) }
 {
     let types = types_for(alloc, &message.name, rules)?;
     match Table::compile(alloc, &message.ty, &types) {
-        Ok(table) => {
-            let name = String::from_str(alloc, &message.name)?;
-            Ok(KeptMessage { name, table })
-        }
+        Ok(table) => Ok(keep_table(alloc, message, table, rules)?),
         Err(TableFault::OutOfMemory) => Err(PolicyFault::OutOfMemory),
         Err(fault) => Err(PolicyFault::Table(number, fault)),
     }
+}
+
+/// The message with this table, which is that of its type and those of its rules, and with the routing of these.
+fn keep_table(
+    alloc: Global,
+    message: &Message,
+    table: Table,
+    rules: &[Rule],
+) -> Result<KeptMessage, AllocError>
+    requires types { table_types table ≡ type_view message.now.ty ∷ types_for (string_bytes message.now.name) (map rule_view rules.now) }
+    ensures kept { IfOk result (λ kept. tabled_view kept ≡ tabled (map rule_view rules.now) (message_view message.now)) }
+    ensures routed { IfOk result (IsRouted (map rule_view rules.now)) }
+{
+    let named = rules_named(alloc, &message.name, rules)?;
+    let routing = Routing::of(alloc, &named)?;
+    let name = String::from_str(alloc, &message.name)?;
+    Ok(KeptMessage {
+        name,
+        table,
+        routing,
+    })
 }
 
 /// The types of the rules of the message of this name, in order.
@@ -70,4 +93,21 @@ fn types_for<'a>(alloc: Global, name: &str, rules: &'a [Rule]) -> Result<Vec<&'a
         }
     }
     Ok(types)
+}
+
+/// The rules of the message of this name, in order.
+fn rules_named<'a>(
+    alloc: Global,
+    name: &str,
+    rules: &'a [Rule],
+) -> Result<Vec<&'a Rule>, AllocError>
+    ensures { IfOk result (λ named. rules_view named.items ≡ rules_named name.now (map rule_view rules.now)) }
+{
+    let mut named = Vec::new(alloc);
+    for rule in rules {
+        if rule.message.as_str() == name {
+            named.push(rule)?;
+        }
+    }
+    Ok(named)
 }

@@ -74,10 +74,10 @@ octet_parts o h = eqb-true o _ (agree_below_at (λ o. eqb o (64 * class_rank (cl
 abbrev pub head_from : Tag → Bool → List ℕ → ℕ × List ℕ → Head
 head_from t c os l = record { tag = t; constructed = c; size = suc (length os) - length l.1; contents = l.0 }
 
-abbrev head_with : Tag → Bool → List ℕ → ℕ × List ℕ → Result Head Code
+abbrev pub head_with : Tag → Bool → List ℕ → ℕ × List ℕ → Result Head Code
 head_with t c os l = cond (ltb (length l.1) l.0) (Err code.Truncated) (Ok (head_from t c os l))
 
-low_head : (o : ℕ) (os : List ℕ) → o % 32 < 31 → head_of (o ∷ os) ≡ answer.◌>>=◌ (length_at os) (head_with (record { class = class_of o; number = o % 32 }) (leb 32 (o % 64)) os)
+pub low_head : (o : ℕ) (os : List ℕ) → o % 32 < 31 → head_of (o ∷ os) ≡ answer.◌>>=◌ (length_at os) (head_with (record { class = class_of o; number = o % 32 }) (leb 32 (o % 64)) os)
 unfolding head_of tag_number
 low_head o os low =
     let here : ℕ × List ℕ = (o % 32, os) in

@@ -7,6 +7,11 @@ pub mod Passes
 -- ---- contents of simple kinds
 pub mod Subidentifiers
 pub mod Utf8
+pub mod Blocks
+pub mod Lanes
+pub mod KindAlphabets
+pub mod AtOnce
+pub mod Firsts
 -- ---- what the walk takes from nodes, and one step of it
 pub mod ByHeader
 pub mod NodeTags
@@ -14,9 +19,11 @@ pub mod Steps
 pub mod NodeSteps
 pub mod ElementCounts
 pub mod MemberSteps
+pub mod Ranks
 pub mod SetSteps
 -- ---- a pass reads octets as decoding does
 pub mod Fronts
+pub mod LowTags
 pub mod Places
 pub mod Heads
 pub mod Sights

@@ -224,7 +224,7 @@ pub other_is : (t : Nodes) (k : ℕ) (h : Hot) → NodeAt t k h → other_in (sp
 unfolding spot_of
 other_is t k h n = ap (λ (s : Spot). other_in s.plan) n.spot ∙ sym n.node.other
 
-near : (p : Plan) (os : List ℕ) (identifier other : ℕ) → identifier_in p ≡ identifier → other_in p ≡ other → eqb identifier 256 ≡ false → front p os ≡ octet_front identifier other os
+pub near : (p : Plan) (os : List ℕ) (identifier other : ℕ) → identifier_in p ≡ identifier → other_in p ≡ other → eqb identifier 256 ≡ false → front p os ≡ octet_front identifier other os
 unfolding front tagged_front
 near (plan tags f b) os identifier other is is_other low =
     cond-false (eqb (identifier_of tags f) 256) _ _ (ap (λ (n : ℕ). eqb n 256) is ∙ low) ∙ ap (λ (n : ℕ). octet_front n (other_of tags f) os) is ∙ ap (λ (n : ℕ). octet_front identifier n os) is_other

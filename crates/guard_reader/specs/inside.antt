@@ -3,3 +3,6 @@ pub mod NodeParts
 pub mod Answers
 pub mod FrontViews
 pub mod Members
+pub mod AtOnce
+pub mod Firsts
+pub mod Ranks

@@ -1,14 +1,14 @@
 //! Which contents octets are lawful for a simple kind.
 ghost use Rattle.std.specs.Prelude.{◌≡◌, ◌∷◌, ◌-◌, ◌*◌, ◌+◌, ◌≤◌, ◌^◌, map, pos, true, [], if◌then◌else◌};
-ghost use Rattle.std.specs.Str.{is_utf8};
 ghost use Rattle.std.specs.Option.{is_none};
-ghost use Rattle.guard_model.specs.Alphabets.{all_characters};
 ghost use Rattle.guard_der.specs.Fits.{is_item, last_octet as last_of, has_proper_end, has_zero_end, has_no_trailing_zero};
 ghost use Rattle.guard_der.specs.Simple.{simple_fault, boolean_fault, null_fault, bits_fault, enumerated_fault, object_id_fault, is_text};
 ghost use Rattle.guard_tables.specs.NodeViews.{kind_view, unnamed};
 
+use crate::kind_alphabets::are_characters;
 use crate::numbers::{is_integer, twos_complement};
 use crate::object_id::is_object_identifier;
+use crate::texts::is_spelled_utf8;
 use guard_model::CharKind;
 use guard_tables::SimpleKind;
 
@@ -143,24 +143,4 @@ fn is_text(kind: CharKind, inside: &[u8]) -> bool
         CharKind::Ia5 => are_characters(kind, inside),
         CharKind::Visible => are_characters(kind, inside),
     }
-}
-
-fn is_spelled_utf8(inside: &[u8]) -> bool
-    ensures { result ≡ is_utf8 inside.now }
-{
-    match str::from_utf8(inside) {
-        Ok(_) => true,
-        Err(_) => false,
-    }
-}
-
-fn are_characters(kind: CharKind, inside: &[u8]) -> bool
-    ensures { result ≡ all_characters kind inside.now }
-{
-    for octet in inside {
-        if !kind.has(u32::from(*octet)) {
-            return false;
-        }
-    }
-    true
 }

@@ -6,13 +6,15 @@
 //! |---|---|---|
 //! | What fails at the value that octets encode? | `walking.rt` (`failures`), by kind `walking/`, plain numbers `plain.rt` | `specs/Judging.antt` |
 //! | Is an element of a node at the front of octets? | `element_fronts.rt`, tags `layers.rt`, lengths `header.rt` | `specs/Fronts.antt` |
-//! | Which component of a SET is next, and which were read? | `set_members.rt` | `specs/Judging.antt`, `specs/inside/Members.antt` |
+//! | Which component of a SET is next, and which were read? | `set_members.rt` | `specs/Judging.antt`, `specs/inside/Members.antt`, `specs/inside/Ranks.antt` |
 //! | Which contents octets are lawful for a simple kind, and what fails at their value? | `simple.rt`, `contents.rt`, `numbers.rt`, `object_id.rt` | `specs/Judging.antt`, and of `guard_der` `specs/Simple.antt` |
 //! | Do the elements of a SET OF ascend? | `order.rt` | of `guard_der` `specs/Fits.antt` |
 //! | What is asked of a value that has parts as a whole? | `whole.rt` | `specs/Judging.antt` |
 //! | Is it a default, and what do formulas say? | `conditions.rt` | of `guard_tables` `specs/Formulas.antt` |
 //! | Which types of a table have the value? | `table_walk.rt` (`walk`), `marks.rt` | `specs/Marking.antt` |
 //! | Does each octet lie in one of some ranges? | `alphabet.rt` (`all_in`) | of `guard_eval` `specs/Elements.antt` |
+//! | Are octets UTF-8, and of how many characters? | `texts.rt` | of std `is_utf8`, `chars`; `specs/inside/Firsts.antt` |
+//! | Is each octet a character of its kind, and of what FROM permits? | `kind_alphabets.rt` | of `guard_model` `specs/Alphabets.antt` |
 //! | What does a pass tell? | `laws.rt` | `specs/Laws.antt` |
 #![tactic(auto)]
 
@@ -21,6 +23,7 @@ mod conditions;
 mod contents;
 mod element_fronts;
 mod header;
+mod kind_alphabets;
 pub mod laws;
 mod layers;
 mod marks;
@@ -31,6 +34,7 @@ mod plain;
 mod set_members;
 mod simple;
 mod table_walk;
+mod texts;
 mod walking;
 mod whole;
 

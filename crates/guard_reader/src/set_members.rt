@@ -1,17 +1,24 @@
 //! Components of a SET: which one is next, and which were read.
-ghost use Rattle.std.specs.Prelude.{◌≡◌, ◌+◌, ◌<◌, ◌≤◌, ◌||◌, ℕ, List, [], length, nat_eq, vec_len, IfSome, Some, option_map};
+ghost use Rattle.std.specs.Prelude.{◌≡◌, ◌+◌, ◌%◌, ◌<◌, ◌≤◌, ◌||◌, slice_index, ℕ, List, [], true, length, nat_eq, vec_len, IfSome, Some, option_map};
 ghost use Rattle.std.specs.Int.{bit_at};
 ghost use Rattle.guard_der.specs.Reading.{follows};
 ghost use Rattle.guard_tables.specs.NodesView.{spots_in};
 ghost use Rattle.guard_tables.specs.TableNodes.{parts_between};
 ghost use Rattle.guard_reader.specs.Judging.{absences_at, is_read, tag_after, tag_at};
+ghost use Rattle.guard_der.specs.Head.{class_of};
+ghost use Rattle.guard_reader.specs.Fronts.{after_one, elsewhere};
+ghost use Rattle.guard_reader.specs.Octets.{split};
+ghost use Rattle.std.specs.Option.{is_some};
 ghost use Rattle.guard_reader.specs.inside.Answers.{Answers};
 ghost use Rattle.guard_reader.specs.inside.Members.{AreRead, Reach, member_found};
+ghost use Rattle.guard_reader.specs.inside.NodeParts.{sight_at};
+ghost use Rattle.guard_reader.specs.inside.Ranks.{AreBelow, IsBelow, IsLow, rank, rank_of};
 
 use crate::element_fronts::{Front, front_at};
+use crate::header::split_after;
 use crate::walking::series::absent;
 use guard_der::header;
-use guard_model::Tag;
+use guard_model::{Class, Tag};
 use guard_tables::{Nodes, Slots};
 use std::cmp::Ordering;
 
@@ -19,9 +26,72 @@ use std::cmp::Ordering;
 pub fn next_tag(last: Option<Tag>, octets: &[u8]) -> Option<Tag>
     ensures { result ≡ tag_after last (tag_at octets.now) }
 {
+    match front_tag(octets) {
+        Some(tag) => tag_after(last, tag),
+        None => None,
+    }
+}
+
+/// The tag of the element at the front.
+#[inline(always)]
+fn front_tag(octets: &[u8]) -> Option<Tag>
+    ensures { result ≡ tag_at octets.now }
+{
+    if octets.is_empty() {
+        return None;
+    }
+    if octets[0] % 32 == 31 {
+        return far_tag(octets);
+    }
+    low_tag(octets)
+}
+
+/// The same of a number from 31 on.
+#[cold]
+#[inline(never)]
+fn far_tag(octets: &[u8]) -> Option<Tag>
+    ensures { result ≡ tag_at octets.now }
+{
     match header(octets, 0) {
-        Ok(head) => tag_after(last, head.tag),
+        Ok(head) => Some(head.tag),
         Err(_) => None,
+    }
+}
+
+/// The same of a number up to 30, which stands in the first octet (X.690 8.1.2).
+#[inline(always)]
+fn low_tag(octets: &[u8]) -> Option<Tag>
+    requires some { 0 < length octets.now }
+    requires low { slice_index octets.now 0 % 32 < 31 }
+    ensures { result ≡ tag_at octets.now }
+{
+    if !is_whole(octets) {
+        return None;
+    }
+    let first = octets[0];
+    Some(Tag {
+        class: class_of(first),
+        number: u32::from(first % 32),
+    })
+}
+
+/// Whether the length after an identifier octet is lawful, and so many octets are there.
+#[inline(always)]
+fn is_whole(octets: &[u8]) -> bool
+    ensures { result ≡ is_some (split (after_one octets.now)) }
+{
+    split_after(octets).is_some()
+}
+
+#[inline(always)]
+fn class_of(octet: u8) -> Class
+    ensures { result ≡ class_of octet }
+{
+    match octet {
+        0..64 => Class::Universal,
+        64..128 => Class::Application,
+        128..192 => Class::Context,
+        _ => Class::Private,
     }
 }
 
@@ -43,20 +113,101 @@ fn follows(last: Option<Tag>, tag: Tag) -> bool
     }
 }
 
-/// The component that is at the front: its place among so many from the first on, what is inside it, and what follows it.
+/// The order of a first octet whatever its form: tags of one octet ascend with it (X.690 8.1.2).
+#[inline(always)]
+fn rank(octet: u8) -> u8
+    ensures { result ≡ rank octet }
+{
+    octet & 0xDF
+}
+
+/// The same of the first of some octets.
+#[inline(always)]
+pub fn rank_of(octets: &[u8]) -> u8
+    ensures { result ≡ rank_of octets.now }
+{
+    match octets {
+        [first, ..] => rank(*first),
+        [] => 0,
+    }
+}
+
+/// How many components, from the first on, are surely not at the front: those whose ranks are at most the floor, where the
+/// octets' rank is above it.
+#[inline(always)]
+pub fn passed(table: &Nodes, first: usize, below: usize, floor: u8, octets: &[u8]) -> usize
+    requires room { first + below ≤ vec_len table.now.hots }
+    requires passed { AreBelow table.now first below floor }
+    ensures few { result ≤ below }
+    ensures elsewhere { (k : ℕ) → first ≤ k → k < first + result → sight_at (spots_in table.now) k octets.now ≡ elsewhere }
+    ensures passed { AreBelow table.now first result (rank_of octets.now) }
+{
+    let here = rank_of(octets);
+    if here <= floor {
+        return 0;
+    }
+    below
+}
+
+/// How many components, from the first on, have ranks of at most the floor; so many have.
+pub fn advance(table: &Nodes, first: usize, count: usize, below: usize, floor: u8) -> usize
+    requires room { first + count ≤ vec_len table.now.hots }
+    requires few { below ≤ count }
+    requires passed { AreBelow table.now first below floor }
+    ensures few { result ≤ count }
+    ensures passed { AreBelow table.now first result floor }
+{
+    let mut at = below;
+    while at < count {
+        if !is_below(table, first + at, floor) {
+            return at;
+        }
+        at += 1;
+    }
+    at
+}
+
+/// Whether a node has an identifier octet of at most this rank.
+#[inline(always)]
+fn is_below(table: &Nodes, at: usize, floor: u8) -> bool
+    requires { at < vec_len table.now.hots }
+    ensures { result ≡ true → IsBelow table.now at floor }
+{
+    let node = &table.hots[at];
+    if !is_low(node.identifier, floor) {
+        return false;
+    }
+    is_low(node.other, floor)
+}
+
+#[inline(always)]
+fn is_low(octet: u16, floor: u8) -> bool
+    ensures { result ≡ true → IsLow octet floor }
+{
+    if octet >= 256 {
+        return false;
+    }
+    rank(octet as u8) <= floor
+}
+
+/// The component that is at the front: its place among so many from the first on, what is inside it, and what follows it. So
+/// many of them are known not to be there.
 pub fn member<'a>(
     table: &Nodes,
     first: usize,
     count: usize,
+    passed: usize,
     octets: &'a [u8],
 ) -> Option<(usize, &'a [u8], &'a [u8])>
-    requires { first + count ≤ vec_len table.now.hots }
+    requires room { first + count ≤ vec_len table.now.hots }
+    requires few { passed ≤ count }
+    requires elsewhere { (k : ℕ) → first ≤ k → k < first + passed → sight_at (spots_in table.now) k octets.now ≡ elsewhere }
     ensures found { option_map (λ m. (m.0, m.1.now, m.2.now)) result
         ≡ member_found (parts_between (spots_in table.now) first count) 0 octets.now }
     ensures place { IfSome result (λ m. m.0 < count) }
     ensures shorter { IfSome result (λ m. length m.2.now < length octets.now) }
 {
-    for k in first..first + count {
+    for k in first + passed..first + count {
         match front_at(table, k, octets) {
             Front::Here(inside, rest) => return Some((k - first, inside, rest)),
             Front::Broken => return None,
@@ -110,7 +261,7 @@ fn was_read(
 {
     let mut rest = octets;
     while rest.len() > left {
-        let Some((found, _, next)) = member(table, first, count, rest) else {
+        let Some((found, _, next)) = member(table, first, count, 0, rest) else {
             return false;
         };
         if found == place {

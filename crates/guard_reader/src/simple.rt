@@ -1,5 +1,5 @@
 //! Kinds whose contents octets spell the value alone.
-ghost use Rattle.std.specs.Prelude.{◌≡◌, ◌*◌, ◌-◌, pos, length, map, Some, None, [], true, if◌then◌else◌};
+ghost use Rattle.std.specs.Prelude.{◌≡◌, ◌*◌, ◌-◌, ℤ, List, pos, length, map, Some, None, [], true, if◌then◌else◌};
 ghost use Rattle.std.specs.List.{list_all};
 ghost use Rattle.std.specs.Option.{is_none};
 ghost use Rattle.std.specs.Str.{is_utf8, chars};
@@ -7,28 +7,80 @@ ghost use Rattle.guard_der.specs.Simple.{simple_fault, simple_value, bits_fault,
 ghost use Rattle.guard_eval.specs.Elements.{size_of, is_in_some};
 ghost use Rattle.guard_tables.specs.Marking.{facts, number_in, characters_in, is_in_one, some_passes, test_passes, conditions_marked};
 ghost use Rattle.guard_tables.specs.NodeViews.{kind_view, condition_view, test_view};
-ghost use Rattle.guard_tables.specs.Plan.{simple};
+ghost use Rattle.guard_model.specs.AbstractType.{characters};
+ghost use Rattle.guard_tables.specs.declared.slots.Slots.{Slots};
+ghost use Rattle.guard_tables.specs.Plan.{simple, spelled};
 ghost use Rattle.guard_tables.specs.TableNodes.{conditions_of};
 ghost use Rattle.guard_reader.specs.inside.Answers.{Answers};
+ghost use Rattle.guard_reader.specs.inside.AtOnce.{PassesAtOnce};
 ghost use Rattle.guard_reader.specs.Judging.{contents_judged};
 
 use crate::conditions::{are_same, has_one, is_in_one};
 use crate::contents::is_lawful;
+use crate::kind_alphabets::{are_octets_in, has_one_octet, has_ranges, is_in_some};
 use crate::numbers::twos_complement;
+use crate::texts::count_utf8;
 use guard_model::CharKind;
 use guard_tables::{Cold, Condition, Range, SimpleKind, Slots, Test};
 
 /// Contents octets of a simple kind, and what is asked of the value.
+#[inline(never)]
 #[tactic(auto, unfolding(crate::specs::Judging::contents_judged))]
 pub fn simple(cold: &Cold, kind: SimpleKind, inside: &[u8], failed: &mut Slots) -> bool
     ensures { Answers result failed.new
         (contents_judged (simple (kind_view kind cold.now.items.items) (conditions_of cold.now)) inside.now failed.old) }
 {
+    if is_spelled_at_once(&cold.conditions, kind, inside) {
+        return true;
+    }
     if !is_lawful(kind, &cold.items, inside) {
         return false;
     }
     mark(&cold.conditions, kind, &cold.items, inside, failed);
     true
+}
+
+/// Whether all that is asked of a string is that its characters lie in ranges of its kind's alphabet, and they do: then
+/// one pass over the octets tells both that they are lawful and that nothing fails.
+fn is_spelled_at_once(conditions: &[Condition], kind: SimpleKind, inside: &[u8]) -> bool
+    ensures { (items : List ℤ) (m : Slots) → result ≡ true
+        → contents_judged (simple (kind_view kind items) (map condition_view conditions.now)) inside.now m ≡ Some m }
+{
+    match kind {
+        SimpleKind::Characters(kind) => are_spelled_at_once(conditions, kind, inside),
+        _ => false,
+    }
+}
+
+fn are_spelled_at_once(conditions: &[Condition], kind: CharKind, inside: &[u8]) -> bool
+    ensures { (m : Slots) → result ≡ true
+        → contents_judged (simple (characters kind) (map condition_view conditions.now)) inside.now m ≡ Some m }
+{
+    match conditions {
+        [only] => passes_at_once(&only.test, kind, inside),
+        _ => false,
+    }
+}
+
+fn passes_at_once(test: &Test, kind: CharKind, inside: &[u8]) -> bool
+    ensures { result ≡ true → PassesAtOnce (test_view test.now) kind inside.now }
+{
+    match test {
+        Test::Spelled(ranges) => lies_in(ranges, kind, inside),
+        _ => false,
+    }
+}
+
+fn lies_in(ranges: &[(u32, u32)], kind: CharKind, inside: &[u8]) -> bool
+    ensures { result ≡ true → PassesAtOnce (spelled (is_in_some ranges.now)) kind inside.now }
+{
+    if !has_one_octet(kind) {
+        return false;
+    }
+    if !has_ranges(kind, ranges) {
+        return false;
+    }
+    are_octets_in(ranges, inside)
 }
 
 /// Marks the slots of each condition that doesn't hold.
@@ -131,22 +183,6 @@ fn count(kind: CharKind, inside: &[u8]) -> usize
     }
 }
 
-fn count_utf8(inside: &[u8]) -> usize
-    requires { is_utf8 inside.now ≡ true }
-    ensures { result ≡ length (chars inside.now) }
-{
-    match str::from_utf8(inside) {
-        Ok(text) => count_characters(text),
-        Err(_) => 0,
-    }
-}
-
-fn count_characters(text: &str) -> usize
-    ensures { result ≡ length (chars text.now) }
-{
-    text.chars().count()
-}
-
 /// Whether all characters lie in one of the ranges; kinds without characters have none that doesn't.
 fn is_spelled(ranges: &[(u32, u32)], kind: SimpleKind, items: &[i128], inside: &[u8]) -> bool
     requires { is_none (simple_fault (kind_view kind items.now) inside.now) ≡ true }
@@ -179,17 +215,6 @@ fn are_spelled(ranges: &[(u32, u32)], kind: CharKind, inside: &[u8]) -> bool
     }
 }
 
-fn are_octets_in(ranges: &[(u32, u32)], inside: &[u8]) -> bool
-    ensures { result ≡ list_all (is_in_some ranges.now) inside.now }
-{
-    for octet in inside {
-        if !is_in_some(ranges, u32::from(*octet)) {
-            return false;
-        }
-    }
-    true
-}
-
 fn are_spelled_utf8(ranges: &[(u32, u32)], inside: &[u8]) -> bool
     requires { is_utf8 inside.now ≡ true }
     ensures { result ≡ list_all (is_in_some ranges.now) (chars inside.now) }
@@ -209,15 +234,4 @@ fn are_characters_in(ranges: &[(u32, u32)], text: &str) -> bool
         }
     }
     true
-}
-
-fn is_in_some(ranges: &[(u32, u32)], code: u32) -> bool
-    ensures { result ≡ is_in_some ranges.now code }
-{
-    for (low, high) in ranges {
-        if *low <= code && code <= *high {
-            return true;
-        }
-    }
-    false
 }

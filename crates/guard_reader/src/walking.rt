@@ -95,8 +95,20 @@ fn contents(table: &Nodes, at: usize, inside: &[u8], failed: &mut Slots) -> bool
         Kind::Choice => choice(table, at, inside, failed),
         Kind::Set => set(table, at, inside, failed),
         // What is inside the last tag has the same contents.
-        Kind::Wrapper => contents(table, node.first as usize, inside, failed),
+        Kind::Wrapper => inner_contents(table, node.first as usize, inside, failed),
     }
+}
+
+/// The same of a node that has another one in front. Called from here alone, so that the call of `contents` above can be
+/// compiled into each caller.
+#[cycle(walking)]
+#[cold]
+#[inline(never)]
+fn inner_contents(table: &Nodes, at: usize, inside: &[u8], failed: &mut Slots) -> bool
+    requires { at < vec_len table.now.hots }
+    ensures { Answers result failed.new (contents_judged (body_at (spots_in table.now) at) inside.now failed.old) }
+{
+    contents(table, at, inside, failed)
 }
 
 /// A node with conditions on the whole value of its inner node, which has parts.

@@ -1,4 +1,12 @@
 pub mod Text
 pub mod Lines
+-- ---- values as they are written
+pub mod Layouts
+pub mod Strings
+pub mod CharacterStrings
+pub mod ValueText
+pub mod Parts
+-- ---- what only contracts inside the crate speak of
+pub mod inside
 -- ---- worked examples
 pub mod rows

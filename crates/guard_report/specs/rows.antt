@@ -1,3 +1,4 @@
 -- Worked examples, which the checker computes.
 pub mod Rows
 pub mod LineRows
+pub mod ValueRows

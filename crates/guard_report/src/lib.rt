@@ -1,4 +1,5 @@
-//! Reports: the text of a verdict and the line of a frame, with names in place of numbers.
+//! Reports: the text of a verdict and the line of a frame, with names in place of numbers; values as ASN.1 writes them,
+//! and the parts of them that paths name.
 //!
 //! | question | code | definition |
 //! |---|---|---|
@@ -6,12 +7,25 @@
 //! | What is the line of a frame's verdict? | `lines.rt` (`line`) | `specs/Lines.antt` |
 //! | How is a path written by the names of a type? | `path.rt` | `specs/Text.antt` |
 //! | What stands for a name that is missing? | `words.rt` | `specs/Text.antt` |
+//! | How is a value written? | `values.rt` (`value_text`) | `specs/ValueText.antt` |
+//! | How are bits and octets written? | `strings.rt` | `specs/Strings.antt` |
+//! | How are characters written? | `characters.rt` | `specs/CharacterStrings.antt`, `specs/inside/Listing.antt` |
+//! | Where do the parts of what is in braces stand? | `layout.rt` | `specs/Layouts.antt` |
+//! | Which part of a value does a path name? | `parts.rt` (`value_at`, `type_at`, `part_text`) | `specs/Parts.antt` |
 #![tactic(auto)]
 
+mod characters;
+mod layout;
 mod lines;
+mod parts;
 mod path;
+mod strings;
 mod text;
+mod values;
 mod words;
 
+pub use layout::Layout;
 pub use lines::line;
+pub use parts::{part_text, type_at, value_at};
 pub use text::verdict_text;
+pub use values::value_text;

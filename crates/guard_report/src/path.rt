@@ -1,5 +1,6 @@
 //! The text of a path.
 ghost use Rattle.std.specs.Prelude.{◌≡◌, ◌++◌, OnOk, codes, option_map};
+ghost use Rattle.guard_model.specs.declared.site.Step.TheVariants.{Component};
 ghost use Rattle.guard_model.specs.TypeView.{type_view, component_view};
 ghost use Rattle.guard_report.specs.Text.{component_of, element_type, type_within, step_text, steps_text};
 
@@ -25,7 +26,7 @@ fn add_step(text: &mut Vec<u8>, ty: Option<&Ty>, step: Step) -> Result<(), OutOf
     match step {
         Step::Component(place) => {
             add(text, b".")?;
-            let name = component_at(ty, place).map(|comp| comp.name.as_str());
+            let name = component_at(ty, usize::from(place)).map(|comp| comp.name.as_str());
             add_name(text, name, u64::from(place))
         }
         Step::Element(place) => {
@@ -37,29 +38,36 @@ fn add_step(text: &mut Vec<u8>, ty: Option<&Ty>, step: Step) -> Result<(), OutOf
 }
 
 /// The type one step further in, if one is known.
-fn type_within(ty: Option<&Ty>, step: Step) -> Option<&Ty>
+pub fn type_within(ty: Option<&Ty>, step: Step) -> Option<&Ty>
     ensures { option_map (λ ty. type_view ty.now) result ≡ type_within (option_map (λ ty. type_view ty.now) ty.entry) step }
 {
     match step {
-        Step::Component(place) => Some(&component_at(ty, place)?.ty),
+        Step::Component(place) => part_type(ty, usize::from(place)),
         Step::Element(_) => element_type(ty),
     }
 }
 
+/// The type of the component or alternative at this place of the written list, from 0.
+pub fn part_type(ty: Option<&Ty>, place: usize) -> Option<&Ty>
+    ensures { option_map (λ ty. type_view ty.now) result ≡ type_within (option_map (λ ty. type_view ty.now) ty.entry) (Component place) }
+{
+    Some(&component_at(ty, place)?.ty)
+}
+
 /// The component or alternative at this place of the written list, from 0.
-fn component_at(ty: Option<&Ty>, place: u8) -> Option<&Comp>
+pub fn component_at(ty: Option<&Ty>, place: usize) -> Option<&Comp>
     ensures { option_map (λ comp. component_view comp.now) result ≡ component_of (option_map (λ ty. type_view ty.now) ty.entry) place }
 {
     match &ty?.kind {
-        Kind::Sequence(comps) => comps.get(place as usize),
-        Kind::Set(comps) => comps.get(place as usize),
-        Kind::Choice(comps) => comps.get(place as usize),
+        Kind::Sequence(comps) => comps.get(place),
+        Kind::Set(comps) => comps.get(place),
+        Kind::Choice(comps) => comps.get(place),
         _ => None,
     }
 }
 
 /// The type of the elements of an OF type.
-fn element_type(ty: Option<&Ty>) -> Option<&Ty>
+pub fn element_type(ty: Option<&Ty>) -> Option<&Ty>
     ensures { option_map (λ ty. type_view ty.now) result ≡ element_type (option_map (λ ty. type_view ty.now) ty.entry) }
 {
     match &ty?.kind {

@@ -1,30 +1,16 @@
--- Lemmas, in reading order.
-pub mod Outcomes
-pub mod Entries
--- ---- there is one schema at most
-pub mod OneClash
-pub mod Decided
-pub mod OneSchema
-pub mod Lexed
-pub mod ReadTexts
--- ---- what is built
-pub mod Lists
-pub mod NodeCounts
-pub mod Moves
-pub mod FinishedTypes
-pub mod BareTypes
-pub mod FilledTypes
-pub mod OneMore
-pub mod Filling
-pub mod Known
-pub mod Meant
-pub mod Read
-pub mod FinishedNodes
-pub mod Unfinished
-pub mod OneDefinition
-pub mod AllDefinitions
+-- Lemmas, in reading order. What the checker asks for of a function is in folders with the names of src/.
+
+-- ---- steps one after another, and that there is one answer
+pub mod Turns
+pub mod OneAnswer
+-- ---- texts and their modules
+pub mod Modules
+-- ---- definitions: what is filled into their types, and how each is built
+pub mod Filled
+pub mod Built
+-- ---- what keeps a finished type from being sound
+pub mod Unsound
+-- ---- each definition where all is built
+pub mod Throughout
 -- ---- the schema
-pub mod ModuleNames
-pub mod ByName
-pub mod Lookups
-pub mod Whole
+pub mod ByNames

@@ -12,14 +12,16 @@ use Rattle.guard_schema.specs.Known.{none_known}
 use Rattle.guard_schema.specs.Building.{BuildsAll}
 use Rattle.guard_schema.specs.Schemas.{AbstractSchema, schema_of}
 
--- The names in modules have no fault, and this is the order in which each definition stands behind all that it uses; or this is their first fault.
+-- The names in modules have no fault, and this is the order in which each definition comes after all that it uses; or
+-- this is their first fault.
 abbrev pub OrdersNames : List WrittenModule → Outcome (List ℕ) → Type 0
 OrdersNames ms (Ok order) = AreFaultless ms × IsOrder (length (definitions ms)) (Uses ms) order
 OrdersNames ms (Err (Name f)) = IsFirstFault ms f
 OrdersNames ms (Err _) = ⊥
 
--- What texts denote, or their first fault, in the order of looking: how many texts there are; each text in turn, its tokens and its tree; the names of
--- all modules; and each definition behind those that it uses. The types get their names in the end.
+-- What texts denote, or their first fault, in the order of looking: how many texts there are; each text in turn, its
+-- tokens and its tree; the names of all modules; and each definition after those that it uses. The types get their
+-- names in the end.
 abbrev pub Denotes : List (List ℕ) → Outcome AbstractSchema → Type 0
 Denotes texts =
     Then (CountsTexts texts) (λ _.
@@ -32,6 +34,6 @@ Denotes texts =
 abbrev pub Accepts : List (List ℕ) → AbstractSchema → Type 0
 Accepts texts schema = Denotes texts (Ok schema)
 
--- The texts denote no schema, and this is their first fault. Of the parser's faults it is one whose condition stands.
+-- The texts denote no schema, and this is their first fault. Of the parser's faults it is one whose condition holds.
 abbrev pub IsRefused : List (List ℕ) → AbstractFault → Type 0
 IsRefused texts fault = Denotes texts (Err fault)

@@ -1,4 +1,4 @@
--- What definitions denote, each in turn behind all that it uses, or the first fault.
+-- What definitions denote, each in turn after all that it uses, or the first fault.
 use Rattle.std.specs.Prelude.{◌≡◌, ℕ, ◌+◌, List, [], ◌∷◌, Option, Some, None, Ok, Err, nat_le, slice_get}
 use Rattle.guard_model.specs.declared.site.Site.{Site}
 use Rattle.guard_model.specs.AbstractType.{AbstractType}
@@ -47,7 +47,8 @@ HasValue k names a t =
     Then (KeepsLimit (all_held k.built) a.site (record { ty = t; value = v })) (λ _.
     Is (record { ty = t; value = v }))))
 
--- A definition, where this is known: its tags and parts, whether tags tell the parts apart, constraints and defaults, its value, the limit.
+-- A definition, where this is known: its tags and parts, whether tags tell the parts apart, constraints and defaults,
+-- its value, the limit.
 abbrev pub Builds : Known → Definition → Outcome Built → Type 0
 Builds k d =
     Then (HasTags (around k d) (nodes_of_all (types_of k.built)) d.assignment.ty) (λ bare.
@@ -57,7 +58,8 @@ Builds k d =
 
 -- the definition of this number
 abbrev pub BuildsNumber : Known → ℕ → Outcome Built → Type 0
-BuildsNumber k number answer = (d : Definition) × (slice_get (definitions k.modules) number ≡ Some d) × Builds k d answer
+BuildsNumber k number answer = (d : Definition) × (slice_get (definitions k.modules) number ≡ Some d)
+    × Builds k d answer
 
 -- the definitions of these numbers, each where those before it are known
 abbrev pub BuildsAll : Known → List ℕ → Outcome (List Built) → Type 0

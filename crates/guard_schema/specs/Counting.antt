@@ -1,7 +1,8 @@
 -- How much a schema holds, and its limit.
 use Rattle.std.specs.Prelude.{ℕ, suc, ◌+◌, List, [], ◌∷◌, Option, Some, None}
 use Rattle.guard_model.specs.AbstractType as type
-use Rattle.guard_model.specs.AbstractType.{AbstractType, AbstractKind, AbstractPresence, Components, Constraint, Constraints, Element, Parts, type_of}
+use Rattle.guard_model.specs.AbstractType.{AbstractType, AbstractKind, AbstractPresence, Components, Constraint}
+use Rattle.guard_model.specs.AbstractType.{Constraints, Element, Parts, type_of}
 use Rattle.guard_model.specs.AbstractValue as value
 use Rattle.guard_model.specs.AbstractValue.{AbstractValue, Fields, Items}
 use Rattle.guard_tagging.specs.Faults.{nodes}

@@ -12,12 +12,18 @@ pub record Entry : Type 0 where
 -- those of definitions, the first of which has this number
 abbrev pub entries_from : (ℕ → Option ℕ) → ℕ → List Definition → List Entry
 entries_from place number [] = []
-entries_from place number (d ∷ ds) = record { home = d.home.name; name = d.assignment.name; place = place number } ∷ entries_from place (number + 1) ds
+entries_from place number (d ∷ ds) = record {
+  home = d.home.name;
+  name = d.assignment.name;
+  place =
+      place number;
+} ∷ entries_from place (number + 1) ds
 
 -- the place that the first one with these names has
 abbrev pub place_named : List ℕ → List ℕ → List Entry → Option ℕ
 place_named home name [] = None
-place_named home name (e ∷ es) = if bytes_eq home e.home && bytes_eq name e.name then e.place else place_named home name es
+place_named home name (e ∷ es) = if bytes_eq home e.home && bytes_eq name e.name then e.place else place_named home name
+    es
 
 -- ---- by two names, one after the other
 
@@ -34,9 +40,10 @@ entry_if home name e = if bytes_eq home e.home then place_if name e.name e.place
 -- what the first one with these names has as its place
 abbrev pub first_named : List ℕ → List ℕ → List Entry → Option (Option ℕ)
 first_named home name [] = None
-first_named home name (e ∷ es) = if bytes_eq home e.home && bytes_eq name e.name then Some e.place else first_named home name es
+first_named home name (e ∷ es) = if bytes_eq home e.home && bytes_eq name e.name then Some e.place else first_named home
+    name es
 
--- the place of a type, where what stands there has no value
+-- the place of a type, where what is there has no value
 abbrev pub unvalued : {A : Type 0} → ℕ → Option (Option A) → Option ℕ
 unvalued place None = None
 unvalued place (Some None) = Some place

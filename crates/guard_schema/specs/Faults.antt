@@ -17,13 +17,13 @@ pub data AbstractFault : Type 0 where
   Syntax : SyntaxFault → AbstractFault
   Name : NameFault → AbstractFault
   Tag : TagFault → AbstractFault
-  -- S1: tags don't tell the parts of the definition apart whose name stands there
+  -- S1: tags don't tell the parts of the definition apart whose name is there
   Clash : Site → AbstractClash → AbstractFault
   Cons : ConsFault → AbstractFault
   Value : ValueFault → AbstractFault
-  -- S2: the default or assigned value that stands there is no member of its type
+  -- S2: the default or assigned value that is there is no member of its type
   DefaultOutside : Site → AbstractFault
-  -- S3: with the definition whose name stands there, constraints, values and contained types are more than may be
+  -- S3: with the definition whose name is there, constraints, values and contained types are more than may be
   TooLarge : Site → AbstractFault
 
 -- what is made of something, or a fault
@@ -34,7 +34,7 @@ Outcome A = Result A AbstractFault
 abbrev pub IsNamed : {F : Type 0} → (F → Option F) → F → Type 0
 IsNamed named f = named f ≡ Some f
 
--- a refusal names a fault, unless memory ran out: that is one variant, and stands in no other one
+-- a refusal names a fault, unless memory ran out: that is one variant, and is in no other one
 abbrev pub named : SchemaFault → Option AbstractFault
 named (code.Lex f) = Some (Lex f)
 named (code.Syntax f) = Some (Syntax f)

@@ -12,7 +12,8 @@ use Rattle.guard_model.specs.Kinds.{type_of_size}
 use Rattle.guard_model.specs.TypeView.{OneComponent}
 use Rattle.guard_syntax.specs.Trees.{WrittenConstraint, WrittenOfConstraint}
 use Rattle.guard_syntax.specs.Trees.{WrittenPresence, mandatory, optional, default, WrittenType, type_node}
-use Rattle.guard_syntax.specs.Trees.{WrittenBase, plain, numbers, named_bits, enumerated, structure, choice, of_type, named_type}
+use Rattle.guard_syntax.specs.Trees.{WrittenBase, plain, numbers, named_bits, enumerated, structure, choice, of_type}
+use Rattle.guard_syntax.specs.Trees.{named_type}
 use Rattle.guard_syntax.specs.Trees.{WrittenComponents, no_components, component, components_from}
 use Rattle.guard_syntax.specs.Trees.{WrittenAlternatives, no_alternatives, alternative}
 use Rattle.guard_tagging.specs.Types.{structure_kind, of_kind, presence_of, parts_of, join}
@@ -65,7 +66,7 @@ module _ (names : Visible) where
   Adds [] t = Is t
   Adds (c ∷ cs) t = Then (AddsOne c t) (Adds cs)
 
-  -- those that stand at the type there
+  -- those that are written at the type there
   abbrev pub Constrains : Site → List WrittenConstraint → AbstractType → Outcome AbstractType → Type 0
   Constrains site [] t = Is t
   Constrains site (c ∷ cs) t = Then (IsSoundAt site t) (λ _. Adds (c ∷ cs) t)
@@ -96,7 +97,8 @@ module _ (names : Visible) where
 
   -- A component or alternative of this name and this bare type: its type's constraints, then its default. `Finish` is
   -- what its written type makes of it.
-  abbrev pub FinishesComponent : Site → (AbstractType → Outcome AbstractType → Type 0) → WrittenPresence → List ℕ → AbstractType
+  abbrev pub FinishesComponent : Site → (AbstractType → Outcome AbstractType → Type 0) → WrittenPresence → List ℕ
+      → AbstractType
       → Outcome OneComponent → Type 0
   FinishesComponent site Finish presence name bare =
       Then (Finish bare) (λ u.

@@ -56,7 +56,11 @@ type_alone (Some b) = Some b.ty
 
 -- for values and constraints that are written in the module of a name
 abbrev pub visible : Known → List ℕ → Visible
-visible k home = record { values = λ name. governed (meant k home name); types = λ name. type_alone (meant k home name) }
+visible k home = record {
+  values = λ name. governed (meant k home name);
+  types =
+      λ name. type_alone (meant k home name);
+}
 
 -- for tags of a definition: the tag default that counts is that of the module in which a type is written
 abbrev pub around : Known → Definition → Surroundings

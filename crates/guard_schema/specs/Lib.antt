@@ -1,4 +1,4 @@
--- Definitions, in reading order: `Accepts` is the page to read first, and stands on all the others.
+-- Definitions, in reading order: `Accepts` is the page to read first, and rests on all the others.
 pub mod Outcomes
 pub mod Faults
 pub mod Texts
@@ -12,7 +12,9 @@ pub mod Schemas
 pub mod Accepts
 pub mod OneAnswer
 pub mod Unfinished
--- what the values of the code stand for
+pub mod OnlyLong
+pub mod EachType
+-- what the values of the code mean
 pub mod Entries
 pub mod Views
 -- ---- what only private contracts and proofs cite

@@ -19,7 +19,7 @@ is_long t v = fits t v && not (is_short (der t v))
 abbrev pub site_where : Bool → Site → Option Site
 site_where here site = if here then Some site else None
 
--- where the first one stands in a constraint on the type. What is said of its parts, its size or its characters isn't
+-- where the first one is in a constraint on the type. What is said of its parts, its size or its characters isn't
 -- said of the type's own values, and a contained type has constraints of its own.
 abbrev mutual
   pub long_in : AbstractType → Constraint → Option Site
@@ -42,7 +42,7 @@ abbrev mutual
   long_in_all t type.no_constraints = None
   long_in_all t (type.constraint c cs) = option_or (long_in t c) (long_in_all t cs)
 
--- where the first one stands in a type, its parts before the whole
+-- where the first one is in a type, its parts before the whole
 abbrev mutual
   pub first_long : AbstractType → Option Site
   first_long (type_of tags kind cons) = option_or (long_inside kind) (long_in_all (type_of tags kind cons) cons)

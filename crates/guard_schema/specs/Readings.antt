@@ -19,14 +19,15 @@ use Rattle.guard_schema.specs.Outcomes.{Is, Passes, Then}
 use Rattle.guard_schema.specs.Faults.{Value, Cons, DefaultOutside, Outcome, IsNamed}
 
 -- V8: The type that is written there is sound. A single value can keep it from that, in a constraint of a type that is
--- referred to: the fault is where that value stands.
+-- referred to: the fault is where that value is.
 abbrev pub IsSoundAt : Site → AbstractType → Outcome (Unit {0}) → Type 0
 IsSoundAt site t = Passes (is_sound t) (Value (value_fault.TooLarge (unwrap_or (first_long t) site)))
 
 -- the value that a tree denotes, or its first fault, where it denotes none
 abbrev pub ReadsValue : Visible → AbstractType → WrittenValue → Outcome AbstractValue → Type 0
 ReadsValue names t tree (Ok v) = values.Denotes names.values t tree v
-ReadsValue names t tree (Err (Value f)) = IsNamed value_views.named f × IsFirstFault names.values t tree f × ((v : AbstractValue) → ¬ (values.Denotes names.values t tree v))
+ReadsValue names t tree (Err (Value f)) = IsNamed value_views.named f × IsFirstFault names.values t tree f
+    × ((v : AbstractValue) → ¬ (values.Denotes names.values t tree v))
 ReadsValue names t tree (Err _) = ⊥
 
 abbrev pub site_of : WrittenValue → Site
@@ -41,5 +42,7 @@ ReadsMember names t tree =
 -- the constraint that a tree denotes on a type, or its first fault
 abbrev pub ReadsConstraint : Visible → AbstractType → WrittenConstraint → Outcome Constraint → Type 0
 ReadsConstraint names t tree (Ok c) = constraints.Denotes names t tree c
-ReadsConstraint names t tree (Err (Cons f)) = IsNamed constraint_views.named f × IsFirstConstraintFault names t tree f × ((c : Constraint) → ¬ (constraints.Denotes names t tree c))
+ReadsConstraint names t tree (Err (Cons f)) =
+    IsNamed constraint_views.named f × IsFirstConstraintFault names t tree f
+    × ((c : Constraint) → ¬ (constraints.Denotes names t tree c))
 ReadsConstraint names t tree (Err _) = ⊥

@@ -12,7 +12,8 @@ use Rattle.guard_names.specs.Faults.{most_modules}
 use Rattle.guard_schema.specs.Outcomes.{Is, Passes, Then}
 use Rattle.guard_schema.specs.Faults.{Lex, Syntax, Name, Outcome, IsNamed}
 
--- The text is cut into tokens that write this tree, each node with the site of its first token. `place` is its place in the list, from 1.
+-- The text is cut into tokens that write this tree, each node with the site of its first token. `place` is its place in
+-- the list, from 1.
 pub record IsModuleText (place : ℕ) (text : List ℕ) (tree : WrittenModule) : Type 0 where
   pub tokens : List Token
   pub lexes : Lexes place text tokens
@@ -33,10 +34,11 @@ ReadsText place text (Err (Lex f)) = IsNamed fault_named f × FirstFault place t
 ReadsText place text (Err (Syntax f)) = IsNamed fault_of f × WritesNothing place text f
 ReadsText place text (Err _) = ⊥
 
--- those of several texts in turn, behind these
+-- those of several texts in turn, after these
 abbrev pub ReadsTexts : List WrittenModule → List (List ℕ) → Outcome (List WrittenModule) → Type 0
 ReadsTexts before [] = Is before
-ReadsTexts before (text ∷ texts) = Then (ReadsText (suc (length before)) text) (λ tree. ReadsTexts (before ++ tree ∷ []) texts)
+ReadsTexts before (text ∷ texts) = Then (ReadsText (suc (length before)) text)
+    (λ tree. ReadsTexts (before ++ tree ∷ []) texts)
 
 -- N7: there are 64 at most, which is looked for before any text is read
 abbrev pub CountsTexts : List (List ℕ) → Outcome (Unit {0}) → Type 0

@@ -3,10 +3,12 @@
 -- type that is referred to come first.
 use Rattle.std.specs.Prelude.{◌≡◌, ℕ, zero, suc, List, [], ◌∷◌, Option, Some, None, Ok}
 use Rattle.guard_model.specs.AbstractType as type
-use Rattle.guard_model.specs.AbstractType.{AbstractType, AbstractKind, AbstractPresence, Components, Constraint, Constraints, type_of}
+use Rattle.guard_model.specs.AbstractType.{AbstractType, AbstractKind, AbstractPresence, Components, Constraint}
+use Rattle.guard_model.specs.AbstractType.{Constraints, type_of}
 use Rattle.guard_syntax.specs.Trees.{WrittenConstraint, WrittenOfConstraint}
 use Rattle.guard_syntax.specs.Trees.{WrittenPresence, mandatory, optional, default, WrittenType, type_node}
-use Rattle.guard_syntax.specs.Trees.{WrittenBase, plain, numbers, named_bits, enumerated, structure, choice, of_type, named_type}
+use Rattle.guard_syntax.specs.Trees.{WrittenBase, plain, numbers, named_bits, enumerated, structure, choice, of_type}
+use Rattle.guard_syntax.specs.Trees.{named_type}
 use Rattle.guard_syntax.specs.Trees.{WrittenComponents, no_components, component, components_from}
 use Rattle.guard_syntax.specs.Trees.{WrittenAlternatives, no_alternatives, alternative}
 use Rattle.guard_names.specs.Declarations.{Definition}
@@ -46,7 +48,8 @@ other_ones (suc n) type.no_components = type.no_components
 other_ones (suc n) (type.component name t presence cs) = other_ones n cs
 
 -- the first one with another type and presence, and the others as they are then
-abbrev pub with_first : (AbstractType → AbstractType) → (AbstractPresence → AbstractPresence) → (Components → Components)
+abbrev pub with_first : (AbstractType → AbstractType) → (AbstractPresence → AbstractPresence)
+    → (Components → Components)
     → Components → Components
 with_first change forget others type.no_components = type.no_components
 with_first change forget others (type.component name t presence cs) =

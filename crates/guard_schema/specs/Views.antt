@@ -1,4 +1,4 @@
--- What the code's values stand for.
+-- What the values of the code mean.
 use Rattle.std.specs.Prelude.{ℕ, List, map, string_bytes, Option, Some, None, option_map, option_and_then, slice_get}
 use Rattle.guard_model.specs.TypeView.{type_view, component_view}
 use Rattle.guard_model.specs.declared.value.Value.{Value}
@@ -37,7 +37,8 @@ known_view p = record { modules = modules_of p.names.now; order = order_of p.nam
 -- ---- where something is written
 
 abbrev pub visible_of : Scope → Visible
-visible_of s = visible (known_view s.progress.now) (home_name (slice_get (definitions (modules_of s.progress.now.names.now)) s.id))
+visible_of s = visible (known_view s.progress.now)
+    (home_name (slice_get (definitions (modules_of s.progress.now.names.now)) s.id))
 
 abbrev pub filling_view : code_filling.Filling → Filling
 filling_view f = record { done = map component_view f.done.items; left = map component_view f.left.items }
@@ -52,7 +53,8 @@ entry_view n = record { home = n.home.items; name = n.name.items; place = n.plac
 
 -- what an index has under the two names
 abbrev pub found_in : TypeIndex → List ℕ → List ℕ → Option (Option ℕ)
-found_in index home name = option_and_then (λ places. looked_up (λ key. key.items) name places.entries) (looked_up (λ key. key.items) home index.homes.entries)
+found_in index home name = option_and_then (λ places. looked_up (λ key. key.items) name places.entries)
+    (looked_up (λ key. key.items) home index.homes.entries)
 
 abbrev pub place_in : TypeIndex → List ℕ → List ℕ → Option ℕ
 place_in index home name = option_and_then (λ place. place) (found_in index home name)

@@ -27,7 +27,7 @@ use std::alloc::{AllocError, Global};
 /// The names of a definition.
 #[derive(Drop)]
 pub struct NamedDefinition {
-    /// The name of the module in which it stands.
+    /// The name of the module that assigns it.
     pub home: Vec<u8>,
     pub name: Vec<u8>,
     /// The place of its type, where it assigns one.
@@ -92,7 +92,7 @@ fn definitions(
     Ok(all)
 }
 
-/// Those of a module behind those before it.
+/// Those of a module after those before it.
 fn with_module(
     alloc: Global,
     names: &Names,
@@ -133,7 +133,7 @@ fn place_of(names: &Names, values: &[Option<Value>], id: Id) -> Option<usize>
     }
 }
 
-/// The place, where what stands there has no value.
+/// The place, where what is there has no value.
 fn unvalued(values: &[Option<Value>], place: usize) -> Option<usize>
     ensures { result ≡ entries.unvalued place (slice_get values.now place) }
 {

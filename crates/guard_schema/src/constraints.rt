@@ -1,4 +1,4 @@
-//! The constraints that are written at a type, put behind those that it has.
+//! The constraints that are written at a type, put after those that it has.
 ghost use Rattle.std.specs.Prelude.{◌≡◌, map, IsTrue, IfOk};
 ghost use Rattle.guard_der.specs.Sound.{is_sound};
 ghost use Rattle.guard_model.specs.AbstractType.{type_of};
@@ -18,7 +18,7 @@ use guard_model::{Cons, Kind, Rule, Site, Tag, Ty};
 use guard_syntax::{BaseTree, ConsTree, OfConsTree, TypeTree};
 use std::alloc::{AllocError, Global};
 
-/// The type that is written so, with the constraint before OF and those behind it.
+/// The type that is written so, with the constraint before OF and those after it.
 pub fn with_written(alloc: Global, scope: Scope, tree: &TypeTree, ty: Ty) -> Result<Ty, SchemaFault>
     ensures { Answers type_view named result (ConstrainsWritten (visible_of scope.entry) (written.type_view tree.now) (type_view ty)) }
 {
@@ -26,7 +26,7 @@ pub fn with_written(alloc: Global, scope: Scope, tree: &TypeTree, ty: Ty) -> Res
     constrained(alloc, scope, tree.site, &tree.cons, before)
 }
 
-/// The type that is written there, with the constraints behind it.
+/// The type that is written there, with the constraints after it.
 #[tactic(auto, unfolding(crate::specs::Finishing::Constrains))]
 fn constrained(
     alloc: Global,
@@ -71,7 +71,7 @@ fn with_constraint(alloc: Global, scope: Scope, tree: &ConsTree, ty: Ty) -> Resu
     Ok(with(ty, cons)?)
 }
 
-/// The type with this constraint behind those that it has.
+/// The type with this constraint after those that it has.
 fn with(ty: Ty, cons: Cons) -> Result<Ty, AllocError>
     ensures { IfOk result (λ t. type_view t ≡ with_constraint (type_view ty) (constraint_view cons)) }
 {

@@ -1,17 +1,17 @@
 //! What definitions denote, each in turn.
-ghost use Rattle.std.specs.Prelude.{All, ◌≡◌, ◌+◌, ◌≤◌, length, map, nat_le, option_map, slice_get, Some, IsTrue, IfOk, IfSome};
+ghost use Rattle.std.specs.Prelude.{All, true, ◌≡◌, ◌↔◌, ◌+◌, ◌≤◌, length, map, nat_le, option_map, slice_get, Some, IsTrue, IfOk, IfSome};
 ghost use Rattle.guard_der.specs.Fits.{fits};
 ghost use Rattle.guard_der.specs.Sound.{is_sound};
 ghost use Rattle.guard_model.specs.TypeView.{type_view};
 ghost use Rattle.guard_model.specs.ValueView.{value_view};
-ghost use Rattle.guard_names.specs.Declarations.{definitions};
 ghost use Rattle.guard_names.specs.NamesView.{modules_of, order_of};
 ghost use Rattle.guard_syntax.specs.ModuleViews.{perhaps_value_view, assignment_view};
 ghost use Rattle.guard_tagcheck.specs.Limits.{is_within_limits};
 ghost use Rattle.guard_tagging.specs.Faults as tagging;
 ghost use Rattle.guard_tagging.specs.ScopeView.{known_list};
 ghost use Rattle.guard_tagging.specs.Spelled.{IsSpelledModule};
-ghost use Rattle.guard_tagging.specs.Surroundings.{known_from, is_automatic_definition};
+ghost use Rattle.guard_tagging.specs.Automatic.{Automatic};
+ghost use Rattle.guard_tagging.specs.Skeletons.{AreMeanings};
 ghost use Rattle.guard_schema.specs.Building.{BuildsNumber, BuildsAll, HasValue, TellsApart, Assigns, KeepsLimit};
 ghost use Rattle.guard_schema.specs.inside.InTurn.{TagsApart, CompletesInTurn};
 ghost use Rattle.guard_schema.specs.Counting.{held_by, most_held};
@@ -31,7 +31,7 @@ use guard_model::{Site, Ty, Value};
 use guard_names::{Id, Names};
 use guard_syntax::{Assignment, ValueTree};
 use guard_tagcheck::find_clash;
-use guard_tagging::{TaggedType, skeleton_behind};
+use guard_tagging::{TaggedType, skeleton_after};
 use std::alloc::Global;
 
 /// Constraints, values and contained types over all definitions.
@@ -60,13 +60,13 @@ pub fn all_built<'m, 'a>(
 fn built(alloc: Global, progress: &Progress, id: Id) -> Result<Definition, SchemaFault>
     requires next { slice_get (order_of progress.now.names.now) (length progress.now.known.types.items) ≡ Some id }
     requires spelled { All IsSpelledModule (modules_of progress.now.names.now) }
-    requires flags { known_list (map type_view progress.now.known.types.items) progress.now.automatic.items ≡ known_from (modules_of progress.now.names.now) (order_of progress.now.names.now) (map type_view progress.now.known.types.items) }
+    requires flags { AreMeanings (modules_of progress.now.names.now) (order_of progress.now.names.now) (map type_view progress.now.known.types.items) (known_list (map type_view progress.now.known.types.items) progress.now.automatic.items) }
     ensures built { Answers definition_view named result (BuildsNumber (known_view progress.now) id) }
     ensures sound { IfOk result (λ d. IsTrue (is_sound (definition_view d).ty)) }
     ensures fits { IfOk result (λ d. IfSome (definition_view d).value (λ v. IsTrue (fits (definition_view d).ty v))) }
     ensures nodes { IfOk result (λ d. (d.nodes ≡ progress.now.nodes + tagging.nodes (definition_view d).ty) × (d.nodes ≤ tagging.most_nodes)) }
     ensures held { IfOk result (λ d. (d.held ≡ progress.now.held + held_by (definition_view d)) × (d.held ≤ most_held)) }
-    ensures automatic { IfOk result (λ d. d.is_automatic ≡ is_automatic_definition (modules_of progress.now.names.now) (order_of progress.now.names.now) (known_from (modules_of progress.now.names.now) (order_of progress.now.names.now) (map type_view progress.now.known.types.items)) (slice_get (definitions (modules_of progress.now.names.now)) id)) }
+    ensures automatic { IfOk result (λ d. (d.is_automatic ≡ true) ↔ Automatic (modules_of progress.now.names.now) id) }
 {
     let Some((_, assignment)) = progress.names.home(id) else {
         unreachable!()
@@ -75,7 +75,7 @@ fn built(alloc: Global, progress: &Progress, id: Id) -> Result<Definition, Schem
     completed(alloc, Scope { progress, id }, assignment, tagged)
 }
 
-/// The type of the definition with its tags and parts, which tags tell apart. Its name stands at the site.
+/// The type of the definition with its tags and parts, which tags tell apart. Its name is at the site.
 fn tagged_apart(
     alloc: Global,
     progress: &Progress,
@@ -84,12 +84,12 @@ fn tagged_apart(
 ) -> Result<TaggedType, SchemaFault>
     requires next { slice_get (order_of progress.now.names.now) (length progress.now.known.types.items) ≡ Some id }
     requires spelled { All IsSpelledModule (modules_of progress.now.names.now) }
-    requires flags { known_list (map type_view progress.now.known.types.items) progress.now.automatic.items ≡ known_from (modules_of progress.now.names.now) (order_of progress.now.names.now) (map type_view progress.now.known.types.items) }
+    requires flags { AreMeanings (modules_of progress.now.names.now) (order_of progress.now.names.now) (map type_view progress.now.known.types.items) (known_list (map type_view progress.now.known.types.items) progress.now.automatic.items) }
     ensures tagged { Answers (λ s. type_view s.ty) named result (TagsApart (known_view progress.now) id site) }
     ensures counted { IfOk result (λ s. progress.now.nodes + tagging.nodes (type_view s.ty) ≤ tagging.most_nodes) }
-    ensures automatic { IfOk result (λ s. s.is_automatic ≡ is_automatic_definition (modules_of progress.now.names.now) (order_of progress.now.names.now) (known_from (modules_of progress.now.names.now) (order_of progress.now.names.now) (map type_view progress.now.known.types.items)) (slice_get (definitions (modules_of progress.now.names.now)) id)) }
+    ensures automatic { IfOk result (λ s. (s.is_automatic ≡ true) ↔ Automatic (modules_of progress.now.names.now) id) }
 {
-    let tagged = skeleton_behind(alloc, progress.names, &progress.done(), id)?;
+    let tagged = skeleton_after(alloc, progress.names, &progress.done(), id)?;
     check_tags(alloc, site, &tagged.ty)?;
     Ok(tagged)
 }

@@ -14,7 +14,7 @@ use std::alloc::{AllocError, AllocFailed};
 use thiserror::Error;
 
 /// Why texts denote no schema. `Schema::build` says in which order faults are looked for. A fault of a layer prints as itself. OutOfMemory may stand
-/// in place of any answer, and no other variant stands for it.
+/// in place of any answer, and no other variant means it.
 #[derive(Debug, Drop, Error)]
 pub enum SchemaFault {
     #[error("{0}")]
@@ -25,14 +25,14 @@ pub enum SchemaFault {
     Name(NameFault),
     #[error("{0}")]
     Tag(TagFault),
-    /// Two components or alternatives that must differ in their tags share one, in the definition whose name stands there.
+    /// Two components or alternatives that must differ in their tags share one, in the definition whose name is there.
     #[error("S1 Clash {0} {1}")]
     Clash(Site, Clash),
     #[error("{0}")]
     Cons(ConsFault),
     #[error("{0}")]
     Value(ValueFault),
-    /// The default or the assigned value that stands there is no member of its type.
+    /// The default or the assigned value that is there is no member of its type.
     #[error("S2 DefaultOutside {0}")]
     DefaultOutside(Site),
     /// With the definition of the name there, constraints, values and contained types are more than 100,000.

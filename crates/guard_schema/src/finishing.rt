@@ -237,7 +237,7 @@ fn fill_next(
     }
 }
 
-/// This one, behind those that are finished.
+/// This one, after those that are finished.
 #[cycle(finishing)]
 fn fill_one(
     alloc: Global,
@@ -315,7 +315,7 @@ fn presence_of(
 
 // ---- COMPONENTS OF
 
-/// What COMPONENTS OF takes in: a list that is written behind it is finished, one that is referred to is so already.
+/// What COMPONENTS OF takes in: a list that is written after it is finished, one that is referred to is so already.
 #[cycle(finishing)]
 fn fill_from(
     alloc: Global,

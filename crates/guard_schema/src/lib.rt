@@ -9,11 +9,11 @@
 //! | What does a definition denote, each in turn? | `definitions.rt` | `specs/Building.antt` |
 //! | Which constraints and defaults are filled into a type? | `finishing.rt`, `constraints.rt` | `specs/Finishing.antt` |
 //! | What are a written value and a written constraint? | `readings.rt` | `specs/Readings.antt` |
-//! | Which value keeps a type from being sound? | `long_values.rt` | `specs/LongValues.antt` |
+//! | Which value keeps a type from being sound, and can anything else? | `long_values.rt`, `laws.rt` | `specs/LongValues.antt`, `specs/OnlyLong.antt` |
 //! | By what are types found? | `index.rt` (`TypeIndex`), `build.rt` | `specs/Entries.antt`, `specs/Views.antt` |
 //! | How much may a schema hold? | `counting.rt` | `specs/Counting.antt` |
 //! | Is there one schema, or one fault? | `laws.rt` | `specs/OneAnswer.antt` |
-//! | Is a schema's type what its tree says, with its constraints and defaults filled in? | `laws.rt` | `specs/Unfinished.antt` |
+//! | Is each type of a schema what its tree says, with its constraints and defaults filled in? | `laws.rt` | `specs/EachType.antt`, `specs/Unfinished.antt` |
 //! | How does the code fill a type, component by component? | `finishing.rt` | `specs/inside/InTurn.antt` (private) |
 #![tactic(auto)]
 

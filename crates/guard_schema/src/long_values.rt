@@ -11,7 +11,7 @@ use guard_der::{EncodeFault, encode, fits};
 use guard_model::{Comp, Cons, Kind, OutOfMemory, Rule, Site, Ty, Value};
 use std::alloc::Global;
 
-/// Where the first one stands in a type, its parts before the whole.
+/// Where the first one is in a type, its parts before the whole.
 #[cycle(first_long)]
 pub fn first_long(alloc: Global, ty: &Ty) -> Result<Option<Site>, OutOfMemory>
     ensures { IfOk result (λ site. site ≡ long_values.first_long (type_view ty.now)) }
@@ -79,7 +79,7 @@ fn long_in(alloc: Global, cons: &Cons, ty: &Ty) -> Result<Option<Site>, OutOfMem
     }
 }
 
-/// The site, where the value that stands there is one of the type's and too long.
+/// The site, where the value that is there is one of the type's and too long.
 fn long_value(
     alloc: Global,
     site: Site,

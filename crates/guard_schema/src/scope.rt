@@ -1,4 +1,4 @@
-//! Where something is written: the definition in which it stands, and what is built before that.
+//! Where something is written: in which definition, and what is built before that.
 ghost use Rattle.std.specs.Prelude.{◌≡◌, option_map};
 ghost use Rattle.guard_model.specs.TypeView.{type_view};
 

@@ -49,6 +49,18 @@ mutual
 
 -- ---- of a table's types
 
+all_few : (count : List ℕ → ℕ) (types : List AbstractType) (ws : List (List ℕ)) → ((way : List ℕ) → count way ≤ conditions types way) → list_any (is_crowded types) ws ≡ false → AllFew count ws
+all_few count types [] no_more h = tt
+all_few count types (w ∷ ws) no_more h =
+    let p = or_parts (is_crowded types w) (list_any (is_crowded types) ws) h in
+    let few_here : conditions types w ≤ 256 = leb-true (conditions types w) 256 (not-false (nat_le (conditions types w) 256) p.0) in
+    let one = no_more w in
+    (omega (arith, few_here, one), all_few count types ws no_more p.1)
+
+-- that ask no more than these types
+pub few_asked : (declared : AbstractType) (types : List AbstractType) (asks : List Ask) → ((way : List ℕ) → of_asks asks way ≤ conditions types way) → has_crowded_node types declared ≡ false → NeedsFew declared asks
+few_asked declared types asks no_more h = few declared asks (all_few (of_asks asks) types (ways declared) no_more h)
+
 same_count : (n : ℕ) (types : List AbstractType) (way : List ℕ) → of_asks (asks_from n types) way ≡ conditions types way
 same_count n [] way = refl
 same_count n (t ∷ ts) way = let e = same_count (suc n) ts way in omega (arith, e)

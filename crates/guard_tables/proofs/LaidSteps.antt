@@ -1,11 +1,15 @@
 -- From what is inside a node to the node, and from parts to the whole.
-use Rattle.std.proofs.Common.{◌≡◌, ℕ, zero, suc, ◌+◌, ◌-◌, ◌<◌, ◌≤◌, Bool, true, false, cond, eqb, List, [], ◌∷◌, ◌++◌, length, Option, Result, Ok, Err, refl, sym, ap, subst, ◌∙◌, arith, length-append}
-use Rattle.std.specs.Prelude.{not}
+use Rattle.std.proofs.Common.{◌≡◌, ℕ, zero, suc, ◌+◌, ◌-◌, ◌<◌, ◌≤◌, Bool, true, false, cond, eqb, List, [], ◌∷◌, ◌++◌, length, get_or, Option, Result, Ok, Err, refl, sym, ap, subst, ◌∙◌, arith, add-one, length-append}
+use Rattle.std.specs.Prelude.{not, IsTrue}
 use Rattle.std.specs.Result.{IfOk}
 use Rattle.std.proofs.lemmas.Bool.{eqb-true, eqb-false}
 use Rattle.guard_model.specs.declared.tag.Tag.{Tag}
 use Rattle.guard_model.specs.AbstractType.{AbstractType, AbstractKind, AbstractPresence, Components, component}
-use Rattle.guard_model.specs.TypeView.{OneComponent}
+use Rattle.guard_model.specs.TypeView.{OneComponent, component_view}
+use Rattle.guard_model.specs.declared.ty.Comp.{Comp}
+use Rattle.guard_model.proofs.Components.{left, left_is}
+use Rattle.guard_model.proofs.TypeViews.{component_view_is, opened}
+use Rattle.guard_der.specs.Sound.{is_proper_presence}
 use Rattle.guard_tables.specs.declared.drafts.Node.{Node}
 use Rattle.guard_tables.specs.declared.drafts.Group.{Group}
 use Rattle.guard_tables.specs.declared.drafts.Group.TheVariants as group
@@ -21,13 +25,15 @@ use Rattle.guard_tables.specs.Demands.{Ask, Term}
 use Rattle.guard_tables.specs.Forms.{forms_of}
 use Rattle.guard_tables.specs.Formulas as formulas
 use Rattle.guard_tables.specs.Handed.{within_of, terms_at}
-use Rattle.guard_tables.specs.Lay.{lay, lay_kind, formulas_over}
+use Rattle.guard_tables.specs.declared.slots.Slots.{Slots}
+use Rattle.guard_tables.specs.Lay.{lay, lay_kind, formulas_over, absent_of, present_of, chosen_of, side_for, side_chosen}
 use Rattle.guard_tables.specs.Plan.{Side, Plan, Body, Parts, plan, formula, no_parts, part, body_in, tags_in, form_in}
 use Rattle.guard_tables.specs.NodesView.{spots_in, root_of}
 use Rattle.guard_tables.specs.Spread.{terms_of, are_plain_asks}
 use Rattle.guard_tables.specs.TableNodes.{Spot, spot_of, spots_of, spot_at, own_tags, parts_between, IsNode}
 use Rattle.guard_tables.specs.inside.Aside.{spots_at, AreNodes, parts_then}
-use Rattle.guard_tables.specs.inside.Laid.{spots_so_far, Grows, Stacks, Lays, LaysParts, WithPart, Extends, MayCome, plan_in, parts_in, body_of_group, body_of_elements, parts_of_group, side_of_part}
+use Rattle.guard_tables.specs.inside.Laid.{spots_so_far, Grows, Stacks, Lays, MayBeLaid, PartsMayBeLaid, LaysParts, WithPart, Extends, MayCome, plan_in, parts_in, body_of_group, body_of_elements, parts_of_group, side_of_part, is_exclusive}
+use Rattle.guard_tables.proofs.GivenOut.{own_terms, own_within, own_absent, own_present, own_chosen}
 use Rattle.guard_tables.proofs.Comings.{all_kept, all_stay, grown_on, laid_as, laid_on, nodes_last, parts_last, run, so_many, spots_length}
 
 -- ---- parts
@@ -63,26 +69,74 @@ one_part group.Series place name t presence rest terms = refl
 one_part group.Set place name t presence rest terms = refl
 one_part group.Choice place name t presence rest terms = refl
 
-pub extends : (old new : LaidParts) (l : Laid) (g : Group) (place : ℕ) (c : OneComponent) (terms : List Term) (s : Side)
-    → MayCome old → Lays old.builder l (lay c.ty (within_of place terms)) → s ≡ side_of_part g place c terms (lay c.ty (within_of place terms)) → WithPart old.nodes.items l s new
-    → Extends old new g place c terms
-extends old new l g place c terms s are laid side with =
+pub extends : (old new : LaidParts) (l : Laid) (p : Plan) (s side : Side)
+    → MayCome old → Lays old.builder l p → s ≡ side → WithPart old.nodes.items l s new
+    → Extends old new side p
+extends old new l p s side are laid same with =
     let ss : List Spot = spots_so_far old.builder in
     let k : ℕ = length old.builder.hots.items in
     let ns : List Node = old.nodes.items in
-    let here : ns ≡ ns = refl in
-    let p : Plan = lay c.ty (within_of place terms) in
     record {
       grows = subst (λ (b : Builder). Grows old.builder b) (sym with.same) laid.grows;
       nodes = with.nodes;
-      stand = λ rest.
-          with.stand (parts_of_group g (suc place) rest terms)
-          ∙ ap (λ (q : Plan). parts_then (spots_at (spots_so_far l.builder) ns) (part s q (parts_of_group g (suc place) rest terms))) laid.stands
-          ∙ ap (λ (s : Side). parts_then (spots_at (spots_so_far l.builder) ns) (part s p (parts_of_group g (suc place) rest terms))) side
-          ∙ ap (λ (all : List Spot). parts_then (spots_at all ns) (part (side_of_part g place c terms p) p (parts_of_group g (suc place) rest terms))) laid.grows.grown
-          ∙ ap (λ (aside : List Spot). parts_then aside (part (side_of_part g place c terms p) p (parts_of_group g (suc place) rest terms))) (sym (all_stay ns ss laid.grows.more k (omega (arith, so_many old.builder)) are))
-          ∙ ap (λ (ps : Parts). parts_then (spots_at ss ns) ps) (one_part g place c.name c.ty c.presence rest terms);
+      stand = λ ps.
+          with.stand ps
+          ∙ ap (λ (q : Plan). parts_then (spots_at (spots_so_far l.builder) ns) (part s q ps)) laid.stands
+          ∙ ap (λ (s : Side). parts_then (spots_at (spots_so_far l.builder) ns) (part s p ps)) same
+          ∙ ap (λ (all : List Spot). parts_then (spots_at all ns) (part side p ps)) laid.grows.grown
+          ∙ ap (λ (aside : List Spot). parts_then aside (part side p ps)) (sym (all_stay ns ss laid.grows.more k (omega (arith, so_many old.builder)) are));
     }
+
+-- ---- of which only its own tests speak
+
+side_own : (g : Group) (place : ℕ) (c : OneComponent) (own all : List Term) (p : Plan) → own ≡ own_terms (is_exclusive g) place all → side_of_part g place c own p ≡ side_of_part g place c all p
+side_own group.Series place c own all p is =
+    ap (λ (m : Slots). side_for c.ty c.presence p m (present_of place own)) (ap (absent_of place) is ∙ own_absent false place all)
+    ∙ ap (λ (m : Slots). side_for c.ty c.presence p (absent_of place all) m) (ap (present_of place) is ∙ own_present false place all)
+side_own group.Set place c own all p is =
+    ap (λ (m : Slots). side_for c.ty c.presence p m (present_of place own)) (ap (absent_of place) is ∙ own_absent false place all)
+    ∙ ap (λ (m : Slots). side_for c.ty c.presence p (absent_of place all) m) (ap (present_of place) is ∙ own_present false place all)
+side_own group.Choice place c own all p is = ap side_chosen (ap (chosen_of place) is ∙ own_chosen place all)
+
+pub within_own : (g : Group) (place : ℕ) (own all : List Term) → own ≡ own_terms (is_exclusive g) place all → within_of place own ≡ within_of place all
+within_own g place own all is = ap (within_of place) is ∙ own_within (is_exclusive g) place all
+
+-- with one part more it is the parts of all
+pub part_more : (old new : LaidParts) (g : Group) (comps : List Comp) (place : ℕ) (comp : Comp) (own all : List Term) → place < length comps → comp ≡ get_or comps place comp → own ≡ own_terms (is_exclusive g) place all
+    → Extends old new (side_of_part g place (component_view comp) own (lay (component_view comp).ty (within_of place own))) (lay (component_view comp).ty (within_of place own))
+    → (ps : Parts) → parts_in old (parts_of_group g place (left comps place) all) ≡ ps → parts_in new (parts_of_group g (place + 1) (left comps (place + 1)) all) ≡ ps
+part_more old new g comps place comp own all lt at is more ps so_far =
+    let c : OneComponent = component_view comp in
+    let asks : within_of place own ≡ within_of place all = within_own g place own all is in
+    let rest : Parts = parts_of_group g (place + 1) (left comps (place + 1)) all in
+    more.stand rest
+    ∙ ap (λ (asks : List Ask). parts_in old (part (side_of_part g place c own (lay c.ty asks)) (lay c.ty asks) rest)) asks
+    ∙ ap (λ (s : Side). parts_in old (part s (lay c.ty (within_of place all)) rest)) (side_own g place c own all (lay c.ty (within_of place all)) is)
+    ∙ ap (λ (i : ℕ). parts_in old (part (side_of_part g place c all (lay c.ty (within_of place all))) (lay c.ty (within_of place all)) (parts_of_group g i (left comps (place + 1)) all))) (add-one place)
+    ∙ ap (λ (c : OneComponent). parts_in old (part (side_of_part g place c all (lay c.ty (within_of place all))) (lay c.ty (within_of place all)) (parts_of_group g (suc place) (left comps (place + 1)) all))) (component_view_is comp)
+    ∙ ap (λ (ps : Parts). parts_in old ps) (one_part g place (opened comp).name (opened comp).ty (opened comp).presence (left comps (place + 1)) all)
+    ∙ ap (λ (cs : Components). parts_in old (parts_of_group g place cs all)) (sym (left_is comps place comp lt at))
+    ∙ so_far
+
+-- what is asked of the part by its own tests may be laid
+pub part_may : (g : Group) (comps : List Comp) (place : ℕ) (comp : Comp) (own all : List Term) → place < length comps → comp ≡ get_or comps place comp → own ≡ own_terms (is_exclusive g) place all
+    → PartsMayBeLaid place (left comps place) all → MayBeLaid (component_view comp).ty (within_of place own)
+part_may g comps place comp own all lt at is may =
+    let here : PartsMayBeLaid place (component (opened comp).name (opened comp).ty (opened comp).presence (left comps (place + 1))) all = subst (λ (cs : Components). PartsMayBeLaid place cs all) (left_is comps place comp lt at) may in
+    subst (λ (asks : List Ask). MayBeLaid (component_view comp).ty asks) (sym (within_own g place own all is))
+    (subst (λ (c : OneComponent). MayBeLaid c.ty (within_of place all)) (sym (component_view_is comp)) here.0)
+
+pub part_proper : (comps : List Comp) (place : ℕ) (comp : Comp) (all : List Term) → place < length comps → comp ≡ get_or comps place comp
+    → PartsMayBeLaid place (left comps place) all → IsTrue (is_proper_presence (component_view comp).ty (component_view comp).presence)
+part_proper comps place comp all lt at may =
+    let here : PartsMayBeLaid place (component (opened comp).name (opened comp).ty (opened comp).presence (left comps (place + 1))) all = subst (λ (cs : Components). PartsMayBeLaid place cs all) (left_is comps place comp lt at) may in
+    subst (λ (c : OneComponent). IsTrue (is_proper_presence c.ty c.presence)) (sym (component_view_is comp)) here.1
+
+pub rest_may : (comps : List Comp) (place : ℕ) (comp : Comp) (all : List Term) → place < length comps → comp ≡ get_or comps place comp
+    → PartsMayBeLaid place (left comps place) all → PartsMayBeLaid (place + 1) (left comps (place + 1)) all
+rest_may comps place comp all lt at may =
+    let here : PartsMayBeLaid place (component (opened comp).name (opened comp).ty (opened comp).presence (left comps (place + 1))) all = subst (λ (cs : Components). PartsMayBeLaid place cs all) (left_is comps place comp lt at) may in
+    subst (λ (i : ℕ). PartsMayBeLaid i (left comps (place + 1)) all) (sym (add-one place)) here.2
 
 pub parts_come : (parts : LaidParts) (after : Builder) (g : Group) (tag : Option Tag) (first count : ℕ) (n : Node) → spots_so_far after ≡ spots_so_far parts.builder ++ spots_at (spots_so_far parts.builder) parts.nodes.items
     → first ≡ length parts.builder.hots.items → count ≡ length parts.nodes.items
@@ -151,11 +205,11 @@ group_laid before parts whole ps g tag a b = record {
   stands = b.stands ∙ ap (λ (ps : Parts). plan (own_tags tag) true (body_of_group g ps)) a.stand;
 }
 
-pub extended : {E : Type 0} (old : LaidParts) (l : Laid) (g : Group) (place : ℕ) (c : OneComponent) (terms : List Term) (s : Side)
-    → MayCome old → Lays old.builder l (lay c.ty (within_of place terms)) → s ≡ side_of_part g place c terms (lay c.ty (within_of place terms))
-    → (r : Result LaidParts E) → IfOk r (λ new. WithPart old.nodes.items l s new) → IfOk r (λ new. Extends old new g place c terms)
-extended old l g place c terms s are laid side r h =
-    passed_on (λ (new : LaidParts). WithPart old.nodes.items l s new) (λ (new : LaidParts). Extends old new g place c terms) r (λ new with. extends old new l g place c terms s are laid side with) h
+pub extended : {E : Type 0} (old : LaidParts) (l : Laid) (p : Plan) (s side : Side)
+    → MayCome old → Lays old.builder l p → s ≡ side
+    → (r : Result LaidParts E) → IfOk r (λ new. WithPart old.nodes.items l s new) → IfOk r (λ new. Extends old new side p)
+extended old l p s side are laid same r h =
+    passed_on (λ (new : LaidParts). WithPart old.nodes.items l s new) (λ (new : LaidParts). Extends old new side p) r (λ new with. extends old new l p s side are laid same with) h
 
 by_formulas : (b : Bool) (own : List Tag) (form : Bool) (kind : AbstractKind) (xs ts : List Term) (rs : List formulas.Raise) → b ≡ false
     → plan own form (formula rs (lay_kind kind ts)) ≡ plan own form (cond b (lay_kind kind (cond b xs ts)) (formula rs (lay_kind kind (cond b xs ts))))

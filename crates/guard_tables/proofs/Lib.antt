@@ -1,7 +1,7 @@
 -- ---- sums of counts
 pub mod Counts
 -- ---- a search through all nodes
-pub mod AllNodes
+pub mod HandedDown
 -- ---- what same tags and bases come to
 pub mod BareTypes
 pub mod Faultless
@@ -31,6 +31,7 @@ pub mod Laying
 pub mod Spots
 pub mod Growing
 pub mod Comings
+pub mod GivenOut
 pub mod LaidSteps
 pub mod LaidTypes
 -- ---- what loops gather
@@ -48,6 +49,9 @@ pub mod FormRooms
 pub mod SlotOfTypes
 pub mod ReadsBack
 pub mod LaidStanding
+pub mod DifferentLengths
+pub mod SharedTypes
+pub mod SharedSlots
 pub mod OfTables
 -- ---- sets of slots as words, and what an absent default fails
 pub mod SlotWords

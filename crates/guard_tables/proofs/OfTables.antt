@@ -1,16 +1,16 @@
 -- What the types of a table ask, and that there is room for it.
-use Rattle.std.proofs.Common.{◌≡◌, ℕ, suc, Bool, true, false, ◌≤◌, List, [], ◌∷◌, Option, None, Some, Result, Ok, Err, All, length, map, get_or, slice_get, ltb, refl, sym, ap, ◌∙◌, subst, IsTrue}
-use Rattle.std.specs.Prelude.{nat_le, option_map, IfOk, IfSome}
+use Rattle.std.proofs.Common.{◌≡◌, ℕ, zero, suc, ◌-◌, ◌<◌, ◌≤◌, Bool, true, false, List, [], ◌∷◌, Option, None, Some, All, length, map, get_or, ltb, slice_get, unwrap_or, refl, sym, ap, ◌∙◌, subst, arith, IsTrue}
+use Rattle.std.specs.Prelude.{nat_le, option_map, IfSome}
 use Rattle.std.specs.Borrow.{Bor}
 use Rattle.std.specs.Cmp.Lexicographic.{pointwise}
 use Rattle.std.specs.List.{AllByRecursion}
 use Rattle.std.specs.Option.{is_some, option_or}
-use Rattle.std.proofs.lemmas.Bool.{and_parts, leb-true, ltb-true}
+use Rattle.std.proofs.lemmas.Bool.{and_parts, leb-true, ltb-true, ltb-false}
+use Rattle.std.proofs.lemmas.List.{length-map}
 use Rattle.std.proofs.lemmas.List.Elements.{recursion_from_All, All-get_or}
-use Rattle.std.proofs.lemmas.Option.{slice_get-map, slice_get_read, slice_get_within, get_or_from_slice_get}
+use Rattle.std.proofs.lemmas.Option.{slice_get-map, slice_get_within, slice_get_past, slice_get_read, get_or_from_slice_get}
 use Rattle.guard_model.specs.AbstractType.{AbstractType}
 use Rattle.guard_model.specs.AbstractValue.{AbstractValue}
-use Rattle.guard_model.specs.declared.memory.OutOfMemory.{OutOfMemory}
 use Rattle.guard_model.specs.declared.ty.Ty.{Ty}
 use Rattle.guard_model.specs.Kinds.{kind_of}
 use Rattle.guard_model.specs.SameBase.{HasSameBase}
@@ -28,6 +28,8 @@ use Rattle.guard_tables.specs.Apt.{AreApt}
 use Rattle.guard_tables.specs.Conditions.{has_crowded_node}
 use Rattle.guard_tables.specs.Demands.{Ask}
 use Rattle.guard_tables.specs.Handed.{asks_from, NeedsFew}
+use Rattle.guard_tables.specs.SharedTypes.{type_at, types_at}
+use Rattle.guard_tables.specs.inside.Sharing.{shared, places_of, asks_by}
 use Rattle.guard_tables.specs.Laws.{AllMayJudge, has_failed}
 use Rattle.guard_tables.specs.Lay.{lay}
 use Rattle.guard_tables.specs.Marking.{fails_at}
@@ -37,9 +39,12 @@ use Rattle.guard_tables.specs.Standing.{PlanFor}
 use Rattle.guard_tables.specs.StandsFor.{StandsFor}
 use Rattle.guard_tables.specs.Tables.{tags_of, is_match, first_mismatch, first_fault, crowding, most_rules}
 use Rattle.guard_tables.proofs.Faultless.{neither, unmapped}
-use Rattle.guard_tables.proofs.FewSlots.{few_law}
+use Rattle.guard_tables.proofs.FewSlots.{few_law, few_asked}
+use Rattle.guard_tables.proofs.Laying.{lay_law}
+use Rattle.guard_tables.proofs.SharedTypes.{are_at, first_at, as_many, told_types, ask_no_more, judge_shared, by_apt}
+use Rattle.guard_tables.proofs.SharedSlots.{by_places}
 use Rattle.guard_tables.proofs.LaidStanding.{stands_law}
-use Rattle.guard_tables.proofs.SlotOfTypes.{types_apt, member_law}
+use Rattle.guard_tables.proofs.SlotOfTypes.{member_law}
 
 not_crowded : (crowded : Bool) → crowding crowded ≡ None → crowded ≡ false
 not_crowded true e = absurd cc
@@ -80,29 +85,119 @@ table_room declared rules c = few_law declared (declared ∷ rules) (goes declar
 
 -- ---- the nodes of a table
 
-pub table_apt : (declared : AbstractType) (rules : List AbstractType) → AreConsistent declared rules → AreApt (kind_of declared) (asks_from 0 (declared ∷ rules))
-table_apt declared rules c =
-    types_apt declared 0 (declared ∷ rules)
-    (refl, c.declared_sound, all_judge declared 0 rules (goes declared rules c.faultless).matching (recursion_from_All (λ t. IsTrue (is_sound t)) rules c.rules_sound))
+-- what all types ask, each kept once
+abbrev shared_asks : AbstractType → List AbstractType → List Ask
+shared_asks declared rules = asks_by 0 (shared (declared ∷ []) rules) (0 ∷ places_of (declared ∷ []) rules)
 
-pub table_stands : (nodes : Nodes) (declared : AbstractType) (rules : List AbstractType) → AreConsistent declared rules → root_of nodes ≡ lay declared (asks_from 0 (declared ∷ rules)) → StandsFor nodes declared rules
-table_stands nodes declared rules c laid = record {
-  plan = subst (λ (p : Plan). PlanFor p declared) (sym laid) (stands_law declared c.declared_sound (asks_from 0 (declared ∷ rules)));
-  fails = λ v fit slot. ap (λ (p : Plan). fails_at declared p v slot) laid ∙ table_members declared rules c v fit slot;
+judges : (declared : AbstractType) (rules : List AbstractType) → AreConsistent declared rules → AllMayJudge declared (shared (declared ∷ []) rules)
+judges declared rules c =
+    judge_shared declared rules (declared ∷ []) (refl, c.declared_sound, tt)
+    (all_judge declared 0 rules (goes declared rules c.faultless).matching (recursion_from_All (λ t. IsTrue (is_sound t)) rules c.rules_sound))
+
+shared_apt : (declared : AbstractType) (rules : List AbstractType) → AreConsistent declared rules → AreApt (kind_of declared) (shared_asks declared rules)
+shared_apt declared rules c = by_apt declared 0 (shared (declared ∷ []) rules) (0 ∷ places_of (declared ∷ []) rules) (judges declared rules c)
+
+shared_room : (declared : AbstractType) (rules : List AbstractType) → AreConsistent declared rules → NeedsFew declared (shared_asks declared rules)
+shared_room declared rules c =
+    few_asked declared (declared ∷ rules) (shared_asks declared rules) (λ way. ask_no_more declared rules (0 ∷ places_of (declared ∷ []) rules) way) (goes declared rules c.faultless).room
+
+all_at : (declared : AbstractType) (rules : List AbstractType) → map (slice_get (shared (declared ∷ []) rules)) (0 ∷ places_of (declared ∷ []) rules) ≡ map Some (declared ∷ rules)
+all_at declared rules =
+    ap (λ (x : Option AbstractType). x ∷ map (slice_get (shared (declared ∷ []) rules)) (places_of (declared ∷ []) rules)) (first_at rules declared)
+    ∙ ap (λ (xs : List (Option AbstractType)). Some declared ∷ xs) (are_at rules (declared ∷ []))
+
+shared_stands : (nodes : Nodes) (declared : AbstractType) (rules : List AbstractType) → AreConsistent declared rules → root_of nodes ≡ lay declared (shared_asks declared rules) → StandsFor nodes declared rules
+shared_stands nodes declared rules c laid = record {
+  plan = subst (λ (p : Plan). PlanFor p declared) (sym laid) (stands_law declared c.declared_sound (shared_asks declared rules));
+  fails = λ v fit slot.
+      ap (λ (p : Plan). fails_at declared p v slot) laid
+      ∙ lay_law declared c.declared_sound (shared_asks declared rules) (shared_apt declared rules c) v fit slot
+      ∙ by_places (shared (declared ∷ []) rules) (0 ∷ places_of (declared ∷ []) rules) (declared ∷ rules) v slot (all_at declared rules);
 }
 
-pub all_stand : (r : Result Nodes OutOfMemory) (declared : AbstractType) (rules : List AbstractType) (asks : List Ask) → AreConsistent declared rules → asks ≡ asks_from 0 (declared ∷ rules) → IfOk r (λ nodes. root_of nodes ≡ lay declared asks)
-    → IfOk r (λ nodes. StandsFor nodes declared rules)
-all_stand (Ok nodes) declared rules asks c is laid = table_stands nodes declared rules c (laid ∙ ap (lay declared) is)
-all_stand (Err e) declared rules asks c is laid = tt
+-- ---- of types that are kept so
+
+shared_are : (declared : AbstractType) (rules others : List AbstractType) (places : List ℕ) (asks : List Ask) → asks ≡ asks_by 0 (declared ∷ others) (0 ∷ places)
+    → declared ∷ others ≡ shared (declared ∷ []) rules → places ≡ places_of (declared ∷ []) rules → asks ≡ shared_asks declared rules
+shared_are declared rules others places asks is same at =
+    is ∙ ap (λ (ts : List AbstractType). asks_by 0 ts (0 ∷ places)) same ∙ ap (λ (ps : List ℕ). asks_by 0 (shared (declared ∷ []) rules) (0 ∷ ps)) at
+
+pub kept_apt : (declared : AbstractType) (rules others : List AbstractType) (places : List ℕ) (asks : List Ask) → AreConsistent declared rules → asks ≡ asks_by 0 (declared ∷ others) (0 ∷ places)
+    → declared ∷ others ≡ shared (declared ∷ []) rules → places ≡ places_of (declared ∷ []) rules → AreApt (kind_of declared) asks
+kept_apt declared rules others places asks c is same at =
+    subst (λ (asks : List Ask). AreApt (kind_of declared) asks) (sym (shared_are declared rules others places asks is same at)) (shared_apt declared rules c)
+
+pub kept_room : (declared : AbstractType) (rules others : List AbstractType) (places : List ℕ) (asks : List Ask) → AreConsistent declared rules → asks ≡ asks_by 0 (declared ∷ others) (0 ∷ places)
+    → declared ∷ others ≡ shared (declared ∷ []) rules → places ≡ places_of (declared ∷ []) rules → NeedsFew declared asks
+kept_room declared rules others places asks c is same at =
+    subst (λ (asks : List Ask). NeedsFew declared asks) (sym (shared_are declared rules others places asks is same at)) (shared_room declared rules c)
+
+pub kept_stand : (nodes : Nodes) (declared : AbstractType) (rules others : List AbstractType) (places : List ℕ) (asks : List Ask) → AreConsistent declared rules → asks ≡ asks_by 0 (declared ∷ others) (0 ∷ places)
+    → declared ∷ others ≡ shared (declared ∷ []) rules → places ≡ places_of (declared ∷ []) rules → root_of nodes ≡ lay declared asks → StandsFor nodes declared rules
+kept_stand nodes declared rules others places asks c is same at laid =
+    shared_stands nodes declared rules c (laid ∙ ap (lay declared) (shared_are declared rules others places asks is same at))
+
+pub kept_types : (declared : AbstractType) (rules others : List AbstractType) (places : List ℕ) → declared ∷ others ≡ shared (declared ∷ []) rules → places ≡ places_of (declared ∷ []) rules → types_at declared others places ≡ rules
+kept_types declared rules others places same at =
+    ap (λ (ts : List AbstractType). map (λ place. unwrap_or (slice_get ts place) declared) places) same
+    ∙ ap (λ (ps : List ℕ). map (λ place. unwrap_or (slice_get (shared (declared ∷ []) rules) place) declared) ps) at
+    ∙ told_types (shared (declared ∷ []) rules) declared (places_of (declared ∷ []) rules) rules (are_at rules (declared ∷ []))
 
 pub few_rules : (declared : AbstractType) (rules : List AbstractType) → AreConsistent declared rules → length rules ≤ most_rules
 few_rules declared rules c = leb-true (length rules) most_rules (goes declared rules c.faultless).few
 
-pub rule_sound : (rules : List Ty) (place : ℕ) (r : Option (Bor Ty)) → All (λ t. IsTrue (is_sound t)) (map type_view rules) → is_some r ≡ ltb place (length rules) → IfSome r (λ t. t.now ≡ get_or rules place t.now) → IfSome r (λ t. IsTrue (is_sound (type_view t.now)))
-rule_sound rules place None sound inside is = tt
-rule_sound rules place (Some t) sound inside is =
-    let there : slice_get rules place ≡ Some t.now = slice_get_read rules (length rules) place t.now refl (ltb-true place (length rules) (sym inside)) is in
-    let found : slice_get (map type_view rules) place ≡ Some (type_view t.now) = slice_get-map type_view rules place ∙ ap (option_map type_view) there in
-    let one = All-get_or (λ t. IsTrue (is_sound t)) (map type_view rules) place (type_view t.now) (slice_get_within (map type_view rules) place (type_view t.now) found) sound in
-    subst (λ (u : AbstractType). IsTrue (is_sound u)) (get_or_from_slice_get (map type_view rules) place (type_view t.now) (type_view t.now) found) one
+pub few_places : (declared : AbstractType) (rules : List AbstractType) (places : List ℕ) → AreConsistent declared rules → places ≡ places_of (declared ∷ []) rules → length places ≤ most_rules
+few_places declared rules places c at =
+    let n : length places ≡ length rules = ap (λ (ps : List ℕ). length ps) at ∙ as_many rules (declared ∷ []) in
+    let few = few_rules declared rules c in
+    omega (arith, n, few)
+
+-- ---- the rules of a table
+
+-- the rule that is there is sound
+pub sound_there : (d : AbstractType) (others : List AbstractType) (places : List ℕ) (place : ℕ) (r : Option (Bor ℕ)) (at : Bor ℕ) (u : AbstractType) → All (λ t. IsTrue (is_sound t)) (types_at d others places)
+    → r ≡ Some at → is_some r ≡ ltb place (length places) → IfSome r (λ p. p.now ≡ get_or places place p.now) → u ≡ type_at d others at.now → IsTrue (is_sound u)
+sound_there d others places place r at u sound is inside read same =
+    let types : List AbstractType = types_at d others places in
+    let within : place < length places = ltb-true place (length places) (sym (sym (ap is_some is) ∙ inside)) in
+    let here : at.now ≡ get_or places place at.now = subst (λ (r : Option (Bor ℕ)). IfSome r (λ p. p.now ≡ get_or places place p.now)) is read in
+    let found : slice_get types place ≡ Some (type_at d others at.now) =
+    slice_get-map (type_at d others) places place ∙ ap (option_map (type_at d others)) (slice_get_read places (length places) place at.now refl within here) in
+    let one = All-get_or (λ t. IsTrue (is_sound t)) types place u (slice_get_within types place (type_at d others at.now) found) sound in
+    subst (λ (t : AbstractType). IsTrue (is_sound t)) (get_or_from_slice_get types place (type_at d others at.now) u found ∙ sym same) one
+
+-- and where there is no place there is no rule
+pub rule_nowhere : (d : AbstractType) (others : List AbstractType) (places : List ℕ) (place : ℕ) (r : Option (Bor ℕ)) → r ≡ None → is_some r ≡ ltb place (length places) → None ≡ slice_get (types_at d others places) place
+rule_nowhere d others places place r is inside =
+    let past : length places ≤ place = ltb-false place (length places) (sym (sym (ap is_some is) ∙ inside)) in
+    sym (slice_get_past (types_at d others places) place (omega (arith, past, length-map places (type_at d others))))
+
+pub type_there : (d : AbstractType) (others : List Ty) (at : ℕ) (t : Bor Ty) (r : Option (Bor Ty)) → (at ≡ 0 → ⊥) → r ≡ Some t → is_some r ≡ ltb (at - 1) (length others) → IfSome r (λ t. t.now ≡ get_or others (at - 1) t.now)
+    → type_view t.now ≡ type_at d (map type_view others) at
+type_there d others zero t r other is inside read = absurd (other refl)
+type_there d others (suc p) t r other is inside read =
+    let back : suc p - 1 ≡ p = omega arith in
+    let within : p < length others = ltb-true p (length others) (sym (sym (ap is_some is) ∙ inside ∙ ap (λ (n : ℕ). ltb n (length others)) back)) in
+    let same : t.now ≡ get_or others p t.now = subst (λ (n : ℕ). t.now ≡ get_or others n t.now) back (subst (λ (r : Option (Bor Ty)). IfSome r (λ t. t.now ≡ get_or others (suc p - 1) t.now)) is read) in
+    let there : slice_get others p ≡ Some t.now = slice_get_read others (length others) p t.now refl within same in
+    sym (ap (λ (o : Option AbstractType). unwrap_or o d) (slice_get-map type_view others p ∙ ap (option_map type_view) there))
+
+pub type_nowhere : (d : AbstractType) (others : List Ty) (at : ℕ) (r : Option (Bor Ty)) → (at ≡ 0 → ⊥) → r ≡ None → is_some r ≡ ltb (at - 1) (length others) → d ≡ type_at d (map type_view others) at
+type_nowhere d others zero r other is inside = absurd (other refl)
+type_nowhere d others (suc p) r other is inside =
+    let back : suc p - 1 ≡ p = omega arith in
+    let past : length others ≤ p = ltb-false p (length others) (sym (sym (ap is_some is) ∙ inside ∙ ap (λ (n : ℕ). ltb n (length others)) back)) in
+    sym (ap (λ (o : Option AbstractType). unwrap_or o d) (slice_get_past (map type_view others) p (omega (arith, past, length-map others type_view))))
+
+-- the same of types that are copies of these
+pub copied : (declared copy : AbstractType) (rules others copies : List AbstractType) (places : List ℕ) → copy ≡ declared → copies ≡ others → types_at declared others places ≡ rules
+    → AreConsistent declared rules → AreConsistent copy (types_at copy copies places)
+copied declared copy rules others copies places same all told c =
+    let e : types_at copy copies places ≡ rules = ap (λ (t : AbstractType). types_at t copies places) same ∙ ap (λ (ts : List AbstractType). types_at declared ts places) all ∙ told in
+    subst (λ (t : AbstractType). AreConsistent t (types_at copy copies places)) (sym same) (subst (λ (ts : List AbstractType). AreConsistent declared ts) (sym e) c)
+
+pub copied_stands : (nodes : Nodes) (declared copy : AbstractType) (rules others copies : List AbstractType) (places : List ℕ) → copy ≡ declared → copies ≡ others → types_at declared others places ≡ rules
+    → StandsFor nodes declared rules → StandsFor nodes copy (types_at copy copies places)
+copied_stands nodes declared copy rules others copies places same all told s =
+    let e : types_at copy copies places ≡ rules = ap (λ (t : AbstractType). types_at t copies places) same ∙ ap (λ (ts : List AbstractType). types_at declared ts places) all ∙ told in
+    subst (λ (t : AbstractType). StandsFor nodes t (types_at copy copies places)) (sym same) (subst (λ (ts : List AbstractType). StandsFor nodes declared ts) (sym e) s)

@@ -1,6 +1,6 @@
 -- What is read from octets, of a proper kind whose tags don't clash, fits and has these octets as its encoding.
 use Rattle.std.proofs.Common.{◌≡◌, ℕ, ◌+◌, ◌<◌, ◌^◌, true, List, ◌∷◌, [], length, Option, Some, None, Ok, arith}
-use Rattle.std.specs.Prelude.{◌&&◌, nat_le, IsTrue}
+use Rattle.std.specs.Prelude.{nat_le, IsTrue}
 use Rattle.std.specs.List.{AllByRecursion}
 use Rattle.std.proofs.lemmas.Bool.{and_parts, leb-true}
 use Rattle.guard_model.specs.declared.tag.Tag.{Tag}

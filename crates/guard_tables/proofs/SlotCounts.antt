@@ -20,7 +20,7 @@ at_least_either false x y least p q = q
 
 -- ---- at most so many
 
-kind_counts : (kind : AbstractKind) → of_kind kind [] ≡ 1
+pub kind_counts : (kind : AbstractKind) → of_kind kind [] ≡ 1
 kind_counts type.boolean = refl
 kind_counts (type.integer names) = refl
 kind_counts (type.bit_string names) = refl

@@ -1,5 +1,5 @@
 -- Laws that functions with no body carry.
-use Rattle.std.specs.Prelude.{ℕ, zero, suc, ⊤, ◌+◌, ◌^◌, ◌<◌, ◌≤◌, ◌≡◌, Bool, true, false, length, Some, None, Ok, not, ◌&&◌, ◌||◌, List, [], ◌∷◌, nat_eq, nat_lt, IsTrue}
+use Rattle.std.specs.Prelude.{ℕ, zero, suc, ⊤, ◌+◌, ◌<◌, ◌≤◌, ◌≡◌, Bool, false, not, ◌&&◌, ◌||◌, List, [], ◌∷◌, nat_eq, nat_lt, IsTrue}
 use Rattle.guard_model.specs.AbstractType.{AbstractType, AbstractKind}
 use Rattle.guard_model.specs.AbstractValue.{AbstractValue}
 use Rattle.guard_model.specs.Kinds.{kind_of}

@@ -21,6 +21,7 @@ pub mod TableNodes
 pub mod NodesView
 -- ---- why there is no table, and what a table is
 pub mod Tables
+pub mod SharedTypes
 pub mod TableView
 pub mod Alike
 -- ---- what plans of tables fail

@@ -6,6 +6,7 @@ pub mod Pieces
 pub mod NumberSets
 pub mod Scalars
 pub mod Counting
+pub mod HandingDown
 pub mod Search
 pub mod SideViews
 pub mod SlotWords
@@ -13,3 +14,6 @@ pub mod Intervals
 pub mod Aside
 pub mod Bare
 pub mod Laid
+pub mod Giving
+pub mod SameParts
+pub mod Sharing

@@ -7,7 +7,7 @@ ghost use Rattle.guard_tables.specs.Plan as plans;
 ghost use Rattle.guard_tables.specs.Slots.{none};
 ghost use Rattle.guard_tables.specs.TableNodes.{Spot, spot_of, own_tags, parts_between, IsNode};
 ghost use Rattle.guard_tables.specs.inside.Bare.{bare_hot, plain_hot, IsBare, kind_of_group, kind_of_elements, slots_of};
-ghost use Rattle.guard_tables.specs.inside.Laid.{body_of_group};
+ghost use Rattle.guard_tables.specs.inside.Laid.{body_of_group, is_exclusive};
 ghost use Rattle.guard_tables.specs.inside.SideViews.{part_side_view};
 
 use crate::identifiers::{Identifiers, identifiers_of};
@@ -48,6 +48,17 @@ impl Group {
             Group::Series => Kind::Series,
             Group::Set => Kind::Set,
             Group::Choice => Kind::Choice,
+        }
+    }
+
+    /// Whether only one of its parts is there.
+    pub(crate) fn is_exclusive(self) -> bool
+        ensures { result ≡ is_exclusive self }
+    {
+        match self {
+            Group::Series => false,
+            Group::Set => false,
+            Group::Choice => true,
         }
     }
 }

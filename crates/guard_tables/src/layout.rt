@@ -26,6 +26,7 @@ use crate::assembly::{
 use crate::conditions_at_node::conditions_of;
 use crate::drafts::{Elements, Group, simple_node};
 use crate::gathering::{each_of, within_of};
+use crate::giving::give_out;
 use crate::kinds_of_nodes::{item_numbers, simple_kind};
 use crate::laid::{Laid, LaidParts};
 use crate::node::Condition;
@@ -217,13 +218,14 @@ fn lay_each(
         builder,
         nodes: Vec::new(alloc),
     };
+    let given = give_out(alloc, group.is_exclusive(), terms, comps.len())?;
     for (place, comp) in comps.iter().enumerate() {
-        parts = lay_part(comp, alloc, group, place, terms, parts)?;
+        parts = lay_part(comp, alloc, group, place, &given[place], parts)?;
     }
     Ok(parts)
 }
 
-/// With one component or alternative more.
+/// With one component or alternative more, of which these tests speak.
 #[cycle(layout)]
 fn lay_part(
     comp: &Comp,
@@ -236,7 +238,9 @@ fn lay_part(
     requires nodes { MayCome parts }
     requires laid { MayBeLaid (component_view comp.now).ty (within_of place (terms_view terms.now)) }
     requires proper { IsTrue (is_proper_presence (component_view comp.now).ty (component_view comp.now).presence) }
-    ensures { IfOk result (λ l. Extends parts l group place (component_view comp.now) (terms_view terms.now)) }
+    ensures { IfOk result (λ l. Extends parts l
+        (side_of_part group place (component_view comp.now) (terms_view terms.now) (plan.lay (component_view comp.now).ty (within_of place (terms_view terms.now))))
+        (plan.lay (component_view comp.now).ty (within_of place (terms_view terms.now)))) }
 {
     let asks = within_of(alloc, place, terms)?;
     let side = side_of(comp, alloc, group, place, terms, &asks)?;

@@ -5,7 +5,8 @@
 //! | What is a table, and which types make one? | `table.rt` (`Table::compile`) | `specs/TableView.antt`, `specs/Tables.antt` |
 //! | Why do types make none, and which reason comes first? | `fault.rt` | `specs/Tables.antt` |
 //! | What is asked of a value at a node, and how much is too much? | `conditions.rt` | `specs/Conditions.antt`, as it is counted `specs/inside/Counting.antt` |
-//! | At which nodes is that looked at? | `nodes.rt` | `specs/Conditions.antt` |
+//! | At which nodes is that looked at, and what is laid on parts? | `nodes.rt`, `handing_down.rt` | `specs/Conditions.antt`, as it is looked for `specs/inside/Search.antt`, `specs/inside/HandingDown.antt` |
+//! | Which types does a table keep once, and what do they ask together? | `sharing.rt`, `same_types.rt` | `specs/SharedTypes.antt`, `specs/inside/Sharing.antt`, `specs/inside/SameParts.antt` |
 //! | Which slots have failed? | `slots.rt` | `specs/Slots.antt` |
 //! | How are the nodes of a table put together? | `layout.rt` (`lay_nodes`), a node `drafts.rt`, `kinds_of_nodes.rt`, `identifiers.rt`, steps `assembly.rt`, `laid.rt` | `specs/Lay.antt`, `specs/inside/Laid.antt`, `specs/inside/Bare.antt`, `specs/inside/Aside.antt` |
 //! | Which tests has a node, and what is said of a component beside its type? | `conditions_at_node.rt`, `sides.rt`, octets `encoded.rt` | `specs/Lay.antt`, `specs/inside/SideViews.antt` |
@@ -15,7 +16,7 @@
 //! | Which nodes are there, and what keeps them in order? | `node.rt`, `node_list.rt` | `specs/NodeViews.antt`, `specs/TableNodes.antt`, `specs/NodesView.antt` |
 //! | How is what types and constraints ask tested at one node? | `slots.rt` | `specs/Demands.antt`, `specs/Spread.antt`, `specs/Forms.antt` |
 //! | Which plan asks all of it, and how many slots does a node need? | laws in `laws.rt` | `specs/Lay.antt`, `specs/Handed.antt`, `specs/Laws.antt` |
-//! | What is asked at a node, in code? | `asks.rt`; as tests `spreading.rt`, `parts.rt`, as formulas `form_terms.rt`, `asks_at_node.rt`, of parts `gathering.rt`, `presence.rt` | `specs/inside/AskViews.antt`, as it is put together `specs/inside/OnePart.antt`, `specs/inside/FormSteps.antt` |
+//! | What is asked at a node, in code? | `asks.rt`; as tests `spreading.rt`, `parts.rt`, as formulas `form_terms.rt`, `asks_at_node.rt`, of parts `giving.rt`, `gathering.rt`, `presence.rt` | `specs/inside/AskViews.antt`, as it is put together `specs/inside/OnePart.antt`, `specs/inside/FormSteps.antt` |
 //! | Which numbers, sizes and scalar values does a constraint have, as one set? | `number_sets.rt`, `range_lists.rt`, `simple_tests.rt`, `scalars.rt` | `specs/inside/NumberSets.antt`, `specs/inside/Pieces.antt`, `specs/inside/Scalars.antt` |
 #![tactic(auto)]
 
@@ -30,6 +31,8 @@ mod fault;
 mod form_terms;
 mod form_trees;
 mod gathering;
+mod giving;
+mod handing_down;
 mod identifiers;
 mod kinds_of_nodes;
 mod laid;
@@ -45,7 +48,9 @@ mod plain;
 mod plain_interval;
 mod presence;
 mod range_lists;
+mod same_types;
 mod scalars;
+mod sharing;
 mod sides;
 mod simple_tests;
 mod slots;

@@ -1,12 +1,16 @@
-//! Whether some node of the declared type has too many conditions. The nodes are looked at one after another; a way leads to the one that is
-//! looked at, and is the same behind each call as before it.
-ghost use Rattle.std.specs.Prelude.{◌≡◌, ◌∷◌, ◌++◌, [], map, IfOk, OnOk};
+//! Whether some node of the declared type has too many conditions. The nodes are looked at one after another, each with
+//! what lays conditions on it; so each condition is looked at once, at its own node.
+ghost use Rattle.std.specs.Prelude.{◌≡◌, ◌∷◌, map, IfOk};
+ghost use Rattle.std.specs.List.{list_any};
 ghost use Rattle.guard_model.specs.TypeView.{type_view, kind_view, component_view, components_of};
 ghost use Rattle.guard_tables.specs.Tables.{types_view};
 ghost use Rattle.guard_tables.specs.Conditions.{has_crowded_node};
-ghost use Rattle.guard_tables.specs.inside.Search.{crowded_from, crowded_inside, crowded_among};
+ghost use Rattle.guard_tables.specs.inside.Counting.{by_types, sources_view};
+ghost use Rattle.guard_tables.specs.inside.HandingDown.{handed_view};
+ghost use Rattle.guard_tables.specs.inside.Search.{crowded_from, crowded_inside, crowded_among, crowded_in_parts, crowded_in_each};
 
-use crate::conditions::is_crowded;
+use crate::conditions::{Source, is_crowded};
+use crate::handing_down::hand_down;
 use guard_model::{Comp, Kind, OutOfMemory, Ty};
 use std::alloc::Global;
 
@@ -16,82 +20,121 @@ pub(crate) fn has_crowded_node(
     declared: &Ty,
     rules: &[&Ty],
 ) -> Result<bool, OutOfMemory>
-    ensures { IfOk result (λ found. found ≡ has_crowded_node (type_view declared.now ∷ types_view rules.now) (type_view declared.now)) }
+    ensures { IfOk result (λ found. found
+        ≡ has_crowded_node (type_view declared.now ∷ types_view rules.now) (type_view declared.now)) }
 {
-    let mut way = Vec::new(alloc);
-    is_crowded_from(declared, declared, rules, &mut way)
+    let sources = sources_of(alloc, declared, rules)?;
+    is_crowded_from(declared, alloc, &sources)
 }
 
-/// Whether this is so from the type on to which the way leads.
-#[cycle(nodes)]
-fn is_crowded_from(
-    ty: &Ty,
-    declared: &Ty,
-    rules: &[&Ty],
-    way: &mut Vec<usize>,
-) -> Result<bool, OutOfMemory>
-    ensures found { IfOk result (λ found. found ≡ crowded_from (type_view declared.now ∷ types_view rules.now) way.old.items (type_view ty.now)) }
-    ensures same { OnOk result (way.new.items ≡ way.old.items) }
+fn sources_of<'a>(
+    alloc: Global,
+    declared: &'a Ty,
+    rules: &[&'a Ty],
+) -> Result<Vec<Source<'a>>, OutOfMemory>
+    ensures { IfOk result (λ s. sources_view s.items ≡ by_types (type_view declared.now ∷ types_view rules.now)) }
 {
-    if is_crowded(declared, rules, way.as_slice()) {
+    let mut sources = Vec::new(alloc);
+    sources.push(Source::Type(declared))?;
+    for rule in rules {
+        sources.push(Source::Type(rule))?;
+    }
+    Ok(sources)
+}
+
+/// Whether this is so from the type on, whose conditions these lay.
+#[cycle(nodes)]
+fn is_crowded_from(ty: &Ty, alloc: Global, sources: &[Source<'_>]) -> Result<bool, OutOfMemory>
+    ensures { IfOk result (λ found. found ≡ crowded_from (sources_view sources.now) (type_view ty.now)) }
+{
+    if is_crowded(sources) {
         return Ok(true);
     }
-    is_crowded_inside(&ty.kind, declared, rules, way)
+    is_crowded_inside(&ty.kind, alloc, sources)
 }
 
 #[cycle(nodes)]
 fn is_crowded_inside(
     kind: &Kind,
-    declared: &Ty,
-    rules: &[&Ty],
-    way: &mut Vec<usize>,
+    alloc: Global,
+    sources: &[Source<'_>],
 ) -> Result<bool, OutOfMemory>
-    ensures found { IfOk result (λ found. found ≡ crowded_inside (type_view declared.now ∷ types_view rules.now) way.old.items (kind_view kind.now)) }
-    ensures same { OnOk result (way.new.items ≡ way.old.items) }
+    ensures { IfOk result (λ found. found ≡ crowded_inside (sources_view sources.now) (kind_view kind.now)) }
 {
     match kind {
         Kind::Sequence(comps) | Kind::Set(comps) | Kind::Choice(comps) => {
-            is_crowded_among(comps, declared, rules, way)
+            is_crowded_in_parts(comps, alloc, sources)
         }
         Kind::SequenceOf(element) | Kind::SetOf(element) => {
-            is_crowded_at(element, 0, declared, rules, way)
+            is_crowded_in_each(element, alloc, sources)
         }
         _ => Ok(false),
     }
 }
 
 #[cycle(nodes)]
+fn is_crowded_in_parts(
+    comps: &[Comp],
+    alloc: Global,
+    sources: &[Source<'_>],
+) -> Result<bool, OutOfMemory>
+    ensures { IfOk result (λ found. found
+        ≡ crowded_in_parts (sources_view sources.now) (components_of (map component_view comps.now))) }
+{
+    let handed = hand_down(alloc, sources, comps.len())?;
+    is_crowded_among(comps, alloc, &handed)
+}
+
+/// Each component with what is handed down to it.
+#[tactic(auto, using(crate::proofs::HandedDown::nothing_left))]
+#[cycle(nodes)]
 fn is_crowded_among(
     comps: &[Comp],
-    declared: &Ty,
-    rules: &[&Ty],
-    way: &mut Vec<usize>,
+    alloc: Global,
+    handed: &[Vec<Source<'_>>],
 ) -> Result<bool, OutOfMemory>
-    ensures found { IfOk result (λ found. found ≡ crowded_among (type_view declared.now ∷ types_view rules.now) way.old.items 0 (components_of (map component_view comps.now))) }
-    ensures same { OnOk result (way.new.items ≡ way.old.items) }
+    ensures { IfOk result (λ found. found
+        ≡ crowded_among (handed_view handed.now) (components_of (map component_view comps.now))) }
 {
-    for (place, comp) in comps.iter().enumerate() {
-        if is_crowded_at(&comp.ty, place, declared, rules, way)? {
+    let mut lists = handed;
+    for comp in comps {
+        let [own, others @ ..] = lists else {
+            return Ok(false);
+        };
+        if is_crowded_from(&comp.ty, alloc, own)? {
             return Ok(true);
         }
+        lists = others;
     }
     Ok(false)
 }
 
-/// As `is_crowded_from`, of the part at this place of the node that the way leads to.
 #[cycle(nodes)]
-fn is_crowded_at(
-    ty: &Ty,
-    place: usize,
-    declared: &Ty,
-    rules: &[&Ty],
-    way: &mut Vec<usize>,
+fn is_crowded_in_each(
+    element: &Ty,
+    alloc: Global,
+    sources: &[Source<'_>],
 ) -> Result<bool, OutOfMemory>
-    ensures found { IfOk result (λ found. found ≡ crowded_from (type_view declared.now ∷ types_view rules.now) (way.old.items ++ place ∷ []) (type_view ty.now)) }
-    ensures same { OnOk result (way.new.items ≡ way.old.items) }
+    ensures { IfOk result (λ found. found ≡ crowded_in_each (sources_view sources.now) (type_view element.now)) }
 {
-    way.push(place)?;
-    let found = is_crowded_from(ty, declared, rules, way)?;
-    way.pop();
-    Ok(found)
+    let handed = hand_down(alloc, sources, 1)?;
+    is_crowded_with(element, alloc, &handed)
+}
+
+/// All elements with what is handed down to them.
+#[cycle(nodes)]
+fn is_crowded_with(
+    element: &Ty,
+    alloc: Global,
+    handed: &[Vec<Source<'_>>],
+) -> Result<bool, OutOfMemory>
+    ensures { IfOk result (λ found. found
+        ≡ list_any (λ own. crowded_from own (type_view element.now)) (handed_view handed.now)) }
+{
+    for own in handed {
+        if is_crowded_from(element, alloc, own)? {
+            return Ok(true);
+        }
+    }
+    Ok(false)
 }

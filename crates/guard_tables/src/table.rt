@@ -1,36 +1,45 @@
 //! Tables.
-ghost use Rattle.std.specs.Prelude.{◌≡◌, ◌≤◌, ◌&&◌, [], ◌∷◌, None, Some, All, length, map, slice_get, option_map, IsTrue, IfOk, OnOk, IfErr, IfSome};
+ghost use Rattle.std.specs.Prelude.{◌≡◌, ◌≤◌, ◌&&◌, ◌∷◌, None, Some, All, length, map, slice_get, option_map, IsTrue, IfOk, OnOk, IfErr, IfSome};
 ghost use Rattle.std.specs.Cmp.Lexicographic.{pointwise};
 ghost use Rattle.guard_model.specs.TypeView.{type_view};
 ghost use Rattle.guard_model.specs.Tags.{same_tag};
 ghost use Rattle.guard_der.specs.Sound.{is_sound};
 ghost use Rattle.guard_tables.specs.Alike.{AreConsistent};
-ghost use Rattle.guard_tables.specs.Handed.{asks_from};
+ghost use Rattle.guard_tables.specs.SharedTypes.{type_at, types_at};
 ghost use Rattle.guard_tables.specs.StandsFor.{StandsFor};
 ghost use Rattle.guard_tables.specs.Tables.{types_view, is_match, first_mismatch, first_fault, named, most_rules};
-ghost use Rattle.guard_tables.specs.inside.AskViews.{asks_view};
 
-use crate::asks::{Ask, Demand};
 use crate::fault::TableFault;
 use crate::layout::lay_nodes;
 use crate::node_list::Nodes;
 use crate::nodes::has_crowded_node;
-use crate::slots::Slots;
+use crate::sharing::{asks_of, share};
 use guard_model::{OutOfMemory, Tag, Ty};
 use std::alloc::Global;
 
 /// How many rules a message may have.
 const MOST_RULES: usize = 255;
 
-/// The types by which messages of one name are judged: the declared one, and one for each rule. Its nodes ask all of them at once, the
-/// declared type with slot 0 and rule i with slot i + 1.
+/// The types by which messages of one name are judged: the declared one, and one for each rule. Its nodes ask all of them
+/// at once, the declared type with slot 0 and rule i with slot i + 1. A type is kept once, however many rules have it.
 #[derive(Drop)]
 pub struct Table {
     declared: Ty,
-    rules: Vec<Ty>,
+    /// The types of rules that aren't the declared one, each once.
+    others: Vec<Ty>,
+    /// Of each rule the place of its type: 0 is the declared one's, and i + 1 that of the other at i.
+    places: Vec<usize>,
     pub nodes: Nodes,
-    pub ghost consistent: { AreConsistent (type_view declared) (map type_view rules.items) },
-    pub ghost stands: { ∥ StandsFor nodes (type_view declared) (map type_view rules.items) ∥₁ },
+    pub ghost consistent: { AreConsistent (type_view declared) (types_at (type_view declared) (map type_view others.items) places.items) },
+    pub ghost stands: { ∥ StandsFor nodes (type_view declared) (types_at (type_view declared) (map type_view others.items) places.items) ∥₁ },
+}
+
+/// The nodes of types, with these each once.
+#[derive(Drop)]
+struct Compiled<'a> {
+    others: Vec<&'a Ty>,
+    places: Vec<usize>,
+    nodes: Nodes,
 }
 
 impl Table {
@@ -55,11 +64,12 @@ impl Table {
         ensures refused { IfErr result (λ f. IfSome (named f) (λ fault. first_fault (type_view declared.now) (types_view rules.now) ≡ Some fault)) }
     {
         find_fault(alloc, declared, rules)?;
-        let nodes = nodes_of(alloc, declared, rules)?;
+        let compiled = nodes_of(alloc, declared, rules)?;
         Ok(Table {
             declared: declared.copy(alloc)?,
-            rules: copy_of_types(alloc, rules)?,
-            nodes,
+            others: copy_of_types(alloc, &compiled.others)?,
+            places: compiled.places,
+            nodes: compiled.nodes,
         })
     }
 
@@ -76,7 +86,22 @@ impl Table {
         ensures rule { option_map (λ t. type_view t.now) result ≡ slice_get (rules_of self.now) place }
         ensures sound { IfSome result (λ t. IsTrue (is_sound (type_view t.now))) }
     {
-        self.rules.get(place)
+        match self.places.get(place) {
+            Some(at) => Some(self.type_at(*at)),
+            None => None,
+        }
+    }
+
+    fn type_at(&self, at: usize) -> &Ty
+        ensures { type_view result.now ≡ type_at (type_view self.now.declared) (map type_view self.now.others.items) at }
+    {
+        if at == 0 {
+            return &self.declared;
+        }
+        match self.others.get(at - 1) {
+            Some(ty) => ty,
+            None => &self.declared,
+        }
     }
 
     /// How many rules there are, at most 255.
@@ -84,43 +109,28 @@ impl Table {
         ensures rules { result ≡ length (rules_of self.now) }
         ensures few { result ≤ most_rules }
     {
-        self.rules.len()
+        self.places.len()
     }
 }
 
 /// The nodes that ask all that these types ask.
-fn nodes_of(alloc: Global, declared: &Ty, rules: &[&Ty]) -> Result<Nodes, OutOfMemory>
-    requires { AreConsistent (type_view declared.now) (types_view rules.now) }
-    ensures { IfOk result (λ nodes. StandsFor nodes (type_view declared.now) (types_view rules.now)) }
-{
-    let asks = asks_of(alloc, declared, rules)?;
-    lay_nodes(alloc, declared, &asks)
-}
-
-/// What these types ask: membership in each of them, with slots in their order.
-fn asks_of<'a>(
+fn nodes_of<'a>(
     alloc: Global,
     declared: &'a Ty,
     rules: &[&'a Ty],
-) -> Result<Vec<Ask<'a>>, OutOfMemory>
-    requires { length rules.now ≤ most_rules }
-    ensures { IfOk result (λ asks. asks_view asks.items ≡ asks_from 0 (type_view declared.now ∷ types_view rules.now)) }
+) -> Result<Compiled<'a>, OutOfMemory>
+    requires { AreConsistent (type_view declared.now) (types_view rules.now) }
+    ensures stands { IfOk result (λ c. StandsFor c.nodes (type_view declared.now) (types_view rules.now)) }
+    ensures types { IfOk result (λ c. types_at (type_view declared.now) (types_view c.others.items) c.places.items ≡ types_view rules.now) }
 {
-    let mut asks = Vec::with_capacity(alloc, rules.len() + 1)?;
-    asks.push(membership(0, declared))?;
-    for (place, rule) in rules.iter().enumerate() {
-        asks.push(membership(place as u8 + 1, rule))?;
-    }
-    Ok(asks)
-}
-
-fn membership(slot: u8, ty: &Ty) -> Ask<'_>
-    ensures { asks_view (result ∷ []) ≡ asks_from slot (type_view ty.now ∷ []) }
-{
-    Ask {
-        slots: Slots::only(slot),
-        demand: Demand::Type(ty),
-    }
+    let sharing = share(alloc, declared, rules)?;
+    let asks = asks_of(alloc, declared, &sharing.others, &sharing.places)?;
+    let nodes = lay_nodes(alloc, declared, &asks)?;
+    Ok(Compiled {
+        others: sharing.others,
+        places: sharing.places,
+        nodes,
+    })
 }
 
 /// Answers the first fault of the types, if they have one.

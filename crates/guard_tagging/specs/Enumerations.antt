@@ -15,12 +15,15 @@ abbrev pub written_numbers : List WrittenItem → List ℤ
 written_numbers [] = []
 written_numbers (i ∷ items) = written_number i.number ++ written_numbers items
 
--- the first number from `n` on that isn't written; where no more numbers are written than there are tries, one more finds it
+-- the first number from `n` on that isn't written; where no more numbers are written than there are tries, one more
+-- finds it
 abbrev pub free_from : List ℤ → ℕ → ℕ → ℕ
 free_from written zero n = n
-free_from written (suc tries) n = elim (list_any (int_eq (pos n)) written) [ true ↦ free_from written tries (suc n) | false ↦ n ]
+free_from written (suc tries) n =
+    elim (list_any (int_eq (pos n)) written) [ true ↦ free_from written tries (suc n) | false ↦ n ]
 
--- An item with a number has that one. The others get 0, 1 and so on in their order, but no number that is written (20.3).
+-- An item with a number has that one. The others get 0, 1 and so on in their order, but no number that is written
+-- (20.3).
 abbrev pub given_number : List ℤ → ℕ → ℕ → Option WrittenNumber → ℤ
 given_number written tries next (Some n) = number_of n
 given_number written tries next None = pos (free_from written tries next)
@@ -33,7 +36,8 @@ next_number written tries next None = suc (free_from written tries next)
 abbrev pub numbered_from : List ℤ → ℕ → ℕ → List WrittenItem → List NamedNumber
 numbered_from written tries next [] = []
 numbered_from written tries next (i ∷ items) =
-    record { name = i.name; number = given_number written tries next i.number } ∷ numbered_from written tries (next_number written tries next i.number) items
+    record { name = i.name; number = given_number written tries next i.number }
+    ∷ numbered_from written tries (next_number written tries next i.number) items
 
 abbrev pub numbered : List WrittenItem → List NamedNumber
 numbered items = numbered_from (written_numbers items) (length items) 0 items
@@ -45,17 +49,19 @@ is_among taken number = list_any (int_eq number) taken
 
 -- it isn't negative, it isn't taken, and each number from 0 up to it is
 abbrev pub IsLeastFree : List ℤ → ℤ → Type 0
-IsLeastFree taken number = (n : ℕ) × (number ≡ pos n) × (is_among taken (pos n) ≡ false) × ((m : ℕ) → m < n → is_among taken (pos m) ≡ true)
+IsLeastFree taken number =
+    (n : ℕ) × (number ≡ pos n) × (is_among taken (pos n) ≡ false) × ((m : ℕ) → m < n → is_among taken (pos m) ≡ true)
 
 abbrev pub HasNumber : List ℤ → Option WrittenNumber → ℤ → Type 0
 HasNumber taken (Some n) number = number ≡ number_of n
 HasNumber taken None number = IsLeastFree taken number
 
--- Each item has its name, and the number that is written with it, else the least that is free. Taken are the numbers that are written with any item, and those
--- of the items before.
+-- Each item has its name, and the number that is written with it, else the least that is free. Taken are the numbers
+-- that are written with any item, and those of the items before.
 abbrev pub AreNumbered : List ℤ → List WrittenItem → List NamedNumber → Type 0
 AreNumbered taken [] [] = Unit {0}
-AreNumbered taken (i ∷ items) (n ∷ ns) = (n.name ≡ i.name) × (HasNumber taken i.number n.number × AreNumbered (n.number ∷ taken) items ns)
+AreNumbered taken (i ∷ items) (n ∷ ns) =
+    (n.name ≡ i.name) × (HasNumber taken i.number n.number × AreNumbered (n.number ∷ taken) items ns)
 AreNumbered taken _ _ = ⊥
 
 -- ---- named numbers and named bits

@@ -1,5 +1,5 @@
--- What is wrong with a written type. Its parts come before the whole, in written order; of several faults at one place the first is named, in the
--- order of their numbers.
+-- What is wrong with a written type. Its parts come before the whole, in written order; of several faults at one place
+-- the first is named, in the order of their numbers.
 use Rattle.std.specs.Prelude.{ℕ, suc, ◌+◌, Bool, true, false, not, ◌&&◌, ◌||◌, List, [], ◌∷◌, ◌++◌, map, Option, Some, None, nat_lt, nat_le, nat_eq, ℤ, pos, negsuc, option_map, bytes_eq, if◌then◌else◌}
 use Rattle.std.specs.List.{list_any}
 use Rattle.std.specs.Option.{option_or}
@@ -81,7 +81,7 @@ abbrev pub is_implicit : Option TagMode → Bool
 is_implicit (Some mode.Implicit) = true
 is_implicit _ = false
 
--- IMPLICIT on a CHOICE that has no tag (31.2.9). A tag that stands before another one is on a type that has a tag.
+-- IMPLICIT on a CHOICE that has no tag (31.2.9). A tag before another one is on a type that has a tag.
 abbrev pub implicit_choice : AbstractType → List WrittenTag → Option TagFault
 implicit_choice t [] = None
 implicit_choice t (w ∷ []) = fault_where (is_implicit w.mode && is_untagged_choice t) (ImplicitChoice w.site)
@@ -89,7 +89,8 @@ implicit_choice t (w ∷ v ∷ ws) = implicit_choice t (v ∷ ws)
 
 abbrev pub tag_too_large : List WrittenTag → Option TagFault
 tag_too_large [] = None
-tag_too_large (w ∷ ws) = option_or (fault_where (nat_lt greatest_tag_number (number_value w.number)) (TagTooLarge w.site)) (tag_too_large ws)
+tag_too_large (w ∷ ws) =
+    option_or (fault_where (nat_lt greatest_tag_number (number_value w.number)) (TagTooLarge w.site)) (tag_too_large ws)
 
 -- ---- COMPONENTS OF
 
@@ -126,7 +127,8 @@ first_taking wrong no_components = None
 first_taking wrong (component site name t presence cs) = first_taking wrong cs
 first_taking wrong (components_from site t cs) = if wrong t then Some site else first_taking wrong cs
 
--- What COMPONENTS OF may not take in is a fault of the list in which it stands. The number of the fault counts first, then which entry it is.
+-- What COMPONENTS OF may not take in is a fault of the list that it is an entry of. The number of the fault counts
+-- first, then which entry it is.
 abbrev pub taken_fault : Surroundings → Collection → Bool → WrittenComponents → Option TagFault
 taken_fault around kind automatic cs =
     first_of (option_map (λ site. ComponentsOfKind site) (first_taking (takes_other_kind around kind) cs)
@@ -135,11 +137,12 @@ taken_fault around kind automatic cs =
 
 -- whether it takes in what it may not
 abbrev pub takes_wrongly : Surroundings → Collection → Bool → WrittenType → Bool
-takes_wrongly around kind automatic t = takes_other_kind around kind t || (takes_automatic around automatic t || takes_tagged around t)
+takes_wrongly around kind automatic t =
+    takes_other_kind around kind t || (takes_automatic around automatic t || takes_tagged around t)
 
 -- ---- names and numbers
 
--- a name and its number, where it has one, and where it stands
+-- a name with its site, and its number where it has one
 pub record Placed : Type 0 where
   pub site : Site
   pub name : List ℕ
@@ -165,7 +168,8 @@ placed_at site (type.component name t presence cs) = record { site = site; name 
 abbrev pub component_names : Surroundings → WrittenComponents → List Placed
 component_names around no_components = []
 component_names around (component site name t presence cs) = record { site = site; name = name; number = None } ∷ component_names around cs
-component_names around (components_from site t cs) = placed_at site (parts_of (denoted around t)) ++ component_names around cs
+component_names around (components_from site t cs) =
+    placed_at site (parts_of (denoted around t)) ++ component_names around cs
 
 abbrev pub alternative_names : WrittenAlternatives → List Placed
 alternative_names no_alternatives = []
@@ -195,7 +199,8 @@ is_outside may (Some n) = not (may n)
 
 abbrev pub first_outside : (ℤ → Bool) → List Placed → Option TagFault
 first_outside may [] = None
-first_outside may (p ∷ ps) = option_or (fault_where (is_outside may p.number) (NumberTooLarge p.site)) (first_outside may ps)
+first_outside may (p ∷ ps) =
+    option_or (fault_where (is_outside may p.number) (NumberTooLarge p.site)) (first_outside may ps)
 
 abbrev pub number_too_large : List Placed → Option TagFault
 number_too_large ps = first_outside fits_128_bits ps
@@ -214,7 +219,8 @@ list_fault around site (enumerated items) = duplicate_number (map item_place ite
 list_fault around site (structure k cs) =
     option_or (taken_fault around k (is_automatic_list around.tag_default cs) cs)
     (option_or (duplicate_name (component_names around cs)) (too_many site (denoted_components around cs)))
-list_fault around site (choice others) = option_or (duplicate_name (alternative_names others)) (too_many site (denoted_alternatives around others))
+list_fault around site (choice others) =
+    option_or (duplicate_name (alternative_names others)) (too_many site (denoted_alternatives around others))
 list_fault around site (of_type k cons t) = None
 list_fault around site (named_type at name) = None
 
@@ -233,23 +239,29 @@ abbrev pub with_tag_there : Bool → AbstractType → AbstractType
 with_tag_there true t = with_automatic_tag (automatic_tag 0) t
 with_tag_there false t = t
 
--- What is wrong with the type itself, where it gets an automatic tag or none, and where there are so many types with it and what was written before it.
+-- What is wrong with the type itself, where it gets an automatic tag or none, and where there are so many types with it
+-- and what was written before it.
 abbrev pub own_fault : Surroundings → Bool → ℕ → WrittenType → Option TagFault
 own_fault around automatic count (type_node site tags base cons) =
     first_of (universal_tag tags
     ∷ implicit_choice (denoted_base around base) tags
     ∷ tag_too_large tags
     ∷ list_fault around site base
-    ∷ fault_where (nat_lt deepest_nesting (nesting (with_tag_there automatic (denoted around (type_node site tags base cons))))) (TooDeep site)
+    ∷ fault_where
+    (nat_lt deepest_nesting (nesting (with_tag_there automatic (denoted around (type_node site tags base cons)))))
+    (TooDeep site)
     ∷ fault_where (nat_lt most_nodes count) (SchemaTooLarge site)
     ∷ number_fault base ∷ [])
 
--- How many types COMPONENTS OF puts in: those inside its type, not that type itself; of a type that it may not take in it puts in none.
+-- How many types COMPONENTS OF puts in: those inside its type, not that type itself; of a type that it may not take in
+-- it puts in none.
 abbrev pub nodes_put_in : Surroundings → Collection → Bool → WrittenType → ℕ
-nodes_put_in around kind automatic t = if takes_wrongly around kind automatic t then 0 else nodes_within (denoted around t)
+nodes_put_in around kind automatic t =
+    if takes_wrongly around kind automatic t then 0 else nodes_within (denoted around t)
 
 abbrev mutual
-  -- The first fault in a type, with so many types before it and so many with it. Components and alternatives get automatic tags or none; no other types get any.
+  -- The first fault in a type, with so many types before it and so many with it. Components and alternatives get
+  -- automatic tags or none; no other types get any.
   pub fault_in : Surroundings → Bool → ℕ → ℕ → WrittenType → Option TagFault
   fault_in around automatic before count (type_node site tags base cons) =
       option_or (fault_in_parts around before base) (own_fault around automatic count (type_node site tags base cons))
@@ -259,15 +271,18 @@ abbrev mutual
   fault_in_parts around before (numbers ns) = None
   fault_in_parts around before (named_bits bs) = None
   fault_in_parts around before (enumerated items) = None
-  fault_in_parts around before (structure k cs) = fault_in_components k (is_automatic_list around.tag_default cs) around before cs
-  fault_in_parts around before (choice others) = fault_in_alternatives (is_automatic_choice around.tag_default others) around before others
+  fault_in_parts around before (structure k cs) =
+      fault_in_components k (is_automatic_list around.tag_default cs) around before cs
+  fault_in_parts around before (choice others) =
+      fault_in_alternatives (is_automatic_choice around.tag_default others) around before others
   fault_in_parts around before (of_type k cons t) = fault_in around false before (before + nodes (denoted around t)) t
   fault_in_parts around before (named_type site name) = None
 
   pub fault_in_components : Collection → Bool → Surroundings → ℕ → WrittenComponents → Option TagFault
   fault_in_components k automatic around before no_components = None
   fault_in_components k automatic around before (component site name t presence cs) =
-      option_or (fault_in around automatic before (before + nodes (denoted around t)) t) (fault_in_components k automatic around (before + nodes (denoted around t)) cs)
+      option_or (fault_in around automatic before (before + nodes (denoted around t)) t)
+      (fault_in_components k automatic around (before + nodes (denoted around t)) cs)
   fault_in_components k automatic around before (components_from site t cs) =
       option_or (fault_in around false before (before + nodes_within (denoted around t)) t)
       (fault_in_components k automatic around (before + nodes_put_in around k automatic t) cs)
@@ -275,7 +290,8 @@ abbrev mutual
   pub fault_in_alternatives : Bool → Surroundings → ℕ → WrittenAlternatives → Option TagFault
   fault_in_alternatives automatic around before no_alternatives = None
   fault_in_alternatives automatic around before (alternative site name t others) =
-      option_or (fault_in around automatic before (before + nodes (denoted around t)) t) (fault_in_alternatives automatic around (before + nodes (denoted around t)) others)
+      option_or (fault_in around automatic before (before + nodes (denoted around t)) t)
+      (fault_in_alternatives automatic around (before + nodes (denoted around t)) others)
 
 -- the first fault in the type of a definition, with so many types in the definitions before it
 abbrev pub first_fault : Surroundings → ℕ → WrittenType → Option TagFault

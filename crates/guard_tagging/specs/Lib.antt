@@ -8,6 +8,7 @@ pub mod Tagged
 -- the refusals that name a fault, and what the code reads step by step
 pub mod Named
 pub mod Surroundings
+pub mod Automatic
 pub mod ScopeView
 pub mod Spelled
 pub mod Skeletons

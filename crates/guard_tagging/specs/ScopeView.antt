@@ -1,4 +1,4 @@
--- What a scope of the code stands for.
+-- What a scope of the code says.
 use Rattle.std.specs.Prelude.{Bool, List, [], ◌∷◌, map}
 use Rattle.guard_model.specs.AbstractType.{AbstractType}
 use Rattle.guard_model.specs.TypeView.{type_view}

@@ -1,4 +1,5 @@
--- Written types whose names and numbers are tokens: names are texts, and the numbers of items, named numbers and named bits have 128 bits at most.
+-- Written types whose names and numbers are tokens: names are texts, and the numbers of items, named numbers and named
+-- bits have 128 bits at most.
 use Rattle.std.specs.Prelude.{ℕ, ◌<◌, ◌^◌, List, [], ◌∷◌, IfSome, IsUtf8}
 use Rattle.guard_lexer.specs.Items.{number_value}
 use Rattle.guard_syntax.specs.Trees.{WrittenNumber, WrittenNamed, WrittenItem, WrittenType, type_node, WrittenBase, plain, numbers, named_bits, enumerated, structure, choice, of_type, named_type, WrittenComponents, no_components, component, components_from, WrittenAlternatives, no_alternatives, alternative, WrittenAssignment, WrittenModule}
@@ -49,6 +50,7 @@ AreAssigned (a ∷ assignments) = IsSpelled a.ty × AreAssigned assignments
 abbrev pub IsSpelledModule : WrittenModule → Type 0
 IsSpelledModule m = AreAssigned m.assignments
 
--- where a text is cut into these tokens, each spelled as its kind says, a module that is written with them is spelled so
+-- where a text is cut into these tokens, each spelled as its kind says, a module that is written with them is spelled
+-- so
 abbrev pub SpelledByTokens : List ℕ → List Token → Type 0
 SpelledByTokens text tokens = (m : WrittenModule) → IsWritten m (lexemes_of text tokens) → IsSpelledModule m

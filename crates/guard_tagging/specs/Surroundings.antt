@@ -14,14 +14,15 @@ abbrev pub tag_default_of : Option TagDefault → TagDefault
 tag_default_of None = by_default.Explicit
 tag_default_of (Some default) = default
 
--- What a type is written under is its own module's: the tag default, and what its names mean, where so much is known of the first definitions in the order.
+-- What a type is written under is its own module's: the tag default, and what its names mean, where so much is known of
+-- the first definitions in the order.
 abbrev pub surroundings : List WrittenModule → List ℕ → List Meaning → WrittenModule → Surroundings
 surroundings ms order known home = record {
   tag_default = tag_default_of home.tag_default;
   meaning = λ name. known_meant ms order known home.name name;
 }
 
--- whether a definition is a list of components or alternatives that was tagged automatically
+-- whether the type of a definition is found to be a list that is tagged automatically, where so much is known
 abbrev pub is_automatic_definition : List WrittenModule → List ℕ → List Meaning → Option Definition → Bool
 is_automatic_definition ms order known None = false
 is_automatic_definition ms order known (Some d) = is_automatic (surroundings ms order known d.home) d.assignment.ty
@@ -33,9 +34,11 @@ meaning_at ms order known number t = record { ty = t; is_automatic = is_automati
 abbrev pub known_behind : List WrittenModule → List ℕ → List Meaning → List ℕ → List AbstractType → List Meaning
 known_behind ms order known [] types = known
 known_behind ms order known (number ∷ rest) [] = known
-known_behind ms order known (number ∷ rest) (t ∷ types) = known_behind ms order (known ++ meaning_at ms order known number t ∷ []) rest types
+known_behind ms order known (number ∷ rest) (t ∷ types) =
+    known_behind ms order (known ++ meaning_at ms order known number t ∷ []) rest types
 
--- what is known where these are the types of the first definitions in the order
+-- what is known where these are the types of the first definitions in the order: found by going through them, and as a
+-- law says what `AreMeanings` asks for
 abbrev pub known_from : List WrittenModule → List ℕ → List AbstractType → List Meaning
 known_from ms order types = known_behind ms order [] order types
 

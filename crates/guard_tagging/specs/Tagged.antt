@@ -1,4 +1,4 @@
--- What stands for a written type: the type that it denotes where nothing is wrong with it, else its first fault.
+-- What comes of a written type: the type that it denotes where nothing is wrong with it, else its first fault.
 use Rattle.std.specs.Prelude.{◌≡◌, ℕ, List, Some, None, IfSome, true}
 use Rattle.guard_model.specs.AbstractType.{AbstractType}
 use Rattle.guard_tagcheck.specs.Limits.{is_within_limits}

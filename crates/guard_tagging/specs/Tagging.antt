@@ -28,8 +28,8 @@ abbrev pub is_untagged_choice : AbstractType → Bool
 is_untagged_choice (type_of [] (choice cs) cons) = true
 is_untagged_choice _ = false
 
--- A tag is explicit where its word says so; and where no word stands, under EXPLICIT TAGS, and on an untagged CHOICE under any default (31.2.7).
--- The word IMPLICIT on such a CHOICE is a fault.
+-- A tag is explicit where its word says so; and where it has no word, under EXPLICIT TAGS, and on an untagged CHOICE
+-- under any default (31.2.7). The word IMPLICIT on such a CHOICE is a fault.
 abbrev pub is_explicit : Option TagMode → TagDefault → Bool → Bool
 is_explicit (Some mode.Explicit) default on_choice = true
 is_explicit (Some mode.Implicit) default on_choice = false
@@ -37,8 +37,8 @@ is_explicit None by_default.Explicit on_choice = true
 is_explicit None by_default.Implicit on_choice = on_choice
 is_explicit None by_default.Automatic on_choice = on_choice
 
--- An explicit tag stands round the others. An implicit one stands in place of the outermost (31.2.8): where there is none, as on an untagged
--- CHOICE, an implicit tag would find no place.
+-- An explicit tag is put round the others. An implicit one takes the place of the outermost (31.2.8): where there is
+-- none, as on an untagged CHOICE, an implicit tag would find no place.
 abbrev pub put_tag : Bool → Tag → AbstractType → AbstractType
 put_tag true tag (type_of tags kind cons) = type_of (tag ∷ tags) kind cons
 put_tag false tag (type_of [] kind cons) = type_of [] kind cons
@@ -64,4 +64,5 @@ with_automatic_tag tag t = put_tag (is_untagged_choice t) tag t
 -- those of components, from this number on
 abbrev pub with_automatic_tags : ℕ → Components → Components
 with_automatic_tags number no_components = no_components
-with_automatic_tags number (component name t presence cs) = component name (with_automatic_tag (automatic_tag number) t) presence (with_automatic_tags (suc number) cs)
+with_automatic_tags number (component name t presence cs) =
+    component name (with_automatic_tag (automatic_tag number) t) presence (with_automatic_tags (suc number) cs)

@@ -1,5 +1,5 @@
--- The type that a written type denotes: its tags, its parts and their numbering (X.680 clauses 17 to 31). It has no constraints of its own
--- yet, and its defaults aren't known yet; a type that is referred to keeps what it has.
+-- The type that a written type denotes: its tags, its parts and their numbering (X.680 clauses 17 to 31). It has no
+-- constraints of its own yet, and its defaults aren't known yet; a type that is referred to keeps what it has.
 use Rattle.std.specs.Prelude.{ℕ, Bool, true, false, not, ◌&&◌, ◌||◌, List, [], ◌∷◌, map, Option, Some, None}
 use Rattle.guard_model.specs.declared.tag.Class.TheVariants.{Universal}
 use Rattle.guard_model.specs.declared.tag.Tag.{Tag}
@@ -17,12 +17,14 @@ use Rattle.guard_syntax.specs.Trees.{WrittenPresence, mandatory, optional, defau
 use Rattle.guard_tagging.specs.Tagging.{with_tags, with_automatic_tags}
 use Rattle.guard_tagging.specs.Enumerations.{numbered, named_number}
 
--- what the name of a type means where a type is written: the type that its definition has, and whether that is a list that was tagged automatically
+-- what the name of a type means where a type is written: the type that its definition has, and whether that is a list
+-- that is tagged automatically
 pub record Meaning : Type 0 where
   pub ty : AbstractType
   pub is_automatic : Bool
 
--- the module in which a type is written: its tag default, EXPLICIT where none is written, and what names of types mean in it, where they mean something
+-- the module in which a type is written: its tag default, EXPLICIT where none is written, and what names of types mean
+-- in it, where they mean something
 pub record Surroundings : Type 0 where
   pub tag_default : TagDefault
   pub meaning : List ℕ → Option Meaning
@@ -39,7 +41,7 @@ universal_tag n = record { class = Universal; number = n }
 abbrev pub universal : ℕ → List Tag
 universal n = universal_tag n ∷ []
 
--- What a name means. One that means nothing is a fault of names, so that it doesn't matter what stands here.
+-- What a name means. One that means nothing is a fault of names, so that it doesn't matter what is said here.
 abbrev pub meant : Option Meaning → AbstractType
 meant (Some m) = m.ty
 meant None = type_of (universal 5) type.null type.no_constraints
@@ -85,8 +87,8 @@ presence_of mandatory = type.mandatory
 presence_of optional = type.optional
 presence_of (default v) = type.pending
 
--- ---- lists that are tagged automatically: under AUTOMATIC TAGS, where no component's type begins with a tag as it is written. The type after
--- COMPONENTS OF is none of them (clauses 25, 27 and 29).
+-- ---- lists that are tagged automatically: under AUTOMATIC TAGS, where no component's type begins with a tag as it is
+-- written. The type after COMPONENTS OF is none of them (clauses 25, 27 and 29).
 
 abbrev pub begins_with_tag : WrittenType → Bool
 begins_with_tag (type_node site [] base cons) = false
@@ -112,7 +114,7 @@ is_automatic_list tag_default cs = is_automatic_default tag_default && not (has_
 abbrev pub is_automatic_choice : TagDefault → WrittenAlternatives → Bool
 is_automatic_choice tag_default others = is_automatic_default tag_default && not (has_tagged_alternative others)
 
--- whether the list of components that a written type stands for was tagged automatically, where it stands for one
+-- whether the list of components that a written type is, or names, is tagged automatically, where it is or names one
 abbrev pub is_automatic_base : Surroundings → WrittenBase → Bool
 is_automatic_base around (plain p) = false
 is_automatic_base around (numbers ns) = false
@@ -144,27 +146,37 @@ abbrev mutual
   pub denoted : Surroundings → WrittenType → AbstractType
   denoted around (type_node site tags base cons) = with_tags around.tag_default tags (denoted_base around base)
 
-  -- Types that are written with words alone (18, 23, 24, 32, 41); INTEGER with its named numbers (19), BIT STRING with its named bits (22) and ENUMERATED with its
-  -- items (20); SEQUENCE and SET with their components (25, 27), CHOICE with its alternatives (29), SEQUENCE OF and SET OF (26, 28); a name, which is the type that
-  -- it is assigned (14).
+  -- Types that are written with words alone (18, 23, 24, 32, 41); INTEGER with its named numbers (19), BIT STRING with
+  -- its named bits (22) and ENUMERATED with its items (20); SEQUENCE and SET with their components (25, 27), CHOICE
+  -- with its alternatives (29), SEQUENCE OF and SET OF (26, 28); a name, which is the type that it is assigned (14).
   pub denoted_base : Surroundings → WrittenBase → AbstractType
   denoted_base around (plain p) = type_of (universal (plain_number p)) (plain_kind p) type.no_constraints
   denoted_base around (numbers ns) = type_of (universal 2) (type.integer (map named_number ns)) type.no_constraints
-  denoted_base around (named_bits bs) = type_of (universal 3) (type.bit_string (map named_number bs)) type.no_constraints
+  denoted_base around (named_bits bs) =
+      type_of (universal 3) (type.bit_string (map named_number bs)) type.no_constraints
   denoted_base around (enumerated items) = type_of (universal 10) (type.enumerated (numbered items)) type.no_constraints
   denoted_base around (structure k cs) =
-      type_of (universal (collection_number k)) (structure_kind k (tagged_where (is_automatic_list around.tag_default cs) (denoted_components around cs))) type.no_constraints
-  denoted_base around (choice others) = type_of [] (type.choice (tagged_where (is_automatic_choice around.tag_default others) (denoted_alternatives around others))) type.no_constraints
-  denoted_base around (of_type k cons t) = type_of (universal (collection_number k)) (of_kind k (denoted around t)) type.no_constraints
+      type_of (universal (collection_number k))
+      (structure_kind k (tagged_where (is_automatic_list around.tag_default cs) (denoted_components around cs)))
+      type.no_constraints
+  denoted_base around (choice others) =
+      type_of []
+      (type.choice (tagged_where (is_automatic_choice around.tag_default others) (denoted_alternatives around others)))
+      type.no_constraints
+  denoted_base around (of_type k cons t) =
+      type_of (universal (collection_number k)) (of_kind k (denoted around t)) type.no_constraints
   denoted_base around (named_type site name) = meant (around.meaning name)
 
   -- in their written order; COMPONENTS OF puts in the components of the list that its type has (25.4, 27.2)
   pub denoted_components : Surroundings → WrittenComponents → Components
   denoted_components around no_components = type.no_components
-  denoted_components around (component site name t presence cs) = type.component name (denoted around t) (presence_of presence) (denoted_components around cs)
-  denoted_components around (components_from site t cs) = join (parts_of (denoted around t)) (denoted_components around cs)
+  denoted_components around (component site name t presence cs) =
+      type.component name (denoted around t) (presence_of presence) (denoted_components around cs)
+  denoted_components around (components_from site t cs) =
+      join (parts_of (denoted around t)) (denoted_components around cs)
 
   -- in their written order; each must be there where it is chosen (29)
   pub denoted_alternatives : Surroundings → WrittenAlternatives → Components
   denoted_alternatives around no_alternatives = type.no_components
-  denoted_alternatives around (alternative site name t others) = type.component name (denoted around t) type.mandatory (denoted_alternatives around others)
+  denoted_alternatives around (alternative site name t others) =
+      type.component name (denoted around t) type.mandatory (denoted_alternatives around others)

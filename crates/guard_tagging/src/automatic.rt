@@ -9,7 +9,7 @@ ghost use Rattle.guard_tagging.specs.Types as types;
 use crate::scope::Scope;
 use guard_syntax::{AlternativeTree, BaseTree, CompForm, CompTree, TagDefault, TypeTree};
 
-/// Whether the list of components that the type stands for was tagged automatically.
+/// Whether the list of components that the type is, or names, is tagged automatically.
 pub fn is_automatic(scope: &Scope, base: &BaseTree) -> bool
     ensures { result ≡ types.is_automatic_base (scope_view scope.now) (written.base_view base.now) }
 {

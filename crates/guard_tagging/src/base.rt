@@ -87,7 +87,7 @@ pub fn enumerated_type(
     Ok(new_type(alloc, whole, Kind::Enumerated(numbered))?)
 }
 
-/// What a type with this universal tag has beside its named numbers, named bits or items, which stand at these places.
+/// What a type with this universal tag has beside its named numbers, named bits or items, which are at these places.
 #[tactic(auto, unfolding(crate::specs::inside::ReadBases::numbered_whole))]
 fn numbered_whole(
     alloc: Global,
@@ -103,7 +103,8 @@ fn numbered_whole(
     whole_with(node, tags, 0, before)
 }
 
-/// Named numbers, named bits and items must differ in their names and in the numbers that are written (X.680 19.5, 19.6, 20.4, 20.5, 22.2, 22.3).
+/// Named numbers, named bits and items must differ in their names and in the numbers that are written (X.680 19.5,
+/// 19.6, 20.4, 20.5, 22.2, 22.3).
 fn check_differ(alloc: Global, places: &[Placed]) -> Result<(), TagFault>
     ensures { Gives (λ u. u) named result (reading.differ (map place_view places.now)) }
 {
@@ -169,7 +170,8 @@ pub fn of_type(
     Ok(new_type(alloc, whole, kind)?)
 }
 
-/// A copy of a type that a name means, with the tags that are written before the name. It is copied once it is known to keep the limits.
+/// A copy of a type that a name means, with the tags that are written before the name. It is copied once it is known to
+/// keep the limits.
 pub fn referred_to(
     alloc: Global,
     node: &Node,

@@ -1,17 +1,18 @@
 //! The type of a definition, from its tree and the types of the definitions before it.
-ghost use Rattle.std.specs.Prelude.{◌≡◌, ◌≤◌, ◌+◌, IsTrue, IfOk, IfErr, IfSome, map, length, min, slice_get, All};
+ghost use Rattle.std.specs.Prelude.{◌≡◌, ◌↔◌, true, ◌≤◌, ◌+◌, IsTrue, IfOk, IfErr, IfSome, map, length, min, slice_get, All};
 ghost use Rattle.guard_model.specs.TypeView.{type_view};
 ghost use Rattle.guard_names.specs.Declarations.{definitions};
 ghost use Rattle.guard_names.specs.NamesView.{modules_of, order_of};
 ghost use Rattle.guard_syntax.specs.ModuleViews.{module_view};
 ghost use Rattle.guard_tagcheck.specs.Limits.{is_within_limits};
+ghost use Rattle.guard_tagging.specs.Automatic.{Automatic};
 ghost use Rattle.guard_tagging.specs.Faults as faults;
 ghost use Rattle.guard_tagging.specs.Named.{named};
 ghost use Rattle.guard_tagging.specs.ScopeView.{scope_view, done_view, known_list};
-ghost use Rattle.guard_tagging.specs.Skeletons.{IsTypeOf, IsFaultOf};
+ghost use Rattle.guard_tagging.specs.Skeletons.{AreMeanings, IsTypeOf, IsFaultOf};
 ghost use Rattle.guard_tagging.specs.Spelled.{IsSpelledModule};
 ghost use Rattle.guard_tagging.specs.Surroundings as around;
-ghost use Rattle.guard_tagging.specs.Surroundings.{surroundings, known_from, nodes_of_all};
+ghost use Rattle.guard_tagging.specs.Surroundings.{surroundings, nodes_of_all};
 
 use crate::automatic::is_automatic;
 use crate::fault::TagFault;
@@ -28,15 +29,16 @@ use std::alloc::{AllocError, Global};
 #[derive(Drop)]
 pub struct TaggedType {
     pub ty: Ty,
-    /// Whether it is a list of components or alternatives that was tagged automatically.
+    /// Whether it is a list of components or alternatives that is tagged automatically.
     pub is_automatic: bool,
     /// How many types it and the definitions before it are made of.
     pub nodes: usize,
 }
 
-/// The type of a definition with its tags, its parts and their numbering, or the first fault of its written type; of a value the type that
-/// governs it. `done` are the types of the definitions before it in the order of definitions. A new type has no constraints yet, and what is a
-/// default is pending; a type that is referred to keeps what it has. OutOfMemory may stand in place of any answer.
+/// The type of a definition with its tags, its parts and their numbering, or the first fault of its written type; of a
+/// value the type that governs it. `done` are the types of the definitions before it in the order of definitions. A new
+/// type has no constraints yet, and what is a default is pending; a type that is referred to keeps what it has. The
+/// answer may be OutOfMemory in place of any other.
 pub fn skeleton(alloc: Global, names: &Names, done: &[Ty], id: Id) -> Result<Ty, TagFault>
     requires next { slice_get (order_of names.now) (length done.now) ≡ Some id }
     requires few { nodes_of_all (map type_view done.now) ≤ faults.most_nodes }
@@ -54,19 +56,20 @@ pub fn skeleton(alloc: Global, names: &Names, done: &[Ty], id: Id) -> Result<Ty,
         automatic: &automatic,
         nodes: nodes_of(done),
     };
-    let TaggedType { ty, .. } = skeleton_behind(alloc, names, &before, id)?;
+    let TaggedType { ty, .. } = skeleton_after(alloc, names, &before, id)?;
     Ok(ty)
 }
 
-/// The same, where what a build keeps of the definitions before it is handed in, so that it isn't looked for again for each definition.
-pub fn skeleton_behind(
+/// The same, where what a build keeps of the definitions before it is handed in, so that it isn't looked for again for
+/// each definition.
+pub fn skeleton_after(
     alloc: Global,
     names: &Names,
     done: &Done,
     id: Id,
 ) -> Result<TaggedType, TagFault>
     requires next { slice_get (order_of names.now) (length done.now.types.now) ≡ Some id }
-    requires known { done_view done.now ≡ known_from (modules_of names.now) (order_of names.now) (map type_view done.now.types.now) }
+    requires known { AreMeanings (modules_of names.now) (order_of names.now) (map type_view done.now.types.now) (done_view done.now) }
     requires counted { done.now.nodes ≡ nodes_of_all (map type_view done.now.types.now) }
     requires few { done.now.nodes ≤ faults.most_nodes }
     requires limits { All (λ t. IsTrue (is_within_limits (type_view t))) done.now.types.now }
@@ -74,17 +77,18 @@ pub fn skeleton_behind(
     ensures tagged { IfOk result (λ s. IsTypeOf (modules_of names.now) (order_of names.now) (map type_view done.now.types.now) id (type_view s.ty)) }
     ensures refused { IfErr result (λ f. IfSome (named f) (IsFaultOf (modules_of names.now) (order_of names.now) (map type_view done.now.types.now) id)) }
     ensures limits { IfOk result (λ s. IsTrue (is_within_limits (type_view s.ty))) }
-    // What is kept for the next one: how many types there are with it, and what is known of it, whatever constraints and defaults it gets.
+    // What is kept for the next one: how many types there are with it, and whether it is a list that is tagged
+    // automatically.
     ensures counted { IfOk result (λ s. s.nodes ≡ done.now.nodes + faults.nodes (type_view s.ty)) }
     ensures few { IfOk result (λ s. s.nodes ≤ faults.most_nodes) }
-    ensures known { IfOk result (λ s. s.is_automatic ≡ around.is_automatic_definition (modules_of names.now) (order_of names.now) (done_view done.now) (slice_get (definitions (modules_of names.now)) id)) }
+    ensures known { IfOk result (λ s. (s.is_automatic ≡ true) ↔ Automatic (modules_of names.now) id) }
 {
     let Some((home, assignment)) = names.home(id) else {
         unreachable!();
     };
     let scope = scope_in(names, home, *done);
     let made = type_of(alloc, &scope, &assignment.ty, true, None, done.nodes)?;
-    let is_automatic = is_automatic(&scope, &assignment.ty.base);
+    let is_automatic = is_automatic_definition(names, *done, id);
     let Made { ty, nodes, .. } = Box::into_inner(made);
     Ok(TaggedType {
         ty,
@@ -93,7 +97,7 @@ pub fn skeleton_behind(
     })
 }
 
-/// What is written in a module stands in this scope.
+/// The scope of what is written in a module.
 fn scope_in<'s, 'm, 'a, 'd>(
     names: &'s Names<'m, 'a>,
     home: &Module<'a>,
@@ -109,10 +113,10 @@ fn scope_in<'s, 'm, 'a, 'd>(
     }
 }
 
-/// Which of the definitions are lists that were tagged automatically, in their order; of as many as there are types.
+/// Which of the definitions are lists that are tagged automatically, in their order; of as many as there are types.
 fn automatic_lists(alloc: Global, names: &Names, types: &[Ty]) -> Result<Vec<bool>, AllocError>
     requires { length types.now ≤ length (order_of names.now) }
-    ensures { IfOk result (λ v. known_list (map type_view types.now) v.items ≡ known_from (modules_of names.now) (order_of names.now) (map type_view types.now)) }
+    ensures { IfOk result (λ v. AreMeanings (modules_of names.now) (order_of names.now) (map type_view types.now) (known_list (map type_view types.now) v.items)) }
 {
     let mut automatic = Vec::with_capacity(alloc, types.len())?;
     for place in 0..types.len() {

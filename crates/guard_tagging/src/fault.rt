@@ -3,7 +3,8 @@ use guard_model::{OutOfMemory, Site};
 use std::alloc::{AllocError, AllocFailed};
 use thiserror::Error;
 
-/// Why a written type has no tags and parts, or want of memory in place of any other answer. Each names a place of the text.
+/// Why a written type has no tags and parts, or want of memory in place of any other answer. Each names a place of the
+/// text.
 #[derive(Debug, Drop, Error)]
 pub enum TagFault {
     /// A tag of the universal class is written: at its bracket.
@@ -39,7 +40,8 @@ pub enum TagFault {
     /// More than 100,000 types over all definitions: at the first token of the type with which it is above that.
     #[error("G11 SchemaTooLarge {0}")]
     SchemaTooLarge(Site),
-    /// The number of an item or a named number is outside signed 128 bits, or that of a named bit is above 65,535: at its name.
+    /// The number of an item or a named number is outside signed 128 bits, or that of a named bit is above 65,535: at
+    /// its name.
     #[error("G12 NumberTooLarge {0}")]
     NumberTooLarge(Site),
     #[error("OutOfMemory")]

@@ -1,4 +1,5 @@
-//! A type as it is made: what is written before its base, its components so far, and what is known of it once it keeps the limits.
+//! A type as it is made: what is written before its base, its components so far, and what is known of it once it keeps
+//! the limits.
 ghost use Rattle.std.specs.Prelude.{◌≡◌, ◌≤◌, length};
 
 use guard_model::{Comp, Site, Tag, Ty};
@@ -7,7 +8,7 @@ use guard_syntax::{TagDefault, TagTree};
 /// What is written of a type beside its base.
 #[derive(Clone, Copy)]
 pub struct Node<'t> {
-    /// Where its first token stands.
+    /// The site of its first token.
     pub site: Site,
     pub tags: &'t [TagTree<'t>],
     /// The tag default of its module.
@@ -43,7 +44,7 @@ pub struct Made {
 pub struct Refused {
     /// It is no SEQUENCE, in a SET no SET.
     pub kind: Option<Site>,
-    /// It or the list in which it stands is tagged automatically.
+    /// It, or the list that it is put into, is tagged automatically.
     pub automatic: Option<Site>,
     /// It has a tag of its own.
     pub tagged: Option<Site>,
@@ -52,7 +53,7 @@ pub struct Refused {
 /// Components so far.
 #[derive(Drop)]
 pub struct Parts {
-    /// Where each stands: its name, or the word COMPONENTS that puts it in.
+    /// The site of each: its name, or the word COMPONENTS that puts it in.
     pub sites: Vec<Site>,
     pub comps: Vec<Comp>,
     /// The greatest nesting of one.

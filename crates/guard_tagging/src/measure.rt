@@ -9,7 +9,8 @@ use guard_model::{Comp, DEEPEST_NESTING, Kind, Ty};
 /// Types over all definitions.
 pub const MOST_NODES: usize = 100000;
 
-/// How deep the parts of a kind are nested, a CHOICE one level deeper. What is too deep counts as one level more than is allowed.
+/// How deep the parts of a kind are nested, a CHOICE one level deeper. What is too deep counts as one level more than
+/// is allowed.
 #[cycle(nesting)]
 pub fn nesting_inside(kind: &Kind) -> usize
     ensures { result ≡ min (limits.nesting_inside (kind_view kind.now)) 33 }
@@ -54,7 +55,8 @@ pub fn nodes_inside(kind: &Kind, before: usize) -> usize
     }
 }
 
-/// The types that a type is made of, itself among them, with so many before them. What is too many counts as one more than is allowed.
+/// The types that a type is made of, itself among them, with so many before them. What is too many counts as one more
+/// than is allowed.
 #[cycle(counting)]
 pub fn nodes(ty: &Ty, before: usize) -> usize
     ensures { result ≡ min (before + faults.nodes (type_view ty.now)) 100001 }

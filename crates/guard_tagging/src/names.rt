@@ -1,4 +1,4 @@
-//! Names and numbers that stand twice in one list.
+//! Names and numbers that are there twice in one list.
 ghost use Rattle.std.specs.Prelude.{◌≡◌, ◌||◌, ℕ, Bool, not, [], Some, length, map, IfOk, OnOk, string_bytes};
 ghost use Rattle.guard_model.specs.TypeView as model;
 ghost use Rattle.guard_syntax.specs.TypeViews as written;
@@ -13,7 +13,7 @@ use guard_syntax::{ItemTree, NamedTree, NumberTree};
 use std::alloc::{AllocError, Global};
 use std::collections::BTreeSet;
 
-/// A name, where it stands, and its number where it has one: whether that is below 0, and how far from 0, or from -1, it is.
+/// A name, its site, and its number where it has one: whether that is below 0, and how far from 0, or from -1, it is.
 #[derive(Clone, Copy)]
 pub struct Placed<'a> {
     pub site: Site,

@@ -74,7 +74,7 @@ fn is_bit(number: &NumberTree) -> bool
     magnitude(number.digits) <= greatest
 }
 
-/// The number of the item or named number whose name stands there.
+/// The number of the item or named number with the name there.
 fn number_at(site: Site, tree: &NumberTree) -> Result<i128, TagFault>
     ensures { Gives (λ z. z) named result (read_at site (number_view tree.now)) }
 {
@@ -190,7 +190,8 @@ fn number_of(
     }
 }
 
-/// The first number from this one on that isn't taken. Where no more numbers are taken than there are tries it is found.
+/// The first number from this one on that isn't taken. Where no more numbers are taken than there are tries it is
+/// found.
 fn first_free(taken: &BTreeSet<i128>, tries: usize, from: u128) -> u128
     requires { from + tries < 2 ^ 126 }
     ensures first { result ≡ free_from taken.now.keys tries from }

@@ -29,8 +29,8 @@ pub fn no_parts(alloc: Global, before: usize) -> Parts
     }
 }
 
-/// The tag of the next component, in a list that is tagged automatically: its number is the component's place. A longer list than is allowed is
-/// refused, and at its end one tag is as good as another.
+/// The tag of the next component, in a list that is tagged automatically: its number is the component's place. A longer
+/// list than is allowed is refused, and at its end one tag is as good as another.
 pub fn next_tag(automatic: bool, parts: &Parts) -> Option<Tag>
     ensures { result ≡ reading.next_tag automatic (parts_view parts.now) }
 {

@@ -10,7 +10,7 @@ use guard_syntax::TagDefault;
 pub struct Done<'d> {
     /// The type of each, of a value its governor.
     pub types: &'d [Ty],
-    /// Whether each is a list of components or alternatives that was tagged automatically.
+    /// Whether each is a list of components or alternatives that is tagged automatically.
     pub automatic: &'d [bool],
     /// How many types they are made of.
     pub nodes: usize,
@@ -20,7 +20,7 @@ pub struct Done<'d> {
 #[derive(Clone, Copy)]
 pub struct Known<'d> {
     pub ty: &'d Ty,
-    /// Whether its list of components or alternatives was tagged automatically, where it has one.
+    /// Whether it is a list of components or alternatives that is tagged automatically.
     pub is_automatic: bool,
 }
 

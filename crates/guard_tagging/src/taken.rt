@@ -15,8 +15,9 @@ use guard_model::{Class, Kind, Site, Tag, Ty};
 use guard_syntax::Collection;
 use std::alloc::{AllocError, Global};
 
-/// The parts with what COMPONENTS OF puts in at its word. It takes a SEQUENCE, in a SET a SET, that has no tag of its own; and neither list may be
-/// tagged automatically. What it may not take in is kept in mind, and is a fault of the list once all its parts are without one.
+/// The parts with what COMPONENTS OF puts in at its word. It takes a SEQUENCE, in a SET a SET, that has no tag of its
+/// own; and neither list may be tagged automatically. What it may not take in is kept in mind, and is a fault of the
+/// list once all its parts are without one.
 pub fn take(
     parts: Box<Parts>,
     alloc: Global,

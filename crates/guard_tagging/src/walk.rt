@@ -25,7 +25,8 @@ use guard_model::{Presence, Tag};
 use guard_syntax::{AlternativeTree, BaseTree, Collection, CompForm, CompTree, TypeTree};
 use std::alloc::Global;
 
-/// The type that is written, with so many types before it and with the automatic tag that it gets. The type after COMPONENTS OF doesn't count itself.
+/// The type that is written, with so many types before it and with the automatic tag that it gets. The type after
+/// COMPONENTS OF doesn't count itself.
 #[cycle(walk)]
 #[tactic(auto, unfolding(crate::specs::inside::ReadTypes::read_type))]
 pub fn type_of(

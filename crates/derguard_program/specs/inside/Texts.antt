@@ -21,3 +21,12 @@ CannotBeRead told path = NamesFile (λ file. HasNone told path × (file ≡ path
 -- nothing can be read at the first of these names in a folder at which that is so, and its path is named; or memory ran out
 abbrev pub CannotAllBeRead : Told → List ℕ → List (List ℕ) → Fault → Type 0
 CannotAllBeRead told beside names = NamesFile (FirstMissing told beside names)
+
+-- it is found before any module is looked at, or memory ran out
+abbrev pub IsBeforeModules : Fault → Type 0
+IsBeforeModules (Schema f) = ⊥
+IsBeforeModules BadHex = Unit {0}
+IsBeforeModules (CannotRead file) = Unit {0}
+IsBeforeModules (Policy f) = Unit {0}
+IsBeforeModules (Run f) = Unit {0}
+IsBeforeModules NoMemory = Unit {0}

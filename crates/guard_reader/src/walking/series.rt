@@ -5,10 +5,11 @@ ghost use Rattle.guard_tables.specs.Slots.{added};
 ghost use Rattle.guard_tables.specs.TableNodes.{body_at, spot_at};
 ghost use Rattle.guard_reader.specs.Judging.{contents_judged, present_part, absent_part, part_at, watched};
 ghost use Rattle.guard_reader.specs.inside.Answers.{Answers};
-ghost use Rattle.guard_reader.specs.inside.NodeParts.{IsSeries, pass_at, sight_at};
+ghost use Rattle.guard_reader.specs.inside.NodeParts.{IsNear, IsSeries, pass_at, sight_at};
 
 use crate::conditions::is_default;
-use crate::element_fronts::{Front, front_at};
+use crate::element_fronts::{Front, begins, front_at};
+use crate::header::split_after;
 use crate::plain::{begins_plainly, is_plain};
 use crate::walking::within_tag;
 use guard_tables::{Cold, Need, Nodes, Slots};
@@ -46,6 +47,52 @@ fn part<'a>(table: &Nodes, at: usize, octets: &'a [u8], failed: &mut Slots) -> O
     if begins_plainly(node, octets) {
         return Some(&octets[3..]);
     }
+    if begins(node.identifier, octets) {
+        return near_part(table, at, octets, failed);
+    }
+    if node.identifier == 256 {
+        return far_part(table, at, octets, failed);
+    }
+    if begins(node.other, octets) {
+        return None;
+    }
+    if !absent(table, at, failed) {
+        return None;
+    }
+    Some(octets)
+}
+
+/// The same of octets that begin with the node's identifier octet.
+#[cycle(walking)]
+#[inline(always)]
+fn near_part<'a>(table: &Nodes, at: usize, octets: &'a [u8], failed: &mut Slots) -> Option<&'a [u8]>
+    requires room { at < vec_len table.now.hots }
+    requires near { IsNear table.now at octets.now }
+    ensures { option_map (λ r. (failed.new, r.now)) result
+        ≡ part_at (spot_at (spots_in table.now) at).side (sight_at (spots_in table.now) at octets.now)
+        (pass_at (spots_in table.now) at) octets.now failed.old }
+{
+    match split_after(octets) {
+        Some((inside, rest)) => {
+            if !present(table, at, inside, failed) {
+                return None;
+            }
+            Some(rest)
+        }
+        None => None,
+    }
+}
+
+/// The same of a node without an identifier octet of its own.
+#[cycle(walking)]
+#[cold]
+#[inline(never)]
+fn far_part<'a>(table: &Nodes, at: usize, octets: &'a [u8], failed: &mut Slots) -> Option<&'a [u8]>
+    requires { at < vec_len table.now.hots }
+    ensures { option_map (λ r. (failed.new, r.now)) result
+        ≡ part_at (spot_at (spots_in table.now) at).side (sight_at (spots_in table.now) at octets.now)
+        (pass_at (spots_in table.now) at) octets.now failed.old }
+{
     match front_at(table, at, octets) {
         Front::Here(inside, rest) => {
             if !present(table, at, inside, failed) {

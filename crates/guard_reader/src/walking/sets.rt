@@ -6,7 +6,9 @@ ghost use Rattle.guard_reader.specs.Judging.{contents_judged};
 ghost use Rattle.guard_reader.specs.inside.Answers.{Answers};
 ghost use Rattle.guard_reader.specs.inside.NodeParts.{IsSet};
 
-use crate::set_members::{absences, is_read, member, next_tag, with_read};
+use crate::set_members::{
+    absences, advance, is_read, member, next_tag, passed, rank_of, with_read,
+};
 use crate::walking::series::present;
 use guard_model::Tag;
 use guard_tables::{Nodes, Slots};
@@ -23,13 +25,17 @@ pub fn set(table: &Nodes, at: usize, octets: &[u8], failed: &mut Slots) -> bool
     let first = node.first as usize;
     let count = node.count as usize;
     let mut read = 0;
+    // Components come in the order of their tags, so those before the last one are seldom looked at again.
+    let mut below = 0;
+    let mut floor = 0;
     let mut last: Option<Tag> = None;
     let mut rest = octets;
     while !rest.is_empty() {
         let Some(tag) = next_tag(last, rest) else {
             return false;
         };
-        let Some((place, inside, next)) = member(table, first, count, rest) else {
+        let start = passed(table, first, below, floor, rest);
+        let Some((place, inside, next)) = member(table, first, count, start, rest) else {
             return false;
         };
         if is_read(table, first, count, octets, rest.len(), read, place) {
@@ -39,6 +45,8 @@ pub fn set(table: &Nodes, at: usize, octets: &[u8], failed: &mut Slots) -> bool
             return false;
         }
         read = with_read(read, place);
+        floor = rank_of(rest);
+        below = advance(table, first, count, start, floor);
         last = Some(tag);
         rest = next;
     }

@@ -1,9 +1,7 @@
 -- Worked examples of report lines.
 use Rattle.std.specs.Prelude.{◌≡◌, [], ◌∷◌, codes, refl}
 use Rattle.std.specs.Fmt.{digits}
-use Rattle.guard_model.specs.declared.site.Site.{Site}
 use Rattle.guard_model.specs.declared.site.Step.TheVariants.{Component}
-use Rattle.guard_policy.specs.Policies.{AbstractRoute}
 use Rattle.guard_policy.specs.Verdicts.{unknown_message, denied_by, not_allowed}
 use Rattle.guard_report.specs.rows.Rows.{policy, route}
 use Rattle.guard_report.specs.Lines.{line_octets}

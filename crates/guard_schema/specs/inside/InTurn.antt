@@ -1,18 +1,22 @@
--- How the code fills a type: component by component, from those that are left to those that are finished. What it makes so is what `Finishes` says, where
--- the bare type is the one that the written type has by its tags.
+-- How the code fills a type: component by component, from those that are left to those that are finished. What it makes
+-- so is what `Finishes` says, where the bare type is the one that the written type has by its tags.
 use Rattle.std.specs.Prelude.{◌≡◌, ℕ, List, [], ◌∷◌, ◌++◌, take, drop, Some, slice_get}
 use Rattle.guard_model.specs.declared.site.Site.{Site}
 use Rattle.guard_model.specs.AbstractType as type
 use Rattle.guard_model.specs.AbstractType.{AbstractType, AbstractKind, Components, type_of}
 use Rattle.guard_model.specs.TypeView.{OneComponent, components_of}
-use Rattle.guard_syntax.specs.Trees.{WrittenPresence, mandatory, WrittenType, type_node, WrittenBase, structure, choice, of_type, named_type, WrittenComponents, no_components, component, components_from, WrittenAlternatives, no_alternatives, alternative, WrittenAlternative, WrittenComponentForm, named, components_of_type, WrittenAssignment}
+use Rattle.guard_syntax.specs.Trees.{WrittenPresence, mandatory, WrittenType, type_node, WrittenBase, structure, choice}
+use Rattle.guard_syntax.specs.Trees.{of_type, named_type, WrittenComponents, no_components, component, components_from}
+use Rattle.guard_syntax.specs.Trees.{WrittenAlternatives, no_alternatives, alternative, WrittenAlternative}
+use Rattle.guard_syntax.specs.Trees.{WrittenComponentForm, named, components_of_type, WrittenAssignment}
 use Rattle.guard_names.specs.Declarations.{Definition, definitions}
 use Rattle.guard_tagging.specs.Surroundings.{nodes_of_all}
 use Rattle.guard_constraints.specs.Visible.{Visible}
 use Rattle.guard_schema.specs.Outcomes.{Is, Then}
 use Rattle.guard_schema.specs.Faults.{Outcome}
 use Rattle.guard_schema.specs.Known.{Built, Known, types_of, around}
-use Rattle.guard_schema.specs.Finishing.{constraint_before, site_of_type, count_of_meant, Constrains, ConstrainsBefore, FillsPresence, FinishesComponent}
+use Rattle.guard_schema.specs.Finishing.{constraint_before, site_of_type, count_of_meant, Constrains, ConstrainsBefore}
+use Rattle.guard_schema.specs.Finishing.{FillsPresence, FinishesComponent}
 use Rattle.guard_schema.specs.Building.{HasTags, TellsApart, HasValue}
 
 abbrev pub listed : Components → List OneComponent
@@ -35,37 +39,46 @@ moved n f = record { done = f.done ++ take n f.left; left = drop n f.left }
 module _ (names : Visible) where
   -- the constraint before OF and then those after the type, of a type that is written so
   abbrev pub ConstrainsWritten : WrittenType → AbstractType → Outcome AbstractType → Type 0
-  ConstrainsWritten (type_node site tags base cs) t = Then (ConstrainsBefore names site (constraint_before base) t) (Constrains names site cs)
+  ConstrainsWritten (type_node site tags base cs) t =
+      Then (ConstrainsBefore names site (constraint_before base) t) (Constrains names site cs)
 
-  -- ---- parts, where `Finish` is what the written type of one makes of it, and `Fill` what a written list makes of the parts that are left
+  -- ---- parts, where `Finish` is what the written type of one makes of it, and `Fill` what a written list makes of the
+  -- parts that are left
 
   -- a component of this name and this finished type: its default
   abbrev pub WithPresence : Site → WrittenPresence → List ℕ → AbstractType → Outcome OneComponent → Type 0
-  WithPresence site presence name u = Then (FillsPresence names site u presence) (λ p. Is (record { name = name; ty = u; presence = p }))
+  WithPresence site presence name u = Then (FillsPresence names site u presence)
+      (λ p. Is (record { name = name; ty = u; presence = p }))
 
-  abbrev pub OneInTurn : Site → (AbstractType → Outcome AbstractType → Type 0) → WrittenPresence → OneComponent → Outcome OneComponent → Type 0
+  abbrev pub OneInTurn : Site → (AbstractType → Outcome AbstractType → Type 0) → WrittenPresence → OneComponent
+      → Outcome OneComponent → Type 0
   OneInTurn site Finish presence c = FinishesComponent names site Finish presence c.name c.ty
 
   -- this one, before those that are left
-  abbrev pub FillsOne : Site → (AbstractType → Outcome AbstractType → Type 0) → WrittenPresence → OneComponent → Filling → Outcome Filling → Type 0
+  abbrev pub FillsOne : Site → (AbstractType → Outcome AbstractType → Type 0) → WrittenPresence → OneComponent → Filling
+      → Outcome Filling → Type 0
   FillsOne site Finish presence c f = Then (OneInTurn site Finish presence c) (λ one. Is (with_done one f))
 
   -- the next one
-  abbrev pub FillsNext : Site → (AbstractType → Outcome AbstractType → Type 0) → WrittenPresence → List OneComponent → List OneComponent → Outcome Filling → Type 0
+  abbrev pub FillsNext : Site → (AbstractType → Outcome AbstractType → Type 0) → WrittenPresence → List OneComponent
+      → List OneComponent → Outcome Filling → Type 0
   FillsNext site Finish presence done [] = Is (record { done = done; left = [] })
-  FillsNext site Finish presence done (c ∷ left) = Then (OneInTurn site Finish presence c) (λ one. Is (record { done = done ++ one ∷ []; left = left }))
+  FillsNext site Finish presence done (c ∷ left) =
+      Then (OneInTurn site Finish presence c) (λ one. Is (record { done = done ++ one ∷ []; left = left }))
 
 -- all of them
 abbrev pub FillsAll : (Filling → Outcome Filling → Type 0) → List OneComponent → Outcome (List OneComponent) → Type 0
 FillsAll Fill bare = Then (Fill (record { done = []; left = bare })) (λ f. Is f.done)
 
 abbrev pub ListInTurn : (Filling → Outcome Filling → Type 0) → AbstractKind → Outcome AbstractKind → Type 0
-ListInTurn Fill (type.sequence bare) = Then (FillsAll Fill (listed bare)) (λ parts. Is (type.sequence (components_of parts)))
+ListInTurn Fill (type.sequence bare) = Then (FillsAll Fill (listed bare))
+    (λ parts. Is (type.sequence (components_of parts)))
 ListInTurn Fill (type.set bare) = Then (FillsAll Fill (listed bare)) (λ parts. Is (type.set (components_of parts)))
 ListInTurn Fill kind = Is kind
 
 abbrev pub ChoiceInTurn : (Filling → Outcome Filling → Type 0) → AbstractKind → Outcome AbstractKind → Type 0
-ChoiceInTurn Fill (type.choice bare) = Then (FillsAll Fill (listed bare)) (λ parts. Is (type.choice (components_of parts)))
+ChoiceInTurn Fill (type.choice bare) = Then (FillsAll Fill (listed bare))
+    (λ parts. Is (type.choice (components_of parts)))
 ChoiceInTurn Fill kind = Is kind
 
 abbrev pub ElementInTurn : (AbstractType → Outcome AbstractType → Type 0) → AbstractKind → Outcome AbstractKind → Type 0
@@ -80,7 +93,8 @@ module _ (names : Visible) where
     pub FinishesInTurn : WrittenType → AbstractType → Outcome AbstractType → Type 0
     FinishesInTurn (type_node site tags base cs) (type_of ts kind cons) =
         Then (KindInTurn base kind) (λ finished.
-        Then (ConstrainsBefore names site (constraint_before base) (type_of ts finished cons)) (Constrains names site cs))
+        Then (ConstrainsBefore names site (constraint_before base) (type_of ts finished cons))
+        (Constrains names site cs))
 
     pub KindInTurn : WrittenBase → AbstractKind → Outcome AbstractKind → Type 0
     KindInTurn (structure k cs) kind = ListInTurn (FillsInTurn cs) kind
@@ -90,7 +104,8 @@ module _ (names : Visible) where
 
     pub FillsInTurn : WrittenComponents → Filling → Outcome Filling → Type 0
     FillsInTurn no_components f = Is f
-    FillsInTurn (component site name t presence cs) f = Then (FillsNext names (site_of_type t) (FinishesInTurn t) presence f.done f.left) (FillsInTurn cs)
+    FillsInTurn (component site name t presence cs) f =
+        Then (FillsNext names (site_of_type t) (FinishesInTurn t) presence f.done f.left) (FillsInTurn cs)
     FillsInTurn (components_from site t cs) f = Then (FromInTurn t f) (FillsInTurn cs)
 
     pub FromInTurn : WrittenType → Filling → Outcome Filling → Type 0
@@ -103,7 +118,8 @@ module _ (names : Visible) where
 
     pub OthersInTurn : WrittenAlternatives → Filling → Outcome Filling → Type 0
     OthersInTurn no_alternatives f = Is f
-    OthersInTurn (alternative site name t others) f = Then (FillsNext names (site_of_type t) (FinishesInTurn t) mandatory f.done f.left) (OthersInTurn others)
+    OthersInTurn (alternative site name t others) f =
+        Then (FillsNext names (site_of_type t) (FinishesInTurn t) mandatory f.done f.left) (OthersInTurn others)
 
   -- one entry of a list of components
   abbrev pub EntryInTurn : WrittenComponentForm → Filling → Outcome Filling → Type 0
@@ -120,9 +136,10 @@ module _ (names : Visible) where
 
 -- ---- definitions
 
--- the tags and parts of the definition of this number, which tags tell apart; its name stands at the site
+-- the tags and parts of the definition of this number, which tags tell apart; its name is at the site
 abbrev pub TagsNumber : Known → ℕ → Outcome AbstractType → Type 0
-TagsNumber k number answer = (d : Definition) × (slice_get (definitions k.modules) number ≡ Some d) × HasTags (around k d) (nodes_of_all (types_of k.built)) d.assignment.ty answer
+TagsNumber k number answer = (d : Definition) × (slice_get (definitions k.modules) number ≡ Some d)
+    × HasTags (around k d) (nodes_of_all (types_of k.built)) d.assignment.ty answer
 
 abbrev pub TagsApart : Known → ℕ → Site → Outcome AbstractType → Type 0
 TagsApart k number site = Then (TagsNumber k number) (λ bare. Then (TellsApart site bare) (λ _. Is bare))

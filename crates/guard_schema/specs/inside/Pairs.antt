@@ -1,4 +1,4 @@
--- What is built, by the types and values of the code, which stand side by side.
+-- What is built, by the types and values of the code, which are kept side by side.
 use Rattle.std.specs.Prelude.{List, [], ◌∷◌, Option, option_map}
 use Rattle.guard_model.specs.TypeView.{type_view}
 use Rattle.guard_model.specs.ValueView.{value_view}

@@ -1,22 +1,34 @@
--- How conditions are counted.
-use Rattle.std.specs.Prelude.{ℕ, nat_eq, List, Option, Some, None, if◌then◌else◌, min}
-use Rattle.guard_model.specs.AbstractType.{Constraint}
-use Rattle.guard_model.specs.TypeView.{OneComponent, OnePart}
-use Rattle.guard_tables.specs.Conditions.{of_type, of_constraint}
+-- How conditions are counted, and what lays them.
+use Rattle.std.specs.Prelude.{ℕ, ◌+◌, List, [], ◌∷◌, map, min}
+use Rattle.guard_model.specs.AbstractType.{AbstractType, Constraint}
+use Rattle.guard_model.specs.TypeView.{type_view, constraint_view}
+use Rattle.guard_tables.specs.declared.conditions.Source.{Source}
+use Rattle.guard_tables.specs.declared.conditions.Source.TheVariants as source
+use Rattle.guard_tables.specs.Conditions as conditions
 
 -- as a usize of 64 bits holds it: so many, but never more than its greatest number
 abbrev pub counted : ℕ → ℕ
 counted n = min n 18446744073709551615
 
--- the conditions of a component that may be missing
-abbrev pub of_found : Option OneComponent → List ℕ → ℕ
-of_found None way = 0
-of_found (Some c) way = of_type c.ty way
+-- what lays conditions on a node and on its parts
+pub data AbstractSource : Type 0 where
+  by_type : AbstractType → AbstractSource
+  by_constraint : Constraint → AbstractSource
 
--- of the constraint of a part that speaks of this place
-abbrev pub of_within : ℕ → Option Constraint → ℕ → List ℕ → ℕ
-of_within at_place None place way = 0
-of_within at_place (Some c) place way = if nat_eq at_place place then of_constraint c way else 0
+abbrev pub source_view : Source → AbstractSource
+source_view (source.Type t) = by_type (type_view t.now)
+source_view (source.Constraint c) = by_constraint (constraint_view c.now)
 
-abbrev pub of_part : OnePart → ℕ → List ℕ → ℕ
-of_part p place way = of_within p.place p.within place way
+abbrev pub sources_view : List Source → List AbstractSource
+sources_view sources = map source_view sources
+
+abbrev pub of_source : AbstractSource → List ℕ → ℕ
+of_source (by_type t) way = conditions.of_type t way
+of_source (by_constraint c) way = conditions.of_constraint c way
+
+abbrev pub of_sources : List AbstractSource → List ℕ → ℕ
+of_sources [] way = 0
+of_sources (s ∷ ss) way = of_source s way + of_sources ss way
+
+abbrev pub by_types : List AbstractType → List AbstractSource
+by_types types = map by_type types

@@ -1,6 +1,6 @@
 -- How nodes are put together for a type and what is asked of it: each step adds nodes, and answers one that isn't
 -- there yet.
-use Rattle.std.specs.Prelude.{ℕ, suc, ◌+◌, ◌≤◌, ◌≡◌, IsTrue, List, [], ◌++◌, map, length, ⊤, ℤ}
+use Rattle.std.specs.Prelude.{ℕ, suc, ◌+◌, ◌≤◌, ◌≡◌, Bool, true, false, IsTrue, List, [], ◌++◌, map, length, ⊤, ℤ}
 use Rattle.guard_model.specs.AbstractType as type
 use Rattle.guard_model.specs.AbstractType.{AbstractType, AbstractKind, Components, no_components, component}
 use Rattle.guard_model.specs.Kinds.{kind_of}
@@ -68,6 +68,12 @@ body_of_group group.Series ps = series ps
 body_of_group group.Set ps = set ps
 body_of_group group.Choice ps = choice ps
 
+-- whether only one of the parts is there
+abbrev pub is_exclusive : Group → Bool
+is_exclusive group.Series = false
+is_exclusive group.Set = false
+is_exclusive group.Choice = true
+
 abbrev pub parts_of_group : Group → ℕ → Components → List Term → Parts
 parts_of_group group.Series i cs terms = lay_parts i cs terms
 parts_of_group group.Set i cs terms = lay_parts i cs terms
@@ -84,13 +90,11 @@ pub record WithPart (others : List Node) (l : Laid) (side : Side) (new : LaidPar
   pub stand : (ps : Parts)
       → parts_in new ps ≡ parts_then (spots_at (spots_so_far l.builder) others) (part side (plan_in l) ps)
 
--- with what is inside it, and for whatever parts come after it
-pub record Extends (old new : LaidParts) (g : Group) (place : ℕ) (c : OneComponent) (terms : List Term) : Type 0 where
+-- with what is inside it: one part more, of which this is said and which stands for this plan, whatever parts come after it
+pub record Extends (old new : LaidParts) (side : Side) (p : Plan) : Type 0 where
   pub grows : Grows old.builder new.builder
   pub nodes : MayCome new
-  pub stand : (rest : Components)
-      → parts_in new (parts_of_group g (suc place) rest terms)
-      ≡ parts_in old (parts_of_group g place (component c.name c.ty c.presence rest) terms)
+  pub stand : (ps : Parts) → parts_in new ps ≡ parts_in old (part side p ps)
 
 -- what is said of the part at this place
 abbrev pub side_of_part : Group → ℕ → OneComponent → List Term → Plan → Side

@@ -1,4 +1,4 @@
--- What the code's values about one type stand for.
+-- What the code's values about one type say.
 use Rattle.std.specs.Prelude.{map}
 use Rattle.guard_model.specs.TypeView.{type_view}
 use Rattle.guard_syntax.specs.TypeViews.{tag_view}

@@ -1,4 +1,4 @@
--- What the code's list of parts stands for.
+-- What the code's list of parts says.
 use Rattle.std.specs.Prelude.{map}
 use Rattle.guard_model.specs.TypeView.{component_view}
 use Rattle.guard_tagging.specs.declared.made.Parts.{Parts}

@@ -19,7 +19,7 @@ abbrev pub number_result : Site → Option ℤ → Result ℤ TagFault
 number_result site None = Err (NumberTooLarge site)
 number_result site (Some z) = Ok z
 
--- the number of the item or named number whose name stands there
+-- the number of the item or named number with the name there
 abbrev pub read_at : Site → WrittenNumber → Result ℤ TagFault
 read_at site n = number_result site (read_integer n)
 
@@ -33,7 +33,8 @@ read_named n = read_at n.site n.number >>= λ z. Ok (numbered_name n.name z)
 
 abbrev pub bits_fault : List WrittenNamed → Option TagFault
 bits_fault [] = None
-bits_fault (b ∷ bs) = option_or (fault_where (not (is_bit (number_of b.number))) (NumberTooLarge b.site)) (bits_fault bs)
+bits_fault (b ∷ bs) =
+    option_or (fault_where (not (is_bit (number_of b.number))) (NumberTooLarge b.site)) (bits_fault bs)
 
 unfoldable pub read_bits : List WrittenNamed → Result (List NamedNumber) TagFault
 read_bits bs = allowed (bits_fault bs) >>= λ _. each read_named bs
@@ -62,7 +63,8 @@ read_number taken tries next site (Some n) = read_at site n >>= λ z. Ok (z, nex
 
 -- an item with its number
 abbrev pub read_item : List ℤ → ℕ → ℕ → WrittenItem → Result (NamedNumber × ℕ) TagFault
-read_item taken tries next i = read_number taken tries next i.site i.number >>= λ one. Ok (numbered_name i.name one.0, one.1)
+read_item taken tries next i =
+    read_number taken tries next i.site i.number >>= λ one. Ok (numbered_name i.name one.0, one.1)
 
 unfoldable pub read_numbered : List ℤ → ℕ → ℕ → List NamedNumber → List WrittenItem → Result (List NamedNumber) TagFault
 read_numbered taken tries next front [] = Ok front

@@ -17,7 +17,7 @@ text_octets name = utf8_lossy name
 abbrev pub near_number : WrittenNumber → ℤ
 near_number n = signed n.minus (min (number_value n.digits) (2 ^ 128 - 1))
 
--- the integer that a key stands for
+-- the integer of a key
 abbrev pub signed_key : Bool × ℕ → ℤ
 signed_key (false, n) = pos n
 signed_key (true, n) = negsuc n

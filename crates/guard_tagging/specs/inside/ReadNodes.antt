@@ -13,7 +13,8 @@ use Rattle.guard_tagging.specs.Faults.{universal_tag, most_nodes}
 use Rattle.guard_tagging.specs.Named.{allowed}
 use Rattle.guard_tagging.specs.inside.ReadTags.{implicit_last, in_front, read_tags}
 
--- what is written of a type beside its base, whether it counts as a type, and the automatic tag that it gets, where it gets one
+-- what is written of a type beside its base, whether it counts as a type, and the automatic tag that it gets, where it
+-- gets one
 pub record Node : Type 0 where
   pub site : Site
   pub tags : List WrittenTag
@@ -42,12 +43,15 @@ one_where true = 1
 one_where false = 0
 
 unfoldable pub nodes_with : Node → ℕ → Result ℕ TagFault
-nodes_with node before = if nat_lt most_nodes (before + one_where node.counts) then Err (SchemaTooLarge node.site) else Ok (before + one_where node.counts)
+nodes_with node before =
+    if nat_lt most_nodes (before + one_where node.counts) then Err (SchemaTooLarge node.site) else Ok
+    (before + one_where node.counts)
 
 unfoldable pub whole_with : Node → List Tag → ℕ → ℕ → Result Whole TagFault
 whole_with node tags inside before =
     if nat_lt deepest_nesting (length tags + inside) then Err (TooDeep node.site)
-    else (nodes_with node before >>= λ nodes. Ok (record { tags = tags; nesting = length tags + inside; nodes = nodes }))
+    else (nodes_with node before >>= λ nodes.
+    Ok (record { tags = tags; nesting = length tags + inside; nodes = nodes }))
 
 abbrev pub made_from : Whole → AbstractKind → Constraints → Made
 made_from whole kind cons = record { ty = type_of whole.tags kind cons; nesting = whole.nesting; nodes = whole.nodes }

@@ -19,7 +19,8 @@ use Rattle.guard_tagging.specs.inside.ReadNodes.{Made}
 use Rattle.guard_tagging.specs.Tagging.{automatic_tag}
 use Rattle.guard_tagging.specs.Types.{parts_of}
 
--- components so far: where each stands, their greatest nesting, the types up to their end, and where COMPONENTS OF took in what it may not
+-- components so far: the site of each, their greatest nesting, the types up to their end, and where COMPONENTS OF took
+-- in what it may not
 pub record PartList : Type 0 where
   pub sites : List Site
   pub comps : List OneComponent
@@ -35,8 +36,8 @@ no_parts before = record { sites = []; comps = []; deepest = 0; nodes = before; 
 
 -- ---- automatic tags
 
--- The tag of the component at a place, in a list that is tagged automatically or isn't. After the last place that a list may have one tag is as good as
--- another, since the list is refused.
+-- The tag of the component at a place, in a list that is tagged automatically or isn't. After the last place that a
+-- list may have one tag is as good as another, since the list is refused.
 abbrev pub place_tag : Bool → ℕ → Option Tag
 place_tag false place = None
 place_tag true place = Some (automatic_tag (min place most_components))
@@ -54,7 +55,8 @@ pushed parts site comp nesting nodes =
     record { sites = parts.sites ++ site ∷ []; comps = parts.comps ++ comp ∷ []; deepest = max parts.deepest nesting; nodes = nodes; refused = parts.refused }
 
 abbrev pub with_component : PartList → Site → List ℕ → Made → AbstractPresence → PartList
-with_component parts site name made presence = pushed parts site (named_component name made.ty presence) made.nesting made.nodes
+with_component parts site name made presence =
+    pushed parts site (named_component name made.ty presence) made.nesting made.nodes
 
 abbrev pub listed : Components → List OneComponent
 listed type.no_components = []
@@ -89,11 +91,14 @@ with_refused parts refused = record { sites = parts.sites; comps = parts.comps; 
 
 abbrev pub taken_in : PartList → Collection → Bool → Site → Made → PartList
 taken_in parts k automatic site made =
-    if is_refused (refused_at k automatic site made.ty) then with_refused parts (refused_at k automatic site made.ty) else with_list parts site made
+    if is_refused (refused_at k automatic site made.ty) then with_refused parts
+    (refused_at k automatic site made.ty) else with_list parts site made
 
 abbrev pub refused_fault : Refused → Option TagFault
 refused_fault r =
-    first_of (option_map (λ site. ComponentsOfKind site) r.kind ∷ option_map (λ site. ComponentsOfAutomatic site) r.automatic ∷ option_map (λ site. ComponentsOfTagged site) r.tagged ∷ [])
+    first_of (option_map (λ site. ComponentsOfKind site) r.kind
+    ∷ option_map (λ site. ComponentsOfAutomatic site) r.automatic
+    ∷ option_map (λ site. ComponentsOfTagged site) r.tagged ∷ [])
 
 -- ---- what COMPONENTS OF took in, the names of a list, and how long it is
 
@@ -103,4 +108,6 @@ list_result site None true = Err (TooManyComponents site)
 list_result site None false = Ok tt
 
 unfoldable pub check_list : Site → PartList → Result (Unit {0}) TagFault
-check_list site parts = allowed (refused_fault parts.refused) >>= λ _. list_result site (repeated [] (read_places parts.sites parts.comps)) (nat_lt most_components (length parts.comps))
+check_list site parts =
+    allowed (refused_fault parts.refused) >>= λ _.
+    list_result site (repeated [] (read_places parts.sites parts.comps)) (nat_lt most_components (length parts.comps))

@@ -41,4 +41,6 @@ unless_replaced false front tag = front ++ tag ∷ []
 -- the tags in front, then those that are written, then those of the type itself
 unfoldable pub read_tags : TagDefault → Bool → List Tag → List WrittenTag → List Tag → Result (List Tag) TagFault
 read_tags default replaced front [] base = Ok (front ++ kept replaced base)
-read_tags default replaced front (w ∷ ws) base = read_tag w >>= λ tag. read_tags default (not (is_explicit w.mode default false)) (unless_replaced replaced front tag) ws base
+read_tags default replaced front (w ∷ ws) base =
+    read_tag w >>= λ tag. read_tags default (not
+    (is_explicit w.mode default false)) (unless_replaced replaced front tag) ws base

@@ -1,4 +1,4 @@
--- What the values of the code stand for.
+-- What the values of the code say.
 use Rattle.std.specs.Prelude.{option_map}
 use Rattle.guard_tagging.specs.declared.names.Placed as code
 use Rattle.guard_tagging.specs.Faults.{Placed}

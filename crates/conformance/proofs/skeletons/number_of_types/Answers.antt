@@ -1,14 +1,14 @@
-use Rattle.std.proofs.Common.{◌≡◌, ℕ, ◌+◌, List, [], All, length, map, get_or, slice_get, sym, ap, subst, ◌∙◌, arith}
+use Rattle.std.proofs.Common.{ℕ, ◌+◌, Bool, List, [], ◌∷◌, ◌++◌, All, length, map, get_or, sym, ap, subst, ◌∙◌, arith}
 use Rattle.std.proofs.lemmas.List.{length-map, length_push}
 use Rattle.std.proofs.lemmas.List.Elements.{All-push}
 use Rattle.guard_model.specs.TypeView.{type_view}
 use Rattle.guard_model.specs.declared.ty.Ty.{Ty}
-use Rattle.guard_names.specs.Declarations.{definitions}
 use Rattle.guard_names.specs.NamesView.{modules_of, order_of}
 use Rattle.guard_tagging.specs.Faults.{nodes}
 use Rattle.guard_tagging.specs.ScopeView.{known_list}
-use Rattle.guard_tagging.specs.Surroundings.{is_automatic_definition, known_from, nodes_of_all}
-use Rattle.guard_tagging.proofs.Builds.{known_end}
+use Rattle.guard_tagging.specs.Skeletons.{AreMeanings}
+use Rattle.guard_tagging.specs.Surroundings.{nodes_of_all}
+use Rattle.guard_tagging.proofs.Definitions.Meanings.{none_yet}
 use Rattle.conformance.proofs.OneMore.{known_more, sum_more, listed, IsKept}
 use Rattle.conformance.proofs.skeletons.number_of_types.Goals as goal
 
@@ -21,14 +21,14 @@ loop-id-init c =
     record {
       built = ap length types;
       flagged = ap length flags;
-      known = (λ i. known_list (map type_view (types i)) (flags i)) ∙ sym (known_end ms order [] [] order) ∙ ap (λ (ts : List Ty). known_from ms order (map type_view ts)) (sym types);
+      known = subst (λ (ts : List Ty). AreMeanings ms order (map type_view ts) (known_list (map type_view ts) c.new-automatic.result.items)) (sym types) (none_yet ms order);
       counted = ap (λ (ts : List Ty). nodes_of_all (map type_view ts)) (sym types);
       few = omega arith;
       limits = subst (All IsKept) (sym types) (λ k d lt. absurd (omega (arith, lt)));
     }
 
-pub skeleton_behind-requires-clause-next : goal.skeleton_behind-requires-clause-next
-skeleton_behind-requires-clause-next c =
+pub skeleton_after-requires-clause-next : goal.skeleton_after-requires-clause-next
+skeleton_after-requires-clause-next c =
     listed (order_of c.args.names.now) c.order-id-items.result.now c.loop-id.id-index (length c.deref.result.now) c.order-id-items.ensures.same (ap length c.deref.ensures.value ∙ c.loop-id.invariant.built) c.loop-id-test.true
 
 pub loop-id-preserved : goal.loop-id-preserved
@@ -44,14 +44,12 @@ loop-id-preserved c =
     let more_types = c.in_ok-push-2.ensures.items in
     let more_flags = c.in_ok-push.ensures.items in
     let next = listed order c.order-id-items.result.now c.loop-id.id-index (length (map type_view types)) c.order-id-items.ensures.same (length-map types type_view ∙ inv.built) c.loop-id-test.true in
-    let known_now : is_automatic_definition ms order (known_list (map type_view c.deref.result.now) c.deref-in-loop-id.result.now) (slice_get (definitions ms) number) ≡ is_automatic_definition ms order (known_list (map type_view types) flags) (slice_get (definitions ms) number) =
-    λ i. is_automatic_definition ms order (known_list (map type_view (c.deref.ensures.value i)) (c.deref-in-loop-id.ensures.value i)) (slice_get (definitions ms) number) in
     record {
       built = ap length more_types ∙ length_push types ty ∙ ap (λ (n : ℕ). n + 1) inv.built;
       flagged = ap length more_flags ∙ length_push flags flag ∙ ap (λ (n : ℕ). n + 1) inv.flagged;
-      known = (λ i. known_list (map type_view (more_types i)) (more_flags i))
-          ∙ known_more ms order types flags ty number flag (inv.built ∙ sym inv.flagged) next inv.known (c.in_ok-next.ensures.known ∙ known_now)
-          ∙ ap (λ (ts : List Ty). known_from ms order (map type_view ts)) (sym more_types);
+      known = subst (λ (ts : List Ty). AreMeanings ms order (map type_view ts) (known_list (map type_view ts) c.push.new.self.items)) (sym more_types)
+          (subst (λ (fs : List Bool). AreMeanings ms order (map type_view (types ++ ty ∷ [])) (known_list (map type_view (types ++ ty ∷ [])) fs)) (sym more_flags)
+          (known_more ms order types flags ty number flag (inv.built ∙ sym inv.flagged) next inv.known c.in_ok-next.ensures.known));
       counted = c.in_ok-next.ensures.counted ∙ ap (λ (n : ℕ). n + nodes (type_view ty)) inv.counted ∙ sym (sum_more types ty) ∙ ap (λ (ts : List Ty). nodes_of_all (map type_view ts)) (sym more_types);
       few = c.in_ok-next.ensures.few;
       limits = subst (All IsKept) (sym more_types) (All-push IsKept types ty inv.limits c.in_ok-next.ensures.limits);

@@ -7,10 +7,15 @@ use Rattle.derguard_program.proofs.words.command.Goals as goal
 abbrev asks_for_a_command : App → App
 asks_for_a_command a = record a { top = record a.top { subcommand_required = true } }
 
+abbrev has_a_version : App → App
+has_a_version a = record a { top = record a.top { has_version = true } }
+
 pub returns : goal.returns
 returns c =
-    let start : app_of c.subcommand_required.result ≡ asks_for_a_command (new_app (codes "derguard")) =
-    ap app_of_fields c.subcommand_required.ensures ∙ ap asks_for_a_command (ap app_of_fields c.after_help.ensures ∙ ap app_of_fields c.about.ensures ∙ c.new.ensures.app) in
+    let versioned : app_of c.version.result ≡ has_a_version (new_app (codes "derguard")) =
+    ap app_of_fields c.version.ensures ∙ ap has_a_version c.new.ensures.app in
+    let start : app_of c.subcommand_required.result ≡ asks_for_a_command (has_a_version (new_app (codes "derguard"))) =
+    ap app_of_fields c.subcommand_required.ensures ∙ ap asks_for_a_command (ap app_of_fields c.after_help.ensures ∙ ap app_of_fields c.about.ensures ∙ versioned) in
     let first = with_command _ _ _ _ _ c.in_ok-subcommand.ensures refl start c.in_ok-check.ensures in
     let second = with_command _ _ _ _ _ c.in_ok-subcommand-2.ensures refl first c.in_ok-decide.ensures in
     let third = with_command _ _ _ _ _ c.in_ok-subcommand-3.ensures refl second c.in_ok-run.ensures in

@@ -15,4 +15,5 @@ returns c =
     let fourth = with_argument _ _ _ _ _ c.in_ok-arg-4.ensures c.option-3.ensures.local third c.option-3.ensures.rule in
     let hex_is = ap rule_of c.help.ensures ∙ ap rule_of c.value_name.ensures ∙ ap (λ (r : Rule). record r { value_names = 1 }) c.required.ensures.rule in
     let local = ap (λ (a : Arg). a.global) c.help.ensures ∙ ap (λ (a : Arg). a.global) c.value_name.ensures ∙ c.required.ensures.local in
-    IfOk-weaker c.arg-5.result _ _ (λ r added. ap (λ (a : App). a.top) (with_argument _ r _ _ _ added local fourth hex_is)) c.arg-5.ensures
+    let fifth = with_argument _ _ _ _ _ c.in_ok-arg-5.ensures local fourth hex_is in
+    IfOk-weaker c.arg-6.result _ _ (λ r added. ap (λ (a : App). a.top) (with_argument _ r _ _ _ added c.switch.ensures.local fifth c.switch.ensures.rule)) c.arg-6.ensures

@@ -14,6 +14,7 @@ invariant_of-result c =
       consistent = rw (e, f) (consistent messages rules c.requires.messages_sound c.requires.rules_sound c.in_ok-kept.ensures.met);
       indexed = rw (e, f) c.in_ok-index.ensures.index;
       placed = rw e c.in_ok-index.ensures.placed;
+      routed = rw f c.in_ok-kept.ensures.routed;
     }
 
 pub returns-clause-messages : goal.returns-clause-messages

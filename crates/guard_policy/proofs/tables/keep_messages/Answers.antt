@@ -5,6 +5,8 @@ use Rattle.guard_policy.specs.EntryFaults.{tables_fault}
 use Rattle.guard_policy.specs.Policies.{message_view, rule_view}
 use Rattle.guard_policy.specs.PolicyFaults.{named}
 use Rattle.guard_policy.specs.inside.Keeping.{Tabled, tabled_view, tabled}
+use Rattle.std.proofs.lemmas.List.Elements.{All-push}
+use Rattle.guard_policy.specs.inside.Routing.{IsRouted}
 use Rattle.guard_policy.proofs.EntriesRead.{left_is, taken_is, sound_at, tables_one, tables_here}
 use Rattle.guard_policy.proofs.tables.keep_messages.Goals as goal
 
@@ -35,4 +37,5 @@ loop-index-preserved c =
           ∙ ap (λ (all : List Tabled). all ++ tabled rules m ∷ []) c.loop-index.invariant.kept
           ∙ sym (map_push (tabled rules) (map message_view (take c.loop-index.index c.args.messages.now)) m)
           ∙ ap (map (tabled rules)) (sym (taken_is message_view c.args.messages.now c.loop-index.index c.index-messages-index.result c.loop-index-test.true c.index-messages-index.is)));
+      routed = rw c.in_ok-push.ensures.items (All-push (IsRouted rules) c.loop-index.kept.items c.in_ok-message.message c.loop-index.invariant.routed c.in_ok-message.ensures.routed);
     }

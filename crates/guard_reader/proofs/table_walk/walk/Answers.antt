@@ -1,4 +1,4 @@
-use Rattle.std.proofs.Common.{◌≡◌, ◌+◌, ◌∷◌, Some, None, length, refl, sym, ap, ◌∙◌, subst, arith}
+use Rattle.std.proofs.Common.{◌≡◌, ◌+◌, ◌∷◌, Some, length, sym, ap, ◌∙◌, subst, arith}
 use Rattle.guard_der.proofs.Numbers.Digits.{are_digits}
 use Rattle.guard_tables.proofs.OfTables.{few_rules}
 use Rattle.guard_tables.specs.NodesView.{root_of}

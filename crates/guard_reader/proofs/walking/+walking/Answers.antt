@@ -1,7 +1,7 @@
-use Rattle.std.proofs.Common.{◌≡◌, ◌∙◌, ◌+◌, ◌-◌, ◌≤◌, Bool, true, false, vec_len, ap, sym, subst, refl, arith, drop, Some, None, Option, ℕ, get_or, ◌∷◌, [], add-one, map, List}
+use Rattle.std.proofs.Common.{◌≡◌, ◌∙◌, ◌+◌, ◌-◌, ◌<◌, ◌≤◌, Bool, true, false, vec_len, ap, sym, subst, refl, arith, drop, Some, None, Option, ℕ, get_or, ◌∷◌, [], add-one, map, List}
 use Rattle.std.specs.Prelude.{◌||◌, nat_eq}
 use Rattle.std.proofs.lemmas.List.{take_rest}
-use Rattle.std.proofs.lemmas.Bool.{cond-true, cond-false}
+use Rattle.std.proofs.lemmas.Bool.{cond-true, cond-false, ne_eqb}
 use Rattle.guard_der.specs.Fits.{descends}
 use Rattle.guard_tables.specs.declared.slots.Slots.{Slots}
 use Rattle.guard_tables.specs.declared.node.Cold.{Cold}
@@ -10,14 +10,16 @@ use Rattle.guard_tables.specs.NodeViews.{raise_view}
 use Rattle.guard_tables.specs.Marking.{conditions_marked}
 use Rattle.guard_tables.specs.Formulas.{raised}
 use Rattle.guard_tables.specs.NodesView.{spots_in}
-use Rattle.guard_reader.specs.Fronts.{element_in, front_of}
+use Rattle.guard_reader.specs.Fronts.{begins, element_in, front_cut, front_of}
 use Rattle.guard_reader.specs.Judging.{is_read, fields_judged, outside, then_marked, whole_facts, size_in, ordered}
 use Rattle.guard_reader.specs.inside.Answers.{Answers}
 use Rattle.guard_reader.specs.inside.Members.{AreRead}
-use Rattle.guard_reader.specs.inside.NodeParts.{has_layers, pass_at, sight_at}
+use Rattle.guard_reader.specs.inside.NodeParts.{IsNear, has_layers, pass_at, sight_at}
+use Rattle.guard_reader.specs.inside.Ranks.{AreBelow}
 use Rattle.guard_reader.proofs.Elements.{bind_some, bind_none}
 use Rattle.guard_reader.proofs.FrontSteps.{front_within}
-use Rattle.guard_reader.proofs.NodeTags.{kind_of_choice}
+use Rattle.guard_reader.proofs.NodeTags.{identifier_is, kind_of_choice, near_front, octet_elsewhere, octet_turned}
+use Rattle.guard_reader.proofs.Ranks.{near_cut}
 use Rattle.guard_reader.proofs.Passes.{element_here, last_element, no_element, none_left, none_ordered, not_ordered, one_element, one_ordered}
 use Rattle.guard_reader.proofs.SetSteps.{set_judged, kind_of_set, no_bit, nothing_left, no_tag, no_member, one_member, members_over, judged_none, judged_again, judged_new}
 use Rattle.guard_reader.proofs.Steps.{yes, no, at_end, absent_there, not_whole, present_there, refused, sent, chosen_more, chosen_alone, chosen_here, chosen_broken, chosen_later}
@@ -66,8 +68,8 @@ contents-returns-in-SetOf t c =
     let n = node_at c.args.table.now c.args.at c.index-node.result.now c.requires c.index-node.ensures in
     subst (λ (r : Option Slots). Answers c.set_of.result c.set_of.new.failed r) (sym (set_of_judged c.args.table.now c.args.at c.index-node.result.now n c.in-SetOf.is c.args.inside.now c.args.failed.now)) c.set_of.ensures
 
-pub contents-contents-requires : goal.contents-contents-requires
-contents-contents-requires t c =
+pub contents-inner_contents-requires : goal.contents-inner_contents-requires
+contents-inner_contents-requires t c =
     let n = node_at c.args.table.now c.args.at c.index-node.result.now c.requires c.index-node.ensures in
     let inner = n.node.inner (ap has_inner c.in-Wrapper.is) in
     (omega (arith, inner), omega (arith, inner, c.requires))
@@ -75,7 +77,7 @@ contents-contents-requires t c =
 pub contents-returns-in-Wrapper : goal.contents-returns-in-Wrapper
 contents-returns-in-Wrapper t c =
     let n = node_at c.args.table.now c.args.at c.index-node.result.now c.requires c.index-node.ensures in
-    subst (λ (r : Option Slots). Answers c.contents.result c.contents.new.failed r) (sym (wrapper_judged c.args.table.now c.args.at c.index-node.result.now n c.in-Wrapper.is c.args.inside.now c.args.failed.now)) c.contents.ensures
+    subst (λ (r : Option Slots). Answers c.inner_contents.result c.inner_contents.new.failed r) (sym (wrapper_judged c.args.table.now c.args.at c.index-node.result.now n c.in-Wrapper.is c.args.inside.now c.args.failed.now)) c.inner_contents.ensures
 
 pub contents-choice-requires : goal.contents-choice-requires
 contents-choice-requires t c = (omega arith, (c.requires, record { node = c.index-node.result.now; there = there_at c.args.table.now c.args.at c.index-node.result.now c.requires c.index-node.ensures; kind = c.in-Choice.is }))
@@ -325,32 +327,88 @@ series::part-returns-then-begins_plainly t c =
     rw (take_rest c.args.octets.now 3) (sym (present_there side pass c.args.octets.now c.args.failed.now one (drop 3 c.args.octets.now) _ (Some c.args.failed.now)
     (sym (one_here c.args.table.now c.args.at h c.args.octets.now n o)) (sent side pass one c.args.failed.now c.args.failed.now plain.0 ∙ plain.1)))
 
-pub series::part-returns-then-not-present : goal.series::part-returns-then-not-present
-series::part-returns-then-not-present t c =
+pub series::part-near_part-requires : goal.series::part-near_part-requires
+series::part-near_part-requires t c =
+    let h = c.index-node.result.now in
+    let n = node_at c.args.table.now c.args.at h c.requires c.index-node.ensures in
+    let is = sym (identifier_is c.args.table.now c.args.at h n) in
+    let near : IsNear c.args.table.now c.args.at c.args.octets.now = (subst (λ (o : ℕ). o < 256) is (c.begins.ensures.small c.if-begins.true), subst (λ (o : ℕ). begins o c.args.octets.now ≡ true) is (sym c.begins.ensures.same ∙ c.if-begins.true)) in
+    (omega arith, (c.requires, near))
+
+pub series::part-returns-then-begins-2 : goal.series::part-returns-then-begins-2
+series::part-returns-then-begins-2 t c =
+    let h = c.index-node.result.now in
+    let n = node_at c.args.table.now c.args.at h c.requires c.index-node.ensures in
+    let side = (spot_at (spots_in c.args.table.now) c.args.at).side in
+    let pass = pass_at (spots_in c.args.table.now) c.args.at in
+    let turned = near_front c.args.table.now c.args.at h n c.args.octets.now (ne_eqb h.identifier 256 c.if-node-eq256.false)
+    ∙ octet_turned h.identifier h.other c.args.octets.now (sym c.begins.ensures.same ∙ c.if-begins.false) (sym c.begins-2.ensures.same ∙ c.if-begins-2.true) in
+    sym (not_whole side pass c.args.octets.now c.args.failed.now _ (sym turned))
+
+pub series::part-returns-then-not-absent : goal.series::part-returns-then-not-absent
+series::part-returns-then-not-absent t c =
+    let h = c.index-node.result.now in
+    let n = node_at c.args.table.now c.args.at h c.requires c.index-node.ensures in
+    let side = (spot_at (spots_in c.args.table.now) c.args.at).side in
+    let pass = pass_at (spots_in c.args.table.now) c.args.at in
+    let away = near_front c.args.table.now c.args.at h n c.args.octets.now (ne_eqb h.identifier 256 c.if-node-eq256.false)
+    ∙ octet_elsewhere h.identifier h.other c.args.octets.now (sym c.begins.ensures.same ∙ c.if-begins.false) (sym c.begins-2.ensures.same ∙ c.if-begins-2.false) in
+    sym (absent_there side pass c.args.octets.now c.args.failed.now _ None (sym away) (no c.absent.result c.absent.new.failed _ c.absent.ensures c.if-not-absent.true))
+
+pub series::part-returns : goal.series::part-returns
+series::part-returns t c =
+    let h = c.index-node.result.now in
+    let n = node_at c.args.table.now c.args.at h c.requires c.index-node.ensures in
+    let side = (spot_at (spots_in c.args.table.now) c.args.at).side in
+    let pass = pass_at (spots_in c.args.table.now) c.args.at in
+    let away = near_front c.args.table.now c.args.at h n c.args.octets.now (ne_eqb h.identifier 256 c.if-node-eq256.false)
+    ∙ octet_elsewhere h.identifier h.other c.args.octets.now (sym c.begins.ensures.same ∙ c.if-begins.false) (sym c.begins-2.ensures.same ∙ c.if-begins-2.false) in
+    sym (absent_there side pass c.args.octets.now c.args.failed.now _ (Some c.absent.new.failed) (sym away) (yes c.absent.result c.absent.new.failed _ c.absent.ensures c.if-not-absent.false))
+
+pub series::near_part-returns-then-not-present : goal.series::near_part-returns-then-not-present
+series::near_part-returns-then-not-present t c =
+    let spot = spot_at (spots_in c.args.table.now) c.args.at in
+    let cut = near_cut spot.plan c.args.octets.now c.requires.near.0 c.requires.near.1 in
+    sym (present_there spot.side (pass_at (spots_in c.args.table.now) c.args.at) c.args.octets.now c.args.failed.now c.in-Some.inside.now c.in-Some.rest.now _ None (ap front_cut c.in-Some.ensures ∙ sym cut) (no c.present.result c.present.new.failed _ c.present.ensures c.if-not-present.true))
+
+pub series::near_part-returns-else-not-present : goal.series::near_part-returns-else-not-present
+series::near_part-returns-else-not-present t c =
+    let spot = spot_at (spots_in c.args.table.now) c.args.at in
+    let cut = near_cut spot.plan c.args.octets.now c.requires.near.0 c.requires.near.1 in
+    sym (present_there spot.side (pass_at (spots_in c.args.table.now) c.args.at) c.args.octets.now c.args.failed.now c.in-Some.inside.now c.in-Some.rest.now _ (Some c.present.new.failed) (ap front_cut c.in-Some.ensures ∙ sym cut) (yes c.present.result c.present.new.failed _ c.present.ensures c.if-not-present.false))
+
+pub series::near_part-returns-in-None : goal.series::near_part-returns-in-None
+series::near_part-returns-in-None t c =
+    let spot = spot_at (spots_in c.args.table.now) c.args.at in
+    let cut = near_cut spot.plan c.args.octets.now c.requires.near.0 c.requires.near.1 in
+    sym (not_whole spot.side (pass_at (spots_in c.args.table.now) c.args.at) c.args.octets.now c.args.failed.now _ (ap front_cut c.in-None.ensures ∙ sym cut))
+
+pub series::far_part-returns-then-not-present : goal.series::far_part-returns-then-not-present
+series::far_part-returns-then-not-present t c =
     let side = (spot_at (spots_in c.args.table.now) c.args.at).side in
     let pass = pass_at (spots_in c.args.table.now) c.args.at in
     sym (present_there side pass c.args.octets.now c.args.failed.now c.in-Here.inside.now c.in-Here.rest.now _ None c.in-Here.ensures (no c.present.result c.present.new.failed _ c.present.ensures c.if-not-present.true))
 
-pub series::part-returns-else-not-present : goal.series::part-returns-else-not-present
-series::part-returns-else-not-present t c =
+pub series::far_part-returns-else-not-present : goal.series::far_part-returns-else-not-present
+series::far_part-returns-else-not-present t c =
     let side = (spot_at (spots_in c.args.table.now) c.args.at).side in
     let pass = pass_at (spots_in c.args.table.now) c.args.at in
     sym (present_there side pass c.args.octets.now c.args.failed.now c.in-Here.inside.now c.in-Here.rest.now _ (Some c.present.new.failed) c.in-Here.ensures (yes c.present.result c.present.new.failed _ c.present.ensures c.if-not-present.false))
 
-pub series::part-returns-then-not-absent : goal.series::part-returns-then-not-absent
-series::part-returns-then-not-absent t c =
+pub series::far_part-returns-then-not-absent : goal.series::far_part-returns-then-not-absent
+series::far_part-returns-then-not-absent t c =
     let side = (spot_at (spots_in c.args.table.now) c.args.at).side in
     let pass = pass_at (spots_in c.args.table.now) c.args.at in
     sym (absent_there side pass c.args.octets.now c.args.failed.now _ None c.in-Elsewhere.ensures (no c.absent.result c.absent.new.failed _ c.absent.ensures c.if-not-absent.true))
 
-pub series::part-returns-else-not-absent : goal.series::part-returns-else-not-absent
-series::part-returns-else-not-absent t c =
+pub series::far_part-returns-else-not-absent : goal.series::far_part-returns-else-not-absent
+series::far_part-returns-else-not-absent t c =
     let side = (spot_at (spots_in c.args.table.now) c.args.at).side in
     let pass = pass_at (spots_in c.args.table.now) c.args.at in
     sym (absent_there side pass c.args.octets.now c.args.failed.now _ (Some c.absent.new.failed) c.in-Elsewhere.ensures (yes c.absent.result c.absent.new.failed _ c.absent.ensures c.if-not-absent.false))
 
-pub series::part-returns-in-Broken : goal.series::part-returns-in-Broken
-series::part-returns-in-Broken t c =
+pub series::far_part-returns-in-Broken : goal.series::far_part-returns-in-Broken
+series::far_part-returns-in-Broken t c =
     let side = (spot_at (spots_in c.args.table.now) c.args.at).side in
     let pass = pass_at (spots_in c.args.table.now) c.args.at in
     sym (not_whole side pass c.args.octets.now c.args.failed.now _ c.in-Broken.ensures)
@@ -457,7 +515,7 @@ sets::set-loop-rest-init t c =
     let h = c.index-node.result.now in
     let n = node_at c.args.table.now c.args.at h c.requires.room c.index-node.ensures in
     let kept : AreRead (parts_between (spots_in c.args.table.now) h.first h.count) c.args.octets.now c.args.octets.now 0 [] = record { reach = refl; kept = λ i low. no_bit i } in
-    ([], kept, set_judged c.args.table.now c.args.at h n (kind_of_set c.args.table.now c.args.at h c.requires.kind c.requires.room c.index-node.ensures) c.args.octets.now c.args.failed.now)
+    ([], kept, set_judged c.args.table.now c.args.at h n (kind_of_set c.args.table.now c.args.at h c.requires.kind c.requires.room c.index-node.ensures) c.args.octets.now c.args.failed.now, omega arith, λ k from to. absurd (omega (arith, from, to)))
 
 pub sets::set-returns-in_default : goal.sets::set-returns-in_default
 sets::set-returns-in_default t c =
@@ -472,7 +530,21 @@ sets::set-returns-in_default t c =
 pub sets::set-member-requires : goal.sets::set-member-requires
 sets::set-member-requires t c =
     let n = node_at c.args.table.now c.args.at c.index-node.result.now c.requires.room c.index-node.ensures in
-    omega (arith, n.node.before, c.requires.room)
+    record { room = omega (arith, n.node.before, c.requires.room); few = omega (arith, c.passed-start.ensures.few, c.loop-rest.invariant.3); elsewhere = c.passed-start.ensures.elsewhere }
+
+pub sets::set-passed-start-requires : goal.sets::set-passed-start-requires
+sets::set-passed-start-requires t c =
+    let n = node_at c.args.table.now c.args.at c.index-node.result.now c.requires.room c.index-node.ensures in
+    record { room = omega (arith, n.node.before, c.requires.room, c.loop-rest.invariant.3); passed = c.loop-rest.invariant.4 }
+
+pub sets::set-advance-below-requires : goal.sets::set-advance-below-requires
+sets::set-advance-below-requires t c =
+    let n = node_at c.args.table.now c.args.at c.index-node.result.now c.requires.room c.index-node.ensures in
+    record {
+      room = omega (arith, n.node.before, c.requires.room);
+      few = omega (arith, c.passed-start.ensures.few, c.loop-rest.invariant.3);
+      passed = subst (λ (r : ℕ). AreBelow c.args.table.now c.index-node.result.now.first c.passed-start.result r) (sym c.rank_of-floor.ensures) c.passed-start.ensures.passed;
+    }
 
 pub sets::set-returns-in_default-member : goal.sets::set-returns-in_default-member
 sets::set-returns-in_default-member t c =
@@ -545,6 +617,8 @@ sets::set-loop-rest-preserved t c =
           (judged_new c.args.table.now h.first h.count places c.loop-rest.rest.now c.in-Some-member.inside.now c.in-Some-member.next.now c.loop-rest.failed c.in-Some-member.place (Some c.present.new.failed) room c.in-Some-member.ensures.found new
           (yes c.present.result c.present.new.failed _ c.present.ensures c.if-not-present.false)))
           ∙ c.loop-rest.invariant.2,
+      c.advance-below.ensures.few,
+      c.advance-below.ensures.passed,
     )
 
 pub sets::set-absences-requires : goal.sets::set-absences-requires

@@ -4,6 +4,7 @@ use Rattle.guard_tables.specs.TableNodes.{body_at, parts_between}
 use Rattle.guard_reader.specs.Judging.{chosen_judged, contents_judged, fields_judged, elements, ordered}
 use Rattle.guard_reader.specs.inside.Members.{AreRead}
 use Rattle.guard_reader.specs.inside.NodeParts.{pass_at, sight_at}
+use Rattle.guard_reader.specs.inside.Ranks.{AreBelow}
 use Rattle.guard_reader.proofs.SetSteps.{members}
 use Rattle.guard_reader.proofs.walking.+walking.Given as goal
 
@@ -27,6 +28,9 @@ decreases-formula l = 8 * l.at
 abbrev pub decreases-contents : goal.decreases-contents
 decreases-contents l = 8 * l.at + 1
 
+abbrev pub decreases-inner_contents : goal.decreases-inner_contents
+decreases-inner_contents l = 8 * l.at + 2
+
 abbrev pub decreases-layered : goal.decreases-layered
 decreases-layered l = 8 * l.at + 2
 
@@ -46,7 +50,13 @@ abbrev pub decreases-series::present : goal.decreases-series::present
 decreases-series::present l = 8 * l.at + 4
 
 abbrev pub decreases-series::part : goal.decreases-series::part
-decreases-series::part l = 8 * l.at + 5
+decreases-series::part l = 8 * l.at + 6
+
+abbrev pub decreases-series::near_part : goal.decreases-series::near_part
+decreases-series::near_part l = 8 * l.at + 5
+
+abbrev pub decreases-series::far_part : goal.decreases-series::far_part
+decreases-series::far_part l = 8 * l.at + 5
 
 -- ---- what is left is judged as the whole is
 
@@ -79,6 +89,7 @@ abbrev pub invariant-sets::set-loop-rest : goal.invariant-sets::set-loop-rest
 invariant-sets::set-loop-rest l =
     (places : List ℕ) × AreRead (parts_between (spots_in l.table) l.first l.count) l.fn.octets l.rest l.read places
     × (members (parts_between (spots_in l.table) l.first l.count) places l.last l.rest l.failed ≡ contents_judged (body_at (spots_in l.table) l.at) l.fn.octets l.fn.failed)
+    × (l.below ≤ l.count) × AreBelow l.table l.first l.below l.floor
 
 abbrev pub decreases-sets::set-loop-rest : goal.decreases-sets::set-loop-rest
 decreases-sets::set-loop-rest l = length l.rest

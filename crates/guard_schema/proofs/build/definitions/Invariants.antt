@@ -9,5 +9,6 @@ use Rattle.guard_schema.proofs.build.definitions.Given as goal
 -- with those of the modules that are left they are all
 abbrev pub invariant-loop-module : goal.invariant-loop-module
 invariant-loop-module l =
-    map entry_view l.all.items ++ entries_from (type_place (order_of l.names) l.values) (length l.all.items) (definitions (map module_view (drop l.module-index l.modules)))
+    map entry_view l.all.items ++ entries_from (type_place (order_of l.names) l.values) (length l.all.items)
+    (definitions (map module_view (drop l.module-index l.modules)))
     ≡ entries_from (type_place (order_of l.names) l.values) 0 (definitions (map module_view l.modules))

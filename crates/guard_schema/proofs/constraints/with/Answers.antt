@@ -1,5 +1,5 @@
 use Rattle.std.proofs.Common.{◌∙◌}
-use Rattle.guard_schema.proofs.Lists.{with_view}
+use Rattle.guard_schema.proofs.Filled.Lists.{with_view}
 use Rattle.guard_schema.proofs.constraints.with.Goals as goal
 
 pub returns : goal.returns

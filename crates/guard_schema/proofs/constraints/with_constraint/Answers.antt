@@ -1,9 +1,11 @@
 use Rattle.std.proofs.Common.{sym, subst, IsTrue}
 use Rattle.guard_model.specs.TypeView.{type_view, constraint_view}
 use Rattle.guard_der.specs.Sound.{is_sound}
-use Rattle.guard_schema.proofs.OneMore.{sound_with}
+use Rattle.guard_schema.proofs.Filled.OneConstraint.{sound_with}
 use Rattle.guard_schema.proofs.constraints.with_constraint.Goals as goal
 
 pub returns-clause-sound : goal.returns-clause-sound
 returns-clause-sound c =
-    subst (λ t. IsTrue (is_sound t)) (sym c.in_ok-with.ensures) (sound_with (type_view c.args.ty) (constraint_view c.in_ok-cons.cons) c.requires.sound c.in_ok-cons.ensures.proper)
+    subst (λ t. IsTrue (is_sound t)) (sym c.in_ok-with.ensures)
+    (sound_with (type_view c.args.ty) (constraint_view c.in_ok-cons.cons) c.requires.sound
+    c.in_ok-cons.ensures.proper)

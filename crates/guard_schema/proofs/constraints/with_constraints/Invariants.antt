@@ -2,7 +2,7 @@ use Rattle.std.specs.Prelude.{IsTrue}
 use Rattle.guard_model.specs.TypeView.{type_view}
 use Rattle.guard_der.specs.Sound.{is_sound}
 use Rattle.guard_schema.specs.Views.{visible_of}
-use Rattle.guard_schema.proofs.Filling.{ConstraintsSoFar}
+use Rattle.guard_schema.proofs.Filled.Loops.{ConstraintsSoFar}
 use Rattle.guard_schema.proofs.constraints.with_constraints.Given as goal
 
 abbrev pub invariant-loop-tree : goal.invariant-loop-tree

@@ -8,7 +8,9 @@ use Rattle.guard_schema.proofs.counting.+held.Given as goal
 -- ---- with what is still to come it is what all hold
 
 abbrev pub invariant-held_in_components-loop-comp : goal.invariant-held_in_components-loop-comp
-invariant-held_in_components-loop-comp l = (l.so_far ≤ 100001) × (min (l.so_far + held_in_components (left l.comps l.comp-index)) 100001 ≡ min (l.before + held_in_components (left l.comps 0)) 100001)
+invariant-held_in_components-loop-comp l = (l.so_far ≤ 100001)
+    × (min (l.so_far + held_in_components (left l.comps l.comp-index)) 100001 ≡ min
+    (l.before + held_in_components (left l.comps 0)) 100001)
 
 abbrev pub invariant-constraint_nodes-loop-cons : goal.invariant-constraint_nodes-loop-cons
 invariant-constraint_nodes-loop-cons l = record {

@@ -1,7 +1,7 @@
 use Rattle.std.proofs.Common.{◌≡◌, ℕ, ap, ◌∙◌, arith}
 use Rattle.guard_schema.specs.inside.InTurn as in_turn
 use Rattle.guard_schema.specs.Views.{filling_view}
-use Rattle.guard_schema.proofs.Moves.{none_yet, moved_more}
+use Rattle.guard_schema.proofs.Filled.Moves.{none_yet, moved_more}
 use Rattle.guard_schema.proofs.finishing.moved.Goals as goal
 
 pub loop-init : goal.loop-init
@@ -10,7 +10,8 @@ loop-init c = record { reached = omega arith; so_far = none_yet (filling_view c.
 pub loop-preserved : goal.loop-preserved
 loop-preserved c = record {
   reached = omega (arith, c.loop-test.true);
-  so_far = c.in_ok-so_far.ensures ∙ ap (λ (f : in_turn.Filling). in_turn.moved 1 f) c.loop.invariant.so_far ∙ moved_more c.loop.counter (filling_view c.args.filling);
+  so_far = c.in_ok-so_far.ensures ∙ ap (λ (f : in_turn.Filling). in_turn.moved 1 f) c.loop.invariant.so_far
+      ∙ moved_more c.loop.counter (filling_view c.args.filling);
 }
 
 pub returns : goal.returns

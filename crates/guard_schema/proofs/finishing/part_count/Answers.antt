@@ -1,5 +1,5 @@
 use Rattle.std.proofs.Common.{refl}
-use Rattle.guard_schema.proofs.FinishedTypes.{parts_counted}
+use Rattle.guard_schema.proofs.Filled.Steps.{parts_counted}
 use Rattle.guard_schema.proofs.finishing.part_count.Goals as goal
 
 pub returns : goal.returns

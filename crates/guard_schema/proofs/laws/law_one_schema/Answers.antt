@@ -1,12 +1,14 @@
 use Rattle.std.proofs.Common.{map, sym, ◌∙◌}
 use Rattle.guard_model.proofs.Results.{same_Ok}
 use Rattle.guard_values.proofs.Again.{says_read}
-use Rattle.guard_schema.proofs.Decided.{OneValue}
-use Rattle.guard_schema.proofs.OneSchema.{one_schema}
+use Rattle.guard_schema.proofs.OneAnswer.Steps.{OneValue}
+use Rattle.guard_schema.proofs.OneAnswer.Schemas.{one_schema}
 use Rattle.guard_schema.proofs.laws.law_one_schema.Goals as goal
 
 one_value : OneValue
-one_value names t tree v w h k = same_Ok v w (sym (says_read names.values tree t v h.0) ∙ says_read names.values tree t w k.0)
+one_value names t tree v w h k = same_Ok v w (sym (says_read names.values tree t v h.0)
+    ∙ says_read names.values tree t w k.0)
 
 pub returns : goal.returns
-returns c = one_schema one_value c.law_one_constraint.ensures c.law_one_fault.ensures (map (λ t. t.now) c.args.texts.now)
+returns c = one_schema one_value c.law_one_constraint.ensures c.law_one_fault.ensures
+    (map (λ t. t.now) c.args.texts.now)

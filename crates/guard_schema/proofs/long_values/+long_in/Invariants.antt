@@ -5,4 +5,5 @@ use Rattle.guard_schema.proofs.long_values.+long_in.Given as goal
 
 abbrev pub invariant-long_in_all-loop-cons : goal.invariant-long_in_all-loop-cons
 invariant-long_in_all-loop-cons l =
-    long_in_all (type_view l.ty) (constraints_of (map constraint_view (drop l.cons-index l.all))) ≡ long_in_all (type_view l.ty) (constraints_of (map constraint_view l.all))
+    long_in_all (type_view l.ty) (constraints_of (map constraint_view (drop l.cons-index l.all))) ≡ long_in_all
+    (type_view l.ty) (constraints_of (map constraint_view l.all))

@@ -1,8 +1,16 @@
 use Rattle.std.proofs.Common.{inl, inr, refl, sym, ap, ◌∙◌}
 use Rattle.guard_schema.specs.Faults.{DefaultOutside}
-use Rattle.guard_schema.proofs.Read.{site_there}
+use Rattle.guard_schema.proofs.Built.Readings.{site_there}
 use Rattle.guard_schema.proofs.readings.read_member.Goals as goal
 
 pub returns-else-member-clause-read : goal.returns-else-member-clause-read
 returns-else-member-clause-read c =
-    inl (_, c.in_ok-value.ensures.read, inr (_, (ap (λ s. DefaultOutside s) (sym (site_there c.args.tree.now)), sym c.member.ensures ∙ c.if-member.false), refl))
+    inl (
+      _,
+      c.in_ok-value.ensures.read,
+      inr (
+        _,
+        (ap (λ s. DefaultOutside s) (sym (site_there c.args.tree.now)), sym c.member.ensures ∙ c.if-member.false),
+        refl,
+      ),
+    )

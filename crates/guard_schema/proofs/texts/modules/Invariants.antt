@@ -2,7 +2,7 @@ use Rattle.std.proofs.Common.{◌≡◌, map, length}
 use Rattle.std.specs.Prelude.{All, IsUtf8}
 use Rattle.guard_syntax.specs.ModuleViews.{module_view}
 use Rattle.guard_tagging.specs.Spelled.{IsSpelledModule}
-use Rattle.guard_schema.proofs.ReadTexts.{TextsSoFar}
+use Rattle.guard_schema.proofs.Modules.Texts.{TextsSoFar}
 use Rattle.guard_schema.proofs.texts.modules.Given as goal
 
 abbrev pub invariant-loop-text : goal.invariant-loop-text

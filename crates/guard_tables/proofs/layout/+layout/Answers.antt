@@ -1,4 +1,4 @@
-use Rattle.std.proofs.Common.{true, List, map, refl, rules, sym, ap, subst, ◌∙◌}
+use Rattle.std.proofs.Common.{arith, ◌≡◌, ℕ, ◌<◌, Bool, true, List, [], length, replicate, get_or, map, refl, rules, sym, ap, subst, ◌∙◌}
 use Rattle.guard_model.specs.AbstractType.{AbstractKind}
 use Rattle.guard_model.specs.Kinds.{kind_of}
 use Rattle.guard_model.specs.TypeView.{type_view, kind_view, component_view, components_of}
@@ -12,11 +12,17 @@ use Rattle.guard_tables.specs.NodeViews.{condition_view, raise_view}
 use Rattle.guard_tables.specs.Plan.{Body, plan, asked_of, formula}
 use Rattle.guard_tables.specs.TableNodes.{own_tags}
 use Rattle.guard_tables.specs.inside.AskViews.{asks_view, terms_view}
-use Rattle.guard_tables.specs.inside.Laid.{AskedMayBeLaid, body_of_elements, body_of_group, parts_of_group, side_of_part}
+use Rattle.guard_tables.specs.inside.Laid.{AskedMayBeLaid, body_of_elements, body_of_group, parts_of_group, side_of_part, is_exclusive}
 use Rattle.guard_tables.specs.inside.SideViews.{part_side_view}
-use Rattle.guard_tables.proofs.Comings.{laid_as}
-use Rattle.guard_tables.proofs.LaidSteps.{tags_laid, formulas_laid, elements_laid, group_laid, extended, not_plain, still_aside}
+use Rattle.guard_tables.proofs.Comings.{laid_as, grown_on}
+use Rattle.guard_tables.proofs.LaidSteps.{tags_laid, formulas_laid, elements_laid, group_laid, extended, not_plain, still_aside, part_may, part_proper, part_more, rest_may}
 use Rattle.guard_tables.proofs.LaidTypes.{asked_may}
+use Rattle.std.specs.Global.{Vec}
+use Rattle.guard_model.specs.declared.ty.Comp.{Comp}
+use Rattle.guard_tables.specs.declared.asks.Term as code
+use Rattle.guard_tables.specs.Demands as asked
+use Rattle.guard_tables.specs.inside.Giving.{given_view, give_out}
+use Rattle.guard_tables.proofs.GivenOut.{own_terms, own_read, given_told, all_given}
 use Rattle.guard_tables.proofs.layout.+layout.Goals as goal
 
 pub lay-lay_asked-requires : goal.lay-lay_asked-requires
@@ -57,8 +63,52 @@ lay_part-with_part-requires t c = still_aside c.args.parts c.in_ok-laid.laid.bui
 
 pub lay_part-returns : goal.lay_part-returns
 lay_part-returns t c =
-    extended c.args.parts c.in_ok-laid.laid c.args.group c.args.place (component_view c.args.comp.now) (terms_view c.args.terms.now) (part_side_view c.in_ok-side.side) c.requires.nodes
-    (laid_as c.args.parts.builder c.in_ok-laid.laid _ (lay (component_view c.args.comp.now).ty (within_of c.args.place (terms_view c.args.terms.now)))
-    (rw (c.deref-2.ensures.value, c.in_ok-asks.ensures, component_view_is c.args.comp.now) refl) c.in_ok-laid.ensures)
-    (c.in_ok-side.ensures ∙ ap (λ (asks : List Ask). side_of_part c.args.group c.args.place (component_view c.args.comp.now) (terms_view c.args.terms.now) (lay (component_view c.args.comp.now).ty asks)) (ap asks_view c.deref.ensures.value ∙ c.in_ok-asks.ensures))
+    let own = terms_view c.args.terms.now in
+    let p = lay (component_view c.args.comp.now).ty (within_of c.args.place own) in
+    extended c.args.parts c.in_ok-laid.laid p (part_side_view c.in_ok-side.side) (side_of_part c.args.group c.args.place (component_view c.args.comp.now) own p) c.requires.nodes
+    (laid_as c.args.parts.builder c.in_ok-laid.laid _ p (rw (c.deref-2.ensures.value, c.in_ok-asks.ensures, component_view_is c.args.comp.now) refl) c.in_ok-laid.ensures)
+    (c.in_ok-side.ensures ∙ ap (λ (asks : List Ask). side_of_part c.args.group c.args.place (component_view c.args.comp.now) own (lay (component_view c.args.comp.now).ty asks)) (ap asks_view c.deref.ensures.value ∙ c.in_ok-asks.ensures))
     c.with_part.result c.with_part.ensures
+
+-- the tests that are given to the part
+own_given : (exclusive : Bool) (all : List asked.Term) (comps : List Comp) (vs : List (Vec code.Term)) (place : ℕ) (v : Vec code.Term) (ts : List code.Term) → ts ≡ v.items → (b : Bool) → b ≡ exclusive
+    → given_view vs ≡ give_out b all (replicate (length comps) []) → place < length comps → v ≡ get_or vs place v → terms_view ts ≡ own_terms exclusive place all
+own_given exclusive all comps vs place v ts read b same is lt at =
+    ap terms_view read ∙ own_read exclusive all (length comps) vs place v (given_told vs all b exclusive same (length comps) (length comps) refl is) lt at
+
+pub lay_each-index-requires : goal.lay_each-index-requires
+lay_each-index-requires t c =
+    omega (arith, c.loop-place-test.true, all_given c.is_exclusive.result (terms_view c.args.terms.now) (length c.args.comps.now) c.in_ok-given.given.items c.in_ok-given.ensures, c.in_ok-given.given.ok.0)
+
+pub lay_each-lay_part-requires : goal.lay_each-lay_part-requires
+lay_each-lay_part-requires t c =
+    let comps = c.args.comps.now in
+    let place = c.loop-place.place in
+    let all = terms_view c.args.terms.now in (
+      search (rules, the_lemmas),
+      (
+        c.loop-place.invariant.nodes,
+        (
+          part_may c.args.group comps place c.index-comps-place.result (terms_view c.deref.result.now) all c.loop-place-test.true c.index-comps-place.is
+              (own_given (is_exclusive c.args.group) all comps c.in_ok-given.given.items place c.index.result.now c.deref.result.now c.deref.ensures.value
+              c.is_exclusive.result c.is_exclusive.ensures c.in_ok-given.ensures c.loop-place-test.true c.index.ensures)
+              c.loop-place.invariant.rest,
+          part_proper comps place c.index-comps-place.result all c.loop-place-test.true c.index-comps-place.is c.loop-place.invariant.rest,
+        ),
+      ),
+    )
+
+pub lay_each-loop-place-preserved : goal.lay_each-loop-place-preserved
+lay_each-loop-place-preserved t c =
+    let comps = c.args.comps.now in
+    let place = c.loop-place.place in
+    let all = terms_view c.args.terms.now in
+    record {
+      grows = grown_on c.args.builder c.loop-place.parts.builder c.in_ok-parts.parts.builder c.loop-place.invariant.grows c.in_ok-parts.ensures.grows;
+      nodes = c.in_ok-parts.ensures.nodes;
+      stand = part_more c.loop-place.parts c.in_ok-parts.parts c.args.group comps place c.index-comps-place.result (terms_view c.deref.result.now) all c.loop-place-test.true c.index-comps-place.is
+          (own_given (is_exclusive c.args.group) all comps c.in_ok-given.given.items place c.index.result.now c.deref.result.now c.deref.ensures.value
+          c.is_exclusive.result c.is_exclusive.ensures c.in_ok-given.ensures c.loop-place-test.true c.index.ensures)
+          c.in_ok-parts.ensures _ c.loop-place.invariant.stand;
+      rest = rest_may comps place c.index-comps-place.result all c.loop-place-test.true c.index-comps-place.is c.loop-place.invariant.rest;
+    }

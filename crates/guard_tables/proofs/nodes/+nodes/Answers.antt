@@ -1,12 +1,16 @@
-use Rattle.std.proofs.Common.{sym, ◌∙◌, ◌∷◌}
+use Rattle.std.proofs.Common.{length, refl, ap, ◌∙◌}
 use Rattle.guard_model.specs.TypeView.{type_view}
-use Rattle.guard_tables.specs.Tables.{types_view}
-use Rattle.guard_tables.proofs.AllNodes.{past}
+use Rattle.guard_tables.specs.inside.Counting.{sources_view}
+use Rattle.guard_tables.specs.inside.HandingDown.{handed_view}
+use Rattle.guard_tables.proofs.HandedDown.{parts_told, each_told}
 use Rattle.guard_tables.proofs.nodes.+nodes.Goals as goal
 
-pub is_crowded_among-loop-place-preserved : goal.is_crowded_among-loop-place-preserved
-is_crowded_among-loop-place-preserved t c = record {
-  found = past (type_view c.args.declared.now ∷ types_view c.args.rules.now) c.args.way.now.items c.args.comps.now c.loop-place.place c.index-comps-place.result c.loop-place-test.true c.index-comps-place.is
-      (rw (c.loop-place.invariant.same, c.if-branch.false) at (sym c.in_ok-is_crowded_at.ensures.found)) ∙ c.loop-place.invariant.found;
-  same = c.in_ok-is_crowded_at.ensures.same ∙ c.loop-place.invariant.same;
-}
+pub is_crowded_in_parts-returns : goal.is_crowded_in_parts-returns
+is_crowded_in_parts-returns t c =
+    parts_told (sources_view c.args.sources.now) c.args.comps.now (length c.args.comps.now) (handed_view c.deref.result.now) refl
+    (ap handed_view c.deref.ensures.value ∙ c.in_ok-handed.ensures) c.is_crowded_among.result c.is_crowded_among.ensures
+
+pub is_crowded_in_each-returns : goal.is_crowded_in_each-returns
+is_crowded_in_each-returns t c =
+    each_told (sources_view c.args.sources.now) (type_view c.args.element.now) (handed_view c.deref.result.now)
+    (ap handed_view c.deref.ensures.value ∙ c.in_ok-handed.ensures) c.is_crowded_with.result c.is_crowded_with.ensures

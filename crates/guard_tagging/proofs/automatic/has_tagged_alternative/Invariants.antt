@@ -6,4 +6,5 @@ use Rattle.guard_tagging.proofs.automatic.has_tagged_alternative.Given as goal
 
 abbrev pub invariant-loop-alternative : goal.invariant-loop-alternative
 invariant-loop-alternative l =
-    has_tagged_alternative (alternatives_of (map written.alternative_view (drop l.alternative-index l.alternatives))) ≡ has_tagged_alternative (alternatives_of (map written.alternative_view l.alternatives))
+    has_tagged_alternative (alternatives_of (map written.alternative_view (drop l.alternative-index l.alternatives)))
+    ≡ has_tagged_alternative (alternatives_of (map written.alternative_view l.alternatives))

@@ -5,4 +5,6 @@ use Rattle.guard_tagging.specs.Types.{has_tagged_component}
 use Rattle.guard_tagging.proofs.automatic.has_tagged_component.Given as goal
 
 abbrev pub invariant-loop-comp : goal.invariant-loop-comp
-invariant-loop-comp l = has_tagged_component (components_of (map written.component_view (drop l.comp-index l.comps))) ≡ has_tagged_component (components_of (map written.component_view l.comps))
+invariant-loop-comp l =
+    has_tagged_component (components_of (map written.component_view (drop l.comp-index l.comps)))
+    ≡ has_tagged_component (components_of (map written.component_view l.comps))

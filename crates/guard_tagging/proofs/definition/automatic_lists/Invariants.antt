@@ -1,12 +1,13 @@
-use Rattle.std.proofs.Common.{◌≡◌, length, map, drop}
+use Rattle.std.proofs.Common.{◌≡◌, length, map, take}
 use Rattle.guard_model.specs.TypeView.{type_view}
 use Rattle.guard_names.specs.NamesView.{modules_of, order_of}
 use Rattle.guard_tagging.specs.ScopeView.{known_list}
-use Rattle.guard_tagging.specs.Surroundings.{known_behind, known_from}
+use Rattle.guard_tagging.specs.Skeletons.{AreMeanings}
 use Rattle.guard_tagging.proofs.definition.automatic_lists.Given as goal
 
 abbrev pub invariant-loop-place : goal.invariant-loop-place
 invariant-loop-place l = record {
   counted : length l.automatic.items ≡ l.place;
-  known : known_behind (modules_of l.names) (order_of l.names) (known_list (map type_view l.types) l.automatic.items) (drop l.place (order_of l.names)) (drop l.place (map type_view l.types)) ≡ known_from (modules_of l.names) (order_of l.names) (map type_view l.types);
+  known : AreMeanings (modules_of l.names) (order_of l.names) (take l.place (map type_view l.types))
+      (known_list (map type_view l.types) l.automatic.items);
 }

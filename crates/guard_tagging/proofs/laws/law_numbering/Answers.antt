@@ -1,6 +1,6 @@
 use Rattle.std.specs.Prelude.{map}
 use Rattle.guard_syntax.specs.TypeViews.{item_view}
-use Rattle.guard_tagging.proofs.FreeNumbers.{items_numbered}
+use Rattle.guard_tagging.proofs.Numbers.FreeNumbers.{items_numbered}
 use Rattle.guard_tagging.proofs.laws.law_numbering.Goals as goal
 
 pub returns : goal.returns

@@ -1,4 +1,4 @@
-use Rattle.guard_tagging.proofs.SpelledTokens.{spelled_by_tokens}
+use Rattle.guard_tagging.proofs.Definitions.SpelledTokens.{spelled_by_tokens}
 use Rattle.guard_tagging.proofs.laws.law_spelled.Goals as goal
 
 pub returns : goal.returns

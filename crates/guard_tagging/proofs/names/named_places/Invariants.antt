@@ -5,4 +5,5 @@ use Rattle.guard_tagging.specs.inside.Views.{place_view}
 use Rattle.guard_tagging.proofs.names.named_places.Given as goal
 
 abbrev pub invariant-loop-tree : goal.invariant-loop-tree
-invariant-loop-tree l = map place_view l.places.items ≡ map named_place (map written.named_view (take l.tree-index l.trees))
+invariant-loop-tree l =
+    map place_view l.places.items ≡ map named_place (map written.named_view (take l.tree-index l.trees))

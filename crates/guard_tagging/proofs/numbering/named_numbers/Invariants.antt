@@ -8,4 +8,5 @@ use Rattle.guard_tagging.proofs.numbering.named_numbers.Given as goal
 
 abbrev pub invariant-loop-tree : goal.invariant-loop-tree
 invariant-loop-tree l =
-    with_front (map named_view l.numbers.items) (each read_named (map written.named_view (drop l.tree-index l.trees))) ≡ each read_named (map written.named_view l.trees)
+    with_front (map named_view l.numbers.items) (each read_named (map written.named_view (drop l.tree-index l.trees)))
+    ≡ each read_named (map written.named_view l.trees)

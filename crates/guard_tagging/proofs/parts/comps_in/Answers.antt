@@ -1,4 +1,4 @@
-use Rattle.guard_tagging.proofs.TakenParts.{taken_sequence, taken_set, taken_choice}
+use Rattle.guard_tagging.proofs.Lists.CodeParts.{taken_sequence, taken_set, taken_choice}
 use Rattle.guard_tagging.proofs.parts.comps_in.Goals as goal
 
 pub returns-in-Sequence : goal.returns-in-Sequence

@@ -10,6 +10,8 @@ pub returns : goal.returns
 returns c =
     let made = c.into_inner-ty.result in
     subst (λ (r : PartList). IfOk c.pushed.result (λ v. parts_view v.value ≡ r))
-    (ap (λ (comp : OneComponent). pushed (parts_view c.args.parts.value) c.args.site comp made.nesting made.nodes) c.in_ok-comp.ensures
-    ∙ ap (λ (m : Made). with_component (parts_view c.args.parts.value) c.args.site c.args.name.now (made_view m) (presence_view c.args.presence)) c.into_inner-ty.ensures)
+    (ap (λ (comp : OneComponent). pushed
+    (parts_view c.args.parts.value) c.args.site comp made.nesting made.nodes) c.in_ok-comp.ensures
+    ∙ ap (λ (m : Made). with_component (parts_view c.args.parts.value) c.args.site c.args.name.now (made_view m)
+    (presence_view c.args.presence)) c.into_inner-ty.ensures)
     c.pushed.ensures

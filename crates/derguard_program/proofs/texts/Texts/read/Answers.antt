@@ -1,6 +1,6 @@
 use Rattle.std.proofs.lemmas.Result.{err_from_is_err_and}
 use Rattle.derguard_program.proofs.ReadingTexts.{read_later}
-use Rattle.derguard_program.proofs.Refusals.{lists_none}
+use Rattle.derguard_program.proofs.Refusals.{before_modules, lists_none}
 use Rattle.derguard_program.proofs.texts.Texts.read.Goals as goal
 
 pub returns-in_err-listed-clause-missing : goal.returns-in_err-listed-clause-missing
@@ -19,3 +19,8 @@ returns-clause-later g c =
 
 pub returns-in_err-listed-clause-later : goal.returns-in_err-listed-clause-later
 returns-in_err-listed-clause-later g c = (1, c.read.ensures.next)
+
+pub returns-in_err-listed-clause-before : goal.returns-in_err-listed-clause-before
+returns-in_err-listed-clause-before g c =
+    let e = err_from_is_err_and c.from_residual-in_err-listed.result c.from_residual-in_err-listed.ensures.1 in
+    rw e.1 (before_modules c.in_err-listed.field-0.0 e.0 e.2)

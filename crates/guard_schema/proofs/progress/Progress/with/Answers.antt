@@ -12,7 +12,7 @@ use Rattle.guard_tagging.proofs.Builds.{nodes_more}
 use Rattle.guard_schema.specs.Counting.{all_held, held_by}
 use Rattle.guard_schema.specs.Known.{Built}
 use Rattle.guard_schema.specs.inside.Pairs.{built_view, paired}
-use Rattle.guard_schema.proofs.Lists.{paired_more, held_more}
+use Rattle.guard_schema.proofs.Filled.Lists.{paired_more, held_more}
 use Rattle.guard_schema.proofs.progress.Progress.with.Goals as goal
 
 pub invariant_of-result : goal.invariant_of-result
@@ -25,19 +25,32 @@ invariant_of-result c =
     let types = c.in_ok-push.ensures.items in
     let values = c.in_ok-push-2.ensures.items in
     let all : paired c.push.new.self.items c.push-2.new.self.items ≡ paired ts vs ++ b ∷ [] =
-    ap (λ (xs : List Ty). paired xs c.push-2.new.self.items) types ∙ ap (paired (ts ++ t ∷ [])) values ∙ paired_more ts vs t v c.args.self.even in
+    ap (λ (xs : List Ty). paired xs c.push-2.new.self.items) types ∙ ap (paired (ts ++ t ∷ [])) values
+    ∙ paired_more ts vs t v c.args.self.even in
     record {
-      even = ap length values ∙ length-append vs (v ∷ []) ∙ ap (λ n. n + 1) c.args.self.even ∙ sym (ap length types ∙ length-append ts (t ∷ []));
-      counted = c.requires.nodes ∙ ap (λ n. n + nodes (type_view t)) c.args.self.counted ∙ sym (ap (λ (xs : List Ty). nodes_of_all (map type_view xs)) types ∙ ap nodes_of_all (map-append type_view ts (t ∷ [])) ∙ nodes_more (map type_view ts) (type_view t));
+      even = ap length values ∙ length-append vs (v ∷ []) ∙ ap (λ n. n + 1) c.args.self.even
+          ∙ sym (ap length types ∙ length-append ts (t ∷ []));
+      counted = c.requires.nodes ∙ ap (λ n. n + nodes (type_view t)) c.args.self.counted
+          ∙ sym (ap (λ (xs : List Ty). nodes_of_all (map type_view xs)) types
+          ∙ ap nodes_of_all (map-append type_view ts (t ∷ [])) ∙ nodes_more (map type_view ts) (type_view t));
       few = c.requires.few;
-      holding = c.requires.held ∙ ap (λ n. n + held_by b) c.args.self.holding ∙ sym (ap all_held all ∙ held_more (paired ts vs) b);
+      holding = c.requires.held ∙ ap (λ n. n + held_by b) c.args.self.holding
+          ∙ sym (ap all_held all ∙ held_more (paired ts vs) b);
       little = c.requires.little;
-      sound = All-same (λ (u : Ty). IsTrue (is_sound (type_view u))) _ _ types (All-append (λ (u : Ty). IsTrue (is_sound (type_view u))) ts (t ∷ []) c.args.self.sound (All-cons (λ (u : Ty). IsTrue (is_sound (type_view u))) t [] c.requires.sound (All-nil (λ (u : Ty). IsTrue (is_sound (type_view u))))));
-      fitting = All-same (λ (x : Built). IfSome x.value (λ w. IsTrue (fits x.ty w))) _ _ all (All-append (λ (x : Built). IfSome x.value (λ w. IsTrue (fits x.ty w))) (paired ts vs) (b ∷ []) c.args.self.fitting (All-cons (λ (x : Built). IfSome x.value (λ w. IsTrue (fits x.ty w))) b [] c.requires.fits (All-nil (λ (x : Built). IfSome x.value (λ w. IsTrue (fits x.ty w))))));
+      sound = All-same (λ (u : Ty). IsTrue (is_sound (type_view u))) _ _ types
+          (All-append (λ (u : Ty). IsTrue (is_sound (type_view u))) ts (t ∷ []) c.args.self.sound
+          (All-cons (λ (u : Ty). IsTrue (is_sound (type_view u))) t [] c.requires.sound
+          (All-nil (λ (u : Ty). IsTrue (is_sound (type_view u))))));
+      fitting = All-same (λ (x : Built). IfSome x.value (λ w. IsTrue (fits x.ty w))) _ _ all
+          (All-append (λ (x : Built). IfSome x.value (λ w. IsTrue (fits x.ty w))) (paired ts vs)
+          (b ∷ []) c.args.self.fitting (All-cons
+          (λ (x : Built). IfSome x.value (λ w. IsTrue (fits x.ty w))) b [] c.requires.fits
+          (All-nil (λ (x : Built). IfSome x.value (λ w. IsTrue (fits x.ty w))))));
     }
 
 pub returns-clause-more : goal.returns-clause-more
 returns-clause-more c =
     let ts = c.args.self.known.types.items in
-    ap (λ (xs : List Ty). paired xs c.push-2.new.self.items) c.in_ok-push.ensures.items ∙ ap (paired (ts ++ c.args.definition.ty ∷ [])) c.in_ok-push-2.ensures.items
+    ap (λ (xs : List Ty). paired xs c.push-2.new.self.items) c.in_ok-push.ensures.items
+    ∙ ap (paired (ts ++ c.args.definition.ty ∷ [])) c.in_ok-push-2.ensures.items
     ∙ paired_more ts c.args.self.known.values.items c.args.definition.ty c.args.definition.value c.args.self.even

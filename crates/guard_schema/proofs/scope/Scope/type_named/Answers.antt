@@ -3,7 +3,7 @@ use Rattle.guard_names.specs.NamesView.{modules_of, order_of}
 use Rattle.guard_names.specs.Places.{place_meant}
 use Rattle.guard_schema.specs.Known.{built_at, type_alone}
 use Rattle.guard_schema.specs.Views.{built_in}
-use Rattle.guard_schema.proofs.Known.{type_there, type_got}
+use Rattle.guard_schema.proofs.Built.Visible.{type_there, type_got}
 use Rattle.guard_schema.proofs.scope.Scope.type_named.Goals as goal
 
 pub returns-in-Some : goal.returns-in-Some

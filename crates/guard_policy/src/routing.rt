@@ -1,0 +1,169 @@
+//! How a route leads to the rules of a message: by one look-up of the sender's name and one of the receiver's, however many rules there are.
+ghost use Rattle.std.specs.Prelude.{◌≡◌, ◌≢◌, ◌↔◌, ◌+◌, ◌<◌, ◌≤◌, length, IfOk, IsTrue};
+ghost use Rattle.guard_tables.specs.Slots.{none, only, added};
+ghost use Rattle.guard_policy.specs.Policies.{rule_view};
+ghost use Rattle.guard_policy.specs.PolicyView.{route_view};
+ghost use Rattle.guard_policy.specs.inside.Routing.{rules_view, slots_where, slots_meant, slots_for, given_by, has_effect, common, speaking_slots, AreParties, IsRouting};
+
+use super::decision::is_meant;
+use super::policy::{Effect, Rule};
+use super::route::{ANYONE, Route};
+use guard_tables::Slots;
+use indexmap::IndexMap;
+use std::alloc::{AllocError, Global};
+
+/// One of the two parties of a route.
+#[derive(Clone, Copy)]
+pub(crate) enum Side {
+    Sender,
+    Receiver,
+}
+
+/// For each sender, or for each receiver, the rules of one message that speak of it. What rules with `*` add is in each set.
+#[derive(Drop)]
+pub(crate) struct Parties {
+    named: IndexMap<Vec<u8>, Slots>,
+    /// For those that no rule names.
+    others: Slots,
+}
+
+/// How a route leads to the rules of one message. A rule is known by its type's slot in the message's table.
+#[derive(Drop)]
+pub(crate) struct Routing {
+    senders: Parties,
+    receivers: Parties,
+    allowing: Slots,
+    denying: Slots,
+}
+
+/// The rules that speak of a route, by their effects.
+#[derive(Clone, Copy)]
+pub(crate) struct RouteRules {
+    pub allowing: Slots,
+    pub denying: Slots,
+}
+
+impl Parties {
+    /// The senders, or the receivers, of these rules of a message.
+    fn of(alloc: Global, side: Side, rules: &[&Rule]) -> Result<Parties, AllocError>
+        requires few { length rules.now ≤ 255 }
+        ensures { IfOk result (AreParties side (rules_view rules.now)) }
+    {
+        let mut named = IndexMap::new(alloc);
+        for rule in rules {
+            let name = given_by(side, rule).as_bytes();
+            let slots = meant(side, name, rules);
+            named.insert(Vec::from_slice(alloc, name)?, slots)?;
+        }
+        Ok(Parties {
+            named,
+            others: meant(side, ANYONE.as_bytes(), rules),
+        })
+    }
+
+    /// The rules that speak of this one.
+    fn rules(&self, name: &[u8]) -> Slots
+        ensures { result ≡ slots_for self.now name.now }
+    {
+        match self.named.get(name) {
+            Some(slots) => *slots,
+            None => self.others,
+        }
+    }
+}
+
+impl Routing {
+    /// The routing of the rules of a message.
+    pub fn of(alloc: Global, rules: &[&Rule]) -> Result<Routing, AllocError>
+        requires few { length rules.now ≤ 255 }
+        ensures { IfOk result (IsRouting (rules_view rules.now)) }
+    {
+        let senders = Parties::of(alloc, Side::Sender, rules)?;
+        let receivers = Parties::of(alloc, Side::Receiver, rules)?;
+        Ok(Routing {
+            senders,
+            receivers,
+            allowing: of_effect(Effect::Allow, rules),
+            denying: of_effect(Effect::Deny, rules),
+        })
+    }
+
+    /// The rules that speak of the route.
+    pub fn rules(&self, route: &Route) -> RouteRules
+        ensures allowing { result.allowing ≡ common (speaking_slots self.now (route_view route.now)) self.now.allowing }
+        ensures denying { result.denying ≡ common (speaking_slots self.now (route_view route.now)) self.now.denying }
+    {
+        let of_sender = self.senders.rules(route.from);
+        let speaking = common(&of_sender, &self.receivers.rules(route.to));
+        RouteRules {
+            allowing: common(&speaking, &self.allowing),
+            denying: common(&speaking, &self.denying),
+        }
+    }
+}
+
+/// Whether the sets have a slot in common.
+pub(crate) fn meets(first: &Slots, second: &Slots) -> bool
+    ensures { IsTrue result ↔ (common first.now second.now ≢ none) }
+{
+    common(first, second) != Slots::none()
+}
+
+/// The slots of both.
+fn common(first: &Slots, second: &Slots) -> Slots
+    ensures { result ≡ common first.now second.now }
+{
+    first.without(&first.without(second))
+}
+
+/// The rules that speak of this sender, or of this receiver.
+fn meant(side: Side, name: &[u8], rules: &[&Rule]) -> Slots
+    requires few { length rules.now ≤ 255 }
+    ensures { result ≡ slots_meant side name.now (rules_view rules.now) }
+{
+    let mut slots = Slots::none();
+    for (place, rule) in rules.iter().enumerate() {
+        if is_meant(given_by(side, rule), name) {
+            add_rule(&mut slots, place);
+        }
+    }
+    slots
+}
+
+/// The rules with this effect.
+fn of_effect(effect: Effect, rules: &[&Rule]) -> Slots
+    requires few { length rules.now ≤ 255 }
+    ensures { result ≡ slots_where (has_effect effect) (rules_view rules.now) }
+{
+    let mut slots = Slots::none();
+    for (place, rule) in rules.iter().enumerate() {
+        if has_effect(effect, rule) {
+            add_rule(&mut slots, place);
+        }
+    }
+    slots
+}
+
+/// Puts in the slot of the rule at this place.
+fn add_rule(slots: &mut Slots, place: usize)
+    requires few { place < 255 }
+    ensures { slots.new ≡ added slots.old (only (place + 1)) }
+{
+    slots.add(&Slots::only(place as u8 + 1));
+}
+
+fn has_effect(effect: Effect, rule: &Rule) -> bool
+    ensures { result ≡ has_effect effect (rule_view rule.now) }
+{
+    rule.effect == effect
+}
+
+/// What a rule gives for its sender, or for its receiver.
+fn given_by<'a>(side: Side, rule: &'a Rule) -> &'a str
+    ensures { result.now ≡ given_by side (rule_view rule.now) }
+{
+    match side {
+        Side::Sender => &rule.from,
+        Side::Receiver => &rule.to,
+    }
+}

@@ -1,0 +1,7 @@
+use Rattle.std.proofs.Common.{◌∷◌, [], ◌∙◌, refl}
+use Rattle.guard_model.specs.declared.ty.CharKind.TheVariants.{Ia5}
+use Rattle.guard_reader.proofs.KindAlphabets.{as_ranges}
+use Rattle.guard_reader.proofs.kind_alphabets.are_ia5.Goals as goal
+
+pub returns : goal.returns
+returns c = c.are_all_in.ensures ∙ as_ranges Ia5 ((0, 127) ∷ []) refl c.args.inside.now c.type_inv.inside

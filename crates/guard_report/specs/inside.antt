@@ -1,0 +1,2 @@
+-- What only contracts inside the crate speak of.
+pub mod Listing

@@ -1,0 +1,108 @@
+-- Components that move, one after another, from those that are left to those that are finished.
+use Rattle.std.proofs.Common.{◌≡◌, ℕ, zero, suc, ◌+◌, List, [], ◌∷◌, ◌++◌, Option, Some, None, Result, Ok, length, map}
+use Rattle.std.proofs.Common.{take, drop, refl, ap, sym, subst, ◌∙◌, append_assoc, arith}
+use Rattle.std.specs.Prelude.{option_to_list}
+use Rattle.std.proofs.lemmas.List.{map_push, append-nil}
+use Rattle.guard_model.specs.AbstractType.{AbstractType}
+use Rattle.guard_model.specs.TypeView.{OneComponent, component_view}
+use Rattle.guard_model.specs.declared.site.Site.{Site}
+use Rattle.guard_model.specs.declared.ty.Comp.{Comp}
+use Rattle.guard_syntax.specs.Trees.{WrittenPresence}
+use Rattle.guard_constraints.specs.Visible.{Visible}
+use Rattle.guard_schema.specs.declared.fault.SchemaFault.{SchemaFault}
+use Rattle.guard_schema.specs.declared.finishing.Filling as code
+use Rattle.guard_schema.specs.Outcomes.{Answers}
+use Rattle.guard_schema.specs.Faults.{Outcome, named}
+use Rattle.guard_schema.specs.inside.InTurn.{Filling, with_done, moved, FillsNext, FillsOne}
+use Rattle.guard_schema.specs.Views.{filling_view}
+
+abbrev pub shown : List OneComponent → List OneComponent → Filling
+shown done left = record { done = done; left = left }
+
+abbrev pub seen : List Comp → List Comp → Filling
+seen done left = shown (map component_view done) (map component_view left)
+
+-- ---- what is left, where one comes and where none does
+
+pub one_left : (old new : List Comp) (o : Option Comp) (x : Comp) → old ≡ option_to_list o ++ new → o ≡ Some x
+    → map component_view old ≡ component_view x ∷ map component_view new
+one_left old new o x e is = ap (map component_view) (e ∙ ap (λ (p : Option Comp). option_to_list p ++ new) is)
+
+pub same_left : (old new : List Comp) (o : Option Comp) → old ≡ option_to_list o ++ new → o ≡ None → old ≡ new
+same_left old new o e is = e ∙ ap (λ (p : Option Comp). option_to_list p ++ new) is
+
+same_rest : (xs : List Comp) → xs ≡ drop 1 xs → xs ≡ []
+same_rest [] e = refl
+same_rest (x ∷ xs) e = let same : suc (length xs) ≡ length xs =
+    ap (λ (ys : List Comp). length ys) e in absurd (omega (arith, same))
+
+pub none_left : (old new : List Comp) (o : Option Comp) → old ≡ option_to_list o ++ new → o ≡ None → new ≡ drop 1 old
+    → old ≡ []
+none_left old new o e is rest = same_rest old (same_left old new o e is ∙ rest)
+
+-- ---- one more that is finished
+
+pub one_done : (done more left : List Comp) (x : Comp) → more ≡ done ++ x ∷ []
+    → seen more left ≡ with_done (component_view x) (seen done left)
+one_done done more left x e = ap (λ (xs : List OneComponent). shown xs (map component_view left))
+    (ap (map component_view) e ∙ map_push component_view done x)
+
+module _ (names : Visible) (site : Site) (Finish : AbstractType → Outcome AbstractType → Type 0)
+    (presence : WrittenPresence) (done old new : List Comp) (o : Option Comp) (e : old ≡ option_to_list o ++ new) where
+  pub next_filled : (x : Comp) → o ≡ Some x → (result : Result code.Filling SchemaFault)
+      → Answers filling_view named result (FillsOne names site Finish presence (component_view x) (seen done new))
+      → Answers filling_view named result (FillsNext names site Finish presence (map component_view done)
+      (map component_view old))
+  next_filled x is result h =
+      subst (λ (xs : List OneComponent). Answers filling_view named result
+      (FillsNext names site Finish presence (map component_view done) xs)) (sym (one_left old new o x e is)) h
+
+  pub nothing_filled : o ≡ None → new ≡ drop 1 old
+      → FillsNext names site Finish presence (map component_view done) (map component_view old) (Ok (seen done new))
+  nothing_filled is rest =
+      subst (λ (ys : List Comp). FillsNext names site Finish presence (map component_view done) (map component_view old)
+      (Ok (seen done ys))) (same_left old new o e is)
+      (subst (λ (xs : List Comp). FillsNext names site Finish presence (map component_view done) (map component_view xs)
+      (Ok (seen done xs))) (sym (none_left old new o e is rest)) refl)
+
+-- ---- one that needs nothing
+
+module _ (done old new : List Comp) (o : Option Comp) (e : old ≡ option_to_list o ++ new) where
+  pub one_moves : (x : Comp) → o ≡ Some x → with_done (component_view x) (seen done new) ≡ moved 1 (seen done old)
+  one_moves x is = ap (λ (xs : List OneComponent). moved 1 (shown (map component_view done) xs))
+      (sym (one_left old new o x e is))
+
+  pub nothing_moves : o ≡ None → new ≡ drop 1 old → seen done new ≡ moved 1 (seen done old)
+  nothing_moves is rest =
+      let nothing : seen done [] ≡ moved 1 (seen done []) =
+      ap (λ (xs : List OneComponent). shown xs []) (sym (append-nil (map component_view done))) in
+      ap (λ (ys : List Comp). seen done ys) (sym (same_left old new o e is))
+      ∙ subst (λ (xs : List Comp). seen done xs ≡ moved 1 (seen done xs)) (sym (none_left old new o e is rest)) nothing
+
+-- ---- several that need nothing
+
+take_after : (i : ℕ) (xs : List OneComponent) → take i xs ++ take 1 (drop i xs) ≡ take (suc i) xs
+take_after zero xs = refl
+take_after (suc i) [] = refl
+take_after (suc i) (x ∷ xs) = ap (λ (ys : List OneComponent). x ∷ ys) (take_after i xs)
+
+drop_after : (i : ℕ) (xs : List OneComponent) → drop 1 (drop i xs) ≡ drop (suc i) xs
+drop_after zero xs = refl
+drop_after (suc i) [] = refl
+drop_after (suc i) (x ∷ xs) = drop_after i xs
+
+both : (a b c d : List OneComponent) → a ≡ b → c ≡ d → shown a c ≡ shown b d
+both a b c d e f = ap (λ (x : List OneComponent). shown x c) e ∙ ap (λ (y : List OneComponent). shown b y) f
+
+pub none_yet : (start : Filling) → start ≡ moved 0 start
+none_yet start = ap (λ (ws : List OneComponent). shown ws start.left) (sym (append-nil start.done))
+
+pub moved_more : (i : ℕ) (start : Filling) → moved 1 (moved i start) ≡ moved (i + 1) start
+moved_more i start =
+    let next : suc i ≡ i + 1 = omega arith in
+    both ((start.done ++ take i start.left) ++ take 1 (drop i start.left)) (start.done ++ take (suc i) start.left)
+    (drop 1 (drop i start.left)) (drop (suc i) start.left)
+    (append_assoc start.done (take i start.left) (take 1 (drop i start.left))
+    ∙ ap (λ (ws : List OneComponent). start.done ++ ws) (take_after i start.left))
+    (drop_after i start.left)
+    ∙ ap (λ (n : ℕ). moved n start) next

@@ -1,0 +1,4 @@
+-- The modules that texts are.
+pub mod Lexed
+pub mod Texts
+pub mod Names

@@ -1,0 +1,3 @@
+-- Steps one after another: what comes of them, and lists as loops read them.
+pub mod Outcomes
+pub mod Loops

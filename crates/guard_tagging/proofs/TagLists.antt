@@ -1,0 +1,3 @@
+-- The tags that are written before a type.
+pub mod OneByOne
+pub mod WrittenTags

@@ -21,7 +21,7 @@ _derguard() {
             *) if [ -z "$command" ]; then command=$word; elif [ -z "$policy" ]; then policy=$word; fi ;;
         esac
     done
-    if [ "$command" = decide ] && [ -n "$policy" ]; then
+    if [[ $command == decide || $command == show ]] && [ -n "$policy" ]; then
         case $before in
             --message) mapfile -t COMPREPLY < <(compgen -W "$(_derguard_names message name "$policy")" -- "$current") ;;
             --from) mapfile -t COMPREPLY < <(compgen -W "$(_derguard_names rule from "$policy")" -- "$current") ;;
@@ -32,13 +32,14 @@ _derguard() {
         --from | --to | --message) return ;;
     esac
     case $command in
-        '') mapfile -t COMPREPLY < <(compgen -W 'check decide run mux help --help --version' -- "$current") ;;
-        help) [ -n "$policy" ] || mapfile -t COMPREPLY < <(compgen -W 'check decide run mux' -- "$current") ;;
-        check | run | mux | decide)
+        '') mapfile -t COMPREPLY < <(compgen -W 'check decide show run mux help --help --version' -- "$current") ;;
+        help) [ -n "$policy" ] || mapfile -t COMPREPLY < <(compgen -W 'check decide show run mux' -- "$current") ;;
+        check | run | mux | decide | show)
             if [[ $current == -* ]]; then
                 word=--help
                 if [ "$command" = check ]; then word='--explain --help'; fi
                 if [ "$command" = decide ]; then word='--from --to --message --explain --help'; fi
+                if [ "$command" = show ]; then word='--message --help'; fi
                 mapfile -t COMPREPLY < <(compgen -W "$word" -- "$current")
             elif [ -z "$policy" ]; then
                 compopt -o filenames 2> /dev/null
@@ -48,6 +49,8 @@ _derguard() {
                 )
             elif [ "$command" = decide ]; then
                 mapfile -t COMPREPLY < <(compgen -W '--from --to --message' -- "$current")
+            elif [ "$command" = show ]; then
+                mapfile -t COMPREPLY < <(compgen -W '--message' -- "$current")
             fi
             ;;
     esac

@@ -35,16 +35,18 @@ complete -c derguard -s h -l help -d 'show help'
 complete -c derguard -n __fish_use_subcommand -s V -l version -d 'show the version'
 complete -c derguard -n __fish_use_subcommand -a check -d 'say whether a policy and its modules are accepted'
 complete -c derguard -n __fish_use_subcommand -a decide -d 'say what becomes of one message, and why'
+complete -c derguard -n __fish_use_subcommand -a show -d 'show the value of one message'
 complete -c derguard -n __fish_use_subcommand -a run -d 'guard a stream of frames'
 complete -c derguard -n __fish_use_subcommand -a mux -d 'guard sixteen links in one stream of records'
 complete -c derguard -n __fish_use_subcommand -a help -d 'show what a command does'
-complete -c derguard -n '__fish_seen_subcommand_from help' -a 'check decide run mux'
-complete -c derguard -n '__fish_seen_subcommand_from check decide run mux; and test -z (__derguard_policy)' \
+complete -c derguard -n '__fish_seen_subcommand_from help' -a 'check decide show run mux'
+complete -c derguard -n '__fish_seen_subcommand_from check decide show run mux; and test -z (__derguard_policy)' \
     -a '(__fish_complete_suffix .toml)'
-complete -c derguard -n '__fish_seen_subcommand_from check decide' -l explain -d 'show the place of a fault, and what to do'
+complete -c derguard -n '__fish_seen_subcommand_from check' -l explain -d 'list the rules, or show the place of a fault'
+complete -c derguard -n '__fish_seen_subcommand_from decide' -l explain -d 'show the constraint or the place of a fault'
 complete -c derguard -n '__fish_seen_subcommand_from decide' -l from -x -a '(__derguard_names rule from)' \
     -d 'the name of the sender'
 complete -c derguard -n '__fish_seen_subcommand_from decide' -l to -x -a '(__derguard_names rule to)' \
     -d 'the name of the receiver'
-complete -c derguard -n '__fish_seen_subcommand_from decide' -l message -x -a '(__derguard_names message name)' \
+complete -c derguard -n '__fish_seen_subcommand_from decide show' -l message -x -a '(__derguard_names message name)' \
     -d 'the name of the message in the policy'

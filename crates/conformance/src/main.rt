@@ -3,101 +3,33 @@
 //!
 //! | folder | what answers its rows |
 //! |---|---|
-//! | `rows` | `echo.rt` |
-//! | `model` | `alphabets.rt`, `printed.rt` |
-//! | `lexer`, `syntax` | `lexer.rt`, `syntax.rt` |
-//! | `names` | `names.rt`, `answers.rt`; the large modules of `large.rt` |
-//! | `tagging` | `tagging.rt`, `skeletons.rt`; of octets `tagged_octets.rt` |
-//! | `values`, `constraints` | `values.rt`, `constraints.rt`; of sets of integers `int_sets.rt`, `set_trees.rt` |
-//! | `schema` | `schemas.rt`, `shown_types.rt`, `messages.rt` |
-//! | `der` | `encoding.rt`, `decoding.rt`, `headers.rt`, `digits.rt` |
-//! | `eval` | `members.rt` |
-//! | `tables` | `tables.rt` |
-//! | `reader` | `reader.rt`; on the octets of the rows of `der`, `eval`, `tagging` and `schema` `walked.rt` |
-//! | `policy` | `policies.rt`, of verdicts `verdicts.rt` |
-//! | `report` | `reports.rt`, `written_verdicts.rt` |
-//! | `frames` | `streams.rt`, `text_streams.rt`, `links.rt`, `link_orders.rt`, with `devices.rt` |
-//! | `program` | `programs.rt`, `memory.rt`, with `devices.rt` |
+//! | `rows`, `lexer`, `syntax`, `names`; `model`, but for alphabets; `tagging`, but for octets | the crate `conformance_texts`, and of sets of integers in `constraints`, of headers in `der` |
+//! | `values`, `constraints`, `schema`, `der`, `eval`, `tables`, `reader` | the crate `conformance_schemas` |
+//! | `policy`, `report`, `frames` | the crate `conformance_decisions` |
+//! | `program` | `programs.rt`, `memory.rt` |
 //!
-//! Texts of modules are read by `texts.rt`, the type of a group of rows by `typed.rt`, files of rows by the crate
-//! `conformance_rows`.
+//! Each of these crates stands on no more layers than its rows ask, so that most are proved before the program that they
+//! try at last. On the octets of the rows of `der`, `eval`, `tagging` and `schema`, and of `policy` and `frames`, two
+//! ways to judge them are compared: `walked.rt`. Files of rows are read by the crate `conformance_rows`.
 #![tactic(auto)]
 
-mod alphabets;
-mod answers;
-mod constraints;
-mod decoding;
-mod devices;
-mod digits;
-mod echo;
-mod encoding;
-mod headers;
-mod int_sets;
-mod large;
-mod lexer;
-mod link_orders;
-mod links;
-mod members;
 mod memory;
-mod messages;
-mod names;
-mod near;
-mod passing;
-mod policies;
-mod printed;
 mod programs;
-mod reader;
-mod reports;
-mod row_types;
-mod schemas;
-mod set_trees;
-mod shown_types;
-mod skeletons;
-mod streams;
-mod syntax;
-mod tables;
-mod tagged_octets;
-mod tagging;
-mod text_streams;
-mod texts;
-mod typed;
-mod values;
-mod verdicts;
-mod walk_files;
 mod walked;
-mod walks;
-mod written_verdicts;
 
-use alphabets::Alphabets;
 use anyhow::ensure;
+use conformance_decisions::{Links, Policies, Reports, Streams, TextStreams, Verdicts};
 use conformance_rows::{Tally, check_files};
-use constraints::ConstraintsRows;
-use decoding::Decoding;
-use echo::Echo;
-use encoding::Encoding;
-use headers::Headers;
-use int_sets::IntSets;
-use lexer::Lexer;
-use links::Links;
-use members::Members;
-use names::NamesRows;
-use policies::Policies;
-use printed::Printed;
+use conformance_schemas::{
+    Alphabets, ConstraintsRows, Decoding, Encoding, Members, Reader, Schemas, Tables, TaggedOctets,
+    ValuesRows,
+};
+use conformance_texts::{
+    Echo, Headers, IntSets, Lexer, NamesRows, Parser, Printed, SetTrees, TaggingRows,
+};
 use programs::Programs;
-use reader::Reader;
-use reports::Reports;
-use schemas::Schemas;
-use set_trees::SetTrees;
 use std::io;
 use std::rt::Files;
-use streams::Streams;
-use syntax::Parser;
-use tables::Tables;
-use tagged_octets::TaggedOctets;
-use tagging::TaggingRows;
-use text_streams::TextStreams;
-use values::ValuesRows;
-use verdicts::Verdicts;
 use walked::try_walks;
 
 fn main(rt: HostRuntime) -> anyhow::Result<()> {
@@ -261,6 +193,7 @@ fn try_octets<R: Files + Print + AllocGlobal>(rt: &R, tally: &mut Tally) -> io::
             "der/encodings/choice.rows",
             "der/encodings/sequence.rows",
             "der/encodings/set.rows",
+            "der/encodings/set_tags.rows",
             "der/encodings/sequence_of.rows",
             "der/encodings/set_of.rows",
             "der/encodings/order.rows",
@@ -288,6 +221,7 @@ fn try_breaches<R: Files + Print + AllocGlobal>(rt: &R, tally: &mut Tally) -> io
             "der/breaches/choice.rows",
             "der/breaches/sequence.rows",
             "der/breaches/set.rows",
+            "der/breaches/set_tags.rows",
             "der/breaches/sequence_of.rows",
             "der/breaches/set_of.rows",
             "der/breaches/sites_and_paths.rows",
@@ -333,6 +267,9 @@ fn try_reader<R: Files + Print + AllocGlobal>(rt: &R, tally: &mut Tally) -> io::
             "reader/messages.rows",
             "reader/places_of_rules.rows",
             "reader/ranges.rows",
+            "reader/many_ranges.rows",
+            "reader/single_values.rows",
+            "reader/sets.rows",
         ],
     )
 }
@@ -362,6 +299,7 @@ fn try_policies<R: Files + Print + AllocGlobal>(rt: &R, tally: &mut Tally) -> io
             "policy/verdicts/any_sender.rows",
             "policy/verdicts/named_bits.rows",
             "policy/verdicts/wider_rule.rows",
+            "policy/verdicts/many_ranges.rows",
             "policy/verdicts/outside.rows",
             "policy/verdicts/outside_named_bits.rows",
         ],
@@ -391,6 +329,7 @@ fn try_streams<R: Files + Print + AllocGlobal>(rt: &R, tally: &mut Tally) -> io:
         tally,
         &[
             "program/words_files_streams.rows",
+            "program/explained.rows",
             "program/many_links.rows",
         ],
     )

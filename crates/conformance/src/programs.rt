@@ -1,6 +1,6 @@
 //! What the program does of its words, files and standard input.
-use crate::devices::{Pieces, Room};
 use crate::memory::{Entries, Reads};
+use conformance_decisions::{Pieces, Room};
 use conformance_rows::{Layer, octets_in, text_of};
 use derguard_program::program;
 use std::alloc::{AllocError, Global};
@@ -71,10 +71,7 @@ fn first_line(octets: &[u8]) -> &[u8] {
 
 /// The octets as a text, or in hexadecimal where one of them is neither printable nor a line feed.
 fn shown(alloc: Global, octets: &[u8]) -> Result<String, AllocError> {
-    if octets
-        .iter()
-        .all(|octet| matches!(*octet, b' '..=b'~' | b'\n'))
-    {
+    if are_printable(octets) {
         return String::from_str(alloc, text_of(octets));
     }
     let mut digits = String::new(alloc);
@@ -82,6 +79,16 @@ fn shown(alloc: Global, octets: &[u8]) -> Result<String, AllocError> {
         digits.push_str(&format!(in alloc; "{octet:02X}")?)?;
     }
     Ok(digits)
+}
+
+/// Whether each is printable or a line feed.
+fn are_printable(octets: &[u8]) -> bool {
+    for octet in octets {
+        if !matches!(*octet, b' '..=b'~' | b'\n') {
+            return false;
+        }
+    }
+    true
 }
 
 /// The program's name and the words of a row, between single spaces; `''` is the empty word.
@@ -129,7 +136,10 @@ impl Programs {
         for room in 0..out.len() {
             let cut = self.ran(alloc, words, room, usize::MAX)?;
             let told = cut.err.octets().strip_suffix(OUT_FAILED);
-            let is_told = told.is_some_and(|before| err.starts_with(before));
+            let is_told = match told {
+                Some(before) => err.starts_with(before),
+                None => false,
+            };
             if cut.status != 3 || cut.out.octets() != &out[..room] || !is_told {
                 return format!(in alloc; "room for {room}: {}", cut.text(alloc)?);
             }

@@ -1,7 +1,7 @@
 //! The files on whose rows `walk` and `passes` are tried.
-use crate::passing::{PolicyRows, Said};
-use crate::row_types::RowTypes;
-use crate::walk_files::walk_file;
+use conformance_decisions::{PolicyRows, Said};
+use conformance_rows::walk_file;
+use conformance_schemas::RowTypes;
 use std::io;
 use std::rt::Files;
 
@@ -30,7 +30,7 @@ fn try_passes<R: Files + Print + AllocGlobal>(rt: &R) -> io::Result<bool> {
 }
 
 /// Of values.
-const VALUES: [&str; 28] = [
+const VALUES: [&str; 29] = [
     "der/encodings/boolean_and_null.rows",
     "der/encodings/integer.rows",
     "der/encodings/enumerated.rows",
@@ -42,6 +42,7 @@ const VALUES: [&str; 28] = [
     "der/encodings/choice.rows",
     "der/encodings/sequence.rows",
     "der/encodings/set.rows",
+    "der/encodings/set_tags.rows",
     "der/encodings/sequence_of.rows",
     "der/encodings/set_of.rows",
     "der/encodings/order.rows",
@@ -62,7 +63,7 @@ const VALUES: [&str; 28] = [
 ];
 
 /// Of octets under a type, or under the types of schemas.
-const OCTETS: [&str; 23] = [
+const OCTETS: [&str; 24] = [
     "der/breaches/boolean_and_null.rows",
     "der/breaches/integer.rows",
     "der/breaches/enumerated.rows",
@@ -74,6 +75,7 @@ const OCTETS: [&str; 23] = [
     "der/breaches/choice.rows",
     "der/breaches/sequence.rows",
     "der/breaches/set.rows",
+    "der/breaches/set_tags.rows",
     "der/breaches/sequence_of.rows",
     "der/breaches/set_of.rows",
     "der/breaches/sites_and_paths.rows",
@@ -89,7 +91,7 @@ const OCTETS: [&str; 23] = [
 ];
 
 /// Of routes and octets under policies.
-const ROUTES: [&str; 9] = [
+const ROUTES: [&str; 10] = [
     "policy/verdicts/order_of_reasons.rows",
     "policy/verdicts/built_in.rows",
     "policy/verdicts/prefixes.rows",
@@ -97,6 +99,7 @@ const ROUTES: [&str; 9] = [
     "policy/verdicts/any_sender.rows",
     "policy/verdicts/named_bits.rows",
     "policy/verdicts/wider_rule.rows",
+    "policy/verdicts/many_ranges.rows",
     "policy/verdicts/outside.rows",
     "policy/verdicts/outside_named_bits.rows",
 ];

@@ -30,3 +30,12 @@ pub fn octets_in(alloc: Global, text: &str) -> Result<Option<Vec<u8>>, AllocErro
     }
     Ok(Some(octets))
 }
+
+/// The octets in hexadecimal digits.
+pub fn in_hexadecimal(alloc: Global, octets: &[u8]) -> Result<String, AllocError> {
+    let mut text = String::new(alloc);
+    for octet in octets {
+        write!(text, "{octet:02X}")?;
+    }
+    Ok(text)
+}

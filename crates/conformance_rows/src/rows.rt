@@ -32,7 +32,7 @@ pub(crate) fn check_rows<R: Files + Print + AllocGlobal, L: Layer>(
 }
 
 /// The text of a file.
-fn read<R: Files + AllocGlobal>(rt: &R, file: &str) -> io::Result<String> {
+pub(crate) fn read<R: Files + AllocGlobal>(rt: &R, file: &str) -> io::Result<String> {
     if let Ok(text) = fs::read_to_string(rt, file) {
         return Ok(text);
     }

@@ -13,8 +13,8 @@ use Rattle.clap.specs.Faults.{check_fault, defaults_fault, entered_fault, fault_
 use Rattle.clap.specs.Kinds.{Kinds, or_else}
 use Rattle.clap.specs.Simple.{App, Shape, argument_words, built, built_leaf, entered, filled, help_rule, help_shape, inherited, label_of, marked_built, names_of, rows_at, subcommand_of, with_index, with_leaf_noted}
 use Rattle.clap.specs.declared.error.kind.ErrorKind.TheVariants as kind
-use Rattle.derguard_program.specs.Requests.{AbstractRequest, first, check, decide, run, mux}
-use Rattle.derguard_program.specs.Words.{Asks, IsCommand, check_shape, decide_shape, flag_of, flag_rule, mux_shape, option_rule, place_rule, run_shape, the_app}
+use Rattle.derguard_program.specs.Requests.{AbstractRequest, first, check, decide, show, run, mux}
+use Rattle.derguard_program.specs.Words.{Asks, IsCommand, check_shape, decide_shape, flag_of, flag_rule, mux_shape, option_rule, place_rule, run_shape, show_shape, the_app}
 use Rattle.derguard_program.proofs.Filled.{AllFill, Filled, Fills, IsFilled, both_none, finished_filled, flag_fills, help_fills, set_fills, some_kind, walk_filled}
 
 -- ---- a walk in which nothing is wrong stops at no word help
@@ -157,6 +157,9 @@ built_check = built_leaf (inherited (with_leaf_noted (marked_built the_app.top))
 abbrev built_decide : Shape
 built_decide = built_leaf (inherited (with_leaf_noted (marked_built the_app.top)) decide_shape)
 
+abbrev built_show : Shape
+built_show = built_leaf (inherited (with_leaf_noted (marked_built the_app.top)) show_shape)
+
 abbrev built_run : Shape
 built_run = built_leaf (inherited (with_leaf_noted (marked_built the_app.top)) run_shape)
 
@@ -186,6 +189,9 @@ decide_fills : AllFill built_decide.rules
 decide_fills =
     (place_fills 1 (codes "policy"), (option_fills (codes "from"), (option_fills (codes "to"), (option_fills (codes "message"), (place_fills 2 (codes "hex"), (switch_fills 3 (codes "explain"), (help_flag_fills 3, tt)))))))
 
+show_fills : AllFill built_show.rules
+show_fills = (place_fills 1 (codes "policy"), (option_fills (codes "message"), (place_fills 2 (codes "hex"), (help_flag_fills 3, tt))))
+
 run_fills : AllFill built_run.rules
 run_fills = (place_fills 1 (codes "policy"), (help_flag_fills 2, tt))
 
@@ -202,6 +208,18 @@ check_asks words e =
     let policy = given_next _ _ (check_none built_check [] words false [] e) in
     let path = given_value (codes "policy") (rows_after built_check.rules [] words) rows policy.0 in
     (check path.0 (flag_of (codes "explain") (rows_after built_check.rules [] words)), (refl, path.1, refl))
+
+show_asks : (words : List Text) → level_fault built_show [] nothing_held words false [] ≡ [] → Requests built_show words
+show_asks words e =
+    let rows = rows_after built_show.rules [] words in
+    let filled = rows_filled built_show [] words false [] e show_fills in
+    let policy = given_next _ _ (check_none built_show [] words false [] e) in
+    let message = given_next _ _ policy.1 in
+    let hex = given_next _ _ message.1 in
+    let p = given_value (codes "policy") rows filled policy.0 in
+    let m = given_value (codes "message") rows filled message.0 in
+    let h = given_value (codes "hex") rows filled hex.0 in
+    (show p.0 m.0 h.0, (refl, p.1, m.1, h.1))
 
 run_asks : (words : List Text) → level_fault built_run [] nothing_held words false [] ≡ [] → Requests built_run words
 run_asks words e =
@@ -251,22 +269,23 @@ not_help_met name another met = go (bytes_eq (codes "help") name) refl met
         true≢false (sym ((bytes_eq-Decides name (codes "help")).1 (sym same)) ∙ another)
     go false e is = true≢false (sym is)
 
-by_name : (p : Text × List Text) (a b c m d : Bool) → (d ≡ true → ⊥)
-    → option_map_or (λ s. level_fault s [] nothing_held p.1 false []) (cond a (Some built_check) (cond b (Some built_decide) (cond c (Some built_run) (cond m (Some built_mux) (cond d (Some (built_leaf help_shape)) None))))) [] ≡ []
-    → is_some (option_map (λ s. rows_at s p.1) (cond a (Some built_check) (cond b (Some built_decide) (cond c (Some built_run) (cond m (Some built_mux) (cond d (Some (built_leaf help_shape)) None)))))) ≡ true
-    → Enters p (cond a (Some built_check) (cond b (Some built_decide) (cond c (Some built_run) (cond m (Some built_mux) (cond d (Some (built_leaf help_shape)) None)))))
-by_name p true b c m d another e there = as_entered p built_check (check_asks p.1 e)
-by_name p false true c m d another e there = as_entered p built_decide (decide_asks p.1 e)
-by_name p false false true m d another e there = as_entered p built_run (run_asks p.1 e)
-by_name p false false false true d another e there = as_entered p built_mux (mux_asks p.1 e)
-by_name p false false false false true another e there = absurd (another refl)
-by_name p false false false false false another e there = absurd (true≢false (sym there))
+by_name : (p : Text × List Text) (a b s c m d : Bool) → (d ≡ true → ⊥)
+    → option_map_or (λ s. level_fault s [] nothing_held p.1 false []) (cond a (Some built_check) (cond b (Some built_decide) (cond s (Some built_show) (cond c (Some built_run) (cond m (Some built_mux) (cond d (Some (built_leaf help_shape)) None)))))) [] ≡ []
+    → is_some (option_map (λ s. rows_at s p.1) (cond a (Some built_check) (cond b (Some built_decide) (cond s (Some built_show) (cond c (Some built_run) (cond m (Some built_mux) (cond d (Some (built_leaf help_shape)) None))))))) ≡ true
+    → Enters p (cond a (Some built_check) (cond b (Some built_decide) (cond s (Some built_show) (cond c (Some built_run) (cond m (Some built_mux) (cond d (Some (built_leaf help_shape)) None))))))
+by_name p true b s c m d another e there = as_entered p built_check (check_asks p.1 e)
+by_name p false true s c m d another e there = as_entered p built_decide (decide_asks p.1 e)
+by_name p false false true c m d another e there = as_entered p built_show (show_asks p.1 e)
+by_name p false false false true m d another e there = as_entered p built_run (run_asks p.1 e)
+by_name p false false false false true d another e there = as_entered p built_mux (mux_asks p.1 e)
+by_name p false false false false false true another e there = absurd (another refl)
+by_name p false false false false false false another e there = absurd (true≢false (sym there))
 
 entered_asks : (stop : Option (Text × List Text)) → NotHelp stop → entered_fault ready stop ≡ [] → is_some (entered ready stop) ≡ true
     → (request : AbstractRequest) × (name : Text) × (rows : List Row) × (entered ready stop ≡ Some (name, rows)) × IsCommand name rows request
 entered_asks None another e there = absurd (true≢false (sym there))
 entered_asks (Some p) another e there =
-    by_name p (answers_to p.0 (label_of built_check)) (answers_to p.0 (label_of built_decide)) (answers_to p.0 (label_of built_run)) (answers_to p.0 (label_of built_mux)) (answers_to p.0 (label_of (built_leaf help_shape)))
+    by_name p (answers_to p.0 (label_of built_check)) (answers_to p.0 (label_of built_decide)) (answers_to p.0 (label_of built_show)) (answers_to p.0 (label_of built_run)) (answers_to p.0 (label_of built_mux)) (answers_to p.0 (label_of (built_leaf help_shape)))
     (not_help_met p.0 another) e there
 
 command_there : (b : Bool) (others : Kinds)
@@ -304,6 +323,7 @@ module _ (rows : List Row) where
       let flag = h.2 ∙ sym g.2 in
       λ i. check (policy i) (flag i)
   one_command name (check path explain) (decide other route digits more) h g = absurd (let bad : 99 ≡ 100 = another_name _ _ (sym h.0 ∙ g.0) in omega arith)
+  one_command name (check path explain) (show other message digits) h g = absurd (let bad : 99 ≡ 115 = another_name _ _ (sym h.0 ∙ g.0) in omega arith)
   one_command name (check path explain) (run other) h g = absurd (let bad : 99 ≡ 114 = another_name _ _ (sym h.0 ∙ g.0) in omega arith)
   one_command name (check path explain) (mux other) h g = absurd (let bad : 99 ≡ 109 = another_name _ _ (sym h.0 ∙ g.0) in omega arith)
   one_command name (decide path route digits explain) first h g = absurd g
@@ -316,16 +336,29 @@ module _ (rows : List Row) where
       let hex = same_at (codes "hex") digits octets h.5 g.5 in
       let flag = h.6 ∙ sym g.6 in
       λ i. decide (policy i) (record { from = from i; to = to i; message = message i }) (hex i) (flag i)
+  one_command name (decide path route digits explain) (show other message octets) h g = absurd (let bad : 100 ≡ 115 = another_name _ _ (sym h.0 ∙ g.0) in omega arith)
   one_command name (decide path route digits explain) (run other) h g = absurd (let bad : 100 ≡ 114 = another_name _ _ (sym h.0 ∙ g.0) in omega arith)
   one_command name (decide path route digits explain) (mux other) h g = absurd (let bad : 100 ≡ 109 = another_name _ _ (sym h.0 ∙ g.0) in omega arith)
+  one_command name (show path message digits) first h g = absurd g
+  one_command name (show path message digits) (check other more) h g = absurd (let bad : 115 ≡ 99 = another_name _ _ (sym h.0 ∙ g.0) in omega arith)
+  one_command name (show path message digits) (decide other route octets more) h g = absurd (let bad : 115 ≡ 100 = another_name _ _ (sym h.0 ∙ g.0) in omega arith)
+  one_command name (show path message digits) (show other another octets) h g =
+      let policy = same_at (codes "policy") path other h.1 g.1 in
+      let called = same_at (codes "message") message another h.2 g.2 in
+      let hex = same_at (codes "hex") digits octets h.3 g.3 in
+      λ i. show (policy i) (called i) (hex i)
+  one_command name (show path message digits) (run other) h g = absurd (let bad : 115 ≡ 114 = another_name _ _ (sym h.0 ∙ g.0) in omega arith)
+  one_command name (show path message digits) (mux other) h g = absurd (let bad : 115 ≡ 109 = another_name _ _ (sym h.0 ∙ g.0) in omega arith)
   one_command name (run path) first h g = absurd g
   one_command name (run path) (check other more) h g = absurd (let bad : 114 ≡ 99 = another_name _ _ (sym h.0 ∙ g.0) in omega arith)
   one_command name (run path) (decide other route digits more) h g = absurd (let bad : 114 ≡ 100 = another_name _ _ (sym h.0 ∙ g.0) in omega arith)
+  one_command name (run path) (show other message octets) h g = absurd (let bad : 114 ≡ 115 = another_name _ _ (sym h.0 ∙ g.0) in omega arith)
   one_command name (run path) (run other) h g = ap run (same_at (codes "policy") path other h.1 g.1)
   one_command name (run path) (mux other) h g = absurd (let bad : 114 ≡ 109 = another_name _ _ (sym h.0 ∙ g.0) in omega arith)
   one_command name (mux path) first h g = absurd g
   one_command name (mux path) (check other more) h g = absurd (let bad : 109 ≡ 99 = another_name _ _ (sym h.0 ∙ g.0) in omega arith)
   one_command name (mux path) (decide other route digits more) h g = absurd (let bad : 109 ≡ 100 = another_name _ _ (sym h.0 ∙ g.0) in omega arith)
+  one_command name (mux path) (show other message octets) h g = absurd (let bad : 109 ≡ 115 = another_name _ _ (sym h.0 ∙ g.0) in omega arith)
   one_command name (mux path) (run other) h g = absurd (let bad : 109 ≡ 114 = another_name _ _ (sym h.0 ∙ g.0) in omega arith)
   one_command name (mux path) (mux other) h g = ap mux (same_at (codes "policy") path other h.1 g.1)
 

@@ -11,6 +11,10 @@ pub mod Streams
 pub mod Meetings
 pub mod VerdictsFound
 pub mod MarkingLaws
+pub mod NamedParts
+pub mod Adding
+pub mod ListingLaws
+pub mod ShownAnswers
 pub mod RecordLaws
 pub mod PassingLaws
 pub mod RecordReading

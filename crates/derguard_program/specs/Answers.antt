@@ -6,12 +6,16 @@ use Rattle.guard_policy.specs.Policies.{AbstractPolicy, AbstractRoute}
 use Rattle.guard_policy.specs.Verdicts.{AbstractVerdict, pass, unknown_message, undecodable, outside_type, denied_by, not_allowed, no_rule}
 use Rattle.guard_policy.specs.Decisions.{IsReason}
 use Rattle.guard_report.specs.Text.{verdict_octets}
+use Rattle.guard_frames.specs.Texts.{SayPolicy}
 use Rattle.derguard_program.specs.declared.answer.Answer.{Answer}
 use Rattle.derguard_program.specs.declared.fault.Fault.{Fault}
 use Rattle.derguard_program.specs.declared.fault.Fault.TheVariants.{BadHex, NoMemory}
+use Rattle.derguard_program.specs.Explaining.{AbstractSources, AreTextsOf, sources}
 use Rattle.derguard_program.specs.Files.{Told}
 use Rattle.derguard_program.specs.FirstRun.{first_module, first_policy, IsFirstRun}
+use Rattle.derguard_program.specs.Listing.{listing}
 use Rattle.derguard_program.specs.Reading.{IsPolicyAt, IsNoPolicyAt, SayNothing}
+use Rattle.derguard_program.specs.Reasons.{ExplainsVerdict}
 
 -- what goes to standard output, and the status
 pub record AbstractAnswer : Type 0 where
@@ -38,6 +42,11 @@ counts_text p = codes "ok: messages " ++ decimal (length p.messages) ++ codes ",
 abbrev pub IsChecked : Told → List ℕ → AbstractAnswer → Type 0
 IsChecked told path a = (p : AbstractPolicy) × IsPolicyAt told path p × (a.out ≡ counts_text p) × (a.status ≡ 0)
 
+-- the counts, and each message with its rules
+abbrev pub IsCheckedExplained : Told → List ℕ → AbstractAnswer → Type 0
+IsCheckedExplained told path a =
+    (p : AbstractPolicy) × IsPolicyAt told path p × (a.out ≡ counts_text p ++ listing p) × (a.status ≡ 0)
+
 -- ---- decide
 
 -- 0 where the message passes
@@ -59,6 +68,32 @@ IsVerdict p route octets a =
 abbrev pub IsDecided : Told → List ℕ → AbstractRoute → List ℕ → AbstractAnswer → Type 0
 IsDecided told path route digits a =
     (octets : List ℕ) × (p : AbstractPolicy) × (decode_of digits ≡ Ok octets) × IsPolicyAt told path p × IsVerdict p route octets a
+
+-- ---- decide, explained
+
+-- the text of the reason and a line feed, and what explains it below
+abbrev pub IsExplainedVerdict : AbstractSources → AbstractPolicy → AbstractRoute → List ℕ → AbstractAnswer → Type 0
+IsExplainedVerdict s p route octets a =
+    (w : AbstractVerdict) × (note : List ℕ) × IsReason p route octets w × ExplainsVerdict s p route octets w note
+    × (a.out ≡ verdict_octets p route w ++ codes "\n" ++ note) × (a.status ≡ verdict_status w)
+
+-- under the policy that these texts say
+abbrev pub IsExplainedOver : AbstractSources → List ℕ → AbstractRoute → List ℕ → AbstractAnswer → Type 0
+IsExplainedOver s text route octets a =
+    (p : AbstractPolicy) × SayPolicy s.modules text p × IsExplainedVerdict s p route octets a
+
+-- under the policy at the path, over the texts that say it
+abbrev pub IsDecidedOver : Told → List ℕ → AbstractRoute → List ℕ → AbstractAnswer → Type 0
+IsDecidedOver told path route octets a =
+    (text : List ℕ) × (files : List (List ℕ)) × (modules : List (List ℕ)) × AreTextsOf told path text files modules
+    × IsExplainedOver (sources path files modules) text route octets a
+
+-- of the octets that the digits write
+abbrev pub IsDecidedExplained : Told → List ℕ → AbstractRoute → List ℕ → AbstractAnswer → Type 0
+IsDecidedExplained told path route digits a =
+    (octets : List ℕ) × (decode_of digits ≡ Ok octets) × IsDecidedOver told path route octets a
+
+-- ---- nothing is decided
 
 -- Digits that write no octets come before what is wrong with the policy.
 abbrev pub IsUndecided : Told → List ℕ → List ℕ → Fault → Type 0

@@ -16,10 +16,14 @@ pub mod Records
 pub mod Passing
 pub mod Turns
 pub mod Muxing
--- ---- what explains a fault
+-- ---- what explains a fault or a verdict
 pub mod Marking
 pub mod Notes
 pub mod Explaining
+pub mod Reasons
+-- ---- what is listed of a policy, what is shown of a message
+pub mod Listing
+pub mod Shown
 -- ---- what it is to meet a request
 pub mod Meeting
 -- ---- what only private contracts and proofs cite

@@ -31,3 +31,7 @@ place_of column line = min (column - 1) (length line)
 
 abbrev pub marked_line : ℕ → List ℕ → List ℕ
 marked_line column line = marked_at (place_of column line) (left_out (place_of column line) line) line
+
+-- At most 120 columns of a text, and dots where it has more.
+abbrev pub columns : List ℕ → List ℕ
+columns text = map shown (take 120 text) ++ dots (nat_lt 120 (length text))

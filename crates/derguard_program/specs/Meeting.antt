@@ -15,13 +15,14 @@ use Rattle.guard_frames.specs.declared.running.RunFault.TheVariants.{FrameTooLon
 use Rattle.derguard_program.specs.declared.fault.Fault.{Fault}
 use Rattle.derguard_program.specs.declared.fault.Fault.TheVariants.{BadHex, CannotRead, Schema, Policy, Run, NoMemory}
 use Rattle.derguard_program.specs.Files.{Told}
-use Rattle.derguard_program.specs.Requests.{AbstractRequest, first, check, decide, run, mux}
+use Rattle.derguard_program.specs.Requests.{AbstractRequest, first, check, decide, show, run, mux}
 use Rattle.derguard_program.specs.Words.{Asks, the_app, version}
 use Rattle.derguard_program.specs.Reading.{IsPolicyAt, IsNoPolicyAt}
-use Rattle.derguard_program.specs.Answers.{AbstractAnswer, IsFirst, IsNoFirst, IsChecked, IsDecided, IsUndecided}
+use Rattle.derguard_program.specs.Answers.{AbstractAnswer, IsFirst, IsNoFirst, IsChecked, IsCheckedExplained, IsDecided, IsDecidedExplained, IsUndecided}
 use Rattle.derguard_program.specs.Devices.{Input, Device, IsUnread, IsUntouched}
 use Rattle.derguard_program.specs.Explaining.{IsExplained, IsUndecidedExplained, TellsWith}
 use Rattle.derguard_program.specs.Muxing.{GuardsLinks}
+use Rattle.derguard_program.specs.Shown.{IsShownAt}
 use Rattle.derguard_program.specs.Writing.{Writes, Tells, TellsLine, TellsNoMemory}
 
 -- Such an answer is written, or such a fault is told; nothing is read.
@@ -92,10 +93,11 @@ GuardsStream told path input out err status =
 abbrev pub Meets : Told → AbstractRequest → Input → Device → Device → ℕ → Type 0
 Meets told first = Answers IsFirst IsNoFirst
 Meets told (check path false) = Answers (IsChecked told path) (IsNoPolicyAt told path)
-Meets told (check path true) = AnswersExplained (IsChecked told path) (IsExplained told path)
+Meets told (check path true) = AnswersExplained (IsCheckedExplained told path) (IsExplained told path)
 Meets told (decide path route digits false) = Answers (IsDecided told path route digits) (IsUndecided told path digits)
 Meets told (decide path route digits true) =
-    AnswersExplained (IsDecided told path route digits) (IsUndecidedExplained told path digits)
+    AnswersExplained (IsDecidedExplained told path route digits) (IsUndecidedExplained told path digits)
+Meets told (show path message digits) = Answers (IsShownAt told path message digits) (IsUndecided told path digits)
 Meets told (run path) = GuardsStream told path
 Meets told (mux path) = GuardsLinks told path
 

@@ -12,6 +12,8 @@ pub data AbstractRequest : Type 0 where
   check : List ℕ → Bool → AbstractRequest
   -- by the policy at this path; the message's octets are written by digits; and whether a fault is to be explained
   decide : List ℕ → AbstractRoute → List ℕ → Bool → AbstractRequest
+  -- by the policy at this path; the message's name; its octets are written by digits
+  show : List ℕ → List ℕ → List ℕ → AbstractRequest
   -- what comes in, by the policy at this path
   run : List ℕ → AbstractRequest
   -- the records of many links, by the policy at this path
@@ -24,5 +26,6 @@ abbrev pub request_view : Request → AbstractRequest
 request_view code.First = first
 request_view (code.Check policy explain) = check policy.now explain
 request_view (code.Decide m) = decide m.policy.now (message_route m) m.hex.now m.explain
+request_view (code.Show policy message hex) = show policy.now message.now hex.now
 request_view (code.Run policy) = run policy.now
 request_view (code.Mux policy) = mux policy.now

@@ -4,7 +4,7 @@ use Rattle.std.specs.Option.{option_map_or}
 use Rattle.clap.specs.Words.{App, Rule, Row, Shape, Text, first_of, fault_of, new_rule, subcommand_of}
 use Rattle.clap.specs.Simple.{new_shape}
 use Rattle.clap.specs.declared.builder.action.ArgAction.TheVariants.{Set, SetTrue}
-use Rattle.derguard_program.specs.Requests.{AbstractRequest, first, check, decide, run, mux}
+use Rattle.derguard_program.specs.Requests.{AbstractRequest, first, check, decide, show, run, mux}
 
 -- the program's version
 abbrev pub version : Text
@@ -40,6 +40,11 @@ abbrev pub decide_shape : Shape
 decide_shape = command_shape (codes "decide")
     (place_rule (codes "policy") ∷ option_rule (codes "from") ∷ option_rule (codes "to") ∷ option_rule (codes "message") ∷ place_rule (codes "hex") ∷ flag_rule (codes "explain") ∷ [])
 
+-- show POLICY --message MESSAGE HEX
+abbrev pub show_shape : Shape
+show_shape = command_shape (codes "show")
+    (place_rule (codes "policy") ∷ option_rule (codes "message") ∷ place_rule (codes "hex") ∷ [])
+
 -- run POLICY
 abbrev pub run_shape : Shape
 run_shape = command_shape (codes "run") (place_rule (codes "policy") ∷ [])
@@ -52,7 +57,7 @@ mux_shape = command_shape (codes "mux") (place_rule (codes "policy") ∷ [])
 abbrev pub the_app : App
 the_app = record {
   top = record (new_shape (codes "derguard")) { is_leaf = false; subcommand_required = true; has_version = true };
-  subs = check_shape ∷ decide_shape ∷ run_shape ∷ mux_shape ∷ [];
+  subs = check_shape ∷ decide_shape ∷ show_shape ∷ run_shape ∷ mux_shape ∷ [];
 }
 
 -- ---- the requests
@@ -70,6 +75,9 @@ IsCommand name rows (decide path route digits explain) =
     (name ≡ codes "decide") × (first_of (codes "policy") rows ≡ Some path) × (first_of (codes "from") rows ≡ Some route.from)
     × (first_of (codes "to") rows ≡ Some route.to) × (first_of (codes "message") rows ≡ Some route.message) × (first_of (codes "hex") rows ≡ Some digits)
     × (explain ≡ flag_of (codes "explain") rows)
+IsCommand name rows (show path message digits) =
+    (name ≡ codes "show") × (first_of (codes "policy") rows ≡ Some path) × (first_of (codes "message") rows ≡ Some message)
+    × (first_of (codes "hex") rows ≡ Some digits)
 IsCommand name rows (run path) = (name ≡ codes "run") × (first_of (codes "policy") rows ≡ Some path)
 IsCommand name rows (mux path) = (name ≡ codes "mux") × (first_of (codes "policy") rows ≡ Some path)
 

@@ -2,9 +2,10 @@
 ghost use Rattle.std.specs.Prelude.{◌≡◌, ◌⊎◌, ◌++◌, [], codes, decimal, map, string_bytes, IfOk, IfErr};
 ghost use Rattle.guard_frames.specs.Texts.{SayPolicy};
 ghost use Rattle.guard_policy.specs.PolicyView.{policy_view};
-ghost use Rattle.derguard_program.specs.Answers.{answer_view, counts_text, IsChecked};
+ghost use Rattle.derguard_program.specs.Answers.{answer_view, counts_text, IsChecked, IsCheckedExplained};
 ghost use Rattle.derguard_program.specs.Explaining.{IsExplained, explanation, sources};
 ghost use Rattle.derguard_program.specs.Files.{IsLater};
+ghost use Rattle.derguard_program.specs.Listing.{listing};
 ghost use Rattle.derguard_program.specs.Reading.{IsPolicyAt, IsNoPolicyAt, SayNothing};
 ghost use Rattle.derguard_program.specs.declared.fault.Fault.TheVariants.{NoMemory};
 
@@ -12,8 +13,11 @@ use crate::answer::Answer;
 use crate::explaining::{Refusal, Sources};
 use crate::fault::Fault;
 use crate::files::Files;
+use crate::listing::listing;
+use crate::octets::add;
 use crate::texts::Texts;
 use guard_frames::load_texts;
+use guard_model::OutOfMemory;
 use guard_policy::Policy;
 use std::alloc::{AllocError, Global};
 
@@ -27,22 +31,32 @@ pub fn check<F: Files>(alloc: Global, path: &str, files: &mut F) -> Result<Answe
     Ok(Answer { out, status: 0 })
 }
 
-/// The same, with what explains a fault.
+/// The same with a listing of the policy, or with what explains a fault.
 pub fn check_explained<F: Files>(
     alloc: Global,
     path: &str,
     files: &mut F,
 ) -> Result<Answer, Refusal>
-    ensures checked { IfOk result (λ a. IsChecked (F.told files.old) path.now (answer_view a)) }
+    ensures checked { IfOk result (λ a. IsCheckedExplained (F.told files.old) path.now (answer_view a)) }
     ensures none { IfErr result (λ r. IsExplained (F.told files.old) path.now r.fault (string_bytes r.note)) }
 {
     match load_explained(alloc, path, files) {
-        Ok(policy) => match counts(alloc, &policy) {
+        Ok(policy) => match listed(alloc, &policy) {
             Ok(out) => Ok(Answer { out, status: 0 }),
             Err(_) => Err(Refusal::no_memory(alloc)),
         },
         Err(refusal) => Err(refusal),
     }
+}
+
+/// The counts, and below them the listing.
+fn listed(alloc: Global, policy: &Policy) -> Result<Vec<u8>, OutOfMemory>
+    ensures { IfOk result (λ out. out.items ≡ counts_text (policy_view policy.now) ++ listing (policy_view policy.now)) }
+{
+    let mut out = counts(alloc, policy)?;
+    let list = listing(alloc, policy)?;
+    add(&mut out, &list)?;
+    Ok(out)
 }
 
 fn counts(alloc: Global, policy: &Policy) -> Result<Vec<u8>, AllocError>
@@ -79,7 +93,7 @@ pub fn load_explained<F: Files>(alloc: Global, path: &str, files: &mut F) -> Res
 }
 
 /// The policy that the texts say; or why they say none, explained over them.
-fn said_explained(alloc: Global, path: &str, texts: &Texts) -> Result<Policy, Refusal>
+pub fn said_explained(alloc: Global, path: &str, texts: &Texts) -> Result<Policy, Refusal>
     ensures there { IfOk result (λ p. SayPolicy (map (λ text. text.items) texts.now.modules.items) texts.now.policy.items (policy_view p)) }
     ensures none { IfErr result (λ r. (SayNothing (map (λ text. text.items) texts.now.modules.items) texts.now.policy.items r.fault
         × (string_bytes r.note ≡ explanation (sources path.now (map string_bytes texts.now.files.items) (map (λ text. text.items) texts.now.modules.items)) r.fault))

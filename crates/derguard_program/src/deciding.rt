@@ -1,22 +1,24 @@
 //! What becomes of one message.
-ghost use Rattle.std.specs.Prelude.{◌≡◌, ◌⊎◌, ◌++◌, codes, string_bytes, Ok, Err, IfOk, IfErr};
+ghost use Rattle.std.specs.Prelude.{◌≡◌, ◌⊎◌, ◌++◌, [], codes, map, string_bytes, Ok, Err, IfOk, IfErr};
 ghost use Rattle.hex.specs.Hex.{decode_of};
 ghost use Rattle.hex.specs.declared.error.FromHexError.{FromHexError};
 ghost use Rattle.guard_policy.specs.PolicyView.{policy_view, route_view};
 ghost use Rattle.guard_policy.specs.Verdicts.{verdict_view};
-ghost use Rattle.derguard_program.specs.Answers.{answer_view, verdict_status, IsVerdict, IsDecided, IsUndecided};
-ghost use Rattle.derguard_program.specs.Explaining.{IsExplained, IsUndecidedExplained};
-ghost use Rattle.derguard_program.specs.Reading.{IsPolicyAt};
-ghost use Rattle.guard_policy.specs.Policies.{AbstractPolicy};
+ghost use Rattle.derguard_program.specs.Answers.{answer_view, verdict_status, IsVerdict, IsDecided, IsUndecided, IsExplainedVerdict, IsDecidedOver, IsExplainedOver, IsDecidedExplained};
+ghost use Rattle.derguard_program.specs.Explaining.{IsExplained, IsUndecidedExplained, explanation, sources, sources_view};
+ghost use Rattle.derguard_program.specs.Reading.{SayNothing};
 ghost use Rattle.derguard_program.specs.Requests.{message_route};
 ghost use Rattle.derguard_program.specs.declared.fault.Fault.TheVariants.{BadHex, NoMemory};
 
 use crate::answer::Answer;
-use crate::checking::{load, load_explained};
+use crate::checking::{load, said_explained};
 use crate::explaining::{Refusal, Sources};
 use crate::fault::Fault;
 use crate::files::Files;
+use crate::octets::add;
+use crate::reasons::verdict_note;
 use crate::request::Message;
+use crate::texts::Texts;
 use guard_model::OutOfMemory;
 use guard_policy::{Policy, Route, Verdict};
 use guard_report::verdict_text;
@@ -38,13 +40,13 @@ pub fn decide<F: Files>(alloc: Global, message: &Message, files: &mut F) -> Resu
     Ok(verdict_on(alloc, &policy, &route, &octets)?)
 }
 
-/// The same, with what explains a fault.
+/// The same, with what explains the verdict or a fault.
 pub fn decide_explained<F: Files>(
     alloc: Global,
     message: &Message,
     files: &mut F,
 ) -> Result<Answer, Refusal>
-    ensures decided { IfOk result (λ a. IsDecided (F.told files.old) message.now.policy.now (message_route message.now) message.now.hex.now (answer_view a)) }
+    ensures decided { IfOk result (λ a. IsDecidedExplained (F.told files.old) message.now.policy.now (message_route message.now) message.now.hex.now (answer_view a)) }
     ensures undecided { IfErr result (λ r. IsUndecidedExplained (F.told files.old) message.now.policy.now message.now.hex.now r.fault (string_bytes r.note)) }
 {
     match octets_of(alloc, message.hex) {
@@ -60,16 +62,56 @@ fn decide_octets<F: Files>(
     octets: &[u8],
     files: &mut F,
 ) -> Result<Answer, Refusal>
-    ensures decided { IfOk result (λ a. (p : AbstractPolicy) × IsPolicyAt (F.told files.old) message.now.policy.now p
-        × IsVerdict p (message_route message.now) octets.now (answer_view a)) }
+    ensures decided { IfOk result (λ a. IsDecidedOver (F.told files.old) message.now.policy.now (message_route message.now) octets.now (answer_view a)) }
     ensures undecided { IfErr result (λ r. IsExplained (F.told files.old) message.now.policy.now r.fault (string_bytes r.note)) }
 {
-    let policy = load_explained(alloc, message.policy, files)?;
+    match Texts::read(alloc, message.policy, files) {
+        Ok(texts) => decide_over(alloc, message, octets, &texts),
+        Err(fault) => Err(Refusal::new(alloc, &Sources::of_path(message.policy), fault)),
+    }
+}
+
+/// The same over the texts of the policy.
+fn decide_over(
+    alloc: Global,
+    message: &Message,
+    octets: &[u8],
+    texts: &Texts,
+) -> Result<Answer, Refusal>
+    ensures decided { IfOk result (λ a. IsExplainedOver (sources message.now.policy.now (map string_bytes texts.now.files.items) (map (λ text. text.items) texts.now.modules.items))
+        texts.now.policy.items (message_route message.now) octets.now (answer_view a)) }
+    ensures undecided { IfErr result (λ r. (SayNothing (map (λ text. text.items) texts.now.modules.items) texts.now.policy.items r.fault
+        × (string_bytes r.note ≡ explanation (sources message.now.policy.now (map string_bytes texts.now.files.items) (map (λ text. text.items) texts.now.modules.items)) r.fault))
+        ⊎ ((r.fault ≡ NoMemory) × (string_bytes r.note ≡ []))) }
+{
+    let policy = said_explained(alloc, message.policy, texts)?;
+    let sources = Sources::of_texts(message.policy, texts);
     let route = route_of(message);
-    match verdict_on(alloc, &policy, &route, octets) {
+    match explained_verdict(alloc, &sources, &policy, &route, octets) {
         Ok(answer) => Ok(answer),
         Err(_) => Err(Refusal::no_memory(alloc)),
     }
+}
+
+/// The text of the verdict and a line feed, and what explains it, with status 1 where the message doesn't pass.
+fn explained_verdict(
+    alloc: Global,
+    sources: &Sources,
+    policy: &Policy,
+    route: &Route,
+    octets: &[u8],
+) -> Result<Answer, OutOfMemory>
+    ensures { IfOk result (λ a. IsExplainedVerdict (sources_view sources.now) (policy_view policy.now) (route_view route.now) octets.now (answer_view a)) }
+{
+    let verdict = policy.verdict(alloc, route, octets)?;
+    let note = verdict_note(alloc, sources, policy, route, octets, &verdict)?;
+    let mut text = verdict_text(alloc, &verdict, route, policy)?;
+    add(&mut text, b"\n")?;
+    add(&mut text, &note)?;
+    Ok(Answer {
+        out: text,
+        status: status_of(&verdict),
+    })
 }
 
 fn route_of<'a>(message: &Message<'a>) -> Route<'a>
@@ -110,7 +152,7 @@ fn status_of(verdict: &Verdict) -> u8
 }
 
 /// The octets that the digits write, in either case.
-fn octets_of(alloc: Global, digits: &str) -> Result<Vec<u8>, Fault>
+pub fn octets_of(alloc: Global, digits: &str) -> Result<Vec<u8>, Fault>
     ensures octets { IfOk result (λ octets. decode_of digits.now ≡ Ok octets.items) }
     ensures bad { IfErr result (λ f. ((f ≡ BadHex) × ((e : FromHexError) × (decode_of digits.now ≡ Err e))) ⊎ (f ≡ NoMemory)) }
 {

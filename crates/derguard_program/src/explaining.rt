@@ -92,7 +92,7 @@ fn note_lines(alloc: Global, sources: &Sources, note: &Note) -> Result<String, A
 }
 
 /// The lines that show a place.
-fn place_lines(alloc: Global, sources: &Sources, place: Place) -> Result<String, AllocError>
+pub fn place_lines(alloc: Global, sources: &Sources, place: Place) -> Result<String, AllocError>
     ensures { IfOk result (λ text. string_bytes text ≡ place_lines (sources_view sources.now) place) }
 {
     match place {

@@ -13,6 +13,9 @@
 //! | Which texts does a policy at a path need? | `texts.rt`, `files.rt` | `specs/Reading.antt`, `specs/Files.antt` |
 //! | What is shown of a fault where it is to be explained, and of which texts? | `explaining.rt` | `specs/Explaining.antt` |
 //! | What is said of each numbered fault? | `notes.rt` | `specs/Notes.antt` |
+//! | What is listed of a policy that is accepted? | `listing.rt` | `specs/Listing.antt` |
+//! | What is shown of a message? | `values.rt` | `specs/Shown.antt` |
+//! | What is shown below a verdict where it is to be explained? | `reasons.rt` | `specs/Reasons.antt` |
 //! | How is a line shown with a mark under a column? | `marking.rt` | `specs/Marking.antt` |
 //! | What is told of a fault, and which status is it? | `fault.rt`, `outputs.rt` | `specs/Faults.antt`, `specs/Writing.antt` |
 //! | Which policy is built in, and what is printed for its messages? | `first_run.rt` | `specs/FirstRun.antt`, `specs/Printing.antt` |
@@ -28,17 +31,21 @@ mod first_run;
 mod guarding;
 pub mod laws;
 mod links;
+mod listing;
 mod marking;
 mod meeting;
 mod muxing;
 mod notes;
+mod octets;
 mod outputs;
 mod passing;
+mod reasons;
 mod records;
 mod request;
 mod sinks;
 mod stop;
 mod texts;
+mod values;
 mod words;
 
 pub use files::{Files, FilesFault};

@@ -1,6 +1,6 @@
 //! A line of a text, with a mark under one of its columns.
 ghost use Rattle.std.specs.Prelude.{◌≡◌, ◌≤◌, ◌<◌, ◌-◌, ℕ, suc, length, map, take, drop, replicate, slice_get, unwrap_or, string_bytes, [], IfOk, nat_lt};
-ghost use Rattle.derguard_program.specs.Marking.{line_at, shown, dots, left_out, place_of, marked_at, marked_line};
+ghost use Rattle.derguard_program.specs.Marking.{line_at, shown, dots, left_out, place_of, marked_at, marked_line, columns};
 ghost use Rattle.derguard_program.specs.Passing.{lines_of};
 
 use crate::passing::line_end;
@@ -76,6 +76,15 @@ fn marked_at(alloc: Global, line: &[u8], place: usize, out: usize) -> Result<Str
     let part = shown_text(alloc, first_columns(rest))?;
     let indent = blanks(alloc, before.len() + (place - out))?;
     format!(in alloc; "  | {before}{part}{after}\n  | {indent}^\n")
+}
+
+/// At most 120 columns of a text, and dots where it has more.
+pub fn columns(alloc: Global, text: &[u8]) -> Result<String, AllocError>
+    ensures { IfOk result (λ shown. string_bytes shown ≡ columns text.now) }
+{
+    let part = shown_text(alloc, first_columns(text))?;
+    let after = dots(text.len() > WIDTH);
+    format!(in alloc; "{part}{after}")
 }
 
 fn dots(some: bool) -> &'static str

@@ -19,6 +19,7 @@ use crate::guarding::run;
 use crate::muxing::mux;
 use crate::outputs::{tell, tell_no_memory, tell_text, tell_with, write};
 use crate::request::Request;
+use crate::values::show_message;
 use crate::words::{VERSION, request_in};
 use clap::Error;
 use clap::error::ErrorKind;
@@ -82,6 +83,16 @@ pub fn meet<F: Files, S: Source, O: Sink, E: Sink>(
                 give(alloc, decide(alloc, message, files), out, err)
             }
         }
+        Request::Show {
+            policy,
+            message,
+            hex,
+        } => give(
+            alloc,
+            show_message(alloc, policy, message, hex, files),
+            out,
+            err,
+        ),
         Request::Run { policy } => run(alloc, policy, files, input, out, err),
         Request::Mux { policy } => mux(alloc, policy, files, input, out, err),
     }

@@ -6,13 +6,26 @@ pub enum Request<'a> {
     /// No words: the messages that are built in.
     First,
     /// Whether a policy and its modules are accepted. A fault may be asked to be explained.
-    Check { policy: &'a str, explain: bool },
+    Check {
+        policy: &'a str,
+        explain: bool,
+    },
     /// What becomes of one message.
     Decide(Message<'a>),
+    /// The value of one message of this name, whose octets are hexadecimal digits.
+    Show {
+        policy: &'a str,
+        message: &'a str,
+        hex: &'a str,
+    },
     /// What may pass of the frames that come in.
-    Run { policy: &'a str },
+    Run {
+        policy: &'a str,
+    },
     /// The same of the frames of many links, whose records come in.
-    Mux { policy: &'a str },
+    Mux {
+        policy: &'a str,
+    },
 }
 
 /// A message on its route, under the policy at a path.

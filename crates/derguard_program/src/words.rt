@@ -2,7 +2,7 @@
 ghost use Rattle.std.specs.Prelude.{◌≡◌, ℕ, List, Some, codes, false, map, IfOk, IfErr};
 ghost use Rattle.clap.specs.Words.{HasKind, Row, Text, app_of, fault_of, first_of, found_of, rows_of, rule_of, shape_of, subcommand_rows_of};
 ghost use Rattle.derguard_program.specs.Requests.{AbstractRequest, request_view};
-ghost use Rattle.derguard_program.specs.Words.{Asks, IsCommand, check_shape, decide_shape, flag_of, flag_rule, mux_shape, option_rule, place_rule, required_rule, run_shape, the_app};
+ghost use Rattle.derguard_program.specs.Words.{Asks, IsCommand, check_shape, decide_shape, flag_of, flag_rule, mux_shape, option_rule, place_rule, required_rule, run_shape, show_shape, the_app};
 
 use crate::request::{Message, Request};
 use clap::{Arg, ArgAction, ArgMatches, Command, Error};
@@ -21,6 +21,9 @@ const CHECK_EXAMPLE: &str = "Example:\n  derguard check examples/orders.toml --e
 
 const DECIDE_EXAMPLE: &str =
     "Example:\n  derguard decide examples/orders.toml --from north --to south --message order 300B800105810101A403020107\n\nA value that begins with a hyphen is given in one word with its option, as --from=-a.";
+
+const SHOW_EXAMPLE: &str =
+    "Example:\n  derguard show examples/orders.toml --message order 300B800105810101A403020107";
 
 const RUN_EXAMPLE: &str = "Example:\n  derguard run examples/orders.toml < examples/orders.frames";
 
@@ -45,6 +48,11 @@ fn request_of<'a>(matches: &ArgMatches<'a>) -> Request<'a>
         Some(("check", found)) => Request::Check {
             policy: text(found, "policy"),
             explain: flag(found, "explain"),
+        },
+        Some(("show", found)) => Request::Show {
+            policy: text(found, "policy"),
+            message: text(found, "message"),
+            hex: text(found, "hex"),
         },
         Some(("run", found)) => Request::Run {
             policy: text(found, "policy"),
@@ -90,6 +98,7 @@ fn command<'a>(alloc: Global) -> Result<Command<'a>, AllocError>
         .subcommand_required(true)
         .subcommand(check(alloc)?)?
         .subcommand(decide(alloc)?)?
+        .subcommand(show(alloc)?)?
         .subcommand(run(alloc)?)?
         .subcommand(mux(alloc)?)
 }
@@ -104,7 +113,7 @@ fn check<'a>(alloc: Global) -> Result<Command<'a>, AllocError>
         .arg(switch(
             alloc,
             "explain",
-            "Shows the place of a fault, and what to do.",
+            "Lists the rules, or shows the place of a fault and what to do.",
         ))
 }
 
@@ -126,8 +135,23 @@ fn decide<'a>(alloc: Global) -> Result<Command<'a>, AllocError>
         .arg(switch(
             alloc,
             "explain",
-            "Shows the place of a fault, and what to do.",
+            "Shows the constraint or the place of a fault, and what to do.",
         ))
+}
+
+fn show<'a>(alloc: Global) -> Result<Command<'a>, AllocError>
+    ensures { IfOk result (λ c. shape_of c ≡ show_shape) }
+{
+    Command::new(alloc, "show")
+        .about("Shows the value of one message, as ASN.1 writes it.")
+        .after_help(SHOW_EXAMPLE)
+        .arg(policy(alloc))?
+        .arg(option(alloc, "message", "The message's name in the policy."))?
+        .arg(
+            required(alloc, "hex")
+                .value_name("HEX")
+                .help("The message's octets, in hexadecimal digits."),
+        )
 }
 
 fn run<'a>(alloc: Global) -> Result<Command<'a>, AllocError>

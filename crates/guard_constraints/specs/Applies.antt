@@ -7,7 +7,7 @@ use Rattle.guard_syntax.specs.Trees as written
 use Rattle.guard_syntax.specs.Trees.{WrittenElementForm}
 
 abbrev pub applies : AbstractKind → WrittenElementForm → Bool
--- a set in parentheses: what stands in it applies or doesn't (50.1)
+-- a set in parentheses: what is in it applies or doesn't (50.1)
 applies kind (written.parentheses set) = true
 -- 51.2: all kinds
 applies kind (written.value tree) = true

@@ -20,7 +20,7 @@ use Rattle.guard_constraints.specs.PartFaults.{part_fault}
 abbrev pub unless : Bool → ConsFault → Option ConsFault
 unless b f = if b then None else Some f
 
--- ---- before what stands inside
+-- ---- before what is inside
 
 -- what is at fault where the element applies
 abbrev pub fault_of_form : Visible → AbstractType → Site → WrittenElementForm → Option ConsFault
@@ -54,7 +54,7 @@ abbrev pub items_fault : AbstractKind → Option (List AlphabetItem) → Option 
 items_fault kind None = None
 items_fault kind (Some items) = option_map characters_fault (first_bad kind items)
 
--- ---- after what stands inside SIZE
+-- ---- after what is inside SIZE
 
 -- C10, at the word SIZE: trailing zero bits don't count in the values of a BIT STRING with named bits (22.7), so this
 -- profile has no SIZE of it.

@@ -1,5 +1,5 @@
 -- Which fault of a constraint tree is named: that of the first check that fails. An element is checked before what
--- stands inside it, and what is written first before the rest.
+-- is inside it, and what is written first before the rest.
 use Rattle.std.specs.Prelude.{◌≡◌, Bool, List, [], ◌∷◌, ◌++◌, Option, Some, None, ◌⊎◌}
 use Rattle.std.specs.Option.{option_map}
 use Rattle.guard_model.specs.declared.site.Site.{Site}
@@ -45,7 +45,7 @@ abbrev pub end_checks : AbstractType → Option WrittenEnd → List Check
 end_checks t None = []
 end_checks t (Some e) = value_under t (value_of_end e) ∷ []
 
--- of what stands on the type that is there
+-- of what is on the type that is there
 abbrev pub checks_on : (AbstractType → List Check) → Option AbstractType → List Check
 checks_on found None = []
 checks_on found (Some u) = found u
@@ -84,13 +84,13 @@ abbrev mutual
   element_checks names t (element_node site form) =
       element_has (own_fault names t site form) ∷ checks_inside names t site form
 
-  -- what stands inside an element that has no fault of its own
+  -- what is inside an element that has no fault of its own
   pub checks_inside : Visible → AbstractType → Site → WrittenElementForm → List Check
   checks_inside names t site (written.parentheses set) = set_checks names t set
   checks_inside names t site (written.value tree) = value_under t tree ∷ []
   checks_inside names t site (written.contained includes name_site name) = []
   checks_inside names t site (written.range r) = end_checks t r.low ++ end_checks t r.high
-  -- that named bits have no SIZE is looked at after all that stands inside it
+  -- that named bits have no SIZE is looked at after all that is inside it
   checks_inside names t site (written.size inner) =
       checks names type_of_size inner ++ element_has (named_bits_fault (kind_of t) site) ∷ []
   checks_inside names t site (written.from (constraint inner set)) =

@@ -2,7 +2,7 @@
 pub mod Numbers
 pub mod Ranges
 pub mod IntSets
--- ---- which elements may stand where, and what they say
+-- ---- which elements may be where, and what they say
 pub mod Visible
 pub mod Applies
 pub mod RangeEnds
@@ -13,7 +13,7 @@ pub mod PartFaults
 pub mod Denotes
 pub mod Faults
 pub mod FirstFault
--- ---- what the code's results and arguments stand for
+-- ---- what the code's results and arguments mean
 pub mod Views
 -- ---- what only private contracts and proofs cite
 pub mod inside

@@ -1,4 +1,5 @@
--- What WITH COMPONENTS lists (X.680 51.8.5 to 51.8.9): components or alternatives by name, perhaps with a presence word.
+-- What WITH COMPONENTS lists (X.680 51.8.5 to 51.8.9): components or alternatives by name, perhaps with a presence
+-- word.
 use Rattle.std.specs.Prelude.{ℕ, suc, Bool, true, false, ◌||◌, not, List, [], ◌∷◌, ◌++◌, bytes_eq, Option, Some, None, if◌then◌else◌}
 use Rattle.std.specs.Option.{is_none, option_map}
 use Rattle.guard_model.specs.declared.site.Site.{Site}
@@ -55,10 +56,10 @@ component_named name (component other t presence others) =
 abbrev pub named_in : AbstractKind → List ℕ → Option Placed
 named_in kind name = component_named name (components_in kind)
 
--- ---- which presence words may stand
+-- ---- which presence words there may be
 
--- Over a SEQUENCE or SET a word speaks of an OPTIONAL component; over a CHOICE an alternative is PRESENT or ABSENT (51.8.9).
--- That none may stand at a component with a DEFAULT is this profile's rule.
+-- Over a SEQUENCE or SET a word speaks of an OPTIONAL component; over a CHOICE an alternative is PRESENT or ABSENT
+-- (51.8.9). That none may be at a component with a DEFAULT is this profile's rule.
 abbrev pub may_say : Bool → AbstractPresence → Option PresenceWord → Bool
 may_say choice presence None = true
 may_say true presence (Some Present) = true
@@ -95,10 +96,10 @@ abbrev pub first_where : (PartHead → Bool) → List PartHead → Option Site
 first_where test [] = None
 first_where test (h ∷ hs) = if test h then Some h.site else first_where test hs
 
--- those behind the first one that passes the test
-abbrev pub behind_first : (PartHead → Bool) → List PartHead → List PartHead
-behind_first test [] = []
-behind_first test (h ∷ hs) = if test h then hs else behind_first test hs
+-- those after the first one that passes the test
+abbrev pub after_first : (PartHead → Bool) → List PartHead → List PartHead
+after_first test [] = []
+after_first test (h ∷ hs) = if test h then hs else after_first test hs
 
 abbrev pub is_among : List ℕ → List PartHead → Bool
 is_among name [] = false
@@ -112,4 +113,4 @@ first_repeated before (h ∷ hs) = if is_among h.name before then Some h.site el
 -- over a CHOICE the second one that is PRESENT
 abbrev pub second_present : Bool → List PartHead → Option Site
 second_present false hs = None
-second_present true hs = first_where is_present (behind_first is_present hs)
+second_present true hs = first_where is_present (after_first is_present hs)

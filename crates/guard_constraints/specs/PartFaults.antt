@@ -25,4 +25,6 @@ present_fault kind hs = option_map fault.TwoPresent (second_present (is_choice k
 
 -- All parts are looked through for each of them before the next one.
 abbrev pub part_fault : AbstractKind → List PartHead → Option ConsFault
-part_fault kind hs = option_or (word_fault kind hs) (option_or (name_fault kind hs) (option_or (repeated_fault hs) (present_fault kind hs)))
+part_fault kind hs =
+    option_or (word_fault kind hs)
+    (option_or (name_fault kind hs) (option_or (repeated_fault hs) (present_fault kind hs)))

@@ -1,4 +1,5 @@
--- What stands inside FROM (X.680 51.7): in this profile strings, and ranges between two characters, in any union.
+-- What may be written inside FROM (X.680 51.7): in this profile strings, and ranges between two characters, in any
+-- union.
 use Rattle.std.specs.Prelude.{ℕ, Bool, true, false, ◌&&◌, ◌||◌, List, [], ◌∷◌, ◌++◌, map, chars, Option, Some, None, if◌then◌else◌}
 use Rattle.std.specs.Str.{is_utf8}
 use Rattle.std.specs.Option.{option_map, option_or}
@@ -66,7 +67,8 @@ item_of_value (value_node site written.null) = None
 item_of_value (value_node site (written.integer n)) = None
 item_of_value (value_node site (written.text string.Bits spelling)) = None
 item_of_value (value_node site (written.text string.Hexadecimal spelling)) = None
-item_of_value (value_node site (written.text string.Characters spelling)) = option_map (λ codes. all_of (record { site = site; codes = codes })) (quoted_codes spelling)
+item_of_value (value_node site (written.text string.Characters spelling)) =
+    option_map (λ codes. all_of (record { site = site; codes = codes })) (quoted_codes spelling)
 item_of_value (value_node site (written.reference name)) = None
 item_of_value (value_node site (written.chosen name tree)) = None
 item_of_value (value_node site (written.list es)) = None
@@ -80,8 +82,8 @@ abbrev pub joined_items : Option (List AlphabetItem) → Option (List AlphabetIt
 joined_items None others = None
 joined_items (Some items) others = option_map (λ more. items ++ more) others
 
--- The strings and ranges of a set, in written order; none where it has another form: ALL EXCEPT, an intersection, EXCEPT, or an
--- element that is neither. Parentheses and unions inside a union say nothing new.
+-- The strings and ranges of a set, in written order; none where it has another form: ALL EXCEPT, an intersection,
+-- EXCEPT, or an element that is neither. Parentheses and unions inside a union say nothing new.
 unfoldable mutual
   pub items_of : WrittenSet → Option (List AlphabetItem)
   items_of (set_node site form) = items_of_form form

@@ -34,4 +34,5 @@ limit_at false z = At z
 -- No end is written as MIN or MAX, and is no limit. Another is an integer, and in the range unless `<` leaves it out.
 abbrev pub LimitDenotes : Meaning → AbstractType → Bool → Option WrittenEnd → Limit → Type 0
 LimitDenotes m t outside None l = l ≡ Free
-LimitDenotes m t outside (Some e) l = (z : ℤ) × values.Denotes m t (value_of_end e) (value.integer z) × (l ≡ limit_at outside z)
+LimitDenotes m t outside (Some e) l =
+    (z : ℤ) × values.Denotes m t (value_of_end e) (value.integer z) × (l ≡ limit_at outside z)

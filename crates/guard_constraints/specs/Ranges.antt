@@ -12,11 +12,11 @@ one_holds [] x = false
 one_holds (r ∷ rs) x = is_between r.low r.high x || one_holds rs x
 
 -- the first range, where there is one, begins at least two above this integer
-abbrev pub begin_behind : ℤ → List Range → Bool
-begin_behind x [] = true
-begin_behind x (r ∷ rs) = lt_z (x +ℤ pos 1) r.low
+abbrev pub begin_after : ℤ → List Range → Bool
+begin_after x [] = true
+begin_after x (r ∷ rs) = lt_z (x +ℤ pos 1) r.low
 
 -- Each range holds an integer, and at least one integer lies between it and the next one.
 abbrev pub are_apart : List Range → Bool
 are_apart [] = true
-are_apart (r ∷ rs) = le_z r.low r.high && (begin_behind r.high rs && are_apart rs)
+are_apart (r ∷ rs) = le_z r.low r.high && (begin_after r.high rs && are_apart rs)

@@ -1,4 +1,4 @@
--- What the code's results and arguments stand for.
+-- What the code's results and arguments mean.
 use Rattle.std.specs.Prelude.{ℕ, List, Option, Some, None, slice_get, IsTrue, IfSome}
 use Rattle.std.specs.Option.{option_map}
 use Rattle.std.specs.Borrow.{Bor}
@@ -53,7 +53,8 @@ placed_type known (Some place) = type_at known place
 -- what upper-case names mean in the module of this definition
 abbrev pub types_from : Names → Known → ℕ → List ℕ → Option AbstractType
 types_from names known id name =
-    placed_type known (place_meant (modules_of names) (order_of names) (home_name (slice_get (definitions (modules_of names)) id)) name)
+    placed_type known (place_meant (modules_of names) (order_of names)
+    (home_name (slice_get (definitions (modules_of names)) id)) name)
 
 abbrev pub visible_at : Names → Known → ℕ → Visible
 visible_at names known id = record { values = visible_from names known id; types = types_from names known id }
@@ -65,7 +66,7 @@ visible_in context = visible_at context.names.now context.known.now context.id
 abbrev pub AreKnownSound : Known → Type 0
 AreKnownSound known = (place : ℕ) → IfSome (type_at known place) (λ t. IsTrue (is_sound t))
 
--- ---- what stands inside FROM
+-- ---- what is inside FROM
 
 abbrev pub code_view : End → CodeEnd
 code_view code.Open = open_end

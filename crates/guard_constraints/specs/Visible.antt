@@ -1,4 +1,4 @@
--- What names say where a constraint stands: lower-case ones stand for values, upper-case ones for types.
+-- What names mean where a constraint is written: lower-case ones mean values, upper-case ones types.
 use Rattle.std.specs.Prelude.{ℕ, Bool, false, List, Option, Some, None}
 use Rattle.guard_model.specs.AbstractType.{AbstractType}
 use Rattle.guard_model.specs.SameType.{same_base}

@@ -1,5 +1,5 @@
-//! Permitted alphabets (X.680 51.7). What stands inside FROM is first taken apart into strings and ranges, which says whether it
-//! has the form that this profile takes; then their characters are looked at. A character is its code.
+//! Permitted alphabets (X.680 51.7). What is written inside FROM is first taken apart into strings and ranges, which
+//! says whether it has the form that this profile takes; then their characters are looked at. A character is its code.
 ghost use Rattle.std.specs.Prelude.{◌≡◌, [], ◌++◌, map, chars, IfOk, Some, option_map};
 ghost use Rattle.guard_model.specs.AbstractType as abstract;
 ghost use Rattle.guard_model.specs.Answer.{Gives};
@@ -32,14 +32,14 @@ const GREATEST_CODE: u32 = 0x10FFFF;
 pub enum End {
     /// MIN or MAX.
     Open,
-    /// The character of a string, and where that stands.
+    /// The character of a string, and where that is.
     Character(Site, u32),
 }
 
-/// What stands in the union inside FROM.
+/// What is in the union inside FROM.
 #[derive(Drop)]
 pub enum Item {
-    /// The characters of a string, and where it stands.
+    /// The characters of a string, and where it is.
     All(Site, Vec<u32>),
     /// Those between two ends, both in.
     Between(End, End),
@@ -63,7 +63,7 @@ pub fn alphabet(alloc: Global, tree: &ConsTree, site: Site, ty: &Ty) -> Result<C
     })
 }
 
-// ---- the form: what stands there, behind the items that stand before it
+// ---- the form: what is written there, after the items before it
 
 #[cycle(alphabet_forms)]
 #[tactic(auto, unfolding(crate::specs::PermittedAlphabets::items_of))]

@@ -10,7 +10,7 @@ use crate::fault::ConsFault;
 use guard_model::{Cons, Rule, Site, Ty};
 use std::alloc::Global;
 
-/// The members of the type that the name stands for, which has the base of the one that is constrained.
+/// The members of the type that the name means, which has the base of the one that is constrained.
 pub fn contained(
     alloc: Global,
     context: Context,

@@ -13,7 +13,7 @@ pub enum ConsFault {
     /// The element doesn't apply to the type.
     #[error("C1 NotApplicable {0}")]
     NotApplicable(Site),
-    /// `<` stands at MIN or MAX; at the range's first token.
+    /// `<` is at MIN or MAX; at the range's first token.
     #[error("C2 ExclusiveLimit {0}")]
     ExclusiveLimit(Site),
     /// Something else than a union of strings and of ranges between two characters; at the word FROM.

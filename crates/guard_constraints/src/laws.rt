@@ -1,5 +1,5 @@
-//! Laws of constraint trees, over the definitions alone: whatever names mean, for all types and trees. Each is carried by a function
-//! that does nothing when it runs.
+//! Laws of constraint trees, over the definitions alone: whatever names mean, for all types and trees. Each is carried
+//! by a function that does nothing when it runs.
 ghost use Rattle.std.specs.Prelude.{◌≡◌, IsTrue};
 ghost use Rattle.guard_model.specs.AbstractType.{AbstractType, Constraint};
 ghost use Rattle.guard_der.specs.Sound.{is_sound};

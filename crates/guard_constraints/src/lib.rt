@@ -1,5 +1,5 @@
-//! Constraints: which constraint a tree of the notation denotes on its type (X.680 49 to 51), or the first fault; and the sets of
-//! integers that tables are made of.
+//! Constraints: which constraint a tree of the notation denotes on its type (X.680 49 to 51), or the first fault; and
+//! the sets of integers that tables are made of.
 //!
 //! | question | file |
 //! |---|---|
@@ -9,9 +9,9 @@
 //! | which fault comes first | `specs/FirstFault.antt` |
 //! | how are values read | `written_values.rt` |
 //! | how are ends of ranges read | `range_ends.rt`, `specs/RangeEnds.antt` |
-//! | what may stand inside FROM | `alphabets.rt`, `specs/PermittedAlphabets.antt` |
+//! | what may be written inside FROM | `alphabets.rt`, `specs/PermittedAlphabets.antt` |
 //! | what may WITH COMPONENTS list | `listed_parts.rt`, `specs/ListedParts.antt` |
-//! | what do names stand for | `context.rt`, `specs/Visible.antt`; contained types: `contained_types.rt` |
+//! | what do names mean | `context.rt`, `specs/Visible.antt`; contained types: `contained_types.rt` |
 //! | what does the code compute, step by step | `specs/inside/Reading.antt` |
 //! | which integers does a set hold | `int_set.rt`, `specs/IntSets.antt`; lists of ranges, their gaps and their common parts: `ranges.rt` |
 #![tactic(auto)]

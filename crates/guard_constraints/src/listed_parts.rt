@@ -166,7 +166,7 @@ fn second_present(choice: bool, parts: &[ComponentConsTree]) -> Option<Site>
     ensures { result ≡ listing.second_present choice (map head_view parts.now) }
 {
     if choice {
-        first_present(behind_present(parts))
+        first_present(after_present(parts))
     } else {
         None
     }
@@ -183,9 +183,9 @@ fn first_present(parts: &[ComponentConsTree]) -> Option<Site>
     None
 }
 
-/// The parts behind the first that is PRESENT.
-fn behind_present<'a, 't>(parts: &'a [ComponentConsTree<'t>]) -> &'a [ComponentConsTree<'t>]
-    ensures { map head_view result.now ≡ listing.behind_first listing.is_present (map head_view parts.now) }
+/// The parts after the first that is PRESENT.
+fn after_present<'a, 't>(parts: &'a [ComponentConsTree<'t>]) -> &'a [ComponentConsTree<'t>]
+    ensures { map head_view result.now ≡ listing.after_first listing.is_present (map head_view parts.now) }
 {
     for index in 0..parts.len() {
         if is_present(&parts[index]) {

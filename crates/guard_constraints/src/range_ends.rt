@@ -45,7 +45,7 @@ pub fn range(
     })
 }
 
-/// `<` stands at neither MIN nor MAX.
+/// `<` is at neither MIN nor MAX.
 fn has_proper_ends(tree: &RangeTree) -> bool
     ensures { result ≡ ends.has_proper_ends (range_view tree.now) }
 {
@@ -54,7 +54,7 @@ fn has_proper_ends(tree: &RangeTree) -> bool
     !leaves_min_out && !leaves_max_out
 }
 
-/// What an end limits: where `<` stands at it, it is outside.
+/// What an end limits: where `<` is at it, it is outside.
 fn limit(
     alloc: Global,
     context: Context,

@@ -36,7 +36,7 @@ pub fn gaps(alloc: Global, ranges: &[Range]) -> Result<Vec<Range>, OutOfMemory>
         if ends_all(range) {
             return Ok(gaps);
         }
-        left = behind(range);
+        left = above(range);
     }
     gaps.push(left)?;
     Ok(gaps)
@@ -63,7 +63,7 @@ fn ends_all(range: &Range) -> bool
 }
 
 /// All integers above a range.
-fn behind(range: &Range) -> Range
+fn above(range: &Range) -> Range
     requires { range.now.high <ℤ greatest }
     ensures low { result.low ≡ range.now.high +ℤ pos 1 }
     ensures high { result.high ≡ greatest }
@@ -120,7 +120,7 @@ pub fn begins_by(range: &Range, number: i128) -> bool
     range.low <= number
 }
 
-/// Whether a range ends at this integer or behind it.
+/// Whether a range ends at this integer or above it.
 pub fn reaches(range: &Range, number: i128) -> bool
     ensures { result ≡ le_z number range.now.high }
 {

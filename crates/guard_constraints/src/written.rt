@@ -1,5 +1,5 @@
 //! The constraint that a tree of the notation denotes on a type (X.680 49 to 51).
-ghost use Rattle.std.specs.Prelude.{◌≡◌, map, IsTrue, IfOk, IfErr, IfSome, None, Some, option_map};
+ghost use Rattle.std.specs.Prelude.{◌≡◌, ◌∷◌, map, IsTrue, IfOk, IfErr, IfSome, None, Some, option_map};
 ghost use Rattle.guard_model.specs.Answer.{Gives};
 ghost use Rattle.guard_model.specs.AbstractType as abstract;
 ghost use Rattle.guard_model.specs.AbstractType.{Constraint};
@@ -11,6 +11,7 @@ ghost use Rattle.guard_syntax.specs.SetViews as views;
 ghost use Rattle.guard_syntax.specs.Views as values;
 ghost use Rattle.guard_model.specs.Kinds.{kind_of};
 ghost use Rattle.guard_values.specs.Views.{AreKnownFitting};
+ghost use Rattle.guard_constraints.specs.Denotes as denotes;
 ghost use Rattle.guard_constraints.specs.Denotes.{Denotes};
 ghost use Rattle.guard_constraints.specs.declared.fault.ConsFault.{ConsFault};
 ghost use Rattle.guard_constraints.specs.FirstFault.{IsFirstConstraintFault};
@@ -34,8 +35,8 @@ use guard_syntax::{
 use guard_values::Known;
 use std::alloc::{AllocError, Global};
 
-/// The constraint that a tree denotes on a type, where it stands in this definition; or the first fault. The type and each known type
-/// are sound, and each known value is one of its governor's.
+/// The constraint that a tree denotes on a type, where it is written in this definition; or the first fault. The type
+/// and each known type are sound, and each known value is one of its governor's.
 pub fn constraint(
     alloc: Global,
     names: &Names,
@@ -47,7 +48,7 @@ pub fn constraint(
     requires sound { IsTrue (is_sound (type_view ty.now)) }
     requires fitting { AreKnownFitting known.now }
     requires known { AreKnownSound known.now }
-    // The constraint is the one denoted, with the sites of its nodes, and it may stand on the type.
+    // The constraint is the one denoted, with the sites of its nodes, and it may be on the type.
     ensures denoted { IfOk result (λ c. Denotes (visible_at names.now known.now id) (type_view ty.now) (views.constraint_view tree.now) (constraint_view c)) }
     ensures proper { IfOk result (λ c. IsTrue (is_proper_constraint (constraint_view c) (type_view ty.now))) }
     ensures faultless { IfOk result (λ c. (f : ConsFault) → IsFirstConstraintFault (visible_at names.now known.now id) (type_view ty.now) (views.constraint_view tree.now) f → ⊥) }
@@ -83,12 +84,20 @@ fn set(alloc: Global, context: Context, tree: &SetTree, ty: &Ty) -> Result<Cons,
         }
         SetForm::Union(first, others) => {
             let first = intersection(alloc, context, first, ty)?;
-            union(alloc, context, others, first, tree.site, ty)
+            let others = united(alloc, context, others, ty)?;
+            Ok(joined(alloc, Join::Union, tree.site, first, others)?)
         }
     }
 }
 
 // ---- unions, intersections and differences (50.1)
+
+/// What the parts of a set are joined to: `|` makes a union, `^` an intersection.
+#[derive(Clone, Copy)]
+pub enum Join {
+    Union,
+    Intersection,
+}
 
 fn all_except(alloc: Global, site: Site, other: Cons) -> Result<Cons, AllocError>
     ensures { IfOk result (λ c. constraint_view c ≡ abstract.at site (abstract.all_except (constraint_view other))) }
@@ -100,51 +109,62 @@ fn all_except(alloc: Global, site: Site, other: Cons) -> Result<Cons, AllocError
     })
 }
 
-/// The first intersection with those joined to it. Alone it is itself.
-#[cycle(sets)]
-fn union(
+/// The first one with those joined to it. Alone it is itself.
+fn joined(
     alloc: Global,
-    context: Context,
-    others: &[JoinedIntersection],
-    first: Cons,
+    join: Join,
     site: Site,
-    ty: &Ty,
-) -> Result<Cons, ConsFault>
-    requires sound { IsTrue (is_sound (type_view ty.now)) }
-    requires fitting { AreKnownFitting context.known.now }
-    ensures { Gives constraint_view named result (reading.read_union site (constraint_view first) (reading.joined_intersections (visible_in context.entry) (type_view ty.now) (map views.joined_intersection_view others.now))) }
+    first: Cons,
+    others: Vec<Cons>,
+) -> Result<Cons, AllocError>
+    ensures { IfOk result (λ c. constraint_view c ≡ denotes.joined (reading.joined_by join) site (constraint_view first) (constraints_of (map constraint_view others.items))) }
 {
-    if others.is_empty() {
+    let joined_parts: &[Cons] = &others;
+    if joined_parts.is_empty() {
         return Ok(first);
     }
-    let all = united(alloc, context, others, first, ty)?;
-    Ok(any_of(site, all))
+    let all = with_first(alloc, first, others)?;
+    Ok(of_all(join, site, all))
 }
 
-fn any_of(site: Site, all: Vec<Cons>) -> Cons
-    ensures { constraint_view result ≡ abstract.at site (abstract.union (constraints_of (map constraint_view all.items))) }
+fn with_first(alloc: Global, first: Cons, others: Vec<Cons>) -> Result<Vec<Cons>, AllocError>
+    ensures { IfOk result (λ v. v.items ≡ first ∷ others.items) }
 {
-    Cons {
-        site,
-        rule: Rule::Any(all),
+    let mut others = others;
+    let mut all = Vec::new(alloc);
+    all.push(first)?;
+    all.append(&mut others)?;
+    Ok(all)
+}
+
+fn of_all(join: Join, site: Site, all: Vec<Cons>) -> Cons
+    ensures { constraint_view result ≡ abstract.at site (reading.joined_by join (constraints_of (map constraint_view all.items))) }
+{
+    match join {
+        Join::Union => Cons {
+            site,
+            rule: Rule::Any(all),
+        },
+        Join::Intersection => Cons {
+            site,
+            rule: Rule::Both(all),
+        },
     }
 }
 
-/// The first intersection of a union and those joined to it.
+/// The intersections that are joined to the first one of a union.
 #[cycle(sets)]
 fn united(
     alloc: Global,
     context: Context,
     others: &[JoinedIntersection],
-    first: Cons,
     ty: &Ty,
 ) -> Result<Vec<Cons>, ConsFault>
     requires sound { IsTrue (is_sound (type_view ty.now)) }
     requires fitting { AreKnownFitting context.known.now }
-    ensures { Gives (λ v. map constraint_view v.items) named result (reading.behind (constraint_view first) (reading.joined_intersections (visible_in context.entry) (type_view ty.now) (map views.joined_intersection_view others.now))) }
+    ensures { Gives (λ v. map constraint_view v.items) named result (reading.joined_intersections (visible_in context.entry) (type_view ty.now) (map views.joined_intersection_view others.now)) }
 {
     let mut all = Vec::new(alloc);
-    all.push(first)?;
     for other in others {
         all.push(intersection(alloc, context, &other.part, ty)?)?;
     }
@@ -163,56 +183,25 @@ fn intersection(
     requires fitting { AreKnownFitting context.known.now }
     ensures { Gives constraint_view named result (reading.read_intersection (visible_in context.entry) (type_view ty.now) (views.intersection_view tree.now)) }
 {
-    let first = difference(alloc, context, &tree.first, ty)?;
     let site = tree.first.element.site;
-    meeting(alloc, context, &tree.others, first, site, ty)
+    let first = difference(alloc, context, &tree.first, ty)?;
+    let others = met(alloc, context, &tree.others, ty)?;
+    Ok(joined(alloc, Join::Intersection, site, first, others)?)
 }
 
-/// The first difference with those joined to it. Alone it is itself.
-#[cycle(sets)]
-fn meeting(
-    alloc: Global,
-    context: Context,
-    others: &[JoinedDifference],
-    first: Cons,
-    site: Site,
-    ty: &Ty,
-) -> Result<Cons, ConsFault>
-    requires sound { IsTrue (is_sound (type_view ty.now)) }
-    requires fitting { AreKnownFitting context.known.now }
-    ensures { Gives constraint_view named result (reading.read_meeting site (constraint_view first) (reading.joined_differences (visible_in context.entry) (type_view ty.now) (map views.joined_difference_view others.now))) }
-{
-    if others.is_empty() {
-        return Ok(first);
-    }
-    let all = met(alloc, context, others, first, ty)?;
-    Ok(all_of(site, all))
-}
-
-fn all_of(site: Site, all: Vec<Cons>) -> Cons
-    ensures { constraint_view result ≡ abstract.at site (abstract.intersection (constraints_of (map constraint_view all.items))) }
-{
-    Cons {
-        site,
-        rule: Rule::Both(all),
-    }
-}
-
-/// The first difference of an intersection and those joined to it.
+/// The differences that are joined to the first one of an intersection.
 #[cycle(sets)]
 fn met(
     alloc: Global,
     context: Context,
     others: &[JoinedDifference],
-    first: Cons,
     ty: &Ty,
 ) -> Result<Vec<Cons>, ConsFault>
     requires sound { IsTrue (is_sound (type_view ty.now)) }
     requires fitting { AreKnownFitting context.known.now }
-    ensures { Gives (λ v. map constraint_view v.items) named result (reading.behind (constraint_view first) (reading.joined_differences (visible_in context.entry) (type_view ty.now) (map views.joined_difference_view others.now))) }
+    ensures { Gives (λ v. map constraint_view v.items) named result (reading.joined_differences (visible_in context.entry) (type_view ty.now) (map views.joined_difference_view others.now)) }
 {
     let mut all = Vec::new(alloc);
-    all.push(first)?;
     for other in others {
         all.push(difference(alloc, context, &other.part, ty)?)?;
     }

@@ -17,7 +17,7 @@ use Rattle.guard_model.specs.TypeView.{type_view}
 use Rattle.guard_der.specs.Sound.{is_sound}
 use Rattle.guard_tables.specs.Tables.{first_fault}
 use Rattle.guard_policy.specs.declared.policy.Effect.{Effect}
-use Rattle.guard_policy.specs.declared.policy.Message.{Message as CodeMessage}
+use Rattle.guard_policy.specs.declared.said.SaidMessage.{SaidMessage}
 use Rattle.guard_policy.specs.inside.Answers.{tables_view}
 use Rattle.std.proofs.lemmas.List.{append-nil, map_push}
 use Rattle.std.specs.Option.{option_or}
@@ -27,7 +27,8 @@ use Rattle.guard_policy.specs.Documents.{text_of}
 use Rattle.guard_policy.specs.Entries.{AbstractTypes, before_all, those_there, message_in, rule_in, rule_of, type_in, effect_named}
 use Rattle.guard_policy.specs.EntryFaults.{entries_fault, tables_fault}
 use Rattle.guard_policy.specs.Consistency.{types_for}
-use Rattle.guard_policy.specs.Policies.{AbstractMessage, AbstractRule, message_view}
+use Rattle.guard_policy.specs.Policies.{AbstractMessage, AbstractRule}
+use Rattle.guard_policy.specs.inside.Said.{said_message_view}
 use Rattle.guard_policy.specs.PolicyFaults.{AbstractFault, bad_table}
 
 -- what is left of a list begins with the item at its place
@@ -87,11 +88,11 @@ taken_is {A} f xs i x lt is =
     ap (λ n. map f (take n xs)) (add-one i) ∙ ap (map f) (take-suc xs i x lt) ∙ map_push f (take i xs) (get_or xs i x)
     ∙ ap (λ (y : A). map f (take i xs) ++ f y ∷ []) (sym is)
 
-pub sound_at : (messages : List CodeMessage) (i : ℕ) (m : CodeMessage) → i < length messages → m ≡ get_or messages i m
-    → All (λ x. IsTrue (is_sound x.ty)) (map message_view messages) → IsTrue (is_sound (type_view m.ty))
+pub sound_at : (messages : List SaidMessage) (i : ℕ) (m : SaidMessage) → i < length messages → m ≡ get_or messages i m
+    → All (λ x. IsTrue (is_sound x.ty)) (map said_message_view messages) → IsTrue (is_sound (type_view m.ty.now))
 sound_at messages i m lt is sound =
     let P : AbstractMessage → Type 0 = λ x. IsTrue (is_sound x.ty) in
-    subst P (get_or-map message_view messages i m ∙ ap message_view (sym is)) (All-get_or P (map message_view messages) i (message_view m) (rw (length-map messages message_view) lt) sound)
+    subst P (get_or-map said_message_view messages i m ∙ ap said_message_view (sym is)) (All-get_or P (map said_message_view messages) i (said_message_view m) (rw (length-map messages said_message_view) lt) sound)
 
 -- ---- the name of what an entry says
 

@@ -1,6 +1,7 @@
 -- What is kept of messages and rules stands for them.
-use Rattle.std.proofs.Common.{◌≡◌, ℕ, zero, suc, ◌+◌, List, [], ◌∷◌, take, drop, map, slice_get, Bool, true, false, cond, Option, Some, None, option_map, option_and_then, unwrap_or, string_bytes, count_by, All, refl, ap, sym, ◌∙◌, subst, arith}
-use Rattle.std.specs.Prelude.{bytes_eq, IsTrue}
+use Rattle.std.proofs.Common.{◌≡◌, ℕ, zero, suc, ◌+◌, ◌≤◌, List, [], ◌∷◌, take, drop, map, slice_get, Bool, true, false, cond, Option, Some, None, option_map, option_and_then, unwrap_or, string_bytes, count_by, All, refl, ap, sym, ◌∙◌, subst, arith}
+use Rattle.std.specs.Prelude.{bytes_eq, nat_lt, IsTrue}
+use Rattle.std.proofs.lemmas.Bool.Decides.{nat_tests}
 use Rattle.std.specs.Borrow.{Bor}
 use Rattle.std.proofs.lemmas.List.Elements.{All-get_or}
 use Rattle.std.proofs.lemmas.List.Sums.{sum_by-cons}
@@ -59,21 +60,40 @@ first_named all (m ∷ ms) i place name is e =
       | false ↦ λ other there. first_named all ms (i + 1) place name (drop_rest all i m ms is) there
     ]) refl e
 
--- the type of the rule after these is at the place that counts those of its message among them
-type_there : (all : List AbstractRule) (n : ℕ) (r : AbstractRule) (name : List ℕ) → slice_get all n ≡ Some r → bytes_eq r.message name ≡ true
-    → slice_get (types_for name all) (count_by (λ x. bytes_eq x.message name) (take n all)) ≡ Some r.ty
-type_there [] n r name there named = absurd cc
-type_there (x ∷ xs) zero r name there named =
+-- none of the numbers from i on comes before an earlier one
+none_before : (name : List ℕ) (i n : ℕ) (rules : List AbstractRule) → n ≤ i → count_by (λ k. nat_lt k n) (numbers_for name i rules) ≡ 0
+none_before name i n [] le = refl
+none_before name i n (r ∷ rs) le =
+    let rest = none_before name (i + 1) n rs (omega (arith, le)) in
+    let past : nat_lt i n ≡ false = grind (arith, nat_tests, le) in
+    let none : 0 + count_by (λ k. nat_lt k n) (numbers_for name (i + 1) rs) ≡ count_by (λ k. nat_lt k n) (numbers_for name (i + 1) rs) = omega arith in
+    elim (bytes_eq r.message name) as (λ (b : Bool). count_by (λ k. nat_lt k n) (cond b (i ∷ numbers_for name (i + 1) rs) (numbers_for name (i + 1) rs)) ≡ 0) [
+      | true ↦ sum_by-cons (λ (k : ℕ). cond (nat_lt k n) 1 0) i (numbers_for name (i + 1) rs) ∙ ap (λ (b : Bool). cond b 1 0 + count_by (λ k. nat_lt k n) (numbers_for name (i + 1) rs)) past ∙ none ∙ rest
+      | false ↦ rest
+    ]
+
+-- the type of the rule of a number is at the place that counts the numbers of its message before it, where the first rule has number i
+type_there : (all : List AbstractRule) (i n : ℕ) (r : AbstractRule) (name : List ℕ) → slice_get all n ≡ Some r → bytes_eq r.message name ≡ true
+    → slice_get (types_for name all) (count_by (λ k. nat_lt k (i + n)) (numbers_for name i all)) ≡ Some r.ty
+type_there [] i n r name there named = absurd cc
+type_there (x ∷ xs) i zero r name there named =
     let same : x ≡ r = same_Some _ _ there in
-    ap (λ (b : Bool). slice_get (cond b (x.ty ∷ types_for name xs) (types_for name xs)) 0) (ap (λ (y : AbstractRule). bytes_eq y.message name) same ∙ named)
+    ap (slice_get (types_for name (x ∷ xs))) (none_before name i (i + 0) (x ∷ xs) (omega arith))
+    ∙ ap (λ (b : Bool). slice_get (cond b (x.ty ∷ types_for name xs) (types_for name xs)) 0) (ap (λ (y : AbstractRule). bytes_eq y.message name) same ∙ named)
     ∙ ap (λ (y : AbstractRule). Some y.ty) same
-type_there (x ∷ xs) (suc n) r name there named =
-    let before = count_by (λ y. bytes_eq y.message name) (take n xs) in
-    ap (slice_get (types_for name (x ∷ xs))) (sum_by-cons (λ (y : AbstractRule). cond (bytes_eq y.message name) 1 0) x (take n xs))
-    ∙ (elim (bytes_eq x.message name) as (λ (b : Bool). slice_get (cond b (x.ty ∷ types_for name xs) (types_for name xs)) (cond b 1 0 + before) ≡ Some r.ty) [
-      | true ↦ let up : 1 + before ≡ suc before = omega arith in ap (slice_get (x.ty ∷ types_for name xs)) up ∙ type_there xs n r name there named
-      | false ↦ let same : 0 + before ≡ before = omega arith in ap (slice_get (types_for name xs)) same ∙ type_there xs n r name there named
-    ])
+type_there (x ∷ xs) i (suc n) r name there named =
+    let rest = numbers_for name (i + 1) xs in
+    let next : i + 1 + n ≡ i + suc n = omega arith in
+    let before = count_by (λ k. nat_lt k (i + suc n)) rest in
+    let below : nat_lt i (i + suc n) ≡ true = grind (arith, nat_tests) in
+    let more : slice_get (types_for name xs) before ≡ Some r.ty =
+    subst (λ (m : ℕ). slice_get (types_for name xs) (count_by (λ k. nat_lt k m) rest) ≡ Some r.ty) next (type_there xs (i + 1) n r name there named) in
+    elim (bytes_eq x.message name) as (λ (b : Bool). slice_get (cond b (x.ty ∷ types_for name xs) (types_for name xs)) (count_by (λ k. nat_lt k (i + suc n)) (cond b (i ∷ rest) rest)) ≡ Some r.ty) [
+      | true ↦
+          let up : 1 + before ≡ suc before = omega arith in
+          ap (slice_get (x.ty ∷ types_for name xs)) (sum_by-cons (λ (k : ℕ). cond (nat_lt k (i + suc n)) 1 0) i rest ∙ ap (λ (b : Bool). cond b 1 0 + before) below ∙ up) ∙ more
+      | false ↦ more
+    ]
 
 tabled_there : (ms : List KeptMessage) (place : ℕ) (t : Tabled) → slice_get (map tabled_view ms) place ≡ Some t
     → (m : KeptMessage) × (slice_get ms place ≡ Some m) × (tabled_view m ≡ t)
@@ -88,7 +108,7 @@ rest_of (t ∷ ts) = ts
 -- the type of a rule is found where it is kept
 type_found : (messages : List AbstractMessage) (all : List AbstractRule) (n : ℕ) (r : AbstractRule) (ty : RuleType) (ms : List KeptMessage)
     → slice_get all n ≡ Some r → map tabled_view ms ≡ map (tabled all) messages
-    → (place : Option ℕ) → place_among r.message 0 messages ≡ place → IsTypeOf place (take n all) r ty
+    → (place : Option ℕ) → place_among r.message 0 messages ≡ place → IsTypeOf (option_map (λ p. record { place = p; numbers = numbers_for r.message 0 all }) place) n r ty
     → (found_type ms ty ≡ Some r.ty) × (table_place ty ≡ place)
 unfolding rest_of
 type_found messages all n r (Own t) ms there tables None none is = (ap Some is, refl)
@@ -97,9 +117,13 @@ type_found messages all n r ty ms there tables (Some place) first is =
     let message = first_named messages messages 0 place r.message refl first in
     let kept = tabled_there ms place (tabled all message.0) (ap (λ (ts : List Tabled). slice_get ts place) tables ∙ slice_get-map (tabled all) messages place ∙ ap (option_map (tabled all)) message.1) in
     let types : rules_of kept.0.table ≡ types_for r.message all = ap (λ (t : Tabled). rest_of t.types) kept.2 ∙ ap (λ (name : List ℕ). types_for name all) message.2 in
-    let count = count_by (λ x. bytes_eq x.message r.message) (take n all) in (
+    let count = count_by (λ k. nat_lt k n) (numbers_for r.message 0 all) in
+    let from_first : 0 + n ≡ n = omega arith in
+    let there_from_first : slice_get (types_for r.message all) count ≡ Some r.ty =
+    subst (λ (m : ℕ). slice_get (types_for r.message all) (count_by (λ k. nat_lt k m) (numbers_for r.message 0 all)) ≡ Some r.ty) from_first
+    (type_there all 0 n r r.message there ((bytes_eq-Decides r.message r.message).1 refl)) in (
       ap (found_type ms) is ∙ ap (λ (o : Option KeptMessage). option_and_then (λ (m : KeptMessage). slice_get (rules_of m.table) count) o) kept.1
-          ∙ ap (λ (ts : List AbstractType). slice_get ts count) types ∙ type_there all n r r.message there ((bytes_eq-Decides r.message r.message).1 refl),
+          ∙ ap (λ (ts : List AbstractType). slice_get ts count) types ∙ there_from_first,
       ap table_place is,
     )
 
@@ -109,19 +133,19 @@ as_said ms kept r said found =
     let name = said.name in let effect = said.effect in let from = said.from in let to = said.to in let message = said.message in
     rw (name, effect, from, to, message, ty) refl
 
-place_is : (r : AbstractRule) (ty : RuleType) (before : List AbstractRule) (place : Option ℕ) → IsTypeOf place before r ty → table_place ty ≡ place
-place_is r ty before (Some p) is = ap table_place is
-place_is r (Own t) before None is = refl
-place_is r (InTable message rule) before None is = absurd is
+place_is : (r : AbstractRule) (ty : RuleType) (n : ℕ) (numbers : List ℕ) (place : Option ℕ) → IsTypeOf (option_map (λ p. record { place = p; numbers = numbers }) place) n r ty → table_place ty ≡ place
+place_is r ty n numbers (Some p) is = ap table_place is
+place_is r (Own t) n numbers None is = refl
+place_is r (InTable message rule) n numbers None is = absurd is
 
--- what is kept of a rule that comes after these stands for it
-pub kept_one : (messages : List AbstractMessage) (all : List AbstractRule) (n : ℕ) (r : AbstractRule) (kept : KeptRule) (place : Option ℕ)
-    → slice_get all n ≡ Some r → place_among r.message 0 messages ≡ place → IsTypeOf place (take n all) r kept.ty → IsSaid r kept
+-- what is kept of the rule of this number stands for it
+pub kept_one : (messages : List AbstractMessage) (all : List AbstractRule) (n : ℕ) (r : AbstractRule) (kept : KeptRule)
+    → slice_get all n ≡ Some r → IsTypeOf (listing messages all r.message) n r kept.ty → IsSaid r kept
     → ((ms : List KeptMessage) → map tabled_view ms ≡ map (tabled all) messages → kept_rule_view ms kept ≡ r)
     × (table_place kept.ty ≡ place_among (string_bytes kept.message) 0 messages)
-kept_one messages all n r kept place there first is said = (
-  λ ms tables. as_said ms kept r said (type_found messages all n r kept.ty ms there tables place first is).0,
-  place_is r kept.ty (take n all) place is ∙ sym first ∙ ap (λ (name : List ℕ). place_among name 0 messages) (sym said.message),
+kept_one messages all n r kept there is said = (
+  λ ms tables. as_said ms kept r said (type_found messages all n r kept.ty ms there tables (place_among r.message 0 messages) refl is).0,
+  place_is r kept.ty n (numbers_for r.message 0 all) (place_among r.message 0 messages) is ∙ ap (λ (name : List ℕ). place_among name 0 messages) (sym said.message),
 )
 
 -- ---- the place of a message, as it is found by its name

@@ -19,5 +19,12 @@ pub mod ByMarks
 pub mod Gathered
 pub mod LeastKey
 pub mod EntriesRead
+pub mod NamesSeen
+-- ---- what a listing tells
+pub mod Starts
+pub mod Sizes
+pub mod Within
+pub mod NumbersIn
+pub mod NothingShared
 pub mod ModuleNames
 pub mod Loading

@@ -14,9 +14,11 @@ use Rattle.guard_tables.proofs.SlotSums.{added_none, none_added, added_again}
 use Rattle.guard_tables.proofs.SlotWords.{none_in, only_in, added_in, same_slots}
 use Rattle.std.specs.Borrow.{Bor}
 use Rattle.std.proofs.lemmas.List.{map_push, length-map}
-use Rattle.guard_policy.specs.declared.policy.Rule.{Rule}
-use Rattle.guard_policy.specs.Policies.{AbstractRule, rule_view}
-use Rattle.guard_policy.specs.inside.Routing.{rules_view, slots_from, slots_where, common}
+use Rattle.guard_policy.specs.declared.policy.SaidRule.{SaidRule}
+use Rattle.guard_policy.specs.Policies.{AbstractRule}
+use Rattle.guard_policy.specs.SaidView.{said_view}
+use Rattle.guard_policy.specs.inside.Said.{rules_view}
+use Rattle.guard_policy.specs.inside.Routing.{slots_from, slots_where, common}
 use Rattle.guard_policy.proofs.EntriesRead.{taken_is}
 use Rattle.guard_policy.proofs.Listed.{taken_length}
 
@@ -34,24 +36,24 @@ slots-push k (true ∷ bs) false n e = ap (added (only k)) (slots-push (suc k) b
 slots-push k (false ∷ bs) b n e = slots-push (suc k) bs b n (omega (arith, e))
 
 -- of the rules that a loop has looked at
-slots_taken : (f : AbstractRule → Bool) (rules : List (Bor Rule)) (i : ℕ) (r : Bor Rule) → i < length rules → r ≡ get_or rules i r
-    → slots_where f (rules_view (take (i + 1) rules)) ≡ with_slot (f (rule_view r.now)) (i + 1) (slots_where f (rules_view (take i rules)))
+slots_taken : (f : AbstractRule → Bool) (rules : List (Bor SaidRule)) (i : ℕ) (r : Bor SaidRule) → i < length rules → r ≡ get_or rules i r
+    → slots_where f (rules_view (take (i + 1) rules)) ≡ with_slot (f (said_view r.now)) (i + 1) (slots_where f (rules_view (take i rules)))
 slots_taken f rules i r lt is =
     let before = rules_view (take i rules) in
-    let counted = taken_length (λ (x : Bor Rule). rule_view x.now) rules i lt in
+    let counted = taken_length (λ (x : Bor SaidRule). said_view x.now) rules i lt in
     let same = length-map before f in
-    ap (slots_where f) (taken_is (λ (x : Bor Rule). rule_view x.now) rules i r lt is)
-    ∙ ap (slots_from 1) (map_push f before (rule_view r.now))
-    ∙ slots-push 1 (map f before) (f (rule_view r.now)) (i + 1) (omega (arith, counted, same))
+    ap (slots_where f) (taken_is (λ (x : Bor SaidRule). said_view x.now) rules i r lt is)
+    ∙ ap (slots_from 1) (map_push f before (said_view r.now))
+    ∙ slots-push 1 (map f before) (f (said_view r.now)) (i + 1) (omega (arith, counted, same))
 
-pub slot_in : (f : AbstractRule → Bool) (rules : List (Bor Rule)) (i : ℕ) (r : Bor Rule) (slots : Slots) → i < length rules → r ≡ get_or rules i r
-    → f (rule_view r.now) ≡ true → slots ≡ slots_where f (rules_view (take i rules)) → added slots (only (i + 1)) ≡ slots_where f (rules_view (take (i + 1) rules))
+pub slot_in : (f : AbstractRule → Bool) (rules : List (Bor SaidRule)) (i : ℕ) (r : Bor SaidRule) (slots : Slots) → i < length rules → r ≡ get_or rules i r
+    → f (said_view r.now) ≡ true → slots ≡ slots_where f (rules_view (take i rules)) → added slots (only (i + 1)) ≡ slots_where f (rules_view (take (i + 1) rules))
 slot_in f rules i r slots lt is passes so_far =
     ap (λ (m : Slots). added m (only (i + 1))) so_far
     ∙ ap (λ b. with_slot b (i + 1) (slots_where f (rules_view (take i rules)))) (sym passes) ∙ sym (slots_taken f rules i r lt is)
 
-pub slot_out : (f : AbstractRule → Bool) (rules : List (Bor Rule)) (i : ℕ) (r : Bor Rule) (slots : Slots) → i < length rules → r ≡ get_or rules i r
-    → f (rule_view r.now) ≡ false → slots ≡ slots_where f (rules_view (take i rules)) → slots ≡ slots_where f (rules_view (take (i + 1) rules))
+pub slot_out : (f : AbstractRule → Bool) (rules : List (Bor SaidRule)) (i : ℕ) (r : Bor SaidRule) (slots : Slots) → i < length rules → r ≡ get_or rules i r
+    → f (said_view r.now) ≡ false → slots ≡ slots_where f (rules_view (take i rules)) → slots ≡ slots_where f (rules_view (take (i + 1) rules))
 slot_out f rules i r slots lt is fails so_far =
     so_far ∙ ap (λ b. with_slot b (i + 1) (slots_where f (rules_view (take i rules)))) (sym fails) ∙ sym (slots_taken f rules i r lt is)
 

@@ -12,10 +12,12 @@ use Rattle.guard_tables.specs.declared.fault.TableFault.{TableFault}
 use Rattle.guard_tables.specs.declared.fault.TableFault.TheVariants.{TooManyRules}
 use Rattle.guard_tables.specs.declared.table.Table.{Table}
 use Rattle.guard_policy.specs.declared.kept.KeptMessage.{KeptMessage}
-use Rattle.guard_policy.specs.declared.policy.Rule.{Rule}
+use Rattle.guard_policy.specs.declared.policy.SaidRule.{SaidRule}
 use Rattle.guard_policy.specs.Consistency.{types_for}
-use Rattle.guard_policy.specs.Policies.{AbstractRule, rule_view}
-use Rattle.guard_policy.specs.inside.Routing.{rules_named, rules_view, IsRouting, IsRouted}
+use Rattle.guard_policy.specs.Policies.{AbstractRule}
+use Rattle.guard_policy.specs.SaidView.{said_view}
+use Rattle.guard_policy.specs.inside.Said.{rules_view}
+use Rattle.guard_policy.specs.inside.Routing.{rules_named, IsRouting, IsRouted}
 
 pub types_named : (name : List ℕ) (rules : List AbstractRule) → map (λ r. r.ty) (rules_named name rules) ≡ types_for name rules
 types_named name [] = refl
@@ -40,14 +42,14 @@ rest_of [] = []
 rest_of (t ∷ ts) = ts
 
 -- as many as a table of their types has
-pub few_named : (rules : List AbstractRule) (name : List ℕ) (declared : AbstractType) (table : Table) (named : List (Bor Rule))
+pub few_named : (rules : List AbstractRule) (name : List ℕ) (declared : AbstractType) (table : Table) (named : List (Bor SaidRule))
     → table_types table ≡ declared ∷ types_for name rules → rules_view named ≡ rules_named name rules → length named ≤ 255
 few_named rules name declared table named types is =
     let few = few_rules (declared_of table) (rules_of table) table.consistent.faultless in
     let a : rules_of table ≡ map (λ r. r.ty) (rules_named name rules) = ap rest_of types ∙ sym (types_named name rules) in
     let b : length (rules_of table) ≡ length (rules_named name rules) = ap (λ (ts : List AbstractType). length ts) a ∙ length-map (rules_named name rules) (λ r. r.ty) in
     let c : length (rules_view named) ≡ length (rules_named name rules) = ap (λ (rs : List AbstractRule). length rs) is in
-    let d : length (rules_view named) ≡ length named = length-map named (λ r. rule_view r.now) in
+    let d : length (rules_view named) ≡ length named = length-map named (λ r. said_view r.now) in
     omega (arith, few, b, c, d)
 
 -- ---- a message with its table and routing

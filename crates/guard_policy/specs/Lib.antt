@@ -1,6 +1,7 @@
 -- ---- policies
 pub mod Policies
 pub mod KeptView
+pub mod SaidView
 pub mod PolicyView
 pub mod Names
 pub mod Consistency
@@ -13,6 +14,8 @@ pub mod Entries
 pub mod PolicyFaults
 pub mod EntryFaults
 pub mod Loads
+-- ---- what a listing tells
+pub mod Barren
 -- ---- what only private contracts and proofs cite
 pub mod inside
 -- ---- worked examples

@@ -55,6 +55,10 @@ declared_type p name = declared_among p.messages name
 abbrev pub message_name_of : AbstractPolicy → ℕ → Option (List ℕ)
 message_name_of p i = option_map (λ m. m.name) (slice_get p.messages i)
 
+-- the declared type of a message by its place, from 0
+abbrev pub message_type_of : AbstractPolicy → ℕ → Option AbstractType
+message_type_of p i = option_map (λ m. m.ty) (slice_get p.messages i)
+
 -- the name of a rule by its number, from 0
 abbrev pub rule_name_of : AbstractPolicy → ℕ → Option (List ℕ)
 rule_name_of p i = option_map (λ r. r.name) (slice_get p.rules i)

@@ -1,11 +1,10 @@
 -- The policy that a policy of the code stands for.
+pub use Rattle.guard_policy.specs.SaidView.{said_view}
 use Rattle.std.specs.Prelude.{map, string_bytes}
-use Rattle.guard_model.specs.TypeView.{type_view}
 use Rattle.guard_policy.specs.declared.policy.Policy.{Policy}
-use Rattle.guard_policy.specs.declared.policy.SaidRule.{SaidRule}
 use Rattle.guard_policy.specs.declared.route.Route.{Route}
 use Rattle.guard_policy.specs.KeptView.{kept_message_view, kept_rule_view}
-use Rattle.guard_policy.specs.Policies.{AbstractPolicy, AbstractRule, AbstractRoute}
+use Rattle.guard_policy.specs.Policies.{AbstractPolicy, AbstractRoute}
 
 abbrev pub policy_view : Policy → AbstractPolicy
 policy_view p = record {
@@ -16,6 +15,3 @@ policy_view p = record {
 
 abbrev pub route_view : Route → AbstractRoute
 route_view r = record { from = r.from.now; to = r.to.now; message = r.message.now }
-
-abbrev pub said_view : SaidRule → AbstractRule
-said_view r = record { name = r.name.now; effect = r.effect; from = r.from.now; to = r.to.now; message = r.message.now; ty = type_view r.ty.now }

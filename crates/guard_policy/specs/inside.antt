@@ -1,8 +1,11 @@
 -- What only private contracts and proofs cite.
 pub mod Listings
 pub mod Answers
+pub mod Asked
 pub mod Applicable
 pub mod Keeping
 pub mod Routing
+pub mod Said
+pub mod NumbersIn
 pub mod Speaking
 pub mod TypedRules

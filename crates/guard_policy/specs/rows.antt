@@ -1,3 +1,4 @@
 -- Worked examples, which the checker computes.
 pub mod Rows
 pub mod LoadRows
+pub mod BarrenRows

@@ -1,9 +1,11 @@
 //! Look-ups by the name of a message.
 ghost use Rattle.std.specs.Prelude.{◌≡◌, ◌+◌, map, option_map, string_bytes, IfOk};
 ghost use Rattle.guard_policy.specs.inside.Listings.{IsIndex, found_in, listed_view, numbers_for};
-ghost use Rattle.guard_policy.specs.Policies.{message_view, rule_view};
+ghost use Rattle.guard_policy.specs.SaidView.{said_view};
+ghost use Rattle.guard_policy.specs.inside.Said.{said_message_view};
 
-use super::policy::{Message, Rule};
+use super::policy::SaidRule;
+use super::said::SaidMessage;
 use indexmap::IndexMap;
 use std::alloc::{AllocError, Global};
 
@@ -24,8 +26,12 @@ pub(crate) struct Index {
 
 impl Index {
     /// The index of these messages and rules.
-    pub fn of(alloc: Global, messages: &[Message], rules: &[Rule]) -> Result<Index, AllocError>
-        ensures { IfOk result (IsIndex (map message_view messages.now) (map rule_view rules.now)) }
+    pub fn of(
+        alloc: Global,
+        messages: &[SaidMessage],
+        rules: &[SaidRule],
+    ) -> Result<Index, AllocError>
+        ensures { IfOk result (IsIndex (map said_message_view messages.now) (map said_view rules.now)) }
     {
         let mut listed = IndexMap::new(alloc);
         for (place, message) in messages.iter().enumerate() {
@@ -47,8 +53,8 @@ impl Index {
 }
 
 /// The numbers of the rules that speak of the message of this name, in order.
-fn numbers_for(alloc: Global, name: &[u8], rules: &[Rule]) -> Result<Vec<usize>, AllocError>
-    ensures { IfOk result (λ numbers. numbers.items ≡ numbers_for name.now 0 (map rule_view rules.now)) }
+fn numbers_for(alloc: Global, name: &[u8], rules: &[SaidRule]) -> Result<Vec<usize>, AllocError>
+    ensures { IfOk result (λ numbers. numbers.items ≡ numbers_for name.now 0 (map said_view rules.now)) }
 {
     let mut numbers = Vec::new(alloc);
     for (number, rule) in rules.iter().enumerate() {

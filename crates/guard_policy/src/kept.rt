@@ -1,18 +1,20 @@
 //! What a policy keeps of messages and rules: each type once, in the table of its message.
-ghost use Rattle.std.specs.Prelude.{◌≡◌, All, List, map, count_by, string_bytes, bytes_eq, option_map, slice_get, IfOk};
+ghost use Rattle.std.specs.Prelude.{◌≡◌, All, List, map, count_by, nat_lt, option_map, slice_get, IfOk};
 ghost use Rattle.std.proofs.Props.{props};
 ghost use Rattle.guard_model.specs.TypeView.{type_view};
 ghost use Rattle.guard_policy.specs.Consistency.{IsConsistent};
 ghost use Rattle.guard_policy.specs.KeptView.{kept_message_view, kept_rule_view, found_type};
-ghost use Rattle.guard_policy.specs.inside.Listings.{IsIndex};
-ghost use Rattle.guard_policy.specs.Policies.{message_view, rule_view};
+ghost use Rattle.guard_policy.specs.inside.Listings.{IsIndex, listed_view};
+ghost use Rattle.guard_policy.specs.SaidView.{said_view};
+ghost use Rattle.guard_policy.specs.inside.Said.{said_message_view};
 ghost use Rattle.guard_policy.specs.inside.Keeping.{IsTypeOf, IsSaid, ArePlaced, tabled_view, tabled};
 ghost use Rattle.guard_policy.specs.inside.Routing.{IsRouted};
 ghost use Rattle.guard_policy.specs.declared.kept.KeptMessage.{KeptMessage};
 
 use super::index::{Index, Listed};
-use super::policy::{Effect, Message, Rule};
+use super::policy::{Effect, SaidRule};
 use super::routing::Routing;
+use super::said::SaidMessage;
 use guard_model::{OutOfMemory, Ty};
 use guard_tables::Table;
 use std::alloc::{AllocError, Global};
@@ -91,62 +93,59 @@ impl Kept {
 /// Each rule without its type, and how names lead to messages and rules.
 pub(crate) fn keep_rules(
     alloc: Global,
-    messages: &[Message],
-    rules: &[Rule],
+    messages: &[SaidMessage],
+    rules: &[SaidRule],
 ) -> Result<(Index, Vec<KeptRule>), OutOfMemory>
-    ensures index { IfOk result (λ kept. IsIndex (map message_view messages.now) (map rule_view rules.now) kept.0) }
+    ensures index { IfOk result (λ kept. IsIndex (map said_message_view messages.now) (map said_view rules.now) kept.0) }
     // With the tables of the messages they are the rules.
     ensures rules { IfOk result (λ kept. (with_tables : List KeptMessage) →
-        map tabled_view with_tables ≡ map (tabled (map rule_view rules.now)) (map message_view messages.now) →
-        map (kept_rule_view with_tables) kept.1.items ≡ map rule_view rules.now) }
-    ensures placed { IfOk result (λ kept. ArePlaced (map message_view messages.now) kept.1.items) }
+        map tabled_view with_tables ≡ map (tabled (map said_view rules.now)) (map said_message_view messages.now) →
+        map (kept_rule_view with_tables) kept.1.items ≡ map said_view rules.now) }
+    ensures placed { IfOk result (λ kept. ArePlaced (map said_message_view messages.now) kept.1.items) }
 {
     let index = Index::of(alloc, messages, rules)?;
     let mut kept = Vec::with_capacity(alloc, rules.len())?;
     for (number, rule) in rules.iter().enumerate() {
         let listed = index.find(rule.message.as_bytes());
-        let ty = type_of(alloc, listed, &rules[..number], rule)?;
+        let ty = type_of(alloc, listed, number, rule)?;
         kept.push(without_type(alloc, rule, ty)?)?;
     }
     Ok((index, kept))
 }
 
-/// Where the type of a rule after these is kept; its message is listed so.
+/// Where the type of the rule of this number is kept; its message is listed so.
 fn type_of(
     alloc: Global,
     listed: Option<&Listed>,
-    before: &[Rule],
-    rule: &Rule,
+    number: usize,
+    rule: &SaidRule,
 ) -> Result<RuleType, OutOfMemory>
-    ensures { IfOk result (λ ty. IsTypeOf (option_map (λ l. l.now.place) listed.entry) (map rule_view before.now) (rule_view rule.now) ty) }
+    ensures { IfOk result (λ ty. IsTypeOf (option_map (λ l. listed_view l.now) listed.entry) number (said_view rule.now) ty) }
 {
     match listed {
         Some(listed) => Ok(RuleType::InTable {
             message: listed.place,
-            rule: count_named(before, &rule.message),
+            rule: count_before(&listed.rules, number),
         }),
         None => Ok(RuleType::Own(rule.ty.copy(alloc)?)),
     }
 }
 
-/// How many rules speak of the message of this name.
-fn count_named(rules: &[Rule], name: &str) -> usize
-    ensures { result ≡ count_by (λ r. bytes_eq (string_bytes r.message) name.now) rules.now }
+/// How many of the numbers come before this one.
+fn count_before(numbers: &[usize], number: usize) -> usize
+    ensures { result ≡ count_by (λ n. nat_lt n number) numbers.now }
 {
-    rules
-        .iter()
-        .filter(|rule| rule.message.as_str() == name)
-        .count()
+    numbers.iter().filter(|other| **other < number).count()
 }
 
 /// The rule, its type being there.
-fn without_type(alloc: Global, rule: &Rule, ty: RuleType) -> Result<KeptRule, AllocError>
-    ensures { IfOk result (λ kept. IsSaid (rule_view rule.now) kept × (kept.ty ≡ ty)) }
+fn without_type(alloc: Global, rule: &SaidRule, ty: RuleType) -> Result<KeptRule, AllocError>
+    ensures { IfOk result (λ kept. IsSaid (said_view rule.now) kept × (kept.ty ≡ ty)) }
 {
-    let name = String::from_str(alloc, &rule.name)?;
-    let from = String::from_str(alloc, &rule.from)?;
-    let to = String::from_str(alloc, &rule.to)?;
-    let message = String::from_str(alloc, &rule.message)?;
+    let name = String::from_str(alloc, rule.name)?;
+    let from = String::from_str(alloc, rule.from)?;
+    let to = String::from_str(alloc, rule.to)?;
+    let message = String::from_str(alloc, rule.message)?;
     Ok(KeptRule {
         name,
         effect: rule.effect,

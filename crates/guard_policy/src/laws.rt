@@ -1,5 +1,6 @@
-//! Laws of verdicts, over the definitions alone. Each is carried by a function that does nothing when it runs.
+//! Laws of verdicts and of barren rules, over the definitions alone. Each is carried by a function that does nothing when it runs.
 ghost use Rattle.std.specs.Prelude.{◌↔◌, ◌≡◌};
+ghost use Rattle.guard_policy.specs.Barren.{BarrenShareNothing, IntegersAreTold};
 ghost use Rattle.guard_policy.specs.Decisions.{Goes, IsReason};
 ghost use Rattle.guard_policy.specs.PolicyView.{policy_view, route_view};
 ghost use Rattle.guard_policy.specs.Verdicts.{AbstractVerdict, pass};
@@ -20,3 +21,13 @@ pub fn law_one_reason(policy: &Policy, route: &Route, octets: &[u8])
     };
     law_one_answer(ty, octets);
 }
+
+/// Of two types one of which is barren under the other no value is a member of both.
+pub fn law_barren_share_nothing()
+    ensures { BarrenShareNothing }
+{}
+
+/// An INTEGER is barren under another exactly where no integer is a member of both.
+pub fn law_integers_are_told()
+    ensures { IntegersAreTold }
+{}

@@ -16,9 +16,11 @@
 //! | What may be wrong with it? | `fault.rt` | `specs/PolicyFaults.antt` |
 //! | Which files of modules does it list? | `files.rt` (`module_files`) | `specs/Loads.antt` |
 //! | What does a policy stand on? | `types.rt` (`Types`) | `specs/Entries.antt` |
-//! | Which policy does the text say, and why is another text none? | `load.rt` (`Policy::load`), `messages.rt`, `rules.rt`, `tables.rt` | `specs/Loads.antt`, `specs/Entries.antt`, `specs/EntryFaults.antt` |
+//! | Which policy does the text say, and why is another text none? | `load.rt` (`Policy::load`), `messages.rt`, `rules.rt`, `tables.rt`; names seen so far `seen.rt`, what is borrowed meanwhile `said.rt` | `specs/Loads.antt`, `specs/Entries.antt`, `specs/EntryFaults.antt`, `specs/inside/Said.antt` |
 #![tactic(auto)]
 
+mod asked;
+mod barren;
 mod decision;
 mod document;
 mod entry;
@@ -35,6 +37,9 @@ mod policy;
 mod route;
 mod routing;
 mod rules;
+mod said;
+mod seen;
+mod spans;
 mod tables;
 mod types;
 mod verdict;

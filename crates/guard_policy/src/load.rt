@@ -1,7 +1,11 @@
 //! Policies from their texts.
-ghost use Rattle.std.specs.Prelude.{◌≡◌, IfOk, IfErr, IfSome};
+ghost use Rattle.std.specs.Prelude.{◌≡◌, ℕ, List, IfOk, IfErr, IfSome};
+ghost use Rattle.toml.specs.View.{table_view};
+ghost use Rattle.guard_policy.specs.Documents.{IsDocument};
 ghost use Rattle.guard_policy.specs.Loads.{Loads, IsRefused};
+ghost use Rattle.guard_policy.specs.Policies.{AbstractPolicy};
 ghost use Rattle.guard_policy.specs.PolicyFaults.{named};
+ghost use Rattle.guard_policy.specs.PolicyView.{policy_view};
 
 use super::document::{Top, document, top_of};
 use super::fault::PolicyFault;
@@ -10,11 +14,9 @@ use super::policy::Policy;
 use super::rules::rules_of;
 use super::types::{Types, module_names};
 use std::alloc::Global;
+use toml::Table;
 
 impl Policy {
-    ghost use Rattle.guard_policy.specs.Policies.{AbstractPolicy};
-    ghost use Rattle.guard_policy.specs.PolicyView.{policy_view};
-
     /// The policy of a text, over the types of a schema.
     ///
     /// A refusal names the first fault: Q1, then those of the top, of each message, of each rule, and of each message's table. OutOfMemory may
@@ -28,10 +30,23 @@ impl Policy {
         ensures refused { IfErr result (λ f. IfSome (named f) (IsRefused text.now (S.types schema.now))) }
     {
         let top = document(alloc, text)?;
-        let listed = top_of(alloc, &top)?;
-        let messages = messages_of(alloc, schema, &listed.messages)?;
-        let rules = rules_of(alloc, schema, &messages, &listed.rules)?;
-        let modules = module_names(alloc, schema)?;
-        Policy::of_named(alloc, messages, rules, modules)
+        policy_of(alloc, &top, schema)
     }
+}
+
+/// The policy that a document says, over the types of a schema.
+fn policy_of<'a, S: Types>(
+    alloc: Global,
+    top: &'a Table,
+    schema: &'a S,
+) -> Result<Policy, PolicyFault>
+    ensures loads { (text : List ℕ) → IsDocument text (table_view top.now) → IfOk result (λ p. Loads text (S.types schema.now) (policy_view p)) }
+    ensures only { (text : List ℕ) (p : AbstractPolicy) → IsDocument text (table_view top.now) → Loads text (S.types schema.now) p → IfOk result (λ q. policy_view q ≡ p) }
+    ensures refused { (text : List ℕ) → IsDocument text (table_view top.now) → IfErr result (λ f. IfSome (named f) (IsRefused text (S.types schema.now))) }
+{
+    let listed = top_of(alloc, top)?;
+    let messages = messages_of(alloc, schema, &listed.messages)?;
+    let rules = rules_of(alloc, schema, &messages, &listed.rules)?;
+    let modules = module_names(alloc, schema)?;
+    Policy::of_named(alloc, &messages, &rules, modules)
 }

@@ -2,23 +2,25 @@
 ghost use Rattle.std.specs.Prelude.{◌≡◌, map};
 ghost use Rattle.guard_policy.specs.inside.Answers.{Meets};
 ghost use Rattle.guard_policy.specs.EntryFaults.{is_well_named, messages_misnamed, rules_misnamed, misnamed};
-ghost use Rattle.guard_policy.specs.Policies.{message_view, rule_view};
+ghost use Rattle.guard_policy.specs.SaidView.{said_view};
+ghost use Rattle.guard_policy.specs.inside.Said.{said_message_view};
 
 use super::entry::Entry;
 use super::fault::PolicyFault;
-use super::policy::{Message, Rule};
+use super::policy::SaidRule;
 use super::route::{is_name, is_party};
+use super::said::SaidMessage;
 
 /// Refuses the first message or rule with a bad name, messages first.
-pub(crate) fn check_names(messages: &[Message], rules: &[Rule]) -> Result<(), PolicyFault>
-    ensures { Meets (misnamed (map message_view messages.now) (map rule_view rules.now)) result }
+pub(crate) fn check_names(messages: &[SaidMessage], rules: &[SaidRule]) -> Result<(), PolicyFault>
+    ensures { Meets (misnamed (map said_message_view messages.now) (map said_view rules.now)) result }
 {
     check_message_names(messages)?;
     check_rule_names(rules)
 }
 
-fn check_message_names(messages: &[Message]) -> Result<(), PolicyFault>
-    ensures { Meets (messages_misnamed 1 (map message_view messages.now)) result }
+fn check_message_names(messages: &[SaidMessage]) -> Result<(), PolicyFault>
+    ensures { Meets (messages_misnamed 1 (map said_message_view messages.now)) result }
 {
     for (index, message) in messages.iter().enumerate() {
         if !is_name(message.name.as_bytes()) {
@@ -28,8 +30,8 @@ fn check_message_names(messages: &[Message]) -> Result<(), PolicyFault>
     Ok(())
 }
 
-fn check_rule_names(rules: &[Rule]) -> Result<(), PolicyFault>
-    ensures { Meets (rules_misnamed 1 (map rule_view rules.now)) result }
+fn check_rule_names(rules: &[SaidRule]) -> Result<(), PolicyFault>
+    ensures { Meets (rules_misnamed 1 (map said_view rules.now)) result }
 {
     for (index, rule) in rules.iter().enumerate() {
         if !is_well_named(rule) {
@@ -39,11 +41,11 @@ fn check_rule_names(rules: &[Rule]) -> Result<(), PolicyFault>
     Ok(())
 }
 
-fn is_well_named(rule: &Rule) -> bool
-    ensures { result ≡ is_well_named (rule_view rule.now) }
+fn is_well_named(rule: &SaidRule) -> bool
+    ensures { result ≡ is_well_named (said_view rule.now) }
 {
     is_name(rule.name.as_bytes())
-        && is_party(&rule.from)
-        && is_party(&rule.to)
+        && is_party(rule.from)
+        && is_party(rule.to)
         && is_name(rule.message.as_bytes())
 }

@@ -5,6 +5,8 @@ ghost use Rattle.guard_der.specs.Sound.{is_sound};
 ghost use Rattle.guard_policy.specs.inside.Answers.{Meets};
 ghost use Rattle.guard_policy.specs.EntryFaults.{tables_fault, parts_fault};
 ghost use Rattle.guard_policy.specs.Policies.{message_view, rule_view};
+ghost use Rattle.guard_policy.specs.SaidView.{said_view};
+ghost use Rattle.guard_policy.specs.inside.Said.{said_message_view};
 ghost use Rattle.guard_policy.specs.inside.TypedRules.{messages_kept, rules_kept};
 
 use super::decision::judge;
@@ -12,6 +14,7 @@ use super::fault::PolicyFault;
 use super::kept::{Kept, KeptMessage, keep_rules};
 use super::names::check_names;
 use super::route::Route;
+use super::said::{SaidMessage, said_messages, said_rules};
 use super::tables::keep_messages;
 use super::verdict::Verdict;
 use guard_der::DecodeFault;
@@ -82,8 +85,9 @@ impl Policy {
     ghost use Rattle.guard_policy.specs.EntryFaults.{tables_fault, parts_fault};
     ghost use Rattle.guard_policy.specs.PolicyFaults.{named};
     ghost use Rattle.std.specs.Prelude.{slice_get};
-    ghost use Rattle.guard_policy.specs.PolicyView.{policy_view, said_view};
-    ghost use Rattle.guard_policy.specs.Policies.{declared_type, message_name_of, rule_name_of, module_name};
+    ghost use Rattle.guard_policy.specs.PolicyView.{policy_view};
+    ghost use Rattle.guard_policy.specs.SaidView.{said_view};
+    ghost use Rattle.guard_policy.specs.Policies.{declared_type, message_name_of, message_type_of, rule_name_of, module_name};
     ghost use Rattle.guard_policy.specs.inside.Listings.{numbers_for};
     ghost use Rattle.guard_policy.specs.inside.Keeping.{IsFirst};
     ghost use Rattle.guard_tables.specs.TableView.{declared_of};
@@ -127,20 +131,20 @@ impl Policy {
     /// of any answer.
     pub(crate) fn of_named(
         alloc: Global,
-        messages: Vec<Message>,
-        rules: Vec<Rule>,
+        messages: &[SaidMessage],
+        rules: &[SaidRule],
         modules: Vec<String>,
     ) -> Result<Policy, PolicyFault>
-        requires messages_sound { All (λ m. IsTrue (is_sound m.ty)) (map message_view messages.items) }
-        requires rules_sound { All (λ r. IsTrue (is_sound r.ty)) (map rule_view rules.items) }
+        requires messages_sound { All (λ m. IsTrue (is_sound m.ty)) (map said_message_view messages.now) }
+        requires rules_sound { All (λ r. IsTrue (is_sound r.ty)) (map said_view rules.now) }
         ensures made { IfOk result (λ p. policy_view p ≡ record {
-          messages = map message_view messages.items;
-          rules = map rule_view rules.items;
+          messages = map said_message_view messages.now;
+          rules = map said_view rules.now;
           modules = map string_bytes modules.items;
         }) }
-        ensures met { Meets (tables_fault (map rule_view rules.items) 1 (map message_view messages.items)) result }
+        ensures met { Meets (tables_fault (map said_view rules.now) 1 (map said_message_view messages.now)) result }
     {
-        let kept = tabled(alloc, &messages, &rules)?;
+        let kept = tabled(alloc, messages, rules)?;
         Ok(Policy { kept, modules })
     }
 
@@ -163,6 +167,14 @@ impl Policy {
         ensures { option_map (λ name. name.now) result ≡ message_name_of (policy_view self.now) message }
     {
         Some(self.kept.messages.get(message)?.name.as_str())
+    }
+
+    /// The declared type of a message by its place, from 0.
+    pub fn message_type(&self, message: usize) -> Option<&Ty>
+        ensures { option_map (λ ty. type_view ty.now) result ≡ message_type_of (policy_view self.now) message }
+    {
+        let message = self.kept.messages.get(message)?;
+        Some(message.table.declared())
     }
 
     /// A rule by its number, from 0.
@@ -267,17 +279,19 @@ fn named_and_tabled(
     ensures messages { IfOk result (λ kept. messages_kept kept ≡ map message_view messages.now) }
     ensures rules { IfOk result (λ kept. rules_kept kept ≡ map rule_view rules.now) }
 {
-    check_names(messages, rules)?;
-    tabled(alloc, messages, rules)
+    let messages = said_messages(alloc, messages)?;
+    let rules = said_rules(alloc, rules)?;
+    check_names(&messages, &rules)?;
+    tabled(alloc, &messages, &rules)
 }
 
 /// What is kept of messages and rules, where the types of each message and its rules make a table.
-fn tabled(alloc: Global, messages: &[Message], rules: &[Rule]) -> Result<Kept, PolicyFault>
-    requires messages_sound { All (λ m. IsTrue (is_sound m.ty)) (map message_view messages.now) }
-    requires rules_sound { All (λ r. IsTrue (is_sound r.ty)) (map rule_view rules.now) }
-    ensures met { Meets (tables_fault (map rule_view rules.now) 1 (map message_view messages.now)) result }
-    ensures messages { IfOk result (λ kept. messages_kept kept ≡ map message_view messages.now) }
-    ensures rules { IfOk result (λ kept. rules_kept kept ≡ map rule_view rules.now) }
+fn tabled(alloc: Global, messages: &[SaidMessage], rules: &[SaidRule]) -> Result<Kept, PolicyFault>
+    requires messages_sound { All (λ m. IsTrue (is_sound m.ty)) (map said_message_view messages.now) }
+    requires rules_sound { All (λ r. IsTrue (is_sound r.ty)) (map said_view rules.now) }
+    ensures met { Meets (tables_fault (map said_view rules.now) 1 (map said_message_view messages.now)) result }
+    ensures messages { IfOk result (λ kept. messages_kept kept ≡ map said_message_view messages.now) }
+    ensures rules { IfOk result (λ kept. rules_kept kept ≡ map said_view rules.now) }
 {
     let kept = keep_messages(alloc, messages, rules)?;
     let (index, rules) = keep_rules(alloc, messages, rules)?;

@@ -1,12 +1,13 @@
 //! How a route leads to the rules of a message: by one look-up of the sender's name and one of the receiver's, however many rules there are.
 ghost use Rattle.std.specs.Prelude.{◌≡◌, ◌≢◌, ◌↔◌, ◌+◌, ◌<◌, ◌≤◌, length, IfOk, IsTrue};
 ghost use Rattle.guard_tables.specs.Slots.{none, only, added};
-ghost use Rattle.guard_policy.specs.Policies.{rule_view};
 ghost use Rattle.guard_policy.specs.PolicyView.{route_view};
-ghost use Rattle.guard_policy.specs.inside.Routing.{rules_view, slots_where, slots_meant, slots_for, given_by, has_effect, common, speaking_slots, AreParties, IsRouting};
+ghost use Rattle.guard_policy.specs.SaidView.{said_view};
+ghost use Rattle.guard_policy.specs.inside.Routing.{slots_where, slots_meant, slots_for, given_by, has_effect, common, speaking_slots, AreParties, IsRouting};
+ghost use Rattle.guard_policy.specs.inside.Said.{rules_view};
 
 use super::decision::is_meant;
-use super::policy::{Effect, Rule};
+use super::policy::{Effect, SaidRule};
 use super::route::{ANYONE, Route};
 use guard_tables::Slots;
 use indexmap::IndexMap;
@@ -45,7 +46,7 @@ pub(crate) struct RouteRules {
 
 impl Parties {
     /// The senders, or the receivers, of these rules of a message.
-    fn of(alloc: Global, side: Side, rules: &[&Rule]) -> Result<Parties, AllocError>
+    fn of(alloc: Global, side: Side, rules: &[&SaidRule]) -> Result<Parties, AllocError>
         requires few { length rules.now ≤ 255 }
         ensures { IfOk result (AreParties side (rules_view rules.now)) }
     {
@@ -74,7 +75,7 @@ impl Parties {
 
 impl Routing {
     /// The routing of the rules of a message.
-    pub fn of(alloc: Global, rules: &[&Rule]) -> Result<Routing, AllocError>
+    pub fn of(alloc: Global, rules: &[&SaidRule]) -> Result<Routing, AllocError>
         requires few { length rules.now ≤ 255 }
         ensures { IfOk result (IsRouting (rules_view rules.now)) }
     {
@@ -117,7 +118,7 @@ fn common(first: &Slots, second: &Slots) -> Slots
 }
 
 /// The rules that speak of this sender, or of this receiver.
-fn meant(side: Side, name: &[u8], rules: &[&Rule]) -> Slots
+fn meant(side: Side, name: &[u8], rules: &[&SaidRule]) -> Slots
     requires few { length rules.now ≤ 255 }
     ensures { result ≡ slots_meant side name.now (rules_view rules.now) }
 {
@@ -131,7 +132,7 @@ fn meant(side: Side, name: &[u8], rules: &[&Rule]) -> Slots
 }
 
 /// The rules with this effect.
-fn of_effect(effect: Effect, rules: &[&Rule]) -> Slots
+fn of_effect(effect: Effect, rules: &[&SaidRule]) -> Slots
     requires few { length rules.now ≤ 255 }
     ensures { result ≡ slots_where (has_effect effect) (rules_view rules.now) }
 {
@@ -152,18 +153,18 @@ fn add_rule(slots: &mut Slots, place: usize)
     slots.add(&Slots::only(place as u8 + 1));
 }
 
-fn has_effect(effect: Effect, rule: &Rule) -> bool
-    ensures { result ≡ has_effect effect (rule_view rule.now) }
+fn has_effect(effect: Effect, rule: &SaidRule) -> bool
+    ensures { result ≡ has_effect effect (said_view rule.now) }
 {
     rule.effect == effect
 }
 
 /// What a rule gives for its sender, or for its receiver.
-fn given_by<'a>(side: Side, rule: &'a Rule) -> &'a str
-    ensures { result.now ≡ given_by side (rule_view rule.now) }
+fn given_by<'a>(side: Side, rule: &SaidRule<'a>) -> &'a str
+    ensures { result.now ≡ given_by side (said_view rule.now) }
 {
     match side {
-        Side::Sender => &rule.from,
-        Side::Receiver => &rule.to,
+        Side::Sender => rule.from,
+        Side::Receiver => rule.to,
     }
 }

@@ -1,23 +1,26 @@
 //! The rules of a policy's text.
-ghost use Rattle.std.specs.Prelude.{◌≡◌, [], None, Some, All, map, bytes_eq, IfOk, IsTrue};
-ghost use Rattle.std.specs.List.{list_any};
+ghost use Rattle.std.specs.Prelude.{◌≡◌, [], None, Some, All, map, IfOk, IsTrue};
 ghost use Rattle.guard_der.specs.Sound.{is_sound};
 ghost use Rattle.guard_model.specs.TypeView.{type_view};
 ghost use Rattle.toml.specs.View.{table_view};
 ghost use Rattle.guard_policy.specs.inside.Answers.{Meets, tables_view};
 ghost use Rattle.guard_policy.specs.Entries.{rule_in, rule_of as rule_said, effect_named, those_there};
 ghost use Rattle.guard_policy.specs.EntryFaults.{rule_fault, entries_fault, has_names};
-ghost use Rattle.guard_policy.specs.Policies.{message_view, rule_view, message_names, rule_names};
+ghost use Rattle.guard_policy.specs.Policies.{message_names};
+ghost use Rattle.guard_policy.specs.SaidView.{said_view};
+ghost use Rattle.guard_policy.specs.inside.Said.{said_message_view, names_in};
 
 use super::document::{check_entry, text_of};
 use super::entry::{Entry, Key};
 use super::fault::PolicyFault;
-use super::messages::is_declared;
-use super::policy::{Effect, Message, Rule};
+use super::policy::{Effect, SaidRule};
 use super::route::{is_name, is_party};
+use super::said::SaidMessage;
+use super::seen::{has_name, names_of};
 use super::types::{Types, type_named};
 use guard_model::Ty;
-use std::alloc::{AllocError, Global};
+use indexmap::IndexSet;
+use std::alloc::Global;
 use toml::Table;
 
 const RULE_KEYS: [Key; 7] = [
@@ -31,71 +34,70 @@ const RULE_KEYS: [Key; 7] = [
 ];
 
 /// Each rule, or the fault of the first that has one.
-pub(crate) fn rules_of<S: Types>(
+pub(crate) fn rules_of<'a, S: Types>(
     alloc: Global,
-    schema: &S,
-    messages: &[Message],
-    tables: &[&Table],
-) -> Result<Vec<Rule>, PolicyFault>
-    ensures met { Meets (entries_fault (rule_fault (S.types schema.now) (message_names (map message_view messages.now))) [] 1 (tables_view tables.now)) result }
-    ensures made { IfOk result (λ rs. map rule_view rs.items ≡ those_there (map (rule_in (S.types schema.now)) (tables_view tables.now))) }
-    ensures sound { IfOk result (λ rs. All (λ r. IsTrue (is_sound r.ty)) (map rule_view rs.items)) }
+    schema: &'a S,
+    messages: &[SaidMessage],
+    tables: &[&'a Table],
+) -> Result<Vec<SaidRule<'a>>, PolicyFault>
+    ensures met { Meets (entries_fault (rule_fault (S.types schema.now) (message_names (map said_message_view messages.now))) [] 1 (tables_view tables.now)) result }
+    ensures made { IfOk result (λ rs. map said_view rs.items ≡ those_there (map (rule_in (S.types schema.now)) (tables_view tables.now))) }
+    ensures sound { IfOk result (λ rs. All (λ r. IsTrue (is_sound r.ty)) (map said_view rs.items)) }
 {
+    let declared = names_of(alloc, messages)?;
+    let mut names = IndexSet::new(alloc);
     let mut rules = Vec::with_capacity(alloc, tables.len())?;
     for (index, table) in tables.iter().enumerate() {
-        let rule = rule_of(alloc, schema, messages, &rules, index + 1, table)?;
+        let rule = rule_of(alloc, schema, &declared, &names, index + 1, *table)?;
+        names.insert(rule.name)?;
         rules.push(rule)?;
     }
     Ok(rules)
 }
 
-/// The rule of this number.
-fn rule_of<S: Types>(
+/// The rule of this number, after those with these names, where messages with these names are declared.
+fn rule_of<'a, S: Types>(
     alloc: Global,
-    schema: &S,
-    messages: &[Message],
-    before: &[Rule],
+    schema: &'a S,
+    declared: &IndexSet<&str>,
+    before: &IndexSet<&str>,
     number: usize,
-    table: &Table,
-) -> Result<Rule, PolicyFault>
-    ensures met { Meets (rule_fault (S.types schema.now) (message_names (map message_view messages.now)) (rule_names (map rule_view before.now)) number (table_view table.now)) result }
-    ensures made { IfOk result (λ r. rule_in (S.types schema.now) (table_view table.now) ≡ Some (rule_view r)) }
-    ensures sound { IfOk result (λ r. IsTrue (is_sound (type_view r.ty))) }
+    table: &'a Table,
+) -> Result<SaidRule<'a>, PolicyFault>
+    ensures met { Meets (rule_fault (S.types schema.now) (names_in declared.now) (names_in before.now) number (table_view table.now)) result }
+    ensures made { IfOk result (λ r. rule_in (S.types schema.now) (table_view table.now) ≡ Some (said_view r)) }
+    ensures sound { IfOk result (λ r. IsTrue (is_sound (type_view r.ty.now))) }
 {
     let entry = Entry::Rule(number);
     check_entry(alloc, entry, &RULE_KEYS, table)?;
     if !has_names(table) {
         return Err(PolicyFault::BadName(entry));
     }
-    if has_rule(before, text_of(table, Key::Name)) {
+    if has_name(before, text_of(table, Key::Name)) {
         return Err(PolicyFault::DuplicateName(entry));
     }
     let Some(effect) = effect_named(text_of(table, Key::Effect)) else {
         return Err(PolicyFault::BadEffect(entry));
     };
-    if !is_declared(messages, text_of(table, Key::Message)) {
+    if !has_name(declared, text_of(table, Key::Message)) {
         return Err(PolicyFault::NoSuchMessage(entry));
     }
-    let ty = type_named(alloc, schema, entry, table)?;
-    Ok(rule_said(alloc, table, effect, ty)?)
+    let ty = type_named(schema, entry, table)?;
+    Ok(rule_said(table, effect, ty))
 }
 
 /// The rule that the entry says, where its keys are there.
-fn rule_said(alloc: Global, table: &Table, effect: Effect, ty: Ty) -> Result<Rule, AllocError>
-    ensures { IfOk result (λ r. rule_view r ≡ rule_said (table_view table.now) (type_view ty) effect) }
+fn rule_said<'a>(table: &'a Table, effect: Effect, ty: &'a Ty) -> SaidRule<'a>
+    ensures { said_view result ≡ rule_said (table_view table.now) (type_view ty.now) effect }
 {
-    let name = String::from_str(alloc, text_of(table, Key::Name))?;
-    let from = String::from_str(alloc, text_of(table, Key::From))?;
-    let to = String::from_str(alloc, text_of(table, Key::To))?;
-    let message = String::from_str(alloc, text_of(table, Key::Message))?;
-    Ok(Rule {
-        name,
+    SaidRule {
+        name: text_of(table, Key::Name),
         effect,
-        from,
-        to,
-        message,
+        from: text_of(table, Key::From),
+        to: text_of(table, Key::To),
+        message: text_of(table, Key::Message),
         ty,
-    })
+    }
 }
 
 /// Whether the rule's own name and that of its message are names, and its sender and its receiver are names or `*`.
@@ -106,18 +108,6 @@ fn has_names(table: &Table) -> bool
         && is_party(text_of(table, Key::From))
         && is_party(text_of(table, Key::To))
         && is_name(text_of(table, Key::Message).as_bytes())
-}
-
-/// Whether one of the rules has this name.
-fn has_rule(rules: &[Rule], name: &str) -> bool
-    ensures { result ≡ list_any (bytes_eq name.now) (rule_names (map rule_view rules.now)) }
-{
-    for rule in rules {
-        if name == rule.name.as_str() {
-            return true;
-        }
-    }
-    false
 }
 
 fn effect_named(word: &str) -> Option<Effect>

@@ -1,21 +1,23 @@
 //! The tables of messages: of the type of each and those of its rules.
-ghost use Rattle.std.specs.Prelude.{◌≡◌, ◌∷◌, All, map, option_map, string_bytes, IfOk, IsTrue};
+ghost use Rattle.std.specs.Prelude.{◌≡◌, ◌∷◌, All, map, option_map, IfOk, IsTrue};
 ghost use Rattle.guard_der.specs.Sound.{is_sound};
 ghost use Rattle.guard_model.specs.TypeView.{type_view};
 ghost use Rattle.guard_tables.specs.TableView.{table_types};
 ghost use Rattle.guard_tables.specs.Tables.{types_view, first_fault};
 ghost use Rattle.guard_policy.specs.inside.Answers.{Meets};
 ghost use Rattle.guard_policy.specs.inside.Keeping.{tabled_view, tabled};
-ghost use Rattle.guard_policy.specs.inside.Routing.{rules_named, rules_view, IsRouted};
+ghost use Rattle.guard_policy.specs.inside.Routing.{rules_named, IsRouted};
 ghost use Rattle.guard_policy.specs.EntryFaults.{tables_fault};
 ghost use Rattle.guard_policy.specs.Consistency.{types_for};
-ghost use Rattle.guard_policy.specs.Policies.{message_view, rule_view};
+ghost use Rattle.guard_policy.specs.SaidView.{said_view};
+ghost use Rattle.guard_policy.specs.inside.Said.{said_message_view, rules_view};
 ghost use Rattle.guard_policy.specs.PolicyFaults.{bad_table};
 
 use super::fault::PolicyFault;
 use super::kept::KeptMessage;
-use super::policy::{Message, Rule};
+use super::policy::SaidRule;
 use super::routing::Routing;
+use super::said::SaidMessage;
 use guard_model::Ty;
 use guard_tables::{Table, TableFault};
 use std::alloc::{AllocError, Global};
@@ -23,14 +25,14 @@ use std::alloc::{AllocError, Global};
 /// Each message with its table, or the fault of the first whose types make none with those of its rules.
 pub(crate) fn keep_messages(
     alloc: Global,
-    messages: &[Message],
-    rules: &[Rule],
+    messages: &[SaidMessage],
+    rules: &[SaidRule],
 ) -> Result<Vec<KeptMessage>, PolicyFault>
-    requires messages_sound { All (λ m. IsTrue (is_sound m.ty)) (map message_view messages.now) }
-    requires rules_sound { All (λ r. IsTrue (is_sound r.ty)) (map rule_view rules.now) }
-    ensures met { Meets (tables_fault (map rule_view rules.now) 1 (map message_view messages.now)) result }
-    ensures kept { IfOk result (λ kept. map tabled_view kept.items ≡ map (tabled (map rule_view rules.now)) (map message_view messages.now)) }
-    ensures routed { IfOk result (λ kept. All (IsRouted (map rule_view rules.now)) kept.items) }
+    requires messages_sound { All (λ m. IsTrue (is_sound m.ty)) (map said_message_view messages.now) }
+    requires rules_sound { All (λ r. IsTrue (is_sound r.ty)) (map said_view rules.now) }
+    ensures met { Meets (tables_fault (map said_view rules.now) 1 (map said_message_view messages.now)) result }
+    ensures kept { IfOk result (λ kept. map tabled_view kept.items ≡ map (tabled (map said_view rules.now)) (map said_message_view messages.now)) }
+    ensures routed { IfOk result (λ kept. All (IsRouted (map said_view rules.now)) kept.items) }
 {
     let mut kept = Vec::with_capacity(alloc, messages.len())?;
     for (index, message) in messages.iter().enumerate() {
@@ -44,17 +46,17 @@ pub(crate) fn keep_messages(
 fn keep_message(
     alloc: Global,
     number: usize,
-    message: &Message,
-    rules: &[Rule],
+    message: &SaidMessage,
+    rules: &[SaidRule],
 ) -> Result<KeptMessage, PolicyFault>
-    requires message_sound { IsTrue (is_sound (type_view message.now.ty)) }
-    requires rules_sound { All (λ r. IsTrue (is_sound r.ty)) (map rule_view rules.now) }
-    ensures met { Meets (option_map (bad_table number) (first_fault (type_view message.now.ty) (types_for (string_bytes message.now.name) (map rule_view rules.now)))) result }
-    ensures kept { IfOk result (λ kept. tabled_view kept ≡ tabled (map rule_view rules.now) (message_view message.now)) }
-    ensures routed { IfOk result (IsRouted (map rule_view rules.now)) }
+    requires message_sound { IsTrue (is_sound (type_view message.now.ty.now)) }
+    requires rules_sound { All (λ r. IsTrue (is_sound r.ty)) (map said_view rules.now) }
+    ensures met { Meets (option_map (bad_table number) (first_fault (type_view message.now.ty.now) (types_for (message.now.name.now) (map said_view rules.now)))) result }
+    ensures kept { IfOk result (λ kept. tabled_view kept ≡ tabled (map said_view rules.now) (said_message_view message.now)) }
+    ensures routed { IfOk result (IsRouted (map said_view rules.now)) }
 {
-    let types = types_for(alloc, &message.name, rules)?;
-    match Table::compile(alloc, &message.ty, &types) {
+    let types = types_for(alloc, message.name, rules)?;
+    match Table::compile(alloc, message.ty, &types) {
         Ok(table) => Ok(keep_table(alloc, message, table, rules)?),
         Err(TableFault::OutOfMemory) => Err(PolicyFault::OutOfMemory),
         Err(fault) => Err(PolicyFault::Table(number, fault)),
@@ -64,17 +66,17 @@ fn keep_message(
 /// The message with this table, which is that of its type and those of its rules, and with the routing of these.
 fn keep_table(
     alloc: Global,
-    message: &Message,
+    message: &SaidMessage,
     table: Table,
-    rules: &[Rule],
+    rules: &[SaidRule],
 ) -> Result<KeptMessage, AllocError>
-    requires types { table_types table ≡ type_view message.now.ty ∷ types_for (string_bytes message.now.name) (map rule_view rules.now) }
-    ensures kept { IfOk result (λ kept. tabled_view kept ≡ tabled (map rule_view rules.now) (message_view message.now)) }
-    ensures routed { IfOk result (IsRouted (map rule_view rules.now)) }
+    requires types { table_types table ≡ type_view message.now.ty.now ∷ types_for (message.now.name.now) (map said_view rules.now) }
+    ensures kept { IfOk result (λ kept. tabled_view kept ≡ tabled (map said_view rules.now) (said_message_view message.now)) }
+    ensures routed { IfOk result (IsRouted (map said_view rules.now)) }
 {
-    let named = rules_named(alloc, &message.name, rules)?;
+    let named = rules_named(alloc, message.name, rules)?;
     let routing = Routing::of(alloc, &named)?;
-    let name = String::from_str(alloc, &message.name)?;
+    let name = String::from_str(alloc, message.name)?;
     Ok(KeptMessage {
         name,
         table,
@@ -83,13 +85,17 @@ fn keep_table(
 }
 
 /// The types of the rules of the message of this name, in order.
-fn types_for<'a>(alloc: Global, name: &str, rules: &'a [Rule]) -> Result<Vec<&'a Ty>, AllocError>
-    ensures { IfOk result (λ types. types_view types.items ≡ types_for name.now (map rule_view rules.now)) }
+fn types_for<'a>(
+    alloc: Global,
+    name: &str,
+    rules: &'a [SaidRule<'a>],
+) -> Result<Vec<&'a Ty>, AllocError>
+    ensures { IfOk result (λ types. types_view types.items ≡ types_for name.now (map said_view rules.now)) }
 {
     let mut types = Vec::new(alloc);
     for rule in rules {
-        if rule.message.as_str() == name {
-            types.push(&rule.ty)?;
+        if rule.message == name {
+            types.push(rule.ty)?;
         }
     }
     Ok(types)
@@ -99,13 +105,13 @@ fn types_for<'a>(alloc: Global, name: &str, rules: &'a [Rule]) -> Result<Vec<&'a
 fn rules_named<'a>(
     alloc: Global,
     name: &str,
-    rules: &'a [Rule],
-) -> Result<Vec<&'a Rule>, AllocError>
-    ensures { IfOk result (λ named. rules_view named.items ≡ rules_named name.now (map rule_view rules.now)) }
+    rules: &'a [SaidRule<'a>],
+) -> Result<Vec<&'a SaidRule<'a>>, AllocError>
+    ensures { IfOk result (λ named. rules_view named.items ≡ rules_named name.now (map said_view rules.now)) }
 {
     let mut named = Vec::new(alloc);
     for rule in rules {
-        if rule.message.as_str() == name {
+        if rule.message == name {
             named.push(rule)?;
         }
     }

@@ -34,19 +34,18 @@ pub trait Types {
         ensures { option_map (λ name. name.now) result ≡ module_at (types self.now).modules text };
 }
 
-/// A copy of the type that the entry names.
-pub(crate) fn type_named<S: Types>(
-    alloc: Global,
-    schema: &S,
+/// The type that the entry names.
+pub(crate) fn type_named<'a, S: Types>(
+    schema: &'a S,
     entry: Entry,
     table: &Table,
-) -> Result<Ty, PolicyFault>
-    ensures found { IfOk result (λ ty. type_in (S.types schema.now) (table_view table.now) ≡ Some (type_view ty)) }
-    ensures sound { IfOk result (λ ty. IsTrue (is_sound (type_view ty))) }
+) -> Result<&'a Ty, PolicyFault>
+    ensures found { IfOk result (λ ty. type_in (S.types schema.now) (table_view table.now) ≡ Some (type_view ty.now)) }
+    ensures sound { IfOk result (λ ty. IsTrue (is_sound (type_view ty.now))) }
     ensures missing { IfErr result (λ f. IfSome (named f) (λ fault. (type_in (S.types schema.now) (table_view table.now) ≡ None) × (fault ≡ no_such_type entry))) }
 {
     match schema.ty(text_of(table, Key::Module), text_of(table, Key::TypeName)) {
-        Some(ty) => Ok(ty.copy(alloc)?),
+        Some(ty) => Ok(ty),
         None => Err(PolicyFault::NoSuchType(entry)),
     }
 }

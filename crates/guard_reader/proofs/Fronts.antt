@@ -96,7 +96,7 @@ octet_head t c os small =
 
 -- ---- what follows a length is an end of the octets
 
-suffix : (os : List ℕ) (l : ℕ × List ℕ) → length_at os ≡ Ok l → (n : ℕ) × (l.1 ≡ drop n os) × (n ≤ length os)
+pub suffix : (os : List ℕ) (l : ℕ × List ℕ) → length_at os ≡ Ok l → (n : ℕ) × (l.1 ≡ drop n os) × (n ≤ length os)
 unfolding length_at
 suffix [] l e = absurd cc
 suffix (o ∷ os) l e =
@@ -110,7 +110,7 @@ drop_nothing : (n : ℕ) → ◌≡◌ {A = List ℕ} (drop n []) []
 drop_nothing zero = refl
 drop_nothing (suc n) = refl
 
-drop_twice : (m n : ℕ) (os : List ℕ) → drop m (drop n os) ≡ drop (n + m) os
+pub drop_twice : (m n : ℕ) (os : List ℕ) → drop m (drop n os) ≡ drop (n + m) os
 drop_twice m zero os = let e : m ≡ 0 + m = omega arith in ap (λ (k : ℕ). drop k os) e
 drop_twice m (suc n) [] = drop_nothing m ∙ sym (drop_nothing (suc n + m))
 drop_twice m (suc n) (o ∷ os) = let e : suc (n + m) ≡ suc n + m = omega arith in drop_twice m n os ∙ ap (λ (k : ℕ). drop k (o ∷ os)) e

@@ -14,6 +14,7 @@ pub mod AtOnce
 pub mod Firsts
 -- ---- what the walk takes from nodes, and one step of it
 pub mod ByHeader
+pub mod HighTags
 pub mod NodeTags
 pub mod Steps
 pub mod NodeSteps
@@ -21,6 +22,9 @@ pub mod ElementCounts
 pub mod MemberSteps
 pub mod Ranks
 pub mod SetSteps
+pub mod AddedPasses
+pub mod FrontTags
+pub mod AscendingSets
 -- ---- a pass reads octets as decoding does
 pub mod Fronts
 pub mod LowTags

@@ -28,7 +28,7 @@ use Rattle.guard_tables.proofs.Spots.{NodeAt, there_at, cold_at, spots_length, p
 use Rattle.guard_reader.specs.inside.Answers.{Answers, IsSmall, IsOne, IsTwo}
 use Rattle.guard_reader.specs.Fronts.{here, alone, front, front_cut, innermost}
 use Rattle.guard_reader.specs.Judging.{watched, chosen_at, chosen_judged, contents_judged, elements, inside_judged, message_judged, ordered, fields_judged, part_at, outside, then_marked, whole_facts, size_in, unless_fault}
-use Rattle.guard_reader.specs.inside.NodeParts.{IsAsked, IsSeries, IsFormula, has_layers, pass_at, sight_at}
+use Rattle.guard_reader.specs.inside.NodeParts.{IsAsked, IsFormula, has_layers, pass_at, sight_at}
 use Rattle.guard_reader.specs.Octets.{◌>>=◌}
 use Rattle.guard_reader.proofs.Elements.{bind_some, bind_none}
 use Rattle.guard_reader.proofs.FrontSteps.{front_within}
@@ -193,12 +193,9 @@ series_are : (ps : Parts) (os : List ℕ) (m : Slots) → contents_judged (serie
 unfolding contents_judged
 series_are ps os m = refl
 
-pub fields_all : (t : Nodes) (k : ℕ) (h : Hot) → NodeAt t k h → h.kind ≡ kind.Series → (os : List ℕ) (m : Slots)
-    → fields_judged (parts_between (spots_in t) h.first (h.first + h.count - h.first)) os m ≡ contents_judged (body_at (spots_in t) k) os m
-fields_all t k h n e os m =
-    let count : h.first + h.count - h.first ≡ h.count = omega arith in
-    ap (λ (n : ℕ). fields_judged (parts_between (spots_in t) h.first n) os m) count
-    ∙ sym (ap (λ (b : Body). contents_judged b os m) (body_of t k h n kind.Series e) ∙ series_are (parts_between (spots_in t) h.first h.count) os m)
+pub series_judged : (t : Nodes) (k : ℕ) (h : Hot) → NodeAt t k h → h.kind ≡ kind.Series → (os : List ℕ) (m : Slots)
+    → contents_judged (body_at (spots_in t) k) os m ≡ fields_judged (parts_between (spots_in t) h.first h.count) os m
+series_judged t k h n e os m = ap (λ (b : Body). contents_judged b os m) (body_of t k h n kind.Series e) ∙ series_are (parts_between (spots_in t) h.first h.count) os m
 
 formula_is : (raises : List Raise) (b : Body) (os : List ℕ) (m : Slots) → contents_judged (formula raises b) os m ≡ outside raises m (contents_judged b os none)
 unfolding contents_judged
@@ -207,9 +204,6 @@ formula_is raises b os m = refl
 pub formula_judged : (t : Nodes) (k : ℕ) (h : Hot) (n : NodeAt t k h) → h.kind ≡ kind.Formula → (os : List ℕ) (m : Slots)
     → contents_judged (body_at (spots_in t) k) os m ≡ outside (map raise_view n.cold.raises.items) m (contents_judged (body_at (spots_in t) h.first) os none)
 formula_judged t k h n e os m = ap (λ (b : Body). contents_judged b os m) (body_of t k h n kind.Formula e) ∙ formula_is (map raise_view n.cold.raises.items) (body_at (spots_in t) h.first) os m
-
-pub is_of_series : (t : Nodes) (k : ℕ) (h : Hot) → IsSeries t k → k < vec_len t.hots → h ≡ get_or t.hots.items k h → h.kind ≡ kind.Series
-is_of_series t k h f lt is = let same : f.node ≡ h = same_Some f.node h (sym f.there ∙ there_at t k h lt is) in rw (← same) f.kind
 
 pub is_of_formula : (t : Nodes) (k : ℕ) (h : Hot) → IsFormula t k → k < vec_len t.hots → h ≡ get_or t.hots.items k h → h.kind ≡ kind.Formula
 is_of_formula t k h f lt is = let same : f.node ≡ h = same_Some f.node h (sym f.there ∙ there_at t k h lt is) in rw (← same) f.kind

@@ -149,7 +149,7 @@ enough (suc n) (suc k) ps places last (o ∷ os) m a b =
     bind_same (member_judged ps 0 places (o ∷ os) m) _ _ (λ x f.
     enough n k ps (x.0 ∷ places) (Some tag) x.2 x.1 (omega (arith, a, judged_shorter ps 0 places (o ∷ os) m x f)) (omega (arith, b, judged_shorter ps 0 places (o ∷ os) m x f))))
 
-members_step : (ps : Parts) (places : List ℕ) (last : Option Tag) (o : ℕ) (os : List ℕ) (m : Slots)
+pub members_step : (ps : Parts) (places : List ℕ) (last : Option Tag) (o : ℕ) (os : List ℕ) (m : Slots)
     → members ps places last (o ∷ os) m ≡ (tag_after last (tag_at (o ∷ os)) >>= λ tag. member_judged ps 0 places (o ∷ os) m >>= λ x. members ps (x.0 ∷ places) (Some tag) x.2 x.1)
 unfolding members_at
 members_step ps places last o os m =
@@ -180,7 +180,7 @@ members_over ps places last (o ∷ os) m empty = absurd (omega (arith, eqb-true 
 
 -- ---- of a node
 
-set_is : (ps : Parts) (os : List ℕ) (m : Slots) → contents_judged (set ps) os m ≡ members ps [] None os m
+pub set_is : (ps : Parts) (os : List ℕ) (m : Slots) → contents_judged (set ps) os m ≡ members ps [] None os m
 unfolding contents_judged
 set_is ps os m = refl
 

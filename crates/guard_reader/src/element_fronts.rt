@@ -11,6 +11,7 @@ ghost use Rattle.guard_reader.specs.inside.FrontViews.{front_view};
 ghost use Rattle.guard_reader.specs.inside.NodeParts.{IsChoice};
 
 use crate::header::split_after;
+use crate::high_tags::is_spelled;
 use crate::layers::{has_layers, has_two_tags, is_choice, outermost, tag_round};
 use crate::order::front_of;
 use guard_der::header;
@@ -88,8 +89,21 @@ fn far_front<'a>(table: &Nodes, at: usize, octets: &'a [u8]) -> Front<'a>
 }
 
 /// An element with this tag, of any number, in this form.
-#[tactic(auto, unfolding(crate::specs::Fronts::head_front))]
+#[tactic(auto, using(crate::proofs::HighTags::spelled_there))]
 fn head_front<'a>(tag: &Tag, constructed: bool, octets: &'a [u8]) -> Front<'a>
+    ensures { front_view result ≡ head_front tag.now constructed octets.now }
+{
+    match octets {
+        [first, number, ..] if is_spelled(tag, constructed, *first, *number) => {
+            cut_off(&octets[1..])
+        }
+        _ => headed_front(tag, constructed, octets),
+    }
+}
+
+/// The same by the header that is there.
+#[tactic(auto, unfolding(crate::specs::Fronts::head_front))]
+fn headed_front<'a>(tag: &Tag, constructed: bool, octets: &'a [u8]) -> Front<'a>
     ensures { front_view result ≡ head_front tag.now constructed octets.now }
 {
     if octets.is_empty() {

@@ -5,8 +5,9 @@
 //! | question | code | definition |
 //! |---|---|---|
 //! | What fails at the value that octets encode? | `walking.rt` (`failures`), by kind `walking/`, plain numbers `plain.rt` | `specs/Judging.antt` |
-//! | Is an element of a node at the front of octets? | `element_fronts.rt`, tags `layers.rt`, lengths `header.rt` | `specs/Fronts.antt` |
-//! | Which component of a SET is next, and which were read? | `set_members.rt` | `specs/Judging.antt`, `specs/inside/Members.antt`, `specs/inside/Ranks.antt` |
+//! | Is an element of a node at the front of octets? | `element_fronts.rt`, tags `layers.rt`, from 31 on `high_tags.rt`, lengths `header.rt` | `specs/Fronts.antt` |
+//! | Do the components of a SET ascend, so that it is read as a SEQUENCE is? | `ascending.rt` | `specs/inside/Ascending.antt` |
+//! | If not, which component of a SET is next, and which were read? | `set_members.rt` | `specs/Judging.antt`, `specs/inside/Members.antt`, `specs/inside/Ranks.antt` |
 //! | Which contents octets are lawful for a simple kind, and what fails at their value? | `simple.rt`, `contents.rt`, `numbers.rt`, `object_id.rt` | `specs/Judging.antt`, and of `guard_der` `specs/Simple.antt` |
 //! | Do the elements of a SET OF ascend? | `order.rt` | of `guard_der` `specs/Fits.antt` |
 //! | What is asked of a value that has parts as a whole? | `whole.rt` | `specs/Judging.antt` |
@@ -19,10 +20,12 @@
 #![tactic(auto)]
 
 mod alphabet;
+mod ascending;
 mod conditions;
 mod contents;
 mod element_fronts;
 mod header;
+mod high_tags;
 mod kind_alphabets;
 pub mod laws;
 mod layers;

@@ -104,7 +104,7 @@ fn tag_after(last: Option<Tag>, tag: Tag) -> Option<Tag>
     None
 }
 
-fn follows(last: Option<Tag>, tag: Tag) -> bool
+pub fn follows(last: Option<Tag>, tag: Tag) -> bool
     ensures { result ≡ follows last tag }
 {
     match last {

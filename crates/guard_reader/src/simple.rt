@@ -1,15 +1,16 @@
 //! Kinds whose contents octets spell the value alone.
-ghost use Rattle.std.specs.Prelude.{◌≡◌, ◌*◌, ◌-◌, ℤ, List, pos, length, map, Some, None, [], true, if◌then◌else◌};
+ghost use Rattle.std.specs.Prelude.{◌≡◌, ◌*◌, ◌-◌, ℤ, List, pos, length, map, Some, None, [], true, if◌then◌else◌, IfSome};
 ghost use Rattle.std.specs.List.{list_all};
 ghost use Rattle.std.specs.Option.{is_none};
 ghost use Rattle.std.specs.Str.{is_utf8, chars};
 ghost use Rattle.guard_der.specs.Simple.{simple_fault, simple_value, bits_fault, bits_of, is_text, characters_of};
 ghost use Rattle.guard_eval.specs.Elements.{size_of, is_in_some};
-ghost use Rattle.guard_tables.specs.Marking.{facts, number_in, characters_in, is_in_one, some_passes, test_passes, conditions_marked};
+ghost use Rattle.guard_tables.specs.Marking.{Facts, facts, number_in, characters_in, is_in_one, some_passes, test_passes, conditions_marked};
 ghost use Rattle.guard_tables.specs.NodeViews.{kind_view, condition_view, test_view};
 ghost use Rattle.guard_model.specs.AbstractType.{characters};
 ghost use Rattle.guard_tables.specs.declared.slots.Slots.{Slots};
 ghost use Rattle.guard_tables.specs.Plan.{simple, spelled};
+ghost use Rattle.guard_tables.specs.Slots.{added};
 ghost use Rattle.guard_tables.specs.TableNodes.{conditions_of};
 ghost use Rattle.guard_reader.specs.inside.Answers.{Answers};
 ghost use Rattle.guard_reader.specs.inside.AtOnce.{PassesAtOnce};
@@ -21,7 +22,7 @@ use crate::kind_alphabets::{are_octets_in, has_one_octet, has_ranges, is_in_some
 use crate::numbers::twos_complement;
 use crate::texts::count_utf8;
 use guard_model::CharKind;
-use guard_tables::{Cold, Condition, Range, SimpleKind, Slots, Test};
+use guard_tables::{Cold, Condition, Conditions, Range, SimpleKind, Slots, Test};
 
 /// Contents octets of a simple kind, and what is asked of the value.
 #[inline(never)]
@@ -30,7 +31,7 @@ pub fn simple(cold: &Cold, kind: SimpleKind, inside: &[u8], failed: &mut Slots) 
     ensures { Answers result failed.new
         (contents_judged (simple (kind_view kind cold.now.items.items) (conditions_of cold.now)) inside.now failed.old) }
 {
-    if is_spelled_at_once(&cold.conditions, kind, inside) {
+    if is_spelled_at_once(&cold.conditions.list, kind, inside) {
         return true;
     }
     if !is_lawful(kind, &cold.items, inside) {
@@ -83,8 +84,37 @@ fn lies_in(ranges: &[(u32, u32)], kind: CharKind, inside: &[u8]) -> bool
     are_octets_in(ranges, inside)
 }
 
-/// Marks the slots of each condition that doesn't hold.
+/// Marks the slots of each condition that doesn't hold: at once, where all are on the number that the contents spell.
 fn mark(
+    conditions: &Conditions,
+    kind: SimpleKind,
+    items: &[i128],
+    inside: &[u8],
+    failed: &mut Slots,
+)
+    requires { is_none (simple_fault (kind_view kind items.now) inside.now) ≡ true }
+    ensures { failed.new ≡ conditions_marked (map condition_view conditions.now.list.items)
+        (facts (simple_value (kind_view kind items.now) inside.now) (Some inside.now)) failed.old }
+{
+    match failed_at(conditions, number_of(kind, items, inside)) {
+        Some(slots) => failed.add(&slots),
+        None => mark_each(&conditions.list, kind, items, inside, failed),
+    }
+}
+
+/// What the conditions fail for a number, where there is one and all of them are on numbers.
+fn failed_at(conditions: &Conditions, number: Option<i128>) -> Option<Slots>
+    ensures { IfSome result (λ slots. (f : Facts) (m : Slots) → f.number ≡ number
+        → conditions_marked (map condition_view conditions.now.list.items) f m ≡ added m slots) }
+{
+    match number {
+        Some(number) => conditions.failed_at(number),
+        None => None,
+    }
+}
+
+/// Marks the slots of each condition that doesn't hold, one after the other.
+fn mark_each(
     conditions: &[Condition],
     kind: SimpleKind,
     items: &[i128],

@@ -87,7 +87,13 @@ fn contents(table: &Nodes, at: usize, inside: &[u8], failed: &mut Slots) -> bool
     let node = &table.hots[at];
     match node.kind {
         Kind::List => list(table, node.first as usize, inside, failed),
-        Kind::Series => series(table, at, inside, failed),
+        Kind::Series => series(
+            table,
+            node.first as usize,
+            node.count as usize,
+            inside,
+            failed,
+        ),
         Kind::Simple(kind) => simple(&table.colds[at], kind, inside, failed),
         Kind::Asked => asked(table, at, inside, failed),
         Kind::Formula => formula(table, at, inside, failed),
@@ -125,7 +131,7 @@ fn asked(table: &Nodes, at: usize, inside: &[u8], failed: &mut Slots) -> bool
         return false;
     }
     let size = size_of(table, node.first as usize, inside);
-    mark_whole(&table.colds[at].conditions, size, inside, failed);
+    mark_whole(&table.colds[at].conditions.list, size, inside, failed);
     true
 }
 

@@ -1,2 +1,5 @@
 mod Writing
 mod Items
+mod Tries
+mod Answered
+pub mod Notes

@@ -2,3 +2,4 @@
 pub mod Rows
 pub mod LineRows
 pub mod ValueRows
+pub mod ShownRows

@@ -63,7 +63,7 @@ pub(crate) fn add_closing(
     }
 }
 
-fn add_new_line(text: &mut Vec<u8>, level: u8) -> Result<(), OutOfMemory>
+pub(crate) fn add_new_line(text: &mut Vec<u8>, level: u8) -> Result<(), OutOfMemory>
     ensures { OnOk result (text.new.items ≡ text.old.items ++ new_line level) }
 {
     add(text, b"\n")?;

@@ -11,14 +11,22 @@
 //! | How are bits and octets written? | `strings.rt` | `specs/Strings.antt` |
 //! | How are characters written? | `characters.rt` | `specs/CharacterStrings.antt`, `specs/inside/Listing.antt` |
 //! | Where do the parts of what is in braces stand? | `layout.rt` | `specs/Layouts.antt` |
-//! | Which part of a value does a path name? | `parts.rt` (`value_at`, `type_at`, `part_text`) | `specs/Parts.antt` |
+//! | How is a message shown, with the places of its parts, or up to its breach? | `showing.rt` (`shown_text`), `noted.rt` | `specs/Shown.antt` |
+//! | Where do the encodings of a value's parts begin? | `places.rt`, `outermost.rt` | `specs/Places.antt` |
+//! | What holds of the texts for every value? | `laws.rt` | `specs/Shown.antt` |
+//! | Which part of a value does a path name? | `parts.rt` (`value_at`, `type_at`, `part_text`, `named_part_text`) | `specs/Parts.antt` |
 #![tactic(auto)]
 
 mod characters;
+pub mod laws;
 mod layout;
 mod lines;
+mod noted;
+mod outermost;
 mod parts;
 mod path;
+mod places;
+mod showing;
 mod strings;
 mod text;
 mod values;
@@ -26,6 +34,7 @@ mod words;
 
 pub use layout::Layout;
 pub use lines::line;
-pub use parts::{part_text, type_at, value_at};
+pub use parts::{named_part_text, part_text, type_at, value_at};
+pub use showing::{Shown, shown_text};
 pub use text::verdict_text;
 pub use values::value_text;

@@ -1,7 +1,7 @@
 //! Strings of octets and bits.
 ghost use Rattle.std.specs.Prelude.{◌≡◌, ◌++◌, ◌<◌, OnOk, IfOk, map, option_map};
 ghost use Rattle.guard_model.specs.TypeView.{named_view};
-ghost use Rattle.guard_report.specs.Strings.{digit, hexadecimal, eight_bits, bits_of, binary, bits_as_digits};
+ghost use Rattle.guard_report.specs.Strings.{digit, two_digits, hexadecimal, eight_bits, bits_of, binary, bits_as_digits};
 ghost use Rattle.guard_report.specs.Strings.{name_of, are_named, names_of_ones, bits_text};
 ghost use Rattle.guard_report.specs.Layouts.{in_braces};
 ghost use Rattle.guard_report.specs.declared.layout.Layout.TheVariants.{Line};
@@ -17,9 +17,16 @@ pub(crate) fn add_hexadecimal(text: &mut Vec<u8>, octets: &[u8]) -> Result<(), O
 {
     add(text, b"'")?;
     for octet in octets {
-        add(text, &[digit(*octet / 16), digit(*octet % 16)])?;
+        add(text, &digits_of(*octet))?;
     }
     add(text, b"'H")
+}
+
+/// Two hexadecimal digits.
+pub(crate) fn digits_of(octet: u8) -> [u8; 2]
+    ensures { result ≡ two_digits octet }
+{
+    [digit(octet / 16), digit(octet % 16)]
 }
 
 /// The character of a digit below 16.

@@ -131,7 +131,11 @@ fn add_part(
     add_value(alloc, text, layout, part_type(ty, place), value)
 }
 
-fn add_part_name(text: &mut Vec<u8>, ty: Option<&Ty>, place: usize) -> Result<(), OutOfMemory>
+pub(crate) fn add_part_name(
+    text: &mut Vec<u8>,
+    ty: Option<&Ty>,
+    place: usize,
+) -> Result<(), OutOfMemory>
     ensures { OnOk result (text.new.items
         ≡ text.old.items ++ part_name (option_map (λ ty. type_view ty.now) ty.entry) place) }
 {

@@ -13,16 +13,24 @@ use Rattle.guard_tagging.specs.Named as tagging
 use Rattle.guard_constraints.specs.Visible.{Visible}
 use Rattle.guard_schema.specs.Outcomes.{Is, Passes, Then}
 use Rattle.guard_schema.specs.Faults.{Tag, Clash, TooLarge, Outcome, IsNamed}
-use Rattle.guard_schema.specs.Known.{Built, Known, with_built, types_of, visible, around}
+use Rattle.guard_schema.specs.Known.{Built, Known, with_built, types_of, visible, IsWrittenUnder}
 use Rattle.guard_schema.specs.Readings.{IsSoundAt, ReadsMember}
 use Rattle.guard_schema.specs.Finishing.{Finishes, site_of_type}
 use Rattle.guard_schema.specs.Counting.{held_by, all_held, most_held}
 
--- G1 to G12: its tags, its parts and their numbering, with so many types before it
-abbrev pub HasTags : Surroundings → ℕ → WrittenType → Outcome AbstractType → Type 0
-HasTags surroundings before tree (Ok bare) = IsTagged surroundings before tree bare
-HasTags surroundings before tree (Err (Tag f)) = IsNamed tagging.named f × IsFirstFault surroundings before tree f
-HasTags surroundings before tree (Err _) = ⊥
+-- G1 to G12: the tags, the parts and their numbering of a written type, under these surroundings and with so many types
+-- before it
+abbrev pub HasTagsUnder : Surroundings → ℕ → WrittenType → Outcome AbstractType → Type 0
+HasTagsUnder surroundings before tree (Ok bare) = IsTagged surroundings before tree bare
+HasTagsUnder surroundings before tree (Err (Tag f)) =
+    IsNamed tagging.named f × IsFirstFault surroundings before tree f
+HasTagsUnder surroundings before tree (Err _) = ⊥
+
+-- those of a definition, under the surroundings that it has where this is known
+abbrev pub HasTags : Known → Definition → Outcome AbstractType → Type 0
+HasTags k d answer =
+    (surroundings : Surroundings) × IsWrittenUnder k d surroundings
+    × HasTagsUnder surroundings (nodes_of_all (types_of k.built)) d.assignment.ty answer
 
 -- S1: tags tell its components and alternatives apart
 abbrev pub TellsApart : Site → AbstractType → Outcome (Unit {0}) → Type 0
@@ -51,7 +59,7 @@ HasValue k names a t =
 -- its value, the limit.
 abbrev pub Builds : Known → Definition → Outcome Built → Type 0
 Builds k d =
-    Then (HasTags (around k d) (nodes_of_all (types_of k.built)) d.assignment.ty) (λ bare.
+    Then (HasTags k d) (λ bare.
     Then (TellsApart d.assignment.site bare) (λ _.
     Then (Finishes (visible k d.home.name) d.assignment.ty bare) (λ t.
     HasValue k (visible k d.home.name) d.assignment t)))

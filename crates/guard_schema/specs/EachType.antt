@@ -3,9 +3,9 @@
 use Rattle.std.specs.Prelude.{◌≡◌, ℕ, List, [], All, Contains, Some, None, Ok}
 use Rattle.guard_model.specs.AbstractType.{AbstractType}
 use Rattle.guard_names.specs.Declarations.{Definition, definitions}
-use Rattle.guard_tagging.specs.Types.{denoted}
+use Rattle.guard_tagging.specs.Types.{Surroundings, denoted}
 use Rattle.guard_schema.specs.Texts.{ReadsTexts}
-use Rattle.guard_schema.specs.Known.{Known, visible, around}
+use Rattle.guard_schema.specs.Known.{Known, visible, IsWrittenUnder}
 use Rattle.guard_schema.specs.Finishing.{Finishes}
 use Rattle.guard_schema.specs.Schemas.{AbstractSchema, schema_of}
 use Rattle.guard_schema.specs.Accepts.{OrdersNames, Accepts}
@@ -14,10 +14,13 @@ use Rattle.guard_schema.specs.OnlyLong.{IsSoundBuilt}
 
 -- The type is this definition's, where all of these are built.
 pub record IsFinished (whole : Known) (d : Definition) (t : AbstractType) : Type 0 where
+  -- the surroundings under which its tree is written
+  pub surroundings : Surroundings
+  pub under : IsWrittenUnder whole d surroundings
   -- what its tree denotes by its tags, with the constraints and defaults of the tree filled in
-  pub finished : Finishes (visible whole d.home.name) d.assignment.ty (denoted (around whole d) d.assignment.ty) (Ok t)
+  pub finished : Finishes (visible whole d.home.name) d.assignment.ty (denoted surroundings d.assignment.ty) (Ok t)
   -- with these taken off again, and its defaults not known, it is what its tree denotes by its tags
-  pub again : unfinished (visible whole d.home.name) d.assignment.ty t ≡ denoted (around whole d) d.assignment.ty
+  pub again : unfinished (visible whole d.home.name) d.assignment.ty t ≡ denoted surroundings d.assignment.ty
 
 -- The schema has the types of the definitions in these texts, and no others.
 pub record HasTypesOf (texts : List (List ℕ)) (s : AbstractSchema) : Type 0 where

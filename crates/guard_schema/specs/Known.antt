@@ -6,7 +6,7 @@ use Rattle.guard_model.specs.AbstractValue.{AbstractValue}
 use Rattle.guard_syntax.specs.Trees.{WrittenModule}
 use Rattle.guard_names.specs.Declarations.{Definition}
 use Rattle.guard_tagging.specs.Types.{Surroundings}
-use Rattle.guard_tagging.specs.Skeletons.{surroundings_of}
+use Rattle.guard_tagging.specs.Skeletons.{AreSurroundings}
 use Rattle.guard_values.specs.Meanings.{Governed}
 use Rattle.guard_names.specs.Places.{known_meant}
 use Rattle.guard_constraints.specs.Visible.{Visible}
@@ -62,6 +62,7 @@ visible k home = record {
       λ name. type_alone (meant k home name);
 }
 
--- for tags of a definition: the tag default that counts is that of the module in which a type is written
-abbrev pub around : Known → Definition → Surroundings
-around k d = surroundings_of k.modules k.order (types_of k.built) d
+-- for tags of a definition: the surroundings under which its type is written. The tag default that counts is that of
+-- the module in which a type is written.
+abbrev pub IsWrittenUnder : Known → Definition → Surroundings → Type 0
+IsWrittenUnder k d surroundings = AreSurroundings k.modules k.order (types_of k.built) d surroundings

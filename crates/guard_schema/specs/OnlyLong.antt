@@ -19,7 +19,7 @@ use Rattle.guard_values.specs.declared.fault.ValueFault.TheVariants as value_fau
 use Rattle.guard_schema.specs.Faults.{AbstractFault, Value}
 use Rattle.guard_schema.specs.LongValues.{first_long}
 use Rattle.guard_schema.specs.Readings.{IsSoundAt}
-use Rattle.guard_schema.specs.Known.{Built, Known, types_of, visible, around}
+use Rattle.guard_schema.specs.Known.{Built, Known, types_of, visible, IsWrittenUnder}
 use Rattle.guard_schema.specs.Finishing.{Finishes}
 
 -- a sound type, and a value of it where one is assigned
@@ -45,14 +45,16 @@ IsUnsoundByValue t =
 -- Where all that is built so far is sound, so it is with the type of a definition that has no fault of tags.
 abbrev pub OnlyLongValues : Type 0
 OnlyLongValues =
-    (k : Known) (d : Definition) (bare t : AbstractType) → All IsSoundBuilt k.built
-    → IsTagged (around k d) (nodes_of_all (types_of k.built)) d.assignment.ty bare → Distinct bare
+    (k : Known) (d : Definition) (surroundings : Surroundings) (bare t : AbstractType)
+    → IsWrittenUnder k d surroundings → All IsSoundBuilt k.built
+    → IsTagged surroundings (nodes_of_all (types_of k.built)) d.assignment.ty bare → Distinct bare
     → Finishes (visible k d.home.name) d.assignment.ty bare (Ok t) → IsUnsoundByValue t
 
 -- And so it is with each part of it, and with a part before the constraints at its end are added: that is a tree
 -- without them. These are the types that have to be sound before a constraint, a default or a value is read under them.
 abbrev pub OnlyLongInParts : Type 0
 OnlyLongInParts =
-    (k : Known) (d : Definition) (tree : WrittenType) (bare t : AbstractType) → All IsSoundBuilt k.built
-    → HasBare (around k d) tree bare → Distinct bare → nesting bare ≤ deepest_nesting
+    (k : Known) (d : Definition) (surroundings : Surroundings) (tree : WrittenType) (bare t : AbstractType)
+    → IsWrittenUnder k d surroundings → All IsSoundBuilt k.built
+    → HasBare surroundings tree bare → Distinct bare → nesting bare ≤ deepest_nesting
     → Finishes (visible k d.home.name) tree bare (Ok t) → IsUnsoundByValue t

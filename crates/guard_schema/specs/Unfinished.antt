@@ -12,9 +12,9 @@ use Rattle.guard_syntax.specs.Trees.{named_type}
 use Rattle.guard_syntax.specs.Trees.{WrittenComponents, no_components, component, components_from}
 use Rattle.guard_syntax.specs.Trees.{WrittenAlternatives, no_alternatives, alternative}
 use Rattle.guard_names.specs.Declarations.{Definition}
-use Rattle.guard_tagging.specs.Types.{denoted, join}
+use Rattle.guard_tagging.specs.Types.{Surroundings, denoted, join}
 use Rattle.guard_constraints.specs.Visible.{Visible}
-use Rattle.guard_schema.specs.Known.{Built, Known, visible, around}
+use Rattle.guard_schema.specs.Known.{Built, Known, visible, IsWrittenUnder}
 use Rattle.guard_schema.specs.Finishing.{constraint_before, count_put_in, Finishes}
 use Rattle.guard_schema.specs.Building.{Builds}
 
@@ -130,5 +130,6 @@ IsBareAgain =
 -- The type of a definition that is built is again the one that its tree has by its tags.
 abbrev pub IsTaggedAgain : Type 0
 IsTaggedAgain =
-    (k : Known) (d : Definition) (b : Built) → Builds k d (Ok b)
-    → unfinished (visible k d.home.name) d.assignment.ty b.ty ≡ denoted (around k d) d.assignment.ty
+    (k : Known) (d : Definition) (surroundings : Surroundings) (b : Built) → IsWrittenUnder k d surroundings
+    → Builds k d (Ok b)
+    → unfinished (visible k d.home.name) d.assignment.ty b.ty ≡ denoted surroundings d.assignment.ty

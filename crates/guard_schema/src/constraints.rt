@@ -81,11 +81,11 @@ fn with(ty: Ty, cons: Cons) -> Result<Ty, AllocError>
         cons: mut all,
     } = ty;
     all.push(cons)?;
-    Ok(whole(tags, kind, all))
+    Ok(type_made_of(tags, kind, all))
 }
 
 /// The type of these tags, this kind and these constraints.
-pub fn whole(tags: Vec<Tag>, kind: Kind, cons: Vec<Cons>) -> Ty
+pub fn type_made_of(tags: Vec<Tag>, kind: Kind, cons: Vec<Cons>) -> Ty
     ensures { type_view result ≡ type_of tags.items (kind_view kind) (constraints_of (map constraint_view cons.items)) }
 {
     Ty { tags, kind, cons }

@@ -1,4 +1,5 @@
-//! How many constraints, values and contained types a type and a value hold, counted no further than one above the limit.
+//! How many constraints, values and contained types a type and a value hold, counted no further than one above the
+//! limit.
 ghost use Rattle.std.specs.Prelude.{◌≡◌, ◌+◌, ◌∷◌, [], min, map, option_map};
 ghost use Rattle.guard_model.specs.TypeView as model;
 ghost use Rattle.guard_model.specs.ValueView.{value_view, field_view};

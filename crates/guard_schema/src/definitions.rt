@@ -94,7 +94,8 @@ fn tagged_apart(
     Ok(tagged)
 }
 
-/// The definition of this type, which has no constraints and defaults yet. The types that it is made of are counted in the finished one.
+/// The definition of this type, which has no constraints and defaults yet. The types that it is made of are counted in
+/// the finished one.
 fn completed(
     alloc: Global,
     scope: Scope,
@@ -173,7 +174,8 @@ fn assigned(
     }
 }
 
-/// How much is held with the definition of the name there, with so much before it. Its name is blamed for what is too much.
+/// How much is held with the definition of the name there, with so much before it. Its name is blamed for what is too
+/// much.
 fn within_limit(
     before: usize,
     site: Site,

@@ -13,8 +13,8 @@ use guard_values::ValueFault;
 use std::alloc::{AllocError, AllocFailed};
 use thiserror::Error;
 
-/// Why texts denote no schema. `Schema::build` says in which order faults are looked for. A fault of a layer prints as itself. OutOfMemory may stand
-/// in place of any answer, and no other variant means it.
+/// Why texts denote no schema. `Schema::build` says in which order faults are looked for. A fault of a layer prints as
+/// itself. OutOfMemory may come in place of any answer, and no other variant means it.
 #[derive(Debug, Drop, Error)]
 pub enum SchemaFault {
     #[error("{0}")]
@@ -42,7 +42,8 @@ pub enum SchemaFault {
     OutOfMemory,
 }
 
-// What a conversion gives is said by what the fault names, not case by case: want of memory of a layer is want of memory here.
+// What a conversion gives is said by what the fault names, not case by case: want of memory of a layer is want of
+// memory here.
 impl From<LexFault> for SchemaFault {
     ghost use Rattle.guard_lexer.specs.Lexing.{fault_named};
 

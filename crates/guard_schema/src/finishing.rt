@@ -1,6 +1,7 @@
 //! The constraints and defaults that are written in a type, filled into the type that its tags and parts make.
 //!
-//! The type is taken by value and handed back: nothing is copied. A list of components moves once into a list of its own length.
+//! The type is taken by value and handed back: nothing is copied. A list of components moves once into a list of its
+//! own length.
 ghost use Rattle.std.specs.Prelude.{◌≡◌, [], map, IfOk, option_map, string_bytes};
 ghost use Rattle.guard_model.specs.Counts.{component_count};
 ghost use Rattle.guard_model.specs.TypeView as model;
@@ -14,7 +15,7 @@ ghost use Rattle.guard_schema.specs.inside.InTurn as in_turn;
 ghost use Rattle.guard_schema.specs.Outcomes.{Answers, Is};
 ghost use Rattle.guard_schema.specs.Views.{visible_of, filling_view};
 
-use crate::constraints::{whole, with_written};
+use crate::constraints::{type_made_of, with_written};
 use crate::fault::SchemaFault;
 use crate::readings::{check_sound, read_member};
 use crate::scope::Scope;
@@ -46,7 +47,7 @@ fn with_parts(alloc: Global, scope: Scope, base: &BaseTree, bare: Ty) -> Result<
 {
     let Ty { tags, kind, cons } = bare;
     let inside = finished_kind(alloc, scope, base, kind)?;
-    Ok(whole(tags, inside, cons))
+    Ok(type_made_of(tags, inside, cons))
 }
 
 #[cycle(finishing)]
@@ -327,17 +328,17 @@ fn fill_from(
 {
     match base {
         BaseTree::Structure(_, trees) => fill(alloc, scope, trees, filling),
-        BaseTree::Reference(name) => passed(scope, name.name, filling),
+        BaseTree::Reference(name) => reference_taken_over(scope, name.name, filling),
         _ => Ok(filling),
     }
 }
 
 /// Those of the type of this name need nothing.
-fn passed(scope: Scope, name: &[u8], filling: Filling) -> Result<Filling, SchemaFault>
-    ensures { Answers filling_view named result (Is (in_turn.moved (finishing.count_of_meant ((visible_of scope.entry).types name.now)) (filling_view filling))) }
+fn reference_taken_over(scope: Scope, name: &[u8], filling: Filling) -> Result<Filling, SchemaFault>
+    ensures { Answers filling_view named result (Is (in_turn.taken_over (finishing.count_of_meant ((visible_of scope.entry).types name.now)) (filling_view filling))) }
 {
     let count = put_in(scope.type_named(name));
-    Ok(moved(filling, count)?)
+    Ok(taken_over(filling, count)?)
 }
 
 /// How many components COMPONENTS OF the type puts in.
@@ -357,19 +358,19 @@ fn part_count(ty: &Ty) -> usize
 }
 
 /// So many of those that are left need nothing.
-fn moved(filling: Filling, count: usize) -> Result<Filling, AllocFailed<Comp>>
-    ensures { IfOk result (λ f. filling_view f ≡ in_turn.moved count (filling_view filling)) }
+fn taken_over(filling: Filling, count: usize) -> Result<Filling, AllocFailed<Comp>>
+    ensures { IfOk result (λ f. filling_view f ≡ in_turn.taken_over count (filling_view filling)) }
 {
     let mut so_far = filling;
     for _ in 0..count {
-        so_far = moved_one(so_far)?;
+        so_far = one_taken_over(so_far)?;
     }
     Ok(so_far)
 }
 
 /// The next one, where one is left.
-fn moved_one(filling: Filling) -> Result<Filling, AllocFailed<Comp>>
-    ensures { IfOk result (λ f. filling_view f ≡ in_turn.moved 1 (filling_view filling)) }
+fn one_taken_over(filling: Filling) -> Result<Filling, AllocFailed<Comp>>
+    ensures { IfOk result (λ f. filling_view f ≡ in_turn.taken_over 1 (filling_view filling)) }
 {
     let mut filling = filling;
     match filling.left.pop_front() {

@@ -8,8 +8,8 @@ ghost use Rattle.guard_schema.specs.Unfinished.{IsBareAgain, IsTaggedAgain};
 
 use guard_constraints::laws::{law_one_constraint, law_one_fault};
 
-/// Texts denote one schema at most, and then they have no fault. They have one first fault at most, but where the parser finds none of its trees it may
-/// name one token or another of that text.
+/// Texts denote one schema at most, and then they have no fault. They have one first fault at most, but where the
+/// parser finds none of its trees it may name one token or another of that text.
 pub fn law_one_schema(texts: &[&[u8]])
     ensures { IsDecided (Denotes (map (λ t. t.now) texts.now)) }
 {
@@ -17,19 +17,20 @@ pub fn law_one_schema(texts: &[&[u8]])
     law_one_fault();
 }
 
-/// A finished type is what tags and parts make of its tree, and besides only what its tree fills in: without the constraints that are written in the tree,
-/// and with its defaults not known again, it is the bare type again, and of a definition that is built the type that its tree denotes by its tags.
-/// A schema that texts denote has such a type for each definition in them that assigns a type, under its names, and has no others. There all names
-/// mean what the schema makes of them.
+/// A finished type is what tags and parts make of its tree, and besides only what its tree fills in: without the
+/// constraints that are written in the tree, and with its defaults not known again, it is the bare type again, and of a
+/// definition that is built the type that its tree denotes by its tags. A schema that texts denote has such a type for
+/// each definition in them that assigns a type, under its names, and has no others. There all names mean what the
+/// schema makes of them.
 pub fn law_unfinished()
     ensures bare { IsBareAgain }
     ensures tagged { IsTaggedAgain }
     ensures schema { HaveTheirTypes }
 {}
 
-/// A type that is finished from what its tree denotes by its tags is sound, or a single value in one of its constraints is too long: the fault that a
-/// build names then (V8) is where the first of these values is. So it is with the type of a definition, and with each part of it before something is
-/// read under that.
+/// A type that is finished from what its tree denotes by its tags is sound, or a single value in one of its constraints
+/// is too long: the fault that a build names then (V8) is where the first of these values is. So it is with the type of
+/// a definition, and with each part of it before something is read under that.
 pub fn law_only_long_values()
     ensures definitions { OnlyLongValues }
     ensures parts { OnlyLongInParts }

@@ -1,4 +1,5 @@
-//! Single values in constraints whose encodings are longer than may be: of a type that is referred to under more tags, or under another one.
+//! Single values in constraints whose encodings are longer than may be: of a type that is referred to under more tags,
+//! or under another one.
 ghost use Rattle.std.specs.Prelude.{◌≡◌, IsTrue, IfOk, map};
 ghost use Rattle.guard_der.specs.Der.{der};
 ghost use Rattle.guard_der.specs.Fits.{fits};

@@ -84,7 +84,8 @@ impl<'m, 'a> Progress<'m, 'a> {
         }
     }
 
-    /// With the next definition in the order. It is taken and handed back by value, since one list longer than the others would break what holds of it.
+    /// With the next definition in the order. It is taken and handed back by value, since one list longer than the
+    /// others would break what holds of it.
     pub fn with(self, definition: Definition) -> Result<Progress<'m, 'a>, AllocError>
         requires sound { IsTrue (is_sound (definition_view definition).ty) }
         requires fits { IfSome (definition_view definition).value (λ v. IsTrue (fits (definition_view definition).ty v)) }

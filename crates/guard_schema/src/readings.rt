@@ -22,8 +22,9 @@ use guard_syntax::{ConsTree, ValueTree};
 use guard_values::{ValueFault, value};
 use std::alloc::Global;
 
-/// The type that is written there must be sound. A single value in a constraint of a type that is referred to can keep it from that: under the tags
-/// before the reference its encoding may be longer than 1,048,576 octets (`ValueFault::TooLarge`, where that value is).
+/// The type that is written there must be sound. A single value in a constraint of a type that is referred to can keep
+/// it from that: under the tags before the reference its encoding may be longer than 1,048,576 octets
+/// (`ValueFault::TooLarge`, where that value is).
 pub fn check_sound(alloc: Global, site: Site, ty: &Ty) -> Result<(), SchemaFault>
     ensures answers { Answers (λ u. u) named result (IsSoundAt site (type_view ty.now)) }
     ensures sound { IfOk result (λ _. IsTrue (is_sound (type_view ty.now))) }

@@ -11,8 +11,8 @@ use crate::laws::law_one_schema;
 use guard_model::Ty;
 use std::alloc::Global;
 
-/// What the texts of modules denote: the names of the modules, in the order of the texts, and the types by the names to which modules assign them.
-/// Each type is sound.
+/// What the texts of modules denote: the names of the modules, in the order of the texts, and the types by the names to
+/// which modules assign them. Each type is sound.
 #[derive(Drop)]
 pub struct Schema {
     pub(crate) modules: Vec<String>,
@@ -32,11 +32,12 @@ impl Schema {
 
     /// The schema that texts denote, each the text of one module.
     ///
-    /// Faults are looked for in this order, and the first is answered: more than 64 texts; in each text in turn its tokens (L1 to L7) and how they follow
-    /// one another (P1 to P3); names over all modules (N1 to N6, in the order of `resolve`); then one definition after the other, each after those that it
-    /// uses: tags and parts (G1 to G12), tags that don't tell parts apart (S1), constraints and defaults, inside out in written order (C1 to C10,
-    /// V1 to V8, and S2 directly after the default's value), the value that is assigned (V1 to V8, S2), the limit on constraints and values (S3).
-    /// OutOfMemory may come in place of any answer.
+    /// Faults are looked for in this order, and the first is answered: more than 64 texts; in each text in turn its
+    /// tokens (L1 to L7) and how they follow one another (P1 to P3); names over all modules (N1 to N6, in the order of
+    /// `resolve`); then one definition after the other, each after those that it uses: tags and parts (G1 to G12), tags
+    /// that don't tell parts apart (S1), constraints and defaults, inside out in written order (C1 to C10, V1 to V8,
+    /// and S2 directly after the default's value), the value that is assigned (V1 to V8, S2), the limit on constraints
+    /// and values (S3). OutOfMemory may come in place of any answer.
     pub fn build(alloc: Global, texts: &[&[u8]]) -> Result<Schema, SchemaFault>
         // What is answered is what the texts denote.
         ensures accepted { IfOk result (λ schema. Accepts (map (λ t. t.now) texts.now) (schema_view schema)) }
@@ -44,7 +45,8 @@ impl Schema {
         ensures refused { IfErr result (λ f. IfSome (named f) (IsRefused (map (λ t. t.now) texts.now))) }
         // The schema that the texts denote is answered, unless memory runs out.
         ensures only { (s : AbstractSchema) → Accepts (map (λ t. t.now) texts.now) s → Gives schema_view named result (Ok s) }
-        // It has a type for each definition in the texts that assigns one, the finished type of what its tree denotes, and no others.
+        // It has a type for each definition in the texts that assigns one, the finished type of what its tree denotes,
+        // and no others.
         ensures types { IfOk result (λ schema. HasTypesOf (map (λ t. t.now) texts.now) (schema_view schema)) }
         // Each of its types is sound.
         ensures sound { IfOk result (λ schema. (home name : List ℕ) → IfSome ((schema_view schema).types home name) (λ t. IsTrue (is_sound t))) }

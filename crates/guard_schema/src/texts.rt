@@ -37,7 +37,8 @@ pub fn modules<'a>(alloc: Global, texts: &[&'a [u8]]) -> Result<Vec<Module<'a>>,
     Ok(modules)
 }
 
-/// The module of the text at this place, from 1. Its tokens are dropped before the next text is read: what stays is the tree, which borrows the text.
+/// The module of the text at this place, from 1. Its tokens are dropped before the next text is read: what stays is the
+/// tree, which borrows the text.
 fn module<'a>(alloc: Global, place: u32, text: &'a [u8]) -> Result<Module<'a>, SchemaFault>
     ensures read { Answers module_view named result (ReadsText place text.now) }
     ensures spelled { IfOk result (λ m. IsSpelledModule (module_view m)) }

@@ -19,6 +19,7 @@ use Rattle.guard_tables.specs.declared.identifiers.Identifiers.{Identifiers}
 use Rattle.guard_tables.specs.declared.laid.Laid.{Laid}
 use Rattle.guard_tables.specs.declared.node.Hot.{Hot}
 use Rattle.guard_tables.specs.declared.node.Cold.{Cold}
+use Rattle.guard_tables.specs.declared.conditions_list.Conditions.{Conditions}
 use Rattle.guard_tables.specs.declared.node.Condition.{Condition}
 use Rattle.guard_tables.specs.declared.node.Kind.{Kind}
 use Rattle.guard_tables.specs.declared.node.Kind.TheVariants as kind
@@ -27,10 +28,10 @@ use Rattle.guard_tables.specs.declared.node.Raise.{Raise}
 use Rattle.guard_tables.specs.declared.node.SimpleKind.{SimpleKind}
 use Rattle.guard_tables.specs.declared.node_list.Builder.{Builder}
 use Rattle.guard_tables.specs.declared.slots.Slots.{Slots}
-use Rattle.guard_tables.specs.NodeViews.{absence_of, side_of, condition_view, raise_view, kind_view, identifier_of, other_of}
+use Rattle.guard_tables.specs.NodeViews.{absence_of, condition_view, raise_view, kind_view, identifier_of, other_of}
 use Rattle.guard_tables.specs.Plan.{Plan, Body, Parts, plan, simple, asked, formula, asked_of, no_parts, part, body_in, tags_in, form_in}
 use Rattle.guard_tables.specs.Slots.{none}
-use Rattle.guard_tables.specs.TableNodes.{Spot, spot_of, spots_of, spot_at, blank, own_tags, tags_of_kind, form_of_kind, body_of_kind, has_inner, parts_of, parts_between, IsNode, IsFree}
+use Rattle.guard_tables.specs.TableNodes.{Spot, side_of, spot_of, spots_of, spot_at, blank, own_tags, tags_of_kind, form_of_kind, body_of_kind, has_inner, parts_of, parts_between, IsNode, IsFree}
 use Rattle.guard_tables.specs.inside.Aside.{spots_at, AreNodes, parts_then}
 use Rattle.guard_tables.specs.inside.Bare.{bare_hot, plain_hot, kind_of_group, kind_of_elements}
 use Rattle.guard_tables.specs.inside.Laid.{spots_so_far, Grows, Stacks, Lays, plan_in, body_of_group, body_of_elements}
@@ -80,7 +81,7 @@ Tells told cs = told ≡ false → cs ≡ []
 bare_comes : (kd : Kind) (ids : Identifiers) (told : Bool) (first count : ℕ) (c : Cold) (spots : List Spot) (k : ℕ) (p : Plan)
     → (spot_of (bare_hot kd ids told first count) c spots).plan ≡ p → first + count ≤ k → (has_inner kd ≡ true → first < k)
     → ids.own ≡ identifier_of (tags_in p) (form_in p) → ids.other ≡ other_of (tags_in p) (form_in p)
-    → c.default ≡ None → c.present ≡ none → Tells told c.conditions.items → Comes (bare_hot kd ids told first count) c spots k p
+    → c.default ≡ None → c.present ≡ none → Tells told c.conditions.list.items → Comes (bare_hot kd ids told first count) c spots k p
 bare_comes kd ids told first count c spots k p e before inner own other default present tells = record {
   node = record {
     before = before;
@@ -100,9 +101,9 @@ inner_identifier : (l : Laid) → (l.node.hot.identifier ≡ identifier_of (tags
 inner_identifier l = (l.stands.identifier, l.stands.other)
 
 asked_plan : (ids : Identifiers) (first : ℕ) (c : Cold) (spots : List Spot) (p : Plan) → (spot_at spots first).plan ≡ p
-    → (spot_of (bare_hot kind.Asked ids true first 1) c spots).plan ≡ plan (tags_in p) (form_in p) (asked (map condition_view c.conditions.items) (body_in p))
+    → (spot_of (bare_hot kind.Asked ids true first 1) c spots).plan ≡ plan (tags_in p) (form_in p) (asked (map condition_view c.conditions.list.items) (body_in p))
 unfolding spot_of
-asked_plan ids first c spots p e = ap (λ (p : Plan). plan (tags_in p) (form_in p) (asked (map condition_view c.conditions.items) (body_in p))) e
+asked_plan ids first c spots p e = ap (λ (p : Plan). plan (tags_in p) (form_in p) (asked (map condition_view c.conditions.list.items) (body_in p))) e
 
 formula_plan : (ids : Identifiers) (first : ℕ) (c : Cold) (spots : List Spot) (p : Plan) → (spot_at spots first).plan ≡ p
     → (spot_of (bare_hot kind.Formula ids false first 1) c spots).plan ≡ plan (tags_in p) (form_in p) (formula (map raise_view c.raises.items) (body_in p))
@@ -116,13 +117,13 @@ wrapper_plan ids first c t spots p tag e = rw (tag, e) refl
 
 pub asked_comes : (l : Laid) (after : Builder) (first : ℕ) → Stacks l after first → (c : Cold) → c.default ≡ None → c.present ≡ none
     → Comes (bare_hot kind.Asked (record { own = l.node.hot.identifier; other = l.node.hot.other }) true first 1) c (spots_so_far after) (length after.hots.items)
-    (plan (tags_in (plan_in l)) (form_in (plan_in l)) (asked (map condition_view c.conditions.items) (body_in (plan_in l))))
+    (plan (tags_in (plan_in l)) (form_in (plan_in l)) (asked (map condition_view c.conditions.list.items) (body_in (plan_in l))))
 asked_comes l after first s c default present =
     bare_comes kind.Asked (record { own = l.node.hot.identifier; other = l.node.hot.other }) true first 1 c (spots_so_far after) (length after.hots.items) _
     (asked_plan (record { own = l.node.hot.identifier; other = l.node.hot.other }) first c (spots_so_far after) (plan_in l) s.stands)
     (omega (arith, s.count)) (λ e. omega (arith, s.count)) (inner_identifier l).0 (inner_identifier l).1 default present (λ e. absurd cc)
 
-pub formula_comes : (l : Laid) (after : Builder) (first : ℕ) → Stacks l after first → (c : Cold) → c.default ≡ None → c.present ≡ none → c.conditions.items ≡ []
+pub formula_comes : (l : Laid) (after : Builder) (first : ℕ) → Stacks l after first → (c : Cold) → c.default ≡ None → c.present ≡ none → c.conditions.list.items ≡ []
     → Comes (bare_hot kind.Formula (record { own = l.node.hot.identifier; other = l.node.hot.other }) false first 1) c (spots_so_far after) (length after.hots.items)
     (plan (tags_in (plan_in l)) (form_in (plan_in l)) (formula (map raise_view c.raises.items) (body_in (plan_in l))))
 formula_comes l after first s c default present nothing =
@@ -136,7 +137,7 @@ outer_identifier t [] f h = absurd (omega (arith, h))
 outer_identifier t (u ∷ us) f h = (refl, refl)
 
 pub wrapper_comes : (l : Laid) (after : Builder) (first : ℕ) → Stacks l after first → (t : Tag) → 0 < length (tags_in (plan_in l)) → (ids : Identifiers) → ids.own ≡ identifier_of (t ∷ []) true → ids.other ≡ other_of (t ∷ []) true
-    → (c : Cold) → c.default ≡ None → c.present ≡ none → c.conditions.items ≡ [] → c.tag ≡ Some t
+    → (c : Cold) → c.default ≡ None → c.present ≡ none → c.conditions.list.items ≡ [] → c.tag ≡ Some t
     → Comes (bare_hot kind.Wrapper ids false first 1) c (spots_so_far after) (length after.hots.items) (plan (t ∷ tags_in (plan_in l)) (form_in (plan_in l)) (body_in (plan_in l)))
 wrapper_comes l after first s t some ids own other c default present nothing tag =
     let same = outer_identifier t (tags_in (plan_in l)) (form_in (plan_in l)) some in
@@ -153,7 +154,7 @@ elements_plan elements.List ids first c tag spots p t e = rw (t, e) refl
 elements_plan elements.SetOf ids first c tag spots p t e = rw (t, e) refl
 
 pub elements_come : (l : Laid) (after : Builder) (first : ℕ) → Stacks l after first → (g : Elements) (tag : Option Tag) (ids : Identifiers) → ids.own ≡ identifier_of (own_tags tag) true → ids.other ≡ other_of (own_tags tag) true
-    → (c : Cold) → c.default ≡ None → c.present ≡ none → c.conditions.items ≡ [] → c.tag ≡ tag
+    → (c : Cold) → c.default ≡ None → c.present ≡ none → c.conditions.list.items ≡ [] → c.tag ≡ tag
     → Comes (bare_hot (kind_of_elements g) ids false first 1) c (spots_so_far after) (length after.hots.items) (plan (own_tags tag) true (body_of_elements g (plan_in l)))
 elements_come l after first s g tag ids own other c default present nothing t =
     bare_comes (kind_of_elements g) ids false first 1 c (spots_so_far after) (length after.hots.items) (plan (own_tags tag) true (body_of_elements g (plan_in l)))
@@ -173,7 +174,7 @@ beside group.Set = refl
 beside group.Choice = refl
 
 pub group_comes : (g : Group) (tag : Option Tag) (ids : Identifiers) → ids.own ≡ identifier_of (own_tags tag) true → ids.other ≡ other_of (own_tags tag) true → (first count : ℕ)
-    → (c : Cold) → c.default ≡ None → c.present ≡ none → c.conditions.items ≡ [] → c.tag ≡ tag → (spots : List Spot) (k : ℕ) → first + count ≤ k
+    → (c : Cold) → c.default ≡ None → c.present ≡ none → c.conditions.list.items ≡ [] → c.tag ≡ tag → (spots : List Spot) (k : ℕ) → first + count ≤ k
     → Comes (bare_hot (kind_of_group g) ids false first count) c spots k (plan (own_tags tag) true (body_of_group g (parts_between spots first count)))
 group_comes g tag ids own other first count c default present nothing t spots k before =
     let aside = beside g in
@@ -185,15 +186,15 @@ pub group_stands : (g : Group) (tag : Option Tag) (ids : Identifiers) (first cou
 group_stands g tag ids first count c t spots = group_plan g ids first count c tag spots t
 
 pub simple_stands : (k : SimpleKind) (tag : Option Tag) (ids : Identifiers) (told : Bool) (c : Cold) → c.tag ≡ tag → (spots : List Spot)
-    → (spot_of (bare_hot (kind.Simple k) ids told 0 0) c spots).plan ≡ plan (own_tags tag) false (simple (kind_view k c.items.items) (map condition_view c.conditions.items))
+    → (spot_of (bare_hot (kind.Simple k) ids told 0 0) c spots).plan ≡ plan (own_tags tag) false (simple (kind_view k c.items.items) (map condition_view c.conditions.list.items))
 unfolding spot_of
 simple_stands k tag ids told c t spots = rw t refl
 
 pub simple_comes : (s : SimpleKind) (tag : Option Tag) (ids : Identifiers) → ids.own ≡ identifier_of (own_tags tag) false → ids.other ≡ other_of (own_tags tag) false → (told : Bool)
-    → (c : Cold) → c.default ≡ None → c.present ≡ none → (told ≡ false → c.conditions.items ≡ []) → c.tag ≡ tag → (spots : List Spot) (k : ℕ)
-    → Comes (bare_hot (kind.Simple s) ids told 0 0) c spots k (plan (own_tags tag) false (simple (kind_view s c.items.items) (map condition_view c.conditions.items)))
+    → (c : Cold) → c.default ≡ None → c.present ≡ none → (told ≡ false → c.conditions.list.items ≡ []) → c.tag ≡ tag → (spots : List Spot) (k : ℕ)
+    → Comes (bare_hot (kind.Simple s) ids told 0 0) c spots k (plan (own_tags tag) false (simple (kind_view s c.items.items) (map condition_view c.conditions.list.items)))
 simple_comes s tag ids own other told c default present tells t spots k =
-    bare_comes (kind.Simple s) ids told 0 0 c spots k (plan (own_tags tag) false (simple (kind_view s c.items.items) (map condition_view c.conditions.items)))
+    bare_comes (kind.Simple s) ids told 0 0 c spots k (plan (own_tags tag) false (simple (kind_view s c.items.items) (map condition_view c.conditions.list.items)))
     (simple_stands s tag ids told c t spots) (omega arith) (λ e. absurd cc) own other default present tells
 
 -- ---- as a component
@@ -428,11 +429,11 @@ laid_as before l p q e a = record { grows = a.grows; stands = a.stands ∙ e }
 abbrev pub tagged_cold : Cold → Option Tag → Cold
 tagged_cold c tag = record { tag = tag; items = c.items; conditions = c.conditions; absent = c.absent; present = c.present; default = c.default; raises = c.raises }
 
-abbrev pub asked_cold : Cold → Vec Condition Global → Cold
+abbrev pub asked_cold : Cold → Conditions → Cold
 asked_cold c conditions = record { tag = c.tag; items = c.items; conditions = conditions; absent = c.absent; present = c.present; default = c.default; raises = c.raises }
 
 abbrev pub raised_cold : Cold → Vec Raise Global → Cold
 raised_cold c raises = record { tag = c.tag; items = c.items; conditions = c.conditions; absent = c.absent; present = c.present; default = c.default; raises = raises }
 
-abbrev pub simple_cold : Cold → Option Tag → Vec ℤ Global → Vec Condition Global → Cold
+abbrev pub simple_cold : Cold → Option Tag → Vec ℤ Global → Conditions → Cold
 simple_cold c tag items conditions = record { tag = tag; items = items; conditions = conditions; absent = c.absent; present = c.present; default = c.default; raises = c.raises }

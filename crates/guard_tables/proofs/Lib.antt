@@ -9,6 +9,7 @@ pub mod Faultless
 pub mod SlotSets
 pub mod SlotRanges
 pub mod SlotSums
+pub mod NumberSegments
 pub mod Adding
 -- ---- demands as tests of one node
 pub mod Bases

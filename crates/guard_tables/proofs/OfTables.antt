@@ -6,7 +6,6 @@ use Rattle.std.specs.Cmp.Lexicographic.{pointwise}
 use Rattle.std.specs.List.{AllByRecursion}
 use Rattle.std.specs.Option.{is_some, option_or}
 use Rattle.std.proofs.lemmas.Bool.{and_parts, leb-true, ltb-true, ltb-false}
-use Rattle.std.proofs.lemmas.List.{length-map}
 use Rattle.std.proofs.lemmas.List.Elements.{recursion_from_All, All-get_or}
 use Rattle.std.proofs.lemmas.Option.{slice_get-map, slice_get_within, slice_get_past, slice_get_read, get_or_from_slice_get}
 use Rattle.guard_model.specs.AbstractType.{AbstractType}
@@ -28,7 +27,7 @@ use Rattle.guard_tables.specs.Apt.{AreApt}
 use Rattle.guard_tables.specs.Conditions.{has_crowded_node}
 use Rattle.guard_tables.specs.Demands.{Ask}
 use Rattle.guard_tables.specs.Handed.{asks_from, NeedsFew}
-use Rattle.guard_tables.specs.SharedTypes.{type_at, types_at}
+use Rattle.guard_tables.specs.inside.SharedTypes.{type_at, types_at}
 use Rattle.guard_tables.specs.inside.Sharing.{shared, places_of, asks_by}
 use Rattle.guard_tables.specs.Laws.{AllMayJudge, has_failed}
 use Rattle.guard_tables.specs.Lay.{lay}
@@ -152,52 +151,77 @@ few_places declared rules places c at =
     let few = few_rules declared rules c in
     omega (arith, n, few)
 
+-- ---- the types of a table
+
+unwrapped : (o : Option Ty) (d : Ty) → unwrap_or (option_map type_view o) (type_view d) ≡ type_view (unwrap_or o d)
+unwrapped None d = refl
+unwrapped (Some t) d = refl
+
+viewed : (r : Option (Bor Ty)) → option_map (λ t. type_view t.now) r ≡ option_map type_view (option_map (λ (t : Bor Ty). t.now) r)
+viewed None = refl
+viewed (Some t) = refl
+
+-- the types of the code, as they are kept
+view_at : (d : Ty) (others : List Ty) (place : ℕ) → type_view (type_at d others place) ≡ type_at (type_view d) (map type_view others) place
+view_at d others place = sym (ap (λ (o : Option AbstractType). unwrap_or o (type_view d)) (slice_get-map type_view (d ∷ others) place) ∙ unwrapped (slice_get (d ∷ others) place) d)
+
+views_at : (d : Ty) (others : List Ty) (places : List ℕ) → map type_view (types_at d others places) ≡ types_at (type_view d) (map type_view others) places
+views_at d others [] = refl
+views_at d others (p ∷ ps) = ap (λ (t : AbstractType). t ∷ map type_view (types_at d others ps)) (view_at d others p) ∙ ap (λ (ts : List AbstractType). type_at (type_view d) (map type_view others) p ∷ ts) (views_at d others ps)
+
+-- of copies the same
+pub of_copies : (t : Ty × List Ty) (declared : AbstractType) (rules : List AbstractType) (copy : Ty) (copies : List Ty) (others : List AbstractType) (places : List ℕ)
+    → t ≡ (copy, types_at copy copies places) → type_view copy ≡ declared → map type_view copies ≡ others → types_at declared others places ≡ rules
+    → (type_view t.0 ≡ declared) × (map type_view t.1 ≡ rules)
+of_copies t declared rules copy copies others places is same all told = (
+  ap (λ (t : Ty × List Ty). type_view t.0) is ∙ same,
+  ap (λ (t : Ty × List Ty). map type_view t.1) is ∙ views_at copy copies places
+      ∙ ap (λ (t : AbstractType). types_at t (map type_view copies) places) same ∙ ap (λ (ts : List AbstractType). types_at declared ts places) all ∙ told,
+)
+
+pub consistent_again : (t : Ty × List Ty) (declared : AbstractType) (rules : List AbstractType) → (type_view t.0 ≡ declared) × (map type_view t.1 ≡ rules) → AreConsistent declared rules
+    → AreConsistent (type_view t.0) (map type_view t.1)
+consistent_again t declared rules e c =
+    subst (λ (u : AbstractType). AreConsistent u (map type_view t.1)) (sym e.0) (subst (λ (us : List AbstractType). AreConsistent declared us) (sym e.1) c)
+
+pub stands_again : (nodes : Nodes) (t : Ty × List Ty) (declared : AbstractType) (rules : List AbstractType) → (type_view t.0 ≡ declared) × (map type_view t.1 ≡ rules)
+    → StandsFor nodes declared rules → StandsFor nodes (type_view t.0) (map type_view t.1)
+stands_again nodes t declared rules e s =
+    subst (λ (u : AbstractType). StandsFor nodes u (map type_view t.1)) (sym e.0) (subst (λ (us : List AbstractType). StandsFor nodes declared us) (sym e.1) s)
+
+pub types_again : (t : Ty × List Ty) (declared : AbstractType) (rules : List AbstractType) → (type_view t.0 ≡ declared) × (map type_view t.1 ≡ rules) → type_view t.0 ∷ map type_view t.1 ≡ declared ∷ rules
+types_again t declared rules e = ap (λ (u : AbstractType). u ∷ map type_view t.1) e.0 ∙ ap (λ (us : List AbstractType). declared ∷ us) e.1
+
 -- ---- the rules of a table
 
+pub rule_view : (r : Option (Bor Ty)) (rules : List Ty) (place : ℕ) → option_map (λ t. t.now) r ≡ slice_get rules place
+    → option_map (λ t. type_view t.now) r ≡ slice_get (map type_view rules) place
+rule_view r rules place e = viewed r ∙ ap (option_map type_view) e ∙ sym (slice_get-map type_view rules place)
+
 -- the rule that is there is sound
-pub sound_there : (d : AbstractType) (others : List AbstractType) (places : List ℕ) (place : ℕ) (r : Option (Bor ℕ)) (at : Bor ℕ) (u : AbstractType) → All (λ t. IsTrue (is_sound t)) (types_at d others places)
-    → r ≡ Some at → is_some r ≡ ltb place (length places) → IfSome r (λ p. p.now ≡ get_or places place p.now) → u ≡ type_at d others at.now → IsTrue (is_sound u)
-sound_there d others places place r at u sound is inside read same =
-    let types : List AbstractType = types_at d others places in
-    let within : place < length places = ltb-true place (length places) (sym (sym (ap is_some is) ∙ inside)) in
-    let here : at.now ≡ get_or places place at.now = subst (λ (r : Option (Bor ℕ)). IfSome r (λ p. p.now ≡ get_or places place p.now)) is read in
-    let found : slice_get types place ≡ Some (type_at d others at.now) =
-    slice_get-map (type_at d others) places place ∙ ap (option_map (type_at d others)) (slice_get_read places (length places) place at.now refl within here) in
-    let one = All-get_or (λ t. IsTrue (is_sound t)) types place u (slice_get_within types place (type_at d others at.now) found) sound in
-    subst (λ (t : AbstractType). IsTrue (is_sound t)) (get_or_from_slice_get types place (type_at d others at.now) u found ∙ sym same) one
+pub sound_there : (r : Option (Bor Ty)) (rules : List Ty) (place : ℕ) → All (λ t. IsTrue (is_sound t)) (map type_view rules) → option_map (λ t. t.now) r ≡ slice_get rules place
+    → IfSome r (λ t. IsTrue (is_sound (type_view t.now)))
+sound_there None rules place sound e = tt
+sound_there (Some t) rules place sound e =
+    let found : slice_get (map type_view rules) place ≡ Some (type_view t.now) = sym (rule_view (Some t) rules place e) in
+    let one = All-get_or (λ t. IsTrue (is_sound t)) (map type_view rules) place (type_view t.now) (slice_get_within (map type_view rules) place (type_view t.now) found) sound in
+    subst (λ (t : AbstractType). IsTrue (is_sound t)) (get_or_from_slice_get (map type_view rules) place (type_view t.now) (type_view t.now) found) one
 
--- and where there is no place there is no rule
-pub rule_nowhere : (d : AbstractType) (others : List AbstractType) (places : List ℕ) (place : ℕ) (r : Option (Bor ℕ)) → r ≡ None → is_some r ≡ ltb place (length places) → None ≡ slice_get (types_at d others places) place
-rule_nowhere d others places place r is inside =
-    let past : length places ≤ place = ltb-false place (length places) (sym (sym (ap is_some is) ∙ inside)) in
-    sym (slice_get_past (types_at d others places) place (omega (arith, past, length-map places (type_at d others))))
+-- ---- as they are kept
 
-pub type_there : (d : AbstractType) (others : List Ty) (at : ℕ) (t : Bor Ty) (r : Option (Bor Ty)) → (at ≡ 0 → ⊥) → r ≡ Some t → is_some r ≡ ltb (at - 1) (length others) → IfSome r (λ t. t.now ≡ get_or others (at - 1) t.now)
-    → type_view t.now ≡ type_at d (map type_view others) at
+pub type_there : (d : Ty) (others : List Ty) (at : ℕ) (t : Bor Ty) (r : Option (Bor Ty)) → (at ≡ 0 → ⊥) → r ≡ Some t → is_some r ≡ ltb (at - 1) (length others) → IfSome r (λ t. t.now ≡ get_or others (at - 1) t.now)
+    → t.now ≡ type_at d others at
 type_there d others zero t r other is inside read = absurd (other refl)
 type_there d others (suc p) t r other is inside read =
     let back : suc p - 1 ≡ p = omega arith in
     let within : p < length others = ltb-true p (length others) (sym (sym (ap is_some is) ∙ inside ∙ ap (λ (n : ℕ). ltb n (length others)) back)) in
     let same : t.now ≡ get_or others p t.now = subst (λ (n : ℕ). t.now ≡ get_or others n t.now) back (subst (λ (r : Option (Bor Ty)). IfSome r (λ t. t.now ≡ get_or others (suc p - 1) t.now)) is read) in
     let there : slice_get others p ≡ Some t.now = slice_get_read others (length others) p t.now refl within same in
-    sym (ap (λ (o : Option AbstractType). unwrap_or o d) (slice_get-map type_view others p ∙ ap (option_map type_view) there))
+    sym (ap (λ (o : Option Ty). unwrap_or o d) there)
 
-pub type_nowhere : (d : AbstractType) (others : List Ty) (at : ℕ) (r : Option (Bor Ty)) → (at ≡ 0 → ⊥) → r ≡ None → is_some r ≡ ltb (at - 1) (length others) → d ≡ type_at d (map type_view others) at
+pub type_nowhere : (d : Ty) (others : List Ty) (at : ℕ) (r : Option (Bor Ty)) → (at ≡ 0 → ⊥) → r ≡ None → is_some r ≡ ltb (at - 1) (length others) → d ≡ type_at d others at
 type_nowhere d others zero r other is inside = absurd (other refl)
 type_nowhere d others (suc p) r other is inside =
     let back : suc p - 1 ≡ p = omega arith in
     let past : length others ≤ p = ltb-false p (length others) (sym (sym (ap is_some is) ∙ inside ∙ ap (λ (n : ℕ). ltb n (length others)) back)) in
-    sym (ap (λ (o : Option AbstractType). unwrap_or o d) (slice_get_past (map type_view others) p (omega (arith, past, length-map others type_view))))
-
--- the same of types that are copies of these
-pub copied : (declared copy : AbstractType) (rules others copies : List AbstractType) (places : List ℕ) → copy ≡ declared → copies ≡ others → types_at declared others places ≡ rules
-    → AreConsistent declared rules → AreConsistent copy (types_at copy copies places)
-copied declared copy rules others copies places same all told c =
-    let e : types_at copy copies places ≡ rules = ap (λ (t : AbstractType). types_at t copies places) same ∙ ap (λ (ts : List AbstractType). types_at declared ts places) all ∙ told in
-    subst (λ (t : AbstractType). AreConsistent t (types_at copy copies places)) (sym same) (subst (λ (ts : List AbstractType). AreConsistent declared ts) (sym e) c)
-
-pub copied_stands : (nodes : Nodes) (declared copy : AbstractType) (rules others copies : List AbstractType) (places : List ℕ) → copy ≡ declared → copies ≡ others → types_at declared others places ≡ rules
-    → StandsFor nodes declared rules → StandsFor nodes copy (types_at copy copies places)
-copied_stands nodes declared copy rules others copies places same all told s =
-    let e : types_at copy copies places ≡ rules = ap (λ (t : AbstractType). types_at t copies places) same ∙ ap (λ (ts : List AbstractType). types_at declared ts places) all ∙ told in
-    subst (λ (t : AbstractType). StandsFor nodes t (types_at copy copies places)) (sym same) (subst (λ (ts : List AbstractType). StandsFor nodes declared ts) (sym e) s)
+    sym (ap (λ (o : Option Ty). unwrap_or o d) (slice_get_past others p past))

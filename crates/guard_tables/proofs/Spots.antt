@@ -9,10 +9,10 @@ use Rattle.guard_tables.specs.declared.node.Cold.{Cold}
 use Rattle.guard_tables.specs.declared.node.Kind.{Kind}
 use Rattle.guard_tables.specs.declared.node.Kind.TheVariants as kind
 use Rattle.guard_tables.specs.declared.node_list.Nodes.{Nodes}
-use Rattle.guard_tables.specs.NodeViews.{raise_view, side_of}
+use Rattle.guard_tables.specs.NodeViews.{raise_view}
 use Rattle.guard_tables.specs.NodesView.{spots_in}
 use Rattle.guard_tables.specs.Plan.{Plan, plan, series, set, choice, list, set_of, asked, formula, part, body_in, tags_in, form_in}
-use Rattle.guard_tables.specs.TableNodes.{Spot, spot_at, spot_of, spots_from, spots_of, blank, body_of_kind, tags_of_kind, form_of_kind, own_tags, conditions_of, parts_between, parts_of, IsNode, has_inner}
+use Rattle.guard_tables.specs.TableNodes.{Spot, side_of, spot_at, spot_of, spots_from, spots_of, blank, body_of_kind, tags_of_kind, form_of_kind, own_tags, conditions_of, parts_between, parts_of, IsNode, has_inner}
 
 -- ---- a front of a list
 

@@ -6,6 +6,7 @@ pub mod Slots
 pub mod Formulas
 pub mod Plan
 pub mod Marking
+pub mod Segments
 pub mod Standing
 pub mod MarkingLaws
 -- ---- how what is asked is tested at a node
@@ -21,7 +22,6 @@ pub mod TableNodes
 pub mod NodesView
 -- ---- why there is no table, and what a table is
 pub mod Tables
-pub mod SharedTypes
 pub mod TableView
 pub mod Alike
 -- ---- what plans of tables fail

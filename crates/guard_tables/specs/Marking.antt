@@ -1,5 +1,5 @@
 -- What has failed once a value has passed a plan.
-use Rattle.std.specs.Prelude.{ℕ, zero, suc, ℤ, Bool, false, ◌&&◌, List, [], ◌∷◌, Option, Some, None, int_le}
+use Rattle.std.specs.Prelude.{ℕ, zero, suc, ℤ, Bool, true, false, ◌&&◌, List, [], ◌∷◌, Option, Some, None, int_le}
 use Rattle.std.specs.List.{list_any, list_all}
 use Rattle.guard_model.specs.AbstractType as type
 use Rattle.guard_model.specs.AbstractType.{AbstractType, AbstractKind, Components, type_of, no_components, component}
@@ -60,6 +60,15 @@ test_passes (spelled test) f = list_all test f.characters
 abbrev pub conditions_marked : List AbstractCondition → Facts → Slots → Slots
 conditions_marked [] f m = m
 conditions_marked (c ∷ cs) f m = conditions_marked cs f (failed_unless (test_passes c.test f) c.slots m)
+
+abbrev pub is_on_number : AbstractTest → Bool
+is_on_number (numbers test) = true
+is_on_number (sizes test) = false
+is_on_number (stored os) = false
+is_on_number (spelled test) = false
+
+abbrev pub are_on_numbers : List AbstractCondition → Bool
+are_on_numbers cs = list_all (λ c. is_on_number c.test) cs
 
 -- ---- all kinds
 

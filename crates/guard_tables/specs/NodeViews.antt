@@ -1,16 +1,14 @@
 -- What a node of the code says, without where it lies in memory.
-use Rattle.std.specs.Prelude.{ℕ, ℤ, pos, ◌+◌, ◌*◌, Bool, true, not, List, [], ◌∷◌, map, nat_lt, Option, Some, None, option_map, if◌then◌else◌}
+use Rattle.std.specs.Prelude.{ℕ, ℤ, pos, ◌+◌, ◌*◌, Bool, true, not, List, [], ◌∷◌, map, nat_lt, Option, Some, None, if◌then◌else◌}
 use Rattle.guard_model.specs.declared.tag.Tag.{Tag}
 use Rattle.guard_model.specs.Tags.{class_rank}
 use Rattle.guard_model.specs.AbstractType as type
 use Rattle.guard_model.specs.AbstractType.{AbstractKind, NamedNumber}
 use Rattle.guard_der.specs.Element.{form_bit}
-use Rattle.guard_tables.specs.declared.node.Cold.{Cold}
 use Rattle.guard_tables.specs.declared.node.Condition.{Condition}
 use Rattle.guard_tables.specs.declared.node.Form.{Form}
 use Rattle.guard_tables.specs.declared.node.Form.TheFolds.{fold-Form}
 use Rattle.guard_tables.specs.declared.node.Form.TheOpen.{Form-F}
-use Rattle.guard_tables.specs.declared.node.Hot.{Hot}
 use Rattle.guard_tables.specs.declared.node.Need.{Need}
 use Rattle.guard_tables.specs.declared.node.Need.TheVariants as need
 use Rattle.guard_tables.specs.declared.node.Raise.{Raise}
@@ -23,7 +21,7 @@ use Rattle.guard_tables.specs.Slots.{none}
 use Rattle.guard_eval.specs.Elements.{is_in_some}
 use Rattle.guard_tables.specs.Formulas as formulas
 use Rattle.guard_tables.specs.Marking.{is_in_one}
-use Rattle.guard_tables.specs.Plan.{AbstractTest, numbers, sizes, stored, spelled, AbstractCondition, Side}
+use Rattle.guard_tables.specs.Plan.{AbstractTest, numbers, sizes, stored, spelled, AbstractCondition}
 
 -- names don't count
 abbrev pub unnamed : ℤ → NamedNumber
@@ -70,9 +68,6 @@ abbrev pub absence_of : Need → Slots → Option Slots
 absence_of need.Mandatory slots = None
 absence_of need.Free slots = Some none
 absence_of need.Costs slots = Some slots
-
-abbrev pub side_of : Hot → Cold → Side
-side_of h c = record { absent = absence_of h.need c.absent; present = c.present; default = option_map (λ v. v.items) c.default }
 
 -- ---- identifier octets
 

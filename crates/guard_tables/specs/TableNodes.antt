@@ -1,5 +1,5 @@
 -- How the nodes of a table stand for plans: parts before wholes, so that each stands for what those before it make of it.
-use Rattle.std.specs.Prelude.{ℕ, ◌+◌, ◌<◌, ◌≤◌, ◌≡◌, ◌≤ℤ◌, Bool, true, false, List, [], ◌∷◌, ◌++◌, length, take, drop, map, slice_get, get_or, Option, Some, None}
+use Rattle.std.specs.Prelude.{ℕ, ◌+◌, ◌<◌, ◌≤◌, ◌≡◌, ◌≤ℤ◌, Bool, true, false, List, [], ◌∷◌, ◌++◌, length, take, drop, map, slice_get, get_or, Option, Some, None, option_map}
 use Rattle.std.specs.Option.{is_none}
 use Rattle.guard_model.specs.declared.tag.Tag.{Tag}
 use Rattle.guard_model.specs.AbstractType as type
@@ -14,7 +14,7 @@ use Rattle.guard_tables.specs.declared.slots.Slots.{Slots}
 use Rattle.guard_tables.specs.Slots.{none}
 use Rattle.guard_tables.specs.Plan.{AbstractCondition, Side, Plan, Body, Parts, plan, simple, series, set, choice, list, set_of, asked, formula, no_parts, part, body_in, tags_in, form_in}
 use Rattle.guard_tables.specs.Marking.{facts, conditions_marked}
-use Rattle.guard_tables.specs.NodeViews.{kind_view, condition_view, raise_view, side_of, identifier_of, other_of}
+use Rattle.guard_tables.specs.NodeViews.{kind_view, condition_view, raise_view, absence_of, identifier_of, other_of}
 
 -- ---- what nodes stand for
 
@@ -41,7 +41,7 @@ abbrev pub parts_between : List Spot → ℕ → ℕ → Parts
 parts_between spots first count = parts_of (take count (drop first spots))
 
 abbrev pub conditions_of : Cold → List AbstractCondition
-conditions_of c = map condition_view c.conditions.items
+conditions_of c = map condition_view c.conditions.list.items
 
 abbrev pub body_of_kind : Kind → Hot → Cold → List Spot → Body
 body_of_kind (kind.Simple k) h c spots = simple (kind_view k c.items.items) (conditions_of c)
@@ -81,6 +81,9 @@ form_of_kind kind.SetOf inner = true
 form_of_kind kind.Wrapper inner = inner
 form_of_kind kind.Asked inner = inner
 form_of_kind kind.Formula inner = inner
+
+abbrev pub side_of : Hot → Cold → Side
+side_of h c = record { absent = absence_of h.need c.absent; present = c.present; default = option_map (λ v. v.items) c.default }
 
 unfoldable pub spot_of : Hot → Cold → List Spot → Spot
 spot_of h c spots = record {
@@ -144,7 +147,7 @@ pub record IsNode (h : Hot) (c : Cold) (spots : List Spot) (k : ℕ) : Type 0 wh
   pub other : h.other ≡ other_of (tags_in (spot_of h c spots).plan) (form_in (spot_of h c spots).plan)
   -- a node that isn't watched has no default, and its presence costs nothing
   pub unwatched : h.watched ≡ false → (is_none c.default ≡ true) × (c.present ≡ none)
-  pub unasked : h.asked ≡ false → c.conditions.items ≡ []
+  pub unasked : h.asked ≡ false → c.conditions.list.items ≡ []
   pub plain : IsPlain h (spot_of h c spots)
 
 pub record IsBuilt (hots : List Hot) (colds : List Cold) : Type 0 where

@@ -3,14 +3,13 @@ use Rattle.std.specs.Prelude.{List, ◌∷◌, map}
 use Rattle.guard_model.specs.AbstractType.{AbstractType}
 use Rattle.guard_model.specs.TypeView.{type_view}
 use Rattle.guard_tables.specs.declared.table.Table.{Table}
-use Rattle.guard_tables.specs.SharedTypes.{types_at}
 
 abbrev pub declared_of : Table → AbstractType
-declared_of table = type_view table.declared
+declared_of table = type_view table.types.0
 
--- in order; each type is kept once
+-- in order
 abbrev pub rules_of : Table → List AbstractType
-rules_of table = types_at (declared_of table) (map type_view table.others.items) table.places.items
+rules_of table = map type_view table.types.1
 
 -- the list of its types: the declared one, then those of the rules
 abbrev pub table_types : Table → List AbstractType

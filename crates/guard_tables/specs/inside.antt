@@ -17,3 +17,4 @@ pub mod Laid
 pub mod Giving
 pub mod SameParts
 pub mod Sharing
+pub mod SharedTypes

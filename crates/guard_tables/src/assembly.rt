@@ -8,10 +8,11 @@ ghost use Rattle.guard_tables.specs.inside.Aside.{AreNodes, spots_at};
 ghost use Rattle.guard_tables.specs.inside.Laid.{Lays, Stacks, WithPart, MayCome, plan_in, parts_in, body_of_group, body_of_elements, spots_so_far};
 ghost use Rattle.guard_tables.specs.inside.SideViews.{part_side_view};
 
+use crate::conditions_list::Conditions;
 use crate::drafts::{Elements, Group, Node, bare, group_node, with_side};
 use crate::identifiers::{Identifiers, identifiers_of};
 use crate::laid::{Laid, LaidParts};
-use crate::node::{Condition, Kind, Raise};
+use crate::node::{Kind, Raise};
 use crate::node_list::Builder;
 use crate::sides::PartSide;
 use guard_model::{OutOfMemory, Tag};
@@ -49,12 +50,12 @@ fn small(number: usize) -> Result<u32, OutOfMemory>
 pub(crate) fn with_conditions(
     laid: Laid,
     alloc: Global,
-    conditions: Vec<Condition>,
+    conditions: Conditions,
 ) -> Result<Laid, OutOfMemory>
     ensures { IfOk result (λ l. Lays laid.builder l (plans.plan (tags_in (plan_in laid)) (form_in (plan_in laid))
-        (asked_of (map condition_view conditions.items) (body_in (plan_in laid))))) }
+        (asked_of (map condition_view conditions.list.items) (body_in (plan_in laid))))) }
 {
-    if conditions.is_empty() {
+    if conditions.list.is_empty() {
         return Ok(laid);
     }
     let identifiers = Identifiers {

@@ -16,6 +16,7 @@ ghost use Rattle.guard_tables.specs.Plan.{numbers};
 ghost use Rattle.guard_tables.specs.inside.AskViews.{atom_view, terms_view};
 
 use crate::asks::{Atom, Term};
+use crate::conditions_list::Conditions;
 use crate::encoded::if_short;
 use crate::node::{Condition, Range, Test};
 use crate::scalars::{Scalar, has_scalar};
@@ -35,7 +36,15 @@ pub(crate) fn conditions_of(
     alloc: Global,
     kind: &Kind,
     terms: &[Term<'_>],
-) -> Result<Vec<Condition>, OutOfMemory>
+) -> Result<Conditions, OutOfMemory>
+    requires { AllSpeak (kind_view kind.now) (terms_view terms.now) }
+    ensures { IfOk result (λ cs. map condition_view cs.list.items ≡ conditions_of (kind_view kind.now) (terms_view terms.now)) }
+{
+    let list = list_of(alloc, kind, terms)?;
+    Conditions::new(alloc, list)
+}
+
+fn list_of(alloc: Global, kind: &Kind, terms: &[Term<'_>]) -> Result<Vec<Condition>, OutOfMemory>
     requires { AllSpeak (kind_view kind.now) (terms_view terms.now) }
     ensures { IfOk result (λ cs. map condition_view cs.items ≡ conditions_of (kind_view kind.now) (terms_view terms.now)) }
 {

@@ -10,8 +10,9 @@ ghost use Rattle.guard_tables.specs.inside.Bare.{bare_hot, plain_hot, IsBare, ki
 ghost use Rattle.guard_tables.specs.inside.Laid.{body_of_group, is_exclusive};
 ghost use Rattle.guard_tables.specs.inside.SideViews.{part_side_view};
 
+use crate::conditions_list::Conditions;
 use crate::identifiers::{Identifiers, identifiers_of};
-use crate::node::{Cold, Condition, Hot, Kind, Need, SimpleKind};
+use crate::node::{Cold, Hot, Kind, Need, SimpleKind};
 use crate::plain_interval::{Interval, plain_interval};
 use crate::sides::PartSide;
 use crate::slots::Slots;
@@ -102,7 +103,7 @@ pub(crate) fn bare(
         cold: Cold {
             tag: None,
             items: Vec::new(alloc),
-            conditions: Vec::new(alloc),
+            conditions: Conditions::none(alloc),
             absent: Slots::none(),
             present: Slots::none(),
             default: None,
@@ -116,12 +117,12 @@ pub(crate) fn simple_node(
     alloc: Global,
     kind: SimpleKind,
     items: Vec<i128>,
-    conditions: Vec<Condition>,
+    conditions: Conditions,
     tag: Option<Tag>,
 ) -> Node
     ensures node { (spots : List Spot) (k : ℕ) → IsNode result.hot result.cold spots k }
     ensures plan { (spots : List Spot) → (spot_of result.hot result.cold spots).plan
-        ≡ plans.plan (own_tags tag) false (plans.simple (views.kind_view kind items.items) (map condition_view conditions.items)) }
+        ≡ plans.plan (own_tags tag) false (plans.simple (views.kind_view kind items.items) (map condition_view conditions.list.items)) }
 {
     with_plain(asking_node(alloc, kind, items, conditions, tag))
 }
@@ -131,14 +132,14 @@ fn asking_node(
     alloc: Global,
     kind: SimpleKind,
     items: Vec<i128>,
-    conditions: Vec<Condition>,
+    conditions: Conditions,
     tag: Option<Tag>,
 ) -> Node
     ensures node { (spots : List Spot) (k : ℕ) → IsNode result.hot result.cold spots k }
     ensures plan { (spots : List Spot) → (spot_of result.hot result.cold spots).plan
-        ≡ plans.plan (own_tags tag) false (plans.simple (views.kind_view kind items.items) (map condition_view conditions.items)) }
+        ≡ plans.plan (own_tags tag) false (plans.simple (views.kind_view kind items.items) (map condition_view conditions.list.items)) }
 {
-    let asked = !conditions.is_empty();
+    let asked = !conditions.list.is_empty();
     let mut node = bare(
         alloc,
         Kind::Simple(kind),

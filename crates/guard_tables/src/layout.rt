@@ -24,12 +24,12 @@ use crate::assembly::{
     with_tags,
 };
 use crate::conditions_at_node::conditions_of;
+use crate::conditions_list::Conditions;
 use crate::drafts::{Elements, Group, simple_node};
 use crate::gathering::{each_of, within_of};
 use crate::giving::give_out;
 use crate::kinds_of_nodes::{item_numbers, simple_kind};
 use crate::laid::{Laid, LaidParts};
-use crate::node::Condition;
 use crate::node_list::{Builder, Nodes};
 use crate::plain::are_plain_asks;
 use crate::presence::{absent_of, chosen_of, present_of};
@@ -149,12 +149,12 @@ fn lay_simple(
     kind: &Kind,
     alloc: Global,
     tag: Option<Tag>,
-    conditions: Vec<Condition>,
+    conditions: Conditions,
     builder: Builder,
 ) -> Result<Laid, OutOfMemory>
     requires { der.is_constructed (kind_view kind.now) ≡ false }
     ensures { IfOk result (λ l. Lays builder l (plans.plan (own_tags tag) false
-        (plans.simple (plan.nameless (kind_view kind.now)) (map condition_view conditions.items)))) }
+        (plans.simple (plan.nameless (kind_view kind.now)) (map condition_view conditions.list.items)))) }
 {
     let items = item_numbers(alloc, kind)?;
     let node = simple_node(alloc, simple_kind(kind), items, conditions, tag);
@@ -169,11 +169,11 @@ fn lay_elements(
     elements: Elements,
     terms: &[Term<'_>],
     tag: Option<Tag>,
-    conditions: Vec<Condition>,
+    conditions: Conditions,
     builder: Builder,
 ) -> Result<Laid, OutOfMemory>
     requires { MayBeLaid (type_view element.now) (each_of (terms_view terms.now)) }
-    ensures { IfOk result (λ l. Lays builder l (plans.plan (own_tags tag) true (asked_of (map condition_view conditions.items)
+    ensures { IfOk result (λ l. Lays builder l (plans.plan (own_tags tag) true (asked_of (map condition_view conditions.list.items)
         (body_of_elements elements (plan.lay (type_view element.now) (each_of (terms_view terms.now))))))) }
 {
     let asks = each_of(alloc, terms)?;
@@ -190,11 +190,11 @@ fn lay_group(
     group: Group,
     terms: &[Term<'_>],
     tag: Option<Tag>,
-    conditions: Vec<Condition>,
+    conditions: Conditions,
     builder: Builder,
 ) -> Result<Laid, OutOfMemory>
     requires { PartsMayBeLaid 0 (components_of (map component_view comps.now)) (terms_view terms.now) }
-    ensures { IfOk result (λ l. Lays builder l (plans.plan (own_tags tag) true (asked_of (map condition_view conditions.items)
+    ensures { IfOk result (λ l. Lays builder l (plans.plan (own_tags tag) true (asked_of (map condition_view conditions.list.items)
         (body_of_group group (parts_of_group group 0 (components_of (map component_view comps.now)) (terms_view terms.now)))))) }
 {
     let parts = lay_each(comps, alloc, group, terms, builder)?;

@@ -2,14 +2,15 @@
 //!
 //! | question | code | definition |
 //! |---|---|---|
-//! | What is a table, and which types make one? | `table.rt` (`Table::compile`) | `specs/TableView.antt`, `specs/Tables.antt` |
+//! | What is a table, and which types make one? | `table.rt` (`Table::compile`), its types `kept_types.rt` | `specs/TableView.antt`, `specs/Tables.antt` |
 //! | Why do types make none, and which reason comes first? | `fault.rt` | `specs/Tables.antt` |
 //! | What is asked of a value at a node, and how much is too much? | `conditions.rt` | `specs/Conditions.antt`, as it is counted `specs/inside/Counting.antt` |
 //! | At which nodes is that looked at, and what is laid on parts? | `nodes.rt`, `handing_down.rt` | `specs/Conditions.antt`, as it is looked for `specs/inside/Search.antt`, `specs/inside/HandingDown.antt` |
-//! | Which types does a table keep once, and what do they ask together? | `sharing.rt`, `same_types.rt` | `specs/SharedTypes.antt`, `specs/inside/Sharing.antt`, `specs/inside/SameParts.antt` |
+//! | Which types does a table keep once, and what do they ask together? | `sharing.rt`, `same_types.rt` | `specs/inside/SharedTypes.antt`, `specs/inside/Sharing.antt`, `specs/inside/SameParts.antt` |
 //! | Which slots have failed? | `slots.rt` | `specs/Slots.antt` |
 //! | How are the nodes of a table put together? | `layout.rt` (`lay_nodes`), a node `drafts.rt`, `kinds_of_nodes.rt`, `identifiers.rt`, steps `assembly.rt`, `laid.rt` | `specs/Lay.antt`, `specs/inside/Laid.antt`, `specs/inside/Bare.antt`, `specs/inside/Aside.antt` |
 //! | Which tests has a node, and what is said of a component beside its type? | `conditions_at_node.rt`, `sides.rt`, octets `encoded.rt` | `specs/Lay.antt`, `specs/inside/SideViews.antt` |
+//! | What fails for a number of many conditions on one number? | `conditions_list.rt` (`Conditions::failed_at`), `segments.rt` | `specs/Marking.antt`, `specs/Segments.antt` |
 //! | Which numbers fail nothing at a node? | `plain_interval.rt` | `specs/TableNodes.antt` (`IsFree`), `specs/inside/Intervals.antt` |
 //! | What do nodes stand for, and what fails at a value? | laws `marking_laws.rt` | `specs/Plan.antt`, `specs/Formulas.antt`, `specs/Marking.antt` |
 //! | For which types does a plan stand, and for which a table's nodes? | `table.rt` | `specs/Standing.antt`, `specs/StandsFor.antt` |
@@ -25,6 +26,7 @@ mod asks_at_node;
 mod assembly;
 mod conditions;
 mod conditions_at_node;
+mod conditions_list;
 mod drafts;
 mod encoded;
 mod fault;
@@ -34,6 +36,7 @@ mod gathering;
 mod giving;
 mod handing_down;
 mod identifiers;
+mod kept_types;
 mod kinds_of_nodes;
 mod laid;
 pub mod laws;
@@ -50,6 +53,7 @@ mod presence;
 mod range_lists;
 mod same_types;
 mod scalars;
+mod segments;
 mod sharing;
 mod sides;
 mod simple_tests;
@@ -57,7 +61,9 @@ mod slots;
 mod spreading;
 mod table;
 
+pub use conditions_list::Conditions;
 pub use fault::TableFault;
+pub use kept_types::KeptTypes;
 pub use node::{Cold, Condition, Form, Hot, Kind, Need, Raise, Range, SimpleKind, Test};
 pub use node_list::{Builder, Nodes};
 pub use slots::Slots;

@@ -1,4 +1,5 @@
 //! The nodes of a table: what every message reads of one, and what few do.
+use crate::conditions_list::Conditions;
 use crate::slots::Slots;
 use guard_model::{CharKind, Tag};
 
@@ -72,7 +73,7 @@ pub struct Cold {
     pub tag: Option<Tag>,
     /// The numbers of the items of an ENUMERATED.
     pub items: Vec<i128>,
-    pub conditions: Vec<Condition>,
+    pub conditions: Conditions,
     /// What fails where it isn't there, and where it is.
     pub absent: Slots,
     pub present: Slots,

@@ -5,11 +5,12 @@ ghost use Rattle.guard_model.specs.TypeView.{type_view};
 ghost use Rattle.guard_model.specs.Tags.{same_tag};
 ghost use Rattle.guard_der.specs.Sound.{is_sound};
 ghost use Rattle.guard_tables.specs.Alike.{AreConsistent};
-ghost use Rattle.guard_tables.specs.SharedTypes.{type_at, types_at};
+ghost use Rattle.guard_tables.specs.inside.SharedTypes.{types_at};
 ghost use Rattle.guard_tables.specs.StandsFor.{StandsFor};
 ghost use Rattle.guard_tables.specs.Tables.{types_view, is_match, first_mismatch, first_fault, named, most_rules};
 
 use crate::fault::TableFault;
+use crate::kept_types::KeptTypes;
 use crate::layout::lay_nodes;
 use crate::node_list::Nodes;
 use crate::nodes::has_crowded_node;
@@ -21,17 +22,13 @@ use std::alloc::Global;
 const MOST_RULES: usize = 255;
 
 /// The types by which messages of one name are judged: the declared one, and one for each rule. Its nodes ask all of them
-/// at once, the declared type with slot 0 and rule i with slot i + 1. A type is kept once, however many rules have it.
+/// at once, the declared type with slot 0 and rule i with slot i + 1.
 #[derive(Drop)]
 pub struct Table {
-    declared: Ty,
-    /// The types of rules that aren't the declared one, each once.
-    others: Vec<Ty>,
-    /// Of each rule the place of its type: 0 is the declared one's, and i + 1 that of the other at i.
-    places: Vec<usize>,
+    pub types: KeptTypes,
     pub nodes: Nodes,
-    pub ghost consistent: { AreConsistent (type_view declared) (types_at (type_view declared) (map type_view others.items) places.items) },
-    pub ghost stands: { ∥ StandsFor nodes (type_view declared) (types_at (type_view declared) (map type_view others.items) places.items) ∥₁ },
+    pub ghost consistent: { AreConsistent (type_view types.0) (map type_view types.1) },
+    pub ghost stands: { ∥ StandsFor nodes (type_view types.0) (map type_view types.1) ∥₁ },
 }
 
 /// The nodes of types, with these each once.
@@ -65,10 +62,10 @@ impl Table {
     {
         find_fault(alloc, declared, rules)?;
         let compiled = nodes_of(alloc, declared, rules)?;
+        let copy = declared.copy(alloc)?;
+        let others = copy_of_types(alloc, &compiled.others)?;
         Ok(Table {
-            declared: declared.copy(alloc)?,
-            others: copy_of_types(alloc, &compiled.others)?,
-            places: compiled.places,
+            types: KeptTypes::new(copy, others, compiled.places),
             nodes: compiled.nodes,
         })
     }
@@ -78,7 +75,7 @@ impl Table {
         ensures declared { type_view result.now ≡ declared_of self.now }
         ensures sound { IsTrue (is_sound (type_view result.now)) }
     {
-        &self.declared
+        self.types.declared()
     }
 
     /// The type of the rule at this place, from 0; None where there are no more rules.
@@ -86,22 +83,7 @@ impl Table {
         ensures rule { option_map (λ t. type_view t.now) result ≡ slice_get (rules_of self.now) place }
         ensures sound { IfSome result (λ t. IsTrue (is_sound (type_view t.now))) }
     {
-        match self.places.get(place) {
-            Some(at) => Some(self.type_at(*at)),
-            None => None,
-        }
-    }
-
-    fn type_at(&self, at: usize) -> &Ty
-        ensures { type_view result.now ≡ type_at (type_view self.now.declared) (map type_view self.now.others.items) at }
-    {
-        if at == 0 {
-            return &self.declared;
-        }
-        match self.others.get(at - 1) {
-            Some(ty) => ty,
-            None => &self.declared,
-        }
+        self.types.rule(place)
     }
 
     /// How many rules there are, at most 255.
@@ -109,7 +91,7 @@ impl Table {
         ensures rules { result ≡ length (rules_of self.now) }
         ensures few { result ≤ most_rules }
     {
-        self.places.len()
+        self.types.rules()
     }
 }
 

@@ -1,37 +1,16 @@
+-- Lemmas, in reading order. What the checker asks for of a function is in folders with the names of src/.
+
 -- ---- single values
-pub mod ReadNumbers
-pub mod Digits
-pub mod Texts
-pub mod ReadArcs
-pub mod NamedBits
+pub mod SingleValues
 -- ---- elements of a SET OF
-pub mod Sorting
-pub mod Ascending
-pub mod Encodings
--- ---- components
-pub mod Find
-pub mod Slots
-pub mod Proper
-pub mod Steps
--- ---- what a tree says is what is read
-pub mod AgainFields
-pub mod Again
--- ---- what is read is what a tree says
-pub mod Said
+pub mod SetOf
+-- ---- entries in braces, as the code reads them
+pub mod Braces
+-- ---- what is read is what the tree denotes
+pub mod Denoted
 -- ---- faults
-pub mod Told
-pub mod Standing
-pub mod Refusals
--- ---- what a tree says fits
-pub mod FitsBits
-pub mod FitsArcs
-pub mod FitsSaid
--- ---- whole values
-pub mod Whole
+pub mod FirstFaults
+-- ---- what is denoted fits
+pub mod Fitting
 -- ---- one answer
-pub mod Lengths
-pub mod Exact
--- ---- laws
-pub mod AnyOrder
--- ---- names
-pub mod Visible
+pub mod OneAnswer

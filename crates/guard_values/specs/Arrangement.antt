@@ -15,13 +15,13 @@ abbrev pub encoding_in : AbstractType → AbstractValue → List ℕ
 encoding_in t v = octets_in (der t v)
 
 -- the first descends to the second, by their encodings
-abbrev pub comes_behind : AbstractType → AbstractValue → AbstractValue → Bool
-comes_behind t v w = descends (encoding_in t v) (encoding_in t w)
+abbrev pub comes_after : AbstractType → AbstractValue → AbstractValue → Bool
+comes_after t v w = descends (encoding_in t v) (encoding_in t w)
 
 -- before the first one that doesn't come before it
 abbrev pub inserted : AbstractType → AbstractValue → List AbstractValue → List AbstractValue
 inserted t v [] = v ∷ []
-inserted t v (w ∷ ws) = if comes_behind t v w then w ∷ inserted t v ws else v ∷ w ∷ ws
+inserted t v (w ∷ ws) = if comes_after t v w then w ∷ inserted t v ws else v ∷ w ∷ ws
 
 abbrev pub arranged : AbstractType → List AbstractValue → List AbstractValue
 arranged t [] = []

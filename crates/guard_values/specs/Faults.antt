@@ -1,4 +1,4 @@
--- Why a written value denotes nothing: for each fault, the condition that stands at its site.
+-- Why a written value denotes nothing: for each fault, the condition that holds at its site.
 use Rattle.std.specs.Prelude.{◌≡◌, ℕ, suc, ℤ, Bool, true, false, ◌&&◌, ◌||◌, not, List, [], ◌∷◌, nat_lt, nat_le, Option, Some, None, is_some, IsTrue, ◌⊎◌}
 use Rattle.std.specs.Option.{option_map, is_none}
 use Rattle.guard_model.specs.declared.site.Site.{Site}
@@ -22,7 +22,7 @@ use Rattle.guard_values.specs.Denotes.{alternatives_of, Says}
 
 -- ---- the values inside a value, each with its governor
 
--- the type under which an entry's value stands
+-- the type of an entry's value
 abbrev pub entry_type : AbstractKind → Option (List ℕ) → Option AbstractType
 entry_type (type.sequence cs) (Some name) = option_map (λ l. l.ty) (located name cs)
 entry_type (type.set cs) (Some name) = option_map (λ l. l.ty) (located name cs)
@@ -30,7 +30,7 @@ entry_type (type.sequence_of t) None = Some t
 entry_type (type.set_of t) None = Some t
 entry_type _ _ = None
 
--- the type under which a chosen value stands
+-- the type of a chosen value
 abbrev pub chosen_type : AbstractKind → List ℕ → Option AbstractType
 chosen_type kind name = option_map (λ l. l.ty) (located name (alternatives_of kind))
 
@@ -46,7 +46,8 @@ abbrev mutual
 
   pub InEntry : (AbstractType → WrittenValue → Type 0) → AbstractKind → WrittenEntries → Type 0
   InEntry P kind no_entries = ⊥
-  InEntry P kind (entry site name tree rest) = ((u : AbstractType) × (entry_type kind name ≡ Some u) × Somewhere P u tree) ⊎ InEntry P kind rest
+  InEntry P kind (entry site name tree rest) =
+      ((u : AbstractType) × (entry_type kind name ≡ Some u) × Somewhere P u tree) ⊎ InEntry P kind rest
 
 -- ---- V1
 
@@ -56,7 +57,8 @@ are_too_few_arcs no_entries = true
 are_too_few_arcs (entry site None (value_node number (written.integer n)) no_entries) = not n.minus
 are_too_few_arcs _ = false
 
--- strings of digits for BIT STRING and OCTET STRING (clauses 22 and 23), those in double quotes for character strings (clause 41)
+-- strings of digits for BIT STRING and OCTET STRING (clauses 22 and 23), those in double quotes for character strings
+-- (clause 41)
 abbrev pub takes_string : AbstractKind → Bool → Bool
 takes_string (type.bit_string names) in_digits = in_digits
 takes_string type.octet_string in_digits = in_digits
@@ -94,40 +96,45 @@ takes kind (written.text string.Hexadecimal spelling) = takes_string kind true
 takes kind (written.list es) = takes_braces kind es
 takes _ _ = false
 
--- An entry for a component has a name before its value (clause 25), one of an OF type none (clauses 26 and 28), and one for a bit is a name alone (22.5).
-abbrev pub may_stand : AbstractKind → Option (List ℕ) → WrittenValue → Bool
-may_stand (type.sequence cs) label tree = is_some label
-may_stand (type.set cs) label tree = is_some label
-may_stand (type.sequence_of t) label tree = is_none label
-may_stand (type.set_of t) label tree = is_none label
-may_stand (type.bit_string []) label tree = true
-may_stand (type.bit_string (name ∷ names)) label tree = is_some (name_alone label tree)
-may_stand type.boolean label tree = true
-may_stand (type.integer ns) label tree = true
-may_stand type.octet_string label tree = true
-may_stand type.null label tree = true
-may_stand type.object_identifier label tree = true
-may_stand (type.enumerated items) label tree = true
-may_stand (type.characters k) label tree = true
-may_stand (type.choice cs) label tree = true
+-- An entry for a component has a name before its value (clause 25), one of an OF type none (clauses 26 and 28), and one
+-- for a bit is a name alone (22.5).
+abbrev pub takes_entry : AbstractKind → Option (List ℕ) → WrittenValue → Bool
+takes_entry (type.sequence cs) label tree = is_some label
+takes_entry (type.set cs) label tree = is_some label
+takes_entry (type.sequence_of t) label tree = is_none label
+takes_entry (type.set_of t) label tree = is_none label
+takes_entry (type.bit_string []) label tree = true
+takes_entry (type.bit_string (name ∷ names)) label tree = is_some (name_alone label tree)
+takes_entry type.boolean label tree = true
+takes_entry (type.integer ns) label tree = true
+takes_entry type.octet_string label tree = true
+takes_entry type.null label tree = true
+takes_entry type.object_identifier label tree = true
+takes_entry (type.enumerated items) label tree = true
+takes_entry (type.characters k) label tree = true
+takes_entry (type.choice cs) label tree = true
 
--- an entry at the site that may not stand there
+-- an entry at the site that the kind does not take
 abbrev pub HasWrongEntry : AbstractKind → WrittenEntries → Site → Type 0
 HasWrongEntry kind no_entries s = ⊥
-HasWrongEntry kind (entry site name tree rest) s = ((s ≡ site) × (may_stand kind name tree ≡ false)) ⊎ HasWrongEntry kind rest s
+HasWrongEntry kind (entry site name tree rest) s =
+    ((s ≡ site) × (takes_entry kind name tree ≡ false)) ⊎ HasWrongEntry kind rest s
 
 -- a visible value whose type has another base
 abbrev pub HasOtherBase : Meaning → AbstractType → List ℕ → Type 0
-HasOtherBase m t name = (own_number (kind_of t) name ≡ None) × ((g : Governed) × (m name ≡ Some g) × (visible_value t (Some g) ≡ None))
+HasOtherBase m t name =
+    (own_number (kind_of t) name ≡ None) × ((g : Governed) × (m name ≡ Some g) × (visible_value t (Some g) ≡ None))
 
 abbrev pub HasWrongPart : Meaning → AbstractType → Site → WrittenValueForm → Site → Type 0
 HasWrongPart m t site (written.reference name) s = (s ≡ site) × HasOtherBase m t name
 HasWrongPart m t site (written.list es) s = HasWrongEntry (kind_of t) es s
 HasWrongPart m t site _ s = ⊥
 
--- V1, at the value or at the entry that may not stand there: another form of notation than the type's, or a value of another base
+-- V1, at the value or at an entry that the kind does not take: another form of notation than the type's, or a value of
+-- another base
 abbrev pub IsWrongNotation : Meaning → Site → AbstractType → WrittenValue → Type 0
-IsWrongNotation m s t (value_node site form) = ((s ≡ site) × (takes (kind_of t) form ≡ false)) ⊎ HasWrongPart m t site form s
+IsWrongNotation m s t (value_node site form) =
+    ((s ≡ site) × (takes (kind_of t) form ≡ false)) ⊎ HasWrongPart m t site form s
 
 -- ---- V2
 
@@ -139,12 +146,14 @@ has_components _ = None
 abbrev pub HasUnknownEntry : Components → WrittenEntries → Site → Type 0
 HasUnknownEntry cs no_entries s = ⊥
 HasUnknownEntry cs (entry site None tree rest) s = HasUnknownEntry cs rest s
-HasUnknownEntry cs (entry site (Some name) tree rest) s = ((s ≡ site) × (located name cs ≡ None)) ⊎ HasUnknownEntry cs rest s
+HasUnknownEntry cs (entry site (Some name) tree rest) s =
+    ((s ≡ site) × (located name cs ≡ None)) ⊎ HasUnknownEntry cs rest s
 
 abbrev pub HasUnknownBit : List NamedNumber → WrittenEntries → Site → Type 0
 HasUnknownBit names no_entries s = ⊥
 HasUnknownBit names (entry site label tree rest) s =
-    ((s ≡ site) × ((name : List ℕ) × (name_alone label tree ≡ Some name) × (named_bit names name ≡ None))) ⊎ HasUnknownBit names rest s
+    ((s ≡ site) × ((name : List ℕ) × (name_alone label tree ≡ Some name) × (named_bit names name ≡ None)))
+    ⊎ HasUnknownBit names rest s
 
 -- in braces: no component, or no named bit
 abbrev pub HasUnknownName : AbstractKind → WrittenEntries → Site → Type 0
@@ -165,8 +174,10 @@ HasUnknownName (type.set_of t) es s = ⊥
 
 -- V2, at the name: it is neither in the type's own list nor visible, or no alternative, no component or no bit
 abbrev pub IsUnknownName : Meaning → Site → AbstractType → WrittenValue → Type 0
-IsUnknownName m s t (value_node site (written.reference name)) = (s ≡ site) × (own_number (kind_of t) name ≡ None) × (m name ≡ None)
-IsUnknownName m s t (value_node site (written.chosen name tree)) = (s ≡ site) × ((cs : Components) × (kind_of t ≡ type.choice cs) × (located name cs ≡ None))
+IsUnknownName m s t (value_node site (written.reference name)) =
+    (s ≡ site) × (own_number (kind_of t) name ≡ None) × (m name ≡ None)
+IsUnknownName m s t (value_node site (written.chosen name tree)) =
+    (s ≡ site) × ((cs : Components) × (kind_of t ≡ type.choice cs) × (located name cs ≡ None))
 IsUnknownName m s t (value_node site (written.list es)) = HasUnknownName (kind_of t) es s
 IsUnknownName m s t _ = ⊥
 
@@ -180,13 +191,15 @@ may_be_left_out _ = false
 -- a component from this place on that may not be left out, and is
 abbrev pub misses : List (Option ℕ) → ℕ → Components → Bool
 misses given i no_components = false
-misses given i (component name t presence rest) = (not (may_be_left_out presence) && not (is_among i given)) || misses given (suc i) rest
+misses given i (component name t presence rest) =
+    (not (may_be_left_out presence) && not (is_among i given)) || misses given (suc i) rest
 
--- an entry whose place stands in one of the entries before it
+-- an entry whose place one of the entries before it names
 abbrev pub HasRepeatedEntry : Components → List (Option ℕ) → WrittenEntries → Site → Type 0
 HasRepeatedEntry cs before no_entries s = ⊥
 HasRepeatedEntry cs before (entry site name tree rest) s =
-    ((s ≡ site) × ((i : ℕ) × (entry_place cs name ≡ Some i) × IsTrue (is_among i before))) ⊎ HasRepeatedEntry cs (entry_place cs name ∷ before) rest s
+    ((s ≡ site) × ((i : ℕ) × (entry_place cs name ≡ Some i) × IsTrue (is_among i before)))
+    ⊎ HasRepeatedEntry cs (entry_place cs name ∷ before) rest s
 
 abbrev pub is_past : ℕ → Option ℕ → Bool
 is_past i None = false
@@ -200,22 +213,26 @@ is_below_some i (p ∷ ps) = is_past i p || is_below_some i ps
 abbrev pub HasLateEntry : Components → List (Option ℕ) → WrittenEntries → Site → Type 0
 HasLateEntry cs before no_entries s = ⊥
 HasLateEntry cs before (entry site name tree rest) s =
-    ((s ≡ site) × ((i : ℕ) × (entry_place cs name ≡ Some i) × IsTrue (is_below_some i before))) ⊎ HasLateEntry cs (entry_place cs name ∷ before) rest s
+    ((s ≡ site) × ((i : ℕ) × (entry_place cs name ≡ Some i) × IsTrue (is_below_some i before)))
+    ⊎ HasLateEntry cs (entry_place cs name ∷ before) rest s
 
 -- V3, at the brace: a component without an entry, neither OPTIONAL nor with a DEFAULT (clause 25)
 abbrev pub IsMissingComponent : Site → AbstractType → WrittenValue → Type 0
 IsMissingComponent s t (value_node site (written.list es)) =
-    (s ≡ site) × ((cs : Components) × (has_components (kind_of t) ≡ Some cs) × IsTrue (misses (entry_places cs es) 0 cs))
+    (s ≡ site) × ((cs : Components) × (has_components (kind_of t) ≡ Some cs)
+    × IsTrue (misses (entry_places cs es) 0 cs))
 IsMissingComponent s t _ = ⊥
 
 -- V4, at the second name of a component
 abbrev pub IsRepeatedComponent : Site → AbstractType → WrittenValue → Type 0
-IsRepeatedComponent s t (value_node site (written.list es)) = (cs : Components) × (has_components (kind_of t) ≡ Some cs) × HasRepeatedEntry cs [] es s
+IsRepeatedComponent s t (value_node site (written.list es)) =
+    (cs : Components) × (has_components (kind_of t) ≡ Some cs) × HasRepeatedEntry cs [] es s
 IsRepeatedComponent s t _ = ⊥
 
 -- V5, at the name: in a SEQUENCE the component comes before one that is named before it (clause 25)
 abbrev pub IsOutOfOrder : Site → AbstractType → WrittenValue → Type 0
-IsOutOfOrder s t (value_node site (written.list es)) = (cs : Components) × (kind_of t ≡ type.sequence cs) × HasLateEntry cs [] es s
+IsOutOfOrder s t (value_node site (written.list es)) =
+    (cs : Components) × (kind_of t ≡ type.sequence cs) × HasLateEntry cs [] es s
 IsOutOfOrder s t _ = ⊥
 
 -- ---- V6 and V7
@@ -228,8 +245,10 @@ IsBadCharacter s t _ = ⊥
 
 -- V7, at the brace: fewer than two arcs, or two that no object identifier begins with
 abbrev pub IsBadObjectId : Site → AbstractType → WrittenValue → Type 0
-IsBadObjectId s t (value_node site (written.arcs arcs)) = (s ≡ site) × (kind_of t ≡ type.object_identifier) × (are_arcs (arc_numbers arcs) ≡ false)
-IsBadObjectId s t (value_node site (written.list es)) = (s ≡ site) × (kind_of t ≡ type.object_identifier) × IsTrue (are_too_few_arcs es)
+IsBadObjectId s t (value_node site (written.arcs arcs)) =
+    (s ≡ site) × (kind_of t ≡ type.object_identifier) × (are_arcs (arc_numbers arcs) ≡ false)
+IsBadObjectId s t (value_node site (written.list es)) =
+    (s ≡ site) × (kind_of t ≡ type.object_identifier) × IsTrue (are_too_few_arcs es)
 IsBadObjectId s t _ = ⊥
 
 -- ---- V8
@@ -243,10 +262,12 @@ abbrev pub are_few_entries : WrittenEntries → Bool
 are_few_entries es = nat_le (entry_count es) 4294967295
 
 abbrev pub IsLargeNumber : Meaning → Site → AbstractType → WrittenValue → Type 0
-IsLargeNumber m s t (value_node site (written.integer n)) = (s ≡ n.site) × IsTrue (is_integer (kind_of t)) × (integer_value (kind_of t) n ≡ None)
+IsLargeNumber m s t (value_node site (written.integer n)) =
+    (s ≡ n.site) × IsTrue (is_integer (kind_of t)) × (integer_value (kind_of t) n ≡ None)
 IsLargeNumber m s t (value_node site (written.reference name)) =
     (s ≡ site) × ((z : ℤ) × (own_number (kind_of t) name ≡ Some z) × (numbered_value (kind_of t) z ≡ None))
-IsLargeNumber m s t (value_node site (written.arcs arcs)) = (kind_of t ≡ type.object_identifier) × (too_large_arc arcs ≡ Some s)
+IsLargeNumber m s t (value_node site (written.arcs arcs)) =
+    (kind_of t ≡ type.object_identifier) × (too_large_arc arcs ≡ Some s)
 IsLargeNumber m s t (value_node site (written.list es)) =
     (s ≡ site) × ((u : AbstractType) × (entry_type (kind_of t) None ≡ Some u) × (are_few_entries es ≡ false))
 IsLargeNumber m s t _ = ⊥
@@ -276,6 +297,6 @@ Condition m (fault.BadObjectId s) t tree = IsBadObjectId s t tree
 Condition m (fault.TooLarge s) t tree = IsTooLarge m s t tree
 Condition m fault.OutOfMemory t tree = ⊥
 
--- The fault's condition stands at its site, in the written value or in one inside it.
-abbrev pub Stands : Meaning → AbstractType → WrittenValue → ValueFault → Type 0
-Stands m t tree f = Somewhere (Condition m f) t tree
+-- The fault's condition holds at its site, in the written value or in one inside it.
+abbrev pub IsFaultIn : Meaning → AbstractType → WrittenValue → ValueFault → Type 0
+IsFaultIn m t tree f = Somewhere (Condition m f) t tree

@@ -1,5 +1,6 @@
--- Which fault of a written value is named. What is written first comes first: a form that the type hasn't before what stands inside, an entry's
--- name before its value, and what a list lacks behind its last entry. An encoding that is too long comes last of all.
+-- Which fault of a written value is named. What is written first comes first: a form that the type hasn't before what
+-- is inside, an entry's name before its value, and what a list lacks after its last entry. An encoding that is too
+-- long comes last of all.
 use Rattle.std.specs.Prelude.{◌≡◌, ℕ, ℤ, Bool, true, false, not, ◌&&◌, List, [], ◌∷◌, Option, Some, None, is_some, if◌then◌else◌, ◌⊎◌}
 use Rattle.std.specs.Option.{option_map, option_or}
 use Rattle.guard_model.specs.declared.site.Site.{Site}
@@ -34,7 +35,8 @@ fault_of_name site t None (Some g) = unless (same_base t g.ty) (WrongNotation si
 
 -- an arc that is too large comes before what the first two say
 abbrev pub fault_of_arcs : Site → List WrittenArc → Option ValueFault
-fault_of_arcs site arcs = option_or (option_map TooLarge (too_large_arc arcs)) (unless (are_arcs (arc_numbers arcs)) (BadObjectId site))
+fault_of_arcs site arcs =
+    option_or (option_map TooLarge (too_large_arc arcs)) (unless (are_arcs (arc_numbers arcs)) (BadObjectId site))
 
 -- ---- names of entries
 
@@ -56,8 +58,8 @@ fault_of_element_name site (Some name) = Some (WrongNotation site)
 
 -- ---- values in braces, where their entries have no fault
 
-abbrev pub fault_behind : Site → Components → WrittenEntries → Option ValueFault
-fault_behind site cs es = unless (not (misses (entry_places cs es) 0 cs)) (MissingComponent site)
+abbrev pub fault_after : Site → Components → WrittenEntries → Option ValueFault
+fault_after site cs es = unless (not (misses (entry_places cs es) 0 cs)) (MissingComponent site)
 
 abbrev pub fault_of_count : Site → WrittenEntries → Option ValueFault
 fault_of_count site es = unless (are_few_entries es) (TooLarge site)
@@ -69,12 +71,15 @@ fault_of_bit names site (Some name) = unless (is_some (named_bit names name)) (U
 
 abbrev pub fault_of_bits : List NamedNumber → WrittenEntries → Option ValueFault
 fault_of_bits names no_entries = None
-fault_of_bits names (entry site label tree rest) = option_or (fault_of_bit names site (name_alone label tree)) (fault_of_bits names rest)
+fault_of_bits names (entry site label tree rest) =
+    option_or (fault_of_bit names site (name_alone label tree)) (fault_of_bits names rest)
 
 -- in braces that the kind takes, given the faults in entries for components and in elements
-abbrev pub fault_of_list : Site → AbstractKind → WrittenEntries → (Bool → Components → Option ValueFault) → (AbstractType → Option ValueFault) → Option ValueFault
-fault_of_list site (type.sequence cs) es in_entries in_elements = option_or (in_entries true cs) (fault_behind site cs es)
-fault_of_list site (type.set cs) es in_entries in_elements = option_or (in_entries false cs) (fault_behind site cs es)
+abbrev pub fault_of_list : Site → AbstractKind → WrittenEntries → (Bool → Components → Option ValueFault)
+    → (AbstractType → Option ValueFault) → Option ValueFault
+fault_of_list site (type.sequence cs) es in_entries in_elements =
+    option_or (in_entries true cs) (fault_after site cs es)
+fault_of_list site (type.set cs) es in_entries in_elements = option_or (in_entries false cs) (fault_after site cs es)
 fault_of_list site (type.sequence_of t) es in_entries in_elements = option_or (in_elements t) (fault_of_count site es)
 fault_of_list site (type.set_of t) es in_entries in_elements = option_or (in_elements t) (fault_of_count site es)
 fault_of_list site (type.bit_string names) es in_entries in_elements = fault_of_bits names es
@@ -101,17 +106,22 @@ named_component cs (Some name) = located name cs
 abbrev mutual
   -- the first fault, encodings aside
   pub fault_of : Meaning → AbstractType → WrittenValue → Option ValueFault
-  fault_of m t (value_node site form) = option_or (unless (takes (kind_of t) form) (WrongNotation site)) (fault_of_form m t site form)
+  fault_of m t (value_node site form) =
+      option_or (unless (takes (kind_of t) form) (WrongNotation site)) (fault_of_form m t site form)
 
   pub fault_of_form : Meaning → AbstractType → Site → WrittenValueForm → Option ValueFault
   fault_of_form m t site (written.boolean b) = None
   fault_of_form m t site written.null = None
   fault_of_form m t site (written.integer n) = unless (fits_128_bits (number_of n)) (TooLarge n.site)
-  fault_of_form m t site (written.text k spelling) = unless (is_some (text_value (kind_of t) k spelling)) (BadCharacter site)
+  fault_of_form m t site (written.text k spelling) =
+      unless (is_some (text_value (kind_of t) k spelling)) (BadCharacter site)
   fault_of_form m t site (written.reference name) = fault_of_name site t (own_number (kind_of t) name) (m name)
   fault_of_form m t site (written.chosen name tree) =
-      option_or (unless (is_some (located name (alternatives_of (kind_of t)))) (UnknownName site)) (fault_there (λ u. fault_of m u tree) (located name (alternatives_of (kind_of t))))
-  fault_of_form m t site (written.list es) = fault_of_list site (kind_of t) es (λ ordered cs. fault_of_entries m ordered cs [] es) (λ u. fault_of_elements m u es)
+      option_or (unless (is_some (located name (alternatives_of (kind_of t)))) (UnknownName site))
+      (fault_there (λ u. fault_of m u tree) (located name (alternatives_of (kind_of t))))
+  fault_of_form m t site (written.list es) =
+      fault_of_list site (kind_of t) es (λ ordered cs. fault_of_entries m ordered cs [] es)
+      (λ u. fault_of_elements m u es)
   fault_of_form m t site (written.arcs arcs) = fault_of_arcs site arcs
 
   -- for components; `before` are the places that the entries before these name
@@ -119,11 +129,13 @@ abbrev mutual
   fault_of_entries m ordered cs before no_entries = None
   fault_of_entries m ordered cs before (entry site name tree rest) =
       option_or (fault_of_entry_name ordered cs before site name)
-      (option_or (fault_there (λ u. fault_of m u tree) (named_component cs name)) (fault_of_entries m ordered cs (entry_place cs name ∷ before) rest))
+      (option_or (fault_there (λ u. fault_of m u tree) (named_component cs name))
+      (fault_of_entries m ordered cs (entry_place cs name ∷ before) rest))
 
   pub fault_of_elements : Meaning → AbstractType → WrittenEntries → Option ValueFault
   fault_of_elements m t no_entries = None
-  fault_of_elements m t (entry site name tree rest) = option_or (fault_of_element_name site name) (option_or (fault_of m t tree) (fault_of_elements m t rest))
+  fault_of_elements m t (entry site name tree rest) =
+      option_or (fault_of_element_name site name) (option_or (fault_of m t tree) (fault_of_elements m t rest))
 
 -- ---- the one that is named
 

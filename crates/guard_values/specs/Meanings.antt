@@ -13,7 +13,8 @@ abbrev pub number_named : List ℕ → List NamedNumber → Option ℤ
 number_named name [] = None
 number_named name (n ∷ ns) = if bytes_eq name n.name then Some n.number else number_named name ns
 
--- A named number of an INTEGER (X.680 clause 19), or an item of an ENUMERATED (clause 20). Other kinds have none: a named bit stands in braces alone (22.5).
+-- A named number of an INTEGER (X.680 clause 19), or an item of an ENUMERATED (clause 20). Other kinds have none:
+-- the name of a bit is for braces alone (22.5).
 abbrev pub own_number : AbstractKind → List ℕ → Option ℤ
 own_number (type.integer ns) name = number_named name ns
 own_number (type.enumerated ns) name = number_named name ns
@@ -40,7 +41,7 @@ pub record Governed : Type 0 where
   pub ty : AbstractType
   pub value : AbstractValue
 
--- what each visible lower-case name stands for
+-- what each visible lower-case name means
 abbrev pub Meaning : Type 0
 Meaning = List ℕ → Option Governed
 

@@ -34,10 +34,12 @@ abbrev pub one_more : Option ℕ → Option (List ℕ) → Option (List ℕ)
 one_more (Some place) (Some places) = Some (place ∷ places)
 one_more _ _ = None
 
--- The places of the bits that the entries name. An entry that names no bit says nothing, and neither do all of them then.
+-- The places of the bits that the entries name. An entry that names no bit says nothing, and neither do all of them
+-- then.
 abbrev pub places_named : List NamedNumber → WrittenEntries → Option (List ℕ)
 places_named names no_entries = Some []
-places_named names (entry site label tree rest) = one_more (option_and_then (named_bit names) (name_alone label tree)) (places_named names rest)
+places_named names (entry site label tree rest) =
+    one_more (option_and_then (named_bit names) (name_alone label tree)) (places_named names rest)
 
 -- ---- the bits that are one
 

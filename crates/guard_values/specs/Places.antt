@@ -20,7 +20,8 @@ further l = record { place = suc l.place; ty = l.ty }
 -- the first with this name
 abbrev pub located : List ℕ → Components → Option Located
 located name no_components = None
-located name (component other t presence rest) = if bytes_eq name other then Some (record { place = 0; ty = t }) else option_map further (located name rest)
+located name (component other t presence rest) =
+    if bytes_eq name other then Some (record { place = 0; ty = t }) else option_map further (located name rest)
 
 -- the place that an entry names
 abbrev pub entry_place : Components → Option (List ℕ) → Option ℕ
@@ -62,13 +63,14 @@ LeftOut _ field = ⊥
 
 -- ---- all components
 
--- A field is what the entry for the component denotes, or what stands for a component without an entry.
+-- A field is what the entry for the component denotes, or what a component without an entry is.
 abbrev pub FieldDenotes : Bool → (AbstractValue → Type 0) → AbstractPresence → Option AbstractValue → Type 0
 FieldDenotes true Denoted presence field = (v : AbstractValue) × (field ≡ Some v) × Denoted v
 FieldDenotes false Denoted presence field = LeftOut presence field
 
 -- Each component has such a field, from this place on. `given` are the places that entries name.
-abbrev pub FieldsDenote : List (Option ℕ) → (ℕ → AbstractType → AbstractValue → Type 0) → ℕ → Components → Fields → Type 0
+abbrev pub FieldsDenote : List (Option ℕ) → (ℕ → AbstractType → AbstractValue → Type 0) → ℕ → Components → Fields
+    → Type 0
 FieldsDenote given Denoted i no_components value.no_fields = Unit {0}
 FieldsDenote given Denoted i (component name t presence rest) (value.present v fs) =
     FieldDenotes (is_among i given) (Denoted i t) presence (Some v) × FieldsDenote given Denoted (suc i) rest fs

@@ -1,4 +1,4 @@
--- Which value a form of the notation says under a type, where no value stands inside it.
+-- Which value a form of the notation says under a type, where no value is inside it.
 use Rattle.std.specs.Prelude.{ℕ, ◌-◌, ◌%◌, ℤ, Bool, ◌&&◌, List, length, Option, Some, None, if◌then◌else◌, chars}
 use Rattle.std.specs.Str.{is_utf8}
 use Rattle.guard_model.specs.declared.site.Site.{Site}
@@ -43,14 +43,18 @@ bits_value bits = value.bit_string (octets_of_bits bits) ((8 - length bits % 8) 
 
 -- what is quoted, where all its characters are of the alphabet (clause 41)
 abbrev pub characters_value : CharKind → List ℕ → Option AbstractValue
-characters_value k octets = if is_utf8 octets && fits_characters k (chars octets) then Some (value.characters (chars octets)) else None
+characters_value k octets =
+    if is_utf8 octets && fits_characters k (chars octets) then Some (value.characters (chars octets)) else None
 
--- strings of digits for BIT STRING (clause 22) and OCTET STRING (clause 23), those in double quotes for character strings
+-- strings of digits for BIT STRING (clause 22) and OCTET STRING (clause 23), those in double quotes for character
+-- strings
 abbrev pub text_value : AbstractKind → StringKind → List ℕ → Option AbstractValue
 text_value (type.bit_string names) string.Bits spelling = Some (bits_value (bits_kept names (binary_digits spelling)))
-text_value (type.bit_string names) string.Hexadecimal spelling = Some (bits_value (bits_kept names (hexadecimal_bits spelling)))
+text_value (type.bit_string names) string.Hexadecimal spelling =
+    Some (bits_value (bits_kept names (hexadecimal_bits spelling)))
 text_value type.octet_string string.Bits spelling = Some (value.octet_string (octets_of_bits (binary_digits spelling)))
-text_value type.octet_string string.Hexadecimal spelling = Some (value.octet_string (octets_of_bits (hexadecimal_bits spelling)))
+text_value type.octet_string string.Hexadecimal spelling =
+    Some (value.octet_string (octets_of_bits (hexadecimal_bits spelling)))
 text_value (type.characters k) string.Characters spelling = characters_value k (quoted spelling)
 text_value _ _ spelling = None
 
@@ -75,7 +79,8 @@ abbrev pub visible_value : AbstractType → Option Governed → Option AbstractV
 visible_value t None = None
 visible_value t (Some g) = if same_base t g.ty then Some g.value else None
 
--- The name of a number or item of the type's own list comes before a visible name (clauses 19 and 20), whose value is assigned (16.2).
+-- The name of a number or item of the type's own list comes before a visible name (clauses 19 and 20), whose value is
+-- assigned (16.2).
 abbrev pub named_value : Option ℤ → AbstractType → Option Governed → Option AbstractValue
 named_value (Some z) t visible = numbered_value (kind_of t) z
 named_value None t visible = visible_value t visible

@@ -1,4 +1,5 @@
--- What strings say: those of bits and of hexadecimal digits (X.680 clauses 22 and 23), and those in double quotes (clause 41).
+-- What strings say: those of bits and of hexadecimal digits (X.680 clauses 22 and 23), and those in double quotes
+-- (clause 41).
 use Rattle.std.specs.Prelude.{ℕ, zero, suc, ◌+◌, ◌-◌, ◌*◌, ◌/◌, ◌%◌, ◌^◌, Bool, ◌||◌, ◌&&◌, ◌==◌, List, [], ◌∷◌, ◌++◌, map, filter, length, drop, nat_le, if◌then◌else◌}
 use Rattle.guard_lexer.specs.Octets.{is_digit, is_quote}
 
@@ -14,7 +15,7 @@ is_hexadecimal_digit octet = is_digit octet || (nat_le 65 octet && nat_le octet 
 abbrev pub digit_value : ℕ → ℕ
 digit_value octet = if nat_le octet 57 then octet - 48 else octet - 55
 
--- The digits of a string in written order. Its apostrophes, its white space and the letter behind it are none.
+-- The digits of a string in written order. Its apostrophes, its white space and the letter after it are no digits.
 abbrev pub binary_digits : List ℕ → List ℕ
 binary_digits spelling = map digit_value (filter is_binary_digit spelling)
 
@@ -34,17 +35,19 @@ hexadecimal_bits spelling = bits_of_digits (hexadecimal_digits spelling)
 
 -- ---- bits in octets
 
--- The number of so many digits, the highest first. Where digits are missing behind the last, they are zeros.
+-- The number of so many digits, the highest first. Digits that are missing after the last one are zeros.
 abbrev pub filled : ℕ → ℕ → List ℕ → ℕ
 filled base zero digits = 0
 filled base (suc places) [] = 0
 filled base (suc places) (d ∷ ds) = d * base ^ places + filled base places ds
 
--- Octets for all digits, at most so many: the first has as many digits as it has places, the next one those behind them.
+-- Octets for all digits, at most so many: the first has as many digits as it has places, the next one those after
+-- them.
 abbrev pub packed : ℕ → ℕ → ℕ → List ℕ → List ℕ
 packed base places octets [] = []
 packed base places zero (d ∷ ds) = []
-packed base places (suc octets) (d ∷ ds) = filled base places (d ∷ ds) ∷ packed base places octets (drop places (d ∷ ds))
+packed base places (suc octets) (d ∷ ds) =
+    filled base places (d ∷ ds) ∷ packed base places octets (drop places (d ∷ ds))
 
 -- Eight bits to an octet, the first bit the highest (clauses 22 and 23): the last octet is filled with zero bits.
 abbrev pub octets_of_bits : List ℕ → List ℕ
@@ -56,9 +59,10 @@ octets_of_bits bits = packed 2 8 (length bits) bits
 abbrev pub up_to_quote : List ℕ → List ℕ
 up_to_quote [] = []
 up_to_quote (o ∷ []) = []
-up_to_quote (o ∷ p ∷ octets) = if is_quote o then (if is_quote p then o ∷ up_to_quote octets else []) else o ∷ up_to_quote (p ∷ octets)
+up_to_quote (o ∷ p ∷ octets) =
+    if is_quote o then (if is_quote p then o ∷ up_to_quote octets else []) else o ∷ up_to_quote (p ∷ octets)
 
--- what stands behind the quote that opens it
+-- what follows the quote that opens it
 abbrev pub quoted : List ℕ → List ℕ
 quoted [] = []
 quoted (opening ∷ octets) = up_to_quote octets

@@ -1,4 +1,4 @@
--- What the code's results and arguments stand for.
+-- What the code's results and arguments mean.
 use Rattle.std.specs.Prelude.{ℕ, List, [], Option, Some, None, slice_get, IsTrue, IfSome}
 use Rattle.std.specs.Borrow.{Bor}
 use Rattle.guard_model.specs.TypeView.{type_view}
@@ -62,7 +62,7 @@ meaning_of scope name = known_definition scope.known.now (place_of scope name)
 
 -- ---- for a definition
 
--- the name of the module in which it stands
+-- the name of the module that assigns it
 abbrev pub home_name : Option Definition → List ℕ
 home_name None = []
 home_name (Some d) = d.home.name
@@ -70,7 +70,8 @@ home_name (Some d) = d.home.name
 -- what names mean in the module of this definition
 abbrev pub visible_from : Names → Known → ℕ → Meaning
 visible_from names known id name =
-    known_definition known (place_meant (modules_of names) (order_of names) (home_name (slice_get (definitions (modules_of names)) id)) name)
+    known_definition known
+    (place_meant (modules_of names) (order_of names) (home_name (slice_get (definitions (modules_of names)) id)) name)
 
 -- each known value is one of its governor's
 abbrev pub AreKnownFitting : Known → Type 0

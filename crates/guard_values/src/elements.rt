@@ -49,7 +49,7 @@ pub fn listed_set(
     Ok(Value::Items(arranged(alloc, elements)?))
 }
 
-/// The value that stands there with its encoding, of at most 1,048,576 octets.
+/// The value at the site with its encoding, of at most 1,048,576 octets.
 pub fn encoded(alloc: Global, ty: &Ty, site: Site, value: Value) -> Result<Encoded, ValueFault>
     requires { IsTrue (fits (type_view ty.now) (value_view value)) }
     ensures encoding { IfOk result (λ e. der (type_view ty.now) (value_view e.value) ≡ Some e.octets.items) }

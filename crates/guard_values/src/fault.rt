@@ -21,7 +21,7 @@ pub enum ValueFault {
     /// The component is named a second time.
     #[error("V4 RepeatedComponent {0}")]
     RepeatedComponent(Site),
-    /// The component of a SEQUENCE stands behind a later one.
+    /// The component of a SEQUENCE comes after a later one.
     #[error("V5 OutOfOrder {0}")]
     OutOfOrder(Site),
     /// A character of the string isn't of its type's alphabet.

@@ -18,7 +18,8 @@ use guard_model::{Named, Site, Value};
 use guard_syntax::{EntryTree, ValueForm};
 use std::alloc::{AllocError, Global};
 
-/// The value of names in braces: ones at the bits that are named, and zeros before the last of them. Without named bits there is no such form.
+/// The value of names in braces: ones at the bits that are named, and zeros before the last of them. Without named bits
+/// there is no such form.
 pub fn value_of_names(
     alloc: Global,
     names: &[Named],

@@ -1,11 +1,12 @@
-//! What visible lower-case names mean where a value stands.
+//! What visible lower-case names mean where a value is written.
 ghost use Rattle.std.specs.Prelude.{◌≡◌, option_map};
 ghost use Rattle.guard_values.specs.Views.{visible_view, meaning_of, place_of, definition_of, known_at};
 
 use guard_model::{Ty, Value};
 use guard_names::{Id, Names};
 
-/// What is already built, by the places of definitions in the order: of a value its governor and the value, of a type the type alone.
+/// What is already built, by the places of definitions in the order: of a value its governor and the value, of a type
+/// the type alone.
 #[derive(Drop)]
 pub struct Known {
     pub types: Vec<Ty>,
@@ -20,7 +21,7 @@ pub struct Scope<'s, 'm, 'a> {
     pub home: &'s [u8],
 }
 
-/// A value that a visible name stands for, and its governor.
+/// The value that a visible name means, and its governor.
 #[derive(Clone, Copy)]
 pub struct VisibleValue<'s> {
     pub ty: &'s Ty,

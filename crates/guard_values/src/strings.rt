@@ -122,12 +122,12 @@ fn packed(alloc: Global, base: u32, places: usize, digits: &[u8]) -> Result<Vec<
     let mut rest = digits;
     while !rest.is_empty() {
         octets.push(filled(base, places, rest))?;
-        rest = behind(rest, places);
+        rest = rest_after(rest, places);
     }
     Ok(octets)
 }
 
-/// The number of so many digits. Where digits are missing behind the last, they are zeros.
+/// The number of so many digits. Digits that are missing after the last one are zeros.
 fn filled(base: u32, places: usize, digits: &[u8]) -> u8
     requires base { 1 ≤ base }
     requires octet { base ^ places ≡ 256 }
@@ -151,8 +151,8 @@ fn digit_at(digits: &[u8], place: usize) -> u8
     }
 }
 
-/// Those behind so many.
-fn behind(octets: &[u8], count: usize) -> &[u8]
+/// The octets after so many.
+fn rest_after(octets: &[u8], count: usize) -> &[u8]
     ensures { result.now ≡ drop count octets.now }
 {
     &octets[count.min(octets.len())..]
@@ -163,14 +163,14 @@ pub fn quoted(alloc: Global, spelling: &[u8]) -> Result<Vec<u8>, AllocError>
     ensures { IfOk result (λ v. v.items ≡ quoted spelling.now) }
 {
     let mut octets = Vec::new(alloc);
-    let mut rest = behind(spelling, 1);
+    let mut rest = rest_after(spelling, 1);
     while rest.len() >= 2 {
         let taken = octets_taken(rest);
         if taken == 0 {
             return Ok(octets);
         }
         octets.push(rest[0])?;
-        rest = behind(rest, taken);
+        rest = rest_after(rest, taken);
     }
     Ok(octets)
 }

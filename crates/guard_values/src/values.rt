@@ -9,20 +9,20 @@ ghost use Rattle.guard_names.specs.Declarations.{definitions};
 ghost use Rattle.guard_names.specs.NamesView.{modules_of};
 ghost use Rattle.guard_syntax.specs.Views as trees;
 ghost use Rattle.guard_values.specs.Denotes.{Denotes};
-ghost use Rattle.guard_values.specs.Faults.{Stands};
+ghost use Rattle.guard_values.specs.Faults.{IsFaultIn};
 ghost use Rattle.guard_values.specs.FirstFault.{IsFirstFault};
 ghost use Rattle.guard_values.specs.Views.{named, visible_from, home_name, AreKnownFitting};
 
 use crate::fault::ValueFault;
 use crate::scope::{Known, Scope};
-use crate::written::whole;
+use crate::written::value_within_limit;
 use guard_model::{Ty, Value};
 use guard_names::{Id, Names};
 use guard_syntax::ValueTree;
 use std::alloc::Global;
 
-/// The value that a tree denotes under a type, where it stands in this definition; or a fault whose condition stands at its site. The type is
-/// sound, and each known value is one of its governor's.
+/// The value that a tree denotes under a type, where it is written in this definition; or a fault whose condition
+/// holds at its site. The type is sound, and each known value is one of its governor's.
 pub fn value(
     alloc: Global,
     names: &Names,
@@ -36,17 +36,17 @@ pub fn value(
     // The value is the one denoted.
     ensures denoted { IfOk result (λ v. Denotes (visible_from names.now known.now id) (type_view ty.now) (trees.value_view tree.now) (value_view v)) }
     ensures fits { IfOk result (λ v. IsTrue (fits (type_view ty.now) (value_view v))) }
-    // A fault that is named stands, and then nothing is denoted.
-    ensures stands { IfErr result (λ e. IfSome (named e) (λ f. Stands (visible_from names.now known.now id) (type_view ty.now) (trees.value_view tree.now) f)) }
+    // The condition of a fault that is named holds, and then nothing is denoted.
+    ensures holds { IfErr result (λ e. IfSome (named e) (λ f. IsFaultIn (visible_from names.now known.now id) (type_view ty.now) (trees.value_view tree.now) f)) }
     ensures none { IfErr result (λ e. IfSome (named e) (λ f. (v : AbstractValue) → Denotes (visible_from names.now known.now id) (type_view ty.now) (trees.value_view tree.now) v → ⊥)) }
     // It is the first one.
     ensures first { IfErr result (λ e. IfSome (named e) (IsFirstFault (visible_from names.now known.now id) (type_view ty.now) (trees.value_view tree.now))) }
 {
     let home = home(names, id);
-    whole(alloc, Scope { names, known, home }, tree, ty)
+    value_within_limit(alloc, Scope { names, known, home }, tree, ty)
 }
 
-/// The name of the module in which a definition stands.
+/// The name of the module that assigns a definition.
 pub fn home<'s>(names: &'s Names, id: Id) -> &'s [u8]
     ensures { result.now ≡ home_name (slice_get (definitions (modules_of names.now)) id) }
 {

@@ -27,7 +27,12 @@ use guard_syntax::{EntryTree, ValueForm, ValueTree};
 use std::alloc::Global;
 
 /// The value that the tree denotes under the type, with an encoding of at most 1,048,576 octets; or the first fault.
-pub fn whole(alloc: Global, scope: Scope, tree: &ValueTree, ty: &Ty) -> Result<Value, ValueFault>
+pub fn value_within_limit(
+    alloc: Global,
+    scope: Scope,
+    tree: &ValueTree,
+    ty: &Ty,
+) -> Result<Value, ValueFault>
     requires proper { IsTrue (is_proper (type_view ty.now)) }
     requires fitting { AreFitting (meaning_of scope) }
     ensures { Gives value_view named result (read_whole (meaning_of scope.entry) (type_view ty.now) (trees.value_view tree.now)) }
@@ -37,7 +42,8 @@ pub fn whole(alloc: Global, scope: Scope, tree: &ValueTree, ty: &Ty) -> Result<V
     Ok(encoded.value)
 }
 
-/// The value, its own encoding aside. What is at fault elsewhere comes before an element of a SET OF whose encoding is too long to sort by.
+/// The value, its own encoding aside. What is at fault elsewhere comes before an element of a SET OF whose encoding is
+/// too long to sort by.
 fn sorted_value(alloc: Global, scope: Scope, tree: &ValueTree, ty: &Ty) -> Result<Value, ValueFault>
     requires proper { IsTrue (is_proper (type_view ty.now)) }
     requires fitting { AreFitting (meaning_of scope) }

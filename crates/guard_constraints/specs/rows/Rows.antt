@@ -1,5 +1,5 @@
--- Worked examples of constraint trees: which elements apply, the first fault, and what is read. That the definition says what is
--- read is a law.
+-- Worked examples of constraint trees: which elements apply, the first fault, and what is read. That the definition
+-- says what is read is a law.
 use Rattle.std.specs.Prelude.{◌≡◌, ℕ, ◌+◌, pos, true, false, List, [], ◌∷◌, codes, Option, Some, None, Ok, refl}
 use Rattle.std.proofs.Common.{inl}
 use Rattle.guard_model.specs.declared.site.Site.{Site}
@@ -36,7 +36,8 @@ abbrev tagged : ℕ → AbstractKind → AbstractType
 tagged n kind = type_of (record { class = Universal; number = n } ∷ []) kind type.no_constraints
 
 abbrev set_of_element : Site → WrittenElementForm → WrittenSet
-set_of_element site form = set_node site (union (intersection site (element_alone site (element_node site form)) none_met) none_united)
+set_of_element site form =
+    set_node site (union (intersection site (element_alone site (element_node site form)) none_met) none_united)
 
 abbrev in_parentheses : ℕ → WrittenElementForm → WrittenConstraint
 in_parentheses n form = constraint (column n) (set_of_element (column (n + 1)) form)
@@ -50,7 +51,8 @@ part_at n name presence others = part (column n) name presence others
 -- ---- an element's own fault
 
 -- BOOLEAN (SIZE (1)): C1 at SIZE
-size_of_boolean : own_fault nothing (tagged 1 type.boolean) (column 10) (written.size (in_parentheses 15 (text_at 16 []))) ≡ Some (fault.NotApplicable (column 10))
+size_of_boolean : own_fault nothing (tagged 1 type.boolean) (column 10)
+    (written.size (in_parentheses 15 (text_at 16 []))) ≡ Some (fault.NotApplicable (column 10))
 size_of_boolean = refl
 
 -- INTEGER (MIN<..5): C2 at MIN
@@ -60,23 +62,32 @@ below_five =
       low = None;
       above_low = true;
       below_high = false;
-      high = Some (record { site = column 16; form = written.end_integer (record { site = column 16; minus = false; digits = codes "5" }) });
+      high = Some (record {
+        site = column 16;
+        form = written.end_integer (record { site = column 16; minus = false; digits = codes "5" });
+      });
     })
 
-min_left_out : own_fault nothing (tagged 2 (type.integer [])) (column 10) below_five ≡ Some (fault.ExclusiveLimit (column 10))
+min_left_out : own_fault nothing (tagged 2 (type.integer [])) (column 10) below_five
+    ≡ Some (fault.ExclusiveLimit (column 10))
 min_left_out = refl
 
 -- on BOOLEAN the same is C1
-range_of_boolean : own_fault nothing (tagged 1 type.boolean) (column 10) below_five ≡ Some (fault.NotApplicable (column 10))
+range_of_boolean : own_fault nothing (tagged 1 type.boolean) (column 10) below_five
+    ≡ Some (fault.NotApplicable (column 10))
 range_of_boolean = refl
 
 -- IA5String (FROM (ALL EXCEPT "q")): C3 at FROM
-all_except_q : own_fault nothing (tagged 22 (type.characters Ia5)) (column 12) (written.from (constraint (column 17) (set_node (column 18) (all_except (element_node (column 29) (text_at 29 (0x22 ∷ 0x71 ∷ 0x22 ∷ []))))))) ≡ Some (fault.AlphabetForm (column 12))
+all_except_q : own_fault nothing (tagged 22 (type.characters Ia5)) (column 12)
+    (written.from (constraint (column 17) (set_node (column 18)
+    (all_except (element_node (column 29) (text_at 29 (0x22 ∷ 0x71 ∷ 0x22 ∷ [])))))))
+    ≡ Some (fault.AlphabetForm (column 12))
 unfolding items_of items_of_form
 all_except_q = refl
 
 -- INTEGER (Level) where no such type is visible: C8
-unknown_type : own_fault nothing (tagged 2 (type.integer [])) (column 10) (written.contained false (column 10) (codes "Level")) ≡ Some (fault.ContainedMismatch (column 10))
+unknown_type : own_fault nothing (tagged 2 (type.integer [])) (column 10)
+    (written.contained false (column 10) (codes "Level")) ≡ Some (fault.ContainedMismatch (column 10))
 unknown_type = refl
 
 -- ---- parts of WITH COMPONENTS
@@ -86,43 +97,54 @@ one_component name presence others = component name (tagged 5 type.null) presenc
 
 -- SEQUENCE { a NULL, b NULL OPTIONAL }
 abbrev a_and_b : AbstractKind
-a_and_b = type.sequence (one_component (codes "a") type.mandatory (one_component (codes "b") type.optional no_components))
+a_and_b =
+    type.sequence (one_component (codes "a") type.mandatory (one_component (codes "b") type.optional no_components))
 
 -- CHOICE { a NULL, b NULL }
 abbrev a_or_b : AbstractKind
 a_or_b = type.choice (one_component (codes "a") type.mandatory (one_component (codes "b") type.mandatory no_components))
 
 -- { b PRESENT, a PRESENT }: C4 at the a, which isn't OPTIONAL
-word_on_mandatory : part_fault a_and_b (heads (part_at 30 (codes "b") (Some says.Present) (part_at 41 (codes "a") (Some says.Present) no_parts))) ≡ Some (fault.PresenceWord (column 41))
+word_on_mandatory : part_fault a_and_b
+    (heads (part_at 30 (codes "b") (Some says.Present) (part_at 41 (codes "a") (Some says.Present) no_parts)))
+    ≡ Some (fault.PresenceWord (column 41))
 word_on_mandatory = refl
 
 -- { c PRESENT, a PRESENT }: C4 comes before the unknown c, whose word counts for nothing
-word_before_name : part_fault a_and_b (heads (part_at 30 (codes "c") (Some says.Present) (part_at 41 (codes "a") (Some says.Present) no_parts))) ≡ Some (fault.PresenceWord (column 41))
+word_before_name : part_fault a_and_b
+    (heads (part_at 30 (codes "c") (Some says.Present) (part_at 41 (codes "a") (Some says.Present) no_parts)))
+    ≡ Some (fault.PresenceWord (column 41))
 word_before_name = refl
 
 -- { c PRESENT }: C5
-unknown_name : part_fault a_and_b (heads (part_at 30 (codes "c") (Some says.Present) no_parts)) ≡ Some (fault.UnknownComponent (column 30))
+unknown_name : part_fault a_and_b (heads (part_at 30 (codes "c") (Some says.Present) no_parts))
+    ≡ Some (fault.UnknownComponent (column 30))
 unknown_name = refl
 
 -- { b, b }: C6 at the second
-name_again : part_fault a_and_b (heads (part_at 30 (codes "b") None (part_at 33 (codes "b") None no_parts))) ≡ Some (fault.RepeatedComponent (column 33))
+name_again : part_fault a_and_b (heads (part_at 30 (codes "b") None (part_at 33 (codes "b") None no_parts)))
+    ≡ Some (fault.RepeatedComponent (column 33))
 name_again = refl
 
 -- over a CHOICE, { a OPTIONAL }: C4
-optional_alternative : part_fault a_or_b (heads (part_at 30 (codes "a") (Some says.Optional) no_parts)) ≡ Some (fault.PresenceWord (column 30))
+optional_alternative : part_fault a_or_b (heads (part_at 30 (codes "a") (Some says.Optional) no_parts))
+    ≡ Some (fault.PresenceWord (column 30))
 optional_alternative = refl
 
 -- over a CHOICE, { a PRESENT, b PRESENT }: C7 at the b
-both_present : part_fault a_or_b (heads (part_at 30 (codes "a") (Some says.Present) (part_at 41 (codes "b") (Some says.Present) no_parts))) ≡ Some (fault.TwoPresent (column 41))
+both_present : part_fault a_or_b
+    (heads (part_at 30 (codes "a") (Some says.Present) (part_at 41 (codes "b") (Some says.Present) no_parts)))
+    ≡ Some (fault.TwoPresent (column 41))
 both_present = refl
 
 -- over a CHOICE, { a PRESENT, b ABSENT } has no fault
-one_present : part_fault a_or_b (heads (part_at 30 (codes "a") (Some says.Present) (part_at 41 (codes "b") (Some says.Absent) no_parts))) ≡ None
+one_present : part_fault a_or_b
+    (heads (part_at 30 (codes "a") (Some says.Present) (part_at 41 (codes "b") (Some says.Absent) no_parts))) ≡ None
 one_present = refl
 
 -- ---- what is joined, and with which sites
 
--- the type that every upper-case name stands for
+-- the type that every upper-case name means
 abbrev level : AbstractType
 level = tagged 2 (type.integer [])
 
@@ -144,20 +166,29 @@ united_levels =
     constraint (column 15) (set_node (column 16) (union (intersection (column 16) (level_at 16) none_met)
     (united Sign (intersection (column 20) (level_at 20) (met Sign (level_at 24) none_met)) none_united)))
 
-intersection_first : read levels level united_levels ≡ Ok (at (column 16) (type.union (both (is_level 16) (at (column 20) (type.intersection (both (is_level 20) (is_level 24)))))))
-unfolding read read_set read_set_form read_united read_intersection read_met read_difference read_element read_element_form
+intersection_first : read levels level united_levels
+    ≡ Ok (at (column 16) (type.union
+    (both (is_level 16) (at (column 20) (type.intersection (both (is_level 20) (is_level 24)))))))
+unfolding read read_set read_set_form read_united read_intersection read_met read_difference read_element
+    read_element_form
 intersection_first = refl
 
--- INTEGER ((L | L) ^ L): the intersection is at the parenthesis that it begins with, the union inside at its own first token
+-- INTEGER ((L | L) ^ L): the intersection is at the parenthesis that it begins with, the union inside at its own first
+-- token
 abbrev met_levels : WrittenConstraint
 met_levels =
     constraint (column 15) (set_node (column 16) (union (intersection (column 16)
-    (element_alone (column 16) (element_node (column 16) (written.parentheses (set_node (column 17) (union (intersection (column 17) (level_at 17) none_met)
+    (element_alone (column 16)
+    (element_node (column 16)
+    (written.parentheses (set_node (column 17) (union (intersection (column 17) (level_at 17) none_met)
     (united Sign (intersection (column 21) (level_at 21) none_met) none_united))))))
     (met Sign (level_at 26) none_met)) none_united))
 
-parenthesis_first : read levels level met_levels ≡ Ok (at (column 16) (type.intersection (both (at (column 17) (type.union (both (is_level 17) (is_level 21)))) (is_level 26))))
-unfolding read read_set read_set_form read_united read_intersection read_met read_difference read_element read_element_form
+parenthesis_first : read levels level met_levels
+    ≡ Ok (at (column 16) (type.intersection
+    (both (at (column 17) (type.union (both (is_level 17) (is_level 21)))) (is_level 26))))
+unfolding read read_set read_set_form read_united read_intersection read_met read_difference read_element
+    read_element_form
 parenthesis_first = refl
 
 -- the same on BOOLEAN: C8 at the first
@@ -173,8 +204,9 @@ truth_at n = written.value (value_node (column n) (written.boolean true))
 abbrev flags : AbstractType
 flags = tagged 3 (type.bit_string (record { name = codes "read"; number = pos 0 } ∷ []))
 
--- SIZE of it may not stand, but what is inside is looked at before: C9, V1 at TRUE
-size_of_truth : IsFirstConstraintFault nothing flags (in_parentheses 14 (written.size (in_parentheses 20 (truth_at 21))))
+-- it may have no SIZE, but what is inside is looked at before: C9, V1 at TRUE
+size_of_truth : IsFirstConstraintFault nothing flags
+    (in_parentheses 14 (written.size (in_parentheses 20 (truth_at 21))))
     (fault.Value (value_fault.WrongNotation (column 21)))
 size_of_truth = inl (value_fault.WrongNotation (column 21), inl refl, refl)
 
@@ -182,5 +214,6 @@ size_of_truth = inl (value_fault.WrongNotation (column 21), inl refl, refl)
 abbrev size_of_level : WrittenElementForm
 size_of_level = written.size (in_parentheses 20 (written.contained false (column 21) (codes "L")))
 
-size_of_flags : IsFirstConstraintFault levels flags (in_parentheses 14 size_of_level) (fault.SizeOnNamedBits (column 15))
+size_of_flags : IsFirstConstraintFault levels flags (in_parentheses 14 size_of_level)
+    (fault.SizeOnNamedBits (column 15))
 size_of_flags = refl

@@ -1,5 +1,5 @@
 -- How what a policy keeps comes of messages and rules.
-use Rattle.std.specs.Prelude.{◌≡◌, ℕ, List, ◌∷◌, All, map, string_bytes, bytes_eq, count_by, slice_get, Option, Some, None}
+use Rattle.std.specs.Prelude.{◌≡◌, ℕ, List, ◌∷◌, All, map, string_bytes, nat_lt, count_by, slice_get, Option, Some, None}
 use Rattle.guard_model.specs.AbstractType.{AbstractType}
 use Rattle.guard_tables.specs.TableView.{table_types}
 use Rattle.guard_policy.specs.declared.kept.KeptMessage.{KeptMessage}
@@ -9,7 +9,7 @@ use Rattle.guard_policy.specs.declared.kept.RuleType.{RuleType}
 use Rattle.guard_policy.specs.declared.kept.RuleType.TheVariants.{InTable, Own}
 use Rattle.guard_policy.specs.Consistency.{types_for}
 use Rattle.guard_policy.specs.KeptView.{kept_message_view, table_place}
-use Rattle.guard_policy.specs.inside.Listings.{place_among}
+use Rattle.guard_policy.specs.inside.Listings.{AbstractListed, place_among}
 use Rattle.guard_policy.specs.Policies.{AbstractMessage, AbstractRule}
 
 -- a name, and the types of a table
@@ -28,11 +28,11 @@ tabled rules m = record { name = m.name; types = m.ty ∷ types_for m.name rules
 abbrev pub ArePlaced : List AbstractMessage → List KeptRule → Type 0
 ArePlaced messages rules = All (λ r. table_place r.ty ≡ place_among (string_bytes r.message) 0 messages) rules
 
--- What is kept of the type of a rule after these, where its message is at this place or there is none.
-abbrev pub IsTypeOf : Option ℕ → List AbstractRule → AbstractRule → RuleType → Type 0
-IsTypeOf (Some message) before r kept = kept ≡ InTable message (count_by (λ x. bytes_eq x.message r.message) before)
-IsTypeOf None before r (Own ty) = type_view ty ≡ r.ty
-IsTypeOf None before r (InTable message rule) = ⊥
+-- What is kept of the type of the rule of this number, where its message is listed so or isn't there.
+abbrev pub IsTypeOf : Option AbstractListed → ℕ → AbstractRule → RuleType → Type 0
+IsTypeOf (Some l) number r kept = kept ≡ InTable l.place (count_by (λ n. nat_lt n number) l.numbers)
+IsTypeOf None number r (Own ty) = type_view ty ≡ r.ty
+IsTypeOf None number r (InTable message rule) = ⊥
 
 -- the rule but for its type
 pub record IsSaid (r : AbstractRule) (kept : KeptRule) : Type 0 where

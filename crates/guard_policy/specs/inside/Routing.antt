@@ -1,7 +1,6 @@
 -- Which rules of a message speak of a route, as sets of the slots that their types have in the message's table. The first rule has slot 1, since
 -- slot 0 is that of the declared type.
 use Rattle.std.specs.Prelude.{◌≡◌, ℕ, suc, Bool, not, List, [], ◌∷◌, map, bytes_eq, string_bytes, unwrap_or, if◌then◌else◌}
-use Rattle.std.specs.Borrow.{Bor}
 use Rattle.std.specs.Map.{lookup}
 use Rattle.guard_model.specs.AbstractValue.{AbstractValue}
 use Rattle.guard_reader.specs.Marking.{is_in}
@@ -11,7 +10,6 @@ use Rattle.guard_tables.specs.TableView.{rules_of}
 use Rattle.guard_policy.specs.declared.kept.KeptMessage.{KeptMessage}
 use Rattle.guard_policy.specs.declared.policy.Effect.{Effect}
 use Rattle.guard_policy.specs.declared.policy.Effect.TheVariants.{Allow, Deny}
-use Rattle.guard_policy.specs.declared.policy.Rule.{Rule}
 use Rattle.guard_policy.specs.declared.routing.Parties.{Parties}
 use Rattle.guard_policy.specs.declared.routing.Routing.{Routing}
 use Rattle.guard_policy.specs.declared.routing.Side.{Side}
@@ -19,15 +17,12 @@ use Rattle.guard_policy.specs.declared.routing.Side.TheVariants.{Sender, Receive
 use Rattle.guard_policy.specs.Consistency.{types_for}
 use Rattle.guard_policy.specs.Decisions.{is_allowing}
 use Rattle.guard_policy.specs.Names.{is_meant}
-use Rattle.guard_policy.specs.Policies.{AbstractRule, AbstractRoute, rule_view}
+use Rattle.guard_policy.specs.Policies.{AbstractRule, AbstractRoute}
 
 -- the rules that speak of the message of this name, in order
 abbrev pub rules_named : List ℕ → List AbstractRule → List AbstractRule
 rules_named name [] = []
 rules_named name (r ∷ rs) = if bytes_eq r.message name then r ∷ rules_named name rs else rules_named name rs
-
-abbrev pub rules_view : List (Bor Rule) → List AbstractRule
-rules_view rules = map (λ r. rule_view r.now) rules
 
 -- ---- sets of slots
 

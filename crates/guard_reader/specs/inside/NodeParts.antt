@@ -74,11 +74,6 @@ pub record IsAsked (t : Nodes) (k : ℕ) : Type 0 where
   pub there : slice_get t.hots.items k ≡ Some node
   pub kind : node.kind ≡ kind.Asked
 
-pub record IsSeries (t : Nodes) (k : ℕ) : Type 0 where
-  pub node : Hot
-  pub there : slice_get t.hots.items k ≡ Some node
-  pub kind : node.kind ≡ kind.Series
-
 pub record IsChoice (t : Nodes) (k : ℕ) : Type 0 where
   pub node : Hot
   pub there : slice_get t.hots.items k ≡ Some node

@@ -1,11 +1,11 @@
-//! SEQUENCE, and what is said of components.
-ghost use Rattle.std.specs.Prelude.{◌≡◌, ◌<◌, vec_len, option_map};
+//! SEQUENCE, a SET whose components ascend, and what is said of components.
+ghost use Rattle.std.specs.Prelude.{◌≡◌, ◌+◌, ◌<◌, ◌≤◌, vec_len, option_map};
 ghost use Rattle.guard_tables.specs.NodesView.{spots_in};
 ghost use Rattle.guard_tables.specs.Slots.{added};
-ghost use Rattle.guard_tables.specs.TableNodes.{body_at, spot_at};
-ghost use Rattle.guard_reader.specs.Judging.{contents_judged, present_part, absent_part, part_at, watched};
+ghost use Rattle.guard_tables.specs.TableNodes.{parts_between, spot_at};
+ghost use Rattle.guard_reader.specs.Judging.{fields_judged, present_part, absent_part, part_at, watched};
 ghost use Rattle.guard_reader.specs.inside.Answers.{Answers};
-ghost use Rattle.guard_reader.specs.inside.NodeParts.{IsNear, IsSeries, pass_at, sight_at};
+ghost use Rattle.guard_reader.specs.inside.NodeParts.{IsNear, pass_at, sight_at};
 
 use crate::conditions::is_default;
 use crate::element_fronts::{Front, begins, front_at};
@@ -14,18 +14,16 @@ use crate::plain::{begins_plainly, is_plain};
 use crate::walking::within_tag;
 use guard_tables::{Cold, Need, Nodes, Slots};
 
-/// Components of a node, all of the octets.
+/// So many components from the first on, one after the other, all of the octets.
 #[cycle(walking)]
 #[inline(never)]
-pub fn series(table: &Nodes, at: usize, inside: &[u8], failed: &mut Slots) -> bool
-    requires room { at < vec_len table.now.hots }
-    requires kind { IsSeries table.now at }
-    ensures { Answers result failed.new (contents_judged (body_at (spots_in table.now) at) inside.now failed.old) }
+pub fn series(table: &Nodes, first: usize, count: usize, inside: &[u8], failed: &mut Slots) -> bool
+    requires { first + count ≤ vec_len table.now.hots }
+    ensures { Answers result failed.new
+        (fields_judged (parts_between (spots_in table.now) first count) inside.now failed.old) }
 {
-    let node = &table.hots[at];
-    let first = node.first as usize;
     let mut rest = inside;
-    for k in first..first + node.count as usize {
+    for k in first..first + count {
         let Some(next) = part(table, k, rest, failed) else {
             return false;
         };

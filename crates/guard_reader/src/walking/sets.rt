@@ -6,10 +6,11 @@ ghost use Rattle.guard_reader.specs.Judging.{contents_judged};
 ghost use Rattle.guard_reader.specs.inside.Answers.{Answers};
 ghost use Rattle.guard_reader.specs.inside.NodeParts.{IsSet};
 
+use crate::ascending::ascend;
 use crate::set_members::{
     absences, advance, is_read, member, next_tag, passed, rank_of, with_read,
 };
-use crate::walking::series::present;
+use crate::walking::series::{present, series};
 use guard_model::Tag;
 use guard_tables::{Nodes, Slots};
 
@@ -17,6 +18,24 @@ use guard_tables::{Nodes, Slots};
 #[cycle(walking)]
 #[inline(never)]
 pub fn set(table: &Nodes, at: usize, octets: &[u8], failed: &mut Slots) -> bool
+    requires room { at < vec_len table.now.hots }
+    requires kind { IsSet table.now at }
+    ensures { Answers result failed.new (contents_judged (body_at (spots_in table.now) at) octets.now failed.old) }
+{
+    let node = &table.hots[at];
+    let first = node.first as usize;
+    let count = node.count as usize;
+    if ascend(table, first, count) {
+        // The order of their tags is that of the components, so each is present or absent where its turn is.
+        return series(table, first, count, octets, failed);
+    }
+    members(table, at, octets, failed)
+}
+
+/// The same of components in another order, or of which one has several tags.
+#[cycle(walking)]
+#[inline(never)]
+fn members(table: &Nodes, at: usize, octets: &[u8], failed: &mut Slots) -> bool
     requires room { at < vec_len table.now.hots }
     requires kind { IsSet table.now at }
     ensures { Answers result failed.new (contents_judged (body_at (spots_in table.now) at) octets.now failed.old) }

@@ -18,13 +18,9 @@ use Rattle.guard_names.specs.NamesView.{modules_of, order_of}
 use Rattle.guard_tagging.specs.declared.fault.TagFault.{TagFault}
 use Rattle.guard_tagging.specs.declared.fault.TagFault.TheVariants as tag_fault
 use Rattle.guard_tagging.specs.Named as tagging
-use Rattle.guard_tagging.specs.Skeletons.{AreSurroundings, IsTypeOf, IsFaultOf, surroundings_of}
+use Rattle.guard_tagging.specs.Skeletons.{AreSurroundings, IsTypeOf, IsFaultOf}
 use Rattle.guard_tagging.specs.Surroundings.{nodes_of_all}
-use Rattle.guard_tagging.specs.Tagged.{IsTagged, IsFirstFault}
 use Rattle.guard_tagging.specs.Types.{Surroundings}
-use Rattle.guard_tagging.proofs.Definitions.InOrder.{around_is}
-use Rattle.guard_names.specs.Faults.{fault_of_names}
-use Rattle.guard_names.proofs.Refusals.{none_is}
 use Rattle.guard_constraints.specs.Visible.{Visible}
 use Rattle.guard_values.specs.Views.{home_name}
 use Rattle.guard_schema.specs.declared.fault.SchemaFault.{SchemaFault}
@@ -32,8 +28,8 @@ use Rattle.guard_schema.specs.declared.progress.Progress.{Progress}
 use Rattle.guard_schema.specs.declared.progress.Definition as code
 use Rattle.guard_schema.specs.Outcomes.{RefusesBy, Answers}
 use Rattle.guard_schema.specs.Faults.{AbstractFault, Tag, Outcome, IsNamed, named}
-use Rattle.guard_schema.specs.Known.{Built, Known, types_of, visible, around}
-use Rattle.guard_schema.specs.Building.{HasTags, TellsApart, Assigns, KeepsLimit, HasValue, BuildsNumber}
+use Rattle.guard_schema.specs.Known.{Built, Known, types_of, visible}
+use Rattle.guard_schema.specs.Building.{HasTagsUnder, HasTags, TellsApart, Assigns, KeepsLimit, HasValue, BuildsNumber}
 use Rattle.guard_schema.specs.inside.InTurn.{FinishesInTurn, TagsNumber, TagsApart, CompletesInTurn}
 use Rattle.guard_schema.specs.Counting.{all_held}
 use Rattle.guard_syntax.specs.Trees.{WrittenAssignment}
@@ -111,25 +107,21 @@ module _ (p : Progress) (id : ℕ) where
   same : types_of (built_in p) ≡ map type_view p.known.types.items
   same = types_same p.known.types.items p.known.values.items p.even
 
-  -- what holds under the types before it, holds under what is built of them
-  under_built : (d : Definition) (P : Surroundings → ℕ → Type 0) (around : Surroundings)
-      → AreSurroundings (modules_of p.names.now) (order_of p.names.now) (map type_view p.known.types.items) d around
-      → P around (nodes_of_all (map type_view p.known.types.items))
-      → P (surroundings_of (modules_of p.names.now) (order_of p.names.now) (types_of (built_in p)) d)
-      (nodes_of_all (types_of (built_in p)))
-  under_built d P around are holds =
-      let ms = modules_of p.names.now in
-      let order = order_of p.names.now in
-      let types = map type_view p.known.types.items in
-      let is = around_is ms (none_is (fault_of_names ms) p.names.now.faultless) order p.names.now.ordered types d around
-      are in
-      subst (λ (ts : List AbstractType). P (surroundings_of ms order ts d) (nodes_of_all ts)) (sym same)
-      (subst (λ (a : Surroundings). P a (nodes_of_all types)) is holds)
+  -- its tags under the types before it are those where what is built of them is known
+  under_built : (d : Definition) (answer : Outcome AbstractType) (surroundings : Surroundings)
+      → AreSurroundings (modules_of p.names.now) (order_of p.names.now) (map type_view p.known.types.items) d
+      surroundings
+      → HasTagsUnder surroundings (nodes_of_all (map type_view p.known.types.items)) d.assignment.ty answer
+      → HasTags (known_view p) d answer
+  under_built d answer surroundings are holds =
+      subst (λ (ts : List AbstractType). (s : Surroundings)
+      × AreSurroundings (modules_of p.names.now) (order_of p.names.now) ts d s
+      × HasTagsUnder s (nodes_of_all ts) d.assignment.ty answer) (sym same) (surroundings, are, holds)
 
   pub number_tagged : (t : AbstractType) → IsTypeOf (modules_of p.names.now) (order_of p.names.now)
       (map type_view p.known.types.items) id t → TagsNumber (known_view p) id (Ok t)
   number_tagged t h =
-      (h.0, h.1, under_built h.0 (λ a n. IsTagged a n h.0.assignment.ty t) h.2 h.3 h.4)
+      (h.0, h.1, under_built h.0 (Ok t) h.2 h.3 h.4)
 
   faulty : (site : Site) (f : TagFault) (o : Option TagFault) → tagging.named f ≡ o
       → IfSome o (IsFaultOf (modules_of p.names.now) (order_of p.names.now) (map type_view p.known.types.items) id)
@@ -137,11 +129,7 @@ module _ (p : Progress) (id : ℕ) where
   faulty site f None e h = tt
   faulty site f (Some g) e h = inr (
     Tag g,
-    (
-      h.0,
-      h.1,
-      (tag_named f g e, under_built h.0 (λ a n. IsFirstFault a n h.0.assignment.ty g) h.2 h.3 h.4),
-    ),
+    (h.0, h.1, under_built h.0 (Err (Tag g)) h.2 h.3 (tag_named f g e, h.4)),
     refl,
   )
 
@@ -181,10 +169,9 @@ module _ (p : Progress) (id : ℕ) (d : Definition)
     (is : Some d ≡ slice_get (definitions (modules_of p.names.now)) id) where
   -- it is the definition of this number
   tagged_so : (answer : Outcome AbstractType) → TagsNumber (known_view p) id answer
-      → HasTags (around (known_view p) d) (nodes_of_all (types_of (built_in p))) d.assignment.ty answer
+      → HasTags (known_view p) d answer
   tagged_so answer h =
-      subst (λ (x : Definition). HasTags (around (known_view p) x)
-      (nodes_of_all (types_of (built_in p))) x.assignment.ty answer) (same_Some h.0 d (sym h.1 ∙ sym is)) h.2
+      subst (λ (x : Definition). HasTags (known_view p) x answer) (same_Some h.0 d (sym h.1 ∙ sym is)) h.2
 
   here : visible (known_view p) (home_name (slice_get (definitions (modules_of p.names.now)) id)) ≡ visible
       (known_view p) d.home.name
@@ -202,15 +189,14 @@ module _ (p : Progress) (id : ℕ) (d : Definition)
   built_refused None h = tt
   built_refused (Some f) h = by_tags f h
 
-  module _ (bare : AbstractType) (tagged : HasTags (around (known_view p) d)
-      (nodes_of_all (types_of (built_in p))) d.assignment.ty (Ok bare))
+  module _ (bare : AbstractType) (tagged : HasTags (known_view p) d (Ok bare))
       (apart : TellsApart d.assignment.site bare (Ok tt)) where
     finished_so : (answer : Outcome AbstractType)
         → FinishesInTurn (visible (known_view p) d.home.name) d.assignment.ty bare answer
         → Finishes (visible (known_view p) d.home.name) d.assignment.ty bare answer
     finished_so = type_filled (visible (known_view p) d.home.name) d.assignment.ty bare
-        (bare_of (visible (known_view p) d.home.name) (around (known_view p) d) (types_agree (known_view p) d)
-        (nodes_of_all (types_of (built_in p))) d.assignment.ty bare tagged)
+        (bare_of (visible (known_view p) d.home.name) tagged.0 (types_agree (known_view p) d tagged.0 tagged.1)
+        (nodes_of_all (types_of (built_in p))) d.assignment.ty bare tagged.2)
 
     completed_so : (answer : Outcome Built) → CompletesInTurn (known_view p)
         (visible (known_view p) d.home.name) d.assignment bare answer → BuildsNumber (known_view p) id answer
@@ -220,12 +206,10 @@ module _ (p : Progress) (id : ℕ) (d : Definition)
         (d, sym is, inl (bare, tagged, inl (tt, apart, inr (f, finished_so (Err f) finished, e))))
 
   parts_there : (bare : AbstractType) → TagsApart (known_view p) id d.assignment.site (Ok bare)
-      → HasTags (around (known_view p) d) (nodes_of_all (types_of (built_in p))) d.assignment.ty (Ok bare)
-      × TellsApart d.assignment.site bare (Ok tt)
+      → HasTags (known_view p) d (Ok bare) × TellsApart d.assignment.site bare (Ok tt)
   parts_there bare (inl (b, tagged, inl (u, apart, e))) =
       let at : b ≡ bare = sym (same_Ok bare b e) in (
-        subst (λ (t : AbstractType). HasTags (around (known_view p) d)
-            (nodes_of_all (types_of (built_in p))) d.assignment.ty (Ok t)) at (tagged_so (Ok b) tagged),
+        subst (λ (t : AbstractType). HasTags (known_view p) d (Ok t)) at (tagged_so (Ok b) tagged),
         subst (λ (t : AbstractType). TellsApart d.assignment.site t (Ok tt)) at apart,
       )
   parts_there bare (inl (b, tagged, inr (f, clash, e))) = absurd cc

@@ -1,34 +1,20 @@
 -- The type that a name means where constraints and values are written is the one that it means where tags are.
-use Rattle.std.proofs.Common.{◌≡◌, ℕ, suc, Bool, true, false, cond, List, [], ◌∷◌, ◌++◌, length, map, take, Option}
-use Rattle.std.proofs.Common.{Some, None, option_map, slice_get, nat_eq, refl, sym, ap, ◌∙◌, append_assoc}
+use Rattle.std.proofs.Common.{◌≡◌, ℕ, suc, Bool, true, false, cond, List, [], ◌∷◌, length, map, take, Option}
+use Rattle.std.proofs.Common.{Some, None, option_map, slice_get, nat_eq, refl, sym, ap, ◌∙◌}
 use Rattle.std.specs.Option.{option_and_then}
-use Rattle.std.proofs.lemmas.List.{map_push, append-nil}
 use Rattle.guard_model.specs.AbstractType.{AbstractType}
-use Rattle.guard_syntax.specs.Trees.{WrittenModule}
 use Rattle.guard_names.specs.Declarations.{Definition}
 use Rattle.guard_names.specs.Meanings.{number_meant}
 use Rattle.guard_names.specs.Places.{place_in}
-use Rattle.guard_tagging.specs.Surroundings.{meaning_at, known_behind, known_from}
-use Rattle.guard_tagging.specs.Types.{Meaning}
-use Rattle.guard_schema.specs.Known.{Built, Known, types_of, type_alone, visible, around}
-
--- ---- the types of what is known are those that are built
-
-abbrev types_known : List Meaning → List AbstractType
-types_known known = map (λ m. m.ty) known
-
-module _ (ms : List WrittenModule) (order : List ℕ) where
-  types_behind : (known : List Meaning) (rest : List ℕ) (types : List AbstractType)
-      → types_known (known_behind ms order known rest types) ≡ types_known known ++ take (length rest) types
-  types_behind known [] types = sym (append-nil (types_known known))
-  types_behind known (n ∷ rest) [] = sym (append-nil (types_known known))
-  types_behind known (n ∷ rest) (t ∷ types) =
-      types_behind (known ++ meaning_at ms order known n t ∷ []) rest types
-      ∙ ap (λ (ts : List AbstractType). ts ++ take (length rest) types)
-      (map_push (λ (m : Meaning). m.ty) known (meaning_at ms order known n t))
-      ∙ append_assoc (types_known known) (t ∷ []) (take (length rest) types)
+use Rattle.guard_tagging.specs.Types.{Meaning, Surroundings}
+use Rattle.guard_tagging.proofs.Definitions.Meanings.{types_taken}
+use Rattle.guard_schema.specs.Known.{Built, Known, types_of, type_alone, visible, IsWrittenUnder}
 
 -- ---- of the definition at one place
+
+-- the types of what is known
+abbrev types_known : List Meaning → List AbstractType
+types_known known = map (λ m. m.ty) known
 
 no_type : (place : Option ℕ) → type_alone (option_and_then (slice_get []) place) ≡ None
 no_type None = refl
@@ -80,14 +66,16 @@ type_placed (n ∷ order) (m ∷ known) (b ∷ bs) number e =
 
 -- ---- by a name
 
-pub types_agree : (k : Known) (d : Definition) (name : List ℕ)
-    → (visible k d.home.name).types name ≡ option_map (λ m. m.ty) ((around k d).meaning name)
-types_agree k d name = by (number_meant k.modules d.home.name name)
-  where
-    by : (number : Option ℕ) → type_alone (option_and_then (slice_get k.built)
-        (option_and_then (place_in k.order) number))
-        ≡ option_map (λ m. m.ty) (option_and_then (slice_get (known_from k.modules k.order (types_of k.built)))
-        (option_and_then (place_in k.order) number))
-    by None = refl
-    by (Some number) = type_placed k.order (known_from k.modules k.order (types_of k.built)) k.built number
-        (types_behind k.modules k.order [] k.order (types_of k.built))
+module _ (k : Known) (d : Definition) (surroundings : Surroundings) (under : IsWrittenUnder k d surroundings) where
+  by_number : (number : Option ℕ) → type_alone (option_and_then (slice_get k.built)
+      (option_and_then (place_in k.order) number))
+      ≡ option_map (λ m. m.ty) (option_and_then (slice_get under.0) (option_and_then (place_in k.order) number))
+  by_number None = refl
+  by_number (Some number) = type_placed k.order under.0 k.built number
+      (types_taken k.modules k.order (types_of k.built) under.0 under.1)
+
+  pub types_agree : (name : List ℕ)
+      → (visible k d.home.name).types name ≡ option_map (λ m. m.ty) (surroundings.meaning name)
+  types_agree name =
+      by_number (number_meant k.modules d.home.name name)
+      ∙ ap (λ (s : Surroundings). option_map (λ m. m.ty) (s.meaning name)) (sym under.2)

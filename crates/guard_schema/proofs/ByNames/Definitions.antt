@@ -75,8 +75,8 @@ module _ (place : ℕ → Option ℕ) where
       (option_map (λ i. (n + 1) + i) (number_assigned home name ds))
       → cond b (place n) (place_named home name (entries_from place (n + 1) ds)) ≡ option_and_then place
       (option_map (λ i. n + i) (cond b (Some 0) (option_map suc (number_assigned home name ds))))
-  found_at n home name ds true behind = let e : n ≡ n + 0 = omega arith in ap place e
-  found_at n home name ds false behind = behind ∙ shifted n (number_assigned home name ds)
+  found_at n home name ds true after = let e : n ≡ n + 0 = omega arith in ap place e
+  found_at n home name ds false after = after ∙ shifted n (number_assigned home name ds)
 
   found_from : (n : ℕ) (home name : List ℕ) (ds : List Definition)
       → place_named home name (entries_from place n ds) ≡ option_and_then place
@@ -177,13 +177,13 @@ got (Some t) xs i h = sym (slice_get_read xs (length xs) i t.now refl h.0 (h.1 t
 
 -- ---- those of a module from a place on
 
-abbrev pub defined_behind : Module → ℕ → List Definition
-defined_behind m i = map (λ a. record { home = module_view m; assignment = a })
+abbrev pub defined_after : Module → ℕ → List Definition
+defined_after m i = map (λ a. record { home = module_view m; assignment = a })
     (map assignment_view (drop i m.assignments.items))
 
 module _ (place : ℕ → Option ℕ) (total : List Entry) where
   module _ (m : Module) (i : ℕ) (all : List NamedDefinition)
-      (so_far : map entry_view all ++ entries_from place (length all) (defined_behind m i) ≡ total) where
+      (so_far : map entry_view all ++ entries_from place (length all) (defined_after m i) ≡ total) where
     pub next_definition : (after : List NamedDefinition) (a : Assignment) (n : NamedDefinition)
         → i < length m.assignments.items → a ≡ get_or m.assignments.items i a
         → entry_view n ≡ record {
@@ -192,27 +192,27 @@ module _ (place : ℕ → Option ℕ) (total : List Entry) where
           place =
               place (length all);
         } → after ≡ all ++ n ∷ []
-        → map entry_view after ++ entries_from place (length after) (defined_behind m (i + 1)) ≡ total
+        → map entry_view after ++ entries_from place (length after) (defined_after m (i + 1)) ≡ total
     next_definition after a n lt is entry pushed =
         let d : Definition = record { home = module_view m; assignment = assignment_view a } in
         let of = λ (xs : List Assignment). map (λ b. record { home = module_view m; assignment = b })
         (map assignment_view xs) in
-        let split : defined_behind m i ≡ d ∷ defined_behind m (i + 1) =
+        let split : defined_after m i ≡ d ∷ defined_after m (i + 1) =
         at_drop_more of m.assignments.items i a lt
         ∙ ap (λ (b : Assignment). of (b ∷ drop (i + 1) m.assignments.items)) (sym is) in
         let views : map entry_view after ≡ map entry_view all ++ entry_view n ∷ [] =
         ap (map entry_view) pushed ∙ map_push entry_view all n in
         let count : length after ≡ length all + 1 = ap length pushed ∙ length-append all (n ∷ []) in
-        ap (λ (xs : List Entry). xs ++ entries_from place (length after) (defined_behind m (i + 1))) views
-        ∙ ap (λ (k : ℕ). (map entry_view all ++ entry_view n ∷ []) ++ entries_from place k (defined_behind m (i + 1)))
+        ap (λ (xs : List Entry). xs ++ entries_from place (length after) (defined_after m (i + 1))) views
+        ∙ ap (λ (k : ℕ). (map entry_view all ++ entry_view n ∷ []) ++ entries_from place k (defined_after m (i + 1)))
         count
-        ∙ one_more place (map entry_view all) (length all) d (defined_behind m (i + 1)) (entry_view n) entry
+        ∙ one_more place (map entry_view all) (length all) d (defined_after m (i + 1)) (entry_view n) entry
         ∙ ap (λ (ds : List Definition). map entry_view all ++ entries_from place (length all) ds) (sym split)
         ∙ so_far
 
     pub last_definition : length m.assignments.items ≤ i → map entry_view all ≡ total
     last_definition le =
-        let none : defined_behind m i ≡ [] = at_drop_all
+        let none : defined_after m i ≡ [] = at_drop_all
         (λ (xs : List Assignment). map (λ b. record { home = module_view m; assignment = b })
         (map assignment_view xs)) m.assignments.items i le in
         sym (append-nil (map entry_view all))

@@ -22,7 +22,7 @@ use Rattle.guard_schema.specs.Faults.{AbstractFault, Outcome}
 use Rattle.guard_schema.specs.Finishing.{put_before, site_of_type, constraint_before, count_of_meant, ConstrainsBefore}
 use Rattle.guard_schema.specs.Finishing.{Constrains, FinishesComponent, FillsPresence, Finishes, FinishesKind, Fills}
 use Rattle.guard_schema.specs.Finishing.{FillsFrom, FillsFromBase, FillsOthers}
-use Rattle.guard_schema.specs.inside.InTurn.{Filling, listed, moved, FillsAll, FillsNext, ListInTurn, ElementInTurn}
+use Rattle.guard_schema.specs.inside.InTurn.{Filling, listed, taken_over, FillsAll, FillsNext, ListInTurn, ElementInTurn}
 use Rattle.guard_schema.specs.inside.InTurn.{FinishesInTurn, KindInTurn, FillsInTurn, FromInTurn, FromBaseInTurn}
 use Rattle.guard_schema.specs.inside.InTurn.{OthersInTurn}
 use Rattle.guard_schema.proofs.Turns.Outcomes.{flattened}
@@ -60,7 +60,7 @@ left_after type.no_components after = refl
 left_after (type.component name t presence cs) after = left_after cs after
 
 moved_all : (cs : Components) (done after : List OneComponent)
-    → moved (component_count cs) (filling done (listed cs ++ after)) ≡ filling (done ++ listed cs) after
+    → taken_over (component_count cs) (filling done (listed cs ++ after)) ≡ filling (done ++ listed cs) after
 moved_all cs done after =
     ap (λ (x : List OneComponent). filling (done ++ x) (drop (component_count cs) (listed cs ++ after)))
     (taken_first cs after)
@@ -303,7 +303,7 @@ module _ (names : Visible) where
         subst (λ (r : Outcome Filling). Filled (FillsFromBase names (named_type site name) taken) done after r) (sym h) (
           taken,
           (t, is, same, refl),
-          ap (λ (n : ℕ). moved n (filling done (listed taken ++ after)))
+          ap (λ (n : ℕ). taken_over n (filling done (listed taken ++ after)))
               (ap count_of_meant is ∙ sym (ap component_count same)) ∙ moved_all taken done after,
         )
 

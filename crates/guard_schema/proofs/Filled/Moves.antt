@@ -13,7 +13,7 @@ use Rattle.guard_schema.specs.declared.fault.SchemaFault.{SchemaFault}
 use Rattle.guard_schema.specs.declared.finishing.Filling as code
 use Rattle.guard_schema.specs.Outcomes.{Answers}
 use Rattle.guard_schema.specs.Faults.{Outcome, named}
-use Rattle.guard_schema.specs.inside.InTurn.{Filling, with_done, moved, FillsNext, FillsOne}
+use Rattle.guard_schema.specs.inside.InTurn.{Filling, with_done, taken_over, FillsNext, FillsOne}
 use Rattle.guard_schema.specs.Views.{filling_view}
 
 abbrev pub shown : List OneComponent → List OneComponent → Filling
@@ -68,16 +68,16 @@ module _ (names : Visible) (site : Site) (Finish : AbstractType → Outcome Abst
 -- ---- one that needs nothing
 
 module _ (done old new : List Comp) (o : Option Comp) (e : old ≡ option_to_list o ++ new) where
-  pub one_moves : (x : Comp) → o ≡ Some x → with_done (component_view x) (seen done new) ≡ moved 1 (seen done old)
-  one_moves x is = ap (λ (xs : List OneComponent). moved 1 (shown (map component_view done) xs))
+  pub one_moves : (x : Comp) → o ≡ Some x → with_done (component_view x) (seen done new) ≡ taken_over 1 (seen done old)
+  one_moves x is = ap (λ (xs : List OneComponent). taken_over 1 (shown (map component_view done) xs))
       (sym (one_left old new o x e is))
 
-  pub nothing_moves : o ≡ None → new ≡ drop 1 old → seen done new ≡ moved 1 (seen done old)
+  pub nothing_moves : o ≡ None → new ≡ drop 1 old → seen done new ≡ taken_over 1 (seen done old)
   nothing_moves is rest =
-      let nothing : seen done [] ≡ moved 1 (seen done []) =
+      let nothing : seen done [] ≡ taken_over 1 (seen done []) =
       ap (λ (xs : List OneComponent). shown xs []) (sym (append-nil (map component_view done))) in
       ap (λ (ys : List Comp). seen done ys) (sym (same_left old new o e is))
-      ∙ subst (λ (xs : List Comp). seen done xs ≡ moved 1 (seen done xs)) (sym (none_left old new o e is rest)) nothing
+      ∙ subst (λ (xs : List Comp). seen done xs ≡ taken_over 1 (seen done xs)) (sym (none_left old new o e is rest)) nothing
 
 -- ---- several that need nothing
 
@@ -94,15 +94,15 @@ drop_after (suc i) (x ∷ xs) = drop_after i xs
 both : (a b c d : List OneComponent) → a ≡ b → c ≡ d → shown a c ≡ shown b d
 both a b c d e f = ap (λ (x : List OneComponent). shown x c) e ∙ ap (λ (y : List OneComponent). shown b y) f
 
-pub none_yet : (start : Filling) → start ≡ moved 0 start
+pub none_yet : (start : Filling) → start ≡ taken_over 0 start
 none_yet start = ap (λ (ws : List OneComponent). shown ws start.left) (sym (append-nil start.done))
 
-pub moved_more : (i : ℕ) (start : Filling) → moved 1 (moved i start) ≡ moved (i + 1) start
-moved_more i start =
+pub taken_over_more : (i : ℕ) (start : Filling) → taken_over 1 (taken_over i start) ≡ taken_over (i + 1) start
+taken_over_more i start =
     let next : suc i ≡ i + 1 = omega arith in
     both ((start.done ++ take i start.left) ++ take 1 (drop i start.left)) (start.done ++ take (suc i) start.left)
     (drop 1 (drop i start.left)) (drop (suc i) start.left)
     (append_assoc start.done (take i start.left) (take 1 (drop i start.left))
     ∙ ap (λ (ws : List OneComponent). start.done ++ ws) (take_after i start.left))
     (drop_after i start.left)
-    ∙ ap (λ (n : ℕ). moved n start) next
+    ∙ ap (λ (n : ℕ). taken_over n start) next

@@ -16,7 +16,7 @@ use Rattle.guard_constraints.specs.Visible.{Visible}
 use Rattle.guard_schema.specs.Faults.{Outcome}
 use Rattle.guard_schema.specs.Finishing.{count_of_meant, with_constraint, constraint_before, site_of_type, Adds}
 use Rattle.guard_schema.specs.Finishing.{Constrains, ConstrainsByOne, ConstrainsBefore}
-use Rattle.guard_schema.specs.inside.InTurn.{Filling, listed, moved, FinishesInTurn, KindInTurn, ListInTurn}
+use Rattle.guard_schema.specs.inside.InTurn.{Filling, listed, taken_over, FinishesInTurn, KindInTurn, ListInTurn}
 use Rattle.guard_schema.specs.inside.InTurn.{ChoiceInTurn, ElementInTurn, FillsAll, FillsInTurn, FillsNext, FromInTurn}
 use Rattle.guard_schema.specs.inside.InTurn.{FromBaseInTurn, OthersInTurn}
 
@@ -207,8 +207,8 @@ module _ (Finish : AbstractType → Outcome AbstractType → Type 0) (no_more : 
   next_nodes names site presence done (c ∷ left) g (inl (one, inr (f, h, e), d)) = absurd cc
   next_nodes names site presence done (c ∷ left) g (inr (f, h, e)) = absurd cc
 
-moved_nodes : (n : ℕ) (f g : Filling) → g ≡ moved n f → whole g ≤ whole f
-moved_nodes n f g e = two (whole g) (total (f.done ++ take n f.left)) (total f.done) (total (take n f.left))
+taken_over_nodes : (n : ℕ) (f g : Filling) → g ≡ taken_over n f → whole g ≤ whole f
+taken_over_nodes n f g e = two (whole g) (total (f.done ++ take n f.left)) (total f.done) (total (take n f.left))
     (total (drop n f.left)) (total f.left) (ap whole e) (total_append f.done (take n f.left)) (total_taken n f.left)
   where
     two : (w a b c d l : ℕ) → w ≡ a + d → a ≡ b + c → c + d ≡ l → w ≤ b + l
@@ -256,7 +256,7 @@ module _ (names : Visible) where
     from_base_nodes : (base : WrittenBase) (f g : Filling) → FromBaseInTurn names base f (Ok g) → whole g ≤ whole f
     from_base_nodes (structure c cs) f g h = fills_nodes cs f g h
     from_base_nodes (named_type site name) f g e =
-        moved_nodes (count_of_meant (names.types name)) f g (same_Ok g (moved (count_of_meant (names.types name)) f) e)
+        taken_over_nodes (count_of_meant (names.types name)) f g (same_Ok g (taken_over (count_of_meant (names.types name)) f) e)
     from_base_nodes (choice others) f g e = same_filling f g e
     from_base_nodes (of_type c b w) f g e = same_filling f g e
     from_base_nodes (plain p) f g e = same_filling f g e

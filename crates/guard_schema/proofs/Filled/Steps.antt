@@ -72,12 +72,12 @@ module _ (names : Visible) (tree : TypeTree) (t : AbstractType) where
   before_refused (Some f) h = subst (λ (w : WrittenType). ConstrainsWritten names w t (Err f)) (sym (type_is tree))
       (inr (f, h, refl))
 
-  pub then_behind : (u : AbstractType) → ConstrainsBefore names (out-TypeTree tree).site
+  pub then_after : (u : AbstractType) → ConstrainsBefore names (out-TypeTree tree).site
       (constraint_before (written.base_view (out-TypeTree tree).base)) t (Ok u)
       → (result : Result Ty SchemaFault) → Answers type_view named result
       (Constrains names (out-TypeTree tree).site (map sets.constraint_view (out-TypeTree tree).cons.items) u)
       → Answers type_view named result (ConstrainsWritten names (written.type_view tree) t)
-  then_behind u h result k =
+  then_after u h result k =
       subst (λ (w : WrittenType). Answers type_view named result (ConstrainsWritten names w t)) (sym (type_is tree))
       (next_answers (ConstrainsBefore names (out-TypeTree tree).site
       (constraint_before (written.base_view (out-TypeTree tree).base)) t)

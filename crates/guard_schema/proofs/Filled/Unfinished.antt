@@ -15,10 +15,11 @@ use Rattle.guard_syntax.specs.Trees.{optional, default, WrittenType, type_node, 
 use Rattle.guard_syntax.specs.Trees.{enumerated, structure, choice, of_type, named_type, WrittenComponents}
 use Rattle.guard_syntax.specs.Trees.{no_components, component, components_from, WrittenAlternatives, no_alternatives}
 use Rattle.guard_syntax.specs.Trees.{alternative}
-use Rattle.guard_tagging.specs.Types.{structure_kind, of_kind, presence_of, join}
+use Rattle.guard_tagging.specs.Types.{Surroundings, structure_kind, of_kind, presence_of, join, denoted}
+use Rattle.guard_tagging.proofs.Definitions.Meanings.{same_surroundings}
 use Rattle.guard_constraints.specs.Visible.{Visible}
 use Rattle.guard_schema.specs.Faults.{Outcome}
-use Rattle.guard_schema.specs.Known.{Built, visible}
+use Rattle.guard_schema.specs.Known.{Built, types_of, visible}
 use Rattle.guard_schema.specs.Finishing.{add, with_constraint, put_before, constraint_before, site_of_type}
 use Rattle.guard_schema.specs.Finishing.{count_of_meant, count_written, count_put_in, count_within, Adds, Constrains}
 use Rattle.guard_schema.specs.Finishing.{ConstrainsByOne, ConstrainsBefore, FillsPresence, FinishesComponent, Finishes}
@@ -279,9 +280,11 @@ pub bare_again : IsBareAgain
 bare_again names tree bare t h = type_off names tree bare t h
 
 pub tagged_again : IsTaggedAgain
-tagged_again k d b (inl (bare, tagged, inl (u, apart, inl (t, finished, value)))) =
+tagged_again k d surroundings b under (inl (bare, tagged, inl (u, apart, inl (t, finished, value)))) =
     ap (unfinished (visible k d.home.name) d.assignment.ty) (type_built value)
-    ∙ type_off (visible k d.home.name) d.assignment.ty bare t finished ∙ tagged.1
+    ∙ type_off (visible k d.home.name) d.assignment.ty bare t finished ∙ tagged.2.1
+    ∙ ap (λ (s : Surroundings). denoted s d.assignment.ty)
+    (same_surroundings k.modules k.order (types_of k.built) d tagged.0 surroundings tagged.1 under)
   where
     type_built : HasValue k (visible k d.home.name) d.assignment t (Ok b) → b.ty ≡ t
     type_built (inl (u, sound, inl (v, assigned, inl (w, keeps, e)))) =
@@ -289,6 +292,6 @@ tagged_again k d b (inl (bare, tagged, inl (u, apart, inl (t, finished, value)))
     type_built (inl (u, sound, inl (v, assigned, inr (f, keeps, e)))) = absurd cc
     type_built (inl (u, sound, inr (f, assigned, e))) = absurd cc
     type_built (inr (f, sound, e)) = absurd cc
-tagged_again k d b (inl (bare, tagged, inl (u, apart, inr (f, finished, e)))) = absurd cc
-tagged_again k d b (inl (bare, tagged, inr (f, apart, e))) = absurd cc
-tagged_again k d b (inr (f, tagged, e)) = absurd cc
+tagged_again k d surroundings b under (inl (bare, tagged, inl (u, apart, inr (f, finished, e)))) = absurd cc
+tagged_again k d surroundings b under (inl (bare, tagged, inr (f, apart, e))) = absurd cc
+tagged_again k d surroundings b under (inr (f, tagged, e)) = absurd cc

@@ -27,8 +27,8 @@ alphanumeric_ascii c h = grind (arith, nat_tests)
 alphabetic_ascii : (c : ℕ) → is_ascii_alphabetic c ≡ true → c < 128
 alphabetic_ascii c h = grind (arith, nat_tests)
 
-of_word_ascii : (c : ℕ) (behind : List ℕ) → is_of_word c behind ≡ true → c < 128
-of_word_ascii c behind h = grind (arith, nat_tests)
+of_word_ascii : (c : ℕ) (after : List ℕ) → is_of_word c after ≡ true → c < 128
+of_word_ascii c after h = grind (arith, nat_tests)
 
 are_ascii : (octets : List ℕ) → are_of_word octets ≡ true → IsAscii octets
 are_ascii [] h = IsAscii-nil

@@ -18,12 +18,14 @@ use Rattle.guard_names.proofs.OneFault.{never_both}
 use Rattle.guard_names.proofs.OneFault as names
 use Rattle.guard_tagging.specs.Surroundings.{nodes_of_all}
 use Rattle.guard_tagging.specs.Types.{Surroundings}
+use Rattle.guard_tagging.proofs.Definitions.Meanings.{same_surroundings}
 use Rattle.guard_constraints.specs.Visible.{Visible}
 use Rattle.guard_schema.specs.OneAnswer.{SameFault, IsDecided}
-use Rattle.guard_schema.specs.Faults.{AbstractFault, Lex, Syntax, Name, Tag, Clash}
+use Rattle.guard_schema.specs.Faults.{AbstractFault, Lex, Syntax, Name, Tag, Clash, Outcome}
 use Rattle.guard_schema.specs.Texts.{IsModuleText, ReadsText, ReadsTexts}
-use Rattle.guard_schema.specs.Known.{Known, with_built, none_known, types_of, visible, around}
-use Rattle.guard_schema.specs.Building.{HasTags, TellsApart, Assigns, HasValue, Builds, BuildsNumber, BuildsAll}
+use Rattle.guard_schema.specs.Known.{Known, with_built, none_known, types_of, visible, IsWrittenUnder}
+use Rattle.guard_schema.specs.Building.{HasTagsUnder, HasTags, TellsApart, Assigns, HasValue, Builds, BuildsNumber}
+use Rattle.guard_schema.specs.Building.{BuildsAll}
 use Rattle.guard_schema.specs.Accepts.{OrdersNames, Denotes}
 use Rattle.guard_schema.proofs.Turns.Outcomes.{is_decided, passes_decided, then_decided}
 use Rattle.guard_schema.proofs.OneAnswer.Clashes.{one_clash}
@@ -86,23 +88,41 @@ names_decided ms = record {
 
 -- ---- definitions
 
-tags_decided : (surroundings : Surroundings) (before : ℕ) (tree : WrittenType)
-    → IsDecided (HasTags surroundings before tree)
-tags_decided surroundings before tree = record { one = λ a b h k. h.1 ∙ sym k.1; alone = alone; first = first }
+decided_under : (surroundings : Surroundings) (before : ℕ) (tree : WrittenType)
+    → IsDecided (HasTagsUnder surroundings before tree)
+decided_under surroundings before tree = record { one = λ a b h k. h.1 ∙ sym k.1; alone = alone; first = first }
   where
-    first : (f g : AbstractFault) → HasTags surroundings before tree (Err f) → HasTags surroundings before tree (Err g)
+    first : (f g : AbstractFault) → HasTagsUnder surroundings before tree (Err f) → HasTagsUnder surroundings before tree (Err g)
         → SameFault f g
     first (Tag f) (Tag g) h k = inl (ap Tag (same_Some f g (sym h.1 ∙ k.1)))
     first (Tag f) _ h k = absurd k
     first _ g h k = absurd h
 
-    alone : (t : AbstractType) (f : AbstractFault) → HasTags surroundings before tree (Ok t)
-        → HasTags surroundings before tree (Err f) → ⊥
+    alone : (t : AbstractType) (f : AbstractFault) → HasTagsUnder surroundings before tree (Ok t)
+        → HasTagsUnder surroundings before tree (Err f) → ⊥
     alone t (Tag f) h k = none_some (sym h.0 ∙ k.1)
       where
         none_some : None ≡ Some f → ⊥
         none_some e = cc
     alone t _ h k = k
+
+-- a definition has one surroundings
+tags_decided : (k : Known) (d : Definition) → IsDecided (HasTags k d)
+tags_decided k d = record {
+  one = λ a b h l. (decided l.0).one a b (there (Ok a) h l.0 l.1) l.2;
+  alone = λ a f h l. (decided l.0).alone a f (there (Ok a) h l.0 l.1) l.2;
+  first = λ f g h l. (decided l.0).first f g (there (Err f) h l.0 l.1) l.2;
+}
+  where
+    decided : (s : Surroundings)
+        → IsDecided (HasTagsUnder s (nodes_of_all (types_of k.built)) d.assignment.ty)
+    decided s = decided_under s (nodes_of_all (types_of k.built)) d.assignment.ty
+
+    there : (answer : Outcome AbstractType) (h : HasTags k d answer) (s : Surroundings) → IsWrittenUnder k d s
+        → HasTagsUnder s (nodes_of_all (types_of k.built)) d.assignment.ty answer
+    there answer h s under =
+        subst (λ (x : Surroundings). HasTagsUnder x (nodes_of_all (types_of k.built)) d.assignment.ty answer)
+        (same_surroundings k.modules k.order (types_of k.built) d h.0 s h.1 under) h.2
 
 apart_decided : (site : Site) (t : AbstractType) → IsDecided (TellsApart site t)
 apart_decided site t = record { one = λ x y h k. refl; alone = alone; first = first }
@@ -132,7 +152,7 @@ module _ (one_value : OneValue) (one_constraint : OneConstraint) (one_cons_fault
 
   builds_decided : (k : Known) (d : Definition) → IsDecided (Builds k d)
   builds_decided k d =
-      then_decided _ _ (tags_decided (around k d) (nodes_of_all (types_of k.built)) d.assignment.ty) (λ bare.
+      then_decided _ _ (tags_decided k d) (λ bare.
       then_decided _ _ (apart_decided d.assignment.site bare) (λ _.
       then_decided _ _ (type_decided one_value one_constraint one_cons_fault
       (visible k d.home.name) d.assignment.ty bare) (λ t.

@@ -17,12 +17,13 @@ use Rattle.guard_names.specs.Places.{place_in, place_meant}
 use Rattle.guard_names.proofs.Places.{placed_there}
 use Rattle.guard_names.proofs.Refusals.{none_duplicate}
 use Rattle.guard_tagging.specs.Surroundings.{tag_default_of, known_from}
-use Rattle.guard_tagging.specs.Types.{denoted}
-use Rattle.guard_tagging.proofs.Definitions.InOrder.{known_in_order}
+use Rattle.guard_tagging.specs.Skeletons.{surroundings_of}
+use Rattle.guard_tagging.specs.Types.{Surroundings, denoted}
+use Rattle.guard_tagging.proofs.Definitions.InOrder.{known_in_order, around_is}
 use Rattle.guard_tagging.proofs.Definitions.KnownNames.{known_in_type}
 use Rattle.guard_constraints.specs.Visible.{Visible}
 use Rattle.guard_schema.specs.Known.{Built, Known, none_known, types_of, built_at, meant, governed, type_alone, visible}
-use Rattle.guard_schema.specs.Known.{around}
+use Rattle.guard_schema.specs.Known.{IsWrittenUnder}
 use Rattle.guard_schema.specs.Finishing.{Finishes}
 use Rattle.guard_schema.specs.Building.{Assigns, HasValue, Builds, BuildsAll}
 use Rattle.guard_schema.specs.Schemas.{AbstractSchema, number_assigned, type_unless, assigned_type, schema_of}
@@ -58,6 +59,10 @@ no_value names t None v h e = same_Ok v None h
 no_value names t (Some tree) v h e = none_some tree (sym e)
 
 -- ---- more is known where more is built
+
+-- the surroundings of a definition, found by going through those before it
+abbrev around : Known → Definition → Surroundings
+around k d = surroundings_of k.modules k.order (types_of k.built) d
 
 lifted : {A B : Type 0} (f : Option A → Option B) → f None ≡ None → (fewer more : Option A)
     → ((a : A) → fewer ≡ Some a → more ≡ Some a)
@@ -118,6 +123,20 @@ module _ (ms : List WrittenModule) (faultless : AreFaultless ms) (order : List �
       (known_in_order ms faultless.named order ordered (types_of before)) number
       (ap (slice_get order) (length-map before (λ (c : Built). c.ty)) ∙ next) d is)
 
+  under_whole : IsWrittenUnder whole d (around whole d)
+  under_whole = (
+    known_from ms order (types_of (before ++ b ∷ after)),
+    known_in_order ms faultless.named order ordered (types_of (before ++ b ∷ after)),
+    refl,
+  )
+
+  -- what its tree denotes where those before it are built, it denotes where all are
+  denoted_in_whole : (surroundings : Surroundings) → IsWrittenUnder then d surroundings
+      → denoted surroundings d.assignment.ty ≡ denoted (around whole d) d.assignment.ty
+  denoted_in_whole surroundings under =
+      ap (λ (s : Surroundings). denoted s d.assignment.ty)
+      (around_is ms faultless.named order ordered (types_of before) d surroundings under) ∙ same_denoted
+
   valued : (t : AbstractType) → HasValue then (visible then d.home.name) d.assignment t (Ok b)
       → (b.ty ≡ t) × (b.value ≡ None → d.assignment.value ≡ None) × (d.assignment.value ≡ None → b.value ≡ None)
   valued t (inl (u, sound, inl (v, assigned, inl (w, keeps, e)))) =
@@ -144,9 +163,11 @@ module _ (ms : List WrittenModule) (faultless : AreFaultless ms) (order : List �
       let all : Finishes (visible whole d.home.name) d.assignment.ty (denoted (around whole d) d.assignment.ty)
       (Ok b.ty) =
       subst (λ (x : AbstractType). Finishes (visible whole d.home.name) d.assignment.ty x (Ok b.ty))
-      (tagged.1 ∙ same_denoted) known in
+      (tagged.2.1 ∙ denoted_in_whole tagged.0 tagged.1) known in
       record {
         finished = record {
+          surroundings = around whole d;
+          under = under_whole;
           finished = all;
           again =
               bare_again (visible whole d.home.name) d.assignment.ty

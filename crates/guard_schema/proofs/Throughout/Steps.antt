@@ -53,7 +53,7 @@ built_there (n ∷ ns) k built (inl (b, h, rest)) (suc place) number e =
       builds = later.builds;
     }
 
--- what stands after others
+-- what comes after others
 pub at_seam : {A : Type 0} (xs : List A) (y : A) (ys : List A) (place : ℕ) → length xs ≡ place
     → slice_get (xs ++ y ∷ ys) place ≡ Some y
 at_seam [] y ys zero e = refl

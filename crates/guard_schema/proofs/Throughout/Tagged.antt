@@ -93,14 +93,14 @@ module _ (ms : List WrittenModule) (order : List ℕ) where
       still_known (known ++ meaning_at ms order known n t ∷ []) rest types p m
       (at_front known (meaning_at ms order known n t ∷ []) p m h)
 
-  known_behind_more : (known : List Meaning) (rest : List ℕ) (ts more : List AbstractType) (p : ℕ) (m : Meaning)
+  known_after_more : (known : List Meaning) (rest : List ℕ) (ts more : List AbstractType) (p : ℕ) (m : Meaning)
       → slice_get (known_behind ms order known rest ts) p ≡ Some m
       → slice_get (known_behind ms order known rest (ts ++ more)) p ≡ Some m
-  known_behind_more known [] ts more p m h = h
-  known_behind_more known (n ∷ rest) [] more p m h = still_known known (n ∷ rest) more p m h
-  known_behind_more known (n ∷ rest) (t ∷ ts) more p m h =
-      known_behind_more (known ++ meaning_at ms order known n t ∷ []) rest ts more p m h
+  known_after_more known [] ts more p m h = h
+  known_after_more known (n ∷ rest) [] more p m h = still_known known (n ∷ rest) more p m h
+  known_after_more known (n ∷ rest) (t ∷ ts) more p m h =
+      known_after_more (known ++ meaning_at ms order known n t ∷ []) rest ts more p m h
 
   pub known_more : (ts more : List AbstractType) (p : ℕ) (m : Meaning) → slice_get (known_from ms order ts) p ≡ Some m
       → slice_get (known_from ms order (ts ++ more)) p ≡ Some m
-  known_more ts more p m h = known_behind_more [] order ts more p m h
+  known_more ts more p m h = known_after_more [] order ts more p m h

@@ -12,7 +12,7 @@ use Rattle.guard_syntax.specs.Trees.{WrittenModule, WrittenValue}
 use Rattle.guard_names.specs.Declarations.{Definition}
 use Rattle.guard_values.specs.Meanings.{AreFitting}
 use Rattle.guard_constraints.specs.Visible.{Visible}
-use Rattle.guard_constraints.proofs.Values.{denoted_fits}
+use Rattle.guard_constraints.proofs.Denoted.WrittenValues.{denoted_fits}
 use Rattle.guard_schema.specs.Known.{Built, Known, with_built, none_known, visible}
 use Rattle.guard_schema.specs.Building.{Assigns, HasValue, Builds, BuildsAll}
 use Rattle.guard_schema.specs.OnlyLong.{IsSoundBuilt}

@@ -23,14 +23,14 @@ use Rattle.guard_tagging.specs.Faults.{nodes}
 use Rattle.guard_tagging.specs.Surroundings.{nodes_of_all}
 use Rattle.guard_tagging.specs.Tagged.{KeepLimits}
 use Rattle.guard_tagging.specs.Tagging.{is_untagged_choice, automatic_tag}
-use Rattle.guard_tagging.specs.Types.{Meaning, denoted}
+use Rattle.guard_tagging.specs.Types.{Meaning, Surroundings, denoted}
 use Rattle.guard_tagging.proofs.Types.Denoted.{within}
 use Rattle.guard_values.specs.Meanings.{AreFitting}
 use Rattle.guard_values.specs.declared.fault.ValueFault.TheVariants as value_fault
 use Rattle.guard_schema.specs.Faults.{Value}
 use Rattle.guard_schema.specs.LongValues.{first_long}
 use Rattle.guard_schema.specs.Known.{Built, Known, types_of, governed_value, governed, type_alone, meant, visible}
-use Rattle.guard_schema.specs.Known.{around}
+use Rattle.guard_schema.specs.Known.{IsWrittenUnder}
 use Rattle.guard_schema.specs.Finishing.{Finishes}
 use Rattle.guard_schema.specs.OnlyLong.{IsSoundBuilt, HasBare, IsUnsoundByValue, OnlyLongValues, OnlyLongInParts}
 use Rattle.guard_schema.proofs.Built.Visible.{all_at}
@@ -39,7 +39,7 @@ use Rattle.guard_schema.proofs.Unsound.Shapes.{shape, type_shape}
 use Rattle.guard_schema.proofs.Unsound.Clashes.{clash_shape, nesting_shape}
 use Rattle.guard_schema.proofs.Unsound.Bare.{IsMadeUp, made_up, retagged_by}
 use Rattle.guard_schema.proofs.Unsound.Finished.{type_near}
-use Rattle.guard_constraints.proofs.Values.{sound_proper}
+use Rattle.guard_constraints.proofs.Denoted.WrittenValues.{sound_proper}
 
 -- ---- what names mean is sound
 
@@ -73,22 +73,23 @@ module _ (k : Known) (all : All IsSoundBuilt k.built) (home : List ℕ) where
 
 -- ---- the law
 
-module _ (k : Known) (d : Definition) (all : All IsSoundBuilt k.built) where
-  agree : (name : List ℕ) → (visible k d.home.name).types name ≡ option_map (λ m. m.ty) ((around k d).meaning name)
-  agree name = types_agree k d name
+module _ (k : Known) (d : Definition) (surroundings : Surroundings) (under : IsWrittenUnder k d surroundings)
+    (all : All IsSoundBuilt k.built) where
+  agree : (name : List ℕ) → (visible k d.home.name).types name ≡ option_map (λ m. m.ty) (surroundings.meaning name)
+  agree name = types_agree k d surroundings under name
 
   proper_types : (name : List ℕ) (u : AbstractType) → (visible k d.home.name).types name ≡ Some u → IsTrue (is_proper u)
   proper_types name u h = sound_proper u (sound_types k all d.home.name name u h)
 
-  pub limits : KeepLimits (around k d)
-  limits name = by ((around k d).meaning name) refl
+  pub limits : KeepLimits surroundings
+  limits name = by (surroundings.meaning name) refl
     where
-      by : (o : Option Meaning) → (around k d).meaning name ≡ o → IfSome o (λ m. is_within_limits m.ty ≡ true)
+      by : (o : Option Meaning) → surroundings.meaning name ≡ o → IfSome o (λ m. is_within_limits m.ty ≡ true)
       by None e = tt
       by (Some m) e = sound_within_limits m.ty
           (sound_types k all d.home.name name m.ty (agree name ∙ ap (option_map (λ m. m.ty)) e))
 
-  module _ (tree : WrittenType) (bare t : AbstractType) (has : HasBare (around k d) tree bare)
+  module _ (tree : WrittenType) (bare t : AbstractType) (has : HasBare surroundings tree bare)
       (distinct : Distinct bare) (shallow : nat_le (nesting bare) deepest_nesting ≡ true)
       (finished : Finishes (visible k d.home.name) tree bare (Ok t)) where
     same_shape : shape t ≡ shape bare
@@ -105,15 +106,15 @@ module _ (k : Known) (d : Definition) (all : All IsSoundBuilt k.built) where
     few : (n : ℕ) → n ≤ 64 → nat_le n greatest_tag_number ≡ true
     few n l = grind (arith, nat_tests)
 
-    made : HasBare (around k d) tree bare → IsMadeUp (visible k d.home.name) tree bare
+    made : HasBare surroundings tree bare → IsMadeUp (visible k d.home.name) tree bare
     made (automatic, before, count, none, inl e) =
         subst (λ (x : AbstractType). IsMadeUp (visible k d.home.name) tree x) (sym e)
-        (made_up (visible k d.home.name) (around k d) agree proper_types automatic before count tree none)
+        (made_up (visible k d.home.name) surroundings agree proper_types automatic before count tree none)
     made (automatic, before, count, none, inr (n, l, e)) =
         subst (λ (x : AbstractType). IsMadeUp (visible k d.home.name) tree x) (sym e)
-        (retagged_by (visible k d.home.name) (around k d) agree proper_types tree
-        (is_untagged_choice (denoted (around k d) tree)) (automatic_tag n) (denoted (around k d) tree) (few n l)
-        (made_up (visible k d.home.name) (around k d) agree proper_types automatic before count tree none))
+        (retagged_by (visible k d.home.name) surroundings agree proper_types tree
+        (is_untagged_choice (denoted surroundings tree)) (automatic_tag n) (denoted surroundings tree) (few n l)
+        (made_up (visible k d.home.name) surroundings agree proper_types automatic before count tree none))
 
     near : first_long t ≡ None → IsTrue (is_proper t)
     near = type_near (visible k d.home.name) (fitting k all d.home.name) (sound_types k all d.home.name) tree bare t
@@ -143,13 +144,13 @@ shallow_then : (n : ℕ) → n ≤ 32 → nat_le n deepest_nesting ≡ true
 shallow_then n l = grind (arith, nat_tests)
 
 pub only_long_in_parts : OnlyLongInParts
-only_long_in_parts k d tree bare t all has distinct shallow finished =
-    value_there k d all tree bare t has distinct (shallow_then (nesting bare) shallow) finished
+only_long_in_parts k d surroundings tree bare t under all has distinct shallow finished =
+    value_there k d surroundings under all tree bare t has distinct (shallow_then (nesting bare) shallow) finished
 
 pub only_long_values : OnlyLongValues
-only_long_values k d bare t all tagged distinct finished =
+only_long_values k d surroundings bare t under all tagged distinct finished =
     let before = nodes_of_all (types_of k.built) in
-    value_there k d all d.assignment.ty bare t
-    (false, before, before + nodes (denoted (around k d) d.assignment.ty), tagged.0, inl tagged.1) distinct
+    value_there k d surroundings under all d.assignment.ty bare t
+    (false, before, before + nodes (denoted surroundings d.assignment.ty), tagged.0, inl tagged.1) distinct
     (and_parts (keeps_limits bare) (nat_le (nesting bare) deepest_nesting)
-    (within (around k d) (limits k d all) before d.assignment.ty bare tagged)).1 finished
+    (within surroundings (limits k d surroundings under all) before d.assignment.ty bare tagged)).1 finished

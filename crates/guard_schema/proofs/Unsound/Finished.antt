@@ -32,9 +32,9 @@ use Rattle.guard_tagging.specs.Types.{structure_kind, of_kind, presence_of, part
 use Rattle.guard_values.specs.Meanings.{AreFitting}
 use Rattle.guard_constraints.specs.Visible.{Visible}
 use Rattle.guard_constraints.specs.Denotes as constraints
-use Rattle.guard_constraints.proofs.Proper.{proper}
-use Rattle.guard_constraints.proofs.SoundParts.{size_sound}
-use Rattle.guard_constraints.proofs.Values.{denoted_fits, sound_proper}
+use Rattle.guard_constraints.proofs.Denoted.ProperConstraints.{proper}
+use Rattle.guard_constraints.proofs.Denoted.SoundParts.{size_sound}
+use Rattle.guard_constraints.proofs.Denoted.WrittenValues.{denoted_fits, sound_proper}
 use Rattle.guard_schema.specs.Faults.{Outcome}
 use Rattle.guard_schema.specs.LongValues.{long_in_all, first_long, long_inside, long_in_parts}
 use Rattle.guard_schema.specs.Finishing.{with_constraint, put_before, constraint_before, site_of_type, AddsOne, Adds}
@@ -193,10 +193,10 @@ module _ (names : Visible) (fit : AreFitting names.values)
       (sym (same_Ok p type.optional e)) refl
   presence_proper site t (default tree) p (inl (x, s, inl (v, inl (w, d, inl (y, m, is)), e))) =
       let same : v ≡ w = same_Ok v w is in
-      let stands : IsTrue (is_proper_presence t (type.default w)) =
+      let proper : IsTrue (is_proper_presence t (type.default w)) =
       and_from (fits t w) (is_short (der t w)) (denoted_fits names.values fit t tree w s d) d.1 in
       subst (λ (z : AbstractPresence). IsTrue (is_proper_presence t z))
-      (sym (same_Ok p (type.default v) e ∙ ap (λ (z : AbstractValue). type.default z) same)) stands
+      (sym (same_Ok p (type.default v) e ∙ ap (λ (z : AbstractValue). type.default z) same)) proper
   presence_proper site t (default tree) p (inl (x, s, inl (v, inl (w, d, inr (f, m, is)), e))) = absurd cc
   presence_proper site t (default tree) p (inl (x, s, inl (v, inr (f, d, is), e))) = absurd cc
   presence_proper site t (default tree) p (inl (x, s, inr (f, h, e))) = absurd cc

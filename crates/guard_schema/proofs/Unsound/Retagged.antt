@@ -1,4 +1,4 @@
--- Constraints that may stand on a type may stand on it under other tags too, unless the encoding of a value gets too
+-- Constraints that may be on a type may be on it under other tags too, unless the encoding of a value gets too
 -- long.
 use Rattle.std.proofs.Common.{◌≡◌, Bool, true, false, not, ◌&&◌, List, Option, Some, None, IsTrue, refl}
 use Rattle.std.specs.Option.{option_or}

@@ -10,11 +10,10 @@ use Rattle.guard_syntax.specs.Trees.{of_type, named_type, WrittenComponents, no_
 use Rattle.guard_syntax.specs.Trees.{WrittenAlternatives, no_alternatives, alternative, WrittenAlternative}
 use Rattle.guard_syntax.specs.Trees.{WrittenComponentForm, named, components_of_type, WrittenAssignment}
 use Rattle.guard_names.specs.Declarations.{Definition, definitions}
-use Rattle.guard_tagging.specs.Surroundings.{nodes_of_all}
 use Rattle.guard_constraints.specs.Visible.{Visible}
 use Rattle.guard_schema.specs.Outcomes.{Is, Then}
 use Rattle.guard_schema.specs.Faults.{Outcome}
-use Rattle.guard_schema.specs.Known.{Built, Known, types_of, around}
+use Rattle.guard_schema.specs.Known.{Built, Known}
 use Rattle.guard_schema.specs.Finishing.{constraint_before, site_of_type, count_of_meant, Constrains, ConstrainsBefore}
 use Rattle.guard_schema.specs.Finishing.{FillsPresence, FinishesComponent}
 use Rattle.guard_schema.specs.Building.{HasTags, TellsApart, HasValue}
@@ -33,8 +32,8 @@ abbrev pub with_done : OneComponent → Filling → Filling
 with_done c f = record { done = f.done ++ c ∷ []; left = f.left }
 
 -- so many of those that are left need nothing
-abbrev pub moved : ℕ → Filling → Filling
-moved n f = record { done = f.done ++ take n f.left; left = drop n f.left }
+abbrev pub taken_over : ℕ → Filling → Filling
+taken_over n f = record { done = f.done ++ take n f.left; left = drop n f.left }
 
 module _ (names : Visible) where
   -- the constraint before OF and then those after the type, of a type that is written so
@@ -113,7 +112,7 @@ module _ (names : Visible) where
 
     pub FromBaseInTurn : WrittenBase → Filling → Outcome Filling → Type 0
     FromBaseInTurn (structure k cs) f = FillsInTurn cs f
-    FromBaseInTurn (named_type site name) f = Is (moved (count_of_meant (names.types name)) f)
+    FromBaseInTurn (named_type site name) f = Is (taken_over (count_of_meant (names.types name)) f)
     FromBaseInTurn base f = Is f
 
     pub OthersInTurn : WrittenAlternatives → Filling → Outcome Filling → Type 0
@@ -139,7 +138,7 @@ module _ (names : Visible) where
 -- the tags and parts of the definition of this number, which tags tell apart; its name is at the site
 abbrev pub TagsNumber : Known → ℕ → Outcome AbstractType → Type 0
 TagsNumber k number answer = (d : Definition) × (slice_get (definitions k.modules) number ≡ Some d)
-    × HasTags (around k d) (nodes_of_all (types_of k.built)) d.assignment.ty answer
+    × HasTags k d answer
 
 abbrev pub TagsApart : Known → ℕ → Site → Outcome AbstractType → Type 0
 TagsApart k number site = Then (TagsNumber k number) (λ bare. Then (TellsApart site bare) (λ _. Is bare))

@@ -55,7 +55,7 @@ plain_hot h low high = record {
 pub record IsBare (c : Cold) : Type 0 where
   pub tag : c.tag ≡ None
   pub items : c.items.items ≡ []
-  pub conditions : c.conditions.items ≡ []
+  pub conditions : c.conditions.list.items ≡ []
   pub present : c.present ≡ none
   pub default : c.default ≡ None
   pub raises : c.raises.items ≡ []

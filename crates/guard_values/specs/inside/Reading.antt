@@ -85,7 +85,8 @@ read_place names e = read_bit names e.site (name_alone e.name e.value)
 
 abbrev pub read_places : List NamedNumber → WrittenEntries → Read (List ℕ)
 read_places names no_entries = Ok []
-read_places names (entry site label tree rest) = read_bit names site (name_alone label tree) >>= λ place. read_places names rest >>= λ places. Ok (place ∷ places)
+read_places names (entry site label tree rest) =
+    read_bit names site (name_alone label tree) >>= λ place. read_places names rest >>= λ places. Ok (place ∷ places)
 
 abbrev pub read_named_bits : Site → List NamedNumber → WrittenEntries → Read AbstractValue
 read_named_bits site [] es = Err (WrongNotation site)
@@ -106,10 +107,12 @@ place_at ordered cs next fs site None = Err (WrongNotation site)
 place_at ordered cs next fs site (Some name) = placed ordered next fs site (located name cs)
 
 -- an entry: its place, and its value
-abbrev pub entry_at : Bool → Components → ℕ → Fields → Site → Option (List ℕ) → (AbstractType → Read AbstractValue) → Read (ℕ × AbstractValue)
-entry_at ordered cs next fs site name value = place_at ordered cs next fs site name >>= λ l. value l.ty >>= λ v. Ok (l.place, v)
+abbrev pub entry_at : Bool → Components → ℕ → Fields → Site → Option (List ℕ) → (AbstractType → Read AbstractValue)
+    → Read (ℕ × AbstractValue)
+entry_at ordered cs next fs site name value =
+    place_at ordered cs next fs site name >>= λ l. value l.ty >>= λ v. Ok (l.place, v)
 
--- what a component is behind the last entry
+-- what a component is after the last entry
 abbrev pub settled : Site → AbstractPresence → Option AbstractValue → Read (Option AbstractValue)
 settled site presence (Some v) = Ok (Some v)
 settled site type.optional None = Ok None
@@ -117,8 +120,10 @@ settled site (type.default d) None = Ok (Some d)
 settled site _ None = Err (MissingComponent site)
 
 unfoldable pub completed : Site → Components → Fields → Read Fields
-completed site (component name t presence rest) (value.present v fs) = settled site presence (Some v) >>= λ f. completed site rest fs >>= λ gs. Ok (field_before f gs)
-completed site (component name t presence rest) (value.absent fs) = settled site presence None >>= λ f. completed site rest fs >>= λ gs. Ok (field_before f gs)
+completed site (component name t presence rest) (value.present v fs) =
+    settled site presence (Some v) >>= λ f. completed site rest fs >>= λ gs. Ok (field_before f gs)
+completed site (component name t presence rest) (value.absent fs) =
+    settled site presence None >>= λ f. completed site rest fs >>= λ gs. Ok (field_before f gs)
 completed site _ _ = Ok value.no_fields
 
 -- ---- elements
@@ -149,16 +154,19 @@ abbrev pub listed_set : Site → AbstractType → List AbstractValue → Read Ab
 listed_set site t vs = few site vs >>= λ ws. Ok (value.items (items_of (arranged t ws)))
 
 -- sorted: by their encodings, of which each is limited; or as they are written
-abbrev pub read_set_of : Bool → Site → AbstractType → (Bool → AbstractType → Read (List AbstractValue)) → Read AbstractValue
+abbrev pub read_set_of : Bool → Site → AbstractType → (Bool → AbstractType → Read (List AbstractValue))
+    → Read AbstractValue
 read_set_of true site t elements = elements true t >>= λ vs. listed_set site t vs
 read_set_of false site t elements = elements false t >>= λ vs. listed site vs
 
-abbrev pub read_braces : Bool → Site → AbstractKind → WrittenEntries → (Bool → Components → Read Fields) → (Bool → AbstractType → Read (List AbstractValue)) → Read AbstractValue
+abbrev pub read_braces : Bool → Site → AbstractKind → WrittenEntries → (Bool → Components → Read Fields)
+    → (Bool → AbstractType → Read (List AbstractValue)) → Read AbstractValue
 read_braces sorted site (type.sequence cs) es entries elements = read_fields site cs (entries true cs)
 read_braces sorted site (type.set cs) es entries elements = read_fields site cs (entries false cs)
 read_braces sorted site (type.sequence_of t) es entries elements = elements false t >>= λ vs. listed site vs
 read_braces sorted site (type.set_of t) es entries elements = read_set_of sorted site t elements
-read_braces sorted site type.object_identifier es entries elements = if are_too_few_arcs es then Err (BadObjectId site) else Err (WrongNotation site)
+read_braces sorted site type.object_identifier es entries elements =
+    if are_too_few_arcs es then Err (BadObjectId site) else Err (WrongNotation site)
 read_braces sorted site (type.bit_string names) es entries elements = read_named_bits site names es
 read_braces sorted site type.boolean es entries elements = Err (WrongNotation site)
 read_braces sorted site (type.integer ns) es entries elements = Err (WrongNotation site)
@@ -193,20 +201,23 @@ unfoldable mutual
   read_form m sorted t site (written.reference name) = read_reference m t site name
   read_form m sorted t site (written.chosen name tree) = read_chosen site (kind_of t) name (λ u. read m sorted u tree)
   read_form m sorted t site (written.list es) =
-      read_braces sorted site (kind_of t) es (λ ordered cs. read_entries m sorted ordered cs 0 (all_absent cs) es) (λ short u. read_elements m sorted short u es)
+      read_braces sorted site (kind_of t) es (λ ordered cs. read_entries m sorted ordered cs 0 (all_absent cs) es)
+      (λ short u. read_elements m sorted short u es)
   read_form m sorted t site (written.arcs arcs) = read_arcs site (kind_of t) arcs
 
   -- into the fields for the components, from `next` on where they are ordered
   pub read_entries : Meaning → Bool → Bool → Components → ℕ → Fields → WrittenEntries → Read Fields
   read_entries m sorted ordered cs next fs no_entries = Ok fs
   read_entries m sorted ordered cs next fs (entry site name tree rest) =
-      entry_at ordered cs next fs site name (λ u. read m sorted u tree) >>= λ x. read_entries m sorted ordered cs (suc x.0) (fill x.0 x.1 fs) rest
+      entry_at ordered cs next fs site name (λ u. read m sorted u tree)
+      >>= λ x. read_entries m sorted ordered cs (suc x.0) (fill x.0 x.1 fs) rest
 
   -- in turn; `short` where each has its limit
   pub read_elements : Meaning → Bool → Bool → AbstractType → WrittenEntries → Read (List AbstractValue)
   read_elements m sorted short t no_entries = Ok []
   read_elements m sorted short t (entry site name tree rest) =
-      element_at short t site name (site_of tree) (read m sorted t tree) >>= λ v. read_elements m sorted short t rest >>= λ more. Ok (v ∷ more)
+      element_at short t site name (site_of tree) (read m sorted t tree) >>= λ v. read_elements m sorted short t rest
+      >>= λ more. Ok (v ∷ more)
 
 -- ---- what single calls read
 
@@ -217,7 +228,9 @@ abbrev pub read_set_items : Meaning → Bool → Site → AbstractType → Writt
 read_set_items m sorted site t es = read_set_of sorted site t (λ short u. read_elements m sorted short u es)
 
 abbrev pub read_list : Meaning → Bool → Site → AbstractKind → WrittenEntries → Read AbstractValue
-read_list m sorted site kind es = read_braces sorted site kind es (λ ordered cs. read_entries m sorted ordered cs 0 (all_absent cs) es) (λ short u. read_elements m sorted short u es)
+read_list m sorted site kind es =
+    read_braces sorted site kind es (λ ordered cs. read_entries m sorted ordered cs 0 (all_absent cs) es)
+    (λ short u. read_elements m sorted short u es)
 
 -- ---- a whole written value
 

@@ -1,4 +1,4 @@
--- What names mean and where it stands in the order, by the words of guard_names.
+-- What names mean, and where that is in the order, in the words of guard_names.
 use Rattle.std.specs.Prelude.{ℕ, List, Option}
 use Rattle.std.specs.Option.{option_and_then}
 use Rattle.guard_syntax.specs.Trees.{WrittenModule}

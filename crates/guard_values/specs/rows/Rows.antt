@@ -17,12 +17,13 @@ use Rattle.guard_values.specs.declared.fault.ValueFault.TheVariants.{WrongNotati
 use Rattle.guard_values.specs.FirstFault.{fault_of}
 use Rattle.guard_values.specs.inside.Reading.{read, read_whole}
 
--- one bit for OCTET STRING is filled with zero bits behind it
+-- one bit for OCTET STRING is filled with zero bits after that one
 one_bit : text_value type.octet_string string.Bits (codes "'1'B") ≡ Some (value.octet_string (0x80 ∷ []))
 one_bit = refl
 
 -- three hexadecimal digits are followed by a zero digit
-three_digits : text_value type.octet_string string.Hexadecimal (codes "'ABC'H") ≡ Some (value.octet_string (0xAB ∷ 0xC0 ∷ []))
+three_digits : text_value type.octet_string string.Hexadecimal (codes "'ABC'H")
+    ≡ Some (value.octet_string (0xAB ∷ 0xC0 ∷ []))
 three_digits = refl
 
 three_bits : text_value (type.bit_string []) string.Bits (codes "'1 0 1'B") ≡ Some (value.bit_string (0xA0 ∷ []) 5)
@@ -34,13 +35,17 @@ one_digit = refl
 -- ---- BIT STRING {read(0), write(1), run(5)}
 
 rights : List NamedNumber
-rights = record { name = codes "read"; number = pos 0 } ∷ record { name = codes "write"; number = pos 1 } ∷ record { name = codes "run"; number = pos 5 } ∷ []
+rights =
+    record { name = codes "read"; number = pos 0 } ∷ record { name = codes "write"; number = pos 1 }
+    ∷ record { name = codes "run"; number = pos 5 } ∷ []
 
-binary_rights : text_value (type.bit_string rights) string.Bits (codes "'1000010'B") ≡ Some (value.bit_string (0x84 ∷ []) 2)
+binary_rights : text_value (type.bit_string rights) string.Bits (codes "'1000010'B")
+    ≡ Some (value.bit_string (0x84 ∷ []) 2)
 unfolding rights
 binary_rights = refl
 
-hexadecimal_rights : text_value (type.bit_string rights) string.Hexadecimal (codes "'84'H") ≡ Some (value.bit_string (0x84 ∷ []) 2)
+hexadecimal_rights : text_value (type.bit_string rights) string.Hexadecimal (codes "'84'H")
+    ≡ Some (value.bit_string (0x84 ∷ []) 2)
 unfolding rights
 hexadecimal_rights = refl
 
@@ -77,18 +82,24 @@ set_of_integers : AbstractType
 set_of_integers = type_of (record { class = Universal; number = 17 } ∷ []) (type.set_of integers) type.no_constraints
 
 -- the encoding of -1 descends to that of 1, so 1 comes first
-ascending : read_whole (λ name. None) set_of_integers (value_node here (written.list (entry here None (number true (codes "1")) (entry here None (number false (codes "1")) no_entries))))
+ascending : read_whole (λ name. None) set_of_integers
+    (value_node here (written.list
+    (entry here None (number true (codes "1")) (entry here None (number false (codes "1")) no_entries))))
     ≡ Ok (value.items (value.item (value.integer (pos 1)) (value.item (value.integer (negsuc 0)) value.no_items)))
 unfolding read here number integers set_of_integers fewest signed_octets identifier_octets length_octets element
 ascending = refl
 
 -- a chosen value is no INTEGER, whatever its name
-other_form : fault_of (λ name. None) integers (value_node here (written.chosen (codes "a") (number false (codes "5")))) ≡ Some (WrongNotation here)
+other_form : fault_of (λ name. None) integers (value_node here (written.chosen (codes "a") (number false (codes "5"))))
+    ≡ Some (WrongNotation here)
 unfolding here number integers
 other_form = refl
 
--- 2^127 is too large, and it stands before TRUE
-written_first : fault_of (λ name. None) set_of_integers (value_node here (written.list (entry here None (number false (codes "170141183460469231731687303715884105728")) (entry here None (value_node here (written.boolean true)) no_entries)))) ≡ Some (TooLarge here)
+-- 2^127 is too large, and it is written before TRUE
+written_first : fault_of (λ name. None) set_of_integers
+    (value_node here (written.list
+    (entry here None (number false (codes "170141183460469231731687303715884105728"))
+    (entry here None (value_node here (written.boolean true)) no_entries)))) ≡ Some (TooLarge here)
 unfolding here number integers set_of_integers
 written_first = refl
 
@@ -104,15 +115,20 @@ two_places : places_named rights (name_entry (codes "run") (name_entry (codes "r
 unfolding rights name_entry
 two_places = refl
 
-other_name : fault_of (λ name. None) rights_type (value_node here (written.list (name_entry (codes "read") (name_entry (codes "exec") no_entries)))) ≡ Some (UnknownName here)
+other_name : fault_of (λ name. None) rights_type
+    (value_node here (written.list (name_entry (codes "read") (name_entry (codes "exec") no_entries))))
+    ≡ Some (UnknownName here)
 unfolding rights name_entry rights_type here
 other_name = refl
 
-no_name : fault_of (λ name. None) rights_type (value_node here (written.list (entry here None (number false (codes "1")) no_entries))) ≡ Some (WrongNotation here)
+no_name : fault_of (λ name. None) rights_type
+    (value_node here (written.list (entry here None (number false (codes "1")) no_entries))) ≡ Some (WrongNotation here)
 unfolding rights number rights_type here
 no_name = refl
 
 -- braces aren't taken where no bit is named
-no_list : fault_of (λ name. None) (type_of (record { class = Universal; number = 3 } ∷ []) (type.bit_string []) type.no_constraints) (value_node here (written.list no_entries)) ≡ Some (WrongNotation here)
+no_list : fault_of (λ name. None)
+    (type_of (record { class = Universal; number = 3 } ∷ []) (type.bit_string []) type.no_constraints)
+    (value_node here (written.list no_entries)) ≡ Some (WrongNotation here)
 unfolding here
 no_list = refl

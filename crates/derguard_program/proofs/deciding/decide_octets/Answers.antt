@@ -1,13 +1,13 @@
-use Rattle.std.proofs.Common.{subst}
-use Rattle.guard_policy.specs.Policies.{AbstractRoute}
-use Rattle.guard_policy.specs.PolicyView.{policy_view}
-use Rattle.derguard_program.specs.Answers.{answer_view, IsVerdict}
+use Rattle.std.proofs.Common.{map, string_bytes}
+use Rattle.std.proofs.lemmas.Result.{IfOk-weaker}
 use Rattle.derguard_program.proofs.deciding.decide_octets.Goals as goal
 
 pub returns-in-Ok-clause-decided : goal.returns-in-Ok-clause-decided
 returns-in-Ok-clause-decided g c =
-    let p = policy_view c.in_ok-policy.policy in (
-      p,
-      c.in_ok-policy.ensures.there,
-      subst (λ (r : AbstractRoute). IsVerdict p r c.args.octets.now (answer_view c.in-Ok.answer)) c.route_of-route.ensures c.in-Ok.ensures,
-    )
+    IfOk-weaker c.decide_over.result _ _ (λ a h. (
+      c.in-Ok.texts.policy.items,
+      map string_bytes c.in-Ok.texts.files.items,
+      map (λ text. text.items) c.in-Ok.texts.modules.items,
+      c.in-Ok.ensures.listed,
+      h,
+    )) c.decide_over.ensures.decided

@@ -18,5 +18,6 @@ returns c =
     ap app_of_fields c.subcommand_required.ensures ∙ ap asks_for_a_command (ap app_of_fields c.after_help.ensures ∙ ap app_of_fields c.about.ensures ∙ versioned) in
     let first = with_command _ _ _ _ _ c.in_ok-subcommand.ensures refl start c.in_ok-check.ensures in
     let second = with_command _ _ _ _ _ c.in_ok-subcommand-2.ensures refl first c.in_ok-decide.ensures in
-    let third = with_command _ _ _ _ _ c.in_ok-subcommand-3.ensures refl second c.in_ok-run.ensures in
-    IfOk-weaker c.subcommand-4.result _ _ (λ r added. with_command _ _ r _ _ added refl third c.in_ok-mux.ensures) c.subcommand-4.ensures
+    let third = with_command _ _ _ _ _ c.in_ok-subcommand-3.ensures refl second c.in_ok-show.ensures in
+    let fourth = with_command _ _ _ _ _ c.in_ok-subcommand-4.ensures refl third c.in_ok-run.ensures in
+    IfOk-weaker c.subcommand-5.result _ _ (λ r added. with_command _ _ r _ _ added refl fourth c.in_ok-mux.ensures) c.subcommand-5.ensures

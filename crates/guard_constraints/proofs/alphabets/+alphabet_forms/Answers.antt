@@ -8,8 +8,8 @@ use Rattle.guard_syntax.specs.declared.tree.ElementForm.TheViews.{out-Intersecti
 use Rattle.guard_constraints.specs.PermittedAlphabets.{items_of, items_of_form, items_of_united}
 use Rattle.guard_constraints.specs.inside.Reading.{gathered}
 use Rattle.guard_constraints.specs.Views.{named, item_view}
-use Rattle.guard_constraints.proofs.Shapes.{intersection_view_is, joined_intersection_is}
-use Rattle.guard_constraints.proofs.Forms.{union_then, united_goes_on, united_stops, united_ends, alone_taken, joined_refused}
+use Rattle.guard_constraints.proofs.CodeSteps.KeptTrees.{intersection_view_is, joined_intersection_is}
+use Rattle.guard_constraints.proofs.CodeSteps.AlphabetForms.{union_then, united_goes_on, united_stops, united_ends, alone_taken, joined_refused}
 use Rattle.guard_constraints.proofs.alphabets.+alphabet_forms.Goals as goal
 
 pub in_intersection-returns-then-not-is_empty : goal.in_intersection-returns-then-not-is_empty

@@ -1,5 +1,5 @@
 use Rattle.std.proofs.Common.{arith}
-use Rattle.guard_constraints.proofs.Forms.{one_code, not_one}
+use Rattle.guard_constraints.proofs.CodeSteps.AlphabetForms.{one_code, not_one}
 use Rattle.guard_constraints.proofs.alphabets.character_end.Goals as goal
 
 pub returns-then-codes-eq1 : goal.returns-then-codes-eq1

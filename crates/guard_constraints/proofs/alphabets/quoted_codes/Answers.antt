@@ -1,6 +1,6 @@
 use Rattle.std.proofs.Common.{List, ℕ, Some, ap, ◌∙◌, subst}
 use Rattle.std.specs.Str.{chars, IsUtf8}
-use Rattle.guard_constraints.proofs.Forms.{is_spelled, not_spelled}
+use Rattle.guard_constraints.proofs.CodeSteps.AlphabetForms.{is_spelled, not_spelled}
 use Rattle.guard_constraints.proofs.alphabets.quoted_codes.Goals as goal
 
 pub returns-in_default : goal.returns-in_default

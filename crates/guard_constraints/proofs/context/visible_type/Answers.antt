@@ -2,7 +2,7 @@ use Rattle.std.proofs.Common.{List, ℕ, ap, ◌∙◌}
 use Rattle.guard_names.specs.NamesView.{modules_of, order_of}
 use Rattle.guard_names.specs.Places.{place_meant}
 use Rattle.guard_constraints.specs.Views.{placed_type}
-use Rattle.guard_constraints.proofs.TypeParts.{type_got}
+use Rattle.guard_constraints.proofs.CodeSteps.TypeParts.{type_got}
 use Rattle.guard_constraints.proofs.context.visible_type.Goals as goal
 
 pub returns-in-Some : goal.returns-in-Some

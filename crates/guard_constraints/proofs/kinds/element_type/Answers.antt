@@ -1,6 +1,6 @@
 use Rattle.std.proofs.Common.{sym}
 use Rattle.guard_model.specs.TypeView.{type_view}
-use Rattle.guard_constraints.proofs.TypeParts.{no_element, an_element, sound_element}
+use Rattle.guard_constraints.proofs.CodeSteps.TypeParts.{no_element, an_element, sound_element}
 use Rattle.guard_constraints.proofs.kinds.element_type.Goals as goal
 
 pub returns-in-Some-clause-sound : goal.returns-in-Some-clause-sound

@@ -1,8 +1,8 @@
 use Rattle.std.proofs.Common.{IsTrue, Ok, ap, sym, ◌∙◌, subst}
 use Rattle.guard_model.specs.AbstractType.{AbstractType}
 use Rattle.guard_der.specs.Sound.{is_sound}
-use Rattle.guard_constraints.proofs.TypeParts.{no_size, some_size}
-use Rattle.guard_constraints.proofs.SoundParts.{size_sound}
+use Rattle.guard_constraints.proofs.CodeSteps.TypeParts.{no_size, some_size}
+use Rattle.guard_constraints.proofs.Denoted.SoundParts.{size_sound}
 use Rattle.guard_constraints.proofs.kinds.size_type.Goals as goal
 
 pub returns-then-not-has_size-clause-given : goal.returns-then-not-has_size-clause-given

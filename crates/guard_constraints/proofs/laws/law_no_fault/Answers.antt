@@ -1,5 +1,5 @@
-use Rattle.guard_constraints.proofs.OneConstraint.{no_fault}
-use Rattle.guard_constraints.proofs.Values.{values_said, values_agree}
+use Rattle.guard_constraints.proofs.Denoted.OneConstraint.{no_fault}
+use Rattle.guard_constraints.proofs.Denoted.WrittenValues.{values_said, values_agree}
 use Rattle.guard_constraints.proofs.laws.law_no_fault.Goals as goal
 
 pub returns : goal.returns

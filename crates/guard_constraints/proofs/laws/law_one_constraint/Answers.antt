@@ -1,5 +1,5 @@
-use Rattle.guard_constraints.proofs.OneConstraint.{one_constraint}
-use Rattle.guard_constraints.proofs.Values.{values_said}
+use Rattle.guard_constraints.proofs.Denoted.OneConstraint.{one_constraint}
+use Rattle.guard_constraints.proofs.Denoted.WrittenValues.{values_said}
 use Rattle.guard_constraints.proofs.laws.law_one_constraint.Goals as goal
 
 pub returns : goal.returns

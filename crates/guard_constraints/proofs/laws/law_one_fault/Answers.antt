@@ -1,4 +1,4 @@
-use Rattle.guard_constraints.proofs.OneConstraint.{one_fault}
+use Rattle.guard_constraints.proofs.Denoted.OneConstraint.{one_fault}
 use Rattle.guard_constraints.proofs.laws.law_one_fault.Goals as goal
 
 pub returns : goal.returns

@@ -1,6 +1,6 @@
 use Rattle.std.proofs.Common.{map, sym, ◌∙◌}
 use Rattle.guard_constraints.specs.Views.{head_view}
-use Rattle.guard_constraints.proofs.TypeParts.{no_parts, some_parts}
+use Rattle.guard_constraints.proofs.CodeSteps.TypeParts.{no_parts, some_parts}
 use Rattle.guard_constraints.proofs.listed_parts.check_parts.Goals as goal
 
 pub returns-then-not-has_parts : goal.returns-then-not-has_parts

@@ -1,7 +1,7 @@
 use Rattle.std.proofs.Common.{◌≡◌, option_map}
 use Rattle.guard_model.proofs.Components.{left}
 use Rattle.guard_constraints.specs.ListedParts.{component_named}
-use Rattle.guard_constraints.proofs.Find.{from}
+use Rattle.guard_constraints.proofs.CodeSteps.ComponentsByName.{from}
 use Rattle.guard_constraints.proofs.listed_parts.component_named.Given as goal
 
 abbrev pub invariant-loop-index : goal.invariant-loop-index

@@ -1,5 +1,5 @@
 use Rattle.std.proofs.Common.{Some, None, refl}
-use Rattle.guard_constraints.proofs.TypeParts.{not_named, located_there, sound_there, few_places}
+use Rattle.guard_constraints.proofs.CodeSteps.TypeParts.{not_named, located_there, sound_there, few_places}
 use Rattle.guard_constraints.proofs.listed_parts.located.Goals as goal
 
 pub overflow_cast-result : goal.overflow_cast-result

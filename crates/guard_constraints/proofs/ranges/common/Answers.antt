@@ -1,5 +1,5 @@
 use Rattle.std.proofs.Common.{arith}
-use Rattle.guard_constraints.proofs.Overlaps.{none_left_first, none_left_second}
+use Rattle.guard_constraints.proofs.RangeLists.CommonParts.{none_left_first, none_left_second}
 use Rattle.guard_constraints.proofs.ranges.common.Goals.{then-loop-at_first-test+else-at_second-second, else-loop-at_first-test}
 use Rattle.guard_constraints.proofs.ranges.common.Goals as goal
 

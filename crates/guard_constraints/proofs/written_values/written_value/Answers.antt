@@ -2,7 +2,7 @@ use Rattle.std.proofs.lemmas.Result.{err_from_is_err_and}
 use Rattle.guard_model.specs.TypeView.{type_view}
 use Rattle.guard_syntax.specs.Views as trees
 use Rattle.guard_values.specs.Views.{visible_from}
-use Rattle.guard_constraints.proofs.Refused.{value_given, fault_given}
+use Rattle.guard_constraints.proofs.CodeSteps.ValueAnswers.{value_given, fault_given}
 use Rattle.guard_constraints.proofs.written_values.written_value.Goals as goal
 
 pub returns-in_err-value : goal.returns-in_err-value

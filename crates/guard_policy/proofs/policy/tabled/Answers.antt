@@ -1,13 +1,14 @@
 use Rattle.std.proofs.Common.{map}
-use Rattle.guard_policy.specs.Policies.{message_view, rule_view}
+use Rattle.guard_policy.specs.SaidView.{said_view}
+use Rattle.guard_policy.specs.inside.Said.{said_message_view}
 use Rattle.guard_policy.proofs.Consistent.{consistent}
 use Rattle.guard_policy.proofs.Keeping.{same_messages}
 use Rattle.guard_policy.proofs.policy.tabled.Goals as goal
 
 pub invariant_of-result : goal.invariant_of-result
 invariant_of-result c =
-    let messages = map message_view c.args.messages.now in
-    let rules = map rule_view c.args.rules.now in
+    let messages = map said_message_view c.args.messages.now in
+    let rules = map said_view c.args.rules.now in
     let e = same_messages c.in_ok-kept.kept.items rules messages c.in_ok-kept.ensures.kept in
     let f = c.in_ok-index.ensures.rules c.in_ok-kept.kept.items c.in_ok-kept.ensures.kept in
     record {
@@ -18,4 +19,4 @@ invariant_of-result c =
     }
 
 pub returns-clause-messages : goal.returns-clause-messages
-returns-clause-messages c = same_messages c.in_ok-kept.kept.items (map rule_view c.args.rules.now) (map message_view c.args.messages.now) c.in_ok-kept.ensures.kept
+returns-clause-messages c = same_messages c.in_ok-kept.kept.items (map said_view c.args.rules.now) (map said_message_view c.args.messages.now) c.in_ok-kept.ensures.kept

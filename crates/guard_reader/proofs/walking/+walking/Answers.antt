@@ -21,10 +21,11 @@ use Rattle.guard_reader.proofs.FrontSteps.{front_within}
 use Rattle.guard_reader.proofs.NodeTags.{identifier_is, kind_of_choice, near_front, octet_elsewhere, octet_turned}
 use Rattle.guard_reader.proofs.Ranks.{near_cut}
 use Rattle.guard_reader.proofs.Passes.{element_here, last_element, no_element, none_left, none_ordered, not_ordered, one_element, one_ordered}
+use Rattle.guard_reader.proofs.AscendingSets.{set_of_parts}
 use Rattle.guard_reader.proofs.SetSteps.{set_judged, kind_of_set, no_bit, nothing_left, no_tag, no_member, one_member, members_over, judged_none, judged_again, judged_new}
 use Rattle.guard_reader.proofs.Steps.{yes, no, at_end, absent_there, not_whole, present_there, refused, sent, chosen_more, chosen_alone, chosen_here, chosen_broken, chosen_later}
 use Rattle.guard_tables.proofs.Spots.{node_at, there_at, cold_at}
-use Rattle.guard_reader.proofs.NodeSteps.{list_judged, simple_judged, fields_all, formula_judged, fields_step, is_of_series, is_of_formula, plain_at, plain_present, one_here, sees_within, inside_bare, inside_found, inside_none, wrapper_judged, asked_judged, is_of_asked, set_of_judged, choice_judged, choice_step, choice_end}
+use Rattle.guard_reader.proofs.NodeSteps.{list_judged, simple_judged, series_judged, formula_judged, fields_step, is_of_formula, plain_at, plain_present, one_here, sees_within, inside_bare, inside_found, inside_none, wrapper_judged, asked_judged, is_of_asked, set_of_judged, choice_judged, choice_step, choice_end}
 use Rattle.guard_reader.proofs.walking.+walking.Goals as goal
 
 -- ---- contents
@@ -36,7 +37,14 @@ contents-list-requires t c =
     (omega (arith, inner), omega (arith, inner, c.requires))
 
 pub contents-series-requires : goal.contents-series-requires
-contents-series-requires t c = (omega arith, (c.requires, record { node = c.index-node.result.now; there = there_at c.args.table.now c.args.at c.index-node.result.now c.requires c.index-node.ensures; kind = c.in-Series.is }))
+contents-series-requires t c =
+    let n = node_at c.args.table.now c.args.at c.index-node.result.now c.requires c.index-node.ensures in
+    (omega (arith, n.node.before), omega (arith, n.node.before, c.requires))
+
+pub contents-returns-in-Series : goal.contents-returns-in-Series
+contents-returns-in-Series t c =
+    let n = node_at c.args.table.now c.args.at c.index-node.result.now c.requires c.index-node.ensures in
+    subst (λ (r : Option Slots). Answers c.series.result c.series.new.failed r) (sym (series_judged c.args.table.now c.args.at c.index-node.result.now n c.in-Series.is c.args.inside.now c.args.failed.now)) c.series.ensures
 
 pub contents-asked-requires : goal.contents-asked-requires
 contents-asked-requires t c = (omega arith, (c.requires, record { node = c.index-node.result.now; there = there_at c.args.table.now c.args.at c.index-node.result.now c.requires c.index-node.ensures; kind = c.in-Asked.is }))
@@ -101,32 +109,27 @@ layered-returns-in-None t c = inside_none c.args.table.now c.args.at c.args.insi
 
 pub series::series-loop-k-init : goal.series::series-loop-k-init
 series::series-loop-k-init t c =
-    let n = node_at c.args.table.now c.args.at c.index-node.result.now c.requires.room c.index-node.ensures in
-    fields_all c.args.table.now c.args.at c.index-node.result.now n (is_of_series c.args.table.now c.args.at c.index-node.result.now c.requires.kind c.requires.room c.index-node.ensures) c.args.inside.now c.args.failed.now
+    let count : c.args.first + c.args.count - c.args.first ≡ c.args.count = omega arith in
+    ap (λ (n : ℕ). fields_judged (parts_between (spots_in c.args.table.now) c.args.first n) c.args.inside.now c.args.failed.now) count
 
 pub series::series-part-requires : goal.series::series-part-requires
-series::series-part-requires t c =
-    let n = node_at c.args.table.now c.args.at c.index-node.result.now c.requires.room c.index-node.ensures in
-    (omega (arith, n.node.before, c.loop-k-test.true), omega (arith, n.node.before, c.loop-k-test.true, c.requires.room))
+series::series-part-requires t c = (omega (arith, c.loop-k-test.true), omega (arith, c.loop-k-test.true, c.requires))
 
 pub series::series-returns-in_default : goal.series::series-returns-in_default
 series::series-returns-in_default t c =
-    let n = node_at c.args.table.now c.args.at c.index-node.result.now c.requires.room c.index-node.ensures in
     sym c.loop-k.invariant
-    ∙ fields_step c.args.table.now c.loop-k.k (c.index-node.result.now.first + c.index-node.result.now.count) c.loop-k.rest.now c.loop-k.failed c.loop-k-test.true (omega (arith, n.node.before, c.requires.room))
+    ∙ fields_step c.args.table.now c.loop-k.k (c.args.first + c.args.count) c.loop-k.rest.now c.loop-k.failed c.loop-k-test.true c.requires
     ∙ bind_none _ _ (sym c.in_default.ensures)
 
 pub series::series-loop-k-preserved : goal.series::series-loop-k-preserved
 series::series-loop-k-preserved t c =
-    let n = node_at c.args.table.now c.args.at c.index-node.result.now c.requires.room c.index-node.ensures in
-    let end = c.index-node.result.now.first + c.index-node.result.now.count in
-    let spots = spots_in c.args.table.now in
-    rw add-one (sym (fields_step c.args.table.now c.loop-k.k end c.loop-k.rest.now c.loop-k.failed c.loop-k-test.true (omega (arith, n.node.before, c.requires.room))
+    let end = c.args.first + c.args.count in
+    rw add-one (sym (fields_step c.args.table.now c.loop-k.k end c.loop-k.rest.now c.loop-k.failed c.loop-k-test.true c.requires
     ∙ bind_some _ _ _ (sym c.in-Some.ensures)) ∙ c.loop-k.invariant)
 
 pub series::series-returns : goal.series::series-returns
 series::series-returns t c =
-    let end = c.index-node.result.now.first + c.index-node.result.now.count in
+    let end = c.args.first + c.args.count in
     let spots = spots_in c.args.table.now in
     let over : end - c.loop-k.k ≡ 0 = omega (arith, c.loop-k-test.false) in
     subst (λ (r : Option Slots). Answers c.is_empty.result c.loop-k.failed r) (sym (ap (λ (n : ℕ). fields_judged (parts_between spots c.loop-k.k n) c.loop-k.rest.now c.loop-k.failed) over) ∙ c.loop-k.invariant) (at_end c.is_empty.result c.loop-k.rest.now c.loop-k.failed c.is_empty.ensures)
@@ -510,15 +513,32 @@ choices::chosen-returns t c =
 
 -- ---- SET
 
-pub sets::set-loop-rest-init : goal.sets::set-loop-rest-init
-sets::set-loop-rest-init t c =
+pub sets::set-ascend-requires : goal.sets::set-ascend-requires
+sets::set-ascend-requires t c =
+    let n = node_at c.args.table.now c.args.at c.index-node.result.now c.requires.room c.index-node.ensures in
+    omega (arith, n.node.before, c.requires.room)
+
+pub sets::set-series-requires : goal.sets::set-series-requires
+sets::set-series-requires t c =
+    let n = node_at c.args.table.now c.args.at c.index-node.result.now c.requires.room c.index-node.ensures in
+    (omega (arith, n.node.before), omega (arith, n.node.before, c.requires.room))
+
+pub sets::set-returns-then-ascend : goal.sets::set-returns-then-ascend
+sets::set-returns-then-ascend t c =
+    let h = c.index-node.result.now in
+    let n = node_at c.args.table.now c.args.at h c.requires.room c.index-node.ensures in
+    let set = kind_of_set c.args.table.now c.args.at h c.requires.kind c.requires.room c.index-node.ensures in
+    subst (λ (r : Option Slots). Answers c.series.result c.series.new.failed r) (set_of_parts c.args.table.now c.args.at h n set c.args.octets.now c.args.failed.now (c.ascend.ensures c.if-ascend.true)) c.series.ensures
+
+pub sets::members-loop-rest-init : goal.sets::members-loop-rest-init
+sets::members-loop-rest-init t c =
     let h = c.index-node.result.now in
     let n = node_at c.args.table.now c.args.at h c.requires.room c.index-node.ensures in
     let kept : AreRead (parts_between (spots_in c.args.table.now) h.first h.count) c.args.octets.now c.args.octets.now 0 [] = record { reach = refl; kept = λ i low. no_bit i } in
     ([], kept, set_judged c.args.table.now c.args.at h n (kind_of_set c.args.table.now c.args.at h c.requires.kind c.requires.room c.index-node.ensures) c.args.octets.now c.args.failed.now, omega arith, λ k from to. absurd (omega (arith, from, to)))
 
-pub sets::set-returns-in_default : goal.sets::set-returns-in_default
-sets::set-returns-in_default t c =
+pub sets::members-returns-in_default : goal.sets::members-returns-in_default
+sets::members-returns-in_default t c =
     let h = c.index-node.result.now in
     let n = node_at c.args.table.now c.args.at h c.requires.room c.index-node.ensures in
     let ps = parts_between (spots_in c.args.table.now) h.first h.count in
@@ -527,18 +547,18 @@ sets::set-returns-in_default t c =
     let places = c.loop-rest.invariant.0 in
     sym c.loop-rest.invariant.2 ∙ no_tag ps places c.loop-rest.last c.loop-rest.rest.now c.loop-rest.failed some (sym c.next_tag.ensures ∙ c.in_default.is)
 
-pub sets::set-member-requires : goal.sets::set-member-requires
-sets::set-member-requires t c =
+pub sets::members-member-requires : goal.sets::members-member-requires
+sets::members-member-requires t c =
     let n = node_at c.args.table.now c.args.at c.index-node.result.now c.requires.room c.index-node.ensures in
     record { room = omega (arith, n.node.before, c.requires.room); few = omega (arith, c.passed-start.ensures.few, c.loop-rest.invariant.3); elsewhere = c.passed-start.ensures.elsewhere }
 
-pub sets::set-passed-start-requires : goal.sets::set-passed-start-requires
-sets::set-passed-start-requires t c =
+pub sets::members-passed-start-requires : goal.sets::members-passed-start-requires
+sets::members-passed-start-requires t c =
     let n = node_at c.args.table.now c.args.at c.index-node.result.now c.requires.room c.index-node.ensures in
     record { room = omega (arith, n.node.before, c.requires.room, c.loop-rest.invariant.3); passed = c.loop-rest.invariant.4 }
 
-pub sets::set-advance-below-requires : goal.sets::set-advance-below-requires
-sets::set-advance-below-requires t c =
+pub sets::members-advance-below-requires : goal.sets::members-advance-below-requires
+sets::members-advance-below-requires t c =
     let n = node_at c.args.table.now c.args.at c.index-node.result.now c.requires.room c.index-node.ensures in
     record {
       room = omega (arith, n.node.before, c.requires.room);
@@ -546,8 +566,8 @@ sets::set-advance-below-requires t c =
       passed = subst (λ (r : ℕ). AreBelow c.args.table.now c.index-node.result.now.first c.passed-start.result r) (sym c.rank_of-floor.ensures) c.passed-start.ensures.passed;
     }
 
-pub sets::set-returns-in_default-member : goal.sets::set-returns-in_default-member
-sets::set-returns-in_default-member t c =
+pub sets::members-returns-in_default-member : goal.sets::members-returns-in_default-member
+sets::members-returns-in_default-member t c =
     let h = c.index-node.result.now in
     let n = node_at c.args.table.now c.args.at h c.requires.room c.index-node.ensures in
     let ps = parts_between (spots_in c.args.table.now) h.first h.count in
@@ -558,13 +578,13 @@ sets::set-returns-in_default-member t c =
     sym c.loop-rest.invariant.2
     ∙ no_member ps places c.loop-rest.last c.loop-rest.rest.now c.loop-rest.failed c.in-Some.tag some tag (judged_none c.args.table.now h.first h.count places c.loop-rest.rest.now c.loop-rest.failed room c.in_default-member.ensures.found)
 
-pub sets::set-is_read-requires : goal.sets::set-is_read-requires
-sets::set-is_read-requires t c =
+pub sets::members-is_read-requires : goal.sets::members-is_read-requires
+sets::members-is_read-requires t c =
     let n = node_at c.args.table.now c.args.at c.index-node.result.now c.requires.room c.index-node.ensures in
     omega (arith, n.node.before, c.requires.room)
 
-pub sets::set-returns-then-is_read : goal.sets::set-returns-then-is_read
-sets::set-returns-then-is_read t c =
+pub sets::members-returns-then-is_read : goal.sets::members-returns-then-is_read
+sets::members-returns-then-is_read t c =
     let h = c.index-node.result.now in
     let n = node_at c.args.table.now c.args.at h c.requires.room c.index-node.ensures in
     let ps = parts_between (spots_in c.args.table.now) h.first h.count in
@@ -577,13 +597,13 @@ sets::set-returns-then-is_read t c =
     ∙ no_member ps places c.loop-rest.last c.loop-rest.rest.now c.loop-rest.failed c.in-Some.tag some tag
     (judged_again c.args.table.now h.first h.count places c.loop-rest.rest.now c.in-Some-member.inside.now c.in-Some-member.next.now c.loop-rest.failed c.in-Some-member.place room c.in-Some-member.ensures.found again)
 
-pub sets::set-present-requires : goal.sets::set-present-requires
-sets::set-present-requires t c =
+pub sets::members-present-requires : goal.sets::members-present-requires
+sets::members-present-requires t c =
     let n = node_at c.args.table.now c.args.at c.index-node.result.now c.requires.room c.index-node.ensures in
     (omega (arith, n.node.before, c.in-Some-member.ensures.place), omega (arith, n.node.before, c.in-Some-member.ensures.place, c.requires.room))
 
-pub sets::set-returns-then-not-present : goal.sets::set-returns-then-not-present
-sets::set-returns-then-not-present t c =
+pub sets::members-returns-then-not-present : goal.sets::members-returns-then-not-present
+sets::members-returns-then-not-present t c =
     let h = c.index-node.result.now in
     let n = node_at c.args.table.now c.args.at h c.requires.room c.index-node.ensures in
     let ps = parts_between (spots_in c.args.table.now) h.first h.count in
@@ -597,8 +617,8 @@ sets::set-returns-then-not-present t c =
     (judged_new c.args.table.now h.first h.count places c.loop-rest.rest.now c.in-Some-member.inside.now c.in-Some-member.next.now c.loop-rest.failed c.in-Some-member.place None room c.in-Some-member.ensures.found new
     (no c.present.result c.present.new.failed _ c.present.ensures c.if-not-present.true))
 
-pub sets::set-loop-rest-preserved : goal.sets::set-loop-rest-preserved
-sets::set-loop-rest-preserved t c =
+pub sets::members-loop-rest-preserved : goal.sets::members-loop-rest-preserved
+sets::members-loop-rest-preserved t c =
     let h = c.index-node.result.now in
     let n = node_at c.args.table.now c.args.at h c.requires.room c.index-node.ensures in
     let ps = parts_between (spots_in c.args.table.now) h.first h.count in
@@ -621,13 +641,13 @@ sets::set-loop-rest-preserved t c =
       c.advance-below.ensures.passed,
     )
 
-pub sets::set-absences-requires : goal.sets::set-absences-requires
-sets::set-absences-requires t c =
+pub sets::members-absences-requires : goal.sets::members-absences-requires
+sets::members-absences-requires t c =
     let n = node_at c.args.table.now c.args.at c.index-node.result.now c.requires.room c.index-node.ensures in
     omega (arith, n.node.before, c.requires.room)
 
-pub sets::set-returns : goal.sets::set-returns
-sets::set-returns t c =
+pub sets::members-returns : goal.sets::members-returns
+sets::members-returns t c =
     let h = c.index-node.result.now in
     let ps = parts_between (spots_in c.args.table.now) h.first h.count in
     let places = c.loop-rest.invariant.0 in

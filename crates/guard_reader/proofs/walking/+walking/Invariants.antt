@@ -11,13 +11,16 @@ use Rattle.guard_reader.proofs.walking.+walking.Given as goal
 -- ---- parts stand before wholes
 
 abbrev pub decreases-series::series : goal.decreases-series::series
-decreases-series::series l = 8 * l.at
+decreases-series::series l = 8 * (l.first + l.count)
 
 abbrev pub decreases-choices::choice : goal.decreases-choices::choice
 decreases-choices::choice l = 8 * l.at
 
 abbrev pub decreases-sets::set : goal.decreases-sets::set
-decreases-sets::set l = 8 * l.at
+decreases-sets::set l = 8 * l.at + 1
+
+abbrev pub decreases-sets::members : goal.decreases-sets::members
+decreases-sets::members l = 8 * l.at
 
 abbrev pub decreases-asked : goal.decreases-asked
 decreases-asked l = 8 * l.at
@@ -26,42 +29,42 @@ abbrev pub decreases-formula : goal.decreases-formula
 decreases-formula l = 8 * l.at
 
 abbrev pub decreases-contents : goal.decreases-contents
-decreases-contents l = 8 * l.at + 1
+decreases-contents l = 8 * l.at + 2
 
 abbrev pub decreases-inner_contents : goal.decreases-inner_contents
-decreases-inner_contents l = 8 * l.at + 2
+decreases-inner_contents l = 8 * l.at + 3
 
 abbrev pub decreases-layered : goal.decreases-layered
-decreases-layered l = 8 * l.at + 2
+decreases-layered l = 8 * l.at + 3
 
 abbrev pub decreases-within_tag : goal.decreases-within_tag
-decreases-within_tag l = 8 * l.at + 3
+decreases-within_tag l = 8 * l.at + 4
 
 abbrev pub decreases-lists::list : goal.decreases-lists::list
-decreases-lists::list l = 8 * l.first + 4
+decreases-lists::list l = 8 * l.first + 5
 
 abbrev pub decreases-lists::set_of : goal.decreases-lists::set_of
-decreases-lists::set_of l = 8 * l.first + 4
+decreases-lists::set_of l = 8 * l.first + 5
 
 abbrev pub decreases-choices::chosen : goal.decreases-choices::chosen
-decreases-choices::chosen l = 8 * l.at + 4
+decreases-choices::chosen l = 8 * l.at + 5
 
 abbrev pub decreases-series::present : goal.decreases-series::present
-decreases-series::present l = 8 * l.at + 4
+decreases-series::present l = 8 * l.at + 5
 
 abbrev pub decreases-series::part : goal.decreases-series::part
-decreases-series::part l = 8 * l.at + 6
+decreases-series::part l = 8 * l.at + 7
 
 abbrev pub decreases-series::near_part : goal.decreases-series::near_part
-decreases-series::near_part l = 8 * l.at + 5
+decreases-series::near_part l = 8 * l.at + 6
 
 abbrev pub decreases-series::far_part : goal.decreases-series::far_part
-decreases-series::far_part l = 8 * l.at + 5
+decreases-series::far_part l = 8 * l.at + 6
 
 -- ---- what is left is judged as the whole is
 
 abbrev pub invariant-series::series-loop-k : goal.invariant-series::series-loop-k
-invariant-series::series-loop-k l = fields_judged (parts_between (spots_in l.table) l.k (l.k-end - l.k)) l.rest l.failed ≡ contents_judged (body_at (spots_in l.table) l.at) l.fn.inside l.fn.failed
+invariant-series::series-loop-k l = fields_judged (parts_between (spots_in l.table) l.k (l.k-end - l.k)) l.rest l.failed ≡ fields_judged (parts_between (spots_in l.table) l.first l.count) l.fn.inside l.fn.failed
 
 abbrev pub invariant-choices::choice-loop-k : goal.invariant-choices::choice-loop-k
 invariant-choices::choice-loop-k l = chosen_judged (parts_between (spots_in l.table) l.k (l.k-end - l.k)) l.octets l.failed ≡ contents_judged (body_at (spots_in l.table) l.at) l.octets l.fn.failed
@@ -85,11 +88,11 @@ abbrev pub decreases-lists::set_of-loop-before : goal.decreases-lists::set_of-lo
 decreases-lists::set_of-loop-before l = length l.rest
 
 -- which components were read
-abbrev pub invariant-sets::set-loop-rest : goal.invariant-sets::set-loop-rest
-invariant-sets::set-loop-rest l =
+abbrev pub invariant-sets::members-loop-rest : goal.invariant-sets::members-loop-rest
+invariant-sets::members-loop-rest l =
     (places : List ℕ) × AreRead (parts_between (spots_in l.table) l.first l.count) l.fn.octets l.rest l.read places
     × (members (parts_between (spots_in l.table) l.first l.count) places l.last l.rest l.failed ≡ contents_judged (body_at (spots_in l.table) l.at) l.fn.octets l.fn.failed)
     × (l.below ≤ l.count) × AreBelow l.table l.first l.below l.floor
 
-abbrev pub decreases-sets::set-loop-rest : goal.decreases-sets::set-loop-rest
-decreases-sets::set-loop-rest l = length l.rest
+abbrev pub decreases-sets::members-loop-rest : goal.decreases-sets::members-loop-rest
+decreases-sets::members-loop-rest l = length l.rest

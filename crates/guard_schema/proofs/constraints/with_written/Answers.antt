@@ -2,7 +2,7 @@ use Rattle.std.proofs.lemmas.Result.{err_from_is_err_and}
 use Rattle.guard_model.specs.TypeView.{type_view}
 use Rattle.guard_schema.specs.Faults.{named}
 use Rattle.guard_schema.specs.Views.{visible_of}
-use Rattle.guard_schema.proofs.Filled.Steps.{before_refused, then_behind}
+use Rattle.guard_schema.proofs.Filled.Steps.{before_refused, then_after}
 use Rattle.guard_schema.proofs.constraints.with_written.Goals as goal
 
 pub returns-in_err-before : goal.returns-in_err-before
@@ -12,6 +12,6 @@ returns-in_err-before c =
     (named c.in_err-before.field-0.0) c.in_err-before.ensures)
 
 pub returns : goal.returns
-returns c = then_behind (visible_of c.args.scope) c.args.tree.now (type_view c.args.ty)
+returns c = then_after (visible_of c.args.scope) c.args.tree.now (type_view c.args.ty)
     (type_view c.in_ok-before.before) c.in_ok-before.ensures c.constrained.result
     (rw c.deref.ensures.value at c.constrained.ensures)

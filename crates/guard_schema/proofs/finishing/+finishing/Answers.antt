@@ -36,7 +36,7 @@ with_parts-returns-in_err-inside t c =
 pub with_parts-returns : goal.with_parts-returns
 with_parts-returns t c =
     kind_finished (visible_of c.args.scope) (written.base_view c.args.base.now) c.args.bare
-    (kind_view c.in_ok-inside.inside) c.in_ok-inside.ensures (type_view c.whole.result) c.whole.ensures
+    (kind_view c.in_ok-inside.inside) c.in_ok-inside.ensures (type_view c.type_made_of.result) c.type_made_of.ensures
 
 pub finished_kind-returns-in-Of : goal.finished_kind-returns-in-Of
 finished_kind-returns-in-Of t c =

@@ -1,6 +1,6 @@
 use Rattle.std.proofs.Common.{map, sym, ◌∙◌}
 use Rattle.guard_model.proofs.Results.{same_Ok}
-use Rattle.guard_values.proofs.Again.{says_read}
+use Rattle.guard_values.proofs.Denoted.DenotedIsRead.{says_read}
 use Rattle.guard_schema.proofs.OneAnswer.Steps.{OneValue}
 use Rattle.guard_schema.proofs.OneAnswer.Schemas.{one_schema}
 use Rattle.guard_schema.proofs.laws.law_one_schema.Goals as goal

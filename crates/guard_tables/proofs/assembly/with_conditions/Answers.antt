@@ -13,7 +13,7 @@ invariant_of-result c = record {
 
 pub returns : goal.returns
 returns c = laid_as c.args.laid.builder _ _ _
-    (ap (λ (b : Body). plan (tags_in (plan_in c.args.laid)) (form_in (plan_in c.args.laid)) b) (some_asked c.args.conditions.items (body_in (plan_in c.args.laid)) (let n = something_there (vec_len c.args.conditions) c.is_empty.result c.is_empty.ensures c.if-is_empty.false in omega (arith, n, c.args.conditions.ok.0))))
+    (ap (λ (b : Body). plan (tags_in (plan_in c.args.laid)) (form_in (plan_in c.args.laid)) b) (some_asked c.args.conditions.list.items (body_in (plan_in c.args.laid)) (let n = something_there (vec_len c.args.conditions.list) c.is_empty.result c.is_empty.ensures c.if-is_empty.false in omega (arith, n, c.args.conditions.list.ok.0))))
     (record {
       grows = c.in_ok-inner.ensures.grows;
       stands = rw c.bare-node.ensures.hot
@@ -21,4 +21,4 @@ returns c = laid_as c.args.laid.builder _ _ _
     })
 
 pub returns-then-is_empty : goal.returns-then-is_empty
-returns-then-is_empty c = unasked c.args.laid c.args.conditions.items (let n = nothing_there (vec_len c.args.conditions) c.is_empty.result c.is_empty.ensures c.if-is_empty.true in omega (arith, n, c.args.conditions.ok.0))
+returns-then-is_empty c = unasked c.args.laid c.args.conditions.list.items (let n = nothing_there (vec_len c.args.conditions.list) c.is_empty.result c.is_empty.ensures c.if-is_empty.true in omega (arith, n, c.args.conditions.list.ok.0))

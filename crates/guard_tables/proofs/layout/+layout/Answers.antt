@@ -44,8 +44,8 @@ lay_asked-returns t c = formulas_laid c.args.builder c.in_ok-laid.laid _ _ (λ (
 pub lay_elements-returns : goal.lay_elements-returns
 lay_elements-returns t c =
     let p = lay (type_view c.args.element.now) (each_of (terms_view c.args.terms.now)) in
-    formulas_laid c.args.builder c.in_ok-whole.whole (plan (own_tags c.args.tag) true (body_of_elements c.args.elements p)) (plan (own_tags c.args.tag) true (asked_of (map condition_view c.args.conditions.items) (body_of_elements c.args.elements p)))
-    (λ (b : Body). asked_of (map condition_view c.args.conditions.items) b)
+    formulas_laid c.args.builder c.in_ok-whole.whole (plan (own_tags c.args.tag) true (body_of_elements c.args.elements p)) (plan (own_tags c.args.tag) true (asked_of (map condition_view c.args.conditions.list.items) (body_of_elements c.args.elements p)))
+    (λ (b : Body). asked_of (map condition_view c.args.conditions.list.items) b)
     (elements_laid c.args.builder c.in_ok-laid.laid c.in_ok-whole.whole p c.args.elements c.args.tag
     (laid_as c.args.builder c.in_ok-laid.laid _ p (rw (c.deref.ensures.value, c.in_ok-asks.ensures) refl) c.in_ok-laid.ensures) c.in_ok-whole.ensures)
     refl c.with_conditions.result c.with_conditions.ensures
@@ -53,8 +53,8 @@ lay_elements-returns t c =
 pub lay_group-returns : goal.lay_group-returns
 lay_group-returns t c =
     let ps = parts_of_group c.args.group 0 (components_of (map component_view c.args.comps.now)) (terms_view c.args.terms.now) in
-    formulas_laid c.args.builder c.in_ok-whole.whole (plan (own_tags c.args.tag) true (body_of_group c.args.group ps)) (plan (own_tags c.args.tag) true (asked_of (map condition_view c.args.conditions.items) (body_of_group c.args.group ps)))
-    (λ (b : Body). asked_of (map condition_view c.args.conditions.items) b)
+    formulas_laid c.args.builder c.in_ok-whole.whole (plan (own_tags c.args.tag) true (body_of_group c.args.group ps)) (plan (own_tags c.args.tag) true (asked_of (map condition_view c.args.conditions.list.items) (body_of_group c.args.group ps)))
+    (λ (b : Body). asked_of (map condition_view c.args.conditions.list.items) b)
     (group_laid c.args.builder c.in_ok-parts.parts c.in_ok-whole.whole ps c.args.group c.args.tag c.in_ok-parts.ensures c.in_ok-whole.ensures)
     refl c.with_conditions.result c.with_conditions.ensures
 

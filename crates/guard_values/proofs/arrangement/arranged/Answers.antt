@@ -6,8 +6,8 @@ use Rattle.guard_model.specs.ValueView.{value_view}
 use Rattle.guard_values.specs.Arrangement.{EncodedValue, encoded_value}
 use Rattle.guard_values.specs.Views.{encoded_view}
 use Rattle.guard_values.specs.declared.arrangement.Encoded.{Encoded}
-use Rattle.guard_values.proofs.Ascending.{below, below_order, arranged_is}
-use Rattle.guard_values.proofs.Sorting.{sort_is, sort_map}
+use Rattle.guard_values.proofs.SetOf.EncodingOrder.{below, below_order, arranged_is}
+use Rattle.guard_values.proofs.SetOf.Insertion.{sort_is, sort_map}
 use Rattle.guard_values.proofs.arrangement.arranged.Goals as goal
 
 abbrev below_code : Encoded → Encoded → Bool

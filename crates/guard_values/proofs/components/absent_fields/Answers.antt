@@ -2,7 +2,7 @@ use Rattle.std.proofs.Common.{◌≡◌, ◌∙◌, ℕ, sym, ap, length, None, 
 use Rattle.std.specs.Prelude.{replicate}
 use Rattle.guard_model.specs.ValueView.{fields_view}
 use Rattle.guard_model.specs.AbstractValue.{Fields}
-use Rattle.guard_values.proofs.Slots.{fields_absent}
+use Rattle.guard_values.proofs.Braces.CodeFields.{fields_absent}
 use Rattle.guard_values.proofs.components.absent_fields.Goals as goal
 
 pub returns-clause-given : goal.returns-clause-given

@@ -1,8 +1,8 @@
 use Rattle.std.proofs.Common.{sym, length}
 use Rattle.guard_model.proofs.Components.{in_view}
 use Rattle.guard_values.specs.Views.{located_view}
-use Rattle.guard_values.proofs.Proper.{choice_proper, choice_parts, few_alternatives, small_place, proper_there}
-use Rattle.guard_values.proofs.Refusals.{no_alternative}
+use Rattle.guard_values.proofs.Braces.ProperComponents.{choice_proper, choice_parts, few_alternatives, small_place, proper_there}
+use Rattle.guard_values.proofs.FirstFaults.NamedRefusals.{no_alternative}
 use Rattle.guard_values.proofs.components.alternative.Goals as goal
 
 pub overflow_cast-result : goal.overflow_cast-result

@@ -6,7 +6,7 @@ use Rattle.guard_model.specs.ValueView.{fields_view}
 use Rattle.guard_model.specs.declared.ty.Kind.TheViews.{out-Comp}
 use Rattle.guard_values.specs.inside.Reading.{completed}
 use Rattle.guard_values.specs.Views.{named}
-use Rattle.guard_values.proofs.Slots.{put_settles, kept_settles, settles_badly, all_settled, is_empty}
+use Rattle.guard_values.proofs.Braces.CodeFields.{put_settles, kept_settles, settles_badly, all_settled, is_empty}
 use Rattle.guard_values.proofs.components.completed.Goals as goal
 use Rattle.guard_values.proofs.components.completed.Goals.{then-is_none+in_ok-left_out, else-is_none}
 use Rattle.guard_model.proofs.Components.{left}

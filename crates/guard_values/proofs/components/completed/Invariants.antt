@@ -1,7 +1,7 @@
 use Rattle.std.proofs.Common.{◌≡◌, length, map, take, drop}
 use Rattle.guard_model.specs.ValueView.{field_view, fields_view}
 use Rattle.guard_values.specs.inside.Reading.{completed}
-use Rattle.guard_values.proofs.Slots.{with_front}
+use Rattle.guard_values.proofs.Braces.CodeFields.{with_front}
 use Rattle.guard_values.proofs.components.completed.Given as goal
 use Rattle.guard_model.proofs.Components.{left}
 

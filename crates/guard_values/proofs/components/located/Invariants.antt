@@ -1,6 +1,6 @@
 use Rattle.std.proofs.Common.{◌≡◌, option_map}
 use Rattle.guard_values.specs.Places.{located}
-use Rattle.guard_values.proofs.Find.{from}
+use Rattle.guard_values.proofs.Braces.ComponentsByName.{from}
 use Rattle.guard_values.proofs.components.located.Given as goal
 use Rattle.guard_model.proofs.Components.{left}
 

@@ -2,7 +2,7 @@ use Rattle.std.proofs.Common.{map, option_map}
 use Rattle.guard_model.specs.TypeView.{component_view, components_of}
 use Rattle.guard_model.specs.ValueView.{fields_view}
 use Rattle.guard_values.specs.Views.{located_view}
-use Rattle.guard_values.proofs.Proper.{placed_proper}
+use Rattle.guard_values.proofs.Braces.ProperComponents.{placed_proper}
 use Rattle.guard_values.proofs.components.place_of.Goals as goal
 
 pub returns-clause-proper : goal.returns-clause-proper

@@ -6,7 +6,7 @@ use Rattle.guard_model.specs.AbstractValue.{AbstractValue}
 use Rattle.guard_model.proofs.ValueViews.{value_view_items}
 use Rattle.guard_values.specs.Arrangement.{encoded_value}
 use Rattle.guard_values.specs.Views.{encoded_view}
-use Rattle.guard_values.proofs.Encodings.{listed_as}
+use Rattle.guard_values.proofs.SetOf.MadeEncodings.{listed_as}
 use Rattle.guard_values.proofs.elements.listed_set.Goals as goal
 
 pub returns : goal.returns

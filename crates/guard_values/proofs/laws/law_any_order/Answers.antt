@@ -1,7 +1,7 @@
 use Rattle.guard_model.specs.TypeView.{type_view}
 use Rattle.guard_values.specs.Views.{visible_from}
-use Rattle.guard_values.proofs.AnyOrder.{any_order}
-use Rattle.guard_values.proofs.Visible.{visible_fit}
+use Rattle.guard_values.proofs.SetOf.AnyOrder.{any_order}
+use Rattle.guard_values.proofs.Fitting.KnownValuesFit.{visible_fit}
 use Rattle.guard_values.proofs.laws.law_any_order.Goals as goal
 
 pub returns : goal.returns

@@ -1,7 +1,7 @@
 use Rattle.guard_model.specs.TypeView.{type_view}
 use Rattle.guard_syntax.specs.Views as trees
 use Rattle.guard_values.specs.Views.{visible_from}
-use Rattle.guard_values.proofs.Exact.{first_excludes}
+use Rattle.guard_values.proofs.OneAnswer.FaultOrValue.{first_excludes}
 use Rattle.guard_values.proofs.laws.law_fault_or_value.Goals as goal
 
 pub returns : goal.returns

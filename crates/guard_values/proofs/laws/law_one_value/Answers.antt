@@ -3,7 +3,7 @@ use Rattle.guard_model.proofs.Results.{same_Ok}
 use Rattle.guard_model.specs.TypeView.{type_view}
 use Rattle.guard_syntax.specs.Views as trees
 use Rattle.guard_values.specs.Views.{visible_from}
-use Rattle.guard_values.proofs.Again.{says_read}
+use Rattle.guard_values.proofs.Denoted.DenotedIsRead.{says_read}
 use Rattle.guard_values.proofs.laws.law_one_value.Goals as goal
 
 pub returns : goal.returns

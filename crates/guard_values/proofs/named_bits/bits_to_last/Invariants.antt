@@ -1,6 +1,6 @@
 use Rattle.std.proofs.Common.{◌≡◌, drop}
 use Rattle.guard_values.specs.NamedBits.{bits_to_last}
-use Rattle.guard_values.proofs.NamedBits.{greatest}
+use Rattle.guard_values.proofs.SingleValues.NamedBits.{greatest}
 use Rattle.guard_values.proofs.named_bits.bits_to_last.Given as goal
 
 abbrev pub invariant-loop-place : goal.invariant-loop-place

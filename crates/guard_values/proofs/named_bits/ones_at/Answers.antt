@@ -2,7 +2,7 @@ use Rattle.std.proofs.Common.{◌<◌, ℕ, List, length, get_or, ap, ◌∙◌,
 use Rattle.std.specs.Prelude.{replicate}
 use Rattle.std.proofs.lemmas.List.{length-replicate}
 use Rattle.guard_values.specs.NamedBits.{bits_to_last}
-use Rattle.guard_values.proofs.NamedBits.{marked, marked_is, place_below, ones_done}
+use Rattle.guard_values.proofs.SingleValues.NamedBits.{marked, marked_is, place_below, ones_done}
 use Rattle.guard_values.proofs.named_bits.ones_at.Goals as goal
 
 pub loop-place-init : goal.loop-place-init

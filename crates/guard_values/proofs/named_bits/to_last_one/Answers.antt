@@ -1,6 +1,6 @@
 use Rattle.std.proofs.Common.{◌≡◌, ◌+◌, ◌-◌, ℕ, take, sym, ap, ◌∙◌, arith}
 use Rattle.guard_values.specs.NamedBits.{to_last_one}
-use Rattle.guard_values.proofs.NamedBits.{one_fewer, ends_there}
+use Rattle.guard_values.proofs.SingleValues.NamedBits.{one_fewer, ends_there}
 use Rattle.guard_values.proofs.named_bits.to_last_one.Goals as goal
 
 pub loop-count-preserved : goal.loop-count-preserved

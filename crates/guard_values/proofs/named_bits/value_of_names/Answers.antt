@@ -7,7 +7,7 @@ use Rattle.guard_model.specs.TypeView.{named_view}
 use Rattle.guard_model.specs.ValueView.{value_view}
 use Rattle.guard_syntax.specs.Views.{entry_view}
 use Rattle.guard_values.specs.Views.{named}
-use Rattle.guard_values.proofs.NamedBits.{names_refused, names_read}
+use Rattle.guard_values.proofs.SingleValues.NamedBits.{names_refused, names_read}
 use Rattle.guard_values.proofs.named_bits.value_of_names.Goals as goal
 
 pub returns-in_err-places : goal.returns-in_err-places

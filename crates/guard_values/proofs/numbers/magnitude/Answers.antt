@@ -1,5 +1,5 @@
 use Rattle.std.proofs.Common.{◌^◌, arith}
-use Rattle.guard_values.proofs.ReadNumbers.{was_small, ended}
+use Rattle.guard_values.proofs.SingleValues.NumbersByDigits.{was_small, ended}
 use Rattle.guard_lexer.specs.Items.{number_value}
 use Rattle.guard_values.proofs.numbers.magnitude.Goals as goal
 

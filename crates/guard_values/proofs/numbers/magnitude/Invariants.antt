@@ -1,6 +1,6 @@
 use Rattle.std.proofs.Common.{◌≡◌, ◌^◌, ◌<◌, drop}
 use Rattle.std.specs.Prelude.{fold}
-use Rattle.guard_values.proofs.ReadNumbers.{with_digit}
+use Rattle.guard_values.proofs.SingleValues.NumbersByDigits.{with_digit}
 use Rattle.guard_lexer.specs.Items.{number_value}
 use Rattle.guard_values.proofs.numbers.magnitude.Given as goal
 

@@ -3,7 +3,7 @@ use Rattle.std.proofs.lemmas.Result.{err_from_is_err_and}
 use Rattle.guard_syntax.specs.Views.{arc_view}
 use Rattle.guard_values.specs.ObjectIdentifiers.{arc_numbers, large_arc, large_second}
 use Rattle.guard_values.specs.Views.{named}
-use Rattle.guard_values.proofs.ReadArcs.{are_read, arc_stops, second_stops, too_few, enough_arcs, value_view_object_identifier}
+use Rattle.guard_values.proofs.SingleValues.ArcsInTurn.{are_read, arc_stops, second_stops, too_few, enough_arcs, value_view_object_identifier}
 use Rattle.guard_values.proofs.object_identifiers.object_identifier.Goals as goal
 
 pub returns-in_err-arcs : goal.returns-in_err-arcs

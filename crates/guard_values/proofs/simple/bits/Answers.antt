@@ -3,8 +3,8 @@ use Rattle.std.specs.Prelude.{All}
 use Rattle.guard_model.specs.TypeView.{named_view}
 use Rattle.guard_values.specs.NamedBits.{bits_kept}
 use Rattle.guard_values.specs.Strings.{binary_digits}
-use Rattle.guard_values.proofs.FitsBits.{binary_small}
-use Rattle.guard_values.proofs.NamedBits.{kept_small}
+use Rattle.guard_values.proofs.Fitting.OctetsOfBits.{binary_small}
+use Rattle.guard_values.proofs.SingleValues.NamedBits.{kept_small}
 use Rattle.guard_values.proofs.simple.bits.Goals as goal
 
 pub bit_string-requires : goal.bit_string-requires

@@ -3,8 +3,8 @@ use Rattle.std.specs.Prelude.{All}
 use Rattle.guard_model.specs.TypeView.{named_view}
 use Rattle.guard_values.specs.NamedBits.{bits_kept}
 use Rattle.guard_values.specs.Strings.{hexadecimal_bits}
-use Rattle.guard_values.proofs.FitsBits.{hexadecimal_small}
-use Rattle.guard_values.proofs.NamedBits.{kept_small}
+use Rattle.guard_values.proofs.Fitting.OctetsOfBits.{hexadecimal_small}
+use Rattle.guard_values.proofs.SingleValues.NamedBits.{kept_small}
 use Rattle.guard_values.proofs.simple.bits_of_digits.Goals as goal
 
 pub bit_string-requires : goal.bit_string-requires

@@ -1,7 +1,7 @@
 use Rattle.std.proofs.Common.{◌≡◌, ◌∙◌, sym, subst, None, Some}
 use Rattle.std.proofs.lemmas.Str.{IsUtf8-string_bytes}
 use Rattle.std.specs.Prelude.{string_bytes}
-use Rattle.guard_values.proofs.Texts.{text_in, is_read, is_not_read, not_spelled}
+use Rattle.guard_values.proofs.SingleValues.CharactersInTurn.{text_in, is_read, is_not_read, not_spelled}
 use Rattle.guard_values.proofs.simple.text_of.Goals as goal
 
 pub returns-in_default : goal.returns-in_default

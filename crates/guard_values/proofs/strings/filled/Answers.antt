@@ -1,6 +1,6 @@
 use Rattle.std.proofs.Common.{◌<◌, arith}
 use Rattle.std.specs.Prelude.{slice_index}
-use Rattle.guard_values.proofs.Digits.{next_digit, small_digit, still_small, product_fits, all_digits}
+use Rattle.guard_values.proofs.SingleValues.DigitsInOctets.{next_digit, small_digit, still_small, product_fits, all_digits}
 use Rattle.guard_values.proofs.strings.filled.Goals as goal
 
 pub overflow_mul-number : goal.overflow_mul-number

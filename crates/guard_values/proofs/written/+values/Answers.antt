@@ -13,10 +13,10 @@ use Rattle.guard_syntax.specs.declared.tree.ValueForm.{the_lemmas}
 use Rattle.guard_values.specs.Arrangement.{AreEncodings, encoded_value}
 use Rattle.guard_values.specs.inside.Reading.{read_entries, read_elements, read_list}
 use Rattle.guard_values.specs.Views.{named, encoded_view, located_view, meaning_of}
-use Rattle.guard_values.proofs.Encodings.{one_more_encoding}
-use Rattle.guard_values.proofs.Proper.{kind_proper}
-use Rattle.guard_values.proofs.Steps.{list_is, plain_element, entry_found, behind, with_front, elements_on, elements_refused, elements_done, entries_put, entries_refused, entries_done}
-use Rattle.guard_values.proofs.Whole.{element_fits}
+use Rattle.guard_values.proofs.SetOf.MadeEncodings.{one_more_encoding}
+use Rattle.guard_values.proofs.Braces.ProperComponents.{kind_proper}
+use Rattle.guard_values.proofs.Braces.EntriesInTurn.{list_is, plain_element, entry_found, elements_from, with_front, elements_on, elements_refused, elements_done, entries_put, entries_refused, entries_done}
+use Rattle.guard_values.proofs.OneAnswer.CodeAnswers.{element_fits}
 use Rattle.guard_values.proofs.written.+values.Goals as goal
 
 -- ---- forms
@@ -101,7 +101,7 @@ elements-loop-entry-preserved t c =
     let total = read_elements m c.args.sorted false (type_view c.args.ty.now) (entries_of (map trees.entry_view c.args.entries.now)) in
     let more = elements_on m c.args.sorted false (type_view c.args.ty.now) c.args.entries.now c.loop-entry.entry-index c.entry-item.result (map value_view c.loop-entry.elements.items) (value_view c.in_ok-value.value) total c.loop-entry-test.true c.entry-item.is
     c.in_ok-value.ensures c.loop-entry.invariant in
-    let P : List AbstractValue → Type 0 = (λ f. with_front f (behind m c.args.sorted false (type_view c.args.ty.now) c.args.entries.now (c.loop-entry.entry-index + 1)) ≡ total) in
+    let P : List AbstractValue → Type 0 = (λ f. with_front f (elements_from m c.args.sorted false (type_view c.args.ty.now) c.args.entries.now (c.loop-entry.entry-index + 1)) ≡ total) in
     subst P (sym (ap (map value_view) c.in_ok-push.ensures.items ∙ map_push value_view c.loop-entry.elements.items c.in_ok-value.value)) more
 
 pub elements-returns-in_err-value : goal.elements-returns-in_err-value
@@ -131,7 +131,7 @@ encoded_elements-loop-entry-preserved t c =
     let pushed : map encoded_view c.push.new.self.items ≡ before ++ encoded_view c.in_ok-element.element ∷ [] = ap (map encoded_view) c.in_ok-push.ensures.items ∙ map_push encoded_view c.loop-entry.elements.items c.in_ok-element.element in
     let more = elements_on m true true (type_view c.args.ty.now) c.args.entries.now c.loop-entry.entry-index c.entry-item.result (map encoded_value before) (value_view c.in_ok-element.element.value) total c.loop-entry-test.true c.entry-item.is
     c.in_ok-element.ensures.given c.loop-entry.invariant.so_far in
-    let P : List AbstractValue → Type 0 = (λ f. with_front f (behind m true true (type_view c.args.ty.now) c.args.entries.now (c.loop-entry.entry-index + 1)) ≡ total) in
+    let P : List AbstractValue → Type 0 = (λ f. with_front f (elements_from m true true (type_view c.args.ty.now) c.args.entries.now (c.loop-entry.entry-index + 1)) ≡ total) in
     record {
       encodings = subst (AreEncodings (type_view c.args.ty.now)) (sym pushed) (one_more_encoding (type_view c.args.ty.now) before (encoded_view c.in_ok-element.element) c.loop-entry.invariant.encodings c.in_ok-element.ensures.encoding);
       so_far = subst P (sym (ap (map encoded_value) pushed ∙ map_push encoded_value before (encoded_view c.in_ok-element.element))) more;

@@ -7,7 +7,7 @@ use Rattle.guard_syntax.specs.Views.{entry_view}
 use Rattle.guard_values.specs.Arrangement.{AreEncodings, encoded_value}
 use Rattle.guard_values.specs.inside.Reading.{read_entries, read_elements}
 use Rattle.guard_values.specs.Views.{encoded_view, meaning_of}
-use Rattle.guard_values.proofs.Steps.{with_front}
+use Rattle.guard_values.proofs.Braces.EntriesInTurn.{with_front}
 use Rattle.guard_values.proofs.written.+values.Given as goal
 
 abbrev pub invariant-entry_fields-loop-entry : goal.invariant-entry_fields-loop-entry

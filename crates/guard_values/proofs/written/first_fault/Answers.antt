@@ -7,7 +7,7 @@ use Rattle.guard_syntax.specs.Views as trees
 use Rattle.guard_values.specs.declared.fault.ValueFault.TheVariants.{TooLarge}
 use Rattle.guard_values.specs.inside.Reading.{read, site_of}
 use Rattle.guard_values.specs.Views.{named, meaning_of}
-use Rattle.guard_values.proofs.Refusals.{too_long}
+use Rattle.guard_values.proofs.FirstFaults.NamedRefusals.{too_long}
 use Rattle.guard_values.proofs.written.first_fault.Goals as goal
 
 pub returns-in_err-_value : goal.returns-in_err-_value

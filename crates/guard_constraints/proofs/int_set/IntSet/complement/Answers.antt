@@ -1,7 +1,7 @@
 use Rattle.std.proofs.Common.{refl}
 use Rattle.guard_constraints.specs.Numbers.{least}
-use Rattle.guard_constraints.proofs.Gaps.{gaps_apart}
-use Rattle.guard_constraints.proofs.Sets.{complement_has}
+use Rattle.guard_constraints.proofs.RangeLists.Gaps.{gaps_apart}
+use Rattle.guard_constraints.proofs.RangeLists.AsSets.{complement_has}
 use Rattle.guard_constraints.proofs.int_set.IntSet.complement.Goals as goal
 
 pub invariant_of-result : goal.invariant_of-result

@@ -5,7 +5,7 @@ use Rattle.std.proofs.lemmas.List.Sorted.{IsPartitionPoint-from_clause}
 use Rattle.guard_constraints.specs.declared.ranges.Range.{Range}
 use Rattle.guard_constraints.specs.Numbers.{is_number}
 use Rattle.guard_constraints.specs.Ranges.{one_holds}
-use Rattle.guard_constraints.proofs.Searching.{begins_in_order, no_range, found, with_number}
+use Rattle.guard_constraints.proofs.RangeLists.HoldingRange.{begins_in_order, no_range, found, with_number}
 use Rattle.guard_constraints.proofs.int_set.IntSet.has.Goals as goal
 
 pub returns-then-begun-gt0 : goal.returns-then-begun-gt0

@@ -1,5 +1,5 @@
-use Rattle.guard_constraints.proofs.Overlaps.{common_apart}
-use Rattle.guard_constraints.proofs.Sets.{intersection_has}
+use Rattle.guard_constraints.proofs.RangeLists.CommonParts.{common_apart}
+use Rattle.guard_constraints.proofs.RangeLists.AsSets.{intersection_has}
 use Rattle.guard_constraints.proofs.int_set.IntSet.intersection.Goals as goal
 
 pub invariant_of-result : goal.invariant_of-result

@@ -3,7 +3,8 @@ use Rattle.std.specs.Prelude.{bytes_eq}
 use Rattle.std.specs.Map.{lookup}
 use Rattle.guard_policy.specs.declared.index.Listed.{Listed}
 use Rattle.guard_policy.specs.inside.Listings.{AbstractListed, listing, listed_view, numbers_for}
-use Rattle.guard_policy.specs.Policies.{message_view, rule_view}
+use Rattle.guard_policy.specs.SaidView.{said_view}
+use Rattle.guard_policy.specs.inside.Said.{said_message_view}
 use Rattle.guard_policy.proofs.EntriesRead.{taken_is}
 use Rattle.guard_policy.proofs.Listed.{taken_length, says_new, says_old, inserted_last, is_some-map}
 use Rattle.guard_policy.proofs.index.Index.of.Goals as goal
@@ -11,12 +12,12 @@ use Rattle.guard_policy.proofs.index.Index.of.Goals.{then-not-contains_key+in_ok
 
 pub loop-place-preserved : goal.loop-place-preserved
 loop-place-preserved c = λ name.
-    let so_far = map message_view (take c.loop-place.place c.args.messages.now) in
-    let all = map rule_view c.args.rules.now in
-    let m = message_view c.index-messages-place.result in
+    let so_far = map said_message_view (take c.loop-place.place c.args.messages.now) in
+    let all = map said_view c.args.rules.now in
+    let m = said_message_view c.index-messages-place.result in
     let n = c.loop-place.place in
-    let counted : n ≡ length so_far = taken_length message_view c.args.messages.now n c.loop-place-test.true in
-    let more = taken_is message_view c.args.messages.now n c.index-messages-place.result c.loop-place-test.true c.index-messages-place.is in
+    let counted : n ≡ length so_far = taken_length said_message_view c.args.messages.now n c.loop-place-test.true in
+    let more = taken_is said_message_view c.args.messages.now n c.index-messages-place.result c.loop-place-test.true c.index-messages-place.is in
     let tested : c.contains_key.result ≡ is_some (lookup (λ x. bytes_eq m.name x.items) c.loop-place.listed.entries) = rw c.as_bytes-name.ensures.value at c.contains_key.ensures in
     rw more
     (elim c.if-not-contains_key.branch [

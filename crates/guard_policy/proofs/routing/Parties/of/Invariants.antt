@@ -1,7 +1,7 @@
 use Rattle.std.proofs.Common.{ℕ, List, take}
 use Rattle.std.specs.Prelude.{bytes_eq}
 use Rattle.std.specs.Map.{lookup}
-use Rattle.guard_policy.specs.inside.Routing.{rules_view}
+use Rattle.guard_policy.specs.inside.Said.{rules_view}
 use Rattle.guard_policy.proofs.PartyNames.{Finds}
 use Rattle.guard_policy.proofs.routing.Parties.of.Given as goal
 

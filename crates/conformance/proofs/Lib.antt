@@ -1,4 +1,0 @@
--- one definition more behind those that are built
-pub mod OneMore
--- each place of a list
-pub mod Places

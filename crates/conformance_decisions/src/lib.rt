@@ -1,0 +1,32 @@
+//! Answers to rows on policies and streams: what the text of a policy says, which verdict a message gets, how that is
+//! reported, and what comes of frames on one link and on many.
+//!
+//! | folder of rows | what answers them |
+//! |---|---|
+//! | `policy` | `policies.rt`, of verdicts `verdicts.rt` |
+//! | `report` | `reports.rt`, `written_verdicts.rt` |
+//! | `frames` | `streams.rt`, `text_streams.rt`, `links.rt`, `link_orders.rt` |
+//!
+//! Sources and sinks are those of `devices.rt`. Whether a message goes just where its verdict is to pass is tried on
+//! the rows of policies and frames by `passing.rt`.
+#![tactic(auto)]
+
+mod devices;
+mod link_orders;
+mod links;
+mod passing;
+mod policies;
+mod reports;
+mod streams;
+mod text_streams;
+mod verdicts;
+mod written_verdicts;
+
+pub use devices::{Pieces, Room};
+pub use links::Links;
+pub use passing::{PolicyRows, Said};
+pub use policies::Policies;
+pub use reports::Reports;
+pub use streams::Streams;
+pub use text_streams::TextStreams;
+pub use verdicts::Verdicts;

@@ -1,0 +1,279 @@
+//! `guard_values`: the value that a text denotes under the type that is set, by the octets of its encoding; or the
+//! fault.
+ghost use Rattle.std.specs.Prelude.{◌≡◌, true, IsTrue, IfOk, IfSome};
+ghost use Rattle.guard_model.specs.TypeView.{type_view};
+ghost use Rattle.guard_model.specs.ValueView.{value_view};
+ghost use Rattle.guard_der.specs.Fits.{fits};
+ghost use Rattle.guard_der.specs.Sound.{is_sound};
+
+use crate::encoding::decodes_to;
+use conformance_rows::{Layer, in_hexadecimal, not_read, text_of, unknown};
+use conformance_texts::{AsksNames, are_fitting, ask_names};
+use guard_der::{encode, sound};
+use guard_model::{Ty, Value};
+use guard_names::{Id, Names};
+use guard_schema::Schema;
+use guard_syntax::{Assignment, Module, ValueTree};
+use guard_values::{Known, ValueFault, value};
+use std::alloc::{AllocError, Global};
+
+/// A value assignment that is visible: its name, its type and its value as they are written.
+#[derive(Drop)]
+struct Visible {
+    name: String,
+    ty: String,
+    value: String,
+}
+
+#[derive(Drop)]
+pub struct ValuesRows {
+    ty: String,
+    visible: Vec<Visible>,
+    /// Those of another module, and which of them are imported.
+    others: Vec<Visible>,
+    imported: String,
+    /// Whether of the octets only their number is answered.
+    counted: bool,
+}
+
+impl ValuesRows {
+    /// A module with the value in its third line, and the visible ones below it; and the other module. The types in
+    /// them say nothing here.
+    fn module_text(&self, alloc: Global, text: &str) -> Result<String, AllocError> {
+        let mut whole = String::from_str(alloc, "M DEFINITIONS ::= BEGIN")?;
+        if !self.imported.is_empty() {
+            whole.push_str(" IMPORTS ")?;
+            whole.push_str(&self.imported)?;
+            whole.push_str(" FROM N;")?;
+        }
+        whole.push_str("\nv NULL ::=\n")?;
+        whole.push_str(text)?;
+        push_assignments(&mut whole, &self.visible)?;
+        whole.push_str("\nEND\n==== N DEFINITIONS ::= BEGIN")?;
+        push_assignments(&mut whole, &self.others)?;
+        whole.push_str("\nEND\n")?;
+        Ok(whole)
+    }
+
+    /// A module with the types: `T`, of `m` its type `T-m`, and of `m` in the other module `O-m`.
+    fn types_text(&self, alloc: Global) -> Result<String, AllocError> {
+        let ty = &self.ty;
+        let mut text = format!(in alloc; "M DEFINITIONS ::= BEGIN\nT ::= {ty}\n")?;
+        push_types(&mut text, "T-", &self.visible)?;
+        push_types(&mut text, "O-", &self.others)?;
+        text.push_str("END\n")?;
+        Ok(text)
+    }
+
+    /// Values in their order, up to the one that is asked for.
+    fn built(&self, alloc: Global, names: &Names, types: &Schema) -> Result<String, AllocError> {
+        let mut known = Known {
+            types: Vec::new(alloc),
+            values: Vec::new(alloc),
+        };
+        for id in names.order() {
+            if let Some(answer) = self.next(alloc, names, types, &mut known, *id)? {
+                return Ok(answer);
+            }
+        }
+        String::from_str(alloc, "no value")
+    }
+
+    /// The answer to the row where this is the definition that it asks for, or where there is none; else the value that
+    /// the definition gives, if it gives one, is known from now on.
+    fn next(
+        &self,
+        alloc: Global,
+        names: &Names,
+        types: &Schema,
+        known: &mut Known,
+        id: Id,
+    ) -> Result<Option<String>, AllocError> {
+        let Some((module, assignment)) = names.home(id) else {
+            return Ok(None);
+        };
+        let Some(tree) = &assignment.value else {
+            return Ok(None);
+        };
+        let name = type_name(alloc, module, assignment)?;
+        let Some(ty) = types.ty("M", &name) else {
+            return Ok(Some(String::from_str(alloc, "no type")?));
+        };
+        let found = denoted(alloc, names, known, id, ty, tree);
+        if assignment.name == "v".as_bytes() {
+            return Ok(Some(self.shown(alloc, ty, found)?));
+        }
+        match found {
+            Some(Ok(value)) => keep(alloc, known, ty, value),
+            _ => Ok(Some(String::from_str(alloc, "a visible name has no value")?)),
+        }
+    }
+
+    /// The octets of the value, or why there is none.
+    fn shown(
+        &self,
+        alloc: Global,
+        ty: &Ty,
+        found: Option<Result<Value, ValueFault>>,
+    ) -> Result<String, AllocError>
+        requires sound { IfSome found (λ r. IsTrue (is_sound (type_view ty.now))) }
+        requires fits { IfSome found (λ r. IfOk r (λ v. IsTrue (fits (type_view ty.now) (value_view v)))) }
+    {
+        let Some(found) = found else {
+            return String::from_str(alloc, "not sound");
+        };
+        match found {
+            Ok(value) => self.encoded(alloc, ty, &value),
+            Err(fault) => format!(in alloc; "{fault}"),
+        }
+    }
+
+    fn encoded(&self, alloc: Global, ty: &Ty, value: &Value) -> Result<String, AllocError>
+        requires sound { IsTrue (is_sound (type_view ty.now)) }
+        requires fits { IsTrue (fits (type_view ty.now) (value_view value.now)) }
+    {
+        let Ok(octets) = encode(alloc, ty, value) else {
+            return String::from_str(alloc, "no encoding");
+        };
+        if !decodes_to(alloc, ty, &octets, value) {
+            return String::from_str(alloc, "decode takes the octets for another value");
+        }
+        if self.counted {
+            let count = octets.len();
+            return format!(in alloc; "{count} octets");
+        }
+        in_hexadecimal(alloc, &octets)
+    }
+}
+
+/// Keeps a value and its type with those that are known.
+fn keep(
+    alloc: Global,
+    known: &mut Known,
+    ty: &Ty,
+    value: Value,
+) -> Result<Option<String>, AllocError> {
+    let Ok(ty) = ty.copy(alloc) else {
+        return Err(AllocError);
+    };
+    known.types.push(ty)?;
+    known.values.push(Some(value))?;
+    Ok(None)
+}
+
+impl AsksNames for ValuesRows {
+    fn answer_on(&self, alloc: Global, names: &Names) -> Result<String, AllocError> {
+        let types = self.types_text(alloc)?;
+        match Schema::build(alloc, &[types.as_bytes()]) {
+            Ok(types) => self.built(alloc, names, &types),
+            Err(fault) => format!(in alloc; "{fault}"),
+        }
+    }
+}
+
+fn push_assignments(whole: &mut String, assignments: &[Visible]) -> Result<(), AllocError> {
+    for visible in assignments {
+        whole.push('\n')?;
+        whole.push_str(&visible.name)?;
+        whole.push_str(" NULL ::= ")?;
+        whole.push_str(&visible.value)?;
+    }
+    Ok(())
+}
+
+fn push_types(text: &mut String, prefix: &str, assignments: &[Visible]) -> Result<(), AllocError> {
+    for visible in assignments {
+        let Visible { name, ty, .. } = visible;
+        write!(text, "{prefix}{name} ::= {ty}\n")?;
+    }
+    Ok(())
+}
+
+/// The name that the type of a value has.
+fn type_name(
+    alloc: Global,
+    module: &Module,
+    assignment: &Assignment,
+) -> Result<String, AllocError> {
+    let name = text_of(assignment.name);
+    match (text_of(module.name), name) {
+        ("M", "v") => String::from_str(alloc, "T"),
+        ("M", _) => format!(in alloc; "T-{name}"),
+        _ => format!(in alloc; "O-{name}"),
+    }
+}
+
+/// What `value` answers, where its premises hold.
+fn denoted(
+    alloc: Global,
+    names: &Names,
+    known: &Known,
+    id: Id,
+    ty: &Ty,
+    tree: &ValueTree,
+) -> Option<Result<Value, ValueFault>>
+    ensures sound { IfSome result (λ r. IsTrue (is_sound (type_view ty.now))) }
+    ensures fits { IfSome result (λ r. IfOk r (λ v. IsTrue (fits (type_view ty.now) (value_view v)))) }
+{
+    if !is_lawful(alloc, ty) || !are_fitting(alloc, known) {
+        return None;
+    }
+    Some(value(alloc, names, known, id, ty, tree))
+}
+
+pub fn is_lawful(alloc: Global, ty: &Ty) -> bool
+    ensures { result ≡ true → IsTrue (is_sound (type_view ty.now)) }
+{
+    match sound(alloc, ty) {
+        Ok(answer) => answer,
+        Err(_) => false,
+    }
+}
+
+impl Layer for ValuesRows {
+    fn new(alloc: Global) -> ValuesRows {
+        ValuesRows {
+            ty: String::new(alloc),
+            visible: Vec::new(alloc),
+            others: Vec::new(alloc),
+            imported: String::new(alloc),
+            counted: false,
+        }
+    }
+
+    fn answer(&mut self, alloc: Global, input: &[u8]) -> Result<String, AllocError> {
+        let text = self.module_text(alloc, text_of(input))?;
+        ask_names(alloc, &text, self)
+    }
+
+    /// `@type TYPE`; `@visible NAME TYPE ::= VALUE`, and `@visible none`; `@other NAME TYPE ::= VALUE` in another
+    /// module, and `@imports NAMES` from it; `@show octets` and `@show count`.
+    fn set(&mut self, alloc: Global, name: &str, text: &[u8]) -> Result<String, AllocError> {
+        match (name, text_of(text)) {
+            ("type", text) => self.ty = String::from_str(alloc, text)?,
+            ("visible", "none") => self.visible = Vec::new(alloc),
+            ("visible", text) => return add_to(alloc, &mut self.visible, text),
+            ("other", text) => return add_to(alloc, &mut self.others, text),
+            ("imports", text) => self.imported = String::from_str(alloc, text)?,
+            ("show", "octets") => self.counted = false,
+            ("show", "count") => self.counted = true,
+            _ => return unknown(alloc),
+        }
+        String::from_str(alloc, "ok")
+    }
+}
+
+fn add_to(alloc: Global, list: &mut Vec<Visible>, text: &str) -> Result<String, AllocError> {
+    let Some((name, rest)) = text.split_once(' ') else {
+        return not_read(alloc);
+    };
+    let Some((ty, value)) = rest.split_once(" ::= ") else {
+        return not_read(alloc);
+    };
+    list.push(Visible {
+        name: String::from_str(alloc, name)?,
+        ty: String::from_str(alloc, ty)?,
+        value: String::from_str(alloc, value)?,
+    })?;
+    String::from_str(alloc, "ok")
+}

@@ -1,0 +1,17 @@
+use Rattle.std.proofs.Common.{ℕ, List, subst}
+use Rattle.guard_policy.specs.PolicyView.{policy_view}
+use Rattle.derguard_program.specs.Answers.{answer_view}
+use Rattle.derguard_program.specs.Shown.{ShowsMessage}
+use Rattle.derguard_program.proofs.values.show_message.Goals as goal
+
+pub returns-clause-shown : goal.returns-clause-shown
+returns-clause-shown g c =
+    let p = policy_view c.in_ok-policy.policy in
+    let a = answer_view c.in_ok-show_octets.field-0 in (
+      c.in_ok-octets.octets.items,
+      p,
+      c.in_ok-octets.ensures.octets,
+      c.in_ok-policy.ensures.there,
+      subst (λ (m : List ℕ). ShowsMessage p m c.in_ok-octets.octets.items a) c.as_bytes.ensures.value
+          (subst (λ (o : List ℕ). ShowsMessage p c.as_bytes.result.now o a) c.deref.ensures.value c.in_ok-show_octets.ensures),
+    )

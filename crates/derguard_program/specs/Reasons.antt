@@ -1,0 +1,76 @@
+-- What comes below the text of a verdict where it is to be explained: of each constraint that the value fails its line
+-- with a mark, and the part that fails it; of any other verdict that stops a message a sentence.
+use Rattle.std.specs.Prelude.{◌≡◌, ℕ, List, [], ◌∷◌, ◌++◌, codes, option_map, Option, Some, None, IsTrue}
+use Rattle.guard_model.specs.declared.site.Step.{Step}
+use Rattle.guard_model.specs.declared.site.Step.TheVariants.{Component, Element}
+use Rattle.guard_model.specs.AbstractType.{AbstractType}
+use Rattle.guard_model.specs.AbstractValue.{AbstractValue}
+use Rattle.guard_der.specs.Der.{der}
+use Rattle.guard_der.specs.Fits.{fits}
+use Rattle.guard_eval.specs.Violations.{AbstractViolation}
+use Rattle.guard_policy.specs.Policies.{AbstractPolicy, AbstractRoute, declared_type}
+use Rattle.guard_policy.specs.Verdicts.{AbstractVerdict, pass, unknown_message, undecodable, outside_type, denied_by, not_allowed, no_rule}
+use Rattle.guard_report.specs.Parts.{part_octets}
+use Rattle.guard_report.specs.Text.{component_of, type_within}
+use Rattle.derguard_program.specs.declared.notes.Place.TheVariants.{At}
+use Rattle.derguard_program.specs.Explaining.{AbstractSources, place_lines}
+use Rattle.derguard_program.specs.Marking.{columns}
+
+-- ---- the part of a value that fails a constraint
+
+-- what a type calls the component or alternative to which a step leads
+abbrev pub step_name : Option AbstractType → Step → Option (List ℕ)
+step_name t (Component i) = option_map (λ c. c.name) (component_of t i)
+step_name t (Element i) = None
+
+-- the same of the last step of a path
+abbrev pub name_at : Option AbstractType → List Step → Option (List ℕ)
+name_at t [] = None
+name_at t (step ∷ []) = step_name t step
+name_at t (step ∷ next ∷ steps) = name_at (type_within t step) (next ∷ steps)
+
+-- in front of a value, as ASN.1 writes that of a component
+abbrev pub name_before : Option (List ℕ) → List ℕ
+name_before None = []
+name_before (Some name) = name ++ codes " "
+
+-- At most 120 columns are shown.
+abbrev pub part_shown : Option (List ℕ) → List ℕ
+part_shown None = codes "absent"
+part_shown (Some text) = columns text
+
+-- `  qty 11`, or `  seal absent`
+abbrev pub part_line : AbstractType → AbstractValue → List Step → List ℕ
+part_line t v path =
+    codes "  " ++ name_before (name_at (Some t) path) ++ part_shown (part_octets t v path) ++ codes "\n"
+
+-- The line of the constraint, and the part, by the names that the declared type has for its parts.
+abbrev pub violation_lines : AbstractSources → AbstractType → AbstractValue → AbstractViolation → List ℕ
+violation_lines s t v w = place_lines s (At w.site) ++ part_line t v w.path
+
+-- of each allowing rule, in the order of the text of the verdict
+abbrev pub shortfall_lines : AbstractSources → AbstractType → AbstractValue → List (ℕ × AbstractViolation) → List ℕ
+shortfall_lines s t v [] = []
+shortfall_lines s t v (r ∷ rs) = violation_lines s t v r.1 ++ shortfall_lines s t v rs
+
+-- ---- a verdict
+
+-- This is said of the declared type of the message, and of the value of it that the octets encode.
+abbrev pub OfValue : AbstractPolicy → List ℕ → List ℕ → (AbstractType → AbstractValue → Type 0) → Type 0
+OfValue p message octets Says =
+    (t : AbstractType) × (v : AbstractValue) × (declared_type p message ≡ Some t) × IsTrue (fits t v)
+    × (der t v ≡ Some octets) × Says t v
+
+abbrev pub ExplainsVerdict : AbstractSources → AbstractPolicy → AbstractRoute → List ℕ → AbstractVerdict → List ℕ
+    → Type 0
+ExplainsVerdict s p route octets pass note = note ≡ []
+ExplainsVerdict s p route octets unknown_message note = note ≡ codes "  The policy declares no message of this name.\n"
+ExplainsVerdict s p route octets (undecodable b) note =
+    note ≡ codes "  The octets are no DER encoding of a value of the declared type. docs/FAULTS.md has the breaches.\n"
+ExplainsVerdict s p route octets (outside_type w) note =
+    OfValue p route.message octets (λ t v. note ≡ violation_lines s t v w)
+ExplainsVerdict s p route octets (denied_by i) note =
+    note ≡ codes "  This denying rule has the value, so no allowing rule can let it pass.\n"
+ExplainsVerdict s p route octets (not_allowed rs) note =
+    OfValue p route.message octets (λ t v. note ≡ shortfall_lines s t v rs)
+ExplainsVerdict s p route octets no_rule note = note ≡ codes "  No rule of the policy allows anything on this route.\n"

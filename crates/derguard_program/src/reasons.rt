@@ -1,0 +1,233 @@
+//! What comes below the text of a verdict where it is to be explained.
+ghost use Rattle.std.specs.Prelude.{◌≡◌, ◌++◌, Some, codes, map, option_map, IfOk, OnOk, IsTrue};
+ghost use Rattle.guard_model.specs.TypeView.{type_view};
+ghost use Rattle.guard_model.specs.ValueView.{value_view};
+ghost use Rattle.guard_der.specs.Der.{der};
+ghost use Rattle.guard_der.specs.Fits.{fits};
+ghost use Rattle.guard_eval.specs.Violations.{violation_view, shortfall_view};
+ghost use Rattle.guard_policy.specs.Policies.{declared_type};
+ghost use Rattle.guard_policy.specs.PolicyView.{policy_view, route_view};
+ghost use Rattle.guard_policy.specs.Verdicts.{verdict_view};
+ghost use Rattle.derguard_program.specs.Explaining.{sources_view};
+ghost use Rattle.derguard_program.specs.Marking.{columns};
+ghost use Rattle.derguard_program.specs.Reasons.{step_name, name_at, name_before, part_shown, part_line, violation_lines, shortfall_lines, OfValue, ExplainsVerdict};
+
+use crate::explaining::{Sources, place_lines};
+use crate::marking::columns;
+use crate::notes::Place;
+use crate::octets::add;
+use guard_der::decode;
+use guard_eval::Violation;
+use guard_model::{OutOfMemory, Step, Ty, Value};
+use guard_policy::{Policy, Route, Verdict};
+use guard_report::{part_text, type_at};
+use std::alloc::Global;
+
+/// What comes below the text of the verdict on these octets. Its one refusal is want of memory.
+pub fn verdict_note(
+    alloc: Global,
+    sources: &Sources,
+    policy: &Policy,
+    route: &Route,
+    octets: &[u8],
+    verdict: &Verdict,
+) -> Result<Vec<u8>, OutOfMemory>
+    ensures { IfOk result (λ note. ExplainsVerdict (sources_view sources.now) (policy_view policy.now) (route_view route.now) octets.now (verdict_view verdict.now) note.items) }
+{
+    match verdict {
+        Verdict::Pass => Ok(Vec::new(alloc)),
+        Verdict::UnknownMessage => sentence(
+            alloc,
+            "  The policy declares no message of this name.\n",
+        ),
+        Verdict::Undecodable(_) => sentence(
+            alloc,
+            "  The octets are no DER encoding of a value of the declared type. docs/FAULTS.md has the breaches.\n",
+        ),
+        Verdict::OutsideType(violation) => {
+            outside_note(alloc, sources, policy, route, octets, violation)
+        }
+        Verdict::DeniedBy(_) => sentence(
+            alloc,
+            "  This denying rule has the value, so no allowing rule can let it pass.\n",
+        ),
+        Verdict::NotAllowed(shortfalls) => {
+            not_allowed_note(alloc, sources, policy, route, octets, shortfalls)
+        }
+        Verdict::NoRule => sentence(
+            alloc,
+            "  No rule of the policy allows anything on this route.\n",
+        ),
+    }
+}
+
+fn sentence(alloc: Global, text: &str) -> Result<Vec<u8>, OutOfMemory>
+    ensures { IfOk result (λ note. note.items ≡ text.now) }
+{
+    Ok(Vec::from_slice(alloc, text.as_bytes())?)
+}
+
+/// What is shown of the constraint of the declared type that fails.
+fn outside_note(
+    alloc: Global,
+    sources: &Sources,
+    policy: &Policy,
+    route: &Route,
+    octets: &[u8],
+    violation: &Violation,
+) -> Result<Vec<u8>, OutOfMemory>
+    ensures { IfOk result (λ note. OfValue (policy_view policy.now) (route_view route.now).message octets.now (λ t v. note.items ≡ violation_lines (sources_view sources.now) t v (violation_view violation.now))) }
+{
+    let (ty, value) = value_of(alloc, policy, route.message, octets)?;
+    let mut note = Vec::new(alloc);
+    add_violation(alloc, &mut note, sources, ty, &value, violation)?;
+    Ok(note)
+}
+
+/// What is shown of the constraints of allowing rules that fail.
+fn not_allowed_note(
+    alloc: Global,
+    sources: &Sources,
+    policy: &Policy,
+    route: &Route,
+    octets: &[u8],
+    shortfalls: &[(usize, Violation)],
+) -> Result<Vec<u8>, OutOfMemory>
+    ensures { IfOk result (λ note. OfValue (policy_view policy.now) (route_view route.now).message octets.now (λ t v. note.items ≡ shortfall_lines (sources_view sources.now) t v (map shortfall_view shortfalls.now))) }
+{
+    let (ty, value) = value_of(alloc, policy, route.message, octets)?;
+    let mut note = Vec::new(alloc);
+    add_shortfalls(alloc, &mut note, sources, ty, &value, shortfalls)?;
+    Ok(note)
+}
+
+/// The declared type of the message, and the value of it that the octets encode. What a verdict says of constraints it
+/// says of such a value, so nothing but memory can be missing.
+fn value_of<'a>(
+    alloc: Global,
+    policy: &'a Policy,
+    message: &[u8],
+    octets: &[u8],
+) -> Result<(&'a Ty, Value), OutOfMemory>
+    ensures { IfOk result (λ p. (declared_type (policy_view policy.now) message.now ≡ Some (type_view p.0.now))
+        × IsTrue (fits (type_view p.0.now) (value_view p.1)) × (der (type_view p.0.now) (value_view p.1) ≡ Some octets.now)) }
+{
+    let Some(ty) = policy.declared(message) else {
+        return Err(OutOfMemory);
+    };
+    match decode(alloc, ty, octets) {
+        Ok(value) => Ok((ty, value)),
+        Err(_) => Err(OutOfMemory),
+    }
+}
+
+fn add_shortfalls(
+    alloc: Global,
+    note: &mut Vec<u8>,
+    sources: &Sources,
+    ty: &Ty,
+    value: &Value,
+    shortfalls: &[(usize, Violation)],
+) -> Result<(), OutOfMemory>
+    ensures { OnOk result (note.new.items ≡ note.old.items ++ shortfall_lines (sources_view sources.now) (type_view ty.now) (value_view value.now) (map shortfall_view shortfalls.now)) }
+{
+    for shortfall in shortfalls {
+        add_shortfall(alloc, note, sources, ty, value, shortfall)?;
+    }
+    Ok(())
+}
+
+fn add_shortfall(
+    alloc: Global,
+    note: &mut Vec<u8>,
+    sources: &Sources,
+    ty: &Ty,
+    value: &Value,
+    shortfall: &(usize, Violation),
+) -> Result<(), OutOfMemory>
+    ensures { OnOk result (note.new.items ≡ note.old.items ++ violation_lines (sources_view sources.now) (type_view ty.now) (value_view value.now) (shortfall_view shortfall.now).1) }
+{
+    let (_, violation) = shortfall;
+    add_violation(alloc, note, sources, ty, value, violation)
+}
+
+/// Appends the line of the constraint and the part of the value that fails it.
+fn add_violation(
+    alloc: Global,
+    note: &mut Vec<u8>,
+    sources: &Sources,
+    ty: &Ty,
+    value: &Value,
+    violation: &Violation,
+) -> Result<(), OutOfMemory>
+    ensures { OnOk result (note.new.items ≡ note.old.items ++ violation_lines (sources_view sources.now) (type_view ty.now) (value_view value.now) (violation_view violation.now)) }
+{
+    let place = place_lines(alloc, sources, Place::At(violation.site))?;
+    add(note, place.as_bytes())?;
+    add_part(alloc, note, ty, value, &violation.path)
+}
+
+fn add_part(
+    alloc: Global,
+    note: &mut Vec<u8>,
+    ty: &Ty,
+    value: &Value,
+    path: &[Step],
+) -> Result<(), OutOfMemory>
+    ensures { OnOk result (note.new.items ≡ note.old.items ++ part_line (type_view ty.now) (value_view value.now) path.now) }
+{
+    let text = part_text(alloc, ty, value, path)?;
+    add(note, b"  ")?;
+    add_name(note, name_at(ty, path))?;
+    add_shown(alloc, note, text)?;
+    add(note, b"\n")
+}
+
+fn add_name(note: &mut Vec<u8>, name: Option<&str>) -> Result<(), OutOfMemory>
+    ensures { OnOk result (note.new.items ≡ note.old.items ++ name_before (option_map (λ name. name.now) name.entry)) }
+{
+    match name {
+        Some(name) => add_called(note, name),
+        None => Ok(()),
+    }
+}
+
+fn add_called(note: &mut Vec<u8>, name: &str) -> Result<(), OutOfMemory>
+    ensures { OnOk result (note.new.items ≡ note.old.items ++ (name.now ++ codes " ")) }
+{
+    add(note, name.as_bytes())?;
+    add(note, b" ")
+}
+
+fn add_shown(alloc: Global, note: &mut Vec<u8>, text: Option<Vec<u8>>) -> Result<(), OutOfMemory>
+    ensures { OnOk result (note.new.items ≡ note.old.items ++ part_shown (option_map (λ text. text.items) text)) }
+{
+    match text {
+        Some(text) => add_columns(alloc, note, &text),
+        None => add(note, b"absent"),
+    }
+}
+
+fn add_columns(alloc: Global, note: &mut Vec<u8>, text: &[u8]) -> Result<(), OutOfMemory>
+    ensures { OnOk result (note.new.items ≡ note.old.items ++ columns text.now) }
+{
+    let shown = columns(alloc, text)?;
+    add(note, shown.as_bytes())
+}
+
+/// What the type calls the component or alternative to which the last step of the path leads.
+fn name_at<'a>(ty: &'a Ty, path: &[Step]) -> Option<&'a str>
+    ensures { option_map (λ name. name.now) result ≡ name_at (Some (type_view ty.now)) path.now }
+{
+    let (last, before) = path.split_last()?;
+    step_name(type_at(ty, before)?, *last)
+}
+
+fn step_name(ty: &Ty, step: Step) -> Option<&str>
+    ensures { option_map (λ name. name.now) result ≡ step_name (Some (type_view ty.now)) step }
+{
+    match step {
+        Step::Component(place) => Some(ty.kind.component(place)?.name.as_str()),
+        Step::Element(_) => None,
+    }
+}

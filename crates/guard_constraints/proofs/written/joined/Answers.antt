@@ -1,0 +1,13 @@
+use Rattle.std.proofs.Common.{◌≡◌, sym, ◌∙◌}
+use Rattle.guard_model.specs.TypeView.{constraint_view}
+use Rattle.guard_constraints.proofs.CodeSteps.JoinedConstraints.{joined_alone, joined_several}
+use Rattle.guard_constraints.proofs.written.joined.Goals as goal
+
+pub returns-then-is_empty : goal.returns-then-is_empty
+returns-then-is_empty c =
+    sym (joined_alone c.args.join c.args.site (constraint_view c.args.first) c.args.others.items (rw c.deref-joined_parts.ensures.value at (sym c.is_empty.ensures ∙ c.if-is_empty.true)))
+
+pub returns : goal.returns
+returns c =
+    rw (c.of_all.ensures, c.in_ok-all.ensures)
+    (sym (joined_several c.args.join c.args.site (constraint_view c.args.first) c.args.others.items (rw c.deref-joined_parts.ensures.value at (sym c.is_empty.ensures ∙ c.if-is_empty.false))))

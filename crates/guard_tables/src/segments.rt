@@ -1,0 +1,226 @@
+//! Segments of the numbers, in each of which the same conditions fail. That they are in order, and one for each number,
+//! makes the search quick and nothing more: each is tested when it is made, and again when it is found.
+ghost use Rattle.std.specs.Prelude.{◌≡◌, ◌≤ℤ◌, ℕ, ℤ, Some, true, map, slice_get, IfOk, IfSome, OnOk};
+ghost use Rattle.std.specs.List.{list_any};
+ghost use Rattle.std.specs.Option.{is_some};
+ghost use Rattle.guard_tables.specs.Marking.{Facts, is_in, is_in_one, test_passes, is_on_number, are_on_numbers};
+ghost use Rattle.guard_tables.specs.Formulas.{failed_unless};
+ghost use Rattle.guard_tables.specs.NodeViews.{test_view, condition_view};
+ghost use Rattle.guard_tables.specs.Segments.{Fails, IsSegment, AreSegments, IsFound, FailsAlike};
+
+use crate::node::{Condition, Range, Test};
+use crate::slots::Slots;
+use guard_model::OutOfMemory;
+use std::alloc::Global;
+
+/// Where there are fewer conditions they are tested one by one.
+const FEWEST_CONDITIONS: usize = 4;
+
+/// Where there would be more segments there are none, since each is tested with each range.
+const MOST_SEGMENTS: usize = 1024;
+
+/// The numbers from the first to the last, both in, and the slots that fail for each of them.
+#[derive(Clone, Copy, Debug)]
+pub(crate) struct Segment {
+    pub first: i128,
+    pub last: i128,
+    pub failed: Slots,
+}
+
+// ---- one by one
+
+/// What fails of these for a number; None where one of them isn't on a number.
+pub(crate) fn failed_by(conditions: &[Condition], number: i128) -> Option<Slots>
+    ensures numbers { is_some result ≡ are_on_numbers (map condition_view conditions.now) }
+    ensures failed { IfSome result (λ slots. Fails (map condition_view conditions.now) number slots) }
+{
+    let mut failed = Slots::none();
+    for condition in conditions {
+        let Some(passed) = passes(&condition.test, number) else {
+            return None;
+        };
+        add_unless(passed, &condition.slots, &mut failed);
+    }
+    Some(failed)
+}
+
+/// Whether the number passes; None where the test isn't on a number.
+fn passes(test: &Test, number: i128) -> Option<bool>
+    ensures numbers { is_some result ≡ is_on_number (test_view test.now) }
+    ensures passed { IfSome result (λ passed. (f : Facts) → f.number ≡ Some number → test_passes (test_view test.now) f ≡ passed) }
+{
+    match test {
+        Test::Numbers(ranges) => Some(is_in_one(ranges, number)),
+        Test::Sizes(_) => None,
+        Test::Stored(_) => None,
+        Test::Spelled(_) => None,
+    }
+}
+
+fn add_unless(passed: bool, slots: &Slots, failed: &mut Slots)
+    ensures { failed.new ≡ failed_unless passed slots.now failed.old }
+{
+    if !passed {
+        failed.add(slots);
+    }
+}
+
+/// Whether a number lies in one of the ranges.
+pub(crate) fn is_in_one(ranges: &[Range], number: i128) -> bool
+    ensures { result ≡ list_any (is_in number) ranges.now }
+{
+    for range in ranges {
+        if range.low <= number && number <= range.high {
+            return true;
+        }
+    }
+    false
+}
+
+// ---- by segments
+
+/// The segment that has this number, if it is found.
+pub(crate) fn segment_at(segments: &[Segment], number: i128) -> Option<&Segment>
+    ensures { IfSome result (λ s. IsFound s.now segments.now number) }
+{
+    let at = segments.partition_point(|segment| segment.last < number);
+    match segments.get(at) {
+        Some(segment) if has_number(segment, number) => Some(segment),
+        _ => None,
+    }
+}
+
+fn has_number(segment: &Segment, number: i128) -> bool
+    ensures { result ≡ true → (segment.now.first ≤ℤ number) × (number ≤ℤ segment.now.last) }
+{
+    segment.first <= number && number <= segment.last
+}
+
+/// The segments for these conditions; none where they are few, or would be too many.
+pub(crate) fn segments_of(
+    alloc: Global,
+    conditions: &[Condition],
+) -> Result<Vec<Segment>, OutOfMemory>
+    ensures { IfOk result (λ segments. AreSegments (map condition_view conditions.now) segments.items) }
+{
+    let starts = starts_of(alloc, conditions)?;
+    let mut segments = Vec::new(alloc);
+    for (place, first) in starts.iter().enumerate() {
+        push_segment(conditions, *first, last_of(&starts, place), &mut segments)?;
+    }
+    Ok(segments)
+}
+
+/// The number before the next start.
+fn last_of(starts: &[i128], place: usize) -> i128 {
+    match starts.get(place.saturating_add(1)) {
+        Some(next) => next.saturating_sub(1),
+        None => i128::MAX,
+    }
+}
+
+/// With the numbers from the first to the last, if the same conditions fail for all of them.
+fn push_segment(
+    conditions: &[Condition],
+    first: i128,
+    last: i128,
+    segments: &mut Vec<Segment>,
+) -> Result<(), OutOfMemory>
+    ensures { OnOk result (AreSegments (map condition_view conditions.now) segments.old.items
+        → AreSegments (map condition_view conditions.now) segments.new.items) }
+{
+    if let Some(segment) = segment_of(conditions, first, last) {
+        segments.push(segment)?;
+    }
+    Ok(())
+}
+
+fn segment_of(conditions: &[Condition], first: i128, last: i128) -> Option<Segment>
+    ensures { IfSome result (λ s. IsSegment (map condition_view conditions.now) s) }
+{
+    if first > last || !are_steady(conditions, first, last) {
+        return None;
+    }
+    match failed_by(conditions, first) {
+        Some(failed) => Some(Segment {
+            first,
+            last,
+            failed,
+        }),
+        None => None,
+    }
+}
+
+/// Whether the same of these fail for all numbers from the first to the last.
+fn are_steady(conditions: &[Condition], first: i128, last: i128) -> bool
+    ensures { result ≡ true → (z : ℤ) → first ≤ℤ z → z ≤ℤ last → FailsAlike (map condition_view conditions.now) z first }
+{
+    for condition in conditions {
+        if !is_steady(&condition.test, first, last) {
+            return false;
+        }
+    }
+    true
+}
+
+fn is_steady(test: &Test, first: i128, last: i128) -> bool
+    ensures { result ≡ true → (z : ℤ) → first ≤ℤ z → z ≤ℤ last → (f g : Facts) → f.number ≡ Some z → g.number ≡ Some first
+        → test_passes (test_view test.now) f ≡ test_passes (test_view test.now) g }
+{
+    match test {
+        Test::Numbers(ranges) => are_ranges_steady(ranges, first, last),
+        _ => false,
+    }
+}
+
+fn are_ranges_steady(ranges: &[Range], first: i128, last: i128) -> bool
+    ensures { result ≡ true → (z : ℤ) → first ≤ℤ z → z ≤ℤ last → is_in_one ranges.now z ≡ is_in_one ranges.now first }
+{
+    for range in ranges {
+        if !is_range_steady(range, first, last) {
+            return false;
+        }
+    }
+    true
+}
+
+/// Whether all of the numbers lie in the range, or none does.
+fn is_range_steady(range: &Range, first: i128, last: i128) -> bool
+    ensures { result ≡ true → (z : ℤ) → first ≤ℤ z → z ≤ℤ last → is_in z range.now ≡ is_in first range.now }
+{
+    last < range.low || range.high < first || (range.low <= first && last <= range.high)
+}
+
+// ---- where they start
+
+/// The numbers where something begins or ends to fail, in order.
+fn starts_of(alloc: Global, conditions: &[Condition]) -> Result<Vec<i128>, OutOfMemory> {
+    let mut starts = Vec::new(alloc);
+    if conditions.len() < FEWEST_CONDITIONS {
+        return Ok(starts);
+    }
+    starts.push(i128::MIN)?;
+    for condition in conditions {
+        add_starts(&condition.test, &mut starts)?;
+    }
+    if starts.len() > MOST_SEGMENTS {
+        starts.clear();
+    }
+    starts.as_mut_slice().sort_unstable();
+    Ok(starts)
+}
+
+/// Each range begins one, and the number after it another, as long as there is room.
+fn add_starts(test: &Test, starts: &mut Vec<i128>) -> Result<(), OutOfMemory> {
+    let Test::Numbers(ranges) = test else {
+        return Ok(());
+    };
+    for range in ranges {
+        if starts.len() > MOST_SEGMENTS {
+            return Ok(());
+        }
+        starts.push(range.low)?;
+        starts.push(range.high.saturating_add(1))?;
+    }
+    Ok(())
+}

@@ -1,0 +1,170 @@
+-- Entries, one after another, as loops read them.
+use Rattle.std.proofs.Common.{◌≡◌, ℕ, suc, ◌+◌, ◌<◌, ◌≤◌, Bool, false, List, [], ◌∷◌, ◌++◌, length, drop, get_or, map, add-one, Bor, Option, Some, None, Ok, Err, refl, sym, ap, ◌∙◌, append_assoc}
+use Rattle.std.proofs.lemmas.List.{at_drop_more, at_drop_all, append-nil}
+use Rattle.std.specs.Global.{Vec}
+use Rattle.guard_model.specs.Answer.{◌>>=◌, Refuses}
+use Rattle.guard_model.specs.declared.site.Site.{Site}
+use Rattle.guard_model.specs.AbstractType.{AbstractType, Components}
+use Rattle.guard_model.specs.AbstractValue.{AbstractValue, Fields}
+use Rattle.std.specs.Prelude.{set, is_some}
+use Rattle.guard_model.specs.TypeView.{type_view, kind_view}
+use Rattle.guard_model.specs.ValueView.{fields_view}
+use Rattle.guard_model.specs.ValueView as guard
+use Rattle.guard_model.specs.declared.value.Value.{Value}
+use Rattle.guard_model.specs.declared.ty.Ty.{Ty}
+use Rattle.guard_model.specs.declared.ty.Kind.TheViews.{out-Ty}
+use Rattle.guard_model.proofs.TypeViews.{type_view_is}
+use Rattle.guard_der.specs.Reading.{fill}
+use Rattle.guard_syntax.specs.Trees as written
+use Rattle.guard_syntax.specs.declared.tree.ValueForm as variant
+use Rattle.guard_syntax.specs.declared.tree.ValueForm.{ValueForm}
+use Rattle.guard_syntax.specs.declared.tree.ValueForm.TheOpen.{ValueForm-F}
+use Rattle.guard_syntax.specs.declared.tree.ValueForm.TheVariants.{rolls-List}
+use Rattle.guard_model.specs.Kinds.{kind_of}
+use Rattle.guard_values.specs.Places.{Located}
+use Rattle.guard_values.proofs.Braces.CodeFields.{field_filled}
+use Rattle.guard_syntax.specs.Trees.{WrittenValue, WrittenEntry, WrittenEntries, no_entries, entry, entries_of}
+use Rattle.guard_syntax.specs.Views.{value_form_step, entry_step, value_step, value_view, entry_view, name_view, value_form_view}
+use Rattle.guard_syntax.specs.Trees.{WrittenValueForm, value_node}
+use Rattle.guard_syntax.specs.declared.tree.EntryTree.{EntryTree}
+use Rattle.guard_syntax.specs.declared.tree.ValueTree.{ValueTree}
+use Rattle.guard_syntax.specs.declared.tree.ValueForm.TheFolds.{fold_out-EntryTree, fold_out-ValueTree, fold-roll-ValueForm}
+use Rattle.guard_syntax.specs.declared.tree.ValueForm.TheViews.{out-EntryTree, out-ValueTree}
+use Rattle.guard_values.specs.declared.fault.ValueFault.{ValueFault}
+use Rattle.guard_values.specs.Meanings.{Meaning}
+use Rattle.guard_values.specs.inside.Reading.{Read, element_at, place_at, entry_at, site_of, read, read_form, read_list, read_elements, read_entries}
+
+-- ---- one level of a tree
+
+pub entry_view_is : (e : EntryTree) → entry_view e ≡ record { site = (out-EntryTree e).site; name = name_view (out-EntryTree e).name; value = value_view (out-EntryTree e).value }
+entry_view_is e = fold_out-EntryTree WrittenValueForm WrittenEntry WrittenValue value_form_step entry_step value_step e
+
+pub value_view_is : (v : ValueTree) → value_view v ≡ value_node (out-ValueTree v).site (value_form_view (out-ValueTree v).form)
+value_view_is v = fold_out-ValueTree WrittenValueForm WrittenEntry WrittenValue value_form_step entry_step value_step v
+
+pub form_list : (es : Vec EntryTree) → value_form_view (variant.List es) ≡ written.list (entries_of (map entry_view es.items))
+form_list es = ap value_form_view (sym (rolls-List es)) ∙ fold-roll-ValueForm WrittenValueForm WrittenEntry WrittenValue value_form_step entry_step value_step (ValueForm-F.List es)
+
+pub list_is : (m : Meaning) (sorted : Bool) (ty : Ty) (site : Site) (form : ValueForm) (es : Vec EntryTree) → form ≡ variant.List es
+    → read_form m sorted (type_view ty) site (value_form_view form) ≡ read_list m sorted site (kind_view (out-Ty ty).kind) (entries_of (map entry_view es.items))
+unfolding read
+list_is m sorted ty site form es is =
+    ap (λ (f : ValueForm). read_form m sorted (type_view ty) site (value_form_view f)) is
+    ∙ ap (read_form m sorted (type_view ty) site) (form_list es)
+    ∙ ap (λ (t : AbstractType). read_list m sorted site (kind_of t) (entries_of (map entry_view es.items))) (type_view_is ty)
+
+-- ---- an entry by itself
+
+no_name : (name : Option (Bor (List ℕ))) → is_some name ≡ false → name_view name ≡ None
+no_name None e = refl
+no_name (Some n) e = absurd cc
+
+plain : (t : AbstractType) (site place : Site) (name : Option (List ℕ)) (value_read : Read AbstractValue) → name ≡ None → element_at false t site name place value_read ≡ value_read
+plain t site place name (Ok v) e = rw e refl
+plain t site place name (Err f) e = rw e refl
+
+pub plain_element : (m : Meaning) (sorted : Bool) (t : AbstractType) (e : EntryTree) → is_some (out-EntryTree e).name ≡ false
+    → element_at false t (entry_view e).site (entry_view e).name (site_of (entry_view e).value) (read m sorted t (entry_view e).value) ≡ read m sorted t (value_view (out-EntryTree e).value)
+plain_element m sorted t e none =
+    ap (λ (w : WrittenEntry). element_at false t w.site w.name (site_of w.value) (read m sorted t w.value)) (entry_view_is e)
+    ∙ plain t (out-EntryTree e).site (site_of (value_view (out-EntryTree e).value)) (name_view (out-EntryTree e).name) (read m sorted t (value_view (out-EntryTree e).value)) (no_name (out-EntryTree e).name none)
+
+pub entry_found : (m : Meaning) (sorted : Bool) (ordered : Bool) (cs : Components) (next : ℕ) (fs : Fields) (e : EntryTree) (l : Located) (v : AbstractValue)
+    → place_at ordered cs next fs (out-EntryTree e).site (name_view (out-EntryTree e).name) ≡ Ok l → read m sorted l.ty (value_view (out-EntryTree e).value) ≡ Ok v
+    → entry_at ordered cs next fs (entry_view e).site (entry_view e).name (λ u. read m sorted u (entry_view e).value) ≡ Ok (l.place, v)
+entry_found m sorted ordered cs next fs e l v h k =
+    ap (λ (w : WrittenEntry). entry_at ordered cs next fs w.site w.name (λ u. read m sorted u w.value)) (entry_view_is e) ∙ (rw (h, k) refl)
+
+-- ---- those from a place on
+
+abbrev pub left : List EntryTree → ℕ → WrittenEntries
+left entries i = entries_of (map entry_view (drop i entries))
+
+abbrev pub before : WrittenEntry → WrittenEntries → WrittenEntries
+before e es = entry e.site e.name e.value es
+
+pub left_is : (entries : List EntryTree) (i : ℕ) (e : EntryTree) → i < length entries → e ≡ get_or entries i e → left entries i ≡ before (entry_view e) (left entries (i + 1))
+left_is entries i e lt is = at_drop_more (λ xs. entries_of (map entry_view xs)) entries i e lt ∙ ap (λ (x : EntryTree). before (entry_view x) (left entries (i + 1))) (sym is)
+
+pub none_left : (entries : List EntryTree) (i : ℕ) → length entries ≤ i → left entries i ≡ no_entries
+none_left entries i le = at_drop_all (λ xs. entries_of (map entry_view xs)) entries i le
+
+-- ---- elements
+
+abbrev pub with_front : List AbstractValue → Read (List AbstractValue) → Read (List AbstractValue)
+with_front front others = others >>= λ more. Ok (front ++ more)
+
+nothing_before : (others : Read (List AbstractValue)) → with_front [] others ≡ others
+nothing_before (Ok more) = refl
+nothing_before (Err f) = refl
+
+regroup : (front : List AbstractValue) (v : AbstractValue) (others : Read (List AbstractValue)) → with_front front (others >>= λ more. Ok (v ∷ more)) ≡ with_front (front ++ v ∷ []) others
+regroup front v (Ok more) = ap (λ (vs : List AbstractValue). Ok vs) (sym (append_assoc front (v ∷ []) more))
+regroup front v (Err f) = refl
+
+module _ (m : Meaning) (sorted : Bool) (short : Bool) (t : AbstractType) (entries : List EntryTree) where
+  -- what is read of those from a place on
+  abbrev pub elements_from : ℕ → Read (List AbstractValue)
+  elements_from i = read_elements m sorted short t (left entries i)
+
+  abbrev pub one : EntryTree → Read AbstractValue
+  one e = element_at short t (entry_view e).site (entry_view e).name (site_of (entry_view e).value) (read m sorted t (entry_view e).value)
+
+  pub after_is : (i : ℕ) (e : EntryTree) → i < length entries → e ≡ get_or entries i e → elements_from i ≡ (one e >>= λ v. elements_from (i + 1) >>= λ more. Ok (v ∷ more))
+  unfolding read
+  after_is i e lt is = ap (read_elements m sorted short t) (left_is entries i e lt is)
+
+  pub elements_on : (i : ℕ) (e : EntryTree) (front : List AbstractValue) (v : AbstractValue) (total : Read (List AbstractValue)) → i < length entries → e ≡ get_or entries i e → one e ≡ Ok v
+      → with_front front (elements_from i) ≡ total → with_front (front ++ v ∷ []) (elements_from (i + 1)) ≡ total
+  elements_on i e front v total lt is got so_far =
+      let step : elements_from i ≡ (elements_from (i + 1) >>= λ more. Ok (v ∷ more)) = after_is i e lt is ∙ ap (λ (r : Read AbstractValue). r >>= λ w. elements_from (i + 1) >>= λ more. Ok (w ∷ more)) got in
+      sym (regroup front v (elements_from (i + 1))) ∙ sym (ap (with_front front) step) ∙ so_far
+
+  pub elements_refused : (f : Option ValueFault) (i : ℕ) (e : EntryTree) (front : List AbstractValue) (total : Read (List AbstractValue)) → i < length entries → e ≡ get_or entries i e → Refuses f (one e)
+      → with_front front (elements_from i) ≡ total → Refuses f total
+  elements_refused None i e front total lt is refused so_far = tt
+  elements_refused (Some f) i e front total lt is refused so_far =
+      sym so_far ∙ ap (with_front front) (after_is i e lt is ∙ ap (λ (r : Read AbstractValue). r >>= λ w. elements_from (i + 1) >>= λ more. Ok (w ∷ more)) refused)
+
+  pub elements_begun : (total : Read (List AbstractValue)) → total ≡ elements_from 0 → with_front [] (elements_from 0) ≡ total
+  elements_begun total is = nothing_before (elements_from 0) ∙ sym is
+
+  pub elements_done : (i : ℕ) (front : List AbstractValue) (total : Read (List AbstractValue)) → length entries ≤ i → with_front front (elements_from i) ≡ total → total ≡ Ok front
+  unfolding read
+  elements_done i front total le so_far =
+      sym so_far ∙ ap (λ (es : WrittenEntries). with_front front (read_elements m sorted short t es)) (none_left entries i le) ∙ ap (λ (vs : List AbstractValue). Ok vs) (append-nil front)
+
+-- ---- entries for components
+
+module _ (m : Meaning) (sorted : Bool) (ordered : Bool) (cs : Components) (entries : List EntryTree) where
+  abbrev pub from : ℕ → Fields → ℕ → Read Fields
+  from next fs i = read_entries m sorted ordered cs next fs (left entries i)
+
+  abbrev pub at : ℕ → Fields → EntryTree → Read (ℕ × AbstractValue)
+  at next fs e = entry_at ordered cs next fs (entry_view e).site (entry_view e).name (λ u. read m sorted u (entry_view e).value)
+
+  pub from_is : (next : ℕ) (fs : Fields) (i : ℕ) (e : EntryTree) → i < length entries → e ≡ get_or entries i e → from next fs i ≡ (at next fs e >>= λ x. from (suc x.0) (fill x.0 x.1 fs) (i + 1))
+  unfolding read
+  from_is next fs i e lt is = ap (read_entries m sorted ordered cs next fs) (left_is entries i e lt is)
+
+  pub entries_on : (next : ℕ) (fs : Fields) (i : ℕ) (e : EntryTree) (x : ℕ × AbstractValue) (total : Read Fields) → i < length entries → e ≡ get_or entries i e → at next fs e ≡ Ok x
+      → from next fs i ≡ total → from (suc x.0) (fill x.0 x.1 fs) (i + 1) ≡ total
+  entries_on next fs i e x total lt is got so_far =
+      sym (ap (λ (r : Read (ℕ × AbstractValue)). r >>= λ y. from (suc y.0) (fill y.0 y.1 fs) (i + 1)) got) ∙ sym (from_is next fs i e lt is) ∙ so_far
+
+  pub entries_refused : (f : Option ValueFault) (next : ℕ) (fs : Fields) (i : ℕ) (e : EntryTree) (total : Read Fields) → i < length entries → e ≡ get_or entries i e → Refuses f (at next fs e)
+      → from next fs i ≡ total → Refuses f total
+  entries_refused None next fs i e total lt is refused so_far = tt
+  entries_refused (Some f) next fs i e total lt is refused so_far =
+      sym so_far ∙ from_is next fs i e lt is ∙ ap (λ (r : Read (ℕ × AbstractValue)). r >>= λ y. from (suc y.0) (fill y.0 y.1 fs) (i + 1)) refused
+
+  pub entries_done : (next : ℕ) (fs : Fields) (i : ℕ) (total : Read Fields) → length entries ≤ i → from next fs i ≡ total → total ≡ Ok fs
+  unfolding read
+  entries_done next fs i total le so_far = sym so_far ∙ ap (read_entries m sorted ordered cs next fs) (none_left entries i le)
+
+  pub entries_put : (next : ℕ) (fields after : List (Option Value)) (i : ℕ) (e : EntryTree) (place : ℕ) (v : Value) (total : Read Fields) → i < length entries → e ≡ get_or entries i e
+      → at next (fields_view fields) e ≡ Ok (place, guard.value_view v) → place < length fields → after ≡ set fields place (Some v) → from next (fields_view fields) i ≡ total → from (place + 1) (fields_view after) (i + 1) ≡ total
+  entries_put next fields after i e place v total lt is got within put so_far =
+      ap (λ (n : ℕ). from n (fields_view after) (i + 1)) (add-one place)
+      ∙ ap (λ (fs : Fields). from (suc place) fs (i + 1)) (ap fields_view put ∙ field_filled fields place v within)
+      ∙ entries_on next (fields_view fields) i e (place, guard.value_view v) total lt is got so_far

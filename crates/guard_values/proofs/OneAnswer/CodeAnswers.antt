@@ -1,0 +1,79 @@
+-- What whole values come to, by the code's answers.
+use Rattle.std.proofs.Common.{◌≡◌, Option, Some, None, List, ℕ, false, true, ◌&&◌, Result, Ok, Err, ◌∙◌, IfOk, IfErr, IfSome, IsTrue}
+use Rattle.std.specs.Prelude.{nat_le}
+use Rattle.std.proofs.lemmas.Bool.{and_parts}
+use Rattle.guard_model.specs.Answer.{Gives, Refuses}
+use Rattle.guard_model.proofs.Results.{bind_ok}
+use Rattle.guard_model.specs.declared.site.Site.{Site}
+use Rattle.guard_model.specs.AbstractType.{AbstractType}
+use Rattle.guard_model.specs.AbstractValue.{AbstractValue}
+use Rattle.guard_model.specs.ValueView.{value_view}
+use Rattle.guard_model.specs.declared.value.Value.{Value}
+use Rattle.guard_tagcheck.specs.Limits.{nesting}
+use Rattle.guard_der.specs.Fits.{fits}
+use Rattle.guard_der.specs.Sound.{is_sound, is_proper, has_distinct_tags}
+use Rattle.guard_model.specs.Limits.{deepest_nesting}
+use Rattle.guard_syntax.specs.Trees.{WrittenValue, WrittenEntry}
+use Rattle.guard_values.specs.declared.fault.ValueFault.{ValueFault}
+use Rattle.guard_values.specs.Meanings.{Meaning, AreFitting}
+use Rattle.guard_values.specs.Denotes.{Denotes}
+use Rattle.guard_values.specs.Faults.{IsFaultIn}
+use Rattle.guard_values.specs.FirstFault.{IsFirstFault}
+use Rattle.guard_values.specs.inside.Reading.{Read, element_at, site_of, read, read_sorted, read_whole}
+use Rattle.guard_values.specs.Views.{named}
+use Rattle.guard_values.proofs.Denoted.ReadIsDenoted.{read_said}
+use Rattle.guard_values.proofs.Fitting.DenotedValuesFit.{says_fits}
+use Rattle.guard_values.proofs.FirstFaults.HoldAtTheirSites.{whole_first, whole_holds, sorted_ok, whole_denotes, whole_denotes_none}
+
+pub sound_proper : (t : AbstractType) → is_sound t ≡ true → is_proper t ≡ true
+sound_proper t sound = (and_parts (is_proper t) (has_distinct_tags t) (and_parts (is_proper t && has_distinct_tags t) (nat_le (nesting t) deepest_nesting) sound).0).0
+
+-- ---- what is read fits
+
+pub read_fits : (m : Meaning) → AreFitting m → (tree : WrittenValue) (t : AbstractType) (v : AbstractValue) → is_proper t ≡ true → read m true t tree ≡ Ok v → fits t v ≡ true
+read_fits m fit tree t v proper e = says_fits m fit tree t v proper (read_said m tree t v e)
+
+element_read : (t : AbstractType) (site place : Site) (name : Option (List ℕ)) (value_read : Read AbstractValue) (v : AbstractValue) → element_at false t site name place value_read ≡ Ok v → value_read ≡ Ok v
+element_read t site place (Some name) value_read v e = absurd cc
+element_read t site place None value_read v e = let b = bind_ok value_read (λ w. Ok w) v e in b.1 ∙ b.2
+
+pub element_fits : (m : Meaning) → AreFitting m → (t : AbstractType) (e : WrittenEntry) (v : AbstractValue) → is_proper t ≡ true → element_at false t e.site e.name (site_of e.value) (read m true t e.value) ≡ Ok v → fits t v ≡ true
+element_fits m fit t e v proper h = read_fits m fit e.value t v proper (element_read t e.site (site_of e.value) e.name (read m true t e.value) v h)
+
+pub sorted_fits : (m : Meaning) → AreFitting m → (tree : WrittenValue) (t : AbstractType) (v : AbstractValue) → is_proper t ≡ true → read_sorted m t tree ≡ Ok v → fits t v ≡ true
+sorted_fits m fit tree t v proper e = read_fits m fit tree t v proper (sorted_ok m tree t v e)
+
+-- ---- what a call answers
+
+module _ (m : Meaning) (t : AbstractType) (tree : WrittenValue) where
+  pub gives_denoted : (answer : Result Value ValueFault) → Gives value_view named answer (read_whole m t tree) → IfOk answer (λ v. Denotes m t tree (value_view v))
+  gives_denoted (Ok v) h = whole_denotes m tree t (value_view v) h
+  gives_denoted (Err e) h = tt
+
+  pub gives_fitting : AreFitting m → is_proper t ≡ true → (answer : Result Value ValueFault) → Gives value_view named answer (read_whole m t tree) → IfOk answer (λ v. IsTrue (fits t (value_view v)))
+  gives_fitting fit proper (Ok v) h = says_fits m fit tree t (value_view v) proper (whole_denotes m tree t (value_view v) h).0
+  gives_fitting fit proper (Err e) h = tt
+
+  faults_hold : (f : Option ValueFault) → Refuses f (read_whole m t tree) → IfSome f (λ g. IsFaultIn m t tree g)
+  faults_hold None h = tt
+  faults_hold (Some f) h = whole_holds m tree t f h
+
+  pub gives_fault : (answer : Result Value ValueFault) → Gives value_view named answer (read_whole m t tree) → IfErr answer (λ e. IfSome (named e) (λ f. IsFaultIn m t tree f))
+  gives_fault (Ok v) h = tt
+  gives_fault (Err e) h = faults_hold (named e) h
+
+  faults_denote_none : (f : Option ValueFault) → Refuses f (read_whole m t tree) → IfSome f (λ g. (v : AbstractValue) → Denotes m t tree v → ⊥)
+  faults_denote_none None h = tt
+  faults_denote_none (Some f) h = whole_denotes_none m tree t f h
+
+  pub gives_none : (answer : Result Value ValueFault) → Gives value_view named answer (read_whole m t tree) → IfErr answer (λ e. IfSome (named e) (λ f. (v : AbstractValue) → Denotes m t tree v → ⊥))
+  gives_none (Ok v) h = tt
+  gives_none (Err e) h = faults_denote_none (named e) h
+
+  first_faults : (f : Option ValueFault) → Refuses f (read_whole m t tree) → IfSome f (IsFirstFault m t tree)
+  first_faults None h = tt
+  first_faults (Some f) h = whole_first m tree t f h
+
+  pub gives_first : (answer : Result Value ValueFault) → Gives value_view named answer (read_whole m t tree) → IfErr answer (λ e. IfSome (named e) (IsFirstFault m t tree))
+  gives_first (Ok v) h = tt
+  gives_first (Err e) h = first_faults (named e) h

@@ -1,0 +1,6 @@
+-- What numbers, strings, arcs and names of bits are read as.
+pub mod NumbersByDigits
+pub mod DigitsInOctets
+pub mod CharactersInTurn
+pub mod ArcsInTurn
+pub mod NamedBits

@@ -1,0 +1,37 @@
+//! That the text of a value can be read back: calls that do nothing, each proved for every type, value and text.
+ghost use Rattle.std.specs.Prelude.{◌≡◌, ◌≤◌, ℕ, List, length, Some, IsTrue};
+ghost use Rattle.guard_model.specs.AbstractType.{AbstractType};
+ghost use Rattle.guard_model.specs.AbstractValue.{AbstractValue};
+ghost use Rattle.guard_der.specs.Der.{der};
+ghost use Rattle.guard_der.specs.Fits.{fits};
+ghost use Rattle.guard_der.specs.ProperConstraints.{is_short};
+ghost use Rattle.guard_der.specs.Sound.{is_sound};
+ghost use Rattle.guard_lexer.specs.Lexing.{longest_text};
+ghost use Rattle.guard_values.specs.Meanings.{Meaning};
+ghost use Rattle.guard_report.specs.declared.layout.Layout.{Layout};
+ghost use Rattle.guard_report.specs.ValueText.{value_octets};
+ghost use Rattle.reads_back.specs.Names.{HasNames, is_seen};
+ghost use Rattle.reads_back.specs.ReadingBack.{IsReadAs};
+ghost use Rattle.guard_report.specs.Shown.{value_shown};
+
+/// The text of a value, read as a written value of its type, denotes this value, whatever defined values there are.
+/// Left out are values with a hidden character, and those whose text or encoding is longer than what is read.
+pub fn law_reads_back()
+    ensures { (meaning : Meaning) (layout : Layout) (t : AbstractType) (v : AbstractValue)
+        → IsTrue (is_sound t) → HasNames t → IsTrue (fits t v) → IsTrue (is_seen v) → IsTrue (is_short (der t v))
+        → length (value_octets layout (Some t) v) ≤ longest_text
+        → IsReadAs meaning t (value_octets layout (Some t) v) v }
+{}
+
+/// A text is read as one value at most.
+pub fn law_one_value_of_text()
+    ensures { (meaning : Meaning) (t : AbstractType) (text : List ℕ) (v w : AbstractValue)
+        → IsReadAs meaning t text v → IsReadAs meaning t text w → v ≡ w }
+{}
+
+/// So does what is shown of it, whichever octets its places are taken from: these stand in comments.
+pub fn law_shown_reads_back()
+    ensures { (meaning : Meaning) (t : AbstractType) (octets : List ℕ) (v : AbstractValue)
+        → IsTrue (is_sound t) → HasNames t → IsTrue (fits t v) → IsTrue (is_seen v) → IsTrue (is_short (der t v))
+        → length (value_shown t octets v) ≤ longest_text → IsReadAs meaning t (value_shown t octets v) v }
+{}

@@ -11,10 +11,10 @@ pub returns-in-Type : goal.returns-in-Type
 returns-in-Type c =
     let n = c.args.number in
     rw c.in-Type.is (c.type_has_number.ensures ∙ ap (λ (z : ℤ). type_has_number (type_view c.in-Type.ty.now) z) (to_z-of_z w128 n c.ranges.number)
-        ∙ member_in n (fits n c.ranges.number) (type_view c.in-Type.ty.now))
+    ∙ member_in n (fits n c.ranges.number) (type_view c.in-Type.ty.now))
 
 pub returns-in-Constraint : goal.returns-in-Constraint
 returns-in-Constraint c =
     let n = c.args.number in
     rw c.in-Constraint.is (c.has_number.ensures ∙ ap (λ (z : ℤ). has_number (constraint_view c.in-Constraint.constraint.now) z) (to_z-of_z w128 n c.ranges.number)
-        ∙ number_in n (fits n c.ranges.number) (constraint_view c.in-Constraint.constraint.now) (kind_view c.in-Constraint.field-0.now))
+    ∙ number_in n (fits n c.ranges.number) (constraint_view c.in-Constraint.constraint.now) (kind_view c.in-Constraint.field-0.now))

@@ -24,4 +24,4 @@ rule_may_have_size-returns-in-Size t c =
     c.has_number.ensures ∙ ap (λ (z : ℤ). has_number (constraint_view c.deref-in-Size.result.now) z) (to_z-of_z w128 n c.ranges.size)
     ∙ ap (λ (x : Cons). has_number (constraint_view x) n) link ∙ number_in n small sizes (type.integer [])
     ∙ sym (ap (λ (e : Element). element_may_have_size e n) (view_size c.args.rule.now _ c.in-Size.is)
-           ∙ ap (λ (b : Bool). b && holds sizes (type.integer []) (value.integer n)) small)
+    ∙ ap (λ (b : Bool). b && holds sizes (type.integer []) (value.integer n)) small)

@@ -7,6 +7,7 @@ pub mod AbstractType
 pub mod Components
 pub mod Counts
 pub mod Kinds
+pub mod Slots
 -- ---- what is said of them
 pub mod Limits
 pub mod Alphabets

@@ -7,6 +7,7 @@
 //! | when have two types the same base | `same_base.rt`, `specs/SameBase.antt` |
 //! | what is inside a kind, which elements of constraints apply to it | `kinds.rt`, `specs/Kinds.antt`, `specs/Components.antt` |
 //! | how is a value or type copied | `copying.rt` |
+//! | what has a slot for each component | `slots.rt`, `specs/Slots.antt` |
 //! | which tag comes first | `tag.rt`, `specs/Tags.antt` |
 //! | which characters may a string have | `alphabet.rt`, `specs/Alphabets.antt` |
 //! | what is too many or too deep | `limits.rt`, `specs/Limits.antt` |
@@ -23,6 +24,7 @@ mod memory;
 mod same;
 mod same_base;
 mod site;
+mod slots;
 mod tag;
 mod ty;
 mod value;
@@ -30,6 +32,7 @@ mod value;
 pub use limits::{DEEPEST_NESTING, GREATEST_TAG_NUMBER, MOST_COMPONENTS};
 pub use memory::OutOfMemory;
 pub use site::{Path, PathText, Site, Step};
+pub use slots::{absent_fields, set_field};
 pub use tag::{Class, Tag};
 pub use ty::{CharKind, Comp, Cons, Kind, Limit, Named, Part, Presence, Rule, Ty, Word};
 pub use value::{Bits, Value};

@@ -13,7 +13,7 @@ pub mod Limits
 pub mod Alphabets
 pub mod Same
 pub mod SameBase
--- ---- which of them a value or type of the code stands for
+-- ---- which of them a value or type of the code is
 pub mod ValueView
 pub mod TypeView
 pub mod SameType

@@ -257,7 +257,7 @@ fn component(
     Ok((Some(value), head.size + head.contents))
 }
 
-/// The component at this place of the list where its element stands: its header is read, its tag accepted.
+/// The component at this place of the list where its element is there: its header is read, its tag accepted.
 #[cycle(reading)]
 fn sent(
     alloc: Global,
@@ -315,7 +315,7 @@ fn items(
     Ok(items)
 }
 
-/// The element at this place of the list, where the octets of the one before it are these; and how many octets it takes.
+/// The element at this place of the list, where the octets of the one before it are these; and how many octets it has.
 #[cycle(reading)]
 fn item(
     alloc: Global,
@@ -366,7 +366,7 @@ fn next_item(
     Ok((value, size))
 }
 
-/// Whether an element with these octets may not stand behind one with the octets `before`.
+/// Whether an element with these octets may not come after one with the octets `before`.
 fn is_out_of_order(ordered: bool, before: &[u8], octets: &[u8]) -> bool
     ensures { result ≡ (ordered && descending before.now octets.now) }
 {

@@ -286,7 +286,7 @@ filled_sent (component name t presence rest) (suc j) v (value.absent gs) e f = f
 abbrev pub part_from : Components → ℕ → AbstractValue → List ℕ → Part
 part_from cs j v octets = record { tag = outermost_alternative cs j v; octets = octets }
 
--- where the part of one more component stands among the others
+-- where the part of one more component is among the others
 pub record Between (cs : Components) (j : ℕ) (v : AbstractValue) (octets : List ℕ) (gs : Fields) (ps : List Part) : Type 0 where
   pub xs : List Part
   pub ys : List Part

@@ -39,27 +39,36 @@ least : der number (value.integer (negsuc (2 ^ 127 - 1))) ≡ Some (0x02 ∷ 0x1
 unfolding fewest unsigned_octets signed_octets base_128 identifier_octets length_octets element
 least = refl
 
-high_tag : der (plain (record { class = Application; number = 40 }) (type.integer [])) (value.integer (pos 5)) ≡ Some (0x5F ∷ 0x28 ∷ 0x01 ∷ 0x05 ∷ [])
+high_tag : der (plain (record { class = Application; number = 40 }) (type.integer [])) (value.integer (pos 5))
+    ≡ Some (0x5F ∷ 0x28 ∷ 0x01 ∷ 0x05 ∷ [])
 unfolding fewest unsigned_octets signed_octets base_128 identifier_octets length_octets element
 high_tag = refl
 
 -- ---- OBJECT IDENTIFIER, strings
 
-three_arcs : der (plain (universal 6) type.object_identifier) (value.object_identifier (2 ∷ 999 ∷ 3 ∷ [])) ≡ Some (0x06 ∷ 0x03 ∷ 0x88 ∷ 0x37 ∷ 0x03 ∷ [])
+three_arcs : der (plain (universal 6) type.object_identifier) (value.object_identifier (2 ∷ 999 ∷ 3 ∷ []))
+    ≡ Some (0x06 ∷ 0x03 ∷ 0x88 ∷ 0x37 ∷ 0x03 ∷ [])
 unfolding fewest unsigned_octets signed_octets base_128 identifier_octets length_octets element
 three_arcs = refl
 
-greatest_arc : der (plain (universal 6) type.object_identifier) (value.object_identifier (2 ∷ 340282366920938463463374607431768211375 ∷ [])) ≡ Some (0x06 ∷ 0x13 ∷ 0x83 ∷ (replicate 17 0xFF ++ 0x7F ∷ []))
+greatest_arc :
+    der (plain (universal 6) type.object_identifier) (value.object_identifier (2 ∷ 340282366920938463463374607431768211375 ∷ []))
+    ≡ Some (0x06 ∷ 0x13 ∷ 0x83 ∷ (replicate 17 0xFF ++ 0x7F ∷ []))
 unfolding fewest unsigned_octets signed_octets base_128 identifier_octets length_octets element
 greatest_arc = refl
 
-fits_greatest_arc : fits (plain (universal 6) type.object_identifier) (value.object_identifier (2 ∷ 340282366920938463463374607431768211375 ∷ [])) ≡ true
+fits_greatest_arc :
+    fits (plain (universal 6) type.object_identifier) (value.object_identifier (2 ∷ 340282366920938463463374607431768211375 ∷ []))
+    ≡ true
 fits_greatest_arc = refl
 
-past_greatest_arc : fits (plain (universal 6) type.object_identifier) (value.object_identifier (2 ∷ 340282366920938463463374607431768211376 ∷ [])) ≡ false
+past_greatest_arc :
+    fits (plain (universal 6) type.object_identifier) (value.object_identifier (2 ∷ 340282366920938463463374607431768211376 ∷ []))
+    ≡ false
 past_greatest_arc = refl
 
-bits : der (plain (universal 3) (type.bit_string [])) (value.bit_string (0xA0 ∷ []) 5) ≡ Some (0x03 ∷ 0x02 ∷ 0x05 ∷ 0xA0 ∷ [])
+bits : der (plain (universal 3) (type.bit_string [])) (value.bit_string (0xA0 ∷ []) 5)
+    ≡ Some (0x03 ∷ 0x02 ∷ 0x05 ∷ 0xA0 ∷ [])
 unfolding fewest unsigned_octets signed_octets base_128 identifier_octets length_octets element
 bits = refl
 
@@ -92,13 +101,15 @@ nothing : der (plain (universal 5) type.null) value.null ≡ Some (0x05 ∷ 0x00
 unfolding fewest unsigned_octets signed_octets base_128 identifier_octets length_octets element
 nothing = refl
 
-accent : der (plain (universal 12) (type.characters Utf8)) (value.characters (0xE9 ∷ [])) ≡ Some (0x0C ∷ 0x02 ∷ 0xC3 ∷ 0xA9 ∷ [])
+accent : der (plain (universal 12) (type.characters Utf8)) (value.characters (0xE9 ∷ []))
+    ≡ Some (0x0C ∷ 0x02 ∷ 0xC3 ∷ 0xA9 ∷ [])
 unfolding fewest unsigned_octets signed_octets base_128 identifier_octets length_octets element lib.Utf8.encode
 accent = refl
 
 -- ---- tags
 
-wrapped : der (type_of (context 0 ∷ universal 2 ∷ []) (type.integer []) no_constraints) (value.integer (pos 5)) ≡ Some (0xA0 ∷ 0x03 ∷ 0x02 ∷ 0x01 ∷ 0x05 ∷ [])
+wrapped : der (type_of (context 0 ∷ universal 2 ∷ []) (type.integer []) no_constraints) (value.integer (pos 5))
+    ≡ Some (0xA0 ∷ 0x03 ∷ 0x02 ∷ 0x01 ∷ 0x05 ∷ [])
 unfolding fewest unsigned_octets signed_octets base_128 identifier_octets length_octets element
 wrapped = refl
 
@@ -125,18 +136,24 @@ order_value qty = value.fields
     (value.present (value.integer (pos 5)) (value.present (value.enumerated (pos 1)) (value.present (value.integer qty)
     (value.absent (value.present (value.items (value.item (value.integer (pos 7)) value.no_items)) value.no_fields)))))
 
-default_left_out : der order (order_value (pos 1)) ≡ Some (0x30 ∷ 0x0B ∷ 0x80 ∷ 0x01 ∷ 0x05 ∷ 0x81 ∷ 0x01 ∷ 0x01 ∷ 0xA4 ∷ 0x03 ∷ 0x02 ∷ 0x01 ∷ 0x07 ∷ [])
+default_left_out : der order (order_value (pos 1))
+    ≡ Some (0x30 ∷ 0x0B ∷ 0x80 ∷ 0x01 ∷ 0x05 ∷ 0x81 ∷ 0x01 ∷ 0x01 ∷ 0xA4 ∷ 0x03 ∷ 0x02 ∷ 0x01 ∷ 0x07 ∷ [])
 unfolding fewest unsigned_octets signed_octets base_128 identifier_octets length_octets element
 default_left_out = refl
 
-default_changed : der order (order_value (pos 11)) ≡ Some (0x30 ∷ 0x0E ∷ 0x80 ∷ 0x01 ∷ 0x05 ∷ 0x81 ∷ 0x01 ∷ 0x01 ∷ 0x82 ∷ 0x01 ∷ 0x0B ∷ 0xA4 ∷ 0x03 ∷ 0x02 ∷ 0x01 ∷ 0x07 ∷ [])
+default_changed : der order (order_value (pos 11))
+    ≡ Some (0x30 ∷ 0x0E ∷ 0x80 ∷ 0x01 ∷ 0x05 ∷ 0x81 ∷ 0x01 ∷ 0x01 ∷ 0x82 ∷ 0x01 ∷ 0x0B ∷ 0xA4 ∷ 0x03 ∷ 0x02 ∷ 0x01 ∷ 0x07 ∷ [])
 unfolding fewest unsigned_octets signed_octets base_128 identifier_octets length_octets element
 default_changed = refl
 
-clashing : is_sound (plain (universal 16) (type.sequence (component (codes "a") number type.optional (component (codes "b") number type.mandatory no_components)))) ≡ false
+clashing :
+    is_sound (plain (universal 16) (type.sequence (component (codes "a") number type.optional (component (codes "b") number type.mandatory no_components))))
+    ≡ false
 clashing = refl
 
-apart : is_sound (plain (universal 16) (type.sequence (component (codes "a") (plain (universal 1) type.boolean) type.optional (component (codes "b") number type.mandatory no_components)))) ≡ true
+apart :
+    is_sound (plain (universal 16) (type.sequence (component (codes "a") (plain (universal 1) type.boolean) type.optional (component (codes "b") number type.mandatory no_components))))
+    ≡ true
 apart = refl
 
 -- ---- SET

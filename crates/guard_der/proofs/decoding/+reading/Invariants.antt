@@ -31,7 +31,7 @@ invariant-items-loop-before l = record {
 abbrev pub decreases-items-loop-before : goal.decreases-items-loop-before
 decreases-items-loop-before l = length l.rest
 
--- Each call goes down: from what stands alone to its element, from there to its contents, and from a kind to its parts.
+-- Each call goes down: from an element and nothing after it to the element, from there to its contents, and from a kind to its parts.
 abbrev pub decreases-alone : goal.decreases-alone
 decreases-alone l = 8 * nesting (type_of l.tags.now (kind_view l.kind.now) no_constraints) + 4
 

@@ -15,7 +15,7 @@ use Rattle.guard_model.specs.declared.ty.Kind.TheViews.{out-Comp}
 use Rattle.guard_der.specs.Breach.{AbstractBreach}
 use Rattle.guard_der.specs.Reading.{is_filled, fill, settled, completed, missing_at, field_before}
 use Rattle.guard_der.proofs.Functions.ComponentLoop.{with_front, regroup, followed_all}
-use Rattle.guard_model.proofs.Components.{left, left_is, none_left, in_view}
+use Rattle.guard_model.proofs.Components.{left, left_is, none_left}
 
 abbrev pub CodeFields : Type 0
 CodeFields = List (Option Value)

@@ -23,9 +23,9 @@ pub record IsHeader (octets : List ℕ) (at : ℕ) (h : Header) : Type 0 where
   pub contents : List ℕ
   pub rest : List ℕ
   pub octets_are :
-    drop at octets ≡ identifier_octets h.tag h.constructed ++ (length_octets (length contents) ++ (contents ++ rest))
+      drop at octets ≡ identifier_octets h.tag h.constructed ++ (length_octets (length contents) ++ (contents ++ rest))
   pub contents_at :
-    h.contents ≡ at + length (identifier_octets h.tag h.constructed) + length (length_octets (length contents))
+      h.contents ≡ at + length (identifier_octets h.tag h.constructed) + length (length_octets (length contents))
   pub end_at : h.end ≡ h.contents + length contents
   -- this profile's limits
   pub number_small : h.tag.number < 2 ^ 28

@@ -1,5 +1,5 @@
 -- Which constraints a type may have (X.680 clause 51): which values may be in them, and which kinds may have SIZE.
-use Rattle.std.specs.Prelude.{ℕ, Bool, true, false, not, ◌&&◌, List, length, nat_le, Option, Some, None}
+use Rattle.std.specs.Prelude.{ℕ, Bool, false, not, ◌&&◌, List, length, nat_le, Option, Some, None}
 use Rattle.guard_model.specs.AbstractType.{AbstractType, AbstractKind}
 use Rattle.guard_model.specs.AbstractValue.{AbstractValue}
 use Rattle.guard_model.specs.Kinds.{has_size, has_named_bits}

@@ -9,6 +9,7 @@ use Rattle.guard_model.specs.AbstractType as type
 use Rattle.guard_model.specs.AbstractType.{AbstractType, AbstractKind, AbstractPresence, Components, type_of, no_components, component}
 use Rattle.guard_model.specs.AbstractValue as value
 use Rattle.guard_model.specs.AbstractValue.{AbstractValue, Fields, Items}
+use Rattle.guard_model.specs.Slots.{all_absent}
 use Rattle.guard_tagcheck.specs.FirstTags.{begins_with, one_begins_with}
 use Rattle.guard_der.specs.declared.breach.Code.{Code}
 use Rattle.guard_der.specs.declared.breach.Code.TheVariants as code
@@ -134,10 +135,6 @@ chosen_at cs read at h octets = elim (one_with 0 cs h.tag) [
 ]
 
 -- ---- components of a SET
-
-abbrev pub all_absent : Components → Fields
-all_absent no_components = value.no_fields
-all_absent (component name t presence rest) = value.absent (all_absent rest)
 
 -- component i was read
 abbrev pub is_filled : ℕ → Fields → Bool

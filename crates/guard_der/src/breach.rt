@@ -141,6 +141,14 @@ impl DecodeFault {
     }
 }
 
+impl From<guard_model::OutOfMemory> for DecodeFault {
+    ghost from_gives = { λ _ e. e ≡ OutOfMemory };
+
+    fn from(_e: guard_model::OutOfMemory) -> DecodeFault {
+        DecodeFault::OutOfMemory
+    }
+}
+
 impl From<AllocError> for DecodeFault {
     ghost from_gives = { λ _ e. e ≡ OutOfMemory };
 

@@ -9,7 +9,8 @@ use Rattle.guard_der.specs.Head.{Head, head_of}
 use Rattle.guard_der.specs.Der.{alternative_octets}
 use Rattle.guard_der.specs.Fits.{fits_alternative}
 use Rattle.guard_der.specs.Breach.{AbstractBreach}
-use Rattle.guard_der.specs.Reading.{all_absent, fill, follows, set_element_at, completed, set_at, part_at}
+use Rattle.guard_model.specs.Slots.{all_absent}
+use Rattle.guard_der.specs.Reading.{fill, follows, set_element_at, completed, set_at, part_at}
 use Rattle.guard_der.proofs.Numbers.Digits.{AreDigits}
 use Rattle.guard_der.proofs.Headers.TagsAndLengths.{digits_drop}
 use Rattle.guard_der.proofs.Headers.Offsets.{head_room}

@@ -14,7 +14,8 @@ use Rattle.guard_der.specs.Fits.{fits, fits_fields, fits_alternative, may_be_abs
 use Rattle.guard_der.specs.ProperConstraints.{is_short}
 use Rattle.guard_der.specs.Sound.{is_proper, is_proper_presence, are_proper}
 use Rattle.guard_der.specs.Breach.{AbstractBreach, fits_partly, is_sent, missing}
-use Rattle.guard_der.specs.Reading.{all_absent, is_filled, fill, presence_at, settled, completed, not_sent, missing_at, field_before}
+use Rattle.guard_model.specs.Slots.{all_absent}
+use Rattle.guard_der.specs.Reading.{is_filled, fill, presence_at, settled, completed, not_sent, missing_at, field_before}
 use Rattle.guard_der.proofs.Elements.Steps.{bind, option_parts}
 use Rattle.guard_der.proofs.Components.OneComponent.{wanting_again, optional_skips}
 use Rattle.guard_tagcheck.specs.Search.{is_mandatory}

@@ -96,7 +96,8 @@ past_the_last = refl
 
 -- SEQUENCE {a NumericString DEFAULT "q"}
 letter_for_digits :
-    is_sound (plain (universal 16) (type.sequence (component (codes "a") digits (type.default (value.characters (codes "q"))) no_components)))
+    is_sound (plain (universal 16)
+    (type.sequence (component (codes "a") digits (type.default (value.characters (codes "q"))) no_components)))
     ≡ false
 letter_for_digits = refl
 
@@ -110,7 +111,8 @@ limited_order = plain (universal 16) (type.sequence
     (component (codes "id") (only (plain (context 0) (type.integer [])) (between 0 99999)) type.mandatory
     (component (codes "kind") (plain (context 1) kinds) type.mandatory
     (component (codes "qty") (plain (context 2) (type.integer [])) (type.default (value.integer (pos 1)))
-    (component (codes "note") (only (plain (context 3) (type.characters Utf8)) (type.size (type.at no_site (between 0 20)))) type.optional
+    (component (codes "note")
+    (only (plain (context 3) (type.characters Utf8)) (type.size (type.at no_site (between 0 20)))) type.optional
     (component (codes "lines") (plain (context 4) (type.sequence_of number)) type.mandatory no_components))))))
 
 sound_order : is_sound limited_order ≡ true
@@ -118,7 +120,8 @@ unfolding fewest unsigned_octets signed_octets base_128 identifier_octets length
 sound_order = refl
 
 sound_small :
-    is_sound (only limited_order (type.with_components true (type.part_within no_site 2 (type.at no_site (between 1 10)) None type.no_parts)))
+    is_sound (only limited_order
+    (type.with_components true (type.part_within no_site 2 (type.at no_site (between 1 10)) None type.no_parts)))
     ≡ true
 unfolding fewest unsigned_octets signed_octets base_128 identifier_octets length_octets element
 sound_small = refl

@@ -1,4 +1,4 @@
--- How the nodes of a table stand for plans: parts before wholes, so that each stands for what those before it make it.
+-- How the nodes of a table stand for plans: parts before wholes, so each stands for what those before it make of it.
 use Rattle.std.specs.Prelude.{ℕ, ◌+◌, ◌<◌, ◌≤◌, ◌≡◌, ◌≤ℤ◌, Bool, true, false, List, [], ◌∷◌, ◌++◌, length, take, drop, map, slice_get, get_or, Option, Some, None, option_map}
 use Rattle.std.specs.Option.{is_none}
 use Rattle.guard_model.specs.declared.tag.Tag.{Tag}

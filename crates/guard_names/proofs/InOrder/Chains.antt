@@ -27,7 +27,7 @@ none_equal x (y ∷ ys) h = let p = or_false (nat_eq x y) (is_listed ys x) h in 
 
 module _ (count : ℕ) (uses : ℕ → ℕ → Type 0) (open_at : ℕ → Bool)
     (next : (k : ℕ) → k < count → open_at k ≡ true → (used : ℕ) × (used < count) × (open_at used ≡ true) × uses k used) where
-  -- what was visited on the way, all of which leads to where the way stands
+  -- what was visited on the way, all of which leads to where the way has come
   record IsWay (visited : List ℕ) (here : ℕ) : Type 0 where
     below : (k : ℕ) → is_listed visited k ≡ true → k < count
     distinct : IsDistinct nat_eq visited

@@ -10,9 +10,9 @@ use Rattle.guard_names.specs.Order.{IsOrder, IsRecursive, IsFirstRecursive}
 use Rattle.guard_names.specs.Faults.{fault_of_names, IsFirstFault, named}
 use Rattle.guard_names.specs.inside.Queues.{UsesIn, AreInside}
 use Rattle.guard_names.specs.inside.Reading.{uses_of_all}
-use Rattle.guard_names.proofs.Numbered.{meant_at}
-use Rattle.guard_names.proofs.Placing.{listed_there, order_below, order_place}
-use Rattle.guard_names.proofs.SameUses.{are_means, are_meant, are_inside, recursive_so, so_recursive, first_so, recursive_within, order_so}
+use Rattle.guard_names.proofs.Declared.Numbered.{meant_at}
+use Rattle.guard_names.proofs.InOrder.Placing.{listed_there, order_below, order_place}
+use Rattle.guard_names.proofs.ByNames.SameUses.{are_means, are_meant, are_inside, recursive_so, so_recursive, first_so, recursive_within, order_so}
 
 module _ (ms : List WrittenModule) (none : fault_of_names ms ≡ None) where
   -- a look-up answers what the name means

@@ -13,8 +13,8 @@ use Rattle.guard_names.specs.inside.Searches.{part_at, no_part, StartsFirst, Ris
 abbrev later : ℕ → Part → Part → Part
 later place found p = cond (nat_le p.start place) p found
 
-pub part_behind : (parts : List Part) (p : Part) (q : ℕ) → p.start ≤ q → part_at (parts ++ p ∷ []) q ≡ p
-part_behind parts p q h = fold_push (later q) no_part parts p ∙ rw (le-leb p.start q h) refl
+pub part_after : (parts : List Part) (p : Part) (q : ℕ) → p.start ≤ q → part_at (parts ++ p ∷ []) q ≡ p
+part_after parts p q h = fold_push (later q) no_part parts p ∙ rw (le-leb p.start q h) refl
 
 pub part_before : (parts : List Part) (p : Part) (q : ℕ) → q < p.start → part_at (parts ++ p ∷ []) q ≡ part_at parts q
 part_before parts p q h = fold_push (later q) no_part parts p ∙ rw (lt-leb p.start q h) refl
@@ -37,9 +37,9 @@ pub rises_popped : (low : ℕ) (parts : List Part) (len : ℕ) (p : Part) → Ri
 rises_popped low [] len p h = (h.0, let r : p.start + 1 ≤ len = h.1 in omega (arith, r))
 rises_popped low (x ∷ xs) len p h = let r = rises_popped (x.start + 1) xs len p h.1 in ((h.0, r.0), r.1)
 
-pub rises_joined : (low : ℕ) (before : List Part) (p : Part) (behind : List Part) (len : ℕ) (c : Bool) → Rises low (before ++ p ∷ behind) len → Rises low (before ++ record { start = p.start; cyclic = c } ∷ []) len
-rises_joined low [] p behind len c h = (h.0, rises_low (p.start + 1) behind len h.1)
-rises_joined low (x ∷ xs) p behind len c h = (h.0, rises_joined (x.start + 1) xs p behind len c h.1)
+pub rises_joined : (low : ℕ) (before : List Part) (p : Part) (after : List Part) (len : ℕ) (c : Bool) → Rises low (before ++ p ∷ after) len → Rises low (before ++ record { start = p.start; cyclic = c } ∷ []) len
+rises_joined low [] p after len c h = (h.0, rises_low (p.start + 1) after len h.1)
+rises_joined low (x ∷ xs) p after len c h = (h.0, rises_joined (x.start + 1) xs p after len c h.1)
 
 pub starts_pushed : (parts : List Part) (len : ℕ) (p : Part) (more : ℕ) → StartsFirst parts len → p.start ≡ len → StartsFirst (parts ++ p ∷ []) more
 starts_pushed [] len p more h e = e ∙ h
@@ -49,9 +49,9 @@ pub starts_popped : (parts : List Part) (p : Part) (len : ℕ) → StartsFirst (
 starts_popped [] p len h = h
 starts_popped (x ∷ xs) p len h = h
 
-pub starts_joined : (before : List Part) (p : Part) (behind : List Part) (len : ℕ) (c : Bool) → StartsFirst (before ++ p ∷ behind) len → StartsFirst (before ++ record { start = p.start; cyclic = c } ∷ []) len
-starts_joined [] p behind len c h = h
-starts_joined (x ∷ xs) p behind len c h = h
+pub starts_joined : (before : List Part) (p : Part) (after : List Part) (len : ℕ) (c : Bool) → StartsFirst (before ++ p ∷ after) len → StartsFirst (before ++ record { start = p.start; cyclic = c } ∷ []) len
+starts_joined [] p after len c h = h
+starts_joined (x ∷ xs) p after len c h = h
 
 -- where there are none, the path is empty
 pub none_empty : (parts : List Part) (path : List ℕ) → length parts ≡ 0 → StartsFirst parts (length path) → path ≡ []
@@ -73,16 +73,16 @@ module _ (parts : List Part) (place : ℕ) (joined : List Part) (j : Joins parts
   pub first_part : Part
   first_part = get_or parts j.last no_part
 
-  behind_it : (q : ℕ) → q ≤ place → (i : ℕ) → i < length (drop (j.last + 1) parts) → q < (get_or (drop (j.last + 1) parts) i no_part).start
-  behind_it q h i l =
-      let b = j.behind (j.last + 1 + i) (omega arith) (omega (arith, length-drop (j.last + 1) parts, l)) in
+  after_it : (q : ℕ) → q ≤ place → (i : ℕ) → i < length (drop (j.last + 1) parts) → q < (get_or (drop (j.last + 1) parts) i no_part).start
+  after_it q h i l =
+      let b = j.after (j.last + 1 + i) (omega arith) (omega (arith, length-drop (j.last + 1) parts, l)) in
       rw (get_or-drop (j.last + 1) parts i no_part) (omega (arith, b, h))
 
   found_before : (q : ℕ) → q ≤ place → part_at parts q ≡ later q (part_at (take j.last parts) q) (get_or parts j.last no_part)
   found_before q h =
       ap (λ x. part_at x q) (split_at_part parts j.last j.here)
       ∙ fold-append (later q) no_part (take j.last parts) (get_or parts j.last no_part ∷ drop (j.last + 1) parts)
-      ∙ none_later (drop (j.last + 1) parts) q (later q (part_at (take j.last parts) q) (get_or parts j.last no_part)) (behind_it q h)
+      ∙ none_later (drop (j.last + 1) parts) q (later q (part_at (take j.last parts) q) (get_or parts j.last no_part)) (after_it q h)
 
   pub start_is : part_at parts place ≡ get_or parts j.last no_part
   start_is = found_before place (omega arith) ∙ rw (le-leb (get_or parts j.last no_part).start place j.start) refl
@@ -93,9 +93,9 @@ module _ (parts : List Part) (place : ℕ) (joined : List Part) (j : Joins parts
       ap (λ x. part_at x q) j.is ∙ part_before (take j.last parts) (record { start = (get_or parts j.last no_part).start; cyclic = true }) q l
       ∙ sym (found_before q (omega (arith, l, j.start)) ∙ rw (lt-leb (get_or parts j.last no_part).start q l) refl)
 
-  pub joined_behind : (q : ℕ) → (part_at parts place).start ≤ q → part_at joined q ≡ record { start = (part_at parts place).start; cyclic = true }
-  joined_behind q h =
-      ap (λ x. part_at x q) j.is ∙ part_behind (take j.last parts) (record { start = (get_or parts j.last no_part).start; cyclic = true }) q (subst (λ p. p.start ≤ q) start_is h)
+  pub joined_after : (q : ℕ) → (part_at parts place).start ≤ q → part_at joined q ≡ record { start = (part_at parts place).start; cyclic = true }
+  joined_after q h =
+      ap (λ x. part_at x q) j.is ∙ part_after (take j.last parts) (record { start = (get_or parts j.last no_part).start; cyclic = true }) q (subst (λ p. p.start ≤ q) start_is h)
       ∙ ap (λ p. record { start = p.start; cyclic = true }) (sym start_is)
 
   pub joined_starts : (len : ℕ) → StartsFirst parts len → StartsFirst joined len

@@ -1,5 +1,5 @@
--- Where a number stands in a list of them.
-use Rattle.std.proofs.Common.{◌≡◌, ◌↔◌, ℕ, zero, suc, ◌+◌, ◌<◌, Bool, true, false, cond, ◌||◌, List, [], ◌∷◌, take, Option, Some, None, option_map, slice_get, nat_eq, refl, sym, ap, ◌∙◌, subst, inl, inr, arith}
+-- The place of a number in a list of them.
+use Rattle.std.proofs.Common.{◌≡◌, ◌↔◌, ℕ, zero, suc, ◌<◌, Bool, true, false, cond, ◌||◌, List, [], ◌∷◌, take, Option, Some, None, option_map, slice_get, nat_eq, refl, sym, ap, ◌∙◌, subst, inl, inr, arith}
 use Rattle.std.proofs.lemmas.Bool.Decides.{eqb_tells}
 use Rattle.guard_names.specs.Order.{is_listed}
 use Rattle.guard_names.specs.Places.{place_in}
@@ -17,14 +17,14 @@ one_place true n number ns p same inside e =
   where
     number_of : (x y : ℕ) → ◌≡◌ {A = Option ℕ} (Some x) (Some y) → x ≡ y
     number_of x y e = cc
-one_place false n number ns p same inside e = behind (place_in ns number) refl e where
-  behind : (found : Option ℕ) → place_in ns number ≡ found → option_map suc found ≡ Some p → slice_get (n ∷ ns) p ≡ Some number
-  behind None is e = absurd cc
-  behind (Some q) is e =
+one_place false n number ns p same inside e = after (place_in ns number) refl e where
+  after : (found : Option ℕ) → place_in ns number ≡ found → option_map suc found ≡ Some p → slice_get (n ∷ ns) p ≡ Some number
+  after None is e = absurd cc
+  after (Some q) is e =
       let next : suc q ≡ p = (let same : ◌≡◌ {A = Option ℕ} (Some (suc q)) (Some p) = e in cc) in
       subst (λ x. slice_get (n ∷ ns) x ≡ Some number) next (inside q is)
 
--- it stands at the place
+-- it is at the place
 pub placed_there : (ns : List ℕ) (number p : ℕ) → place_in ns number ≡ Some p → slice_get ns p ≡ Some number
 placed_there [] number p e = absurd cc
 placed_there (n ∷ ns) number p e = elim (eqb_tells number n) [
@@ -32,7 +32,7 @@ placed_there (n ∷ ns) number p e = elim (eqb_tells number n) [
   | inr h ↦ one_place (nat_eq number n) n number ns p (λ t. absurd (let f = h.0 in cc)) (λ q f. placed_there ns number q f) e
 ]
 
--- where it stands, there is a place
+-- where it is there, it has a place
 pub is_placed : (ns : List ℕ) (number p : ℕ) → slice_get ns p ≡ Some number → (q : ℕ) × (place_in ns number ≡ Some q)
 is_placed [] number p e = absurd cc
 is_placed (n ∷ ns) number zero e = elim (eqb_tells number n) [
@@ -44,7 +44,7 @@ is_placed (n ∷ ns) number (suc p) e = elim (eqb_tells number n) [
   | inr h ↦ let later = is_placed ns number p e in (suc later.0, rw (h.0, later.1) refl)
 ]
 
--- what answers the place of a number that stands once at most
+-- what answers the place of a number that is there once at most
 pub place_is : (order : List ℕ) (number : ℕ) (o : Option ℕ) → ((p : ℕ) → (o ≡ Some p) ↔ (slice_get order p ≡ Some number)) → o ≡ place_in order number
 place_is order number o at = same_answer o (place_in order number) to_place (λ p e. (at p).1 (placed_there order number p e)) where
   to_place : (p : ℕ) → o ≡ Some p → place_in order number ≡ Some p

@@ -8,7 +8,7 @@ use Rattle.guard_syntax.specs.Trees.{WrittenSymbol, WrittenImport, WrittenAssign
 use Rattle.guard_names.specs.Declarations.{Definition, definitions, defined_in, Origin, of_module, imported_from, assigned_by, Declaration, declarations, declarations_from, module_declaration, lists_name, symbol_declarations, import_declarations, assigned_declarations, written_imports}
 use Rattle.guard_names.specs.Meanings.{IsAssigned, Means}
 
--- an assignment that is declared stands in the place of its number, where these definitions begin at the first number
+-- an assignment that is declared is in the place of its number, where these definitions begin at the first number
 IsPlaced : List Definition → ℕ → Option (List ℕ) → List ℕ → Origin → Type 0
 IsPlaced defs first scope name of_module = Unit {0}
 IsPlaced defs first scope name (imported_from from) = Unit {0}
@@ -34,7 +34,7 @@ further x defs first scope name of_module h = tt
 further x defs first scope name (imported_from from) h = tt
 further x defs first scope name (assigned_by number exports) (k, d, n, at, s, a) = (suc k, d, omega (arith, n), at, s, a)
 
--- some definitions behind the others
+-- some definitions before others
 before : (defs more : List Definition) (first : ℕ) (scope : Option (List ℕ)) (name : List ℕ) (o : Origin) → IsPlaced defs first scope name o → IsPlaced (defs ++ more) first scope name o
 unfolding IsPlaced
 before defs more first scope name of_module h = tt
@@ -46,11 +46,11 @@ before defs more first scope name (assigned_by number exports) (k, d, n, at, s, 
     front (x ∷ xs) zero h = h
     front (x ∷ xs) (suc k) h = front xs k h
 
-behind : (front defs : List Definition) (first : ℕ) (scope : Option (List ℕ)) (name : List ℕ) (o : Origin) → IsPlaced defs (first + length front) scope name o → IsPlaced (front ++ defs) first scope name o
+after : (front defs : List Definition) (first : ℕ) (scope : Option (List ℕ)) (name : List ℕ) (o : Origin) → IsPlaced defs (first + length front) scope name o → IsPlaced (front ++ defs) first scope name o
 unfolding IsPlaced
-behind front defs first scope name of_module h = tt
-behind front defs first scope name (imported_from from) h = tt
-behind front defs first scope name (assigned_by number exports) (k, d, n, at, s, a) = (length front + k, d, omega (arith, n), later front at, s, a)
+after front defs first scope name of_module h = tt
+after front defs first scope name (imported_from from) h = tt
+after front defs first scope name (assigned_by number exports) (k, d, n, at, s, a) = (length front + k, d, omega (arith, n), later front at, s, a)
   where
     zero_plus : (k : ℕ) → 0 + k ≡ k
     zero_plus k = omega arith
@@ -98,7 +98,7 @@ from_placed first (m ∷ ms) =
     as_many = length-map m.assignments (λ (a : WrittenAssignment). record { home = m; assignment = a })
 
     later : (d : Declaration) → IsPlacedIn (definitions ms) (first + length m.assignments) d → IsPlacedIn all first d
-    later d h = behind (defined_in m) (definitions ms) first d.scope d.name d.origin (subst (λ n. IsPlaced (definitions ms) (first + n) d.scope d.name d.origin) (sym as_many) h)
+    later d h = after (defined_in m) (definitions ms) first d.scope d.name d.origin (subst (λ n. IsPlaced (definitions ms) (first + n) d.scope d.name d.origin) (sym as_many) h)
 
 -- what is assigned is the definition in the place of the number
 pub assigned_at : (ms : List WrittenModule) (home name : List ℕ) (number : ℕ) → IsAssigned ms home name number

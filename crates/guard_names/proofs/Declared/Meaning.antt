@@ -10,7 +10,7 @@ use Rattle.std.proofs.lemmas.Option.{same_Some}
 use Rattle.std.proofs.lemmas.List.Folds.{find-append}
 use Rattle.guard_model.specs.declared.site.Site.{Site}
 use Rattle.guard_syntax.specs.Trees.{WrittenModule}
-use Rattle.guard_names.specs.Declarations.{Origin, of_module, imported_from, assigned_by, Declaration, declarations, declares, Origins, origin_there, exported_number, number_behind}
+use Rattle.guard_names.specs.Declarations.{Origin, of_module, imported_from, assigned_by, Declaration, declarations, declares, Origins, origin_there, exported_number, number_of_origin}
 use Rattle.guard_names.specs.Meanings.{IsDeclared, Means, number_meant}
 use Rattle.guard_names.specs.Faults.{duplicate_after, duplicate}
 
@@ -102,7 +102,7 @@ module _ (ms : List WrittenModule) where
   pub means_number : (home name : List ℕ) (number : ℕ) → number_meant ms home name ≡ Some number → Means ms home name number
   means_number home name number h = by (origins (Some home) name) refl h
     where
-      by : (o : Option Origin) → origins (Some home) name ≡ o → number_behind origins name o ≡ Some number → Means ms home name number
+      by : (o : Option Origin) → origins (Some home) name ≡ o → number_of_origin origins name o ≡ Some number → Means ms home name number
       by None e h' = absurd cc
       by (Some of_module) e h' = absurd cc
       by (Some (imported_from from)) e h' =
@@ -116,9 +116,9 @@ module _ (ms : List WrittenModule) where
   -- what the name means, a look-up answers
   pub meant_number : duplicate ms ≡ None → (home name : List ℕ) (number : ℕ) → Means ms home name number → number_meant ms home name ≡ Some number
   meant_number once home name number (inl (exports, there)) =
-      ap (number_behind origins name) (found_so (declarations ms) once (Some home) name there.0 (assigned_by number exports) there.1)
+      ap (number_of_origin origins name) (found_so (declarations ms) once (Some home) name there.0 (assigned_by number exports) there.1)
   meant_number once home name number (inr (from, here, there)) =
-      ap (number_behind origins name) (found_so (declarations ms) once (Some home) name here.0 (imported_from from) here.1)
+      ap (number_of_origin origins name) (found_so (declarations ms) once (Some home) name here.0 (imported_from from) here.1)
       ∙ ap exported_number (found_so (declarations ms) once (Some from) name there.0 (assigned_by number true) there.1)
 
   -- The law: the one definition that a name means.

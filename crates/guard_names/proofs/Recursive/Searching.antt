@@ -1,12 +1,12 @@
 -- The steps of a search, on the lists that the code keeps.
-use Rattle.std.proofs.Common.{◌≡◌, ◌≢◌, ◌⊎◌, inl, inr, ⊎_elim, ℕ, zero, suc, ◌+◌, ◌-◌, ◌<◌, ◌≤◌, Bool, true, false, cond, List, [], ◌∷◌, ◌++◌, length, map, get_or, set, take, drop, Option, Some, None, Contains, refl, sym, ◌∙◌, ap, subst, arith, length-append, length-set}
-use Rattle.std.specs.Prelude.{nat_eq, nat_lt, fold, replicate, MatchOption}
-use Rattle.std.specs.List.{AllPairs, slice_get}
-use Rattle.std.proofs.lemmas.Bool.{cases_lt, ltb-true, ltb-false}
+use Rattle.std.proofs.Common.{◌≡◌, ◌≢◌, ◌⊎◌, inl, inr, ⊎_elim, ℕ, ◌+◌, ◌-◌, ◌<◌, ◌≤◌, Bool, true, false, cond, List, [], ◌∷◌, ◌++◌, length, map, get_or, set, take, drop, Option, Some, None, Contains, refl, sym, ◌∙◌, ap, subst, arith, length-append, length-set}
+use Rattle.std.specs.Prelude.{nat_eq, fold, replicate, MatchOption}
+use Rattle.std.specs.List.{AllPairs}
+use Rattle.std.proofs.lemmas.Bool.{cases_lt}
 use Rattle.std.proofs.lemmas.Bool.Decides.{eqb_tells}
-use Rattle.std.proofs.lemmas.List.{get_or-set_same, get_or-set_other, get_or_append_left, get_or-append_right, get_or_push, get_or-map, length-map, get_or-drop, get_or-take, length-drop, length-take-le, take_more, take_all, take-append-le, get_or-replicate, length-replicate}
+use Rattle.std.proofs.lemmas.List.{get_or-set_same, get_or-set_other, get_or_append_left, get_or_push, get_or-map, length-map, get_or-drop, get_or-take, length-drop, length-take-le, take_more, take_all, take-append-le, get_or-replicate, length-replicate}
 use Rattle.std.proofs.Math.ListN.{get_or-eq_default}
-use Rattle.std.proofs.lemmas.List.Elements.{Contains-get_or, Contains-append_left, Contains-push, Contains-append_cases, Contains-push_cases}
+use Rattle.std.proofs.lemmas.List.Elements.{Contains-append_left, Contains-push, Contains-push_cases}
 use Rattle.guard_names.specs.declared.recursion.Mark.{Mark}
 use Rattle.guard_names.specs.declared.recursion.Mark.TheVariants.{New, OnPath, Done}
 use Rattle.guard_names.specs.declared.recursion.Part.{Part}
@@ -14,10 +14,11 @@ use Rattle.guard_names.specs.declared.recursion.Pending.{Pending}
 use Rattle.guard_names.specs.Order.{is_listed, Leads, at_once, through, IsRecursive, IsFirstRecursive}
 use Rattle.guard_names.specs.inside.Queues.{UsesIn, used_by}
 use Rattle.guard_names.specs.inside.Searches.{IsFollowed, left, pending_use, on_path, IsPath, IsLeast, IsSearchOf, part_at, StartsFirst, Rises, Joins, IsUsedFrom, lesser, new_left}
-use Rattle.guard_names.proofs.Settling.{place_of, listed_at, unchanged_listed}
-use Rattle.guard_names.proofs.Queueing.{listed_last}
-use Rattle.guard_names.proofs.Paths.{enters, passes_left, joins, leaves, least_kept, same_path}
-use Rattle.guard_names.proofs.Parts.{part_behind, part_before, rises_pushed, rises_popped, starts_pushed, starts_popped, joined_before, joined_behind, joined_starts, joined_rises, new_entered, new_done}
+use Rattle.guard_names.proofs.InOrder.Settling.{place_of, listed_at, unchanged_listed}
+use Rattle.guard_names.proofs.InOrder.Queueing.{listed_last}
+use Rattle.guard_names.proofs.Recursive.Paths.{enters, passes_left, joins, leaves, least_kept, same_path}
+use Rattle.guard_names.proofs.Recursive.Parts.{part_after, part_before, rises_pushed, rises_popped, starts_pushed, starts_popped, joined_before, joined_after, joined_starts, joined_rises, new_entered, new_done}
+use Rattle.guard_names.proofs.Recursive.Lists.{pending_grows, lesser_from, lesser_older, lesser_newer}
 
 done_on : {P : Type 0} {q : ℕ} → Done ≡ OnPath q → P
 done_on h = absurd cc
@@ -31,92 +32,6 @@ same_place p q h = cc
 -- what is written back over a list of the same length
 pub refilled : (marks new : List Mark) (n : ℕ) → length new ≡ length marks → n ≡ length marks → take n (new ++ drop (length new) marks) ≡ new
 refilled marks new n e f = ap (λ k. take k (new ++ drop (length new) marks)) (f ∙ sym e) ∙ take-append-le (length new) new (drop (length new) marks) (omega arith) ∙ take_all (length new) new (omega arith)
-
--- ---- uses that aren't followed yet
-
-pending_grows : (pending more : List Pending) (len : ℕ) → AllPairs (λ a b. a.place ≤ b.place) pending → ((e : Pending) → Contains pending e → e.place < len) → ((e : Pending) → Contains more e → e.place ≡ len)
-    → AllPairs (λ a b. a.place ≤ b.place) (pending ++ more)
-pending_grows pending more len up before at i j d l h = ⊎_elim
-    (λ (b : j < length pending). let bi : i < length pending = omega arith in rw (get_or_append_left pending more d i bi, get_or_append_left pending more d j b) (up i j d l b))
-    (λ (g : length pending ≤ j).
-    let size = length-append pending more in
-    let lj : j - length pending < length more = omega (arith, size, h, g) in
-    let pj : (get_or (pending ++ more) j d).place ≡ len = ap (λ e. e.place) (get_or-append_right pending more (length pending) j d refl g) ∙ at (get_or more (j - length pending) d) (Contains-get_or more (j - length pending) d lj) in
-    let li : i < length (pending ++ more) = omega (arith, l, h) in
-    let pi : (get_or (pending ++ more) i d).place ≤ len = ⊎_elim
-    (λ (old : Contains pending (get_or (pending ++ more) i d)). let p = before (get_or (pending ++ more) i d) old in omega (arith, p))
-    (λ (is : Contains more (get_or (pending ++ more) i d)). let p = at (get_or (pending ++ more) i d) is in omega (arith, p)) (Contains-append_cases pending more (get_or (pending ++ more) i d) (Contains-get_or (pending ++ more) i d li)) in
-    omega (arith, pj, pi))
-    (cases_lt j (length pending))
-
--- where the last one is before a place, all are
-pub pending_before : (pending : List Pending) (last : Pending) (start : ℕ) → last ≡ get_or pending (length pending - 1) last → AllPairs (λ a b. a.place ≤ b.place) pending → last.place < start → (e : Pending) → Contains pending e → e.place < start
-pending_before pending last start last_is up h e (k, l, is) = ⊎_elim
-    (λ (b : k < length pending - 1).
-    let r = up k (length pending - 1) last b (omega (arith, l)) in
-    let p : (get_or pending k last).place ≡ e.place = ap (λ x. x.place) (same_element pending k l last e ∙ is) in
-    let q : (get_or pending (length pending - 1) last).place ≡ last.place = ap (λ x. x.place) (sym last_is) in
-    omega (arith, r, p, q, h))
-    (λ (g : length pending - 1 ≤ k).
-    let ke : k ≡ length pending - 1 = omega (arith, l, g) in
-    let p : e.place ≡ last.place = ap (λ x. x.place) (sym is ∙ same_element pending k l e last ∙ ap (λ n. get_or pending n last) ke ∙ sym last_is) in
-    omega (arith, p, h))
-    (cases_lt k (length pending - 1))
-  where
-    same_element : (xs : List Pending) (k : ℕ) → k < length xs → (d e : Pending) → get_or xs k d ≡ get_or xs k e
-    same_element [] k l d e = absurd (omega (arith, l))
-    same_element (x ∷ xs) zero l d e = refl
-    same_element (x ∷ xs) (suc k) l d e = same_element xs k (omega (arith, l)) d e
-
--- ---- the least
-
-lesser_from_one : (first : Option ℕ) (x k : ℕ) → lesser first x ≡ Some k → (first ≡ Some k) ⊎ (x ≡ k)
-lesser_from_one None x k h = inr cc
-lesser_from_one (Some m) x k h = by (nat_lt x m) h
-  where
-    by : (b : Bool) → cond b (Some x) (Some m) ≡ Some k → (Some m ≡ Some k) ⊎ (x ≡ k)
-    by true e = inr cc
-    by false e = inl e
-
-lesser_at : (first : Option ℕ) (x : ℕ) → (least : ℕ) × (lesser first x ≡ Some least) × (least ≤ x)
-lesser_at None x = (x, refl, omega arith)
-lesser_at (Some m) x = by (nat_lt x m) refl
-  where
-    by : (b : Bool) → nat_lt x m ≡ b → (least : ℕ) × (cond b (Some x) (Some m) ≡ Some least) × (least ≤ x)
-    by true e = (x, refl, omega arith)
-    by false e = (m, refl, omega (arith, ltb-false x m e))
-
-lesser_older_one : (first : Option ℕ) (x k : ℕ) → first ≡ Some k → (least : ℕ) × (lesser first x ≡ Some least) × (least ≤ k)
-lesser_older_one None x k h = absurd cc
-lesser_older_one (Some m) x k h = by (nat_lt x m) refl (same_some h)
-  where
-    same_some : Some m ≡ Some k → m ≡ k
-    same_some e = cc
-
-    by : (b : Bool) → nat_lt x m ≡ b → m ≡ k → (least : ℕ) × (cond b (Some x) (Some m) ≡ Some least) × (least ≤ k)
-    by true e s = (x, refl, omega (arith, ltb-true x m e, s))
-    by false e s = (m, refl, omega (arith, s))
-
-lesser_from : (xs : List ℕ) (first : Option ℕ) (k : ℕ) → fold lesser first xs ≡ Some k → (first ≡ Some k) ⊎ ((i : ℕ) × (i < length xs) × (get_or xs i 0 ≡ k))
-lesser_from [] first k h = inl h
-lesser_from (x ∷ xs) first k h = ⊎_elim
-    (λ (e : lesser first x ≡ Some k). ⊎_elim (λ (o : first ≡ Some k). inl o) (λ (s : x ≡ k). inr (0, omega arith, s)) (lesser_from_one first x k e))
-    (λ r. inr (suc r.0, omega (arith, r.1), r.2)) (lesser_from xs (lesser first x) k h)
-
-lesser_older : (xs : List ℕ) (first : Option ℕ) (k : ℕ) → first ≡ Some k → (least : ℕ) × (fold lesser first xs ≡ Some least) × (least ≤ k)
-lesser_older [] first k h = (k, h, omega arith)
-lesser_older (x ∷ xs) first k h =
-    let a = lesser_older_one first x k h in
-    let b = lesser_older xs (lesser first x) a.0 a.1 in
-    (b.0, b.1, omega (arith, a.2, b.2))
-
-lesser_newer : (xs : List ℕ) (first : Option ℕ) (i : ℕ) → i < length xs → (least : ℕ) × (fold lesser first xs ≡ Some least) × (least ≤ get_or xs i 0)
-lesser_newer [] first i h = absurd (omega (arith, h))
-lesser_newer (x ∷ xs) first zero h =
-    let a = lesser_at first x in
-    let b = lesser_older xs (lesser first x) a.0 a.1 in
-    (b.0, b.1, omega (arith, a.2, b.2))
-lesser_newer (x ∷ xs) first (suc i) h = lesser_newer xs (lesser first x) i (omega (arith, h))
 
 module _ (us : List (List ℕ)) where
   least_same : (mark mark' : ℕ → Mark) (first : Option ℕ) → ((k : ℕ) → mark' k ≡ Done → mark k ≡ Done) → IsLeast us mark first → IsLeast us mark' first
@@ -214,8 +129,8 @@ module _ (us : List (List ℕ)) where
         (λ q. (part_at parts q).cyclic) (λ q. (part_at (parts ++ part ∷ []) q).cyclic) pending more (λ k. get_or marks k New) (λ k. get_or (set marks v (OnPath (length path))) k New) v
         s.is_path new inside comes
         (λ q h. get_or_append_left path (v ∷ []) 0 q h) (get_or_push path v 0 (length path) refl)
-        (λ q h. ap (λ p. p.start) (part_before parts part q h)) (ap (λ p. p.start) (part_behind parts part (length path) (omega arith)))
-        (λ q h. ap (λ p. p.cyclic) (part_before parts part q h)) (ap (λ p. p.cyclic) (part_behind parts part (length path) (omega arith)))
+        (λ q h. ap (λ p. p.start) (part_before parts part q h)) (ap (λ p. p.start) (part_after parts part (length path) (omega arith)))
+        (λ q h. ap (λ p. p.cyclic) (part_before parts part q h)) (ap (λ p. p.cyclic) (part_after parts part (length path) (omega arith)))
         (get_or-set_same marks v (OnPath (length path)) New here) (λ k apart. get_or-set_other marks v k (OnPath (length path)) New apart)
         more_place more_used
         (pending_grows pending more (length path) s.is_path.pending_rising (λ e h. (s.is_path.pending_used e h).0) (λ e h. (more_place e h).0)));
@@ -277,8 +192,8 @@ module _ (us : List (List ℕ)) where
     rises = joined_rises parts place joined j (length path) s.rises;
     is_path = joins us (length path) (λ q. get_or path q 0) (λ q. (part_at parts q).start) (λ q. (part_at joined q).start) (λ q. (part_at parts q).cyclic) (λ q. (part_at joined q).cyclic)
         pending (λ k. get_or marks k New) v place from s.is_path on inside last uses
-        (λ q h. ap (λ p. p.start) (joined_before parts place joined j q h)) (λ q h. ap (λ p. p.start) (joined_behind parts place joined j q h))
-        (λ q h. ap (λ p. p.cyclic) (joined_before parts place joined j q h)) (λ q h. ap (λ p. p.cyclic) (joined_behind parts place joined j q h));
+        (λ q h. ap (λ p. p.start) (joined_before parts place joined j q h)) (λ q h. ap (λ p. p.start) (joined_after parts place joined j q h))
+        (λ q h. ap (λ p. p.cyclic) (joined_before parts place joined j q h)) (λ q h. ap (λ p. p.cyclic) (joined_after parts place joined j q h));
   }
 
   -- ---- a part is left
@@ -297,7 +212,7 @@ module _ (us : List (List ℕ)) where
     top_inside = (rises_popped 0 rest (length path) part s.rises).1
 
     last_is : part_at (rest ++ part ∷ []) (length path - 1) ≡ part
-    last_is = part_behind rest part (length path - 1) (omega (arith, top_inside))
+    last_is = part_after rest part (length path - 1) (omega (arith, top_inside))
 
     by_listed : {P : Type 0} (k : ℕ) → (is_listed (drop part.start path) k ≡ true → P) → (is_listed (drop part.start path) k ≡ false → P) → P
     by_listed {P} k listed_here elsewhere = go (is_listed (drop part.start path) k) refl
@@ -307,24 +222,24 @@ module _ (us : List (List ℕ)) where
         go false e = elsewhere e
 
     -- where it is on the path
-    place_behind : (k : ℕ) → is_listed (drop part.start path) k ≡ true → (q : ℕ) × (part.start ≤ q) × (q < length path) × (get_or path q 0 ≡ k)
-    place_behind k h =
+    place_after : (k : ℕ) → is_listed (drop part.start path) k ≡ true → (q : ℕ) × (part.start ≤ q) × (q < length path) × (get_or path q 0 ≡ k)
+    place_after k h =
         let at = place_of (drop part.start path) k h in
         (part.start + at.0, omega arith, omega (arith, at.1, length-drop part.start path), sym (get_or-drop part.start path at.0 0) ∙ at.2)
 
-    listed_behind : (q : ℕ) → part.start ≤ q → q < length path → is_listed (drop part.start path) (get_or path q 0) ≡ true
-    listed_behind q h l =
+    listed_after : (q : ℕ) → part.start ≤ q → q < length path → is_listed (drop part.start path) (get_or path q 0) ≡ true
+    listed_after q h l =
         let e : get_or (drop part.start path) (q - part.start) 0 ≡ get_or path q 0 =
         get_or-drop part.start path (q - part.start) 0 ∙ ap (λ n. get_or path n 0) (let z : part.start + (q - part.start) ≡ q = omega (arith, h) in z) in
         subst (λ x. is_listed (drop part.start path) x ≡ true) e (listed_at (drop part.start path) (q - part.start) (omega (arith, length-drop part.start path, h, l)))
 
     is_on : (k : ℕ) → is_listed (drop part.start path) k ≡ true → (q : ℕ) × (part.start ≤ q) × (get_or marks k New ≡ OnPath q)
-    is_on k h = let at = place_behind k h in (at.0, at.1, subst (λ x. get_or marks x New ≡ OnPath at.0) at.3 (s.is_path.marked at.0 at.2))
+    is_on k h = let at = place_after k h in (at.0, at.1, subst (λ x. get_or marks x New ≡ OnPath at.0) at.3 (s.is_path.marked at.0 at.2))
 
     mark_left : (k q : ℕ) → get_or marks k New ≡ OnPath q → part.start ≤ q → get_or marks' k New ≡ Done
     mark_left k q on h =
         let at = s.is_path.at_place k q on in
-        listed k (subst (λ x. is_listed (drop part.start path) x ≡ true) at.1 (listed_behind q h at.0))
+        listed k (subst (λ x. is_listed (drop part.start path) x ≡ true) at.1 (listed_after q h at.0))
 
     mark_kept : (k q : ℕ) → get_or marks k New ≡ OnPath q → q < part.start → get_or marks' k New ≡ OnPath q
     mark_kept k q on h = by_listed k
@@ -463,7 +378,7 @@ module _ (us : List (List ℕ)) where
       let taken : Pending = record { place = place; used = used } in
       let p = s.is_path.pending_used taken (subst (λ x. Contains x taken) (sym f) (Contains-push before taken)) in
       let inside = (rises_popped 0 rest (length path) part (subst (λ x. Rises 0 x (length path)) e s.rises)).1 in
-      let last : part_at parts (length path - 1) ≡ part = ap (λ x. part_at x (length path - 1)) e ∙ part_behind rest part (length path - 1) (omega (arith, inside)) in
+      let last : part_at parts (length path - 1) ≡ part = ap (λ x. part_at x (length path - 1)) e ∙ part_after rest part (length path - 1) (omega (arith, inside)) in
       record { from = place; here = p.0; last = subst (λ x. x.start ≤ place) (sym last) h; uses = p.1 }
 
 -- ---- one more is marked
@@ -500,54 +415,3 @@ steps_entered us marks v place a a' b b' row new size inside row_is e f =
     let n = new_entered marks us v place new (omega (arith, size, inside)) inside in
     let l : length row ≡ length (get_or us v []) = ap length row_is in
     omega (arith, n, l, e, f)
-
-pub pending_more : (pending pending' : List Pending) (place : ℕ) (row : List ℕ) → pending' ≡ pending ++ map (λ used. record { place = place; used = used }) row → length pending' ≡ length pending + length row
-pending_more pending pending' place row e =
-    let a = length-append pending (map (λ used. record { place = place; used = used }) row) in
-    let b = length-map {B = Pending} row (λ used. record { place = place; used = used }) in
-    let c = ap length e in
-    omega (arith, a, b, c)
-
--- the last element
-pub last_split : {X : Type 0} (xs : List X) (x : X) → Some x ≡ slice_get xs (length xs - 1) → xs ≡ take (length xs - 1) xs ++ x ∷ []
-last_split {X} [] x h = no_some h
-  where
-    no_some : {P : Type 0} → Some x ≡ None → P
-    no_some e = absurd cc
-last_split {X} (y ∷ []) x h = same_some h
-  where
-    same_some : Some x ≡ Some y → y ∷ [] ≡ x ∷ []
-    same_some e = cc
-last_split {X} (y ∷ z ∷ zs) x h =
-    let e : length (y ∷ z ∷ zs) - 1 ≡ suc (length (z ∷ zs) - 1) = omega arith in
-    let r = last_split (z ∷ zs) x (h ∙ ap (slice_get (y ∷ z ∷ zs)) e) in
-    ap (λ w. y ∷ w) r ∙ ap (λ n. take n (y ∷ z ∷ zs) ++ x ∷ []) (sym e)
-
-pub last_element : {X : Type 0} (xs : List X) (x : X) → Some x ≡ slice_get xs (length xs - 1) → x ≡ get_or xs (length xs - 1) x
-last_element xs x h = by xs (length xs - 1) h
-  where
-    by : (ys : List _) (n : ℕ) → Some x ≡ slice_get ys n → x ≡ get_or ys n x
-    by [] n e = refl
-    by (y ∷ ys) zero e = cc
-    by (y ∷ ys) (suc n) e = by ys n e
-
-pub rest_is : {X : Type 0} (xs rest : List X) (x : X) (n : ℕ) → xs ≡ rest ++ x ∷ [] → n ≡ length xs → take (n - 1) xs ≡ rest
-rest_is xs rest x n e f =
-    let size : length xs ≡ length rest + 1 = ap length e ∙ length-append rest (x ∷ []) in
-    let m : n - 1 ≡ length rest = omega (arith, size, f) in
-    ap (λ k. take k xs) m ∙ ap (take (length rest)) e ∙ take-append-le (length rest) rest (x ∷ []) (omega arith) ∙ take_all (length rest) rest (omega arith)
-
-pub any_default : {X : Type 0} (xs : List X) (i : ℕ) (d e : X) → i < length xs → get_or xs i d ≡ get_or xs i e
-any_default [] i d e h = absurd (omega (arith, h))
-any_default (x ∷ xs) zero d e h = refl
-any_default (x ∷ xs) (suc i) d e h = any_default xs i d e (omega (arith, h))
-
-set_last : {X : Type 0} (xs : List X) (p x : X) (n : ℕ) → length xs ≡ n → set (xs ++ p ∷ []) n x ≡ xs ++ x ∷ []
-set_last [] p x zero e = refl
-set_last [] p x (suc n) e = absurd (omega (arith, e))
-set_last (y ∷ ys) p x zero e = absurd (omega (arith, e))
-set_last (y ∷ ys) p x (suc n) e = ap (λ z. y ∷ z) (set_last ys p x n (omega (arith, e)))
-
-pub cut_and_set : {X : Type 0} (xs cut : List X) (last : ℕ) (x : X) → last < length xs → cut ≡ take (last + 1) xs → set cut last x ≡ take last xs ++ x ∷ []
-cut_and_set xs cut last x h e =
-    ap (λ y. set y last x) (e ∙ take_more xs last x h) ∙ set_last (take last xs) (get_or xs last x) x last (length-take-le last xs (omega (arith, h)))

@@ -1,4 +1,5 @@
--- A search through chains of uses. Its path is cut into parts, and chains lead from each definition of a part to the first one.
+-- A search through chains of uses. Its path is cut into parts, and chains lead from each definition of a part to the
+-- first one.
 use Rattle.std.proofs.Common.{◌≡◌, ◌≢◌, ◌⊎◌, inl, inr, ⊎_elim, ℕ, ◌+◌, ◌-◌, ◌<◌, ◌≤◌, Bool, true, false, List, ◌++◌, length, Option, Some, Contains, refl, sym, ◌∙◌, ap, subst, arith}
 use Rattle.std.specs.Prelude.{nat_eq}
 use Rattle.std.specs.List.{AllPairs}
@@ -11,7 +12,7 @@ use Rattle.guard_names.specs.declared.recursion.Pending.{Pending}
 use Rattle.guard_names.specs.Order.{Leads, at_once, through, IsRecursive}
 use Rattle.guard_names.specs.inside.Queues.{UsesIn}
 use Rattle.guard_names.specs.inside.Searches.{Reaches, IsFollowed, left, pending_use, on_path, IsPath, IsLeast}
-use Rattle.guard_names.proofs.Chains.{leads_on}
+use Rattle.guard_names.proofs.InOrder.Chains.{leads_on}
 
 -- ---- chains
 
@@ -170,13 +171,13 @@ module _ (us : List (List ℕ)) where
           let top : start q ≤ from = omega (arith, s.rising q (len - 1) (omega arith) (omega arith), last) in
           reach_reach (s.back q l) (from_first (start q) top)
 
-  -- ---- what is used is on the path: all behind it become one part
+  -- ---- what is used is on the path: all after it become one part
 
   module _ (len : ℕ) (node start start' : ℕ → ℕ) (cyclic cyclic' : ℕ → Bool) (pending : List Pending) (mark : ℕ → Mark) (v at from : ℕ)
       (s : IsPath us len node start cyclic pending mark (λ used. used ≡ v)) (on : mark v ≡ OnPath at)
       (inside' : from < len) (last : start (len - 1) ≤ from) (uses : UsesIn us (node from) v)
-      (start_before : (q : ℕ) → q < start at → start' q ≡ start q) (start_behind : (q : ℕ) → start at ≤ q → start' q ≡ start at)
-      (cyclic_before : (q : ℕ) → q < start at → cyclic' q ≡ cyclic q) (cyclic_behind : (q : ℕ) → start at ≤ q → cyclic' q ≡ true) where
+      (start_before : (q : ℕ) → q < start at → start' q ≡ start q) (start_after : (q : ℕ) → start at ≤ q → start' q ≡ start at)
+      (cyclic_before : (q : ℕ) → q < start at → cyclic' q ≡ cyclic q) (cyclic_after : (q : ℕ) → start at ≤ q → cyclic' q ≡ true) where
     at_is : (at < len) × (node at ≡ v)
     at_is = s.at_place v at on
 
@@ -206,26 +207,26 @@ module _ (us : List (List ℕ)) where
     from_first_on : (q : ℕ) → start at ≤ q → q < len → Reaches (UsesIn us) (node (start at)) (node q)
     from_first_on q h l = ⊎_elim (λ (b : start at < q). inr (s.ahead (start at) q b l)) (λ (b : q ≤ start at). inl (ap node (let e : start at ≡ q = omega arith in e))) (cases_lt (start at) q)
 
-    behind_rises : (q : ℕ) → start at ≤ q → q < len → start at ≤ start q
-    behind_rises q h l = omega (arith, s.rising (start at) q h l, s.first_of_part at at_is.0)
+    after_rises : (q : ℕ) → start at ≤ q → q < len → start at ≤ start q
+    after_rises q h l = omega (arith, s.rising (start at) q h l, s.first_of_part at at_is.0)
 
-    follows_behind : (q used : ℕ) → q < len → IsFollowed us len node start cyclic pending mark q used ⊎ (used ≡ v) → (q < start at) ⊎ (start at ≤ q) → IsFollowed us len node start' cyclic' pending mark q used
-    follows_behind q used l (inl (left done)) c = left done
-    follows_behind q used l (inl (pending_use is)) c = pending_use is
-    follows_behind q used l (inr is) (inl b) =
-        on_path at at_is.0 (at_is.1 ∙ sym is) (rw (start_before q b, start_behind at first_inside) (omega (arith, s.below q l)))
-        (λ e. absurd (omega (arith, s.below q l, start_before q b, start_behind at first_inside, e)))
-    follows_behind q used l (inr is) (inr b) =
-        on_path at at_is.0 (at_is.1 ∙ sym is) (rw (start_behind q b, start_behind at first_inside) (omega arith)) (λ e. cyclic_behind q b)
-    follows_behind q used l (inl (on_path other lo is up same)) (inl b) = by (cut other)
+    follows_after : (q used : ℕ) → q < len → IsFollowed us len node start cyclic pending mark q used ⊎ (used ≡ v) → (q < start at) ⊎ (start at ≤ q) → IsFollowed us len node start' cyclic' pending mark q used
+    follows_after q used l (inl (left done)) c = left done
+    follows_after q used l (inl (pending_use is)) c = pending_use is
+    follows_after q used l (inr is) (inl b) =
+        on_path at at_is.0 (at_is.1 ∙ sym is) (rw (start_before q b, start_after at first_inside) (omega (arith, s.below q l)))
+        (λ e. absurd (omega (arith, s.below q l, start_before q b, start_after at first_inside, e)))
+    follows_after q used l (inr is) (inr b) =
+        on_path at at_is.0 (at_is.1 ∙ sym is) (rw (start_after q b, start_after at first_inside) (omega arith)) (λ e. cyclic_after q b)
+    follows_after q used l (inl (on_path other lo is up same)) (inl b) = by (cut other)
       where
         by : (other < start at) ⊎ (start at ≤ other) → IsFollowed us len node start' cyclic' pending mark q used
         by (inl bo) = on_path other lo is (rw (start_before q b, start_before other bo) up) (λ e. cyclic_before q b ∙ same (sym (start_before q b) ∙ e ∙ start_before other bo))
-        by (inr bo) = on_path other lo is (rw (start_before q b, start_behind other bo) (omega (arith, s.below q l)))
-            (λ e. absurd (omega (arith, s.below q l, start_before q b, start_behind other bo, e)))
-    follows_behind q used l (inl (on_path other lo is up same)) (inr b) =
-        let bo : start at ≤ other = omega (arith, behind_rises q b l, up, s.below other lo) in
-        on_path other lo is (rw (start_behind q b, start_behind other bo) (omega arith)) (λ e. cyclic_behind q b)
+        by (inr bo) = on_path other lo is (rw (start_before q b, start_after other bo) (omega (arith, s.below q l)))
+            (λ e. absurd (omega (arith, s.below q l, start_before q b, start_after other bo, e)))
+    follows_after q used l (inl (on_path other lo is up same)) (inr b) =
+        let bo : start at ≤ other = omega (arith, after_rises q b l, up, s.below other lo) in
+        on_path other lo is (rw (start_after q b, start_after other bo) (omega arith)) (λ e. cyclic_after q b)
 
     pub joins : IsPath us len node start' cyclic' pending mark None_excepted
     joins = record {
@@ -233,19 +234,19 @@ module _ (us : List (List ℕ)) where
       inside = s.inside;
       at_place = s.at_place;
       ahead = s.ahead;
-      back = λ q l. ⊎_elim (λ (b : q < start at). rw (start_before q b) (s.back q l)) (λ (b : start at ≤ q). rw (start_behind q b) (inr (to_first q l))) (cut q);
-      below = λ q l. ⊎_elim (λ (b : q < start at). rw (start_before q b) (s.below q l)) (λ (b : start at ≤ q). rw (start_behind q b) b) (cut q);
+      back = λ q l. ⊎_elim (λ (b : q < start at). rw (start_before q b) (s.back q l)) (λ (b : start at ≤ q). rw (start_after q b) (inr (to_first q l))) (cut q);
+      below = λ q l. ⊎_elim (λ (b : q < start at). rw (start_before q b) (s.below q l)) (λ (b : start at ≤ q). rw (start_after q b) b) (cut q);
       rising = λ p q before l. ⊎_elim
           (λ (b : q < start at). let bp : p < start at = omega arith in rw (start_before p bp, start_before q b) (s.rising p q before l))
-          (λ (b : start at ≤ q). rw (start_behind q b)
-          (⊎_elim (λ (bp : p < start at). rw (start_before p bp) (omega (arith, s.below p (let lp : p < len = omega arith in lp)))) (λ (bp : start at ≤ p). rw (start_behind p bp) (omega arith)) (cut p))) (cut q);
+          (λ (b : start at ≤ q). rw (start_after q b)
+          (⊎_elim (λ (bp : p < start at). rw (start_before p bp) (omega (arith, s.below p (let lp : p < len = omega arith in lp)))) (λ (bp : start at ≤ p). rw (start_after p bp) (omega arith)) (cut p))) (cut q);
       first_of_part = λ q l. ⊎_elim
           (λ (b : q < start at). let bs : start q < start at = omega (arith, s.below q l) in rw (start_before q b, start_before (start q) bs) (s.first_of_part q l))
-          (λ (b : start at ≤ q). rw (start_behind q b) (start_behind (start at) (omega arith))) (cut q);
+          (λ (b : start at ≤ q). rw (start_after q b) (start_after (start at) (omega arith))) (cut q);
       same_part = λ q l. ⊎_elim
           (λ (b : q < start at). let bs : start q < start at = omega (arith, s.below q l) in rw (start_before q b, cyclic_before q b, cyclic_before (start q) bs) (s.same_part q l))
-          (λ (b : start at ≤ q). rw (start_behind q b, cyclic_behind q b) (cyclic_behind (start at) (omega arith))) (cut q);
-      followed = λ q used l u. inl (follows_behind q used l (s.followed q used l u) (cut q));
+          (λ (b : start at ≤ q). rw (start_after q b, cyclic_after q b) (cyclic_after (start at) (omega arith))) (cut q);
+      followed = λ q used l u. inl (follows_after q used l (s.followed q used l u) (cut q));
       cycles = λ q l c. ⊎_elim (λ (b : q < start at). s.cycles q l (sym (cyclic_before q b) ∙ c)) (λ (b : start at ≤ q). lead_reach (to_first q l) (from_first_on q b l)) (cut q);
       closed = s.closed;
       pending_used = s.pending_used;

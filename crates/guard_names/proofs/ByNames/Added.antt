@@ -1,4 +1,4 @@
--- Modules that are added behind others change nothing of what names mean in these.
+-- Modules that are added at the end change nothing of what names mean in the others.
 use Rattle.std.proofs.Common.{◌≡◌, ◌↔◌, ℕ, zero, suc, ◌+◌, ◌<◌, Bool, true, false, cond, not, List, [], ◌∷◌, ◌++◌, length, get_or, Option, Some, None, is_some, All, Contains, refl, sym, ◌∙◌, ap, subst, arith, append_assoc}
 use Rattle.std.proofs.Common.{append-nil}
 use Rattle.std.specs.List.{flat_map}
@@ -7,26 +7,26 @@ use Rattle.std.proofs.lemmas.List.Elements.{All-nil, All-cons, All-append, All-w
 use Rattle.std.proofs.lemmas.Option.{same_Some}
 use Rattle.guard_model.specs.declared.site.Site.{Site}
 use Rattle.guard_syntax.specs.Trees.{WrittenSymbol, WrittenImport, WrittenAssignment, WrittenModule}
-use Rattle.guard_names.specs.Declarations.{Origin, of_module, imported_from, assigned_by, Declaration, declarations, declarations_from, module_declaration, module_declarations, lists_name, symbol_declarations, import_declarations, assigned_declarations, written_imports, Origins, origin_there, exported_number, number_behind, definition_of}
+use Rattle.guard_names.specs.Declarations.{Origin, of_module, imported_from, assigned_by, Declaration, declarations, declarations_from, module_declaration, module_declarations, lists_name, symbol_declarations, import_declarations, assigned_declarations, written_imports, Origins, origin_there, exported_number, number_of_origin, definition_of}
 use Rattle.guard_names.specs.Meanings.{Means}
 use Rattle.guard_names.specs.Faults.{first_where, first_found, is_missing, no_module_in, duplicate_after, fault_of_names}
-use Rattle.guard_names.proofs.Meaning.{declared_so, found_so, origin-append, means_number, meant_number}
-use Rattle.guard_names.proofs.Refusals.{none_duplicate, none_missing}
+use Rattle.guard_names.proofs.Declared.Meaning.{declared_so, found_so, origin-append, means_number, meant_number}
+use Rattle.guard_names.proofs.Faults.Refusals.{none_duplicate, none_missing}
 
--- ---- the declarations of modules are those of the first, and those of the others behind them
+-- ---- the declarations of modules are those of the first, and those of the others after them
 
-declared_behind : (first : ℕ) (ms more : List WrittenModule) → (later : ℕ) × (declarations_from first (ms ++ more) ≡ declarations_from first ms ++ declarations_from later more)
-declared_behind first [] more = (first, refl)
-declared_behind first (m ∷ ms) more =
-    let rest = declared_behind (first + length m.assignments) ms more in
+declared_after : (first : ℕ) (ms more : List WrittenModule) → (later : ℕ) × (declarations_from first (ms ++ more) ≡ declarations_from first ms ++ declarations_from later more)
+declared_after first [] more = (first, refl)
+declared_after first (m ∷ ms) more =
+    let rest = declared_after (first + length m.assignments) ms more in
     (rest.0, ap (λ ds. module_declarations first m ++ ds) rest.1 ∙ sym (append_assoc (module_declarations first m) (declarations_from (first + length m.assignments) ms) (declarations_from rest.0 more)))
 
 -- ---- what is declared twice
 
-twice_behind : (before xs ys : List Declaration) → duplicate_after before (xs ++ ys) ≡ None → duplicate_after (before ++ xs) ys ≡ None
-twice_behind before [] ys h = subst (λ ds. duplicate_after ds ys ≡ None) (sym (append-nil before)) h
-twice_behind before (x ∷ xs) ys h =
-    subst (λ ds. duplicate_after ds ys ≡ None) (append_assoc before (x ∷ []) xs) (twice_behind (before ++ x ∷ []) xs ys (later (is_some (origin_there before x.scope x.name)) h))
+twice_after : (before xs ys : List Declaration) → duplicate_after before (xs ++ ys) ≡ None → duplicate_after (before ++ xs) ys ≡ None
+twice_after before [] ys h = subst (λ ds. duplicate_after ds ys ≡ None) (sym (append-nil before)) h
+twice_after before (x ∷ xs) ys h =
+    subst (λ ds. duplicate_after ds ys ≡ None) (append_assoc before (x ∷ []) xs) (twice_after (before ++ x ∷ []) xs ys (later (is_some (origin_there before x.scope x.name)) h))
   where
     later : (b : Bool) → cond b (Some x.site) (duplicate_after (before ++ x ∷ []) (xs ++ ys)) ≡ None → duplicate_after (before ++ x ∷ []) (xs ++ ys) ≡ None
     later true h' = absurd cc
@@ -147,36 +147,36 @@ module_there first (x ∷ ms) (suc k) m below is =
 
 -- ---- the law
 
-module _ (ms more : List WrittenModule) (none : fault_of_names ms ≡ None) (none_behind : fault_of_names (ms ++ more) ≡ None) where
+module _ (ms more : List WrittenModule) (none : fault_of_names ms ≡ None) (none_after : fault_of_names (ms ++ more) ≡ None) where
   split : (later : ℕ) × (declarations (ms ++ more) ≡ declarations ms ++ declarations_from later more)
-  split = declared_behind 0 ms more
+  split = declared_after 0 ms more
 
-  abbrev behind : List Declaration
-  behind = declarations_from split.0 more
+  abbrev after : List Declaration
+  after = declarations_from split.0 more
 
-  both : (scope : Option (List ℕ)) (name : List ℕ) → origin_there (declarations (ms ++ more)) scope name ≡ option_or (origin_there (declarations ms) scope name) (origin_there behind scope name)
-  both scope name = ap (λ ds. origin_there ds scope name) split.1 ∙ origin-append (declarations ms) behind scope name
+  both : (scope : Option (List ℕ)) (name : List ℕ) → origin_there (declarations (ms ++ more)) scope name ≡ option_or (origin_there (declarations ms) scope name) (origin_there after scope name)
+  both scope name = ap (λ ds. origin_there ds scope name) split.1 ∙ origin-append (declarations ms) after scope name
 
-  -- in a module that is declared before, nothing is declared behind
-  nothing_behind : (home : List ℕ) → is_some (origin_there (declarations ms) None home) ≡ true → (name : List ℕ) → origin_there behind (Some home) name ≡ None
-  nothing_behind home there name = by (origin_there behind (Some home) name) refl
+  -- in a module that is declared before, nothing is declared after
+  nothing_after : (home : List ℕ) → is_some (origin_there (declarations ms) None home) ≡ true → (name : List ℕ) → origin_there after (Some home) name ≡ None
+  nothing_after home there name = by (origin_there after (Some home) name) refl
     where
-      once : duplicate_after (declarations ms) behind ≡ None
-      once = twice_behind [] (declarations ms) behind (subst (λ ds. duplicate_after [] ds ≡ None) split.1 (none_duplicate (ms ++ more) none_behind))
+      once : duplicate_after (declarations ms) after ≡ None
+      once = twice_after [] (declarations ms) after (subst (λ ds. duplicate_after [] ds ≡ None) split.1 (none_duplicate (ms ++ more) none_after))
 
       clash : (o : Option Origin) → is_some o ≡ true → o ≡ None → ⊥
       clash None h e = cc
       clash (Some x) h e = cc
 
-      by : (o : Option Origin) → origin_there behind (Some home) name ≡ o → o ≡ None
+      by : (o : Option Origin) → origin_there after (Some home) name ≡ o → o ≡ None
       by None e = refl
       by (Some o) e =
-          let d = declared_so behind (Some home) name o e in
-          let m = All-contains (HasModule behind) behind _ (have_modules split.0 more) d.1 home refl in
-          absurd (clash (origin_there (declarations ms) None home) there (All-contains (λ (d : Declaration). origin_there (declarations ms) d.scope d.name ≡ None) behind _ (not_before (declarations ms) behind once) m.1))
+          let d = declared_so after (Some home) name o e in
+          let m = All-contains (HasModule after) after _ (have_modules split.0 more) d.1 home refl in
+          absurd (clash (origin_there (declarations ms) None home) there (All-contains (λ (d : Declaration). origin_there (declarations ms) d.scope d.name ≡ None) after _ (not_before (declarations ms) after once) m.1))
 
   same_there : (home : List ℕ) → is_some (origin_there (declarations ms) None home) ≡ true → (name : List ℕ) → origin_there (declarations (ms ++ more)) (Some home) name ≡ origin_there (declarations ms) (Some home) name
-  same_there home there name = both (Some home) name ∙ ap (option_or (origin_there (declarations ms) (Some home) name)) (nothing_behind home there name) ∙ right_none (origin_there (declarations ms) (Some home) name)
+  same_there home there name = both (Some home) name ∙ ap (option_or (origin_there (declarations ms) (Some home) name)) (nothing_after home there name) ∙ right_none (origin_there (declarations ms) (Some home) name)
     where
       right_none : (o : Option Origin) → option_or o None ≡ o
       right_none None = refl
@@ -186,14 +186,14 @@ module _ (ms more : List WrittenModule) (none : fault_of_names ms ≡ None) (non
       → definition_of (origin_there (declarations (ms ++ more))) home name ≡ definition_of (origin_there (declarations ms)) home name
   unfolding FromThere
   same_number home there name =
-      ap (number_behind (origin_there (declarations (ms ++ more))) name) (same_there home there name) ∙ by (origin_there (declarations ms) (Some home) name) refl
+      ap (number_of_origin (origin_there (declarations (ms ++ more))) name) (same_there home there name) ∙ by (origin_there (declarations ms) (Some home) name) refl
     where
       from_there : (from : List ℕ) → origin_there (declarations ms) (Some home) name ≡ Some (imported_from from) → is_some (origin_there (declarations ms) None from) ≡ true
       from_there from e =
           let d = declared_so (declarations ms) (Some home) name (imported_from from) e in
           All-contains (IsFromThere (origin_there (declarations ms))) (declarations ms) _ (all_from (origin_there (declarations ms)) 0 ms (none_missing ms none)) d.1
 
-      by : (o : Option Origin) → origin_there (declarations ms) (Some home) name ≡ o → number_behind (origin_there (declarations (ms ++ more))) name o ≡ number_behind (origin_there (declarations ms)) name o
+      by : (o : Option Origin) → origin_there (declarations ms) (Some home) name ≡ o → number_of_origin (origin_there (declarations (ms ++ more))) name o ≡ number_of_origin (origin_there (declarations ms)) name o
       by None e = refl
       by (Some of_module) e = refl
       by (Some (imported_from from)) e = ap exported_number (same_there from (from_there from e) name)
@@ -210,4 +210,4 @@ module _ (ms more : List WrittenModule) (none : fault_of_names ms ≡ None) (non
       to h = means_number (ms ++ more) home name number (same_number home there name ∙ meant_number ms (none_duplicate ms none) home name number h)
 
       from : Means (ms ++ more) home name number → Means ms home name number
-      from h = means_number ms home name number (sym (same_number home there name) ∙ meant_number (ms ++ more) (none_duplicate (ms ++ more) none_behind) home name number h)
+      from h = means_number ms home name number (sym (same_number home there name) ∙ meant_number (ms ++ more) (none_duplicate (ms ++ more) none_after) home name number h)

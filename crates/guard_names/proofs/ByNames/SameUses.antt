@@ -9,10 +9,10 @@ use Rattle.guard_names.specs.Order.{IsReady, Follow, IsOrder, Leads, at_once, th
 use Rattle.guard_names.specs.Faults.{fault_of_names}
 use Rattle.guard_names.specs.inside.Queues.{UsesIn, AreInside}
 use Rattle.guard_names.specs.inside.Reading.{uses_of_all}
-use Rattle.guard_names.proofs.Meaning.{means_number, meant_number}
-use Rattle.guard_names.proofs.Numbered.{meant_at}
-use Rattle.guard_names.proofs.Refusals.{none_duplicate}
-use Rattle.guard_names.proofs.UseLists.{uses_of, listed_by_definition, uses_from_list, list_from_uses}
+use Rattle.guard_names.proofs.Declared.Meaning.{means_number, meant_number}
+use Rattle.guard_names.proofs.Declared.Numbered.{meant_at}
+use Rattle.guard_names.proofs.Faults.Refusals.{none_duplicate}
+use Rattle.guard_names.proofs.ByNames.UseLists.{uses_of, listed_by_definition, uses_from_list, list_from_uses}
 
 module _ (count : ℕ) (uses also : ℕ → ℕ → Type 0) (to : (a b : ℕ) → uses a b → also a b) (from : (a b : ℕ) → also a b → uses a b) where
   ready_also : (listed : List ℕ) (number : ℕ) → IsReady count uses listed number → IsReady count also listed number

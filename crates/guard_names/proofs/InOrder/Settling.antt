@@ -18,10 +18,10 @@ use Rattle.std.proofs.lemmas.List.Sorted.{sum_by_pushed, sum_by_popped}
 use Rattle.std.proofs.lemmas.Grind.{get_or_default_zero}
 use Rattle.guard_names.specs.declared.order.Waiting.{Waiting}
 use Rattle.guard_names.specs.Order.{is_listed, IsNext, Follow}
-use Rattle.guard_names.specs.inside.Queues.{once_at, used_by, AreInside, IsMet, IsMetBefore, IsWaitingFor, IsReleased, AreFlags, Stands, times_in, times_waiting}
+use Rattle.guard_names.specs.inside.Queues.{once_at, used_by, AreInside, IsMet, IsMetBefore, IsWaitingFor, IsReleased, AreFlags, ArePlaced, times_in, times_waiting}
 use Rattle.guard_names.specs.inside.QueueViews.{times_ready}
-use Rattle.guard_names.proofs.Chains.{or_true}
-use Rattle.guard_names.proofs.Queueing.{listed_last, settled_waiting, listed_one}
+use Rattle.guard_names.proofs.InOrder.Chains.{or_true}
+use Rattle.guard_names.proofs.InOrder.Queueing.{listed_last, settled_waiting, listed_one}
 
 -- ---- rows
 
@@ -108,14 +108,14 @@ module _ (us : List (List ℕ)) (flags : List Bool) (listed : List ℕ) (inside 
   pub settles_waiting : (ready underway : ℕ → ℕ) (rows rows' : List (List Waiting)) (w : Waiting) (place u : ℕ) → w.number ≡ number → place < length used → u ≡ get_or used place 0
       → get_or flags (get_or used place 0) false ≡ false
       → ((i : ℕ) → w.met ≤ i → i < place → get_or flags (get_or used i 0) false ≡ true)
-      → IsReleased us listed w → Stands us listed ready rows (λ k. once_at w.number k + underway k)
+      → IsReleased us listed w → ArePlaced us listed ready rows (λ k. once_at w.number k + underway k)
       → rows' ≡ set rows u (get_or rows u [] ++ record { number = w.number; met = place } ∷ [])
-      → Stands us listed ready rows' underway
+      → ArePlaced us listed ready rows' underway
   settles_waiting ready underway rows rows' w place u n h u_is found flagged r s is =
       let here : u < length us = subst (λ x. x < length us) (sym u_is) (used_inside (get_or used place 0) (listed_at used place h)) in
       let waits : IsWaitingFor us listed u (record { number = w.number; met = place }) =
       rw (u_is, n) (waits_at w.met place (subst (λ x. x < length us) n r.number) (subst (λ x. IsMetBefore us listed x w.met) n r.met) h found flagged) in
-      subst (λ x. Stands us listed ready x underway) (sym is) (settled_waiting us listed ready underway rows u (record { number = w.number; met = place }) s here waits)
+      subst (λ x. ArePlaced us listed ready x underway) (sym is) (settled_waiting us listed ready underway rows u (record { number = w.number; met = place }) s here waits)
 
 -- ---- the heap of those that are ready
 
@@ -196,8 +196,8 @@ none_waiting (suc n) k = let r : times_in (replicate n []) k ≡ 0 = none_waitin
 no_row : (n u : ℕ) → get_or {A = List Waiting} (replicate n []) u [] ≡ []
 no_row n u = ⊎_elim (λ (l : u < n). get_or-replicate n u [] [] l) (λ (g : n ≤ u). get_or-eq_default (replicate n []) [] (let e = length-replicate {A = List Waiting} n [] in omega (arith, e, g))) (cases_lt u n)
 
-pub none_settled : (us : List (List ℕ)) (rows : List (List Waiting)) (ready : ℕ → ℕ) → rows ≡ replicate (length us) [] → ((k : ℕ) → ready k ≡ 0) → Stands us [] ready rows (from_on 0 (length us))
-none_settled us rows ready e none = subst (λ x. Stands us [] ready x (from_on 0 (length us))) (sym e) (record {
+pub none_settled : (us : List (List ℕ)) (rows : List (List Waiting)) (ready : ℕ → ℕ) → rows ≡ replicate (length us) [] → ((k : ℕ) → ready k ≡ 0) → ArePlaced us [] ready rows (from_on 0 (length us))
+none_settled us rows ready e none = subst (λ x. ArePlaced us [] ready x (from_on 0 (length us))) (sym e) (record {
   size = length-replicate (length us) [];
   once = λ k. let a = none k in let b = none_waiting (length us) k in let e' = from_zero (length us) k in omega (arith, a, b, e');
   ready_met = λ k h. absurd (let a = none k in omega (arith, a, h));
@@ -214,8 +214,8 @@ no_flags us flags e = record {
 
 -- those that waited for it are on the way
 pub begins : (us : List (List ℕ)) (listed listed' : List ℕ) (ready : ℕ → ℕ) (rows rows' : List (List Waiting)) (a : ℕ) (released : List Waiting)
-    → listed' ≡ listed ++ a ∷ [] → rows' ≡ set rows a [] → released ≡ get_or rows a [] → Stands us listed ready rows (once_at a) → a < length us
-    → Stands us listed' ready rows' (times_waiting released)
+    → listed' ≡ listed ++ a ∷ [] → rows' ≡ set rows a [] → released ≡ get_or rows a [] → ArePlaced us listed ready rows (once_at a) → a < length us
+    → ArePlaced us listed' ready rows' (times_waiting released)
 begins us listed listed' ready rows rows' a released e f g s h = rw (e, f, g) (listed_one us listed ready rows a s h)
 
 -- the first of those that are on the way

@@ -10,15 +10,15 @@ use Rattle.std.proofs.lemmas.List.Folds.{list_any-append, list_any_at}
 use Rattle.std.proofs.lemmas.List.Sums.{sum_by-cons, sum_by_push, sum_by-set}
 use Rattle.guard_names.specs.declared.order.Waiting.{Waiting}
 use Rattle.guard_names.specs.Order.{is_listed, IsReady, IsNext, IsRecursive}
-use Rattle.guard_names.specs.inside.Queues.{times, times_waiting, times_in, once_at, used_by, UsesIn, AreInside, IsMet, IsWaitingFor, IsReleased, Stands}
-use Rattle.guard_names.proofs.Chains.{or_false, stuck_is_recursive}
+use Rattle.guard_names.specs.inside.Queues.{times, times_waiting, times_in, once_at, used_by, UsesIn, AreInside, IsMet, IsWaitingFor, IsReleased, ArePlaced}
+use Rattle.guard_names.proofs.InOrder.Chains.{or_false, stuck_is_recursive}
 
 true_false : {P : Type 0} → true ≡ false → P
 true_false h = absurd cc
 
 -- ---- lists of numbers
 
--- what is listed before is listed behind one more
+-- what is listed before is listed after one more
 pub still_listed : (listed : List ℕ) (a k : ℕ) → is_listed listed k ≡ true → is_listed (listed ++ a ∷ []) k ≡ true
 still_listed listed a k h = rw (list_any-append (nat_eq k) listed (a ∷ []), h) refl
 
@@ -65,8 +65,8 @@ module _ (us : List (List ℕ)) where
   -- ---- one that was underway
 
   pub settled_ready : (listed : List ℕ) (ready ready' underway : ℕ → ℕ) (waiting : List (List Waiting)) (a : ℕ)
-      → Stands us listed ready waiting (λ k. once_at a k + underway k) → ((k : ℕ) → ready' k ≡ once_at a k + ready k) → IsMet us listed a
-      → Stands us listed ready' waiting underway
+      → ArePlaced us listed ready waiting (λ k. once_at a k + underway k) → ((k : ℕ) → ready' k ≡ once_at a k + ready k) → IsMet us listed a
+      → ArePlaced us listed ready' waiting underway
   settled_ready listed ready ready' underway waiting a s e met = record {
     size = s.size;
     once = λ k. let o = s.once k in let p = e k in omega (arith, o, p);
@@ -76,8 +76,8 @@ module _ (us : List (List ℕ)) where
   }
 
   pub settled_waiting : (listed : List ℕ) (ready underway : ℕ → ℕ) (waiting : List (List Waiting)) (used : ℕ) (w : Waiting)
-      → Stands us listed ready waiting (λ k. once_at w.number k + underway k) → used < length us → IsWaitingFor us listed used w
-      → Stands us listed ready (set waiting used (get_or waiting used [] ++ w ∷ [])) underway
+      → ArePlaced us listed ready waiting (λ k. once_at w.number k + underway k) → used < length us → IsWaitingFor us listed used w
+      → ArePlaced us listed ready (set waiting used (get_or waiting used [] ++ w ∷ [])) underway
   settled_waiting listed ready underway waiting used w s inside waits =
       let here : used < length waiting = omega (arith, s.size, inside) in
       record {
@@ -102,8 +102,8 @@ module _ (us : List (List ℕ)) where
   -- ---- one that is listed
 
   pub listed_one : (listed : List ℕ) (ready : ℕ → ℕ) (waiting : List (List Waiting)) (a : ℕ)
-      → Stands us listed ready waiting (once_at a) → a < length us
-      → Stands us (listed ++ a ∷ []) ready (set waiting a []) (times_waiting (get_or waiting a []))
+      → ArePlaced us listed ready waiting (once_at a) → a < length us
+      → ArePlaced us (listed ++ a ∷ []) ready (set waiting a []) (times_waiting (get_or waiting a []))
   listed_one listed ready waiting a s inside =
       let here : a < length waiting = omega (arith, s.size, inside) in
       record {
@@ -130,7 +130,7 @@ module _ (us : List (List ℕ)) where
 
   -- the one that is taken out of those that are ready
   pub taken : (listed : List ℕ) (ready ready' : ℕ → ℕ) (waiting : List (List Waiting)) (a : ℕ)
-      → Stands us listed ready waiting (λ _. 0) → ((k : ℕ) → ready' k + once_at a k ≡ ready k) → Stands us listed ready' waiting (once_at a)
+      → ArePlaced us listed ready waiting (λ _. 0) → ((k : ℕ) → ready' k + once_at a k ≡ ready k) → ArePlaced us listed ready' waiting (once_at a)
   taken listed ready ready' waiting a s e = record {
     size = s.size;
     once = λ k. let o = s.once k in let p = e k in omega (arith, o, p);
@@ -139,7 +139,7 @@ module _ (us : List (List ℕ)) where
   }
 
   pub released_by : (listed : List ℕ) (ready underway : ℕ → ℕ) (waiting : List (List Waiting)) (a : ℕ)
-      → Stands us listed ready waiting underway → All (IsReleased us (listed ++ a ∷ [])) (get_or waiting a [])
+      → ArePlaced us listed ready waiting underway → All (IsReleased us (listed ++ a ∷ [])) (get_or waiting a [])
   released_by listed ready underway waiting a s =
       All-weaker (IsWaitingFor us listed a) (IsReleased us (listed ++ a ∷ []))
       (λ w h. record { number = h.number; met = λ i below. still_listed listed a (get_or (used_by us w.number) i 0) (h.met i below) })
@@ -147,7 +147,7 @@ module _ (us : List (List ℕ)) where
 
   -- ---- what is known of them
 
-  module _ (listed : List ℕ) (ready underway : ℕ → ℕ) (waiting : List (List Waiting)) (s : Stands us listed ready waiting underway) where
+  module _ (listed : List ℕ) (ready underway : ℕ → ℕ) (waiting : List (List Waiting)) (s : ArePlaced us listed ready waiting underway) where
     is_definition : (k : ℕ) → 0 < times listed k + ready k + times_in waiting k → k < length us
     is_definition k h = by (nat_lt k (length us)) refl (s.once k)
       where
@@ -235,5 +235,5 @@ module _ (us : List (List ℕ)) where
         by false e = let r = stuck_is_recursive (length us) (UsesIn us) (λ x. not (is_listed listed x)) next k below (ap not e) in absurd (acyclic r.0 r.1)
 
     -- where as many are underway
-    pub same_underway : (other : ℕ → ℕ) → ((k : ℕ) → other k ≡ underway k) → Stands us listed ready waiting other
+    pub same_underway : (other : ℕ → ℕ) → ((k : ℕ) → other k ≡ underway k) → ArePlaced us listed ready waiting other
     same_underway other e = record { size = s.size; once = λ k. let o = s.once k in let p = e k in omega (arith, o, p); ready_met = s.ready_met; waiting_for = s.waiting_for }

@@ -1,4 +1,4 @@
--- Where each definition stands in the order: in one place.
+-- The place of each definition in the order: there is one.
 use Rattle.std.proofs.Common.{◌≡◌, ⊎_elim, ℕ, zero, suc, ◌+◌, ◌<◌, Bool, true, false, ◌||◌, List, [], ◌∷◌, ◌++◌, length, get_or, set, take, Some, slice_get, nat_eq, refl, sym, ◌∙◌, ap, subst, eqb-true, eq-eqb, get_or-set_same, get_or-set_other}
 use Rattle.std.proofs.lemmas.Bool.{or_cases}
 use Rattle.std.proofs.lemmas.List.{take_more}
@@ -13,7 +13,7 @@ either_false false b h = (refl, h)
 false_true : false ≡ true → ⊥
 false_true h = cc
 
--- what stands in a place is listed, and the other way round
+-- what is in a place is listed, and the other way round
 pub listed_there : (xs : List ℕ) (place number : ℕ) → slice_get xs place ≡ Some number → is_listed xs number ≡ true
 listed_there [] place number h = absurd cc
 listed_there (x ∷ xs) zero number h = rw (same_Some x number h, eq-eqb number number refl) refl
@@ -31,7 +31,7 @@ module _ (count : ℕ) (uses : ℕ → ℕ → Type 0) where
       (λ (later : is_listed rest number ≡ true). follow_below (listed ++ x ∷ []) rest f.1 number later)
       (or_cases (nat_eq number x) (is_listed rest number) h)
 
-  -- what stands in an order is a definition
+  -- what is in an order is a definition
   pub order_below : (numbers : List ℕ) → IsOrder count uses numbers → (number : ℕ) → is_listed numbers number ≡ true → number < count
   order_below numbers o number h = follow_below [] numbers o.follow number h
 
@@ -56,7 +56,7 @@ module _ (count : ℕ) (uses : ℕ → ℕ → Type 0) where
   one_place listed (x ∷ rest) f (suc p) zero number a b = absurd (not_again listed rest x f.1 (rw (same_Some x number b) (listed_there rest p number a)))
   one_place listed (x ∷ rest) f (suc p) (suc q) number a b = ap suc (one_place (listed ++ x ∷ []) rest f.1 p q number a b)
 
-  -- each definition stands in one place of an order
+  -- each definition is in one place of an order
   pub order_place : (numbers : List ℕ) → IsOrder count uses numbers → (p q number : ℕ) → slice_get numbers p ≡ Some number → slice_get numbers q ≡ Some number → p ≡ q
   order_place numbers o p q number a b = one_place [] numbers o.follow p q number a b
 

@@ -19,7 +19,7 @@ use Rattle.guard_reader.specs.Fronts.{Front, broken, elsewhere, after_one, all_i
 use Rattle.guard_reader.specs.Judging.{identifier_in, other_in}
 use Rattle.guard_reader.specs.Octets.{◌>>=◌, split}
 use Rattle.guard_reader.specs.inside.FrontViews.{outermost, outermost_of, wrapped}
-use Rattle.guard_reader.specs.inside.NodeParts.{IsChoice, has_layers, is_choice, is_simple, tag_round}
+use Rattle.guard_reader.specs.inside.NodeParts.{IsChoice, IsInFront, has_layers, is_choice, is_simple, tag_round}
 
 abbrev with_tag : Option Tag → List Tag → List Tag
 with_tag None ts = ts
@@ -106,6 +106,9 @@ bare_body kind.SetOf h c spots os e other = refl
 bare_body kind.Wrapper h c spots os e other = absurd cc
 bare_body kind.Asked h c spots os e other = absurd cc
 bare_body kind.Formula h c spots os e other = absurd cc
+
+pub is_in_front : (t : Nodes) (k : ℕ) (h : Hot) → IsInFront t k → k < vec_len t.hots → h ≡ get_or t.hots.items k h → has_layers h.kind ≡ true
+is_in_front t k h f lt is = let same : f.node ≡ h = same_Some f.node h (sym f.there ∙ there_at t k h lt is) in rw (← same) f.kind
 
 pub is_kind_choice : (k : Kind) → is_choice k ≡ true → k ≡ kind.Choice
 is_kind_choice (kind.Simple k) e = absurd cc

@@ -14,18 +14,18 @@ pub mod series;
 mod sets;
 
 use crate::conditions::raise;
-use crate::element_fronts::{alone, front_at, innermost};
+use crate::element_fronts::{alone, begins, cut_off, front_at, innermost};
 use crate::layers::has_layers;
 use crate::simple::simple;
 use crate::whole::{mark_whole, size_of};
 use choices::choice;
 use guard_tables::{Kind, Nodes, Slots};
-use lists::{list, set_of};
-use series::series;
+use lists::{items, set_of};
+use series::{fields, series};
 use sets::set;
 
 /// The slots that fail at the value whose encoding the octets are; None where they are none.
-#[inline(never)]
+#[inline(always)]
 pub fn failures(table: &Nodes, octets: &[u8]) -> Option<Slots>
     ensures { result ≡ message_judged (root_of table.now) octets.now }
 {
@@ -37,9 +37,31 @@ pub fn failures(table: &Nodes, octets: &[u8]) -> Option<Slots>
 }
 
 /// Whether the octets are an encoding; then `failed` has what fails.
-#[inline(always)]
-#[tactic(auto, unfolding(crate::specs::Judging::message_judged))]
+#[inline(never)]
 fn decide(table: &Nodes, octets: &[u8], failed: &mut Slots) -> bool
+    requires { failed.old ≡ none }
+    ensures { Answers result failed.new (message_judged (root_of table.now) octets.now) }
+{
+    let top = &table.hots[table.hots.len() - 1];
+    match top.kind {
+        Kind::Series if begins(top.identifier, octets) => match alone(cut_off(octets)) {
+            Some(inside) => fields(
+                table,
+                top.first as usize,
+                top.count as usize,
+                inside,
+                failed,
+            ),
+            None => false,
+        },
+        _ => decide_by_front(table, octets, failed),
+    }
+}
+
+/// The same by what is at the front, of a message of any kind.
+#[inline(never)]
+#[tactic(auto, unfolding(crate::specs::Judging::message_judged))]
+fn decide_by_front(table: &Nodes, octets: &[u8], failed: &mut Slots) -> bool
     requires { failed.old ≡ none }
     ensures { Answers result failed.new (message_judged (root_of table.now) octets.now) }
 {
@@ -86,7 +108,7 @@ fn contents(table: &Nodes, at: usize, inside: &[u8], failed: &mut Slots) -> bool
 {
     let node = &table.hots[at];
     match node.kind {
-        Kind::List => list(table, node.first as usize, inside, failed),
+        Kind::List => items(table, node.first as usize, inside, failed),
         Kind::Series => series(
             table,
             node.first as usize,

@@ -1,23 +1,58 @@
 //! SEQUENCE, a SET whose components ascend, and what is said of components.
-ghost use Rattle.std.specs.Prelude.{◌≡◌, ◌+◌, ◌<◌, ◌≤◌, vec_len, option_map};
+ghost use Rattle.std.specs.Prelude.{◌≡◌, ◌+◌, ◌<◌, ◌≤◌, List, ℕ, false, nat_eq, vec_len, option_map};
 ghost use Rattle.guard_tables.specs.NodesView.{spots_in};
 ghost use Rattle.guard_tables.specs.Slots.{added};
 ghost use Rattle.guard_tables.specs.TableNodes.{parts_between, spot_at};
+ghost use Rattle.guard_reader.specs.Fronts.{after_one, front_cut};
+ghost use Rattle.guard_reader.specs.Octets.{split};
 ghost use Rattle.guard_reader.specs.Judging.{fields_judged, present_part, absent_part, part_at, watched};
 ghost use Rattle.guard_reader.specs.inside.Answers.{Answers};
 ghost use Rattle.guard_reader.specs.inside.NodeParts.{IsNear, pass_at, sight_at};
 
 use crate::conditions::is_default;
-use crate::element_fronts::{Front, begins, front_at};
+use crate::element_fronts::{Front, after_first, begins, front_at};
 use crate::header::split_after;
 use crate::plain::{begins_plainly, is_plain};
 use crate::walking::within_tag;
-use guard_tables::{Cold, Need, Nodes, Slots};
+use guard_tables::{Cold, Hot, Need, Nodes, Slots};
 
 /// So many components from the first on, one after the other, all of the octets.
 #[cycle(walking)]
 #[inline(never)]
 pub fn series(table: &Nodes, first: usize, count: usize, inside: &[u8], failed: &mut Slots) -> bool
+    requires { first + count ≤ vec_len table.now.hots }
+    ensures { Answers result failed.new
+        (fields_judged (parts_between (spots_in table.now) first count) inside.now failed.old) }
+{
+    fields(table, first, count, inside, failed)
+}
+
+/// The same, compiled into its caller.
+#[cycle(walking)]
+#[inline(always)]
+pub fn fields(table: &Nodes, first: usize, count: usize, inside: &[u8], failed: &mut Slots) -> bool
+    requires { first + count ≤ vec_len table.now.hots }
+    ensures { Answers result failed.new
+        (fields_judged (parts_between (spots_in table.now) first count) inside.now failed.old) }
+{
+    let mut rest = inside;
+    for k in first..first + count {
+        if is_far(&table.hots[k], rest) {
+            // A loop of its own has what this one would have to make room for at each component.
+            return far_fields(table, k, first + count - k, rest, failed);
+        }
+        let Some(next) = near_part(table, k, rest, failed) else {
+            return false;
+        };
+        rest = next;
+    }
+    rest.is_empty()
+}
+
+/// The same of components of which the first has no identifier octet of its own.
+#[cycle(walking)]
+#[inline(never)]
+fn far_fields(table: &Nodes, first: usize, count: usize, inside: &[u8], failed: &mut Slots) -> bool
     requires { first + count ≤ vec_len table.now.hots }
     ensures { Answers result failed.new
         (fields_judged (parts_between (spots_in table.now) first count) inside.now failed.old) }
@@ -32,6 +67,17 @@ pub fn series(table: &Nodes, first: usize, count: usize, inside: &[u8], failed: 
     rest.is_empty()
 }
 
+/// Whether octets aren't known to begin with a node's element, since it has no identifier octet of its own.
+#[inline(always)]
+fn is_far(node: &Hot, octets: &[u8]) -> bool
+    ensures { result ≡ false → nat_eq node.now.identifier 256 ≡ false }
+{
+    if begins(node.identifier, octets) {
+        return false;
+    }
+    node.identifier == 256
+}
+
 /// A component where it may come next: what is left after it.
 #[cycle(walking)]
 #[inline(always)]
@@ -42,14 +88,25 @@ fn part<'a>(table: &Nodes, at: usize, octets: &'a [u8], failed: &mut Slots) -> O
         (pass_at (spots_in table.now) at) octets.now failed.old }
 {
     let node = &table.hots[at];
-    if begins_plainly(node, octets) {
-        return Some(&octets[3..]);
-    }
-    if begins(node.identifier, octets) {
-        return near_part(table, at, octets, failed);
-    }
     if node.identifier == 256 {
         return far_part(table, at, octets, failed);
+    }
+    near_part(table, at, octets, failed)
+}
+
+/// The same of a node with an identifier octet of its own.
+#[cycle(walking)]
+#[inline(always)]
+fn near_part<'a>(table: &Nodes, at: usize, octets: &'a [u8], failed: &mut Slots) -> Option<&'a [u8]>
+    requires room { at < vec_len table.now.hots }
+    requires near { IsNear table.now at }
+    ensures { option_map (λ r. (failed.new, r.now)) result
+        ≡ part_at (spot_at (spots_in table.now) at).side (sight_at (spots_in table.now) at octets.now)
+        (pass_at (spots_in table.now) at) octets.now failed.old }
+{
+    let node = &table.hots[at];
+    if begins(node.identifier, octets) {
+        return begun_part(table, at, octets, failed);
     }
     if begins(node.other, octets) {
         return None;
@@ -63,12 +120,33 @@ fn part<'a>(table: &Nodes, at: usize, octets: &'a [u8], failed: &mut Slots) -> O
 /// The same of octets that begin with the node's identifier octet.
 #[cycle(walking)]
 #[inline(always)]
-fn near_part<'a>(table: &Nodes, at: usize, octets: &'a [u8], failed: &mut Slots) -> Option<&'a [u8]>
+fn begun_part<'a>(
+    table: &Nodes,
+    at: usize,
+    octets: &'a [u8],
+    failed: &mut Slots,
+) -> Option<&'a [u8]>
     requires room { at < vec_len table.now.hots }
-    requires near { IsNear table.now at octets.now }
+    requires begun { sight_at (spots_in table.now) at octets.now ≡ front_cut (split (after_one octets.now)) }
     ensures { option_map (λ r. (failed.new, r.now)) result
         ≡ part_at (spot_at (spots_in table.now) at).side (sight_at (spots_in table.now) at octets.now)
         (pass_at (spots_in table.now) at) octets.now failed.old }
+{
+    let node = &table.hots[at];
+    if begins_plainly(node, octets) {
+        return Some(&octets[3..]);
+    }
+    cut_part(table, at, octets, failed)
+}
+
+/// The same of an element of which one identifier octet is left.
+#[cycle(walking)]
+#[inline(always)]
+fn cut_part<'a>(table: &Nodes, at: usize, octets: &'a [u8], failed: &mut Slots) -> Option<&'a [u8]>
+    requires { at < vec_len table.now.hots }
+    ensures { (os : List ℕ) → option_map (λ r. (failed.new, r.now)) result
+        ≡ part_at (spot_at (spots_in table.now) at).side (front_cut (split (after_one octets.now)))
+        (pass_at (spots_in table.now) at) os failed.old }
 {
     match split_after(octets) {
         Some((inside, rest)) => {
@@ -83,9 +161,24 @@ fn near_part<'a>(table: &Nodes, at: usize, octets: &'a [u8], failed: &mut Slots)
 
 /// The same of a node without an identifier octet of its own.
 #[cycle(walking)]
+#[inline(always)]
+fn far_part<'a>(table: &Nodes, at: usize, octets: &'a [u8], failed: &mut Slots) -> Option<&'a [u8]>
+    requires { at < vec_len table.now.hots }
+    ensures { option_map (λ r. (failed.new, r.now)) result
+        ≡ part_at (spot_at (spots_in table.now) at).side (sight_at (spots_in table.now) at octets.now)
+        (pass_at (spots_in table.now) at) octets.now failed.old }
+{
+    if let Some(tail) = after_first(table, at, octets) {
+        return cut_part(table, at, tail, failed);
+    }
+    seen_part(table, at, octets, failed)
+}
+
+/// The same by what is at the front.
+#[cycle(walking)]
 #[cold]
 #[inline(never)]
-fn far_part<'a>(table: &Nodes, at: usize, octets: &'a [u8], failed: &mut Slots) -> Option<&'a [u8]>
+fn seen_part<'a>(table: &Nodes, at: usize, octets: &'a [u8], failed: &mut Slots) -> Option<&'a [u8]>
     requires { at < vec_len table.now.hots }
     ensures { option_map (λ r. (failed.new, r.now)) result
         ≡ part_at (spot_at (spots_in table.now) at).side (sight_at (spots_in table.now) at octets.now)

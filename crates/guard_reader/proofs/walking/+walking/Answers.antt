@@ -1,4 +1,4 @@
-use Rattle.std.proofs.Common.{◌≡◌, ◌∙◌, ◌+◌, ◌-◌, ◌<◌, ◌≤◌, Bool, true, false, vec_len, ap, sym, subst, refl, arith, drop, Some, None, Option, ℕ, get_or, ◌∷◌, [], add-one, map, List}
+use Rattle.std.proofs.Common.{◌≡◌, ◌∙◌, ◌+◌, ◌-◌, ◌<◌, ◌≤◌, Bool, true, false, eqb, vec_len, ap, sym, subst, refl, arith, drop, Some, None, Option, ℕ, get_or, ◌∷◌, [], add-one, map, List}
 use Rattle.std.specs.Prelude.{◌||◌, nat_eq}
 use Rattle.std.proofs.lemmas.List.{take_rest}
 use Rattle.std.proofs.lemmas.Bool.{cond-true, cond-false, ne_eqb}
@@ -10,11 +10,11 @@ use Rattle.guard_tables.specs.NodeViews.{raise_view}
 use Rattle.guard_tables.specs.Marking.{conditions_marked}
 use Rattle.guard_tables.specs.Formulas.{raised}
 use Rattle.guard_tables.specs.NodesView.{spots_in}
-use Rattle.guard_reader.specs.Fronts.{begins, element_in, front_cut, front_of}
-use Rattle.guard_reader.specs.Judging.{is_read, fields_judged, outside, then_marked, whole_facts, size_in, ordered}
+use Rattle.guard_reader.specs.Fronts.{Front, begins, element_in, front_cut, front_of}
+use Rattle.guard_reader.specs.Judging.{is_read, fields_judged, part_at, outside, then_marked, whole_facts, size_in, ordered}
 use Rattle.guard_reader.specs.inside.Answers.{Answers}
 use Rattle.guard_reader.specs.inside.Members.{AreRead}
-use Rattle.guard_reader.specs.inside.NodeParts.{IsNear, has_layers, pass_at, sight_at}
+use Rattle.guard_reader.specs.inside.NodeParts.{has_layers, pass_at, sight_at}
 use Rattle.guard_reader.specs.inside.Ranks.{AreBelow}
 use Rattle.guard_reader.proofs.Elements.{bind_some, bind_none}
 use Rattle.guard_reader.proofs.FrontSteps.{front_within}
@@ -30,8 +30,8 @@ use Rattle.guard_reader.proofs.walking.+walking.Goals as goal
 
 -- ---- contents
 
-pub contents-list-requires : goal.contents-list-requires
-contents-list-requires t c =
+pub contents-items-requires : goal.contents-items-requires
+contents-items-requires t c =
     let n = node_at c.args.table.now c.args.at c.index-node.result.now c.requires c.index-node.ensures in
     let inner = n.node.inner (ap has_inner c.in-List.is) in
     (omega (arith, inner), omega (arith, inner, c.requires))
@@ -55,7 +55,7 @@ contents-formula-requires t c = (omega arith, (c.requires, record { node = c.ind
 pub contents-returns-in-List : goal.contents-returns-in-List
 contents-returns-in-List t c =
     let n = node_at c.args.table.now c.args.at c.index-node.result.now c.requires c.index-node.ensures in
-    subst (λ (r : Option Slots). Answers c.list.result c.list.new.failed r) (sym (list_judged c.args.table.now c.args.at c.index-node.result.now n c.in-List.is c.args.inside.now c.args.failed.now)) c.list.ensures
+    subst (λ (r : Option Slots). Answers c.items.result c.items.new.failed r) (sym (list_judged c.args.table.now c.args.at c.index-node.result.now n c.in-List.is c.args.inside.now c.args.failed.now)) c.items.ensures
 
 pub contents-returns-in-Simple : goal.contents-returns-in-Simple
 contents-returns-in-Simple t c =
@@ -107,28 +107,68 @@ layered-returns-in-None t c = inside_none c.args.table.now c.args.at c.args.insi
 
 -- ---- SEQUENCE
 
-pub series::series-loop-k-init : goal.series::series-loop-k-init
-series::series-loop-k-init t c =
+pub series::series-fields-requires : goal.series::series-fields-requires
+series::series-fields-requires t c = (omega arith, c.requires)
+
+pub series::fields-loop-k-init : goal.series::fields-loop-k-init
+series::fields-loop-k-init t c =
     let count : c.args.first + c.args.count - c.args.first ≡ c.args.count = omega arith in
     ap (λ (n : ℕ). fields_judged (parts_between (spots_in c.args.table.now) c.args.first n) c.args.inside.now c.args.failed.now) count
 
-pub series::series-part-requires : goal.series::series-part-requires
-series::series-part-requires t c = (omega (arith, c.loop-k-test.true), omega (arith, c.loop-k-test.true, c.requires))
+pub series::fields-near_part-requires : goal.series::fields-near_part-requires
+series::fields-near_part-requires t c =
+    let room : c.loop-k.k < vec_len c.args.table.now.hots = omega (arith, c.loop-k-test.true, c.requires) in
+    let h = c.index.result.now in
+    let n = node_at c.args.table.now c.loop-k.k h room c.index.ensures in
+    (omega (arith, c.loop-k-test.true), (room, ap (λ (o : ℕ). eqb o 256) (identifier_is c.args.table.now c.loop-k.k h n) ∙ c.is_far.ensures c.if-is_far.false))
 
-pub series::series-returns-in_default : goal.series::series-returns-in_default
-series::series-returns-in_default t c =
+pub series::fields-far_fields-requires : goal.series::fields-far_fields-requires
+series::fields-far_fields-requires t c = (omega (arith, c.loop-k-test.true), omega (arith, c.loop-k-test.true, c.requires))
+
+pub series::fields-returns-then-is_far : goal.series::fields-returns-then-is_far
+series::fields-returns-then-is_far t c = subst (λ (r : Option Slots). Answers c.far_fields.result c.far_fields.new.failed r) c.loop-k.invariant c.far_fields.ensures
+
+pub series::fields-returns-in_default : goal.series::fields-returns-in_default
+series::fields-returns-in_default t c =
     sym c.loop-k.invariant
     ∙ fields_step c.args.table.now c.loop-k.k (c.args.first + c.args.count) c.loop-k.rest.now c.loop-k.failed c.loop-k-test.true c.requires
     ∙ bind_none _ _ (sym c.in_default.ensures)
 
-pub series::series-loop-k-preserved : goal.series::series-loop-k-preserved
-series::series-loop-k-preserved t c =
+pub series::fields-loop-k-preserved : goal.series::fields-loop-k-preserved
+series::fields-loop-k-preserved t c =
     let end = c.args.first + c.args.count in
     rw add-one (sym (fields_step c.args.table.now c.loop-k.k end c.loop-k.rest.now c.loop-k.failed c.loop-k-test.true c.requires
     ∙ bind_some _ _ _ (sym c.in-Some.ensures)) ∙ c.loop-k.invariant)
 
-pub series::series-returns : goal.series::series-returns
-series::series-returns t c =
+pub series::fields-returns : goal.series::fields-returns
+series::fields-returns t c =
+    let end = c.args.first + c.args.count in
+    let spots = spots_in c.args.table.now in
+    let over : end - c.loop-k.k ≡ 0 = omega (arith, c.loop-k-test.false) in
+    subst (λ (r : Option Slots). Answers c.is_empty.result c.loop-k.failed r) (sym (ap (λ (n : ℕ). fields_judged (parts_between spots c.loop-k.k n) c.loop-k.rest.now c.loop-k.failed) over) ∙ c.loop-k.invariant) (at_end c.is_empty.result c.loop-k.rest.now c.loop-k.failed c.is_empty.ensures)
+
+pub series::far_fields-loop-k-init : goal.series::far_fields-loop-k-init
+series::far_fields-loop-k-init t c =
+    let count : c.args.first + c.args.count - c.args.first ≡ c.args.count = omega arith in
+    ap (λ (n : ℕ). fields_judged (parts_between (spots_in c.args.table.now) c.args.first n) c.args.inside.now c.args.failed.now) count
+
+pub series::far_fields-part-requires : goal.series::far_fields-part-requires
+series::far_fields-part-requires t c = (omega (arith, c.loop-k-test.true), omega (arith, c.loop-k-test.true, c.requires))
+
+pub series::far_fields-returns-in_default : goal.series::far_fields-returns-in_default
+series::far_fields-returns-in_default t c =
+    sym c.loop-k.invariant
+    ∙ fields_step c.args.table.now c.loop-k.k (c.args.first + c.args.count) c.loop-k.rest.now c.loop-k.failed c.loop-k-test.true c.requires
+    ∙ bind_none _ _ (sym c.in_default.ensures)
+
+pub series::far_fields-loop-k-preserved : goal.series::far_fields-loop-k-preserved
+series::far_fields-loop-k-preserved t c =
+    let end = c.args.first + c.args.count in
+    rw add-one (sym (fields_step c.args.table.now c.loop-k.k end c.loop-k.rest.now c.loop-k.failed c.loop-k-test.true c.requires
+    ∙ bind_some _ _ _ (sym c.in-Some.ensures)) ∙ c.loop-k.invariant)
+
+pub series::far_fields-returns : goal.series::far_fields-returns
+series::far_fields-returns t c =
     let end = c.args.first + c.args.count in
     let spots = spots_in c.args.table.now in
     let over : end - c.loop-k.k ≡ 0 = omega (arith, c.loop-k-test.false) in
@@ -191,6 +231,17 @@ formula-returns t c =
     ∙ ap (λ (m : Slots). Some m) (sym (rw c.deref.ensures.value at c.raise.ensures))
 
 -- ---- SEQUENCE OF
+
+pub lists::items-returns-then-is_empty : goal.lists::items-returns-then-is_empty
+lists::items-returns-then-is_empty t c =
+    sym (c.after_plain-rest.ensures.same c.args.failed.now)
+    ∙ none_left (sight_at (spots_in c.args.table.now) c.args.first) _ c.after_plain-rest.result.now c.args.failed.now (sym c.is_empty.ensures ∙ c.if-is_empty.true)
+
+pub lists::items-list-requires : goal.lists::items-list-requires
+lists::items-list-requires t c = (omega arith, c.requires)
+
+pub lists::items-returns : goal.lists::items-returns
+lists::items-returns t c = subst (λ (r : Option Slots). Answers c.list.result c.list.new.failed r) (c.after_plain-rest.ensures.same c.args.failed.now) c.list.ensures
 
 pub lists::list-returns-in_default : goal.lists::list-returns-in_default
 lists::list-returns-in_default t c =
@@ -318,10 +369,58 @@ lists::set_of-returns t c = sym c.loop-before.invariant ∙ none_ordered (sight_
 
 -- ---- components
 
-pub series::part-returns-then-begins_plainly : goal.series::part-returns-then-begins_plainly
-series::part-returns-then-begins_plainly t c =
+pub series::part-far_part-requires : goal.series::part-far_part-requires
+series::part-far_part-requires t c = (omega arith, c.requires)
+
+pub series::part-near_part-requires : goal.series::part-near_part-requires
+series::part-near_part-requires t c =
     let h = c.index-node.result.now in
     let n = node_at c.args.table.now c.args.at h c.requires c.index-node.ensures in
+    (omega arith, (c.requires, ap (λ (o : ℕ). eqb o 256) (identifier_is c.args.table.now c.args.at h n) ∙ ne_eqb h.identifier 256 c.if-node-eq256.false))
+
+pub series::near_part-begun_part-requires : goal.series::near_part-begun_part-requires
+series::near_part-begun_part-requires t c =
+    let h = c.index-node.result.now in
+    let n = node_at c.args.table.now c.args.at h c.requires.room c.index-node.ensures in
+    let is = sym (identifier_is c.args.table.now c.args.at h n) in
+    let octet = subst (λ (o : ℕ). o < 256) is (c.begins.ensures.small c.if-begins.true) in
+    let begun = subst (λ (o : ℕ). begins o c.args.octets.now ≡ true) is (sym c.begins.ensures.same ∙ c.if-begins.true) in
+    (omega arith, (c.requires.room, near_cut (spot_at (spots_in c.args.table.now) c.args.at).plan c.args.octets.now octet begun))
+
+pub series::near_part-returns-then-begins-2 : goal.series::near_part-returns-then-begins-2
+series::near_part-returns-then-begins-2 t c =
+    let h = c.index-node.result.now in
+    let n = node_at c.args.table.now c.args.at h c.requires.room c.index-node.ensures in
+    let side = (spot_at (spots_in c.args.table.now) c.args.at).side in
+    let pass = pass_at (spots_in c.args.table.now) c.args.at in
+    let turned = near_front c.args.table.now c.args.at h n c.args.octets.now (ap (λ (o : ℕ). eqb o 256) (sym (identifier_is c.args.table.now c.args.at h n)) ∙ c.requires.near)
+    ∙ octet_turned h.identifier h.other c.args.octets.now (sym c.begins.ensures.same ∙ c.if-begins.false) (sym c.begins-2.ensures.same ∙ c.if-begins-2.true) in
+    sym (not_whole side pass c.args.octets.now c.args.failed.now _ (sym turned))
+
+pub series::near_part-returns-then-not-absent : goal.series::near_part-returns-then-not-absent
+series::near_part-returns-then-not-absent t c =
+    let h = c.index-node.result.now in
+    let n = node_at c.args.table.now c.args.at h c.requires.room c.index-node.ensures in
+    let side = (spot_at (spots_in c.args.table.now) c.args.at).side in
+    let pass = pass_at (spots_in c.args.table.now) c.args.at in
+    let away = near_front c.args.table.now c.args.at h n c.args.octets.now (ap (λ (o : ℕ). eqb o 256) (sym (identifier_is c.args.table.now c.args.at h n)) ∙ c.requires.near)
+    ∙ octet_elsewhere h.identifier h.other c.args.octets.now (sym c.begins.ensures.same ∙ c.if-begins.false) (sym c.begins-2.ensures.same ∙ c.if-begins-2.false) in
+    sym (absent_there side pass c.args.octets.now c.args.failed.now _ None (sym away) (no c.absent.result c.absent.new.failed _ c.absent.ensures c.if-not-absent.true))
+
+pub series::near_part-returns : goal.series::near_part-returns
+series::near_part-returns t c =
+    let h = c.index-node.result.now in
+    let n = node_at c.args.table.now c.args.at h c.requires.room c.index-node.ensures in
+    let side = (spot_at (spots_in c.args.table.now) c.args.at).side in
+    let pass = pass_at (spots_in c.args.table.now) c.args.at in
+    let away = near_front c.args.table.now c.args.at h n c.args.octets.now (ap (λ (o : ℕ). eqb o 256) (sym (identifier_is c.args.table.now c.args.at h n)) ∙ c.requires.near)
+    ∙ octet_elsewhere h.identifier h.other c.args.octets.now (sym c.begins.ensures.same ∙ c.if-begins.false) (sym c.begins-2.ensures.same ∙ c.if-begins-2.false) in
+    sym (absent_there side pass c.args.octets.now c.args.failed.now _ (Some c.absent.new.failed) (sym away) (yes c.absent.result c.absent.new.failed _ c.absent.ensures c.if-not-absent.false))
+
+pub series::begun_part-returns-then-begins_plainly : goal.series::begun_part-returns-then-begins_plainly
+series::begun_part-returns-then-begins_plainly t c =
+    let h = c.index-node.result.now in
+    let n = node_at c.args.table.now c.args.at h c.requires.room c.index-node.ensures in
     let o = c.begins_plainly.ensures c.if-begins_plainly.true in
     let one = get_or c.args.octets.now 2 0 ∷ [] in
     let plain = plain_at c.args.table.now c.args.at h n one c.args.failed.now o.small in
@@ -330,88 +429,71 @@ series::part-returns-then-begins_plainly t c =
     rw (take_rest c.args.octets.now 3) (sym (present_there side pass c.args.octets.now c.args.failed.now one (drop 3 c.args.octets.now) _ (Some c.args.failed.now)
     (sym (one_here c.args.table.now c.args.at h c.args.octets.now n o)) (sent side pass one c.args.failed.now c.args.failed.now plain.0 ∙ plain.1)))
 
-pub series::part-near_part-requires : goal.series::part-near_part-requires
-series::part-near_part-requires t c =
-    let h = c.index-node.result.now in
-    let n = node_at c.args.table.now c.args.at h c.requires c.index-node.ensures in
-    let is = sym (identifier_is c.args.table.now c.args.at h n) in
-    let near : IsNear c.args.table.now c.args.at c.args.octets.now = (subst (λ (o : ℕ). o < 256) is (c.begins.ensures.small c.if-begins.true), subst (λ (o : ℕ). begins o c.args.octets.now ≡ true) is (sym c.begins.ensures.same ∙ c.if-begins.true)) in
-    (omega arith, (c.requires, near))
+pub series::begun_part-cut_part-requires : goal.series::begun_part-cut_part-requires
+series::begun_part-cut_part-requires t c = (omega arith, c.requires.room)
 
-pub series::part-returns-then-begins-2 : goal.series::part-returns-then-begins-2
-series::part-returns-then-begins-2 t c =
-    let h = c.index-node.result.now in
-    let n = node_at c.args.table.now c.args.at h c.requires c.index-node.ensures in
+pub series::begun_part-returns : goal.series::begun_part-returns
+series::begun_part-returns t c =
     let side = (spot_at (spots_in c.args.table.now) c.args.at).side in
     let pass = pass_at (spots_in c.args.table.now) c.args.at in
-    let turned = near_front c.args.table.now c.args.at h n c.args.octets.now (ne_eqb h.identifier 256 c.if-node-eq256.false)
-    ∙ octet_turned h.identifier h.other c.args.octets.now (sym c.begins.ensures.same ∙ c.if-begins.false) (sym c.begins-2.ensures.same ∙ c.if-begins-2.true) in
-    sym (not_whole side pass c.args.octets.now c.args.failed.now _ (sym turned))
+    c.cut_part.ensures c.args.octets.now ∙ ap (λ (f : Front). part_at side f pass c.args.octets.now c.args.failed.now) (sym c.requires.begun)
 
-pub series::part-returns-then-not-absent : goal.series::part-returns-then-not-absent
-series::part-returns-then-not-absent t c =
-    let h = c.index-node.result.now in
-    let n = node_at c.args.table.now c.args.at h c.requires c.index-node.ensures in
+pub series::cut_part-returns-then-not-present : goal.series::cut_part-returns-then-not-present
+series::cut_part-returns-then-not-present t c = λ os.
     let side = (spot_at (spots_in c.args.table.now) c.args.at).side in
     let pass = pass_at (spots_in c.args.table.now) c.args.at in
-    let away = near_front c.args.table.now c.args.at h n c.args.octets.now (ne_eqb h.identifier 256 c.if-node-eq256.false)
-    ∙ octet_elsewhere h.identifier h.other c.args.octets.now (sym c.begins.ensures.same ∙ c.if-begins.false) (sym c.begins-2.ensures.same ∙ c.if-begins-2.false) in
-    sym (absent_there side pass c.args.octets.now c.args.failed.now _ None (sym away) (no c.absent.result c.absent.new.failed _ c.absent.ensures c.if-not-absent.true))
+    sym (present_there side pass os c.args.failed.now c.in-Some.inside.now c.in-Some.rest.now _ None (ap front_cut c.in-Some.ensures) (no c.present.result c.present.new.failed _ c.present.ensures c.if-not-present.true))
 
-pub series::part-returns : goal.series::part-returns
-series::part-returns t c =
-    let h = c.index-node.result.now in
-    let n = node_at c.args.table.now c.args.at h c.requires c.index-node.ensures in
+pub series::cut_part-returns-else-not-present : goal.series::cut_part-returns-else-not-present
+series::cut_part-returns-else-not-present t c = λ os.
     let side = (spot_at (spots_in c.args.table.now) c.args.at).side in
     let pass = pass_at (spots_in c.args.table.now) c.args.at in
-    let away = near_front c.args.table.now c.args.at h n c.args.octets.now (ne_eqb h.identifier 256 c.if-node-eq256.false)
-    ∙ octet_elsewhere h.identifier h.other c.args.octets.now (sym c.begins.ensures.same ∙ c.if-begins.false) (sym c.begins-2.ensures.same ∙ c.if-begins-2.false) in
-    sym (absent_there side pass c.args.octets.now c.args.failed.now _ (Some c.absent.new.failed) (sym away) (yes c.absent.result c.absent.new.failed _ c.absent.ensures c.if-not-absent.false))
+    sym (present_there side pass os c.args.failed.now c.in-Some.inside.now c.in-Some.rest.now _ (Some c.present.new.failed) (ap front_cut c.in-Some.ensures) (yes c.present.result c.present.new.failed _ c.present.ensures c.if-not-present.false))
 
-pub series::near_part-returns-then-not-present : goal.series::near_part-returns-then-not-present
-series::near_part-returns-then-not-present t c =
-    let spot = spot_at (spots_in c.args.table.now) c.args.at in
-    let cut = near_cut spot.plan c.args.octets.now c.requires.near.0 c.requires.near.1 in
-    sym (present_there spot.side (pass_at (spots_in c.args.table.now) c.args.at) c.args.octets.now c.args.failed.now c.in-Some.inside.now c.in-Some.rest.now _ None (ap front_cut c.in-Some.ensures ∙ sym cut) (no c.present.result c.present.new.failed _ c.present.ensures c.if-not-present.true))
+pub series::cut_part-returns-in-None : goal.series::cut_part-returns-in-None
+series::cut_part-returns-in-None t c = λ os.
+    let side = (spot_at (spots_in c.args.table.now) c.args.at).side in
+    let pass = pass_at (spots_in c.args.table.now) c.args.at in
+    sym (not_whole side pass os c.args.failed.now _ (ap front_cut c.in-None.ensures))
 
-pub series::near_part-returns-else-not-present : goal.series::near_part-returns-else-not-present
-series::near_part-returns-else-not-present t c =
-    let spot = spot_at (spots_in c.args.table.now) c.args.at in
-    let cut = near_cut spot.plan c.args.octets.now c.requires.near.0 c.requires.near.1 in
-    sym (present_there spot.side (pass_at (spots_in c.args.table.now) c.args.at) c.args.octets.now c.args.failed.now c.in-Some.inside.now c.in-Some.rest.now _ (Some c.present.new.failed) (ap front_cut c.in-Some.ensures ∙ sym cut) (yes c.present.result c.present.new.failed _ c.present.ensures c.if-not-present.false))
+pub series::far_part-cut_part-requires : goal.series::far_part-cut_part-requires
+series::far_part-cut_part-requires t c = (omega arith, c.requires)
 
-pub series::near_part-returns-in-None : goal.series::near_part-returns-in-None
-series::near_part-returns-in-None t c =
-    let spot = spot_at (spots_in c.args.table.now) c.args.at in
-    let cut = near_cut spot.plan c.args.octets.now c.requires.near.0 c.requires.near.1 in
-    sym (not_whole spot.side (pass_at (spots_in c.args.table.now) c.args.at) c.args.octets.now c.args.failed.now _ (ap front_cut c.in-None.ensures ∙ sym cut))
+pub series::far_part-seen_part-requires : goal.series::far_part-seen_part-requires
+series::far_part-seen_part-requires t c = (omega arith, c.requires)
 
-pub series::far_part-returns-then-not-present : goal.series::far_part-returns-then-not-present
-series::far_part-returns-then-not-present t c =
+pub series::far_part-returns-in-Some : goal.series::far_part-returns-in-Some
+series::far_part-returns-in-Some t c =
+    let side = (spot_at (spots_in c.args.table.now) c.args.at).side in
+    let pass = pass_at (spots_in c.args.table.now) c.args.at in
+    c.cut_part.ensures c.args.octets.now ∙ ap (λ (f : Front). part_at side f pass c.args.octets.now c.args.failed.now) (sym c.in-Some.ensures)
+
+pub series::seen_part-returns-then-not-present : goal.series::seen_part-returns-then-not-present
+series::seen_part-returns-then-not-present t c =
     let side = (spot_at (spots_in c.args.table.now) c.args.at).side in
     let pass = pass_at (spots_in c.args.table.now) c.args.at in
     sym (present_there side pass c.args.octets.now c.args.failed.now c.in-Here.inside.now c.in-Here.rest.now _ None c.in-Here.ensures (no c.present.result c.present.new.failed _ c.present.ensures c.if-not-present.true))
 
-pub series::far_part-returns-else-not-present : goal.series::far_part-returns-else-not-present
-series::far_part-returns-else-not-present t c =
+pub series::seen_part-returns-else-not-present : goal.series::seen_part-returns-else-not-present
+series::seen_part-returns-else-not-present t c =
     let side = (spot_at (spots_in c.args.table.now) c.args.at).side in
     let pass = pass_at (spots_in c.args.table.now) c.args.at in
     sym (present_there side pass c.args.octets.now c.args.failed.now c.in-Here.inside.now c.in-Here.rest.now _ (Some c.present.new.failed) c.in-Here.ensures (yes c.present.result c.present.new.failed _ c.present.ensures c.if-not-present.false))
 
-pub series::far_part-returns-then-not-absent : goal.series::far_part-returns-then-not-absent
-series::far_part-returns-then-not-absent t c =
+pub series::seen_part-returns-then-not-absent : goal.series::seen_part-returns-then-not-absent
+series::seen_part-returns-then-not-absent t c =
     let side = (spot_at (spots_in c.args.table.now) c.args.at).side in
     let pass = pass_at (spots_in c.args.table.now) c.args.at in
     sym (absent_there side pass c.args.octets.now c.args.failed.now _ None c.in-Elsewhere.ensures (no c.absent.result c.absent.new.failed _ c.absent.ensures c.if-not-absent.true))
 
-pub series::far_part-returns-else-not-absent : goal.series::far_part-returns-else-not-absent
-series::far_part-returns-else-not-absent t c =
+pub series::seen_part-returns-else-not-absent : goal.series::seen_part-returns-else-not-absent
+series::seen_part-returns-else-not-absent t c =
     let side = (spot_at (spots_in c.args.table.now) c.args.at).side in
     let pass = pass_at (spots_in c.args.table.now) c.args.at in
     sym (absent_there side pass c.args.octets.now c.args.failed.now _ (Some c.absent.new.failed) c.in-Elsewhere.ensures (yes c.absent.result c.absent.new.failed _ c.absent.ensures c.if-not-absent.false))
 
-pub series::far_part-returns-in-Broken : goal.series::far_part-returns-in-Broken
-series::far_part-returns-in-Broken t c =
+pub series::seen_part-returns-in-Broken : goal.series::seen_part-returns-in-Broken
+series::seen_part-returns-in-Broken t c =
     let side = (spot_at (spots_in c.args.table.now) c.args.at).side in
     let pass = pass_at (spots_in c.args.table.now) c.args.at in
     sym (not_whole side pass c.args.octets.now c.args.failed.now _ c.in-Broken.ensures)

@@ -6,7 +6,7 @@ ghost use Rattle.guard_tables.specs.Slots.{none};
 ghost use Rattle.guard_tables.specs.TableNodes.{body_at};
 ghost use Rattle.guard_reader.specs.Judging.{contents_judged, message_judged};
 ghost use Rattle.guard_reader.specs.inside.Answers.{Answers};
-ghost use Rattle.guard_reader.specs.inside.NodeParts.{IsAsked, IsFormula, pass_at};
+ghost use Rattle.guard_reader.specs.inside.NodeParts.{IsAsked, IsAt, IsFormula, pass_at};
 
 mod choices;
 mod lists;
@@ -19,7 +19,7 @@ use crate::layers::has_layers;
 use crate::simple::simple;
 use crate::whole::{mark_whole, size_of};
 use choices::choice;
-use guard_tables::{Kind, Nodes, Slots};
+use guard_tables::{Hot, Kind, Nodes, Slots};
 use lists::{items, set_of};
 use series::{fields, series};
 use sets::set;
@@ -79,10 +79,21 @@ fn within_tag(table: &Nodes, at: usize, inside: &[u8], failed: &mut Slots) -> bo
     requires { at < vec_len table.now.hots }
     ensures { Answers result failed.new (pass_at (spots_in table.now) at inside.now failed.old) }
 {
-    if has_layers(table.hots[at].kind) {
+    within_node(table, at, &table.hots[at], inside, failed)
+}
+
+/// The same of a node that was looked up.
+#[cycle(walking)]
+#[inline(always)]
+fn within_node(table: &Nodes, at: usize, node: &Hot, inside: &[u8], failed: &mut Slots) -> bool
+    requires room { at < vec_len table.now.hots }
+    requires node { IsAt table.now at node.now }
+    ensures { Answers result failed.new (pass_at (spots_in table.now) at inside.now failed.old) }
+{
+    if has_layers(node.kind) {
         return layered(table, at, inside, failed);
     }
-    contents(table, at, inside, failed)
+    node_contents(table, at, node, inside, failed)
 }
 
 /// The same of a node in front of another one.
@@ -106,7 +117,17 @@ fn contents(table: &Nodes, at: usize, inside: &[u8], failed: &mut Slots) -> bool
     requires { at < vec_len table.now.hots }
     ensures { Answers result failed.new (contents_judged (body_at (spots_in table.now) at) inside.now failed.old) }
 {
-    let node = &table.hots[at];
+    node_contents(table, at, &table.hots[at], inside, failed)
+}
+
+/// The same of a node that was looked up.
+#[cycle(walking)]
+#[inline(always)]
+fn node_contents(table: &Nodes, at: usize, node: &Hot, inside: &[u8], failed: &mut Slots) -> bool
+    requires room { at < vec_len table.now.hots }
+    requires node { IsAt table.now at node.now }
+    ensures { Answers result failed.new (contents_judged (body_at (spots_in table.now) at) inside.now failed.old) }
+{
     match node.kind {
         Kind::List => items(table, node.first as usize, inside, failed),
         Kind::Series => series(

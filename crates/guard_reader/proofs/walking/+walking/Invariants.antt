@@ -34,50 +34,59 @@ decreases-asked l = 16 * l.at
 abbrev pub decreases-formula : goal.decreases-formula
 decreases-formula l = 16 * l.at
 
+abbrev pub decreases-node_contents : goal.decreases-node_contents
+decreases-node_contents l = 16 * l.at + 5
+
 abbrev pub decreases-contents : goal.decreases-contents
-decreases-contents l = 16 * l.at + 5
+decreases-contents l = 16 * l.at + 6
 
 abbrev pub decreases-inner_contents : goal.decreases-inner_contents
-decreases-inner_contents l = 16 * l.at + 6
+decreases-inner_contents l = 16 * l.at + 7
 
 abbrev pub decreases-layered : goal.decreases-layered
-decreases-layered l = 16 * l.at + 6
+decreases-layered l = 16 * l.at + 7
+
+abbrev pub decreases-within_node : goal.decreases-within_node
+decreases-within_node l = 16 * l.at + 8
 
 abbrev pub decreases-within_tag : goal.decreases-within_tag
-decreases-within_tag l = 16 * l.at + 7
+decreases-within_tag l = 16 * l.at + 9
 
 abbrev pub decreases-lists::list : goal.decreases-lists::list
-decreases-lists::list l = 16 * l.first + 8
+decreases-lists::list l = 16 * l.first + 10
 
 abbrev pub decreases-lists::items : goal.decreases-lists::items
-decreases-lists::items l = 16 * l.first + 9
+decreases-lists::items l = 16 * l.first + 11
 
 abbrev pub decreases-lists::set_of : goal.decreases-lists::set_of
-decreases-lists::set_of l = 16 * l.first + 8
+decreases-lists::set_of l = 16 * l.first + 10
 
 abbrev pub decreases-choices::chosen : goal.decreases-choices::chosen
-decreases-choices::chosen l = 16 * l.at + 8
+decreases-choices::chosen l = 16 * l.at + 10
+
+abbrev pub decreases-series::present_node : goal.decreases-series::present_node
+decreases-series::present_node l = 16 * l.at + 9
 
 abbrev pub decreases-series::present : goal.decreases-series::present
-decreases-series::present l = 16 * l.at + 8
+decreases-series::present l = 16 * l.at + 10
 
 abbrev pub decreases-series::cut_part : goal.decreases-series::cut_part
-decreases-series::cut_part l = 16 * l.at + 9
+decreases-series::cut_part l = 16 * l.at + 10
 
 abbrev pub decreases-series::begun_part : goal.decreases-series::begun_part
-decreases-series::begun_part l = 16 * l.at + 10
+decreases-series::begun_part l = 16 * l.at + 11
 
 abbrev pub decreases-series::near_part : goal.decreases-series::near_part
-decreases-series::near_part l = 16 * l.at + 11
+decreases-series::near_part l = 16 * l.at + 12
 
 abbrev pub decreases-series::seen_part : goal.decreases-series::seen_part
-decreases-series::seen_part l = 16 * l.at + 9
+decreases-series::seen_part l = 16 * l.at + 11
 
 abbrev pub decreases-series::far_part : goal.decreases-series::far_part
-decreases-series::far_part l = 16 * l.at + 10
+decreases-series::far_part l = 16 * l.at + 12
 
 abbrev pub decreases-series::part : goal.decreases-series::part
-decreases-series::part l = 16 * l.at + 12
+decreases-series::part l = 16 * l.at + 13
 
 -- ---- what is left is judged as the whole is
 

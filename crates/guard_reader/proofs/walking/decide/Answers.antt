@@ -36,8 +36,8 @@ returns-in-Some c =
     let begun = subst (λ (o : ℕ). begins o os ≡ true) is (sym c.begins.ensures.same ∙ c.if-begins.true) in
     let cut = near_cut (spot_at (spots_in t) k).plan os octet begun in
     let judged =
-      ap (λ (m : Slots). fields_judged (parts_between (spots_in t) h.first h.count) inside m) c.requires
-          ∙ sym (inside_bare t k h n (ap has_layers c.in-Series.is) inside none ∙ series_judged t k h n c.in-Series.is inside none) in
+    ap (λ (m : Slots). fields_judged (parts_between (spots_in t) h.first h.count) inside m) c.requires
+    ∙ sym (inside_bare t k h n (ap has_layers c.in-Series.is) inside none ∙ series_judged t k h n c.in-Series.is inside none) in
     subst (λ (k : ℕ). Answers c.fields.result c.fields.new.failed (message_judged (spot_at (spots_in t) k).plan os)) top
     (message_found t k os inside c.fields.result c.fields.new.failed (c.in-Some.ensures ∙ ap alone (c.cut_off.ensures ∙ sym cut))
     (subst (λ (r : Option Slots). Answers c.fields.result c.fields.new.failed r) judged c.fields.ensures))

@@ -21,7 +21,8 @@ use guard_tables::{Kind, Nodes};
 /// What is there.
 #[derive(Clone, Copy)]
 pub enum Front<'a> {
-    /// An element of the node: what is inside its outermost tag, of a CHOICE without a tag all of it; and what follows it.
+    /// An element of the node: what is inside its outermost tag, of a CHOICE without a tag all of it; and what follows
+    /// it.
     Here(&'a [u8], &'a [u8]),
     /// The end, or an element with another tag.
     Elsewhere,

@@ -148,8 +148,8 @@ fn node_contents(table: &Nodes, at: usize, node: &Hot, inside: &[u8], failed: &m
     }
 }
 
-/// The same of a node that has another one in front. Called from here alone, so that the call of `contents` above can be
-/// compiled into each caller.
+/// The same of a node that has another one in front. Called from here alone, so that the call of `contents` above can
+/// be compiled into each caller.
 #[cycle(walking)]
 #[cold]
 #[inline(never)]

@@ -7,11 +7,11 @@ ghost use Rattle.guard_reader.specs.inside.NodeParts.{pass_at, sight_at};
 
 use crate::element_fronts::{element, front_at};
 use crate::order::{descends, front_of};
-use crate::plain::after_plain;
+use crate::plain::{after_one_plain, after_plain};
 use crate::walking::within_tag;
 use guard_tables::{Kind, Nodes, Slots};
 
-/// Elements of a node, all of the octets; mostly all of them are plain numbers.
+/// Elements of a node, all of the octets: one plain number needs no call.
 #[cycle(walking)]
 #[inline(always)]
 pub fn items(table: &Nodes, first: usize, octets: &[u8], failed: &mut Slots) -> bool
@@ -19,7 +19,7 @@ pub fn items(table: &Nodes, first: usize, octets: &[u8], failed: &mut Slots) -> 
     ensures { Answers result failed.new
         (elements (sight_at (spots_in table.now) first) (pass_at (spots_in table.now) first) octets.now failed.old) }
 {
-    let rest = after_plain(table, first, octets);
+    let rest = after_one_plain(table, first, octets);
     if rest.is_empty() {
         return true;
     }

@@ -261,14 +261,14 @@ formula-returns t c =
 
 pub lists::items-returns-then-is_empty : goal.lists::items-returns-then-is_empty
 lists::items-returns-then-is_empty t c =
-    sym (c.after_plain-rest.ensures.same c.args.failed.now)
-    ∙ none_left (sight_at (spots_in c.args.table.now) c.args.first) _ c.after_plain-rest.result.now c.args.failed.now (sym c.is_empty.ensures ∙ c.if-is_empty.true)
+    sym (c.after_one_plain-rest.ensures c.args.failed.now)
+    ∙ none_left (sight_at (spots_in c.args.table.now) c.args.first) _ c.after_one_plain-rest.result.now c.args.failed.now (sym c.is_empty.ensures ∙ c.if-is_empty.true)
 
 pub lists::items-list-requires : goal.lists::items-list-requires
 lists::items-list-requires t c = (omega arith, c.requires)
 
 pub lists::items-returns : goal.lists::items-returns
-lists::items-returns t c = subst (λ (r : Option Slots). Answers c.list.result c.list.new.failed r) (c.after_plain-rest.ensures.same c.args.failed.now) c.list.ensures
+lists::items-returns t c = subst (λ (r : Option Slots). Answers c.list.result c.list.new.failed r) (c.after_one_plain-rest.ensures c.args.failed.now) c.list.ensures
 
 pub lists::list-returns-in_default : goal.lists::list-returns-in_default
 lists::list-returns-in_default t c =

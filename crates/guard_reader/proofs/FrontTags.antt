@@ -1,7 +1,7 @@
 -- What is at the front of octets tells of the tag there.
-use Rattle.std.proofs.Common.{◌≡◌, ℕ, ◌+◌, ◌<◌, Bool, true, false, eqb, ltb, cond, List, [], ◌∷◌, length, take, drop, Option, Some, None, Result, Ok, Err, refl, sym, ap, subst, ◌∙◌, arith, inl, inr}
-use Rattle.std.specs.Prelude.{◌⊎◌, not}
-use Rattle.std.proofs.lemmas.Bool.{ne_eqb, ltb-true, eqb-true}
+use Rattle.std.proofs.Common.{◌≡◌, ℕ, ◌+◌, ◌<◌, ◌≤◌, Bool, true, false, eqb, ltb, cond, List, [], ◌∷◌, length, take, drop, Option, Some, None, Result, Ok, Err, refl, sym, ap, subst, ◌∙◌, arith, inl, inr}
+use Rattle.std.specs.Prelude.{◌⊎◌, not, IfSome}
+use Rattle.std.proofs.lemmas.Bool.{ne_eqb, le-ltb, ltb-true, eqb-true}
 use Rattle.std.proofs.lemmas.Option.{same_Some}
 use Rattle.guard_model.specs.declared.tag.Tag.{Tag}
 use Rattle.guard_model.specs.Tags.{same_tag}
@@ -96,3 +96,19 @@ pub front_speaks : (p : Plan) (t : Tag) (os : List ℕ) → (outermost p).0 ≡ 
 unfolding front
 front_speaks (plan [] c b) t os e = absurd cc
 front_speaks (plan (u ∷ ts) c b) t os e = subst (λ (t : Tag). Speaks t os (tagged_front (u ∷ ts) c os (body_front b os))) (same_Some u t e) (by_number u ts c os (body_front b os) (ltb u.number 31) refl)
+
+-- ---- tags with numbers from 31 on
+
+pub high_sight : (p : Plan) (os : List ℕ) (tag : Tag) (form : Bool) → outermost p ≡ (Some tag, form) → 31 ≤ tag.number → front p os ≡ head_front tag form os
+unfolding front
+high_sight (plan [] f b) os tag form e high = let none : ◌≡◌ {A = Option Tag} None (Some tag) = ap (λ (x : Option Tag × Bool). x.0) e in absurd cc
+high_sight (plan (u ∷ ts) f b) os tag form e high =
+    let is : u ≡ tag = same_Some u tag (ap (λ (x : Option Tag × Bool). x.0) e) in
+    let form_is : outer_form ts f ≡ form = ap (λ (x : Option Tag × Bool). x.1) e in
+    high_front u ts f os (body_front b os) (le-ltb u.number 31 (omega (arith, high, ap (λ (t : Tag). t.number) is)))
+    ∙ ap (λ (t : Tag). head_front t (outer_form ts f) os) is ∙ ap (λ (c : Bool). head_front tag c os) form_is
+
+pub high_after : {A : Type 0} (r : Option A) (p : Plan) (os : List ℕ) (tag : Tag) (form : Bool) (cut : A → Front) → outermost p ≡ (Some tag, form)
+    → IfSome r (λ x. 31 ≤ tag.number) → IfSome r (λ x. cut x ≡ head_front tag form os) → IfSome r (λ x. front p os ≡ cut x)
+high_after None p os tag form cut e high same = tt
+high_after (Some x) p os tag form cut e high same = high_sight p os tag form e high ∙ sym same

@@ -1,5 +1,5 @@
 -- Nodes in front of others, and tags.
-use Rattle.std.proofs.Common.{◌≡◌, ℕ, suc, ◌-◌, ◌<◌, ◌≤◌, Bool, true, false, eqb, List, [], ◌∷◌, vec_len, get_or, Option, Some, None, refl, sym, ap, ◌∙◌, arith}
+use Rattle.std.proofs.Common.{◌≡◌, ℕ, zero, suc, ◌-◌, ◌<◌, ◌≤◌, Bool, true, false, eqb, List, [], ◌∷◌, length, vec_len, get_or, Option, Some, None, refl, sym, ap, ◌∙◌, arith}
 use Rattle.std.specs.Prelude.{not, ◌&&◌}
 use Rattle.std.specs.Option.{is_some}
 use Rattle.std.proofs.lemmas.Bool.{cond-true, cond-false}
@@ -19,7 +19,7 @@ use Rattle.guard_reader.specs.Fronts.{Front, broken, elsewhere, after_one, all_i
 use Rattle.guard_reader.specs.Judging.{identifier_in, other_in}
 use Rattle.guard_reader.specs.Octets.{◌>>=◌, split}
 use Rattle.guard_reader.specs.inside.FrontViews.{outermost, outermost_of, wrapped}
-use Rattle.guard_reader.specs.inside.NodeParts.{IsChoice, has_layers, is_choice, is_simple, tag_round}
+use Rattle.guard_reader.specs.inside.NodeParts.{IsAt, IsChoice, IsInFront, has_layers, is_choice, is_simple, tag_round}
 
 abbrev with_tag : Option Tag → List Tag → List Tag
 with_tag None ts = ts
@@ -106,6 +106,9 @@ bare_body kind.SetOf h c spots os e other = refl
 bare_body kind.Wrapper h c spots os e other = absurd cc
 bare_body kind.Asked h c spots os e other = absurd cc
 bare_body kind.Formula h c spots os e other = absurd cc
+
+pub is_in_front : (t : Nodes) (k : ℕ) (h : Hot) → IsInFront t k → k < vec_len t.hots → h ≡ get_or t.hots.items k h → has_layers h.kind ≡ true
+is_in_front t k h f lt is = let same : f.node ≡ h = same_Some f.node h (sym f.there ∙ there_at t k h lt is) in rw (← same) f.kind
 
 pub is_kind_choice : (k : Kind) → is_choice k ≡ true → k ≡ kind.Choice
 is_kind_choice (kind.Simple k) e = absurd cc
@@ -213,6 +216,16 @@ innermost_once t k h n os e one = innermost_round t k h n os e ∙ one_more (tag
 pub innermost_twice : (t : Nodes) (k : ℕ) (h : Hot) (n : NodeAt t k h) (os : List ℕ) → has_layers h.kind ≡ true → (is_some (tag_round h.kind n.cold.tag) && is_some (outermost (spot_at (spots_in t) h.first).plan).0) ≡ true
     → innermost_in (spot_at (spots_in t) k).plan os ≡ (alone (front (spot_at (spots_in t) h.first).plan os) >>= λ inside. innermost_in (spot_at (spots_in t) h.first).plan inside)
 innermost_twice t k h n os e two = innermost_round t k h n os e ∙ two_more (tag_round h.kind n.cold.tag) (spot_at (spots_in t) h.first).plan os two
+
+-- ---- nodes that were looked up
+
+any_default : {A : Type 0} (xs : List A) (k : ℕ) (d e : A) → k < length xs → get_or xs k d ≡ get_or xs k e
+any_default [] k d e lt = absurd (omega (arith, lt))
+any_default (x ∷ xs) zero d e lt = refl
+any_default (x ∷ xs) (suc k) d e lt = any_default xs k d e (omega (arith, lt))
+
+pub is_at : (t : Nodes) (hots : List Hot) (k : ℕ) (d : Hot) → hots ≡ t.hots.items → k < vec_len t.hots → IsAt t k (get_or hots k d)
+is_at t hots k d e lt = rw e (any_default t.hots.items k d (get_or t.hots.items k d) (omega (arith, lt, t.hots.ok.0)))
 
 -- ---- what is at the front, by the node
 

@@ -4,13 +4,13 @@ use Rattle.std.specs.Prelude.{option_map}
 use Rattle.guard_model.specs.AbstractType as type
 use Rattle.guard_model.specs.AbstractType.{AbstractType, AbstractKind, Components, type_of, no_components, component}
 use Rattle.guard_model.specs.AbstractValue.{AbstractValue, Fields, Items}
+use Rattle.guard_model.specs.Slots.{all_absent}
 use Rattle.guard_tagcheck.specs.FirstTags.{begins_with, alternative_begins_with}
 use Rattle.guard_der.specs.Breach.{AbstractBreach}
 use Rattle.guard_der.specs.Der.{contents_octets}
 use Rattle.guard_der.specs.Head.{Head}
 use Rattle.guard_der.specs.Reading as read
 use Rattle.guard_der.specs.Reading.{fields_at, items_at, set_at, part_at, contents_at, element_at, end_at, fields_read, items_read}
-use Rattle.guard_model.specs.Slots.{all_absent}
 use Rattle.guard_tables.specs.declared.slots.Slots.{Slots}
 use Rattle.guard_tables.specs.Slots.{none}
 use Rattle.guard_tables.specs.Formulas.{Raise}

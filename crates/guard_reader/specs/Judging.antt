@@ -50,8 +50,8 @@ present_part side pass os m = watched side os m >>= λ k. pass os k
 abbrev pub with_rest : List ℕ → Option Slots → Option (Slots × List ℕ)
 with_rest rest m = m >>= λ m. Some (m, rest)
 
--- A component where it may come next: what has failed, and what follows it. An element of its tag in the other form isn't
--- it, and no other component.
+-- A component where it may come next: what has failed, and what follows it. An element of its tag in the other form
+-- isn't it, and no other component.
 unfoldable pub part_at : Side → Front → Pass → List ℕ → Slots → Option (Slots × List ℕ)
 part_at side (here inside rest) pass os m = with_rest rest (present_part side pass inside m)
 part_at side elsewhere pass os m = with_rest os (absent_part side.absent m)
@@ -121,8 +121,8 @@ elements sight pass os m = elements_at (length os) sight pass os m
 
 -- ---- elements of a SET OF
 
--- At most so many elements, of which none descends to the one after it (X.690 11.6). These octets are those of the element
--- before.
+-- At most so many elements, of which none descends to the one after it (X.690 11.6). These octets are those of the
+-- element before.
 unfoldable pub ordered_at : ℕ → Sight → Pass → List ℕ → Pass
 ordered_at tries sight pass before [] m = Some m
 ordered_at zero sight pass before (o ∷ os) m = None

@@ -23,8 +23,8 @@ ContentsLaw =
     → (at start : ℕ) (os : List ℕ) (m : Slots) → AllByRecursion (λ o. o < 256) os → length os < 2 ^ 32
     → contents_judged b os m ≡ option_map (λ v. marked (kind_of t) b v m) (ok (contents_at (kind_of t) at start os))
 
--- Of a whole message of a sound type that the plan stands for: there is an answer exactly where some value of the type has
--- the octets as its encoding, and then it is what fails at that value.
+-- Of a whole message of a sound type that the plan stands for: there is an answer exactly where some value of the type
+-- has the octets as its encoding, and then it is what fails at that value.
 pub record MessageLaw (p : Plan) (t : AbstractType) (os : List ℕ) : Type 0 where
   pub found : (m : Slots) → message_judged p os ≡ Some m
       → (v : AbstractValue) × IsTrue (fits t v) × (der t v ≡ Some os) × (m ≡ type_marked t p v none)

@@ -1,5 +1,5 @@
 //! What is at the front of octets, seen from a node.
-ghost use Rattle.std.specs.Prelude.{◌≡◌, ◌<◌, true, vec_len, option_map};
+ghost use Rattle.std.specs.Prelude.{◌≡◌, ◌<◌, ◌≤◌, true, vec_len, option_map, IfSome};
 ghost use Rattle.guard_model.specs.Tags.{same_tag};
 ghost use Rattle.guard_der.specs.Reading.{same_form};
 ghost use Rattle.guard_tables.specs.NodesView.{spots_in};
@@ -21,7 +21,8 @@ use guard_tables::{Kind, Nodes};
 /// What is there.
 #[derive(Clone, Copy)]
 pub enum Front<'a> {
-    /// An element of the node: what is inside its outermost tag, of a CHOICE without a tag all of it; and what follows it.
+    /// An element of the node: what is inside its outermost tag, of a CHOICE without a tag all of it; and what follows
+    /// it.
     Here(&'a [u8], &'a [u8]),
     /// The end, or an element with another tag.
     Elsewhere,
@@ -63,7 +64,7 @@ pub fn front_at<'a>(table: &Nodes, at: usize, octets: &'a [u8]) -> Front<'a>
 
 /// The element after one identifier octet that was read.
 #[inline(always)]
-fn cut_off(octets: &[u8]) -> Front<'_>
+pub fn cut_off(octets: &[u8]) -> Front<'_>
     ensures { front_view result ≡ front_cut (split (after_one octets.now)) }
 {
     match split_after(octets) {
@@ -89,15 +90,39 @@ fn far_front<'a>(table: &Nodes, at: usize, octets: &'a [u8]) -> Front<'a>
 }
 
 /// An element with this tag, of any number, in this form.
-#[tactic(auto, using(crate::proofs::HighTags::spelled_there))]
 fn head_front<'a>(tag: &Tag, constructed: bool, octets: &'a [u8]) -> Front<'a>
     ensures { front_view result ≡ head_front tag.now constructed octets.now }
 {
+    match after_spelled(tag, constructed, octets) {
+        Some(tail) => cut_off(tail),
+        None => headed_front(tag, constructed, octets),
+    }
+}
+
+/// What is left after the first of two identifier octets that spell a tag in this form.
+#[inline(always)]
+#[tactic(auto, using(crate::proofs::HighTags::spelled_there))]
+fn after_spelled<'a>(tag: &Tag, constructed: bool, octets: &'a [u8]) -> Option<&'a [u8]>
+    ensures high { IfSome result (λ r. 31 ≤ tag.now.number) }
+    ensures same { IfSome result (λ r. front_cut (split (after_one r.now)) ≡ head_front tag.now constructed octets.now) }
+{
     match octets {
-        [first, number, ..] if is_spelled(tag, constructed, *first, *number) => {
-            cut_off(&octets[1..])
-        }
-        _ => headed_front(tag, constructed, octets),
+        [first, number, ..] if is_spelled(tag, constructed, *first, *number) => Some(&octets[1..]),
+        _ => None,
+    }
+}
+
+/// The same of a node's outermost tag.
+#[inline(always)]
+pub fn after_first<'a>(table: &Nodes, at: usize, octets: &'a [u8]) -> Option<&'a [u8]>
+    requires { at < vec_len table.now.hots }
+    ensures { IfSome result (λ r. front (spot_at (spots_in table.now) at).plan octets.now
+        ≡ front_cut (split (after_one r.now))) }
+{
+    let outside = outermost(table, at);
+    match outside.tag {
+        Some(tag) => after_spelled(&tag, outside.constructed, octets),
+        None => None,
     }
 }
 

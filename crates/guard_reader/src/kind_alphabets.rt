@@ -146,8 +146,8 @@ pub fn has_ranges(kind: CharKind, ranges: &[(u32, u32)]) -> bool
     true
 }
 
-/// Whether all characters from the low end to the high one are surely of the kind. Of PrintableString ranges of digits or of
-/// letters are known.
+/// Whether all characters from the low end to the high one are surely of the kind. Of PrintableString ranges of digits
+/// or of letters are known.
 fn has_range(kind: CharKind, low: u32, high: u32) -> bool
     ensures { (c : ℕ) → result ≡ true → is_in_range low high c ≡ true → is_character kind c ≡ true }
 {

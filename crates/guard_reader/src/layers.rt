@@ -4,7 +4,7 @@ ghost use Rattle.std.specs.Option.{is_some};
 ghost use Rattle.guard_tables.specs.NodesView.{spots_in};
 ghost use Rattle.guard_tables.specs.TableNodes.{spot_at};
 ghost use Rattle.guard_reader.specs.inside.FrontViews.{outermost, tag_and_form, wrapped};
-ghost use Rattle.guard_reader.specs.inside.NodeParts.{has_layers, is_choice, is_simple, tag_round};
+ghost use Rattle.guard_reader.specs.inside.NodeParts.{IsInFront, has_layers, is_choice, is_simple, tag_round};
 
 use guard_model::Tag;
 use guard_tables::{Kind, Nodes};
@@ -63,20 +63,34 @@ pub struct TagAndForm {
     pub constructed: bool,
 }
 
+#[cycle(outermost)]
+#[inline(always)]
 pub fn outermost(table: &Nodes, at: usize) -> TagAndForm
     requires { at < vec_len table.now.hots }
     ensures { tag_and_form result ≡ outermost (spot_at (spots_in table.now) at).plan }
 {
     let node = &table.hots[at];
-    let tag = table.colds[at].tag;
-    if !has_layers(node.kind) {
-        return TagAndForm {
-            tag,
-            constructed: !is_simple(node.kind),
-        };
+    if has_layers(node.kind) {
+        return outermost_round(table, at);
     }
+    TagAndForm {
+        tag: table.colds[at].tag,
+        constructed: !is_simple(node.kind),
+    }
+}
+
+/// The same of a node in front of another one.
+#[cycle(outermost)]
+#[cold]
+#[inline(never)]
+fn outermost_round(table: &Nodes, at: usize) -> TagAndForm
+    requires room { at < vec_len table.now.hots }
+    requires front { IsInFront table.now at }
+    ensures { tag_and_form result ≡ outermost (spot_at (spots_in table.now) at).plan }
+{
+    let node = &table.hots[at];
     let inner = outermost(table, node.first as usize);
-    wrapped(tag_round(node.kind, tag), inner)
+    wrapped(tag_round(node.kind, table.colds[at].tag), inner)
 }
 
 /// A tag round what another node has; a wrapper is constructed (X.690 8.14.2).

@@ -4,18 +4,22 @@
 //!
 //! | question | code | definition |
 //! |---|---|---|
-//! | What fails at the value that octets encode? | `walking.rt` (`failures`), by kind `walking/`, plain numbers `plain.rt` | `specs/Judging.antt` |
-//! | Is an element of a node at the front of octets? | `element_fronts.rt`, tags `layers.rt`, from 31 on `high_tags.rt`, lengths `header.rt` | `specs/Fronts.antt` |
-//! | Do the components of a SET ascend, so that it is read as a SEQUENCE is? | `ascending.rt` | `specs/inside/Ascending.antt` |
-//! | If not, which component of a SET is next, and which were read? | `set_members.rt` | `specs/Judging.antt`, `specs/inside/Members.antt`, `specs/inside/Ranks.antt` |
-//! | Which contents octets are lawful for a simple kind, and what fails at their value? | `simple.rt`, `contents.rt`, `numbers.rt`, `object_id.rt` | `specs/Judging.antt`, and of `guard_der` `specs/Simple.antt` |
+//! | What fails at an encoded value? | `walking.rt` (`failures`), by kind `walking/` | `specs/Judging.antt` |
+//! | Which numbers fail nothing, so that they are passed over? | `plain.rt` | `specs/inside/Answers.antt` |
+//! | Is an element of a node at the front of octets? | `element_fronts.rt`, lengths `header.rt` | `specs/Fronts.antt` |
+//! | Which tag is the outermost, is it spelled there? | `layers.rt`, `high_tags.rt` | `specs/inside/FrontViews.antt` |
+//! | Do the components of a SET ascend, as those of a SEQUENCE do? | `ascending.rt` | `specs/inside/Ascending.antt` |
+//! | If not, which is next? | `set_members.rt` | `specs/inside/Members.antt`, `specs/inside/Ranks.antt` |
+//! | Which contents octets are lawful? | `contents.rt`, `object_id.rt` | of `guard_der` `specs/Simple.antt` |
+//! | What fails at their value? | `simple.rt` | `specs/Judging.antt` |
+//! | Which number do they spell? | `numbers.rt` | of `guard_der` `specs/Octets.antt` |
 //! | Do the elements of a SET OF ascend? | `order.rt` | of `guard_der` `specs/Fits.antt` |
 //! | What is asked of a value that has parts as a whole? | `whole.rt` | `specs/Judging.antt` |
 //! | Is it a default, and what do formulas say? | `conditions.rt` | of `guard_tables` `specs/Formulas.antt` |
 //! | Which types of a table have the value? | `table_walk.rt` (`walk`), `marks.rt` | `specs/Marking.antt` |
 //! | Does each octet lie in one of some ranges? | `alphabet.rt` (`all_in`) | of `guard_eval` `specs/Elements.antt` |
-//! | Are octets UTF-8, and of how many characters? | `texts.rt` | of std `is_utf8`, `chars`; `specs/inside/Firsts.antt` |
-//! | Is each octet a character of its kind, and of what FROM permits? | `kind_alphabets.rt` | of `guard_model` `specs/Alphabets.antt` |
+//! | Are octets UTF-8, of how many characters? | `texts.rt` | of std `is_utf8`, `chars`; `specs/inside/Firsts.antt` |
+//! | Are octets characters that FROM permits? | `kind_alphabets.rt` | of `guard_model` `specs/Alphabets.antt` |
 //! | What does a pass tell? | `laws.rt` | `specs/Laws.antt` |
 #![tactic(auto)]
 

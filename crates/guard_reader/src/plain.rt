@@ -92,6 +92,22 @@ pub fn after_plain<'a>(table: &Nodes, at: usize, octets: &'a [u8]) -> &'a [u8]
     rest
 }
 
+/// What is left after one plain number at the front, if there is one.
+#[inline(always)]
+pub fn after_one_plain<'a>(table: &Nodes, at: usize, octets: &'a [u8]) -> &'a [u8]
+    requires { at < vec_len table.now.hots }
+    ensures { (m : Slots) →
+        elements (sight_at (spots_in table.now) at) (pass_at (spots_in table.now) at) result.now m
+        ≡ elements (sight_at (spots_in table.now) at) (pass_at (spots_in table.now) at) octets.now m }
+{
+    let node = &table.hots[at];
+    let size = plain_size(node, octets);
+    if size == 0 {
+        return octets;
+    }
+    &octets[size..]
+}
+
 /// How many octets a plain number of one or two octets at the front takes; 0 where there is none.
 #[inline(always)]
 fn plain_size(node: &Hot, octets: &[u8]) -> usize

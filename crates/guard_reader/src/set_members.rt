@@ -58,7 +58,7 @@ fn far_tag(octets: &[u8]) -> Option<Tag>
     }
 }
 
-/// The same of a number up to 30, which stands in the first octet (X.690 8.1.2).
+/// The same of a number up to 30, which is in the first octet (X.690 8.1.2).
 #[inline(always)]
 fn low_tag(octets: &[u8]) -> Option<Tag>
     requires some { 0 < length octets.now }
@@ -132,8 +132,8 @@ pub fn rank_of(octets: &[u8]) -> u8
     }
 }
 
-/// How many components, from the first on, are surely not at the front: those whose ranks are at most the floor, where the
-/// octets' rank is above it.
+/// How many components, from the first on, are surely not at the front: those whose ranks are at most the floor, where
+/// the octets' rank is above it.
 #[inline(always)]
 pub fn passed(table: &Nodes, first: usize, below: usize, floor: u8, octets: &[u8]) -> usize
     requires room { first + below ≤ vec_len table.now.hots }
@@ -190,8 +190,8 @@ fn is_low(octet: u16, floor: u8) -> bool
     rank(octet as u8) <= floor
 }
 
-/// The component that is at the front: its place among so many from the first on, what is inside it, and what follows it. So
-/// many of them are known not to be there.
+/// The component that is at the front: its place among so many from the first on, what is inside it, and what follows
+/// it. So many of them are known not to be there.
 pub fn member<'a>(
     table: &Nodes,
     first: usize,
@@ -217,7 +217,8 @@ pub fn member<'a>(
     None
 }
 
-/// Whether the component at a place is among those that were read, of which the first 64 are kept as bits. Of these octets so many are left.
+/// Whether the component at a place is among those that were read, of which the first 64 are kept as bits. Of these
+/// octets so many are left.
 pub fn is_read(
     table: &Nodes,
     first: usize,

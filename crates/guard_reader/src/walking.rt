@@ -6,7 +6,7 @@ ghost use Rattle.guard_tables.specs.Slots.{none};
 ghost use Rattle.guard_tables.specs.TableNodes.{body_at};
 ghost use Rattle.guard_reader.specs.Judging.{contents_judged, message_judged};
 ghost use Rattle.guard_reader.specs.inside.Answers.{Answers};
-ghost use Rattle.guard_reader.specs.inside.NodeParts.{IsAsked, IsFormula, pass_at};
+ghost use Rattle.guard_reader.specs.inside.NodeParts.{IsAsked, IsAt, IsFormula, pass_at};
 
 mod choices;
 mod lists;
@@ -14,18 +14,18 @@ pub mod series;
 mod sets;
 
 use crate::conditions::raise;
-use crate::element_fronts::{alone, front_at, innermost};
+use crate::element_fronts::{alone, begins, cut_off, front_at, innermost};
 use crate::layers::has_layers;
 use crate::simple::simple;
 use crate::whole::{mark_whole, size_of};
 use choices::choice;
-use guard_tables::{Kind, Nodes, Slots};
-use lists::{list, set_of};
-use series::series;
+use guard_tables::{Hot, Kind, Nodes, Slots};
+use lists::{items, set_of};
+use series::{fields, series};
 use sets::set;
 
 /// The slots that fail at the value whose encoding the octets are; None where they are none.
-#[inline(never)]
+#[inline(always)]
 pub fn failures(table: &Nodes, octets: &[u8]) -> Option<Slots>
     ensures { result ≡ message_judged (root_of table.now) octets.now }
 {
@@ -37,9 +37,31 @@ pub fn failures(table: &Nodes, octets: &[u8]) -> Option<Slots>
 }
 
 /// Whether the octets are an encoding; then `failed` has what fails.
-#[inline(always)]
-#[tactic(auto, unfolding(crate::specs::Judging::message_judged))]
+#[inline(never)]
 fn decide(table: &Nodes, octets: &[u8], failed: &mut Slots) -> bool
+    requires { failed.old ≡ none }
+    ensures { Answers result failed.new (message_judged (root_of table.now) octets.now) }
+{
+    let top = &table.hots[table.hots.len() - 1];
+    match top.kind {
+        Kind::Series if begins(top.identifier, octets) => match alone(cut_off(octets)) {
+            Some(inside) => fields(
+                table,
+                top.first as usize,
+                top.count as usize,
+                inside,
+                failed,
+            ),
+            None => false,
+        },
+        _ => decide_by_front(table, octets, failed),
+    }
+}
+
+/// The same by what is at the front, of a message of any kind.
+#[inline(never)]
+#[tactic(auto, unfolding(crate::specs::Judging::message_judged))]
+fn decide_by_front(table: &Nodes, octets: &[u8], failed: &mut Slots) -> bool
     requires { failed.old ≡ none }
     ensures { Answers result failed.new (message_judged (root_of table.now) octets.now) }
 {
@@ -57,10 +79,21 @@ fn within_tag(table: &Nodes, at: usize, inside: &[u8], failed: &mut Slots) -> bo
     requires { at < vec_len table.now.hots }
     ensures { Answers result failed.new (pass_at (spots_in table.now) at inside.now failed.old) }
 {
-    if has_layers(table.hots[at].kind) {
+    within_node(table, at, &table.hots[at], inside, failed)
+}
+
+/// The same of a node that was looked up.
+#[cycle(walking)]
+#[inline(always)]
+fn within_node(table: &Nodes, at: usize, node: &Hot, inside: &[u8], failed: &mut Slots) -> bool
+    requires room { at < vec_len table.now.hots }
+    requires node { IsAt table.now at node.now }
+    ensures { Answers result failed.new (pass_at (spots_in table.now) at inside.now failed.old) }
+{
+    if has_layers(node.kind) {
         return layered(table, at, inside, failed);
     }
-    contents(table, at, inside, failed)
+    node_contents(table, at, node, inside, failed)
 }
 
 /// The same of a node in front of another one.
@@ -84,9 +117,19 @@ fn contents(table: &Nodes, at: usize, inside: &[u8], failed: &mut Slots) -> bool
     requires { at < vec_len table.now.hots }
     ensures { Answers result failed.new (contents_judged (body_at (spots_in table.now) at) inside.now failed.old) }
 {
-    let node = &table.hots[at];
+    node_contents(table, at, &table.hots[at], inside, failed)
+}
+
+/// The same of a node that was looked up.
+#[cycle(walking)]
+#[inline(always)]
+fn node_contents(table: &Nodes, at: usize, node: &Hot, inside: &[u8], failed: &mut Slots) -> bool
+    requires room { at < vec_len table.now.hots }
+    requires node { IsAt table.now at node.now }
+    ensures { Answers result failed.new (contents_judged (body_at (spots_in table.now) at) inside.now failed.old) }
+{
     match node.kind {
-        Kind::List => list(table, node.first as usize, inside, failed),
+        Kind::List => items(table, node.first as usize, inside, failed),
         Kind::Series => series(
             table,
             node.first as usize,
@@ -105,8 +148,8 @@ fn contents(table: &Nodes, at: usize, inside: &[u8], failed: &mut Slots) -> bool
     }
 }
 
-/// The same of a node that has another one in front. Called from here alone, so that the call of `contents` above can be
-/// compiled into each caller.
+/// The same of a node that has another one in front. Called from here alone, so that the call of `contents` above can
+/// be compiled into each caller.
 #[cycle(walking)]
 #[cold]
 #[inline(never)]

@@ -8,4 +8,5 @@ use Rattle.guard_reader.specs.inside.FrontViews.{outermost}
 -- after this tag
 abbrev pub Ascend : Option Tag → Parts → Type 0
 Ascend last no_parts = Unit {0}
-Ascend last (part side p ps) = (tag : Tag) × ((outermost p).0 ≡ Some tag) × (follows last tag ≡ true) × Ascend (Some tag) ps
+Ascend last (part side p ps) =
+    (tag : Tag) × ((outermost p).0 ≡ Some tag) × (follows last tag ≡ true) × Ascend (Some tag) ps

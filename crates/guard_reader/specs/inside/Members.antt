@@ -10,7 +10,8 @@ found_at i (here inside rest) later = Some (i, inside, rest)
 found_at i elsewhere later = later
 found_at i broken later = None
 
--- the component that is at the front, of these of which the first is at place i: its place, what is inside it, and what follows it
+-- the component that is at the front, of these of which the first is at place i: its place, what is inside it, and what
+-- follows it
 unfoldable pub member_found : Parts → ℕ → List ℕ → Option (ℕ × List ℕ × List ℕ)
 member_found no_parts i os = None
 member_found (part side p ps) i os = found_at i (front p os) (member_found ps (suc i) os)
@@ -18,7 +19,9 @@ member_found (part side p ps) i os = found_at i (front p os) (member_found ps (s
 -- Elements of these components, the last at the first of the places, lead from octets to what is left of them.
 abbrev pub Reach : Parts → List ℕ → List ℕ → List ℕ → Type 0
 Reach ps os rest [] = os ≡ rest
-Reach ps os rest (place ∷ places) = (before inside : List ℕ) × Reach ps os before places × (member_found ps 0 before ≡ Some (place, inside, rest))
+Reach ps os rest (place ∷ places) =
+    (before inside : List ℕ) × Reach ps os before places
+    × (member_found ps 0 before ≡ Some (place, inside, rest))
 
 -- The components that were read are at these places, those of the first 64 kept as bits.
 pub record AreRead (ps : Parts) (os rest : List ℕ) (read : ℕ) (places : List ℕ) : Type 0 where

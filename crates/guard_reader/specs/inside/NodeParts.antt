@@ -1,5 +1,5 @@
 -- What the walk takes from a table's nodes.
-use Rattle.std.specs.Prelude.{ℕ, ◌≡◌, ◌<◌, Bool, true, false, List, slice_get, Option, Some, None}
+use Rattle.std.specs.Prelude.{ℕ, ◌≡◌, Bool, true, false, List, get_or, slice_get, Option, Some, None}
 use Rattle.guard_model.specs.declared.tag.Tag.{Tag}
 use Rattle.guard_tables.specs.declared.node.Hot.{Hot}
 use Rattle.guard_tables.specs.declared.node.Kind.{Kind}
@@ -7,8 +7,8 @@ use Rattle.guard_tables.specs.declared.node.Kind.TheVariants as kind
 use Rattle.guard_tables.specs.declared.node_list.Nodes.{Nodes}
 use Rattle.guard_tables.specs.NodesView.{spots_in}
 use Rattle.guard_tables.specs.TableNodes.{Spot, spot_at}
-use Rattle.guard_reader.specs.Fronts.{begins, front}
-use Rattle.guard_reader.specs.Judging.{Pass, Sight, identifier_in, inside_judged}
+use Rattle.guard_reader.specs.Fronts.{front}
+use Rattle.guard_reader.specs.Judging.{Pass, Sight, inside_judged}
 
 -- what is at the front of octets, and what is inside the outermost tag, of the node at place k
 abbrev pub sight_at : List Spot → ℕ → Sight
@@ -84,6 +84,11 @@ pub record IsSet (t : Nodes) (k : ℕ) : Type 0 where
   pub there : slice_get t.hots.items k ≡ Some node
   pub kind : node.kind ≡ kind.Set
 
--- octets begin with the node's identifier octet
-abbrev pub IsNear : Nodes → ℕ → List ℕ → Type 0
-IsNear t k os = (identifier_in (spot_at (spots_in t) k).plan < 256) × (begins (identifier_in (spot_at (spots_in t) k).plan) os ≡ true)
+pub record IsInFront (t : Nodes) (k : ℕ) : Type 0 where
+  pub node : Hot
+  pub there : slice_get t.hots.items k ≡ Some node
+  pub kind : has_layers node.kind ≡ true
+
+-- this node is at place k, if there is one
+abbrev pub IsAt : Nodes → ℕ → Hot → Type 0
+IsAt t k h = h ≡ get_or t.hots.items k h

@@ -17,7 +17,9 @@ IsLow o floor = (o < 256) × (rank o ≤ floor)
 
 -- the node's identifier octets have at most this rank
 abbrev pub IsBelow : Nodes → ℕ → ℕ → Type 0
-IsBelow t k floor = IsLow (identifier_in (spot_at (spots_in t) k).plan) floor × IsLow (other_in (spot_at (spots_in t) k).plan) floor
+IsBelow t k floor =
+    IsLow (identifier_in (spot_at (spots_in t) k).plan) floor
+    × IsLow (other_in (spot_at (spots_in t) k).plan) floor
 
 -- so many from the first on
 abbrev pub AreBelow : Nodes → ℕ → ℕ → ℕ → Type 0

@@ -7,14 +7,29 @@ ghost use Rattle.guard_reader.specs.inside.NodeParts.{pass_at, sight_at};
 
 use crate::element_fronts::{element, front_at};
 use crate::order::{descends, front_of};
-use crate::plain::after_plain;
+use crate::plain::{after_one_plain, after_plain};
 use crate::walking::within_tag;
 use guard_tables::{Kind, Nodes, Slots};
+
+/// Elements of a node, all of the octets: one plain number needs no call.
+#[cycle(walking)]
+#[inline(always)]
+pub fn items(table: &Nodes, first: usize, octets: &[u8], failed: &mut Slots) -> bool
+    requires { first < vec_len table.now.hots }
+    ensures { Answers result failed.new
+        (elements (sight_at (spots_in table.now) first) (pass_at (spots_in table.now) first) octets.now failed.old) }
+{
+    let rest = after_one_plain(table, first, octets);
+    if rest.is_empty() {
+        return true;
+    }
+    list(table, first, rest, failed)
+}
 
 /// Elements of a node, all of the octets.
 #[cycle(walking)]
 #[inline(never)]
-pub fn list(table: &Nodes, first: usize, octets: &[u8], failed: &mut Slots) -> bool
+fn list(table: &Nodes, first: usize, octets: &[u8], failed: &mut Slots) -> bool
     requires { first < vec_len table.now.hots }
     ensures { Answers result failed.new
         (elements (sight_at (spots_in table.now) first) (pass_at (spots_in table.now) first) octets.now failed.old) }

@@ -1,23 +1,67 @@
 //! SEQUENCE, a SET whose components ascend, and what is said of components.
-ghost use Rattle.std.specs.Prelude.{◌≡◌, ◌+◌, ◌<◌, ◌≤◌, vec_len, option_map};
+ghost use Rattle.std.specs.Prelude.{◌≡◌, ◌+◌, ◌<◌, ◌≤◌, List, ℕ, true, false, nat_eq, vec_len, option_map};
 ghost use Rattle.guard_tables.specs.NodesView.{spots_in};
 ghost use Rattle.guard_tables.specs.Slots.{added};
 ghost use Rattle.guard_tables.specs.TableNodes.{parts_between, spot_at};
+ghost use Rattle.guard_reader.specs.Fronts.{after_one, begins, front_cut};
+ghost use Rattle.guard_reader.specs.Octets.{split};
 ghost use Rattle.guard_reader.specs.Judging.{fields_judged, present_part, absent_part, part_at, watched};
 ghost use Rattle.guard_reader.specs.inside.Answers.{Answers};
-ghost use Rattle.guard_reader.specs.inside.NodeParts.{IsNear, pass_at, sight_at};
+ghost use Rattle.guard_reader.specs.inside.NodeParts.{IsAt, pass_at, sight_at};
 
 use crate::conditions::is_default;
-use crate::element_fronts::{Front, begins, front_at};
+use crate::element_fronts::{Front, after_first, begins, front_at};
 use crate::header::split_after;
 use crate::plain::{begins_plainly, is_plain};
-use crate::walking::within_tag;
-use guard_tables::{Cold, Need, Nodes, Slots};
+use crate::walking::within_node;
+use guard_tables::{Cold, Hot, Need, Nodes, Slots};
 
 /// So many components from the first on, one after the other, all of the octets.
 #[cycle(walking)]
 #[inline(never)]
 pub fn series(table: &Nodes, first: usize, count: usize, inside: &[u8], failed: &mut Slots) -> bool
+    requires { first + count ≤ vec_len table.now.hots }
+    ensures { Answers result failed.new
+        (fields_judged (parts_between (spots_in table.now) first count) inside.now failed.old) }
+{
+    fields(table, first, count, inside, failed)
+}
+
+/// The same, compiled into its caller.
+#[cycle(walking)]
+#[inline(always)]
+pub fn fields(table: &Nodes, first: usize, count: usize, inside: &[u8], failed: &mut Slots) -> bool
+    requires { first + count ≤ vec_len table.now.hots }
+    ensures { Answers result failed.new
+        (fields_judged (parts_between (spots_in table.now) first count) inside.now failed.old) }
+{
+    let hots = table.hots.as_slice();
+    let mut rest = inside;
+    for k in first..first + count {
+        let node = &hots[k];
+        if begins(node.identifier, rest) {
+            let Some(next) = begun_part(table, k, node, rest, failed) else {
+                return false;
+            };
+            rest = next;
+            continue;
+        }
+        if node.identifier == 256 {
+            // A loop of its own has what this one would have to make room for at each component.
+            return far_fields(table, k, first + count - k, rest, failed);
+        }
+        let Some(next) = other_part(table, k, node, rest, failed) else {
+            return false;
+        };
+        rest = next;
+    }
+    rest.is_empty()
+}
+
+/// The same of components of which the first has no identifier octet of its own.
+#[cycle(walking)]
+#[inline(never)]
+fn far_fields(table: &Nodes, first: usize, count: usize, inside: &[u8], failed: &mut Slots) -> bool
     requires { first + count ≤ vec_len table.now.hots }
     ensures { Answers result failed.new
         (fields_judged (parts_between (spots_in table.now) first count) inside.now failed.old) }
@@ -42,19 +86,56 @@ fn part<'a>(table: &Nodes, at: usize, octets: &'a [u8], failed: &mut Slots) -> O
         (pass_at (spots_in table.now) at) octets.now failed.old }
 {
     let node = &table.hots[at];
-    if begins_plainly(node, octets) {
-        return Some(&octets[3..]);
-    }
-    if begins(node.identifier, octets) {
-        return near_part(table, at, octets, failed);
-    }
     if node.identifier == 256 {
         return far_part(table, at, octets, failed);
     }
+    near_part(table, at, node, octets, failed)
+}
+
+/// The same of a node with an identifier octet of its own.
+#[cycle(walking)]
+#[inline(always)]
+fn near_part<'a>(
+    table: &Nodes,
+    at: usize,
+    node: &Hot,
+    octets: &'a [u8],
+    failed: &mut Slots,
+) -> Option<&'a [u8]>
+    requires room { at < vec_len table.now.hots }
+    requires node { IsAt table.now at node.now }
+    requires near { nat_eq node.now.identifier 256 ≡ false }
+    ensures { option_map (λ r. (failed.new, r.now)) result
+        ≡ part_at (spot_at (spots_in table.now) at).side (sight_at (spots_in table.now) at octets.now)
+        (pass_at (spots_in table.now) at) octets.now failed.old }
+{
+    if begins(node.identifier, octets) {
+        return begun_part(table, at, node, octets, failed);
+    }
+    other_part(table, at, node, octets, failed)
+}
+
+/// The same of octets that don't begin with the node's identifier octet.
+#[inline(always)]
+fn other_part<'a>(
+    table: &Nodes,
+    at: usize,
+    node: &Hot,
+    octets: &'a [u8],
+    failed: &mut Slots,
+) -> Option<&'a [u8]>
+    requires room { at < vec_len table.now.hots }
+    requires node { IsAt table.now at node.now }
+    requires near { nat_eq node.now.identifier 256 ≡ false }
+    requires away { begins node.now.identifier octets.now ≡ false }
+    ensures { option_map (λ r. (failed.new, r.now)) result
+        ≡ part_at (spot_at (spots_in table.now) at).side (sight_at (spots_in table.now) at octets.now)
+        (pass_at (spots_in table.now) at) octets.now failed.old }
+{
     if begins(node.other, octets) {
         return None;
     }
-    if !absent(table, at, failed) {
+    if !absent_node(table, at, node, failed) {
         return None;
     }
     Some(octets)
@@ -63,16 +144,46 @@ fn part<'a>(table: &Nodes, at: usize, octets: &'a [u8], failed: &mut Slots) -> O
 /// The same of octets that begin with the node's identifier octet.
 #[cycle(walking)]
 #[inline(always)]
-fn near_part<'a>(table: &Nodes, at: usize, octets: &'a [u8], failed: &mut Slots) -> Option<&'a [u8]>
+fn begun_part<'a>(
+    table: &Nodes,
+    at: usize,
+    node: &Hot,
+    octets: &'a [u8],
+    failed: &mut Slots,
+) -> Option<&'a [u8]>
     requires room { at < vec_len table.now.hots }
-    requires near { IsNear table.now at octets.now }
+    requires node { IsAt table.now at node.now }
+    requires octet { node.now.identifier < 256 }
+    requires begun { begins node.now.identifier octets.now ≡ true }
     ensures { option_map (λ r. (failed.new, r.now)) result
         ≡ part_at (spot_at (spots_in table.now) at).side (sight_at (spots_in table.now) at octets.now)
         (pass_at (spots_in table.now) at) octets.now failed.old }
 {
+    if begins_plainly(node, octets) {
+        return Some(&octets[3..]);
+    }
+    cut_part(table, at, node, octets, failed)
+}
+
+/// The same of an element of which one identifier octet is left.
+#[cycle(walking)]
+#[inline(always)]
+fn cut_part<'a>(
+    table: &Nodes,
+    at: usize,
+    node: &Hot,
+    octets: &'a [u8],
+    failed: &mut Slots,
+) -> Option<&'a [u8]>
+    requires room { at < vec_len table.now.hots }
+    requires node { IsAt table.now at node.now }
+    ensures { (os : List ℕ) → option_map (λ r. (failed.new, r.now)) result
+        ≡ part_at (spot_at (spots_in table.now) at).side (front_cut (split (after_one octets.now)))
+        (pass_at (spots_in table.now) at) os failed.old }
+{
     match split_after(octets) {
         Some((inside, rest)) => {
-            if !present(table, at, inside, failed) {
+            if !present_node(table, at, node, inside, failed) {
                 return None;
             }
             Some(rest)
@@ -83,9 +194,24 @@ fn near_part<'a>(table: &Nodes, at: usize, octets: &'a [u8], failed: &mut Slots)
 
 /// The same of a node without an identifier octet of its own.
 #[cycle(walking)]
+#[inline(always)]
+fn far_part<'a>(table: &Nodes, at: usize, octets: &'a [u8], failed: &mut Slots) -> Option<&'a [u8]>
+    requires { at < vec_len table.now.hots }
+    ensures { option_map (λ r. (failed.new, r.now)) result
+        ≡ part_at (spot_at (spots_in table.now) at).side (sight_at (spots_in table.now) at octets.now)
+        (pass_at (spots_in table.now) at) octets.now failed.old }
+{
+    if let Some(tail) = after_first(table, at, octets) {
+        return cut_part(table, at, &table.hots[at], tail, failed);
+    }
+    seen_part(table, at, octets, failed)
+}
+
+/// The same by what is at the front.
+#[cycle(walking)]
 #[cold]
 #[inline(never)]
-fn far_part<'a>(table: &Nodes, at: usize, octets: &'a [u8], failed: &mut Slots) -> Option<&'a [u8]>
+fn seen_part<'a>(table: &Nodes, at: usize, octets: &'a [u8], failed: &mut Slots) -> Option<&'a [u8]>
     requires { at < vec_len table.now.hots }
     ensures { option_map (λ r. (failed.new, r.now)) result
         ≡ part_at (spot_at (spots_in table.now) at).side (sight_at (spots_in table.now) at octets.now)
@@ -116,19 +242,32 @@ pub fn present(table: &Nodes, at: usize, inside: &[u8], failed: &mut Slots) -> b
     ensures { Answers result failed.new
         (present_part (spot_at (spots_in table.now) at).side (pass_at (spots_in table.now) at) inside.now failed.old) }
 {
-    if is_plain(&table.hots[at], inside) {
+    present_node(table, at, &table.hots[at], inside, failed)
+}
+
+/// The same of a node that was looked up.
+#[cycle(walking)]
+#[inline(always)]
+fn present_node(table: &Nodes, at: usize, node: &Hot, inside: &[u8], failed: &mut Slots) -> bool
+    requires room { at < vec_len table.now.hots }
+    requires node { IsAt table.now at node.now }
+    ensures { Answers result failed.new
+        (present_part (spot_at (spots_in table.now) at).side (pass_at (spots_in table.now) at) inside.now failed.old) }
+{
+    if is_plain(node, inside) {
         return true;
     }
-    check(table, at, inside, failed) && within_tag(table, at, inside, failed)
+    check(table, at, node, inside, failed) && within_node(table, at, node, inside, failed)
 }
 
 /// Whether contents are none of a default; what their presence costs fails.
 #[inline(always)]
-fn check(table: &Nodes, at: usize, inside: &[u8], failed: &mut Slots) -> bool
-    requires { at < vec_len table.now.hots }
+fn check(table: &Nodes, at: usize, node: &Hot, inside: &[u8], failed: &mut Slots) -> bool
+    requires room { at < vec_len table.now.hots }
+    requires node { IsAt table.now at node.now }
     ensures { Answers result failed.new (watched (spot_at (spots_in table.now) at).side inside.now failed.old) }
 {
-    if !table.hots[at].watched {
+    if !node.watched {
         return true;
     }
     watch(table, at, inside, failed)
@@ -156,8 +295,18 @@ pub fn absent(table: &Nodes, at: usize, failed: &mut Slots) -> bool
     ensures { Answers result failed.new
         (absent_part (spot_at (spots_in table.now) at).side.absent failed.old) }
 {
-    let part = &table.hots[at];
-    match part.need {
+    absent_node(table, at, &table.hots[at], failed)
+}
+
+/// The same of a node that was looked up.
+#[inline(always)]
+fn absent_node(table: &Nodes, at: usize, node: &Hot, failed: &mut Slots) -> bool
+    requires room { at < vec_len table.now.hots }
+    requires node { IsAt table.now at node.now }
+    ensures { Answers result failed.new
+        (absent_part (spot_at (spots_in table.now) at).side.absent failed.old) }
+{
+    match node.need {
         Need::Free => true,
         Need::Mandatory => false,
         Need::Costs => {

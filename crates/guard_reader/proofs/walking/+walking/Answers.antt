@@ -1,4 +1,4 @@
-use Rattle.std.proofs.Common.{◌≡◌, ◌∙◌, ◌+◌, ◌-◌, ◌<◌, ◌≤◌, Bool, true, false, vec_len, ap, sym, subst, refl, arith, drop, Some, None, Option, ℕ, get_or, ◌∷◌, [], add-one, map, List}
+use Rattle.std.proofs.Common.{◌≡◌, ◌∙◌, ◌+◌, ◌-◌, ◌<◌, ◌≤◌, Bool, true, false, eqb, vec_len, ap, sym, subst, refl, arith, drop, Some, None, Option, ℕ, get_or, ◌∷◌, [], add-one, map, List}
 use Rattle.std.specs.Prelude.{◌||◌, nat_eq}
 use Rattle.std.proofs.lemmas.List.{take_rest}
 use Rattle.std.proofs.lemmas.Bool.{cond-true, cond-false, ne_eqb}
@@ -10,15 +10,15 @@ use Rattle.guard_tables.specs.NodeViews.{raise_view}
 use Rattle.guard_tables.specs.Marking.{conditions_marked}
 use Rattle.guard_tables.specs.Formulas.{raised}
 use Rattle.guard_tables.specs.NodesView.{spots_in}
-use Rattle.guard_reader.specs.Fronts.{begins, element_in, front_cut, front_of}
-use Rattle.guard_reader.specs.Judging.{is_read, fields_judged, outside, then_marked, whole_facts, size_in, ordered}
+use Rattle.guard_reader.specs.Fronts.{Front, begins, element_in, front_cut, front_of}
+use Rattle.guard_reader.specs.Judging.{is_read, fields_judged, part_at, outside, then_marked, whole_facts, size_in, ordered}
 use Rattle.guard_reader.specs.inside.Answers.{Answers}
 use Rattle.guard_reader.specs.inside.Members.{AreRead}
-use Rattle.guard_reader.specs.inside.NodeParts.{IsNear, has_layers, pass_at, sight_at}
+use Rattle.guard_reader.specs.inside.NodeParts.{has_layers, pass_at, sight_at}
 use Rattle.guard_reader.specs.inside.Ranks.{AreBelow}
 use Rattle.guard_reader.proofs.Elements.{bind_some, bind_none}
 use Rattle.guard_reader.proofs.FrontSteps.{front_within}
-use Rattle.guard_reader.proofs.NodeTags.{identifier_is, kind_of_choice, near_front, octet_elsewhere, octet_turned}
+use Rattle.guard_reader.proofs.NodeTags.{identifier_is, is_at, kind_of_choice, near_front, octet_elsewhere, octet_turned}
 use Rattle.guard_reader.proofs.Ranks.{near_cut}
 use Rattle.guard_reader.proofs.Passes.{element_here, last_element, no_element, none_left, none_ordered, not_ordered, one_element, one_ordered}
 use Rattle.guard_reader.proofs.AscendingSets.{set_of_parts}
@@ -30,73 +30,79 @@ use Rattle.guard_reader.proofs.walking.+walking.Goals as goal
 
 -- ---- contents
 
-pub contents-list-requires : goal.contents-list-requires
-contents-list-requires t c =
-    let n = node_at c.args.table.now c.args.at c.index-node.result.now c.requires c.index-node.ensures in
+pub contents-node_contents-requires : goal.contents-node_contents-requires
+contents-node_contents-requires t c = (omega arith, (c.requires, c.index.ensures))
+
+pub node_contents-items-requires : goal.node_contents-items-requires
+node_contents-items-requires t c =
+    let n = node_at c.args.table.now c.args.at c.args.node.now c.requires.room c.requires.node in
     let inner = n.node.inner (ap has_inner c.in-List.is) in
-    (omega (arith, inner), omega (arith, inner, c.requires))
+    (omega (arith, inner), omega (arith, inner, c.requires.room))
 
-pub contents-series-requires : goal.contents-series-requires
-contents-series-requires t c =
-    let n = node_at c.args.table.now c.args.at c.index-node.result.now c.requires c.index-node.ensures in
-    (omega (arith, n.node.before), omega (arith, n.node.before, c.requires))
+pub node_contents-series-requires : goal.node_contents-series-requires
+node_contents-series-requires t c =
+    let n = node_at c.args.table.now c.args.at c.args.node.now c.requires.room c.requires.node in
+    (omega (arith, n.node.before), omega (arith, n.node.before, c.requires.room))
 
-pub contents-returns-in-Series : goal.contents-returns-in-Series
-contents-returns-in-Series t c =
-    let n = node_at c.args.table.now c.args.at c.index-node.result.now c.requires c.index-node.ensures in
-    subst (λ (r : Option Slots). Answers c.series.result c.series.new.failed r) (sym (series_judged c.args.table.now c.args.at c.index-node.result.now n c.in-Series.is c.args.inside.now c.args.failed.now)) c.series.ensures
+pub node_contents-returns-in-Series : goal.node_contents-returns-in-Series
+node_contents-returns-in-Series t c =
+    let n = node_at c.args.table.now c.args.at c.args.node.now c.requires.room c.requires.node in
+    subst (λ (r : Option Slots). Answers c.series.result c.series.new.failed r) (sym (series_judged c.args.table.now c.args.at c.args.node.now n c.in-Series.is c.args.inside.now c.args.failed.now)) c.series.ensures
 
-pub contents-asked-requires : goal.contents-asked-requires
-contents-asked-requires t c = (omega arith, (c.requires, record { node = c.index-node.result.now; there = there_at c.args.table.now c.args.at c.index-node.result.now c.requires c.index-node.ensures; kind = c.in-Asked.is }))
+pub node_contents-asked-requires : goal.node_contents-asked-requires
+node_contents-asked-requires t c = (omega arith, (c.requires.room, record { node = c.args.node.now; there = there_at c.args.table.now c.args.at c.args.node.now c.requires.room c.requires.node; kind = c.in-Asked.is }))
 
-pub contents-formula-requires : goal.contents-formula-requires
-contents-formula-requires t c = (omega arith, (c.requires, record { node = c.index-node.result.now; there = there_at c.args.table.now c.args.at c.index-node.result.now c.requires c.index-node.ensures; kind = c.in-Formula.is }))
+pub node_contents-formula-requires : goal.node_contents-formula-requires
+node_contents-formula-requires t c = (omega arith, (c.requires.room, record { node = c.args.node.now; there = there_at c.args.table.now c.args.at c.args.node.now c.requires.room c.requires.node; kind = c.in-Formula.is }))
 
-pub contents-returns-in-List : goal.contents-returns-in-List
-contents-returns-in-List t c =
-    let n = node_at c.args.table.now c.args.at c.index-node.result.now c.requires c.index-node.ensures in
-    subst (λ (r : Option Slots). Answers c.list.result c.list.new.failed r) (sym (list_judged c.args.table.now c.args.at c.index-node.result.now n c.in-List.is c.args.inside.now c.args.failed.now)) c.list.ensures
+pub node_contents-returns-in-List : goal.node_contents-returns-in-List
+node_contents-returns-in-List t c =
+    let n = node_at c.args.table.now c.args.at c.args.node.now c.requires.room c.requires.node in
+    subst (λ (r : Option Slots). Answers c.items.result c.items.new.failed r) (sym (list_judged c.args.table.now c.args.at c.args.node.now n c.in-List.is c.args.inside.now c.args.failed.now)) c.items.ensures
 
-pub contents-returns-in-Simple : goal.contents-returns-in-Simple
-contents-returns-in-Simple t c =
-    let n = node_at c.args.table.now c.args.at c.index-node.result.now c.requires c.index-node.ensures in
-    subst (λ (r : Option Slots). Answers c.simple.result c.simple.new.failed r) (sym (simple_judged c.args.table.now c.args.at c.index-node.result.now c.index.result.now c.in-Simple.kind n c.in-Simple.is c.requires c.index.ensures c.args.inside.now c.args.failed.now)) c.simple.ensures
+pub node_contents-returns-in-Simple : goal.node_contents-returns-in-Simple
+node_contents-returns-in-Simple t c =
+    let n = node_at c.args.table.now c.args.at c.args.node.now c.requires.room c.requires.node in
+    subst (λ (r : Option Slots). Answers c.simple.result c.simple.new.failed r) (sym (simple_judged c.args.table.now c.args.at c.args.node.now c.index.result.now c.in-Simple.kind n c.in-Simple.is c.requires.room c.index.ensures c.args.inside.now c.args.failed.now)) c.simple.ensures
 
-pub contents-set-requires : goal.contents-set-requires
-contents-set-requires t c = (omega arith, (c.requires, record { node = c.index-node.result.now; there = there_at c.args.table.now c.args.at c.index-node.result.now c.requires c.index-node.ensures; kind = c.in-Set.is }))
+pub node_contents-set-requires : goal.node_contents-set-requires
+node_contents-set-requires t c = (omega arith, (c.requires.room, record { node = c.args.node.now; there = there_at c.args.table.now c.args.at c.args.node.now c.requires.room c.requires.node; kind = c.in-Set.is }))
 
-pub contents-set_of-requires : goal.contents-set_of-requires
-contents-set_of-requires t c =
-    let n = node_at c.args.table.now c.args.at c.index-node.result.now c.requires c.index-node.ensures in
+pub node_contents-set_of-requires : goal.node_contents-set_of-requires
+node_contents-set_of-requires t c =
+    let n = node_at c.args.table.now c.args.at c.args.node.now c.requires.room c.requires.node in
     let inner = n.node.inner (ap has_inner c.in-SetOf.is) in
-    (omega (arith, inner), omega (arith, inner, c.requires))
+    (omega (arith, inner), omega (arith, inner, c.requires.room))
 
-pub contents-returns-in-SetOf : goal.contents-returns-in-SetOf
-contents-returns-in-SetOf t c =
-    let n = node_at c.args.table.now c.args.at c.index-node.result.now c.requires c.index-node.ensures in
-    subst (λ (r : Option Slots). Answers c.set_of.result c.set_of.new.failed r) (sym (set_of_judged c.args.table.now c.args.at c.index-node.result.now n c.in-SetOf.is c.args.inside.now c.args.failed.now)) c.set_of.ensures
+pub node_contents-returns-in-SetOf : goal.node_contents-returns-in-SetOf
+node_contents-returns-in-SetOf t c =
+    let n = node_at c.args.table.now c.args.at c.args.node.now c.requires.room c.requires.node in
+    subst (λ (r : Option Slots). Answers c.set_of.result c.set_of.new.failed r) (sym (set_of_judged c.args.table.now c.args.at c.args.node.now n c.in-SetOf.is c.args.inside.now c.args.failed.now)) c.set_of.ensures
 
-pub contents-inner_contents-requires : goal.contents-inner_contents-requires
-contents-inner_contents-requires t c =
-    let n = node_at c.args.table.now c.args.at c.index-node.result.now c.requires c.index-node.ensures in
+pub node_contents-inner_contents-requires : goal.node_contents-inner_contents-requires
+node_contents-inner_contents-requires t c =
+    let n = node_at c.args.table.now c.args.at c.args.node.now c.requires.room c.requires.node in
     let inner = n.node.inner (ap has_inner c.in-Wrapper.is) in
-    (omega (arith, inner), omega (arith, inner, c.requires))
+    (omega (arith, inner), omega (arith, inner, c.requires.room))
 
-pub contents-returns-in-Wrapper : goal.contents-returns-in-Wrapper
-contents-returns-in-Wrapper t c =
-    let n = node_at c.args.table.now c.args.at c.index-node.result.now c.requires c.index-node.ensures in
-    subst (λ (r : Option Slots). Answers c.inner_contents.result c.inner_contents.new.failed r) (sym (wrapper_judged c.args.table.now c.args.at c.index-node.result.now n c.in-Wrapper.is c.args.inside.now c.args.failed.now)) c.inner_contents.ensures
+pub node_contents-returns-in-Wrapper : goal.node_contents-returns-in-Wrapper
+node_contents-returns-in-Wrapper t c =
+    let n = node_at c.args.table.now c.args.at c.args.node.now c.requires.room c.requires.node in
+    subst (λ (r : Option Slots). Answers c.inner_contents.result c.inner_contents.new.failed r) (sym (wrapper_judged c.args.table.now c.args.at c.args.node.now n c.in-Wrapper.is c.args.inside.now c.args.failed.now)) c.inner_contents.ensures
 
-pub contents-choice-requires : goal.contents-choice-requires
-contents-choice-requires t c = (omega arith, (c.requires, record { node = c.index-node.result.now; there = there_at c.args.table.now c.args.at c.index-node.result.now c.requires c.index-node.ensures; kind = c.in-Choice.is }))
+pub node_contents-choice-requires : goal.node_contents-choice-requires
+node_contents-choice-requires t c = (omega arith, (c.requires.room, record { node = c.args.node.now; there = there_at c.args.table.now c.args.at c.args.node.now c.requires.room c.requires.node; kind = c.in-Choice.is }))
 
 -- ---- inside the outermost tag
 
-pub within_tag-returns : goal.within_tag-returns
-within_tag-returns t c =
-    let h = c.index.result.now in
-    let n = node_at c.args.table.now c.args.at h c.requires c.index.ensures in
-    subst (λ (r : Option Slots). Answers c.contents.result c.contents.new.failed r) (sym (inside_bare c.args.table.now c.args.at h n (sym c.has_layers.ensures ∙ c.if-has_layers.false) c.args.inside.now c.args.failed.now)) c.contents.ensures
+pub within_tag-within_node-requires : goal.within_tag-within_node-requires
+within_tag-within_node-requires t c = (omega arith, (c.requires, c.index.ensures))
+
+pub within_node-returns : goal.within_node-returns
+within_node-returns t c =
+    let h = c.args.node.now in
+    let n = node_at c.args.table.now c.args.at h c.requires.room c.requires.node in
+    subst (λ (r : Option Slots). Answers c.node_contents.result c.node_contents.new.failed r) (sym (inside_bare c.args.table.now c.args.at h n (sym c.has_layers.ensures ∙ c.if-has_layers.false) c.args.inside.now c.args.failed.now)) c.node_contents.ensures
 
 pub layered-returns-in-Some : goal.layered-returns-in-Some
 layered-returns-in-Some t c =
@@ -107,28 +113,89 @@ layered-returns-in-None t c = inside_none c.args.table.now c.args.at c.args.insi
 
 -- ---- SEQUENCE
 
-pub series::series-loop-k-init : goal.series::series-loop-k-init
-series::series-loop-k-init t c =
+pub series::series-fields-requires : goal.series::series-fields-requires
+series::series-fields-requires t c = (omega arith, c.requires)
+
+pub series::fields-loop-k-init : goal.series::fields-loop-k-init
+series::fields-loop-k-init t c =
     let count : c.args.first + c.args.count - c.args.first ≡ c.args.count = omega arith in
     ap (λ (n : ℕ). fields_judged (parts_between (spots_in c.args.table.now) c.args.first n) c.args.inside.now c.args.failed.now) count
 
-pub series::series-part-requires : goal.series::series-part-requires
-series::series-part-requires t c = (omega (arith, c.loop-k-test.true), omega (arith, c.loop-k-test.true, c.requires))
+pub series::fields-begun_part-requires : goal.series::fields-begun_part-requires
+series::fields-begun_part-requires t c =
+    let room : c.loop-k.k < vec_len c.args.table.now.hots = omega (arith, c.loop-k-test.true, c.requires) in
+    let node = is_at c.args.table.now c.as_slice-hots.result.now c.loop-k.k _ c.as_slice-hots.ensures.value room in
+    (omega (arith, c.loop-k-test.true), (room, (node, (c.begins.ensures.small c.if-begins.true, sym c.begins.ensures.same ∙ c.if-begins.true))))
 
-pub series::series-returns-in_default : goal.series::series-returns-in_default
-series::series-returns-in_default t c =
+pub series::fields-other_part-requires : goal.series::fields-other_part-requires
+series::fields-other_part-requires t c =
+    let room : c.loop-k.k < vec_len c.args.table.now.hots = omega (arith, c.loop-k-test.true, c.requires) in
+    record {
+      room = room;
+      node = is_at c.args.table.now c.as_slice-hots.result.now c.loop-k.k _ c.as_slice-hots.ensures.value room;
+      near = ne_eqb _ 256 c.if-node-eq256.false;
+      away = sym c.begins.ensures.same ∙ c.if-begins.false;
+    }
+
+pub series::fields-far_fields-requires : goal.series::fields-far_fields-requires
+series::fields-far_fields-requires t c = (omega (arith, c.loop-k-test.true), omega (arith, c.loop-k-test.true, c.requires))
+
+pub series::fields-returns-then-node-eq256 : goal.series::fields-returns-then-node-eq256
+series::fields-returns-then-node-eq256 t c = subst (λ (r : Option Slots). Answers c.far_fields.result c.far_fields.new.failed r) c.loop-k.invariant c.far_fields.ensures
+
+pub series::fields-returns-in_default : goal.series::fields-returns-in_default
+series::fields-returns-in_default t c =
     sym c.loop-k.invariant
     ∙ fields_step c.args.table.now c.loop-k.k (c.args.first + c.args.count) c.loop-k.rest.now c.loop-k.failed c.loop-k-test.true c.requires
     ∙ bind_none _ _ (sym c.in_default.ensures)
 
-pub series::series-loop-k-preserved : goal.series::series-loop-k-preserved
-series::series-loop-k-preserved t c =
+pub series::fields-loop-k-preserved-then-begins : goal.series::fields-loop-k-preserved-then-begins
+series::fields-loop-k-preserved-then-begins t c =
     let end = c.args.first + c.args.count in
     rw add-one (sym (fields_step c.args.table.now c.loop-k.k end c.loop-k.rest.now c.loop-k.failed c.loop-k-test.true c.requires
     ∙ bind_some _ _ _ (sym c.in-Some.ensures)) ∙ c.loop-k.invariant)
 
-pub series::series-returns : goal.series::series-returns
-series::series-returns t c =
+pub series::fields-returns-in_default-other_part : goal.series::fields-returns-in_default-other_part
+series::fields-returns-in_default-other_part t c =
+    sym c.loop-k.invariant
+    ∙ fields_step c.args.table.now c.loop-k.k (c.args.first + c.args.count) c.loop-k.rest.now c.loop-k.failed c.loop-k-test.true c.requires
+    ∙ bind_none _ _ (sym c.in_default-other_part.ensures)
+
+pub series::fields-loop-k-preserved : goal.series::fields-loop-k-preserved
+series::fields-loop-k-preserved t c =
+    let end = c.args.first + c.args.count in
+    rw add-one (sym (fields_step c.args.table.now c.loop-k.k end c.loop-k.rest.now c.loop-k.failed c.loop-k-test.true c.requires
+    ∙ bind_some _ _ _ (sym c.in-Some-other_part.ensures)) ∙ c.loop-k.invariant)
+
+pub series::fields-returns : goal.series::fields-returns
+series::fields-returns t c =
+    let end = c.args.first + c.args.count in
+    let spots = spots_in c.args.table.now in
+    let over : end - c.loop-k.k ≡ 0 = omega (arith, c.loop-k-test.false) in
+    subst (λ (r : Option Slots). Answers c.is_empty.result c.loop-k.failed r) (sym (ap (λ (n : ℕ). fields_judged (parts_between spots c.loop-k.k n) c.loop-k.rest.now c.loop-k.failed) over) ∙ c.loop-k.invariant) (at_end c.is_empty.result c.loop-k.rest.now c.loop-k.failed c.is_empty.ensures)
+
+pub series::far_fields-loop-k-init : goal.series::far_fields-loop-k-init
+series::far_fields-loop-k-init t c =
+    let count : c.args.first + c.args.count - c.args.first ≡ c.args.count = omega arith in
+    ap (λ (n : ℕ). fields_judged (parts_between (spots_in c.args.table.now) c.args.first n) c.args.inside.now c.args.failed.now) count
+
+pub series::far_fields-part-requires : goal.series::far_fields-part-requires
+series::far_fields-part-requires t c = (omega (arith, c.loop-k-test.true), omega (arith, c.loop-k-test.true, c.requires))
+
+pub series::far_fields-returns-in_default : goal.series::far_fields-returns-in_default
+series::far_fields-returns-in_default t c =
+    sym c.loop-k.invariant
+    ∙ fields_step c.args.table.now c.loop-k.k (c.args.first + c.args.count) c.loop-k.rest.now c.loop-k.failed c.loop-k-test.true c.requires
+    ∙ bind_none _ _ (sym c.in_default.ensures)
+
+pub series::far_fields-loop-k-preserved : goal.series::far_fields-loop-k-preserved
+series::far_fields-loop-k-preserved t c =
+    let end = c.args.first + c.args.count in
+    rw add-one (sym (fields_step c.args.table.now c.loop-k.k end c.loop-k.rest.now c.loop-k.failed c.loop-k-test.true c.requires
+    ∙ bind_some _ _ _ (sym c.in-Some.ensures)) ∙ c.loop-k.invariant)
+
+pub series::far_fields-returns : goal.series::far_fields-returns
+series::far_fields-returns t c =
     let end = c.args.first + c.args.count in
     let spots = spots_in c.args.table.now in
     let over : end - c.loop-k.k ≡ 0 = omega (arith, c.loop-k-test.false) in
@@ -191,6 +258,17 @@ formula-returns t c =
     ∙ ap (λ (m : Slots). Some m) (sym (rw c.deref.ensures.value at c.raise.ensures))
 
 -- ---- SEQUENCE OF
+
+pub lists::items-returns-then-is_empty : goal.lists::items-returns-then-is_empty
+lists::items-returns-then-is_empty t c =
+    sym (c.after_one_plain-rest.ensures c.args.failed.now)
+    ∙ none_left (sight_at (spots_in c.args.table.now) c.args.first) _ c.after_one_plain-rest.result.now c.args.failed.now (sym c.is_empty.ensures ∙ c.if-is_empty.true)
+
+pub lists::items-list-requires : goal.lists::items-list-requires
+lists::items-list-requires t c = (omega arith, c.requires)
+
+pub lists::items-returns : goal.lists::items-returns
+lists::items-returns t c = subst (λ (r : Option Slots). Answers c.list.result c.list.new.failed r) (c.after_one_plain-rest.ensures c.args.failed.now) c.list.ensures
 
 pub lists::list-returns-in_default : goal.lists::list-returns-in_default
 lists::list-returns-in_default t c =
@@ -318,10 +396,23 @@ lists::set_of-returns t c = sym c.loop-before.invariant ∙ none_ordered (sight_
 
 -- ---- components
 
-pub series::part-returns-then-begins_plainly : goal.series::part-returns-then-begins_plainly
-series::part-returns-then-begins_plainly t c =
-    let h = c.index-node.result.now in
-    let n = node_at c.args.table.now c.args.at h c.requires c.index-node.ensures in
+pub series::part-far_part-requires : goal.series::part-far_part-requires
+series::part-far_part-requires t c = (omega arith, c.requires)
+
+pub series::part-near_part-requires : goal.series::part-near_part-requires
+series::part-near_part-requires t c = (omega arith, (c.requires, (c.index-node.ensures, ne_eqb c.index-node.result.now.identifier 256 c.if-node-eq256.false)))
+
+pub series::near_part-begun_part-requires : goal.series::near_part-begun_part-requires
+series::near_part-begun_part-requires t c = (omega arith, (c.requires.room, (c.requires.node, (c.begins.ensures.small c.if-begins.true, sym c.begins.ensures.same ∙ c.if-begins.true))))
+
+pub series::near_part-other_part-requires : goal.series::near_part-other_part-requires
+series::near_part-other_part-requires t c =
+    record { room = c.requires.room; node = c.requires.node; near = c.requires.near; away = sym c.begins.ensures.same ∙ c.if-begins.false }
+
+pub series::begun_part-returns-then-begins_plainly : goal.series::begun_part-returns-then-begins_plainly
+series::begun_part-returns-then-begins_plainly t c =
+    let h = c.args.node.now in
+    let n = node_at c.args.table.now c.args.at h c.requires.room c.requires.node in
     let o = c.begins_plainly.ensures c.if-begins_plainly.true in
     let one = get_or c.args.octets.now 2 0 ∷ [] in
     let plain = plain_at c.args.table.now c.args.at h n one c.args.failed.now o.small in
@@ -330,108 +421,104 @@ series::part-returns-then-begins_plainly t c =
     rw (take_rest c.args.octets.now 3) (sym (present_there side pass c.args.octets.now c.args.failed.now one (drop 3 c.args.octets.now) _ (Some c.args.failed.now)
     (sym (one_here c.args.table.now c.args.at h c.args.octets.now n o)) (sent side pass one c.args.failed.now c.args.failed.now plain.0 ∙ plain.1)))
 
-pub series::part-near_part-requires : goal.series::part-near_part-requires
-series::part-near_part-requires t c =
-    let h = c.index-node.result.now in
-    let n = node_at c.args.table.now c.args.at h c.requires c.index-node.ensures in
+pub series::begun_part-cut_part-requires : goal.series::begun_part-cut_part-requires
+series::begun_part-cut_part-requires t c = (omega arith, (c.requires.room, c.requires.node))
+
+pub series::begun_part-returns : goal.series::begun_part-returns
+series::begun_part-returns t c =
+    let h = c.args.node.now in
+    let os = c.args.octets.now in
+    let n = node_at c.args.table.now c.args.at h c.requires.room c.requires.node in
+    let spot = spot_at (spots_in c.args.table.now) c.args.at in
     let is = sym (identifier_is c.args.table.now c.args.at h n) in
-    let near : IsNear c.args.table.now c.args.at c.args.octets.now = (subst (λ (o : ℕ). o < 256) is (c.begins.ensures.small c.if-begins.true), subst (λ (o : ℕ). begins o c.args.octets.now ≡ true) is (sym c.begins.ensures.same ∙ c.if-begins.true)) in
-    (omega arith, (c.requires, near))
+    let cut = near_cut spot.plan os (subst (λ (o : ℕ). o < 256) is c.requires.octet) (subst (λ (o : ℕ). begins o os ≡ true) is c.requires.begun) in
+    c.cut_part.ensures os ∙ ap (λ (f : Front). part_at spot.side f (pass_at (spots_in c.args.table.now) c.args.at) os c.args.failed.now) (sym cut)
 
-pub series::part-returns-then-begins-2 : goal.series::part-returns-then-begins-2
-series::part-returns-then-begins-2 t c =
-    let h = c.index-node.result.now in
-    let n = node_at c.args.table.now c.args.at h c.requires c.index-node.ensures in
+pub series::cut_part-present_node-requires : goal.series::cut_part-present_node-requires
+series::cut_part-present_node-requires t c = (omega arith, (c.requires.room, c.requires.node))
+
+pub series::cut_part-returns-then-not-present_node : goal.series::cut_part-returns-then-not-present_node
+series::cut_part-returns-then-not-present_node t c = λ os.
     let side = (spot_at (spots_in c.args.table.now) c.args.at).side in
     let pass = pass_at (spots_in c.args.table.now) c.args.at in
-    let turned = near_front c.args.table.now c.args.at h n c.args.octets.now (ne_eqb h.identifier 256 c.if-node-eq256.false)
-    ∙ octet_turned h.identifier h.other c.args.octets.now (sym c.begins.ensures.same ∙ c.if-begins.false) (sym c.begins-2.ensures.same ∙ c.if-begins-2.true) in
-    sym (not_whole side pass c.args.octets.now c.args.failed.now _ (sym turned))
+    sym (present_there side pass os c.args.failed.now c.in-Some.inside.now c.in-Some.rest.now _ None (ap front_cut c.in-Some.ensures) (no c.present_node.result c.present_node.new.failed _ c.present_node.ensures c.if-not-present_node.true))
 
-pub series::part-returns-then-not-absent : goal.series::part-returns-then-not-absent
-series::part-returns-then-not-absent t c =
-    let h = c.index-node.result.now in
-    let n = node_at c.args.table.now c.args.at h c.requires c.index-node.ensures in
+pub series::cut_part-returns-else-not-present_node : goal.series::cut_part-returns-else-not-present_node
+series::cut_part-returns-else-not-present_node t c = λ os.
     let side = (spot_at (spots_in c.args.table.now) c.args.at).side in
     let pass = pass_at (spots_in c.args.table.now) c.args.at in
-    let away = near_front c.args.table.now c.args.at h n c.args.octets.now (ne_eqb h.identifier 256 c.if-node-eq256.false)
-    ∙ octet_elsewhere h.identifier h.other c.args.octets.now (sym c.begins.ensures.same ∙ c.if-begins.false) (sym c.begins-2.ensures.same ∙ c.if-begins-2.false) in
-    sym (absent_there side pass c.args.octets.now c.args.failed.now _ None (sym away) (no c.absent.result c.absent.new.failed _ c.absent.ensures c.if-not-absent.true))
+    sym (present_there side pass os c.args.failed.now c.in-Some.inside.now c.in-Some.rest.now _ (Some c.present_node.new.failed) (ap front_cut c.in-Some.ensures) (yes c.present_node.result c.present_node.new.failed _ c.present_node.ensures c.if-not-present_node.false))
 
-pub series::part-returns : goal.series::part-returns
-series::part-returns t c =
-    let h = c.index-node.result.now in
-    let n = node_at c.args.table.now c.args.at h c.requires c.index-node.ensures in
+pub series::cut_part-returns-in-None : goal.series::cut_part-returns-in-None
+series::cut_part-returns-in-None t c = λ os.
     let side = (spot_at (spots_in c.args.table.now) c.args.at).side in
     let pass = pass_at (spots_in c.args.table.now) c.args.at in
-    let away = near_front c.args.table.now c.args.at h n c.args.octets.now (ne_eqb h.identifier 256 c.if-node-eq256.false)
-    ∙ octet_elsewhere h.identifier h.other c.args.octets.now (sym c.begins.ensures.same ∙ c.if-begins.false) (sym c.begins-2.ensures.same ∙ c.if-begins-2.false) in
-    sym (absent_there side pass c.args.octets.now c.args.failed.now _ (Some c.absent.new.failed) (sym away) (yes c.absent.result c.absent.new.failed _ c.absent.ensures c.if-not-absent.false))
+    sym (not_whole side pass os c.args.failed.now _ (ap front_cut c.in-None.ensures))
 
-pub series::near_part-returns-then-not-present : goal.series::near_part-returns-then-not-present
-series::near_part-returns-then-not-present t c =
-    let spot = spot_at (spots_in c.args.table.now) c.args.at in
-    let cut = near_cut spot.plan c.args.octets.now c.requires.near.0 c.requires.near.1 in
-    sym (present_there spot.side (pass_at (spots_in c.args.table.now) c.args.at) c.args.octets.now c.args.failed.now c.in-Some.inside.now c.in-Some.rest.now _ None (ap front_cut c.in-Some.ensures ∙ sym cut) (no c.present.result c.present.new.failed _ c.present.ensures c.if-not-present.true))
+pub series::far_part-cut_part-requires : goal.series::far_part-cut_part-requires
+series::far_part-cut_part-requires t c = (omega arith, (c.requires, c.index.ensures))
 
-pub series::near_part-returns-else-not-present : goal.series::near_part-returns-else-not-present
-series::near_part-returns-else-not-present t c =
-    let spot = spot_at (spots_in c.args.table.now) c.args.at in
-    let cut = near_cut spot.plan c.args.octets.now c.requires.near.0 c.requires.near.1 in
-    sym (present_there spot.side (pass_at (spots_in c.args.table.now) c.args.at) c.args.octets.now c.args.failed.now c.in-Some.inside.now c.in-Some.rest.now _ (Some c.present.new.failed) (ap front_cut c.in-Some.ensures ∙ sym cut) (yes c.present.result c.present.new.failed _ c.present.ensures c.if-not-present.false))
+pub series::far_part-seen_part-requires : goal.series::far_part-seen_part-requires
+series::far_part-seen_part-requires t c = (omega arith, c.requires)
 
-pub series::near_part-returns-in-None : goal.series::near_part-returns-in-None
-series::near_part-returns-in-None t c =
-    let spot = spot_at (spots_in c.args.table.now) c.args.at in
-    let cut = near_cut spot.plan c.args.octets.now c.requires.near.0 c.requires.near.1 in
-    sym (not_whole spot.side (pass_at (spots_in c.args.table.now) c.args.at) c.args.octets.now c.args.failed.now _ (ap front_cut c.in-None.ensures ∙ sym cut))
+pub series::far_part-returns-in-Some : goal.series::far_part-returns-in-Some
+series::far_part-returns-in-Some t c =
+    let side = (spot_at (spots_in c.args.table.now) c.args.at).side in
+    let pass = pass_at (spots_in c.args.table.now) c.args.at in
+    c.cut_part.ensures c.args.octets.now ∙ ap (λ (f : Front). part_at side f pass c.args.octets.now c.args.failed.now) (sym c.in-Some.ensures)
 
-pub series::far_part-returns-then-not-present : goal.series::far_part-returns-then-not-present
-series::far_part-returns-then-not-present t c =
+pub series::seen_part-returns-then-not-present : goal.series::seen_part-returns-then-not-present
+series::seen_part-returns-then-not-present t c =
     let side = (spot_at (spots_in c.args.table.now) c.args.at).side in
     let pass = pass_at (spots_in c.args.table.now) c.args.at in
     sym (present_there side pass c.args.octets.now c.args.failed.now c.in-Here.inside.now c.in-Here.rest.now _ None c.in-Here.ensures (no c.present.result c.present.new.failed _ c.present.ensures c.if-not-present.true))
 
-pub series::far_part-returns-else-not-present : goal.series::far_part-returns-else-not-present
-series::far_part-returns-else-not-present t c =
+pub series::seen_part-returns-else-not-present : goal.series::seen_part-returns-else-not-present
+series::seen_part-returns-else-not-present t c =
     let side = (spot_at (spots_in c.args.table.now) c.args.at).side in
     let pass = pass_at (spots_in c.args.table.now) c.args.at in
     sym (present_there side pass c.args.octets.now c.args.failed.now c.in-Here.inside.now c.in-Here.rest.now _ (Some c.present.new.failed) c.in-Here.ensures (yes c.present.result c.present.new.failed _ c.present.ensures c.if-not-present.false))
 
-pub series::far_part-returns-then-not-absent : goal.series::far_part-returns-then-not-absent
-series::far_part-returns-then-not-absent t c =
+pub series::seen_part-returns-then-not-absent : goal.series::seen_part-returns-then-not-absent
+series::seen_part-returns-then-not-absent t c =
     let side = (spot_at (spots_in c.args.table.now) c.args.at).side in
     let pass = pass_at (spots_in c.args.table.now) c.args.at in
     sym (absent_there side pass c.args.octets.now c.args.failed.now _ None c.in-Elsewhere.ensures (no c.absent.result c.absent.new.failed _ c.absent.ensures c.if-not-absent.true))
 
-pub series::far_part-returns-else-not-absent : goal.series::far_part-returns-else-not-absent
-series::far_part-returns-else-not-absent t c =
+pub series::seen_part-returns-else-not-absent : goal.series::seen_part-returns-else-not-absent
+series::seen_part-returns-else-not-absent t c =
     let side = (spot_at (spots_in c.args.table.now) c.args.at).side in
     let pass = pass_at (spots_in c.args.table.now) c.args.at in
     sym (absent_there side pass c.args.octets.now c.args.failed.now _ (Some c.absent.new.failed) c.in-Elsewhere.ensures (yes c.absent.result c.absent.new.failed _ c.absent.ensures c.if-not-absent.false))
 
-pub series::far_part-returns-in-Broken : goal.series::far_part-returns-in-Broken
-series::far_part-returns-in-Broken t c =
+pub series::seen_part-returns-in-Broken : goal.series::seen_part-returns-in-Broken
+series::seen_part-returns-in-Broken t c =
     let side = (spot_at (spots_in c.args.table.now) c.args.at).side in
     let pass = pass_at (spots_in c.args.table.now) c.args.at in
     sym (not_whole side pass c.args.octets.now c.args.failed.now _ c.in-Broken.ensures)
 
-pub series::present-returns-then-is_plain : goal.series::present-returns-then-is_plain
-series::present-returns-then-is_plain t c =
-    let n = node_at c.args.table.now c.args.at c.index.result.now c.requires c.index.ensures in
-    let plain = plain_at c.args.table.now c.args.at c.index.result.now n c.args.inside.now c.args.failed.now (c.is_plain.ensures c.if-is_plain.true) in
+pub series::present-present_node-requires : goal.series::present-present_node-requires
+series::present-present_node-requires t c = (omega arith, (c.requires, c.index.ensures))
+
+pub series::present_node-within_node-requires : goal.series::present_node-within_node-requires
+series::present_node-within_node-requires t c = (omega arith, (c.requires.room, c.requires.node))
+
+pub series::present_node-returns-then-is_plain : goal.series::present_node-returns-then-is_plain
+series::present_node-returns-then-is_plain t c =
+    let n = node_at c.args.table.now c.args.at c.args.node.now c.requires.room c.requires.node in
+    let plain = plain_at c.args.table.now c.args.at c.args.node.now n c.args.inside.now c.args.failed.now (c.is_plain.ensures c.if-is_plain.true) in
     let side = (spot_at (spots_in c.args.table.now) c.args.at).side in
     let pass = pass_at (spots_in c.args.table.now) c.args.at in
     sent side pass c.args.inside.now c.args.failed.now c.args.failed.now plain.0 ∙ plain.1
 
-pub series::present-returns-then-check : goal.series::present-returns-then-check
-series::present-returns-then-check t c =
+pub series::present_node-returns-then-check : goal.series::present_node-returns-then-check
+series::present_node-returns-then-check t c =
     let side = (spot_at (spots_in c.args.table.now) c.args.at).side in
     let pass = pass_at (spots_in c.args.table.now) c.args.at in
-    subst (λ (r : Option Slots). Answers c.within_tag.result c.within_tag.new.failed r) (sym (sent side pass c.args.inside.now c.args.failed.now c.check.new.failed (yes c.check.result c.check.new.failed _ c.check.ensures c.if-check.true))) c.within_tag.ensures
+    subst (λ (r : Option Slots). Answers c.within_node.result c.within_node.new.failed r) (sym (sent side pass c.args.inside.now c.args.failed.now c.check.new.failed (yes c.check.result c.check.new.failed _ c.check.ensures c.if-check.true))) c.within_node.ensures
 
-pub series::present-returns-else-check : goal.series::present-returns-else-check
-series::present-returns-else-check t c =
+pub series::present_node-returns-else-check : goal.series::present_node-returns-else-check
+series::present_node-returns-else-check t c =
     let w = no c.check.result c.check.new.failed _ c.check.ensures c.if-check.false in
     let side = (spot_at (spots_in c.args.table.now) c.args.at).side in
     let pass = pass_at (spots_in c.args.table.now) c.args.at in

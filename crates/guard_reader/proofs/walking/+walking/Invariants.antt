@@ -10,61 +10,91 @@ use Rattle.guard_reader.proofs.walking.+walking.Given as goal
 
 -- ---- parts stand before wholes
 
+abbrev pub decreases-series::far_fields : goal.decreases-series::far_fields
+decreases-series::far_fields l = 16 * (l.first + l.count)
+
+abbrev pub decreases-series::fields : goal.decreases-series::fields
+decreases-series::fields l = 16 * (l.first + l.count) + 1
+
 abbrev pub decreases-series::series : goal.decreases-series::series
-decreases-series::series l = 8 * (l.first + l.count)
+decreases-series::series l = 16 * (l.first + l.count) + 2
 
 abbrev pub decreases-choices::choice : goal.decreases-choices::choice
-decreases-choices::choice l = 8 * l.at
-
-abbrev pub decreases-sets::set : goal.decreases-sets::set
-decreases-sets::set l = 8 * l.at + 1
+decreases-choices::choice l = 16 * l.at
 
 abbrev pub decreases-sets::members : goal.decreases-sets::members
-decreases-sets::members l = 8 * l.at
+decreases-sets::members l = 16 * l.at
+
+abbrev pub decreases-sets::set : goal.decreases-sets::set
+decreases-sets::set l = 16 * l.at + 3
 
 abbrev pub decreases-asked : goal.decreases-asked
-decreases-asked l = 8 * l.at
+decreases-asked l = 16 * l.at
 
 abbrev pub decreases-formula : goal.decreases-formula
-decreases-formula l = 8 * l.at
+decreases-formula l = 16 * l.at
+
+abbrev pub decreases-node_contents : goal.decreases-node_contents
+decreases-node_contents l = 16 * l.at + 5
 
 abbrev pub decreases-contents : goal.decreases-contents
-decreases-contents l = 8 * l.at + 2
+decreases-contents l = 16 * l.at + 6
 
 abbrev pub decreases-inner_contents : goal.decreases-inner_contents
-decreases-inner_contents l = 8 * l.at + 3
+decreases-inner_contents l = 16 * l.at + 7
 
 abbrev pub decreases-layered : goal.decreases-layered
-decreases-layered l = 8 * l.at + 3
+decreases-layered l = 16 * l.at + 7
+
+abbrev pub decreases-within_node : goal.decreases-within_node
+decreases-within_node l = 16 * l.at + 8
 
 abbrev pub decreases-within_tag : goal.decreases-within_tag
-decreases-within_tag l = 8 * l.at + 4
+decreases-within_tag l = 16 * l.at + 9
 
 abbrev pub decreases-lists::list : goal.decreases-lists::list
-decreases-lists::list l = 8 * l.first + 5
+decreases-lists::list l = 16 * l.first + 10
+
+abbrev pub decreases-lists::items : goal.decreases-lists::items
+decreases-lists::items l = 16 * l.first + 11
 
 abbrev pub decreases-lists::set_of : goal.decreases-lists::set_of
-decreases-lists::set_of l = 8 * l.first + 5
+decreases-lists::set_of l = 16 * l.first + 10
 
 abbrev pub decreases-choices::chosen : goal.decreases-choices::chosen
-decreases-choices::chosen l = 8 * l.at + 5
+decreases-choices::chosen l = 16 * l.at + 10
+
+abbrev pub decreases-series::present_node : goal.decreases-series::present_node
+decreases-series::present_node l = 16 * l.at + 9
 
 abbrev pub decreases-series::present : goal.decreases-series::present
-decreases-series::present l = 8 * l.at + 5
+decreases-series::present l = 16 * l.at + 10
 
-abbrev pub decreases-series::part : goal.decreases-series::part
-decreases-series::part l = 8 * l.at + 7
+abbrev pub decreases-series::cut_part : goal.decreases-series::cut_part
+decreases-series::cut_part l = 16 * l.at + 10
+
+abbrev pub decreases-series::begun_part : goal.decreases-series::begun_part
+decreases-series::begun_part l = 16 * l.at + 11
 
 abbrev pub decreases-series::near_part : goal.decreases-series::near_part
-decreases-series::near_part l = 8 * l.at + 6
+decreases-series::near_part l = 16 * l.at + 12
+
+abbrev pub decreases-series::seen_part : goal.decreases-series::seen_part
+decreases-series::seen_part l = 16 * l.at + 11
 
 abbrev pub decreases-series::far_part : goal.decreases-series::far_part
-decreases-series::far_part l = 8 * l.at + 6
+decreases-series::far_part l = 16 * l.at + 12
+
+abbrev pub decreases-series::part : goal.decreases-series::part
+decreases-series::part l = 16 * l.at + 13
 
 -- ---- what is left is judged as the whole is
 
-abbrev pub invariant-series::series-loop-k : goal.invariant-series::series-loop-k
-invariant-series::series-loop-k l = fields_judged (parts_between (spots_in l.table) l.k (l.k-end - l.k)) l.rest l.failed ≡ fields_judged (parts_between (spots_in l.table) l.first l.count) l.fn.inside l.fn.failed
+abbrev pub invariant-series::fields-loop-k : goal.invariant-series::fields-loop-k
+invariant-series::fields-loop-k l = fields_judged (parts_between (spots_in l.table) l.k (l.k-end - l.k)) l.rest l.failed ≡ fields_judged (parts_between (spots_in l.table) l.first l.count) l.fn.inside l.fn.failed
+
+abbrev pub invariant-series::far_fields-loop-k : goal.invariant-series::far_fields-loop-k
+invariant-series::far_fields-loop-k l = fields_judged (parts_between (spots_in l.table) l.k (l.k-end - l.k)) l.rest l.failed ≡ fields_judged (parts_between (spots_in l.table) l.first l.count) l.fn.inside l.fn.failed
 
 abbrev pub invariant-choices::choice-loop-k : goal.invariant-choices::choice-loop-k
 invariant-choices::choice-loop-k l = chosen_judged (parts_between (spots_in l.table) l.k (l.k-end - l.k)) l.octets l.failed ≡ contents_judged (body_at (spots_in l.table) l.at) l.octets l.fn.failed

@@ -1,5 +1,5 @@
 -- What a written value and a written constraint are, or their first fault.
-use Rattle.std.specs.Prelude.{◌≡◌, Some, Ok, Err, unwrap_or}
+use Rattle.std.specs.Prelude.{Ok, Err, unwrap_or}
 use Rattle.guard_model.specs.declared.site.Site.{Site}
 use Rattle.guard_model.specs.AbstractType.{AbstractType, Constraint}
 use Rattle.guard_model.specs.AbstractValue.{AbstractValue}

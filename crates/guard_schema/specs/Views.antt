@@ -5,18 +5,14 @@ use Rattle.guard_model.specs.declared.value.Value.{Value}
 use Rattle.guard_syntax.specs.Trees.{WrittenOfConstraint}
 use Rattle.guard_syntax.specs.SetViews.{constraint_view}
 use Rattle.guard_syntax.specs.declared.tree.OfConsTree.{OfConsTree}
-use Rattle.guard_names.specs.Declarations.{definitions}
 use Rattle.guard_names.specs.NamesView.{modules_of, order_of}
-use Rattle.guard_values.specs.Views.{home_name}
-use Rattle.guard_constraints.specs.Visible.{Visible}
 use Rattle.guard_schema.specs.declared.progress.Progress.{Progress}
 use Rattle.guard_schema.specs.declared.progress.Definition as code_definition
 use Rattle.guard_schema.specs.declared.schema.Schema.{Schema}
 use Rattle.guard_schema.specs.declared.build.NamedDefinition.{NamedDefinition}
 use Rattle.guard_schema.specs.declared.index.TypeIndex.{TypeIndex}
-use Rattle.guard_schema.specs.declared.scope.Scope.{Scope}
 use Rattle.guard_schema.specs.declared.finishing.Filling as code_filling
-use Rattle.guard_schema.specs.Known.{Built, Known, visible}
+use Rattle.guard_schema.specs.Known.{Built, Known}
 use Rattle.guard_schema.specs.inside.Pairs.{built_view, paired}
 use Rattle.guard_schema.specs.inside.InTurn.{Filling}
 use Rattle.guard_names.specs.Places as places
@@ -33,12 +29,6 @@ built_in p = paired p.known.types.items p.known.values.items
 
 abbrev pub known_view : Progress → Known
 known_view p = record { modules = modules_of p.names.now; order = order_of p.names.now; built = built_in p }
-
--- ---- where something is written
-
-abbrev pub visible_of : Scope → Visible
-visible_of s = visible (known_view s.progress.now)
-    (home_name (slice_get (definitions (modules_of s.progress.now.names.now)) s.id))
 
 abbrev pub filling_view : code_filling.Filling → Filling
 filling_view f = record { done = map component_view f.done.items; left = map component_view f.left.items }

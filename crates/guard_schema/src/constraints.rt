@@ -5,22 +5,25 @@ ghost use Rattle.guard_model.specs.AbstractType.{type_of};
 ghost use Rattle.guard_model.specs.TypeView.{type_view, kind_view, constraint_view, constraints_of};
 ghost use Rattle.guard_syntax.specs.SetViews as sets;
 ghost use Rattle.guard_syntax.specs.TypeViews as written;
+ghost use Rattle.guard_constraints.specs.Views.{visible_in};
 ghost use Rattle.guard_schema.specs.Faults.{named};
 ghost use Rattle.guard_schema.specs.Finishing.{with_constraint, AddsOne, Adds, Constrains, Sizes, ConstrainsBefore, ConstrainsByOne, constraint_before};
 ghost use Rattle.guard_schema.specs.inside.InTurn.{ConstrainsWritten};
+ghost use Rattle.guard_schema.specs.inside.Pairs.{AreBuilt};
 ghost use Rattle.guard_schema.specs.Outcomes.{Answers};
-ghost use Rattle.guard_schema.specs.Views.{visible_of, before_view};
+ghost use Rattle.guard_schema.specs.Views.{before_view};
 
 use crate::fault::SchemaFault;
 use crate::readings::{check_sound, read_constraint};
-use crate::scope::Scope;
 use guard_model::{Cons, Kind, Rule, Site, Tag, Ty};
 use guard_syntax::{BaseTree, ConsTree, OfConsTree, TypeTree};
+use guard_values::Scope;
 use std::alloc::{AllocError, Global};
 
 /// The type that is written so, with the constraint before OF and those after it.
 pub fn with_written(alloc: Global, scope: Scope, tree: &TypeTree, ty: Ty) -> Result<Ty, SchemaFault>
-    ensures { Answers type_view named result (ConstrainsWritten (visible_of scope.entry) (written.type_view tree.now) (type_view ty)) }
+    requires known { AreBuilt scope.known.now }
+    ensures { Answers type_view named result (ConstrainsWritten (visible_in scope.entry) (written.type_view tree.now) (type_view ty)) }
 {
     let before = constrained_before(alloc, scope, tree.site, &tree.base, ty)?;
     constrained(alloc, scope, tree.site, &tree.cons, before)
@@ -35,7 +38,8 @@ fn constrained(
     trees: &[ConsTree],
     ty: Ty,
 ) -> Result<Ty, SchemaFault>
-    ensures { Answers type_view named result (Constrains (visible_of scope.entry) site (map sets.constraint_view trees.now) (type_view ty)) }
+    requires known { AreBuilt scope.known.now }
+    ensures { Answers type_view named result (Constrains (visible_in scope.entry) site (map sets.constraint_view trees.now) (type_view ty)) }
 {
     if trees.is_empty() {
         return Ok(ty);
@@ -52,7 +56,8 @@ fn with_constraints(
     ty: Ty,
 ) -> Result<Ty, SchemaFault>
     requires sound { IsTrue (is_sound (type_view ty)) }
-    ensures { Answers type_view named result (Adds (visible_of scope.entry) (map sets.constraint_view trees.now) (type_view ty)) }
+    requires known { AreBuilt scope.known.now }
+    ensures { Answers type_view named result (Adds (visible_in scope.entry) (map sets.constraint_view trees.now) (type_view ty)) }
 {
     let mut constrained = ty;
     for tree in trees {
@@ -64,7 +69,8 @@ fn with_constraints(
 /// The type with one constraint more.
 fn with_constraint(alloc: Global, scope: Scope, tree: &ConsTree, ty: Ty) -> Result<Ty, SchemaFault>
     requires sound { IsTrue (is_sound (type_view ty)) }
-    ensures added { Answers type_view named result (AddsOne (visible_of scope.entry) (sets.constraint_view tree.now) (type_view ty)) }
+    requires known { AreBuilt scope.known.now }
+    ensures added { Answers type_view named result (AddsOne (visible_in scope.entry) (sets.constraint_view tree.now) (type_view ty)) }
     ensures sound { IfOk result (λ t. IsTrue (is_sound (type_view t))) }
 {
     let cons = read_constraint(alloc, scope, &ty, tree)?;
@@ -101,7 +107,8 @@ fn constrained_before(
     base: &BaseTree,
     ty: Ty,
 ) -> Result<Ty, SchemaFault>
-    ensures { Answers type_view named result (ConstrainsBefore (visible_of scope.entry) site (constraint_before (written.base_view base.now)) (type_view ty)) }
+    requires known { AreBuilt scope.known.now }
+    ensures { Answers type_view named result (ConstrainsBefore (visible_in scope.entry) site (constraint_before (written.base_view base.now)) (type_view ty)) }
 {
     match base {
         BaseTree::Of(_, Some(before), _) => by_one(alloc, scope, site, before, ty),
@@ -116,7 +123,8 @@ fn by_one(
     before: &OfConsTree,
     ty: Ty,
 ) -> Result<Ty, SchemaFault>
-    ensures { Answers type_view named result (ConstrainsByOne (visible_of scope.entry) site (before_view before.now) before.now.size (type_view ty)) }
+    requires known { AreBuilt scope.known.now }
+    ensures { Answers type_view named result (ConstrainsByOne (visible_in scope.entry) site (before_view before.now) before.now.size (type_view ty)) }
 {
     if before.size {
         return sized(alloc, scope, before, ty);
@@ -127,7 +135,8 @@ fn by_one(
 
 /// SIZE and a constraint before OF: it is one of sizes, that is on INTEGER.
 fn sized(alloc: Global, scope: Scope, before: &OfConsTree, ty: Ty) -> Result<Ty, SchemaFault>
-    ensures { Answers type_view named result (Sizes (visible_of scope.entry) (before_view before.now) (type_view ty)) }
+    requires known { AreBuilt scope.known.now }
+    ensures { Answers type_view named result (Sizes (visible_in scope.entry) (before_view before.now) (type_view ty)) }
 {
     let number = Ty::integer(alloc)?;
     let size = read_constraint(alloc, scope, &number, &before.cons)?;

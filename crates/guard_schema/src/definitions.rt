@@ -12,26 +12,27 @@ ghost use Rattle.guard_tagging.specs.ScopeView.{known_list};
 ghost use Rattle.guard_tagging.specs.Spelled.{IsSpelledModule};
 ghost use Rattle.guard_tagging.specs.Automatic.{Automatic};
 ghost use Rattle.guard_tagging.specs.Skeletons.{AreMeanings};
+ghost use Rattle.guard_constraints.specs.Views.{visible_at, visible_in};
 ghost use Rattle.guard_schema.specs.Building.{BuildsNumber, BuildsAll, HasValue, TellsApart, Assigns, KeepsLimit};
 ghost use Rattle.guard_schema.specs.inside.InTurn.{TagsApart, CompletesInTurn};
 ghost use Rattle.guard_schema.specs.Counting.{held_by, most_held};
 ghost use Rattle.guard_schema.specs.Faults.{named};
 ghost use Rattle.guard_schema.specs.Known.{none_known};
 ghost use Rattle.guard_schema.specs.Outcomes.{Answers};
-ghost use Rattle.guard_schema.specs.inside.Pairs.{built_view};
-ghost use Rattle.guard_schema.specs.Views.{built_in, definition_view, known_view, visible_of};
+ghost use Rattle.guard_schema.specs.inside.Pairs.{built_view, AreBuilt};
+ghost use Rattle.guard_schema.specs.Views.{built_in, definition_view, known_view};
 
 use crate::counting::{held_by, type_nodes};
 use crate::fault::SchemaFault;
 use crate::finishing::finished;
 use crate::progress::{Definition, Progress};
 use crate::readings::{check_sound, read_member};
-use crate::scope::Scope;
 use guard_model::{Site, Ty, Value};
 use guard_names::{Id, Names};
 use guard_syntax::{Assignment, ValueTree};
 use guard_tagcheck::find_clash;
 use guard_tagging::{TaggedType, skeleton_after};
+use guard_values::Scope;
 use std::alloc::Global;
 
 /// Constraints, values and contained types over all definitions.
@@ -72,7 +73,7 @@ fn built(alloc: Global, progress: &Progress, id: Id) -> Result<Definition, Schem
         unreachable!()
     };
     let tagged = tagged_apart(alloc, progress, id, assignment.site)?;
-    completed(alloc, Scope { progress, id }, assignment, tagged)
+    completed(alloc, progress, id, assignment, tagged)
 }
 
 /// The type of the definition with its tags and parts, which tags tell apart. Its name is at the site.
@@ -98,16 +99,17 @@ fn tagged_apart(
 /// the finished one.
 fn completed(
     alloc: Global,
-    scope: Scope,
+    progress: &Progress,
+    id: Id,
     assignment: &Assignment,
     tagged: TaggedType,
 ) -> Result<Definition, SchemaFault>
-    requires counted { scope.progress.now.nodes + tagging.nodes (type_view tagged.ty) ≤ tagging.most_nodes }
-    ensures built { Answers definition_view named result (CompletesInTurn (known_view scope.entry.progress.now) (visible_of scope.entry) (assignment_view assignment.now) (type_view tagged.ty)) }
+    requires counted { progress.now.nodes + tagging.nodes (type_view tagged.ty) ≤ tagging.most_nodes }
+    ensures built { Answers definition_view named result (CompletesInTurn (known_view progress.now) (visible_at progress.now.names.now progress.now.known id) (assignment_view assignment.now) (type_view tagged.ty)) }
     ensures sound { IfOk result (λ d. IsTrue (is_sound (definition_view d).ty)) }
     ensures fits { IfOk result (λ d. IfSome (definition_view d).value (λ v. IsTrue (fits (definition_view d).ty v))) }
-    ensures nodes { IfOk result (λ d. (d.nodes ≡ scope.entry.progress.now.nodes + tagging.nodes (definition_view d).ty) × (d.nodes ≤ tagging.most_nodes)) }
-    ensures held { IfOk result (λ d. (d.held ≡ scope.entry.progress.now.held + held_by (definition_view d)) × (d.held ≤ most_held)) }
+    ensures nodes { IfOk result (λ d. (d.nodes ≡ progress.now.nodes + tagging.nodes (definition_view d).ty) × (d.nodes ≤ tagging.most_nodes)) }
+    ensures held { IfOk result (λ d. (d.held ≡ progress.now.held + held_by (definition_view d)) × (d.held ≤ most_held)) }
     ensures automatic { IfOk result (λ d. d.is_automatic ≡ tagged.is_automatic) }
 {
     let TaggedType {
@@ -115,9 +117,14 @@ fn completed(
         is_automatic,
         ..
     } = tagged;
+    let scope = Scope {
+        names: progress.names,
+        known: &progress.known,
+        id,
+    };
     let ty = finished(alloc, scope, &assignment.ty, bare)?;
-    let found = valued(alloc, scope, assignment, &ty)?;
-    let nodes = type_nodes(scope.progress.nodes, &ty);
+    let found = valued(alloc, progress, scope, assignment, &ty)?;
+    let nodes = type_nodes(progress.nodes, &ty);
     let (value, held) = found;
     Ok(Definition {
         ty,
@@ -139,21 +146,23 @@ fn check_tags(alloc: Global, site: Site, ty: &Ty) -> Result<(), SchemaFault>
     }
 }
 
-/// The value of a definition of this finished type, and how much is held with it.
+/// The value of the next definition, which has this finished type and is written there, and how much is held with it.
 fn valued(
     alloc: Global,
+    progress: &Progress,
     scope: Scope,
     assignment: &Assignment,
     ty: &Ty,
 ) -> Result<(Option<Value>, usize), SchemaFault>
-    ensures built { Answers (λ r. built_view ty.now r.0) named result (HasValue (known_view scope.entry.progress.now) (visible_of scope.entry) (assignment_view assignment.now) (type_view ty.now)) }
+    requires known { AreBuilt scope.known.now }
+    ensures built { Answers (λ r. built_view ty.now r.0) named result (HasValue (known_view progress.now) (visible_in scope.entry) (assignment_view assignment.now) (type_view ty.now)) }
     ensures sound { IfOk result (λ _. IsTrue (is_sound (type_view ty.now))) }
     ensures fits { IfOk result (λ r. IfSome r.0 (λ v. IsTrue (fits (type_view ty.now) (value_view v)))) }
-    ensures held { IfOk result (λ r. (r.1 ≡ scope.entry.progress.now.held + held_by (built_view ty.now r.0)) × (r.1 ≤ most_held)) }
+    ensures held { IfOk result (λ r. (r.1 ≡ progress.now.held + held_by (built_view ty.now r.0)) × (r.1 ≤ most_held)) }
 {
     check_sound(alloc, assignment.ty.site, ty)?;
     let value = assigned(alloc, scope, ty, &assignment.value)?;
-    let held = within_limit(scope.progress.held, assignment.site, ty, &value)?;
+    let held = within_limit(progress.held, assignment.site, ty, &value)?;
     Ok((value, held))
 }
 
@@ -165,7 +174,8 @@ fn assigned(
     value: &Option<ValueTree>,
 ) -> Result<Option<Value>, SchemaFault>
     requires sound { IsTrue (is_sound (type_view ty.now)) }
-    ensures read { Answers (option_map value_view) named result (Assigns (visible_of scope.entry) (type_view ty.now) (perhaps_value_view value.now)) }
+    requires known { AreBuilt scope.known.now }
+    ensures read { Answers (option_map value_view) named result (Assigns (visible_in scope.entry) (type_view ty.now) (perhaps_value_view value.now)) }
     ensures fits { IfOk result (λ o. IfSome o (λ v. IsTrue (fits (type_view ty.now) (value_view v)))) }
 {
     match value {

@@ -9,18 +9,20 @@ ghost use Rattle.guard_model.specs.TypeView.{type_view, kind_view, component_vie
 ghost use Rattle.guard_syntax.specs.Trees.{components_of, alternatives_of};
 ghost use Rattle.guard_syntax.specs.TypeViews as written;
 ghost use Rattle.guard_tagging.specs.Types.{parts_of};
+ghost use Rattle.guard_constraints.specs.Views.{visible_in};
 ghost use Rattle.guard_schema.specs.Faults.{named};
 ghost use Rattle.guard_schema.specs.Finishing as finishing;
 ghost use Rattle.guard_schema.specs.inside.InTurn as in_turn;
+ghost use Rattle.guard_schema.specs.inside.Pairs.{AreBuilt};
 ghost use Rattle.guard_schema.specs.Outcomes.{Answers, Is};
-ghost use Rattle.guard_schema.specs.Views.{visible_of, filling_view};
+ghost use Rattle.guard_schema.specs.Views.{filling_view};
 
 use crate::constraints::{type_made_of, with_written};
 use crate::fault::SchemaFault;
 use crate::readings::{check_sound, read_member};
-use crate::scope::Scope;
 use guard_model::{Comp, Kind, Presence, Site, Ty};
 use guard_syntax::{AlternativeTree, BaseTree, CompForm, CompTree, PresenceTree, TypeTree};
+use guard_values::Scope;
 use std::alloc::{AllocError, AllocFailed, Global};
 use std::collections::VecDeque;
 
@@ -34,7 +36,8 @@ pub struct Filling {
 /// The finished type.
 #[cycle(finishing)]
 pub fn finished(alloc: Global, scope: Scope, tree: &TypeTree, bare: Ty) -> Result<Ty, SchemaFault>
-    ensures { Answers type_view named result (in_turn.FinishesInTurn (visible_of scope.entry) (written.type_view tree.now) (type_view bare)) }
+    requires known { AreBuilt scope.known.now }
+    ensures { Answers type_view named result (in_turn.FinishesInTurn (visible_in scope.entry) (written.type_view tree.now) (type_view bare)) }
 {
     let filled = with_parts(alloc, scope, &tree.base, bare)?;
     with_written(alloc, scope, tree, filled)
@@ -43,7 +46,8 @@ pub fn finished(alloc: Global, scope: Scope, tree: &TypeTree, bare: Ty) -> Resul
 /// The type with its parts finished.
 #[cycle(finishing)]
 fn with_parts(alloc: Global, scope: Scope, base: &BaseTree, bare: Ty) -> Result<Ty, SchemaFault>
-    ensures { Answers type_view named result (in_turn.PartsInTurn (visible_of scope.entry) (written.base_view base.now) (type_view bare)) }
+    requires known { AreBuilt scope.known.now }
+    ensures { Answers type_view named result (in_turn.PartsInTurn (visible_in scope.entry) (written.base_view base.now) (type_view bare)) }
 {
     let Ty { tags, kind, cons } = bare;
     let inside = finished_kind(alloc, scope, base, kind)?;
@@ -57,7 +61,8 @@ fn finished_kind(
     base: &BaseTree,
     kind: Kind,
 ) -> Result<Kind, SchemaFault>
-    ensures { Answers kind_view named result (in_turn.KindInTurn (visible_of scope.entry) (written.base_view base.now) (kind_view kind)) }
+    requires known { AreBuilt scope.known.now }
+    ensures { Answers kind_view named result (in_turn.KindInTurn (visible_in scope.entry) (written.base_view base.now) (kind_view kind)) }
 {
     match base {
         BaseTree::Structure(_, trees) => list(alloc, scope, trees, kind),
@@ -70,7 +75,8 @@ fn finished_kind(
 /// A SEQUENCE or SET.
 #[cycle(finishing)]
 fn list(alloc: Global, scope: Scope, trees: &[CompTree], kind: Kind) -> Result<Kind, SchemaFault>
-    ensures { Answers kind_view named result (in_turn.ListInTurn (in_turn.FillsInTurn (visible_of scope.entry) (components_of (map written.component_view trees.now))) (kind_view kind)) }
+    requires known { AreBuilt scope.known.now }
+    ensures { Answers kind_view named result (in_turn.ListInTurn (in_turn.FillsInTurn (visible_in scope.entry) (components_of (map written.component_view trees.now))) (kind_view kind)) }
 {
     match kind {
         Kind::Sequence(bare) => Ok(Kind::Sequence(components(alloc, scope, trees, bare)?)),
@@ -86,7 +92,8 @@ fn choice(
     trees: &[AlternativeTree],
     kind: Kind,
 ) -> Result<Kind, SchemaFault>
-    ensures { Answers kind_view named result (in_turn.ChoiceInTurn (in_turn.OthersInTurn (visible_of scope.entry) (alternatives_of (map written.alternative_view trees.now))) (kind_view kind)) }
+    requires known { AreBuilt scope.known.now }
+    ensures { Answers kind_view named result (in_turn.ChoiceInTurn (in_turn.OthersInTurn (visible_in scope.entry) (alternatives_of (map written.alternative_view trees.now))) (kind_view kind)) }
 {
     match kind {
         Kind::Choice(bare) => Ok(Kind::Choice(alternatives(alloc, scope, trees, bare)?)),
@@ -97,7 +104,8 @@ fn choice(
 /// SEQUENCE OF or SET OF.
 #[cycle(finishing)]
 fn elements(alloc: Global, scope: Scope, tree: &TypeTree, kind: Kind) -> Result<Kind, SchemaFault>
-    ensures { Answers kind_view named result (in_turn.ElementInTurn (in_turn.FinishesInTurn (visible_of scope.entry) (written.type_view tree.now)) (kind_view kind)) }
+    requires known { AreBuilt scope.known.now }
+    ensures { Answers kind_view named result (in_turn.ElementInTurn (in_turn.FinishesInTurn (visible_in scope.entry) (written.type_view tree.now)) (kind_view kind)) }
 {
     match kind {
         Kind::SequenceOf(bare) => Ok(Kind::SequenceOf(boxed(alloc, scope, tree, bare)?)),
@@ -113,7 +121,8 @@ fn boxed(
     tree: &TypeTree,
     bare: Box<Ty>,
 ) -> Result<Box<Ty>, SchemaFault>
-    ensures { Answers (λ b. type_view b.value) named result (in_turn.FinishesInTurn (visible_of scope.entry) (written.type_view tree.now) (type_view bare.value)) }
+    requires known { AreBuilt scope.known.now }
+    ensures { Answers (λ b. type_view b.value) named result (in_turn.FinishesInTurn (visible_in scope.entry) (written.type_view tree.now) (type_view bare.value)) }
 {
     let element = finished(alloc, scope, tree, Box::into_inner(bare))?;
     Ok(Box::new(alloc, element)?)
@@ -128,7 +137,8 @@ fn components(
     trees: &[CompTree],
     bare: Vec<Comp>,
 ) -> Result<Vec<Comp>, SchemaFault>
-    ensures { Answers (λ v. map component_view v.items) named result (in_turn.FillsAll (in_turn.FillsInTurn (visible_of scope.entry) (components_of (map written.component_view trees.now))) (in_turn.listed (model.components_of (map component_view bare.items)))) }
+    requires known { AreBuilt scope.known.now }
+    ensures { Answers (λ v. map component_view v.items) named result (in_turn.FillsAll (in_turn.FillsInTurn (visible_in scope.entry) (components_of (map written.component_view trees.now))) (in_turn.listed (model.components_of (map component_view bare.items)))) }
 {
     let start = unfilled(alloc, bare)?;
     let filling = fill(alloc, scope, trees, start)?;
@@ -142,7 +152,8 @@ fn alternatives(
     trees: &[AlternativeTree],
     bare: Vec<Comp>,
 ) -> Result<Vec<Comp>, SchemaFault>
-    ensures { Answers (λ v. map component_view v.items) named result (in_turn.FillsAll (in_turn.OthersInTurn (visible_of scope.entry) (alternatives_of (map written.alternative_view trees.now))) (in_turn.listed (model.components_of (map component_view bare.items)))) }
+    requires known { AreBuilt scope.known.now }
+    ensures { Answers (λ v. map component_view v.items) named result (in_turn.FillsAll (in_turn.OthersInTurn (visible_in scope.entry) (alternatives_of (map written.alternative_view trees.now))) (in_turn.listed (model.components_of (map component_view bare.items)))) }
 {
     let start = unfilled(alloc, bare)?;
     let filling = fill_alternatives(alloc, scope, trees, start)?;
@@ -167,7 +178,8 @@ fn fill(
     trees: &[CompTree],
     filling: Filling,
 ) -> Result<Filling, SchemaFault>
-    ensures { Answers filling_view named result (in_turn.FillsInTurn (visible_of scope.entry) (components_of (map written.component_view trees.now)) (filling_view filling)) }
+    requires known { AreBuilt scope.known.now }
+    ensures { Answers filling_view named result (in_turn.FillsInTurn (visible_in scope.entry) (components_of (map written.component_view trees.now)) (filling_view filling)) }
 {
     let mut so_far = filling;
     for tree in trees {
@@ -183,7 +195,8 @@ fn fill_entry(
     tree: &CompTree,
     filling: Filling,
 ) -> Result<Filling, SchemaFault>
-    ensures { Answers filling_view named result (in_turn.EntryInTurn (visible_of scope.entry) (written.component_view tree.now).form (filling_view filling)) }
+    requires known { AreBuilt scope.known.now }
+    ensures { Answers filling_view named result (in_turn.EntryInTurn (visible_in scope.entry) (written.component_view tree.now).form (filling_view filling)) }
 {
     match &tree.form {
         CompForm::Named(_, ty, presence) => fill_next(alloc, scope, ty, presence, filling),
@@ -199,7 +212,8 @@ fn fill_alternatives(
     trees: &[AlternativeTree],
     filling: Filling,
 ) -> Result<Filling, SchemaFault>
-    ensures { Answers filling_view named result (in_turn.OthersInTurn (visible_of scope.entry) (alternatives_of (map written.alternative_view trees.now)) (filling_view filling)) }
+    requires known { AreBuilt scope.known.now }
+    ensures { Answers filling_view named result (in_turn.OthersInTurn (visible_in scope.entry) (alternatives_of (map written.alternative_view trees.now)) (filling_view filling)) }
 {
     let mut so_far = filling;
     for tree in trees {
@@ -215,7 +229,8 @@ fn fill_alternative(
     tree: &AlternativeTree,
     filling: Filling,
 ) -> Result<Filling, SchemaFault>
-    ensures { Answers filling_view named result (in_turn.AlternativeInTurn (visible_of scope.entry) (written.alternative_view tree.now) (filling_view filling)) }
+    requires known { AreBuilt scope.known.now }
+    ensures { Answers filling_view named result (in_turn.AlternativeInTurn (visible_in scope.entry) (written.alternative_view tree.now) (filling_view filling)) }
 {
     fill_next(alloc, scope, &tree.ty, &PresenceTree::Mandatory, filling)
 }
@@ -229,7 +244,8 @@ fn fill_next(
     presence: &PresenceTree,
     filling: Filling,
 ) -> Result<Filling, SchemaFault>
-    ensures { Answers filling_view named result (in_turn.FillsNext (visible_of scope.entry) (finishing.site_of_type (written.type_view tree.now)) (in_turn.FinishesInTurn (visible_of scope.entry) (written.type_view tree.now)) (written.presence_view presence.now) (filling_view filling).done (filling_view filling).left) }
+    requires known { AreBuilt scope.known.now }
+    ensures { Answers filling_view named result (in_turn.FillsNext (visible_in scope.entry) (finishing.site_of_type (written.type_view tree.now)) (in_turn.FinishesInTurn (visible_in scope.entry) (written.type_view tree.now)) (written.presence_view presence.now) (filling_view filling).done (filling_view filling).left) }
 {
     let mut filling = filling;
     match filling.left.pop_front() {
@@ -248,7 +264,8 @@ fn fill_one(
     bare: Comp,
     filling: Filling,
 ) -> Result<Filling, SchemaFault>
-    ensures { Answers filling_view named result (in_turn.FillsOne (visible_of scope.entry) (finishing.site_of_type (written.type_view tree.now)) (in_turn.FinishesInTurn (visible_of scope.entry) (written.type_view tree.now)) (written.presence_view presence.now) (component_view bare) (filling_view filling)) }
+    requires known { AreBuilt scope.known.now }
+    ensures { Answers filling_view named result (in_turn.FillsOne (visible_in scope.entry) (finishing.site_of_type (written.type_view tree.now)) (in_turn.FinishesInTurn (visible_in scope.entry) (written.type_view tree.now)) (written.presence_view presence.now) (component_view bare) (filling_view filling)) }
 {
     let comp = finished_component(alloc, scope, tree, presence, bare)?;
     Ok(with_done(comp, filling)?)
@@ -272,7 +289,8 @@ fn finished_component(
     presence: &PresenceTree,
     bare: Comp,
 ) -> Result<Comp, SchemaFault>
-    ensures { Answers component_view named result (in_turn.OneInTurn (visible_of scope.entry) (finishing.site_of_type (written.type_view tree.now)) (in_turn.FinishesInTurn (visible_of scope.entry) (written.type_view tree.now)) (written.presence_view presence.now) (component_view bare)) }
+    requires known { AreBuilt scope.known.now }
+    ensures { Answers component_view named result (in_turn.OneInTurn (visible_in scope.entry) (finishing.site_of_type (written.type_view tree.now)) (in_turn.FinishesInTurn (visible_in scope.entry) (written.type_view tree.now)) (written.presence_view presence.now) (component_view bare)) }
 {
     let Comp { name, ty, .. } = bare;
     let filled = finished(alloc, scope, tree, ty)?;
@@ -288,7 +306,8 @@ fn with_presence(
     name: String,
     ty: Ty,
 ) -> Result<Comp, SchemaFault>
-    ensures { Answers component_view named result (in_turn.WithPresence (visible_of scope.entry) site (written.presence_view presence.now) (string_bytes name) (type_view ty)) }
+    requires known { AreBuilt scope.known.now }
+    ensures { Answers component_view named result (in_turn.WithPresence (visible_in scope.entry) site (written.presence_view presence.now) (string_bytes name) (type_view ty)) }
 {
     let presence = presence_of(alloc, scope, site, &ty, presence)?;
     Ok(Comp { name, ty, presence })
@@ -302,7 +321,8 @@ fn presence_of(
     ty: &Ty,
     presence: &PresenceTree,
 ) -> Result<Presence, SchemaFault>
-    ensures { Answers presence_view named result (finishing.FillsPresence (visible_of scope.entry) site (type_view ty.now) (written.presence_view presence.now)) }
+    requires known { AreBuilt scope.known.now }
+    ensures { Answers presence_view named result (finishing.FillsPresence (visible_in scope.entry) site (type_view ty.now) (written.presence_view presence.now)) }
 {
     match presence {
         PresenceTree::Mandatory => Ok(Presence::Mandatory),
@@ -324,7 +344,8 @@ fn fill_from(
     base: &BaseTree,
     filling: Filling,
 ) -> Result<Filling, SchemaFault>
-    ensures { Answers filling_view named result (in_turn.FromBaseInTurn (visible_of scope.entry) (written.base_view base.now) (filling_view filling)) }
+    requires known { AreBuilt scope.known.now }
+    ensures { Answers filling_view named result (in_turn.FromBaseInTurn (visible_in scope.entry) (written.base_view base.now) (filling_view filling)) }
 {
     match base {
         BaseTree::Structure(_, trees) => fill(alloc, scope, trees, filling),
@@ -335,7 +356,7 @@ fn fill_from(
 
 /// Those of the type of this name need nothing.
 fn reference_taken_over(scope: Scope, name: &[u8], filling: Filling) -> Result<Filling, SchemaFault>
-    ensures { Answers filling_view named result (Is (in_turn.taken_over (finishing.count_of_meant ((visible_of scope.entry).types name.now)) (filling_view filling))) }
+    ensures { Answers filling_view named result (Is (in_turn.taken_over (finishing.count_of_meant ((visible_in scope.entry).types name.now)) (filling_view filling))) }
 {
     let count = put_in(scope.type_named(name));
     Ok(taken_over(filling, count)?)

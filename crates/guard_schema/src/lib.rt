@@ -5,7 +5,7 @@
 //! | Which texts denote which schema, and which types has it? | `schema.rt` (`Schema`) | `specs/Accepts.antt`, `specs/Schemas.antt` |
 //! | Which faults are there, and which comes first? | `fault.rt` | `specs/Faults.antt`, `specs/Accepts.antt` (`Denotes`), `specs/Outcomes.antt` |
 //! | Which module is a text? | `texts.rt` | `specs/Texts.antt` |
-//! | What is known where a definition is built? | `progress.rt`, where something is written `scope.rt` | `specs/Known.antt`, `specs/Views.antt` |
+//! | What is known where a definition is built? | `progress.rt`; where something is written: `Scope` of `guard_values` | `specs/Known.antt`, `specs/Views.antt` |
 //! | What does a definition denote, each in turn? | `definitions.rt` | `specs/Building.antt` |
 //! | Which constraints and defaults are filled into a type? | `finishing.rt`, `constraints.rt` | `specs/Finishing.antt` |
 //! | What are a written value and a written constraint? | `readings.rt` | `specs/Readings.antt` |
@@ -30,7 +30,6 @@ mod names;
 mod progress;
 mod readings;
 mod schema;
-mod scope;
 mod texts;
 
 pub use fault::SchemaFault;

@@ -6,20 +6,20 @@ ghost use Rattle.guard_model.specs.TypeView.{type_view, constraint_view};
 ghost use Rattle.guard_model.specs.ValueView.{value_view};
 ghost use Rattle.guard_syntax.specs.SetViews as sets;
 ghost use Rattle.guard_syntax.specs.Views as values;
+ghost use Rattle.guard_constraints.specs.Views.{visible_in};
 ghost use Rattle.guard_schema.specs.Faults.{named};
+ghost use Rattle.guard_schema.specs.inside.Pairs.{AreBuilt};
 ghost use Rattle.guard_schema.specs.Outcomes.{Answers};
 ghost use Rattle.guard_schema.specs.Readings.{IsSoundAt, ReadsValue, ReadsMember, ReadsConstraint};
-ghost use Rattle.guard_schema.specs.Views.{visible_of};
 
 use crate::fault::SchemaFault;
 use crate::long_values::first_long;
-use crate::scope::Scope;
 use guard_constraints::constraint;
 use guard_der::sound;
 use guard_eval::member;
 use guard_model::{Cons, Site, Ty, Value};
 use guard_syntax::{ConsTree, ValueTree};
-use guard_values::{ValueFault, value};
+use guard_values::{Scope, ValueFault, value};
 use std::alloc::Global;
 
 /// The type that is written there must be sound. A single value in a constraint of a type that is referred to can keep
@@ -44,7 +44,8 @@ pub fn read_member(
     tree: &ValueTree,
 ) -> Result<Value, SchemaFault>
     requires sound { IsTrue (is_sound (type_view ty.now)) }
-    ensures read { Answers value_view named result (ReadsMember (visible_of scope.entry) (type_view ty.now) (values.value_view tree.now)) }
+    requires known { AreBuilt scope.known.now }
+    ensures read { Answers value_view named result (ReadsMember (visible_in scope.entry) (type_view ty.now) (values.value_view tree.now)) }
     ensures fits { IfOk result (λ v. IsTrue (fits (type_view ty.now) (value_view v))) }
 {
     let value = read_value(alloc, scope, ty, tree)?;
@@ -63,11 +64,12 @@ pub fn read_value(
     tree: &ValueTree,
 ) -> Result<Value, SchemaFault>
     requires sound { IsTrue (is_sound (type_view ty.now)) }
-    ensures read { Answers value_view named result (ReadsValue (visible_of scope.entry) (type_view ty.now) (values.value_view tree.now)) }
+    requires known { AreBuilt scope.known.now }
+    ensures read { Answers value_view named result (ReadsValue (visible_in scope.entry) (type_view ty.now) (values.value_view tree.now)) }
     ensures fits { IfOk result (λ v. IsTrue (fits (type_view ty.now) (value_view v))) }
 {
-    let progress = scope.progress;
-    Ok(value(alloc, progress.names, &progress.known, scope.id, ty, tree)?)
+    let Scope { names, known, id } = scope;
+    Ok(value(alloc, names, known, id, ty, tree)?)
 }
 
 /// The constraint that is written on a type.
@@ -78,9 +80,10 @@ pub fn read_constraint(
     tree: &ConsTree,
 ) -> Result<Cons, SchemaFault>
     requires sound { IsTrue (is_sound (type_view ty.now)) }
-    ensures read { Answers constraint_view named result (ReadsConstraint (visible_of scope.entry) (type_view ty.now) (sets.constraint_view tree.now)) }
+    requires known { AreBuilt scope.known.now }
+    ensures read { Answers constraint_view named result (ReadsConstraint (visible_in scope.entry) (type_view ty.now) (sets.constraint_view tree.now)) }
     ensures proper { IfOk result (λ c. IsTrue (is_proper_constraint (constraint_view c) (type_view ty.now))) }
 {
-    let progress = scope.progress;
-    Ok(constraint(alloc, progress.names, &progress.known, scope.id, ty, tree)?)
+    let Scope { names, known, id } = scope;
+    Ok(constraint(alloc, names, known, id, ty, tree)?)
 }

@@ -22,6 +22,7 @@ use Rattle.guard_tagging.specs.Skeletons.{AreSurroundings, IsTypeOf, IsFaultOf}
 use Rattle.guard_tagging.specs.Surroundings.{nodes_of_all}
 use Rattle.guard_tagging.specs.Types.{Surroundings}
 use Rattle.guard_constraints.specs.Visible.{Visible}
+use Rattle.guard_constraints.specs.Views.{visible_at}
 use Rattle.guard_values.specs.Views.{home_name}
 use Rattle.guard_schema.specs.declared.fault.SchemaFault.{SchemaFault}
 use Rattle.guard_schema.specs.declared.progress.Progress.{Progress}
@@ -41,6 +42,7 @@ use Rattle.guard_schema.proofs.Turns.Outcomes.{led}
 use Rattle.guard_schema.proofs.Filled.BareTypes.{bare_of}
 use Rattle.guard_schema.proofs.Filled.ByTrees.{type_filled}
 use Rattle.guard_schema.proofs.Built.Types.{types_agree}
+use Rattle.guard_schema.proofs.Built.Visible.{visible_same}
 
 pub types_same : (ts : List Ty) (vs : List (Option Value)) → length vs ≡ length ts
     → types_of (paired ts vs) ≡ map type_view ts
@@ -173,9 +175,8 @@ module _ (p : Progress) (id : ℕ) (d : Definition)
   tagged_so answer h =
       subst (λ (x : Definition). HasTags (known_view p) x answer) (same_Some h.0 d (sym h.1 ∙ sym is)) h.2
 
-  here : visible (known_view p) (home_name (slice_get (definitions (modules_of p.names.now)) id)) ≡ visible
-      (known_view p) d.home.name
-  here = ap (λ (o : Option Definition). visible (known_view p) (home_name o)) (sym is)
+  here : visible_at p.names.now p.known id ≡ visible (known_view p) d.home.name
+  here = visible_same p id ∙ ap (λ (o : Option Definition). visible (known_view p) (home_name o)) (sym is)
 
   by_tags : (f : AbstractFault) → TagsApart (known_view p) id d.assignment.site (Err f)
       → BuildsNumber (known_view p) id (Err f)
@@ -217,13 +218,12 @@ module _ (p : Progress) (id : ℕ) (d : Definition)
 
   pub built_whole : (bare : AbstractType) → TagsApart (known_view p) id d.assignment.site (Ok bare)
       → (result : Result code.Definition SchemaFault)
-      → Answers definition_view named result (CompletesInTurn (known_view p)
-      (visible (known_view p) (home_name (slice_get (definitions (modules_of p.names.now)) id))) d.assignment bare)
-      → Answers definition_view named result (BuildsNumber (known_view p) id)
+      → Answers definition_view named result (CompletesInTurn (known_view p) (visible_at p.names.now p.known id)
+      d.assignment bare) → Answers definition_view named result (BuildsNumber (known_view p) id)
   built_whole bare h result completes =
       let parts = parts_there bare h in
       led definition_view named result (CompletesInTurn (known_view p)
-      (visible (known_view p) (home_name (slice_get (definitions (modules_of p.names.now)) id))) d.assignment bare)
+      (visible_at p.names.now p.known id) d.assignment bare)
       (BuildsNumber (known_view p) id)
       (λ answer c. completed_so bare parts.0 parts.1 answer
       (subst (λ (m : Visible). CompletesInTurn (known_view p) m d.assignment bare answer) here c)) completes

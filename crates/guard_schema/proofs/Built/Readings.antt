@@ -1,11 +1,9 @@
 -- What the layers below answer of a written value and a written constraint is what the definitions say.
-use Rattle.std.proofs.Common.{◌≡◌, ℕ, Option, Some, None, Ok, option_map, refl, sym, ap, subst}
-use Rattle.std.specs.Prelude.{IfSome, slice_get}
+use Rattle.std.proofs.Common.{◌≡◌, Option, Some, None, option_map, refl, sym, ap, subst}
+use Rattle.std.specs.Prelude.{IfSome}
 use Rattle.std.proofs.lemmas.Option.{same_Some}
 use Rattle.guard_model.specs.AbstractType.{AbstractType, Constraint}
 use Rattle.guard_model.specs.AbstractValue.{AbstractValue}
-use Rattle.guard_names.specs.Declarations.{definitions}
-use Rattle.guard_names.specs.NamesView.{modules_of}
 use Rattle.guard_syntax.specs.Trees.{WrittenValue, WrittenValueForm, WrittenEntry, WrittenConstraint}
 use Rattle.guard_syntax.specs.Views as written
 use Rattle.guard_syntax.specs.Views.{value_form_step, entry_step, value_step}
@@ -17,22 +15,16 @@ use Rattle.guard_values.specs.declared.fault.ValueFault.TheVariants as value_fau
 use Rattle.guard_values.specs.Denotes as values
 use Rattle.guard_values.specs.FirstFault.{IsFirstFault}
 use Rattle.guard_values.specs.Views as value_views
-use Rattle.guard_values.specs.Views.{visible_from, home_name}
 use Rattle.guard_constraints.specs.declared.fault.ConsFault.{ConsFault}
 use Rattle.guard_constraints.specs.declared.fault.ConsFault.TheVariants as cons_fault
 use Rattle.guard_constraints.specs.Visible.{Visible}
 use Rattle.guard_constraints.specs.Denotes as constraints
 use Rattle.guard_constraints.specs.FirstFault.{IsFirstConstraintFault}
 use Rattle.guard_constraints.specs.Views as constraint_views
-use Rattle.guard_constraints.specs.Views.{visible_at}
 use Rattle.guard_schema.specs.declared.fault.SchemaFault.{SchemaFault}
-use Rattle.guard_schema.specs.declared.progress.Progress.{Progress}
 use Rattle.guard_schema.specs.Outcomes.{RefusesBy}
 use Rattle.guard_schema.specs.Faults.{Value, Cons, IsNamed, named}
-use Rattle.guard_schema.specs.Known.{visible}
 use Rattle.guard_schema.specs.Readings.{ReadsValue, ReadsConstraint, site_of}
-use Rattle.guard_schema.specs.Views.{known_view}
-use Rattle.guard_schema.proofs.Built.Visible.{visible_same}
 
 value_named : (f g : ValueFault) → value_views.named f ≡ Some g → IsNamed value_views.named g
 value_named value_fault.OutOfMemory g e = absurd cc
@@ -76,63 +68,34 @@ constraint_named (cons_fault.Value f) g e = subst (IsNamed constraint_views.name
 constraint_named (cons_fault.SizeOnNamedBits site) g e =
     subst (IsNamed constraint_views.named) (same_Some (cons_fault.SizeOnNamedBits site) g e) refl
 
-module _ (p : Progress) (id : ℕ) where
-  abbrev names : Visible
-  names = visible (known_view p) (home_name (slice_get (definitions (modules_of p.names.now)) id))
-
-  pub value_read : (t : AbstractType) (tree : WrittenValue) (v : AbstractValue)
-      → values.Denotes (visible_from p.names.now p.known id) t tree v
-      → ReadsValue (visible (known_view p) (home_name (slice_get (definitions (modules_of p.names.now)) id))) t tree
-      (Ok v)
-  value_read t tree v h = subst (λ (m : Visible). values.Denotes m.values t tree v) (visible_same p id) h
-
+module _ (names : Visible) where
   value_faulty : (t : AbstractType) (tree : WrittenValue) (f : ValueFault) (o : Option ValueFault)
-      → value_views.named f ≡ o
-      → IfSome o (IsFirstFault (visible_from p.names.now p.known id) t tree)
-      → IfSome o (λ g. (v : AbstractValue) → values.Denotes (visible_from p.names.now p.known id) t tree v → ⊥)
+      → value_views.named f ≡ o → IfSome o (IsFirstFault names.values t tree)
+      → IfSome o (λ g. (v : AbstractValue) → values.Denotes names.values t tree v → ⊥)
       → RefusesBy (option_map Value o) (ReadsValue names t tree)
   value_faulty t tree f None e h k = tt
-  value_faulty t tree f (Some g) e h k = (
-    value_named f g e,
-    subst (λ (m : Visible). IsFirstFault m.values t tree g) (visible_same p id) h,
-    subst (λ (m : Visible). (v : AbstractValue) → values.Denotes m.values t tree v → ⊥) (visible_same p id) k,
-  )
+  value_faulty t tree f (Some g) e h k = (value_named f g e, h, k)
 
   pub value_refused : (t : AbstractType) (tree : WrittenValue) (f : ValueFault) (y : SchemaFault)
       → named y ≡ option_map Value (value_views.named f)
-      → IfSome (value_views.named f) (IsFirstFault (visible_from p.names.now p.known id) t tree)
-      → IfSome (value_views.named f) (λ g. (v : AbstractValue)
-      → values.Denotes (visible_from p.names.now p.known id) t tree v → ⊥)
-      → RefusesBy (named y) (ReadsValue (visible (known_view p)
-      (home_name (slice_get (definitions (modules_of p.names.now)) id))) t tree)
+      → IfSome (value_views.named f) (IsFirstFault names.values t tree)
+      → IfSome (value_views.named f) (λ g. (v : AbstractValue) → values.Denotes names.values t tree v → ⊥)
+      → RefusesBy (named y) (ReadsValue names t tree)
   value_refused t tree f y is h k = subst (λ o. RefusesBy o (ReadsValue names t tree)) (sym is)
       (value_faulty t tree f (value_views.named f) refl h k)
 
-  pub constraint_read : (t : AbstractType) (tree : WrittenConstraint) (c : Constraint)
-      → constraints.Denotes (visible_at p.names.now p.known id) t tree c
-      → ReadsConstraint (visible (known_view p) (home_name (slice_get (definitions (modules_of p.names.now)) id))) t
-      tree (Ok c)
-  constraint_read t tree c h = subst (λ (m : Visible). constraints.Denotes m t tree c) (visible_same p id) h
-
   constraint_faulty : (t : AbstractType) (tree : WrittenConstraint) (f : ConsFault) (o : Option ConsFault)
-      → constraint_views.named f ≡ o
-      → IfSome o (λ g. IsFirstConstraintFault (visible_at p.names.now p.known id) t tree g)
-      → IfSome o (λ g. (c : Constraint) → constraints.Denotes (visible_at p.names.now p.known id) t tree c → ⊥)
+      → constraint_views.named f ≡ o → IfSome o (λ g. IsFirstConstraintFault names t tree g)
+      → IfSome o (λ g. (c : Constraint) → constraints.Denotes names t tree c → ⊥)
       → RefusesBy (option_map Cons o) (ReadsConstraint names t tree)
   constraint_faulty t tree f None e h k = tt
-  constraint_faulty t tree f (Some g) e h k = (
-    constraint_named f g e,
-    subst (λ (m : Visible). IsFirstConstraintFault m t tree g) (visible_same p id) h,
-    subst (λ (m : Visible). (c : Constraint) → constraints.Denotes m t tree c → ⊥) (visible_same p id) k,
-  )
+  constraint_faulty t tree f (Some g) e h k = (constraint_named f g e, h, k)
 
   pub constraint_refused : (t : AbstractType) (tree : WrittenConstraint) (f : ConsFault) (y : SchemaFault)
       → named y ≡ option_map Cons (constraint_views.named f)
-      → IfSome (constraint_views.named f) (λ g. IsFirstConstraintFault (visible_at p.names.now p.known id) t tree g)
-      → IfSome (constraint_views.named f) (λ g. (c : Constraint)
-      → constraints.Denotes (visible_at p.names.now p.known id) t tree c → ⊥)
-      → RefusesBy (named y) (ReadsConstraint (visible (known_view p)
-      (home_name (slice_get (definitions (modules_of p.names.now)) id))) t tree)
+      → IfSome (constraint_views.named f) (λ g. IsFirstConstraintFault names t tree g)
+      → IfSome (constraint_views.named f) (λ g. (c : Constraint) → constraints.Denotes names t tree c → ⊥)
+      → RefusesBy (named y) (ReadsConstraint names t tree)
   constraint_refused t tree f y is h k = subst (λ o. RefusesBy o (ReadsConstraint names t tree)) (sym is)
       (constraint_faulty t tree f (constraint_views.named f) refl h k)
 

@@ -1,10 +1,9 @@
 -- What names mean by what the code keeps is what they mean by the definitions.
-use Rattle.std.proofs.Common.{◌≡◌, ◌<◌, ◌≤◌, Bor, MatchOption, ℕ, zero, suc, List, [], ◌∷◌, length, Option, Some, None}
+use Rattle.std.proofs.Common.{◌≡◌, ℕ, zero, suc, List, [], ◌∷◌, length, Option, Some, None}
 use Rattle.std.proofs.Common.{option_map, slice_get, refl, sym, ap, subst, ◌∙◌, IsTrue, arith}
 use Rattle.std.specs.Prelude.{IfSome, All}
 use Rattle.std.proofs.Math.Path.{fun_ext}
-use Rattle.std.proofs.lemmas.Option.{same_Some, slice_get_past, slice_get_read}
-use Rattle.std.specs.List.{HoldsAt}
+use Rattle.std.proofs.lemmas.Option.{same_Some}
 use Rattle.std.proofs.lemmas.List.Elements.{All-head, All-tail}
 use Rattle.guard_der.specs.Fits.{fits}
 use Rattle.guard_der.specs.Sound.{is_sound}
@@ -15,14 +14,14 @@ use Rattle.guard_model.specs.ValueView.{value_view}
 use Rattle.guard_model.specs.declared.ty.Ty.{Ty}
 use Rattle.guard_model.specs.declared.value.Value.{Value}
 use Rattle.guard_names.specs.Declarations.{definitions}
-use Rattle.guard_names.specs.NamesView.{modules_of, order_of}
+use Rattle.guard_names.specs.NamesView.{modules_of}
 use Rattle.guard_values.specs.Meanings.{Meaning}
-use Rattle.guard_names.specs.Places.{place_meant}
-use Rattle.guard_values.specs.Views.{known_pair, known_definition, home_name, visible_from, AreKnownFitting}
-use Rattle.guard_constraints.specs.Views.{visible_at, placed_type, types_from, AreKnownSound}
+use Rattle.guard_values.specs.Views.{known_pair, known_definition, placed_type, home_name, place_from, visible_from}
+use Rattle.guard_values.specs.Views.{types_from, AreKnownFitting}
+use Rattle.guard_constraints.specs.Views.{visible_at, AreKnownSound}
 use Rattle.guard_schema.specs.declared.progress.Progress.{Progress}
 use Rattle.guard_schema.specs.Known.{Built, built_at, governed, governed_value, type_alone, visible, meant}
-use Rattle.guard_schema.specs.inside.Pairs.{paired}
+use Rattle.guard_schema.specs.inside.Pairs.{paired, AreBuilt}
 use Rattle.guard_schema.specs.Views.{built_in, known_view}
 
 -- ---- at one place
@@ -43,7 +42,7 @@ governed_at (t ∷ ts) [] place = no_value (slice_get (t ∷ ts) place)
 governed_at (t ∷ ts) (v ∷ vs) zero = value_there t v
 governed_at (t ∷ ts) (v ∷ vs) (suc place) = governed_at ts vs place
 
-pub type_there : (ts : List Ty) (vs : List (Option Value)) (place : ℕ) → length vs ≡ length ts
+type_there : (ts : List Ty) (vs : List (Option Value)) (place : ℕ) → length vs ≡ length ts
     → type_alone (slice_get (paired ts vs) place) ≡ option_map type_view (slice_get ts place)
 type_there [] vs place e = refl
 type_there (t ∷ ts) [] place e = absurd (omega (arith, e))
@@ -69,7 +68,7 @@ module _ (p : Progress) where
   visible_same id =
       let home = home_name (slice_get (definitions (modules_of p.names.now)) id) in
       let k = known_view p in
-      let place : List ℕ → Option ℕ = λ name. place_meant (modules_of p.names.now) (order_of p.names.now) home name in
+      let place : List ℕ → Option ℕ = λ name. place_from p.names.now id name in
       let values : visible_from p.names.now p.known id ≡ (λ name. governed (meant k home name)) =
       fun_ext (λ name. values_found (place name)) in
       let types : types_from p.names.now p.known id ≡ (λ name. type_alone (meant k home name)) =
@@ -101,20 +100,16 @@ sound_found : (t : Option Ty) → ((u : Ty) → t ≡ Some u → IsTrue (is_soun
 sound_found None h = tt
 sound_found (Some t) h = h t refl
 
-pub known_fitting : (p : Progress) → AreKnownFitting p.known
+known_fitting : (p : Progress) → AreKnownFitting p.known
 known_fitting p place =
     subst (λ g. IfSome g (λ h. IsTrue (fits h.ty h.value))) (governed_at p.known.types.items p.known.values.items place)
     (fits_found (slice_get (paired p.known.types.items p.known.values.items) place)
     (λ b e. all_at (λ (c : Built). IfSome c.value (λ w. IsTrue (fits c.ty w)))
     (paired p.known.types.items p.known.values.items) place b p.fitting e))
 
-pub known_sound : (p : Progress) → AreKnownSound p.known
+known_sound : (p : Progress) → AreKnownSound p.known
 known_sound p place = sound_found (slice_get p.known.types.items place)
     (λ t e. all_at (λ (u : Ty). IsTrue (is_sound (type_view u))) p.known.types.items place t p.sound e)
 
-pub type_got : (found : Option (Bor Ty)) (types : List Ty) (i : ℕ)
-    → MatchOption found (length types ≤ i) (λ t. (i < length types) × HoldsAt (λ d. t.now ≡ d) types i)
-    → option_map (λ t. type_view t.now) found ≡ option_map type_view (slice_get types i)
-type_got None types i h = sym (ap (option_map type_view) (slice_get_past types i h))
-type_got (Some t) types i h = sym (ap (option_map type_view)
-    (slice_get_read types (length types) i t.now refl h.0 (h.1 t.now)))
+pub known_built : (p : Progress) → AreBuilt p.known
+known_built p = (known_sound p, known_fitting p)

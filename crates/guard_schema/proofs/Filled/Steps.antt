@@ -1,7 +1,7 @@
 -- Types that are finished step by step.
 use Rattle.std.proofs.Common.{◌≡◌, ℕ, List, [], map, length, Option, Some, None, Result, Ok, Err, inl, inr, refl, sym}
 use Rattle.std.proofs.Common.{ap, subst, ◌∙◌}
-use Rattle.std.specs.Global.{Box}
+use Rattle.std.specs.Global.{Box, Vec}
 use Rattle.std.specs.Prelude.{string_bytes}
 use Rattle.guard_model.proofs.Components.{component_count_view}
 use Rattle.guard_model.proofs.Results.{same_Ok}
@@ -21,14 +21,16 @@ use Rattle.guard_syntax.specs.SetViews as sets
 use Rattle.guard_syntax.specs.Trees.{WrittenConstraint, WrittenPresence, WrittenTag, WrittenType, type_node}
 use Rattle.guard_syntax.specs.Trees.{WrittenBase, of_type, WrittenComponentForm, components_of_type, WrittenComponent}
 use Rattle.guard_syntax.specs.Trees.{WrittenAlternative}
+use Rattle.guard_syntax.specs.Trees as trees
 use Rattle.guard_syntax.specs.TypeViews as written
 use Rattle.guard_syntax.specs.TypeViews.{base_step, component_form_step, alternative_step, component_step, type_step}
+use Rattle.guard_syntax.specs.declared.tree.AlternativeTree.{AlternativeTree}
 use Rattle.guard_syntax.specs.declared.tree.BaseTree.{BaseTree}
 use Rattle.guard_syntax.specs.declared.tree.BaseTree.TheFolds.{fold_out-TypeTree, fold_out-CompTree, fold-roll-BaseTree}
 use Rattle.guard_syntax.specs.declared.tree.BaseTree.TheFolds.{fold-roll-CompForm}
 use Rattle.guard_syntax.specs.declared.tree.BaseTree.TheOpen.{BaseTree-F, CompForm-F}
 use Rattle.guard_syntax.specs.declared.tree.BaseTree.TheVariants as base_form
-use Rattle.guard_syntax.specs.declared.tree.BaseTree.TheVariants.{rolls-Of}
+use Rattle.guard_syntax.specs.declared.tree.BaseTree.TheVariants.{rolls-Of, rolls-Structure, rolls-Choice}
 use Rattle.guard_syntax.specs.declared.tree.BaseTree.TheViews.{out-TypeTree, out-CompTree}
 use Rattle.guard_syntax.specs.declared.tree.Collection.{Collection}
 use Rattle.guard_syntax.specs.declared.tree.CompForm.TheVariants as component_form
@@ -44,7 +46,8 @@ use Rattle.guard_schema.specs.Faults.{AbstractFault, Outcome, named}
 use Rattle.guard_schema.specs.Finishing.{constraint_before, site_of_type, ConstrainsBefore, Constrains}
 use Rattle.guard_schema.specs.inside.InTurn.{Filling, listed, ConstrainsWritten, FinishesInTurn, KindInTurn}
 use Rattle.guard_schema.specs.inside.InTurn.{ElementInTurn, PartsInTurn, OneInTurn, WithPresence, FillsAll, FillsOne}
-use Rattle.guard_schema.specs.inside.InTurn.{FromBaseInTurn, EntryInTurn}
+use Rattle.guard_schema.specs.inside.InTurn.{FromBaseInTurn, EntryInTurn, ListInTurn, ChoiceInTurn, FillsInTurn}
+use Rattle.guard_schema.specs.inside.InTurn.{OthersInTurn}
 use Rattle.guard_schema.proofs.Filled.Lists.{listed_of}
 use Rattle.guard_schema.specs.declared.finishing.Filling as code
 use Rattle.guard_schema.specs.Views.{filling_view}
@@ -155,6 +158,46 @@ module _ (names : Visible) (base : WrittenBase) (bare : Ty) where
       → PartsInTurn names base (type_view bare) (Ok u)
   kind_finished k h u e = subst (λ (t : AbstractType). PartsInTurn names base t (Ok u)) (sym (type_view_is bare))
       (inl (k, h, ap Ok e))
+
+-- ---- its components or alternatives
+
+structure_is : (k : Collection) (comps : Vec CompTree) → written.base_view (base_form.Structure k comps)
+    ≡ trees.structure k (trees.components_of (map written.component_view comps.items))
+structure_is k comps =
+    ap written.base_view (sym (rolls-Structure k comps))
+    ∙ fold-roll-BaseTree WrittenBase WrittenComponentForm WrittenAlternative WrittenComponent WrittenType base_step
+    component_form_step alternative_step component_step type_step (BaseTree-F.Structure k comps)
+
+choice_is : (others : Vec AlternativeTree) → written.base_view (base_form.Choice others)
+    ≡ trees.choice (trees.alternatives_of (map written.alternative_view others.items))
+choice_is others =
+    ap written.base_view (sym (rolls-Choice others))
+    ∙ fold-roll-BaseTree WrittenBase WrittenComponentForm WrittenAlternative WrittenComponent WrittenType base_step
+    component_form_step alternative_step component_step type_step (BaseTree-F.Choice others)
+
+pub list_finished : (names : Visible) (base : BaseTree) (k : Collection) (comps : Vec CompTree)
+    → base ≡ base_form.Structure k comps → (inside : List CompTree) → inside ≡ comps.items
+    → (kind : AbstractKind) (result : Result Kind SchemaFault)
+    → Answers kind_view named result
+    (ListInTurn (FillsInTurn names (trees.components_of (map written.component_view inside))) kind)
+    → Answers kind_view named result (KindInTurn names (written.base_view base) kind)
+list_finished names base k comps is inside same kind result h =
+    subst (λ (b : WrittenBase). Answers kind_view named result (KindInTurn names b kind))
+    (sym (ap written.base_view is ∙ structure_is k comps))
+    (subst (λ (cs : List CompTree). Answers kind_view named result
+    (ListInTurn (FillsInTurn names (trees.components_of (map written.component_view cs))) kind)) same h)
+
+pub choice_finished : (names : Visible) (base : BaseTree) (others : Vec AlternativeTree)
+    → base ≡ base_form.Choice others → (inside : List AlternativeTree) → inside ≡ others.items
+    → (kind : AbstractKind) (result : Result Kind SchemaFault)
+    → Answers kind_view named result
+    (ChoiceInTurn (OthersInTurn names (trees.alternatives_of (map written.alternative_view inside))) kind)
+    → Answers kind_view named result (KindInTurn names (written.base_view base) kind)
+choice_finished names base others is inside same kind result h =
+    subst (λ (b : WrittenBase). Answers kind_view named result (KindInTurn names b kind))
+    (sym (ap written.base_view is ∙ choice_is others))
+    (subst (λ (all : List AlternativeTree). Answers kind_view named result
+    (ChoiceInTurn (OthersInTurn names (trees.alternatives_of (map written.alternative_view all))) kind)) same h)
 
 -- ---- the type of its elements
 

@@ -13,9 +13,9 @@ use Rattle.guard_syntax.specs.Trees.{WrittenModule, WrittenType, WrittenValue, W
 use Rattle.guard_syntax.proofs.SoundAndComplete.{one_tree}
 use Rattle.guard_names.specs.Declarations.{Definition, definitions}
 use Rattle.guard_names.specs.Meanings.{Uses}
-use Rattle.guard_names.proofs.Orders.{one_order}
-use Rattle.guard_names.proofs.OneFault.{never_both}
-use Rattle.guard_names.proofs.OneFault as names
+use Rattle.guard_names.proofs.InOrder.Orders.{one_order}
+use Rattle.guard_names.proofs.Faults.OneFault.{never_both}
+use Rattle.guard_names.proofs.Faults.OneFault as names
 use Rattle.guard_tagging.specs.Surroundings.{nodes_of_all}
 use Rattle.guard_tagging.specs.Types.{Surroundings}
 use Rattle.guard_tagging.proofs.Definitions.Meanings.{same_surroundings}

@@ -14,8 +14,8 @@ use Rattle.guard_names.specs.Faults.{AreFaultless}
 use Rattle.guard_names.specs.Meanings.{Uses}
 use Rattle.guard_names.specs.Order.{IsOrder}
 use Rattle.guard_names.specs.Places.{place_in, place_meant}
-use Rattle.guard_names.proofs.Places.{placed_there}
-use Rattle.guard_names.proofs.Refusals.{none_duplicate}
+use Rattle.guard_names.proofs.InOrder.Places.{placed_there}
+use Rattle.guard_names.proofs.Faults.Refusals.{none_duplicate}
 use Rattle.guard_tagging.specs.Surroundings.{tag_default_of, known_from}
 use Rattle.guard_tagging.specs.Skeletons.{surroundings_of}
 use Rattle.guard_tagging.specs.Types.{Surroundings, denoted}

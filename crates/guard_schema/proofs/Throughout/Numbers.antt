@@ -17,7 +17,7 @@ use Rattle.guard_names.specs.Declarations.{origin_there}
 use Rattle.guard_names.specs.Faults.{duplicate}
 use Rattle.guard_names.specs.Order.{is_listed}
 use Rattle.guard_names.specs.Places.{place_in}
-use Rattle.guard_names.proofs.Meaning.{found_so}
+use Rattle.guard_names.proofs.Declared.Meaning.{found_so}
 use Rattle.guard_schema.specs.Schemas.{assigns, number_assigned}
 
 -- ---- what is listed has a place

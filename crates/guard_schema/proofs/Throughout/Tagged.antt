@@ -14,7 +14,7 @@ use Rattle.guard_tagging.specs.Types as types
 use Rattle.guard_tagging.specs.Types.{Meaning, Surroundings, universal, collection_number, structure_kind, of_kind}
 use Rattle.guard_tagging.specs.Types.{presence_of, is_automatic_list, is_automatic_choice, tagged_where, parts_of, join}
 use Rattle.guard_tagging.specs.Types.{denoted, denoted_base, denoted_components, denoted_alternatives}
-use Rattle.guard_tagging.specs.Surroundings.{meaning_at, known_behind, known_from}
+use Rattle.guard_tagging.specs.Surroundings.{meaning_at, known_after, known_from}
 use Rattle.guard_tagging.specs.inside.KnownNames.{IsKnown, IsKnownInside, AreKnown, AreKnownOthers}
 use Rattle.guard_schema.proofs.Throughout.Values.{Grows}
 
@@ -86,7 +86,7 @@ found_more xs ys there (Some p) x h = there p x h
 
 module _ (ms : List WrittenModule) (order : List ℕ) where
   still_known : (known : List Meaning) (rest : List ℕ) (types : List AbstractType) (p : ℕ) (m : Meaning)
-      → slice_get known p ≡ Some m → slice_get (known_behind ms order known rest types) p ≡ Some m
+      → slice_get known p ≡ Some m → slice_get (known_after ms order known rest types) p ≡ Some m
   still_known known [] types p m h = h
   still_known known (n ∷ rest) [] p m h = h
   still_known known (n ∷ rest) (t ∷ types) p m h =
@@ -94,8 +94,8 @@ module _ (ms : List WrittenModule) (order : List ℕ) where
       (at_front known (meaning_at ms order known n t ∷ []) p m h)
 
   known_after_more : (known : List Meaning) (rest : List ℕ) (ts more : List AbstractType) (p : ℕ) (m : Meaning)
-      → slice_get (known_behind ms order known rest ts) p ≡ Some m
-      → slice_get (known_behind ms order known rest (ts ++ more)) p ≡ Some m
+      → slice_get (known_after ms order known rest ts) p ≡ Some m
+      → slice_get (known_after ms order known rest (ts ++ more)) p ≡ Some m
   known_after_more known [] ts more p m h = h
   known_after_more known (n ∷ rest) [] more p m h = still_known known (n ∷ rest) more p m h
   known_after_more known (n ∷ rest) (t ∷ ts) more p m h =

@@ -4,6 +4,9 @@ use Rattle.guard_model.specs.TypeView.{type_view}
 use Rattle.guard_model.specs.ValueView.{value_view}
 use Rattle.guard_model.specs.declared.ty.Ty.{Ty}
 use Rattle.guard_model.specs.declared.value.Value.{Value}
+use Rattle.guard_values.specs.declared.scope.Known.{Known}
+use Rattle.guard_values.specs.Views.{AreKnownFitting}
+use Rattle.guard_constraints.specs.Views.{AreKnownSound}
 use Rattle.guard_schema.specs.Known.{Built}
 
 abbrev pub built_view : Ty → Option Value → Built
@@ -13,3 +16,7 @@ abbrev pub paired : List Ty → List (Option Value) → List Built
 paired [] vs = []
 paired (t ∷ ts) [] = []
 paired (t ∷ ts) (v ∷ vs) = built_view t v ∷ paired ts vs
+
+-- each type that is known is sound, and each value is one of its governor's
+abbrev pub AreBuilt : Known → Type 0
+AreBuilt known = AreKnownSound known × AreKnownFitting known

@@ -1,7 +1,7 @@
 use Rattle.std.proofs.lemmas.Result.{err_from_is_err_and}
 use Rattle.guard_model.specs.TypeView.{type_view}
+use Rattle.guard_constraints.specs.Views.{visible_in}
 use Rattle.guard_schema.specs.Faults.{named}
-use Rattle.guard_schema.specs.Views.{visible_of}
 use Rattle.guard_schema.proofs.Filled.Loops.{next_constraint, constraint_stops, no_constraint}
 use Rattle.guard_schema.proofs.constraints.with_constraints.Goals as goal
 
@@ -9,24 +9,24 @@ pub loop-tree-init : goal.loop-tree-init
 loop-tree-init c = record { so_far = λ answer h. h; sound = c.requires.sound }
 
 pub with_constraint-requires : goal.with_constraint-requires
-with_constraint-requires c = record { sound = c.loop-tree.invariant.sound }
+with_constraint-requires c = record { sound = c.loop-tree.invariant.sound; known = c.requires.known }
 
 pub returns-in_err-constrained : goal.returns-in_err-constrained
 returns-in_err-constrained c =
     let p = err_from_is_err_and c.from_residual.result c.from_residual.ensures.1 in
-    rw (p.1, p.2) (constraint_stops (visible_of c.args.scope) c.args.trees.now
+    rw (p.1, p.2) (constraint_stops (visible_in c.args.scope) c.args.trees.now
     (type_view c.args.ty) c.loop-tree.tree-index
     (type_view c.loop-tree.constrained) c.tree-item.result c.loop-tree-test.true c.tree-item.is
     c.loop-tree.invariant.so_far (named c.in_err-constrained.field-0.0) c.in_err-constrained.ensures.added)
 
 pub loop-tree-preserved : goal.loop-tree-preserved
 loop-tree-preserved c = record {
-  so_far = next_constraint (visible_of c.args.scope) c.args.trees.now (type_view c.args.ty) c.loop-tree.tree-index
+  so_far = next_constraint (visible_in c.args.scope) c.args.trees.now (type_view c.args.ty) c.loop-tree.tree-index
       (type_view c.loop-tree.constrained) c.tree-item.result c.loop-tree-test.true c.tree-item.is
       c.loop-tree.invariant.so_far _ c.in_ok-constrained.ensures.added;
   sound = c.in_ok-constrained.ensures.sound;
 }
 
 pub returns : goal.returns
-returns c = no_constraint (visible_of c.args.scope) c.args.trees.now (type_view c.args.ty) c.loop-tree.tree-index
+returns c = no_constraint (visible_in c.args.scope) c.args.trees.now (type_view c.args.ty) c.loop-tree.tree-index
     (type_view c.loop-tree.constrained) c.loop-tree-test.false c.loop-tree.invariant.so_far

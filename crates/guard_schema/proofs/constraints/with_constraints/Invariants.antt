@@ -1,12 +1,12 @@
 use Rattle.std.specs.Prelude.{IsTrue}
 use Rattle.guard_model.specs.TypeView.{type_view}
 use Rattle.guard_der.specs.Sound.{is_sound}
-use Rattle.guard_schema.specs.Views.{visible_of}
+use Rattle.guard_constraints.specs.Views.{visible_in}
 use Rattle.guard_schema.proofs.Filled.Loops.{ConstraintsSoFar}
 use Rattle.guard_schema.proofs.constraints.with_constraints.Given as goal
 
 abbrev pub invariant-loop-tree : goal.invariant-loop-tree
 invariant-loop-tree l = record {
-  so_far : ConstraintsSoFar (visible_of l.scope) l.trees (type_view l.fn.ty) l.tree-index (type_view l.constrained);
+  so_far : ConstraintsSoFar (visible_in l.scope) l.trees (type_view l.fn.ty) l.tree-index (type_view l.constrained);
   sound : IsTrue (is_sound (type_view l.constrained));
 }

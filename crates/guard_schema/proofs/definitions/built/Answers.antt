@@ -5,7 +5,7 @@ use Rattle.guard_model.specs.TypeView.{type_view}
 use Rattle.guard_names.specs.Declarations.{definitions}
 use Rattle.guard_names.specs.Meanings.{Uses}
 use Rattle.guard_names.specs.NamesView.{modules_of, order_of}
-use Rattle.guard_names.proofs.Placing.{listed_there, order_below}
+use Rattle.guard_names.proofs.InOrder.Placing.{listed_there, order_below}
 use Rattle.guard_tagging.specs.Automatic.{Automatic}
 use Rattle.guard_tagging.proofs.Builds.{no_such}
 use Rattle.guard_schema.specs.declared.fault.SchemaFault.{SchemaFault}

@@ -4,23 +4,31 @@ use Rattle.guard_model.specs.TypeView.{type_view}
 use Rattle.guard_syntax.specs.ModuleViews.{assignment_view}
 use Rattle.guard_syntax.specs.TypeViews as written
 use Rattle.guard_tagging.specs.Faults.{nodes}
+use Rattle.guard_constraints.specs.Views.{visible_at}
 use Rattle.guard_schema.specs.Faults.{named}
-use Rattle.guard_schema.specs.Views.{known_view, visible_of}
+use Rattle.guard_schema.specs.Views.{known_view}
 use Rattle.guard_schema.proofs.Filled.Nodes.{finished_nodes}
+use Rattle.guard_schema.proofs.Built.Visible.{known_built}
 use Rattle.guard_schema.proofs.Built.OneDefinition.{finishing_refused, value_refused, nodes_counted}
 use Rattle.guard_schema.proofs.definitions.completed.Goals as goal
+
+pub finished-requires : goal.finished-requires
+finished-requires c = record { known = known_built c.args.progress.now }
+
+pub valued-requires : goal.valued-requires
+valued-requires c = record { known = known_built c.args.progress.now }
 
 pub returns-in_err-ty-clause-built : goal.returns-in_err-ty-clause-built
 returns-in_err-ty-clause-built c =
     let p = err_from_is_err_and c.from_residual.result c.from_residual.ensures.1 in
-    rw (p.1, p.2) (finishing_refused (known_view c.args.scope.progress.now) (visible_of c.args.scope)
+    rw (p.1, p.2) (finishing_refused (known_view c.args.progress.now) (visible_at c.args.progress.now.names.now c.args.progress.now.known c.args.id)
     (assignment_view c.args.assignment.now) (type_view c.args.tagged.ty) (named c.in_err-ty.field-0.0)
     (rw c.deref.ensures at c.in_err-ty.ensures))
 
 pub returns-in_err-found-clause-built : goal.returns-in_err-found-clause-built
 returns-in_err-found-clause-built c =
     let p = err_from_is_err_and c.from_residual-in_err-found.result c.from_residual-in_err-found.ensures.1 in
-    rw (p.1, p.2) (value_refused (known_view c.args.scope.progress.now) (visible_of c.args.scope)
+    rw (p.1, p.2) (value_refused (known_view c.args.progress.now) (visible_at c.args.progress.now.names.now c.args.progress.now.known c.args.id)
     (assignment_view c.args.assignment.now) (type_view c.args.tagged.ty)
     (type_view c.in_ok-ty.ty) (rw c.deref.ensures at c.in_ok-ty.ensures)
     (named c.in_err-found.field-0.0) c.in_err-found.ensures.built)
@@ -34,8 +42,8 @@ returns-clause-built c = inl (
 
 pub returns-clause-nodes : goal.returns-clause-nodes
 returns-clause-nodes c =
-    nodes_counted c.type_nodes-nodes.result c.args.scope.progress.now.nodes (nodes (type_view c.in_ok-ty.ty))
+    nodes_counted c.type_nodes-nodes.result c.args.progress.now.nodes (nodes (type_view c.in_ok-ty.ty))
     (nodes (type_view c.args.tagged.ty)) c.type_nodes-nodes.ensures
-    (finished_nodes (visible_of c.args.scope) (written.type_view c.args.assignment.now.ty.value)
+    (finished_nodes (visible_at c.args.progress.now.names.now c.args.progress.now.known c.args.id) (written.type_view c.args.assignment.now.ty.value)
     (type_view c.args.tagged.ty) (type_view c.in_ok-ty.ty) (rw c.deref.ensures at c.in_ok-ty.ensures))
     c.requires.counted

@@ -3,13 +3,15 @@ use Rattle.std.proofs.lemmas.Result.{err_from_is_err_and}
 use Rattle.guard_model.specs.TypeView.{type_view, kind_view, component_view}
 use Rattle.guard_syntax.specs.Trees.{components_of, alternatives_of}
 use Rattle.guard_syntax.specs.TypeViews as written
+use Rattle.guard_constraints.specs.Views.{visible_in}
 use Rattle.guard_schema.specs.Faults.{named}
 use Rattle.guard_schema.specs.Finishing.{site_of_type}
 use Rattle.guard_schema.specs.inside.InTurn.{FinishesInTurn, FillsInTurn, OthersInTurn}
-use Rattle.guard_schema.specs.Views.{visible_of, filling_view}
+use Rattle.guard_schema.specs.Views.{filling_view}
 use Rattle.guard_schema.proofs.Filled.Loops.{next_component, component_stops, no_component, next_alternative}
 use Rattle.guard_schema.proofs.Filled.Loops.{alternative_stops, no_alternative}
 use Rattle.guard_schema.proofs.Filled.Steps.{parts_refused, parts_finished, kind_refused, kind_finished}
+use Rattle.guard_schema.proofs.Filled.Steps.{list_finished, choice_finished}
 use Rattle.guard_schema.proofs.Filled.Steps.{element_finished, taken_in, filling_refused, all_filled, one_refused}
 use Rattle.guard_schema.proofs.Filled.Steps.{component_refused, component_finished}
 use Rattle.guard_schema.proofs.Filled.Moves.{next_filled, nothing_filled}
@@ -20,27 +22,38 @@ use Rattle.guard_schema.proofs.finishing.+finishing.Goals as goal
 pub finished-returns-in_err-filled : goal.finished-returns-in_err-filled
 finished-returns-in_err-filled t c =
     let p = err_from_is_err_and c.from_residual.result c.from_residual.ensures.1 in
-    rw (p.1, p.2) (parts_refused (visible_of c.args.scope) c.args.tree.now (type_view c.args.bare)
+    rw (p.1, p.2) (parts_refused (visible_in c.args.scope) c.args.tree.now (type_view c.args.bare)
     (named c.in_err-filled.field-0.0) c.in_err-filled.ensures)
 
 pub finished-returns : goal.finished-returns
-finished-returns t c = parts_finished (visible_of c.args.scope) c.args.tree.now (type_view c.args.bare)
+finished-returns t c = parts_finished (visible_in c.args.scope) c.args.tree.now (type_view c.args.bare)
     (type_view c.in_ok-filled.filled) c.in_ok-filled.ensures c.with_written.result c.with_written.ensures
 
 pub with_parts-returns-in_err-inside : goal.with_parts-returns-in_err-inside
 with_parts-returns-in_err-inside t c =
     let p = err_from_is_err_and c.from_residual.result c.from_residual.ensures.1 in
-    rw (p.1, p.2) (kind_refused (visible_of c.args.scope) (written.base_view c.args.base.now) c.args.bare
+    rw (p.1, p.2) (kind_refused (visible_in c.args.scope) (written.base_view c.args.base.now) c.args.bare
     (named c.in_err-inside.field-0.0) c.in_err-inside.ensures)
 
 pub with_parts-returns : goal.with_parts-returns
 with_parts-returns t c =
-    kind_finished (visible_of c.args.scope) (written.base_view c.args.base.now) c.args.bare
+    kind_finished (visible_in c.args.scope) (written.base_view c.args.base.now) c.args.bare
     (kind_view c.in_ok-inside.inside) c.in_ok-inside.ensures (type_view c.type_made_of.result) c.type_made_of.ensures
+
+pub finished_kind-returns-in-Structure : goal.finished_kind-returns-in-Structure
+finished_kind-returns-in-Structure t c =
+    list_finished (visible_in c.args.scope) c.args.base.now c.in-Structure.field-0 c.in-Structure.trees
+    c.in-Structure.is c.deref.result.now c.deref.ensures.value (kind_view c.args.kind) c.list.result c.list.ensures
+
+pub finished_kind-returns-in-Choice : goal.finished_kind-returns-in-Choice
+finished_kind-returns-in-Choice t c =
+    choice_finished (visible_in c.args.scope) c.args.base.now c.in-Choice.trees c.in-Choice.is
+    c.deref-in-Choice.result.now c.deref-in-Choice.ensures.value (kind_view c.args.kind) c.choice.result
+    c.choice.ensures
 
 pub finished_kind-returns-in-Of : goal.finished_kind-returns-in-Of
 finished_kind-returns-in-Of t c =
-    element_finished (visible_of c.args.scope) c.args.base.now c.in-Of.field-0 c.in-Of.field-1 c.in-Of.element
+    element_finished (visible_in c.args.scope) c.args.base.now c.in-Of.field-0 c.in-Of.field-1 c.in-Of.element
     c.in-Of.is c.deref-in-Of.result.now c.deref-in-Of.ensures
     (kind_view c.args.kind) c.elements.result c.elements.ensures
 
@@ -57,28 +70,28 @@ boxed-returns t c = rw c.in_ok-new.ensures.ok (rw c.into_inner.ensures at c.in_o
 pub components-returns-in_err-filling : goal.components-returns-in_err-filling
 components-returns-in_err-filling t c =
     let p = err_from_is_err_and c.from_residual-in_err-filling.result c.from_residual-in_err-filling.ensures.1 in
-    rw (p.1, p.2) (filling_refused (FillsInTurn (visible_of c.args.scope)
+    rw (p.1, p.2) (filling_refused (FillsInTurn (visible_in c.args.scope)
     (components_of (map written.component_view c.args.trees.now))) (map component_view c.args.bare.items)
     (filling_view c.in_ok-start.start) c.in_ok-start.ensures
     (named c.in_err-filling.field-0.0) c.in_err-filling.ensures)
 
 pub components-returns : goal.components-returns
 components-returns t c =
-    all_filled (FillsInTurn (visible_of c.args.scope) (components_of (map written.component_view c.args.trees.now)))
+    all_filled (FillsInTurn (visible_in c.args.scope) (components_of (map written.component_view c.args.trees.now)))
     (map component_view c.args.bare.items) (filling_view c.in_ok-start.start) c.in_ok-start.ensures
     (filling_view c.in_ok-filling.filling) c.in_ok-filling.ensures
 
 pub alternatives-returns-in_err-filling : goal.alternatives-returns-in_err-filling
 alternatives-returns-in_err-filling t c =
     let p = err_from_is_err_and c.from_residual-in_err-filling.result c.from_residual-in_err-filling.ensures.1 in
-    rw (p.1, p.2) (filling_refused (OthersInTurn (visible_of c.args.scope)
+    rw (p.1, p.2) (filling_refused (OthersInTurn (visible_in c.args.scope)
     (alternatives_of (map written.alternative_view c.args.trees.now))) (map component_view c.args.bare.items)
     (filling_view c.in_ok-start.start) c.in_ok-start.ensures
     (named c.in_err-filling.field-0.0) c.in_err-filling.ensures)
 
 pub alternatives-returns : goal.alternatives-returns
 alternatives-returns t c =
-    all_filled (OthersInTurn (visible_of c.args.scope)
+    all_filled (OthersInTurn (visible_in c.args.scope)
     (alternatives_of (map written.alternative_view c.args.trees.now))) (map component_view c.args.bare.items)
     (filling_view c.in_ok-start.start) c.in_ok-start.ensures
     (filling_view c.in_ok-filling.filling) c.in_ok-filling.ensures
@@ -89,19 +102,19 @@ fill-loop-tree-init t c = λ answer h. h
 pub fill-returns-in_err-so_far : goal.fill-returns-in_err-so_far
 fill-returns-in_err-so_far t c =
     let p = err_from_is_err_and c.from_residual.result c.from_residual.ensures.1 in
-    rw (p.1, p.2) (component_stops (visible_of c.args.scope) c.args.trees.now
+    rw (p.1, p.2) (component_stops (visible_in c.args.scope) c.args.trees.now
     (filling_view c.args.filling) c.loop-tree.tree-index
     (filling_view c.loop-tree.so_far) c.tree-item.result c.loop-tree-test.true c.tree-item.is c.loop-tree.invariant
     (named c.in_err-so_far.field-0.0) c.in_err-so_far.ensures)
 
 pub fill-loop-tree-preserved : goal.fill-loop-tree-preserved
-fill-loop-tree-preserved t c = next_component (visible_of c.args.scope) c.args.trees.now
+fill-loop-tree-preserved t c = next_component (visible_in c.args.scope) c.args.trees.now
     (filling_view c.args.filling) c.loop-tree.tree-index
     (filling_view c.loop-tree.so_far) c.tree-item.result c.loop-tree-test.true c.tree-item.is c.loop-tree.invariant _
     c.in_ok-so_far.ensures
 
 pub fill-returns : goal.fill-returns
-fill-returns t c = no_component (visible_of c.args.scope) c.args.trees.now
+fill-returns t c = no_component (visible_in c.args.scope) c.args.trees.now
     (filling_view c.args.filling) c.loop-tree.tree-index
     (filling_view c.loop-tree.so_far) c.loop-tree-test.false c.loop-tree.invariant
 
@@ -111,25 +124,25 @@ fill_alternatives-loop-tree-init t c = λ answer h. h
 pub fill_alternatives-returns-in_err-so_far : goal.fill_alternatives-returns-in_err-so_far
 fill_alternatives-returns-in_err-so_far t c =
     let p = err_from_is_err_and c.from_residual.result c.from_residual.ensures.1 in
-    rw (p.1, p.2) (alternative_stops (visible_of c.args.scope) c.args.trees.now
+    rw (p.1, p.2) (alternative_stops (visible_in c.args.scope) c.args.trees.now
     (filling_view c.args.filling) c.loop-tree.tree-index
     (filling_view c.loop-tree.so_far) c.tree-item.result c.loop-tree-test.true c.tree-item.is c.loop-tree.invariant
     (named c.in_err-so_far.field-0.0) c.in_err-so_far.ensures)
 
 pub fill_alternatives-loop-tree-preserved : goal.fill_alternatives-loop-tree-preserved
-fill_alternatives-loop-tree-preserved t c = next_alternative (visible_of c.args.scope) c.args.trees.now
+fill_alternatives-loop-tree-preserved t c = next_alternative (visible_in c.args.scope) c.args.trees.now
     (filling_view c.args.filling) c.loop-tree.tree-index
     (filling_view c.loop-tree.so_far) c.tree-item.result c.loop-tree-test.true c.tree-item.is c.loop-tree.invariant _
     c.in_ok-so_far.ensures
 
 pub fill_alternatives-returns : goal.fill_alternatives-returns
-fill_alternatives-returns t c = no_alternative (visible_of c.args.scope) c.args.trees.now
+fill_alternatives-returns t c = no_alternative (visible_in c.args.scope) c.args.trees.now
     (filling_view c.args.filling) c.loop-tree.tree-index
     (filling_view c.loop-tree.so_far) c.loop-tree-test.false c.loop-tree.invariant
 
 pub fill_entry-returns-in-ComponentsOf : goal.fill_entry-returns-in-ComponentsOf
 fill_entry-returns-in-ComponentsOf t c =
-    taken_in (visible_of c.args.scope) c.args.tree.now c.in-ComponentsOf.ty c.in-ComponentsOf.is
+    taken_in (visible_in c.args.scope) c.args.tree.now c.in-ComponentsOf.ty c.in-ComponentsOf.is
     c.deref-in-ComponentsOf.result.now c.deref-in-ComponentsOf.ensures
     (filling_view c.args.filling) c.fill_from.result c.fill_from.ensures
 
@@ -137,16 +150,16 @@ fill_entry-returns-in-ComponentsOf t c =
 
 pub fill_next-returns-in-Some : goal.fill_next-returns-in-Some
 fill_next-returns-in-Some t c =
-    next_filled (visible_of c.args.scope) (site_of_type (written.type_view c.args.tree.now))
-    (FinishesInTurn (visible_of c.args.scope) (written.type_view c.args.tree.now))
+    next_filled (visible_in c.args.scope) (site_of_type (written.type_view c.args.tree.now))
+    (FinishesInTurn (visible_in c.args.scope) (written.type_view c.args.tree.now))
     (written.presence_view c.args.presence.now)
     c.args.filling.done.items c.args.filling.left.items c.pop_front.new.self.items c.pop_front.result
     c.pop_front.ensures.items c.in-Some.bare c.in-Some.is c.fill_one.result c.fill_one.ensures
 
 pub fill_next-returns-in-None : goal.fill_next-returns-in-None
 fill_next-returns-in-None t c =
-    nothing_filled (visible_of c.args.scope) (site_of_type (written.type_view c.args.tree.now))
-    (FinishesInTurn (visible_of c.args.scope) (written.type_view c.args.tree.now))
+    nothing_filled (visible_in c.args.scope) (site_of_type (written.type_view c.args.tree.now))
+    (FinishesInTurn (visible_in c.args.scope) (written.type_view c.args.tree.now))
     (written.presence_view c.args.presence.now)
     c.args.filling.done.items c.args.filling.left.items c.pop_front.new.self.items c.pop_front.result
     c.pop_front.ensures.items c.in-None.is c.pop_front.ensures.rest
@@ -154,8 +167,8 @@ fill_next-returns-in-None t c =
 pub fill_one-returns-in_err-comp : goal.fill_one-returns-in_err-comp
 fill_one-returns-in_err-comp t c =
     let p = err_from_is_err_and c.from_residual.result c.from_residual.ensures.1 in
-    rw (p.1, p.2) (one_refused (visible_of c.args.scope) (site_of_type (written.type_view c.args.tree.now))
-    (FinishesInTurn (visible_of c.args.scope) (written.type_view c.args.tree.now))
+    rw (p.1, p.2) (one_refused (visible_in c.args.scope) (site_of_type (written.type_view c.args.tree.now))
+    (FinishesInTurn (visible_in c.args.scope) (written.type_view c.args.tree.now))
     (written.presence_view c.args.presence.now)
     (component_view c.args.bare) (filling_view c.args.filling) (named c.in_err-comp.field-0.0) c.in_err-comp.ensures)
 
@@ -165,11 +178,11 @@ fill_one-returns t c = inl (component_view c.in_ok-comp.comp, c.in_ok-comp.ensur
 pub finished_component-returns-in_err-filled : goal.finished_component-returns-in_err-filled
 finished_component-returns-in_err-filled t c =
     let p = err_from_is_err_and c.from_residual.result c.from_residual.ensures.1 in
-    rw (p.1, p.2) (component_refused (visible_of c.args.scope) c.args.tree.now
+    rw (p.1, p.2) (component_refused (visible_in c.args.scope) c.args.tree.now
     (written.presence_view c.args.presence.now) c.args.bare
     (named c.in_err-filled.field-0.0) c.in_err-filled.ensures)
 
 pub finished_component-returns : goal.finished_component-returns
 finished_component-returns t c =
-    component_finished (visible_of c.args.scope) c.args.tree.now (written.presence_view c.args.presence.now) c.args.bare
+    component_finished (visible_in c.args.scope) c.args.tree.now (written.presence_view c.args.presence.now) c.args.bare
     (type_view c.in_ok-filled.filled) c.in_ok-filled.ensures c.with_presence.result c.with_presence.ensures

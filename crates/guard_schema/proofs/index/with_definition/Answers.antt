@@ -1,4 +1,4 @@
-use Rattle.std.proofs.Common.{◌≡◌, ℕ, List, Option, Some, None, option_and_then, ap, sym, ◌∙◌}
+use Rattle.std.proofs.Common.{ℕ, Option, option_and_then, ap, sym, ◌∙◌}
 use Rattle.std.specs.Option.{option_or}
 use Rattle.guard_schema.specs.Entries.{looked_up, place_if}
 use Rattle.guard_schema.proofs.ByNames.Lookups.{renewed}

@@ -1,4 +1,4 @@
-use Rattle.std.proofs.Common.{◌≡◌, sym, ◌∙◌}
+use Rattle.std.proofs.Common.{sym, ◌∙◌}
 use Rattle.guard_schema.proofs.ByNames.Lookups.{placed, kept}
 use Rattle.guard_schema.proofs.index.with_place.Goals as goal
 use Rattle.guard_schema.proofs.index.with_place.Goals.{then-not-contains_key+in_ok-from_slice+in_ok-insert}

@@ -1,4 +1,4 @@
-use Rattle.std.proofs.Common.{◌≡◌, ℕ, List, Option, map, take, ap, sym, ◌∙◌}
+use Rattle.std.proofs.Common.{ℕ, List, Option, map, take, ap, sym, ◌∙◌}
 use Rattle.std.specs.Option.{option_or}
 use Rattle.guard_schema.specs.Entries.{Entry, entry_if, first_named}
 use Rattle.guard_schema.specs.Views.{entry_view}

@@ -14,7 +14,7 @@ use Rattle.guard_model.specs.Alphabets.{fits_characters}
 use Rattle.guard_model.specs.Limits.{fits_128_bits}
 use Rattle.guard_der.specs.Fits.{all_below, fits_arcs, fits_first_arcs}
 use Rattle.guard_lexer.specs.Octets.{is_quote}
-use Rattle.guard_values.specs.Numbers.{number_of, signed}
+use Rattle.guard_syntax.specs.Numbers.{number_of, signed}
 use Rattle.guard_values.specs.ObjectIdentifiers.{arc_number, arc_numbers, is_large, large_arc, large_second, too_large_arc, are_arcs}
 use Rattle.guard_values.specs.Strings.{up_to_quote, quoted}
 use Rattle.guard_values.specs.Simple.{within_limits, characters_value}

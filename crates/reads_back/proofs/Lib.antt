@@ -29,3 +29,11 @@ pub mod Reading
 pub mod SitedSays
 pub mod OneReading
 pub mod ShownTexts
+-- the names of the types of a schema
+pub mod Following
+pub mod WrittenNames
+pub mod NamesAlone
+pub mod NamesKept
+pub mod DifferentNames
+pub mod TypeNames
+pub mod SchemaNames

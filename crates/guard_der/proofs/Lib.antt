@@ -1,4 +1,4 @@
--- Lemmas, in reading order. What the checker asks for of a function stands in folders with the names of src/.
+-- Lemmas, in reading order. What the checker asks for of a function is in folders with the names of src/.
 
 -- ---- octets
 pub mod Numbers

@@ -1,8 +1,8 @@
 -- Why octets are no encoding of a value of a type: the first place that is reached and at fault.
 --
--- A place is an offset in the message or in the contents of an element in it. It is reached where what stands in front of it,
--- and in front of each element that it lies in, encodes values of the parts that are due there. At most one reached place is at fault:
--- behind it none is reached.
+-- A place is an offset in the message or in the contents of an element in it. It is reached where what comes before it,
+-- and before each element that it lies in, encodes values of the parts that are due there. At most one reached place is
+-- at fault: after it none is reached.
 use Rattle.std.specs.Prelude.{◌≡◌, ◌≢◌, ℕ, zero, suc, ◌+◌, Bool, true, false, not, ◌&&◌, ◌||◌, List, [], ◌∷◌, ◌++◌, length, take, drop, Option, Some, None, Ok, Err, IsTrue, if◌then◌else◌, ◌⊎◌}
 use Rattle.guard_model.specs.declared.site.Step.{Step}
 use Rattle.guard_model.specs.declared.site.Step.TheVariants.{Component, Element}
@@ -23,7 +23,7 @@ use Rattle.guard_model.specs.Tags.{same_tag}
 use Rattle.guard_model.specs.Counts.{item_count}
 use Rattle.guard_tagcheck.specs.Search.{is_mandatory}
 
--- offset and path item_count from where what is spoken of begins
+-- offset and path count from where what is spoken of begins
 pub record AbstractBreach : Type 0 where
   pub code : Code
   pub at : ℕ
@@ -40,7 +40,7 @@ after n b = record { code = b.code; at = n + b.at; path = b.path }
 abbrev pub below : Step → AbstractBreach → AbstractBreach
 below step b = record { code = b.code; at = b.at; path = step ∷ b.path }
 
--- What may be at fault in an element of some type, and in contents that stand behind so many octets of header.
+-- What may be at fault in an element of some type, and in contents after so many octets of header.
 abbrev pub Faulty : Type 1
 Faulty = List ℕ → AbstractBreach → Type 0
 
@@ -49,7 +49,8 @@ FaultyContents = ℕ → List ℕ → AbstractBreach → Type 0
 
 -- ---- one element
 
--- What stands at the front is at fault where any element is due of which `wanted` tells the tags: its header, or its tag.
+-- What is at the front is at fault where any element is due whose tags are those that `wanted` accepts: its header is
+-- at fault, or its tag.
 abbrev pub NotDue : (Tag → Bool) → List ℕ → Code → Type 0
 NotDue wanted octets c =
     (head_of octets ≡ Err c)
@@ -67,10 +68,12 @@ abbrev pub FaultAlone : (Tag → Bool) → (List ℕ → Type 0) → Faulty → 
 FaultAlone wanted Encodes Inside octets b =
     ((c : Code) × NotDue wanted octets c × (b ≡ here c))
     ⊎ Inside octets b
-    ⊎ ((front : List ℕ) × (rest : List ℕ) × Encodes front × (octets ≡ front ++ rest) × (rest ≢ []) × (b ≡ after (length front) (here code.TrailingOctets)))
+    ⊎ ((front : List ℕ) × (rest : List ℕ) × Encodes front × (octets ≡ front ++ rest) × (rest ≢ [])
+    × (b ≡ after (length front) (here code.TrailingOctets)))
 
 abbrev pub FaultInWrapper : (Tag → Bool) → (List ℕ → Type 0) → Faulty → FaultyContents
-FaultInWrapper wanted Encodes Inside size octets b = (c : AbstractBreach) × FaultAlone wanted Encodes Inside octets c × (b ≡ after size c)
+FaultInWrapper wanted Encodes Inside size octets b =
+    (c : AbstractBreach) × FaultAlone wanted Encodes Inside octets c × (b ≡ after size c)
 
 -- the octets are the encoding of a value
 abbrev pub Encodes : (AbstractValue → Bool) → (AbstractValue → Option (List ℕ)) → List ℕ → Type 0
@@ -79,13 +82,18 @@ Encodes fit encode octets = (v : AbstractValue) × IsTrue (fit v) × (encode v �
 -- An element of a type with these tags, each but the last a wrapper round the next.
 abbrev pub FaultInTags : (List Tag → List ℕ → Type 0) → Bool → FaultyContents → Faulty → List Tag → Faulty
 FaultInTags EncodesIn constructed Contents Untagged [] octets b = Untagged octets b
-FaultInTags EncodesIn constructed Contents Untagged (t ∷ []) octets b = FaultInElement (same_tag t) constructed Contents octets b
+FaultInTags EncodesIn constructed Contents Untagged (t ∷ []) octets b =
+    FaultInElement (same_tag t) constructed Contents octets b
 FaultInTags EncodesIn constructed Contents Untagged (t ∷ u ∷ ts) octets b =
-    FaultInElement (same_tag t) true (FaultInWrapper (same_tag u) (EncodesIn (u ∷ ts)) (FaultInTags EncodesIn constructed Contents Untagged (u ∷ ts))) octets b
+    FaultInElement (same_tag t) true
+    (FaultInWrapper (same_tag u) (EncodesIn (u ∷ ts)) (FaultInTags EncodesIn constructed Contents Untagged (u ∷ ts)))
+    octets b
 
 -- the encodings of values of a kind with these tags
 abbrev pub EncodesIn : AbstractKind → List Tag → List ℕ → Type 0
-EncodesIn kind tags octets = Encodes (fits_kind kind) (λ v. contents_octets kind v >>= λ contents. tagged tags (is_constructed kind) contents) octets
+EncodesIn kind tags octets =
+    Encodes (fits_kind kind) (λ v. contents_octets kind v >>= λ contents. tagged tags (is_constructed kind) contents)
+    octets
 
 -- ---- components
 
@@ -107,7 +115,8 @@ next_with i (component name t presence rest) tag =
 -- the first component that can't be absent
 abbrev pub next_mandatory : ℕ → Components → Option ℕ
 next_mandatory i no_components = None
-next_mandatory i (component name t presence rest) = if is_mandatory presence then Some i else next_mandatory (suc i) rest
+next_mandatory i (component name t presence rest) =
+    if is_mandatory presence then Some i else next_mandatory (suc i) rest
 
 -- the first i components
 abbrev pub first_components : ℕ → Components → Components
@@ -115,7 +124,7 @@ first_components zero cs = no_components
 first_components (suc i) no_components = no_components
 first_components (suc i) (component name t presence cs) = component name t presence (first_components i cs)
 
--- the components behind them
+-- the components after them
 abbrev pub other_components : ℕ → Components → Components
 other_components zero cs = cs
 other_components (suc i) no_components = no_components
@@ -133,26 +142,28 @@ last_is_sent _ _ = true
 abbrev pub SendsDefault : Components → ℕ → List ℕ → Type 0
 SendsDefault no_components i octets = ⊥
 SendsDefault (component name t presence rest) zero octets =
-    (v : AbstractValue) × (front : List ℕ) × (behind : List ℕ)
-    × IsTrue (fits t v) × (der t v ≡ Some front) × IsTrue (is_left_out presence v) × (octets ≡ front ++ behind)
+    (v : AbstractValue) × (front : List ℕ) × (others : List ℕ)
+    × IsTrue (fits t v) × (der t v ≡ Some front) × IsTrue (is_left_out presence v) × (octets ≡ front ++ others)
 SendsDefault (component name t presence rest) (suc i) octets = SendsDefault rest i octets
 
 -- The element of component i is at fault, or it is its default.
 abbrev pub FaultInSent : Components → (ℕ → Faulty) → ℕ → Faulty
 FaultInSent cs Part i octets c = Part i octets c ⊎ (SendsDefault cs i octets × (c ≡ here code.DefaultPresent))
 
--- The octets are what is sent of the first i components, up to and with component i - 1: the place behind them is reached.
+-- The octets are what is sent of the first i components, the last of them too: the place after them is reached.
 abbrev pub SequenceReached : ℕ → Components → List ℕ → Type 0
 SequenceReached i cs octets =
     (fs : Fields) × IsTrue (fits_fields (first_components i cs) fs)
-    × (contents_octets (type.sequence (first_components i cs)) (value.fields fs) ≡ Some octets) × IsTrue (last_is_sent (first_components i cs) fs)
+    × (contents_octets (type.sequence (first_components i cs)) (value.fields fs) ≡ Some octets)
+    × IsTrue (last_is_sent (first_components i cs) fs)
 
--- At the place behind the first i components stands a fault; these are the components that are left.
+-- There is a fault at the place after the first i components; these are the components that are left.
 abbrev pub SequenceFault : ℕ → Components → (ℕ → Faulty) → Faulty
 SequenceFault i left Sent octets b =
     -- the contents end before a mandatory component
-    ((j : ℕ) × (octets ≡ []) × (next_mandatory i left ≡ Some j) × (b ≡ below (Component j) (here code.MissingComponent)))
-    -- an element stands there that can't come next
+    ((j : ℕ) × (octets ≡ []) × (next_mandatory i left ≡ Some j)
+    × (b ≡ below (Component j) (here code.MissingComponent)))
+    -- an element comes there that can't be next
     ⊎ ((c : Code) × (octets ≢ []) × NotDue (λ tag. is_found (next_with i left tag)) octets c × (b ≡ here c))
     -- the element of a component is at fault
     ⊎ ((h : Head) × (j : ℕ) × (c : AbstractBreach)
@@ -174,7 +185,8 @@ is_sent _ _ _ = false
 
 -- the first mandatory component without a value
 abbrev pub missing : ℕ → Components → Fields → Option ℕ
-missing i (component name t presence rest) (value.absent fs) = if is_mandatory presence then Some i else missing (suc i) rest fs
+missing i (component name t presence rest) (value.absent fs) =
+    if is_mandatory presence then Some i else missing (suc i) rest fs
 missing i (component name t presence rest) (value.present v fs) = missing (suc i) rest fs
 missing i _ _ = None
 
@@ -183,17 +195,18 @@ abbrev pub is_after : Tag → List Part → Bool
 is_after tag [] = true
 is_after tag (p ∷ ps) = tag_before p.tag tag && is_after tag ps
 
--- The octets are what is sent of some components of a SET: the place behind them is reached.
+-- The octets are what is sent of some components of a SET: the place after them is reached.
 abbrev pub SetReached : Components → Fields → List Part → List ℕ → Type 0
 SetReached cs fs ps octets =
-    IsTrue (fits_partly cs fs) × (parts_of cs fs ≡ Some ps) × (contents_octets (type.set cs) (value.fields fs) ≡ Some octets)
+    IsTrue (fits_partly cs fs) × (parts_of cs fs ≡ Some ps)
+    × (contents_octets (type.set cs) (value.fields fs) ≡ Some octets)
 
--- At the place behind these parts stands a fault.
+-- There is a fault at the place after these parts.
 abbrev pub SetFault : Components → (ℕ → Faulty) → Fields → List Part → Faulty
 SetFault cs Sent fs ps octets b =
     -- the contents end without a mandatory component
     ((j : ℕ) × (octets ≡ []) × (missing 0 cs fs ≡ Some j) × (b ≡ below (Component j) (here code.MissingComponent)))
-    -- an element stands there that is of no component
+    -- an element comes there that is of no component
     ⊎ ((c : Code) × (octets ≢ []) × NotDue (λ tag. is_found (one_with 0 cs tag)) octets c × (b ≡ here c))
     ⊎ ((h : Head) × (j : ℕ) × (head_of octets ≡ Ok h) × (one_with 0 cs h.tag ≡ Some j)
     -- its tag doesn't ascend
@@ -201,7 +214,8 @@ SetFault cs Sent fs ps octets b =
     -- its component was there before
     ⊎ ((is_after h.tag ps ≡ true) × (is_sent j cs fs ≡ true) × (b ≡ here code.UnexpectedTag))
     -- the element of a component is at fault
-    ⊎ ((c : AbstractBreach) × (is_after h.tag ps ≡ true) × (is_sent j cs fs ≡ false) × Sent j octets c × (b ≡ below (Component j) c))))
+    ⊎ ((c : AbstractBreach) × (is_after h.tag ps ≡ true) × (is_sent j cs fs ≡ false)
+    × Sent j octets c × (b ≡ below (Component j) c))))
 
 -- The element of the chosen alternative is at fault.
 abbrev pub FaultInChosen : Components → (ℕ → Faulty) → Faulty
@@ -216,17 +230,19 @@ last_of [] = []
 last_of (os ∷ []) = os
 last_of (os ∷ es) = last_of es
 
--- The encodings are those of elements of the type, ascending where they have to be: the place behind them is reached.
+-- The encodings are those of elements of the type, ascending where they have to be: the place after them is reached.
 abbrev pub ItemsReached : AbstractType → Bool → Items → List (List ℕ) → Type 0
-ItemsReached t ordered vs es = IsTrue (every_fits (fits t) vs) × (item_encodings (der t) vs ≡ Some es) × IsTrue (not ordered || ascend_from [] es)
+ItemsReached t ordered vs es =
+    IsTrue (every_fits (fits t) vs) × (item_encodings (der t) vs ≡ Some es) × IsTrue (not ordered || ascend_from [] es)
 
--- At the place behind i elements, of which this is the last encoding, stands a fault.
+-- There is a fault at the place after i elements, of which this is the last encoding.
 abbrev pub ItemFault : AbstractType → Bool → Faulty → ℕ → List ℕ → Faulty
 ItemFault t ordered Inside i before octets b =
     ((c : Code) × (octets ≢ []) × NotDue (begins_with t) octets c × (b ≡ below (Element i) (here c)))
     ⊎ ((c : AbstractBreach) × Inside octets c × (b ≡ below (Element i) c))
     -- an element that descends from the one before it
-    ⊎ ((front : List ℕ) × (behind : List ℕ) × (ordered ≡ true) × Encodes (fits t) (der t) front × (octets ≡ front ++ behind)
+    ⊎ ((front : List ℕ) × (others : List ℕ) × (ordered ≡ true)
+    × Encodes (fits t) (der t) front × (octets ≡ front ++ others)
     × IsTrue (descends before front) × (b ≡ below (Element i) (here code.SetOfOrder)))
 
 -- ---- all kinds
@@ -238,24 +254,34 @@ FaultInSimple kind size octets b = (c : Code) × (simple_fault kind octets ≡ S
 abbrev mutual
   -- An element of the type is due, begins with these octets, and is at fault in its form or its contents.
   pub FaultIn : AbstractType → List ℕ → AbstractBreach → Type 0
-  FaultIn (type_of tags kind cons) octets b = FaultInTags (EncodesIn kind) (is_constructed kind) (FaultInContents kind) (FaultUntagged kind) tags octets b
+  FaultIn (type_of tags kind cons) octets b =
+      FaultInTags (EncodesIn kind) (is_constructed kind) (FaultInContents kind) (FaultUntagged kind) tags octets b
 
-  -- Contents octets of the kind are at fault; so many octets of header stand before them.
+  -- Contents octets of the kind are at fault; so many octets of header come before them.
   pub FaultInContents : AbstractKind → ℕ → List ℕ → AbstractBreach → Type 0
   FaultInContents (type.sequence cs) size octets b =
       (i : ℕ) × (front : List ℕ) × (rest : List ℕ) × (c : AbstractBreach)
-      × (octets ≡ front ++ rest) × SequenceReached i cs front × SequenceFault i (other_components i cs) (FaultInSent cs (FaultInPart cs)) rest c × (b ≡ after (size + length front) c)
+      × (octets ≡ front ++ rest) × SequenceReached i cs front
+      × SequenceFault i (other_components i cs) (FaultInSent cs (FaultInPart cs)) rest c
+      × (b ≡ after (size + length front) c)
   FaultInContents (type.set cs) size octets b =
       (fs : Fields) × (ps : List Part) × (front : List ℕ) × (rest : List ℕ) × (c : AbstractBreach)
-      × (octets ≡ front ++ rest) × SetReached cs fs ps front × SetFault cs (FaultInSent cs (FaultInPart cs)) fs ps rest c × (b ≡ after (size + length front) c)
+      × (octets ≡ front ++ rest) × SetReached cs fs ps front
+      × SetFault cs (FaultInSent cs (FaultInPart cs)) fs ps rest c
+      × (b ≡ after (size + length front) c)
   FaultInContents (type.choice cs) size octets b =
-      FaultInWrapper (one_begins_with cs) (Encodes (fits_kind (type.choice cs)) (contents_octets (type.choice cs))) (FaultInChosen cs (FaultInPart cs)) size octets b
+      FaultInWrapper (one_begins_with cs) (Encodes (fits_kind (type.choice cs)) (contents_octets (type.choice cs)))
+      (FaultInChosen cs (FaultInPart cs)) size octets b
   FaultInContents (type.sequence_of t) size octets b =
       (vs : Items) × (es : List (List ℕ)) × (rest : List ℕ) × (c : AbstractBreach)
-      × (octets ≡ joined es ++ rest) × ItemsReached t false vs es × ItemFault t false (FaultIn t) (item_count vs) (last_of es) rest c × (b ≡ after (size + length (joined es)) c)
+      × (octets ≡ joined es ++ rest) × ItemsReached t false vs es
+      × ItemFault t false (FaultIn t) (item_count vs) (last_of es) rest c
+      × (b ≡ after (size + length (joined es)) c)
   FaultInContents (type.set_of t) size octets b =
       (vs : Items) × (es : List (List ℕ)) × (rest : List ℕ) × (c : AbstractBreach)
-      × (octets ≡ joined es ++ rest) × ItemsReached t true vs es × ItemFault t true (FaultIn t) (item_count vs) (last_of es) rest c × (b ≡ after (size + length (joined es)) c)
+      × (octets ≡ joined es ++ rest) × ItemsReached t true vs es
+      × ItemFault t true (FaultIn t) (item_count vs) (last_of es) rest c
+      × (b ≡ after (size + length (joined es)) c)
   FaultInContents type.boolean size octets b = FaultInSimple type.boolean size octets b
   FaultInContents (type.integer ns) size octets b = FaultInSimple (type.integer ns) size octets b
   FaultInContents (type.bit_string names) size octets b = FaultInSimple (type.bit_string names) size octets b

@@ -8,7 +8,8 @@ use Rattle.guard_der.specs.Octets.{base_128}
 abbrev pub boolean_octet : Bool → ℕ
 boolean_octet b = if b then 255 else 0
 
--- A subidentifier for the first two arcs, 40X + Y, and one for each further arc, each in the fewest octets to the base 128 (8.19).
+-- A subidentifier for the first two arcs, 40X + Y, and one for each further arc, each in the fewest octets to the base
+-- 128 (8.19).
 abbrev pub arcs_octets : List ℕ → List ℕ
 arcs_octets (x ∷ y ∷ arcs) = base_128 (40 * x + y) ++ flat_map base_128 arcs
 arcs_octets _ = []

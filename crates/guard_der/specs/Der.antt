@@ -18,8 +18,8 @@ abbrev pub ◌>>=◌ : {A B : Type 0} → Option A → (A → Option B) → Opti
 None >>= f = None
 (Some x) >>= f = f x
 
--- A SEQUENCE, a SET and the OF types are constructed, the simple kinds primitive (X.690 8.2.1, 8.9.1, 8.10.1, 8.11.1, 8.12.1; for
--- strings 10.2). Each tag of a CHOICE is a wrapper, and a wrapper is constructed (8.14.2).
+-- A SEQUENCE, a SET and the OF types are constructed, the simple kinds primitive (X.690 8.2.1, 8.9.1, 8.10.1, 8.11.1,
+-- 8.12.1; for strings 10.2). Each tag of a CHOICE is a wrapper, and a wrapper is constructed (8.14.2).
 abbrev pub is_constructed : AbstractKind → Bool
 is_constructed (type.sequence cs) = true
 is_constructed (type.set cs) = true
@@ -77,10 +77,12 @@ part_unless false tag octets parts = octets >>= λ os. parts >>= λ ps. Some (re
 -- The encodings of the elements, in order.
 abbrev pub item_encodings : (AbstractValue → Option (List ℕ)) → Items → Option (List (List ℕ))
 item_encodings encode value.no_items = Some []
-item_encodings encode (value.item v vs) = encode v >>= λ first. item_encodings encode vs >>= λ others. Some (first ∷ others)
+item_encodings encode (value.item v vs) =
+    encode v >>= λ first. item_encodings encode vs >>= λ others. Some (first ∷ others)
 
 abbrev mutual
-  -- The outermost tag of the value's encoding; of an untagged CHOICE that of the chosen alternative. Other kinds have a tag.
+  -- The outermost tag of the value's encoding; of an untagged CHOICE that of the chosen alternative. Other kinds have
+  -- a tag.
   pub outermost : AbstractType → AbstractValue → Tag
   outermost (type_of (t ∷ ts) kind cons) v = t
   outermost (type_of [] kind cons) v = outermost_inside kind v
@@ -126,5 +128,6 @@ abbrev mutual
   pub parts_of : Components → Fields → Option (List Part)
   parts_of no_components value.no_fields = Some []
   parts_of (component name t presence rest) (value.absent fs) = parts_of rest fs
-  parts_of (component name t presence rest) (value.present v fs) = part_unless (is_left_out presence v) (outermost t v) (der t v) (parts_of rest fs)
+  parts_of (component name t presence rest) (value.present v fs) =
+      part_unless (is_left_out presence v) (outermost t v) (der t v) (parts_of rest fs)
   parts_of _ _ = None

@@ -26,8 +26,8 @@ element tag constructed contents =
     then Some (identifier_octets tag constructed ++ length_octets (length contents) ++ contents)
     else None
 
--- Each tag but the last is a wrapper, the outermost first (X.690 8.14). Without a tag the contents stand alone, as those of an
--- untagged CHOICE do, which are the chosen alternative's encoding (8.13).
+-- Each tag but the last is a wrapper, the outermost first (X.690 8.14). Without a tag the contents are the encoding, as
+-- those of an untagged CHOICE are, which are the chosen alternative's encoding (8.13).
 abbrev pub tagged : List Tag → Bool → List ℕ → Option (List ℕ)
 tagged [] constructed contents = Some contents
 tagged (t ∷ []) constructed contents = element t constructed contents

@@ -43,7 +43,8 @@ abbrev pub ends_as_named : List NamedNumber → List ℕ → ℕ → Bool
 ends_as_named [] os unused = true
 ends_as_named (name ∷ names) os unused = has_no_trailing_zero os unused
 
--- X.660 has three first arcs, 0, 1 and 2, and 40 arcs each under 0 and 1. In this profile no subidentifier has more than 128 bits.
+-- X.660 has three first arcs, 0, 1 and 2, and 40 arcs each under 0 and 1. In this profile no subidentifier has more
+-- than 128 bits.
 abbrev pub fits_first_arcs : ℕ → ℕ → Bool
 fits_first_arcs x y = nat_le x 2 && (nat_eq x 2 || nat_le y 39) && nat_lt (40 * x + y) (2 ^ 128)
 

@@ -17,18 +17,26 @@ pub record Head : Type 0 where
 
 -- bits 8 and 7 (X.690 8.1.2.2)
 abbrev pub class_of : ℕ → Class
-class_of octet = if nat_lt octet 64 then Universal else if nat_lt octet 128 then Application else if nat_lt octet 192 then Context else Private
+class_of octet =
+    if nat_lt octet 64 then Universal
+    else if nat_lt octet 128 then Application
+    else if nat_lt octet 192 then Context
+    else Private
 
 -- The rest of a tag number to the base 128, with at most so many octets more: the number and the octets after it.
 unfoldable pub number_from : ℕ → ℕ → List ℕ → Result (ℕ × List ℕ) Code
 number_from tries n [] = Err Truncated
 number_from zero n (o ∷ os) = Err TagForm
-number_from (suc tries) n (o ∷ os) = if nat_lt o 128 then Ok (n * 128 + o, os) else number_from tries (n * 128 + (o - 128)) os
+number_from (suc tries) n (o ∷ os) =
+    if nat_lt o 128 then Ok (n * 128 + o, os) else number_from tries (n * 128 + (o - 128)) os
 
 -- A number above 30 in octets of its own, at most four, of which the first isn't 80 (X.690 8.1.2.4).
 unfoldable pub high_number : List ℕ → Result (ℕ × List ℕ) Code
 high_number [] = Err Truncated
-high_number (o ∷ os) = if nat_eq o 128 then Err TagForm else (number_from 4 0 (o ∷ os) >>= λ r. if nat_lt r.0 31 then Err TagForm else Ok r)
+high_number (o ∷ os) =
+    if nat_eq o 128
+    then Err TagForm
+    else (number_from 4 0 (o ∷ os) >>= λ r. if nat_lt r.0 31 then Err TagForm else Ok r)
 
 unfoldable pub tag_number : ℕ → List ℕ → Result (ℕ × List ℕ) Code
 tag_number low os = if nat_lt low 31 then Ok (low, os) else high_number os
@@ -53,4 +61,9 @@ head_of [] = Err Truncated
 head_of (o ∷ os) =
     tag_number (o % 32) os >>= λ t. length_at t.1 >>= λ l.
     if nat_lt (length l.1) l.0 then Err Truncated
-    else Ok (record { tag = record { class = class_of o; number = t.0 }; constructed = nat_le 32 (o % 64); size = length (o ∷ os) - length l.1; contents = l.0 })
+    else Ok (record {
+      tag = record { class = class_of o; number = t.0 };
+      constructed = nat_le 32 (o % 64);
+      size = length (o ∷ os) - length l.1;
+      contents = l.0;
+    })

@@ -9,6 +9,7 @@ use Rattle.guard_model.specs.AbstractType as type
 use Rattle.guard_model.specs.AbstractType.{AbstractType, AbstractKind, AbstractPresence, Components, type_of, no_components, component}
 use Rattle.guard_model.specs.AbstractValue as value
 use Rattle.guard_model.specs.AbstractValue.{AbstractValue, Fields, Items}
+use Rattle.guard_model.specs.Slots.{all_absent}
 use Rattle.guard_tagcheck.specs.FirstTags.{begins_with, one_begins_with}
 use Rattle.guard_der.specs.declared.breach.Code.{Code}
 use Rattle.guard_der.specs.declared.breach.Code.TheVariants as code
@@ -41,7 +42,8 @@ Body = ℕ → ℕ → List ℕ → Result AbstractValue AbstractBreach
 
 -- an element with one of these tags is due
 unfoldable pub due_at : (Tag → Bool) → ℕ → List ℕ → Result Head AbstractBreach
-due_at wanted at octets = located at (head_of octets) >>= λ h. if wanted h.tag then Ok h else Err (fault code.UnexpectedTag at)
+due_at wanted at octets =
+    located at (head_of octets) >>= λ h. if wanted h.tag then Ok h else Err (fault code.UnexpectedTag at)
 
 abbrev pub same_form : Bool → Bool → Bool
 same_form true constructed = constructed
@@ -55,7 +57,10 @@ framed constructed body at h octets =
     else Err (fault code.WrongForm at)
 
 abbrev pub ended : ℕ → Head → List ℕ → AbstractValue → Result AbstractValue AbstractBreach
-ended at h octets v = if nat_lt (h.size + h.contents) (length octets) then Err (fault code.TrailingOctets (at + (h.size + h.contents))) else Ok v
+ended at h octets v =
+    if nat_lt (h.size + h.contents) (length octets)
+    then Err (fault code.TrailingOctets (at + (h.size + h.contents)))
+    else Ok v
 
 -- one element and nothing after it
 unfoldable pub alone_at : (Tag → Bool) → Reader → ℕ → List ℕ → Result AbstractValue AbstractBreach
@@ -66,7 +71,8 @@ unfoldable pub tags_at : List Tag → Bool → Body → Reader → Reader
 tags_at [] constructed body untagged at h octets = untagged at h octets
 tags_at (t ∷ []) constructed body untagged at h octets = framed constructed body at h octets
 tags_at (t ∷ u ∷ ts) constructed body untagged at h octets =
-    framed true (λ at start inner. alone_at (same_tag u) (tags_at (u ∷ ts) constructed body untagged) start inner) at h octets
+    framed true (λ at start inner. alone_at (same_tag u) (tags_at (u ∷ ts) constructed body untagged) start inner)
+    at h octets
 
 -- the value, unless there is a fault
 abbrev pub unless_fault : ℕ → Option Code → AbstractValue → Result AbstractValue AbstractBreach
@@ -81,7 +87,8 @@ simple_at kind at start octets = unless_fault at (simple_fault kind octets) (sim
 -- a component that is sent, of which this is the place in the list
 unfoldable pub sent_at : ℕ → AbstractPresence → Reader → Reader
 sent_at i presence read at h octets =
-    inside (Component i) (read at h octets >>= λ v. if is_left_out presence v then Err (fault code.DefaultPresent at) else Ok v)
+    inside (Component i)
+    (read at h octets >>= λ v. if is_left_out presence v then Err (fault code.DefaultPresent at) else Ok v)
 
 -- a component that is not sent, at the end of contents and before an element of another one
 abbrev pub not_sent : AbstractPresence → AbstractBreach → Result (Option AbstractValue) AbstractBreach
@@ -94,7 +101,8 @@ abbrev pub missing_at : ℕ → ℕ → AbstractBreach
 missing_at i at = record { code = code.MissingComponent; at = at; path = Component i ∷ [] }
 
 -- component i where it may come next: its value, and how many octets it takes
-unfoldable pub component_at : ℕ → AbstractPresence → (Tag → Bool) → Reader → ℕ → List ℕ → Result (Option AbstractValue × ℕ) AbstractBreach
+unfoldable pub component_at : ℕ → AbstractPresence → (Tag → Bool) → Reader → ℕ → List ℕ
+    → Result (Option AbstractValue × ℕ) AbstractBreach
 component_at i presence wanted read at [] = not_sent presence (missing_at i at) >>= λ f. Ok (f, 0)
 component_at i presence wanted read at (o ∷ os) =
     located at (head_of (o ∷ os)) >>= λ h.
@@ -127,10 +135,6 @@ chosen_at cs read at h octets = elim (one_with 0 cs h.tag) [
 ]
 
 -- ---- components of a SET
-
-abbrev pub all_absent : Components → Fields
-all_absent no_components = value.no_fields
-all_absent (component name t presence rest) = value.absent (all_absent rest)
 
 -- component i was read
 abbrev pub is_filled : ℕ → Fields → Bool
@@ -167,20 +171,26 @@ placed_at cs fs before at tag = elim (one_with 0 cs tag) [
 ]
 
 -- the element of a component: its place, its value, its header
-unfoldable pub set_element_at : Components → (ℕ → Reader) → Fields → Option Tag → ℕ → List ℕ → Result (ℕ × AbstractValue × Head) AbstractBreach
+unfoldable pub set_element_at : Components → (ℕ → Reader) → Fields → Option Tag → ℕ → List ℕ
+    → Result (ℕ × AbstractValue × Head) AbstractBreach
 set_element_at cs read fs before at octets =
     located at (head_of octets) >>= λ h. placed_at cs fs before at h.tag >>= λ j.
     sent_at j (presence_at j cs) (read j) at h octets >>= λ v. Ok (j, v, h)
 
 -- what a component is at the end of the contents
-abbrev pub settled : AbstractPresence → Option AbstractValue → AbstractBreach → Result (Option AbstractValue) AbstractBreach
+abbrev pub settled : AbstractPresence → Option AbstractValue → AbstractBreach
+    → Result (Option AbstractValue) AbstractBreach
 settled presence None b = not_sent presence b
 settled presence (Some v) b = Ok (Some v)
 
 -- the components that were not sent, the first of which is component i
 unfoldable pub completed : ℕ → Components → Fields → ℕ → Result Fields AbstractBreach
-completed i (component name t presence rest) (value.present v fs) at = settled presence (Some v) (missing_at i at) >>= λ f. completed (suc i) rest fs at >>= λ gs. Ok (field_before f gs)
-completed i (component name t presence rest) (value.absent fs) at = settled presence None (missing_at i at) >>= λ f. completed (suc i) rest fs at >>= λ gs. Ok (field_before f gs)
+completed i (component name t presence rest) (value.present v fs) at =
+    settled presence (Some v) (missing_at i at) >>= λ f.
+    completed (suc i) rest fs at >>= λ gs. Ok (field_before f gs)
+completed i (component name t presence rest) (value.absent fs) at =
+    settled presence None (missing_at i at) >>= λ f.
+    completed (suc i) rest fs at >>= λ gs. Ok (field_before f gs)
 completed i _ _ at = Ok value.no_fields
 
 -- what is left of a SET, at most so many elements
@@ -189,18 +199,23 @@ set_at tries cs read fs before at [] = completed 0 cs fs at
 set_at zero cs read fs before at (o ∷ os) = Err (fault code.UnexpectedTag at)
 set_at (suc tries) cs read fs before at (o ∷ os) =
     set_element_at cs read fs before at (o ∷ os) >>= λ x.
-    set_at tries cs read (fill x.0 x.1 fs) (Some x.2.tag) (at + (x.2.size + x.2.contents)) (drop (x.2.size + x.2.contents) (o ∷ os))
+    set_at tries cs read (fill x.0 x.1 fs) (Some x.2.tag) (at + (x.2.size + x.2.contents))
+    (drop (x.2.size + x.2.contents) (o ∷ os))
 
 -- ---- elements of an OF type
 
--- an element behind one with these octets: its value, and how many octets it takes
-unfoldable pub item_alone : Bool → (Tag → Bool) → Reader → List ℕ → ℕ → List ℕ → Result (AbstractValue × ℕ) AbstractBreach
+-- an element after one with these octets: its value, and how many octets it takes
+unfoldable pub item_alone : Bool → (Tag → Bool) → Reader → List ℕ → ℕ → List ℕ
+    → Result (AbstractValue × ℕ) AbstractBreach
 item_alone ordered wanted read before at octets =
     due_at wanted at octets >>= λ h. read at h octets >>= λ v.
-    if ordered && descends before (take (h.size + h.contents) octets) then Err (fault code.SetOfOrder at) else Ok (v, h.size + h.contents)
+    if ordered && descends before (take (h.size + h.contents) octets)
+    then Err (fault code.SetOfOrder at)
+    else Ok (v, h.size + h.contents)
 
 -- the same of element i, faults seen from the value round it
-unfoldable pub item_at : Bool → (Tag → Bool) → Reader → ℕ → List ℕ → ℕ → List ℕ → Result (AbstractValue × ℕ) AbstractBreach
+unfoldable pub item_at : Bool → (Tag → Bool) → Reader → ℕ → List ℕ → ℕ → List ℕ
+    → Result (AbstractValue × ℕ) AbstractBreach
 item_at ordered wanted read i before at octets = inside (Element i) (item_alone ordered wanted read before at octets)
 
 -- at most so many elements, from element i on
@@ -209,14 +224,16 @@ items_at tries ordered wanted read i before at [] = Ok value.no_items
 items_at zero ordered wanted read i before at (o ∷ os) = Err (fault code.UnexpectedTag at)
 items_at (suc tries) ordered wanted read i before at (o ∷ os) =
     item_at ordered wanted read i before at (o ∷ os) >>= λ x.
-    items_at tries ordered wanted read (suc i) (take x.1 (o ∷ os)) (at + x.1) (drop x.1 (o ∷ os)) >>= λ vs. Ok (value.item x.0 vs)
+    items_at tries ordered wanted read (suc i) (take x.1 (o ∷ os)) (at + x.1) (drop x.1 (o ∷ os)) >>= λ vs.
+    Ok (value.item x.0 vs)
 
 -- ---- all kinds
 
 unfoldable mutual
   -- an element with this header, its tag accepted
   pub element_at : AbstractType → ℕ → Head → List ℕ → Result AbstractValue AbstractBreach
-  element_at (type_of tags kind cons) at h octets = tags_at tags (is_constructed kind) (contents_at kind) (untagged_at kind) at h octets
+  element_at (type_of tags kind cons) at h octets =
+      tags_at tags (is_constructed kind) (contents_at kind) (untagged_at kind) at h octets
 
   pub untagged_at : AbstractKind → ℕ → Head → List ℕ → Result AbstractValue AbstractBreach
   untagged_at (type.choice cs) at h octets = chosen_at cs (part_at cs) at h octets
@@ -225,10 +242,13 @@ unfoldable mutual
   -- contents octets that begin at `start`, of an element that begins at `at`
   pub contents_at : AbstractKind → ℕ → ℕ → List ℕ → Result AbstractValue AbstractBreach
   contents_at (type.sequence cs) at start octets = fields_read (fields_at 0 cs start octets)
-  contents_at (type.set cs) at start octets = fields_read (set_at (length octets) cs (part_at cs) (all_absent cs) None start octets)
+  contents_at (type.set cs) at start octets =
+      fields_read (set_at (length octets) cs (part_at cs) (all_absent cs) None start octets)
   contents_at (type.choice cs) at start octets = alone_at (one_begins_with cs) (chosen_at cs (part_at cs)) start octets
-  contents_at (type.sequence_of t) at start octets = items_read (items_at (length octets) false (begins_with t) (element_at t) 0 [] start octets)
-  contents_at (type.set_of t) at start octets = items_read (items_at (length octets) true (begins_with t) (element_at t) 0 [] start octets)
+  contents_at (type.sequence_of t) at start octets =
+      items_read (items_at (length octets) false (begins_with t) (element_at t) 0 [] start octets)
+  contents_at (type.set_of t) at start octets =
+      items_read (items_at (length octets) true (begins_with t) (element_at t) 0 [] start octets)
   contents_at kind at start octets = simple_at kind at start octets
 
   -- these components, of which the first is component i

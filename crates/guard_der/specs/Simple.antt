@@ -42,7 +42,8 @@ enumerated_fault items os = elim (integer_fault os) [
   | None ↦ if is_item (twos_complement os) items then None else Some code.UnknownEnumeration
 ]
 
--- The first octet is the count of unused bits (X.690 8.6.2), which are zero (11.2.1). Where bits are named the last one is not (11.2.2).
+-- The first octet is the count of unused bits (X.690 8.6.2), which are zero (11.2.1). Where bits are named, the last
+-- one is not (11.2.2).
 abbrev pub bits_fault : List NamedNumber → List ℕ → Option Code
 bits_fault names [] = Some code.BitStringContents
 bits_fault names (unused ∷ os) =
@@ -60,7 +61,8 @@ abbrev pub null_fault : List ℕ → Option Code
 null_fault [] = None
 null_fault (o ∷ os) = Some code.NullContents
 
--- Bit 8 is set on each octet of a subidentifier but its last; its first is not 80 (X.690 8.19.2). `starts`: the next octet is a first one.
+-- Bit 8 is set on each octet of a subidentifier but its last; its first is not 80 (X.690 8.19.2). `starts`: the next
+-- octet is a first one.
 abbrev pub are_subidentifiers : Bool → List ℕ → Bool
 are_subidentifiers starts [] = starts
 are_subidentifiers starts (o ∷ os) = not (starts && nat_eq o 128) && are_subidentifiers (nat_lt o 128) os
@@ -68,12 +70,18 @@ are_subidentifiers starts (o ∷ os) = not (starts && nat_eq o 128) && are_subid
 -- The numbers that they spell to the base 128; n is what the first one spelled so far.
 abbrev pub subidentifiers : ℕ → List ℕ → List ℕ
 subidentifiers n [] = []
-subidentifiers n (o ∷ os) = if nat_lt o 128 then (n * 128 + o) ∷ subidentifiers 0 os else subidentifiers (n * 128 + (o - 128)) os
+subidentifiers n (o ∷ os) =
+    if nat_lt o 128
+    then (n * 128 + o) ∷ subidentifiers 0 os
+    else subidentifiers (n * 128 + (o - 128)) os
 
 -- The first subidentifier is 40X + Y (X.690 8.19.4).
 abbrev pub arcs_of : List ℕ → List ℕ
 arcs_of [] = []
-arcs_of (s ∷ rest) = if nat_lt s 40 then 0 ∷ s ∷ rest else if nat_lt s 80 then 1 ∷ (s - 40) ∷ rest else 2 ∷ (s - 80) ∷ rest
+arcs_of (s ∷ rest) =
+    if nat_lt s 40 then 0 ∷ s ∷ rest
+    else if nat_lt s 80 then 1 ∷ (s - 40) ∷ rest
+    else 2 ∷ (s - 80) ∷ rest
 
 abbrev pub object_id_fault : List ℕ → Option Code
 object_id_fault os =

@@ -23,8 +23,8 @@ abbrev pub none_clash : Option AbstractClash → Bool
 none_clash None = true
 none_clash (Some clash) = false
 
--- All tags that must differ do: this is so exactly where `Distinct` holds (`laws::law_distinct_tags`), of any type, also of one that
--- stands in a constraint.
+-- All tags that must differ do: this is so exactly where `Distinct` holds (`laws::law_distinct_tags`), of any type,
+-- also of one in a constraint.
 abbrev pub has_distinct_tags : AbstractType → Bool
 has_distinct_tags t = none_clash (first_clash t)
 
@@ -32,7 +32,9 @@ abbrev mutual
   -- ---- types
 
   pub is_proper : AbstractType → Bool
-  is_proper (type_of tags kind cons) = (is_tagged tags kind && are_low tags && are_proper_constraints cons (type_of tags kind cons)) && is_proper_kind kind
+  is_proper (type_of tags kind cons) =
+      (is_tagged tags kind && are_low tags && are_proper_constraints cons (type_of tags kind cons))
+      && is_proper_kind kind
 
   pub is_proper_kind : AbstractKind → Bool
   is_proper_kind (type.sequence cs) = nat_le (component_count cs) most_components && are_proper cs
@@ -66,7 +68,8 @@ abbrev mutual
   -- 51.2: a value of the type
   is_proper_element (type.single_value v) t = may_stand_in t v
   -- 51.3: a type of the same base that is sound, as below
-  is_proper_element (type.contained_subtype u) t = same_base u t && (is_proper u && has_distinct_tags u && nat_le (nesting u) deepest_nesting)
+  is_proper_element (type.contained_subtype u) t =
+      same_base u t && (is_proper u && has_distinct_tags u && nat_le (nesting u) deepest_nesting)
   -- 51.4
   is_proper_element (type.range low high) t = is_integer (kind_of t)
   -- 51.5: a constraint on INTEGER; none on named bits
@@ -87,7 +90,8 @@ abbrev mutual
   pub are_proper_parts : Parts → AbstractType → Bool
   are_proper_parts type.no_parts t = true
   are_proper_parts (type.part site i word ps) t = is_some (part_of i (kind_of t)) && are_proper_parts ps t
-  are_proper_parts (type.part_within site i c word ps) t = is_there_and (is_proper_constraint c) (part_of i (kind_of t)) && are_proper_parts ps t
+  are_proper_parts (type.part_within site i c word ps) t =
+      is_there_and (is_proper_constraint c) (part_of i (kind_of t)) && are_proper_parts ps t
 
 -- Tags are there, low and distinct; lists of components, nesting and defaults keep their limits; constraints apply.
 abbrev pub is_sound : AbstractType → Bool

@@ -1,4 +1,4 @@
--- What the code's results stand for.
+-- The code's results as the definitions see them.
 use Rattle.std.specs.Prelude.{ℕ, List, Option, Some, None}
 use Rattle.std.specs.Borrow.{Bor}
 use Rattle.guard_der.specs.declared.breach.Breach.{Breach}

@@ -20,7 +20,7 @@ pub enum Code {
     NonMinimalLength,
     /// A length of more than four octets.
     LengthTooLarge,
-    /// A tag that can't stand there.
+    /// A tag that can't be there.
     UnexpectedTag,
     /// The contents end before a mandatory component.
     MissingComponent,
@@ -36,7 +36,8 @@ pub enum Code {
     UnknownEnumeration,
     /// A NULL with contents (X.690 8.8.2).
     NullContents,
-    /// A BIT STRING without its first octet, with more than seven unused bits, or with unused bits of no octet (X.690 8.6.2).
+    /// A BIT STRING without its first octet, with more than seven unused bits, or with unused bits of no octet (X.690
+    /// 8.6.2).
     BitStringContents,
     /// An unused bit that is not zero (X.690 11.2.1).
     UnusedBits,
@@ -100,7 +101,8 @@ impl fmt::Display for Code {
     }
 }
 
-/// The first place that breaks the rules. Printed, its path counts components and elements from 0: `E9 BooleanContents 5 $.1[0]`.
+/// The first place that breaks the rules. Printed, its path counts components and elements from 0:
+/// `E9 BooleanContents 5 $.1[0]`.
 #[derive(Debug, Drop, Error)]
 #[error("{code} {at} {way}", way = PathText(.path))]
 pub struct Breach {
@@ -136,6 +138,14 @@ impl DecodeFault {
             }
             DecodeFault::OutOfMemory => DecodeFault::OutOfMemory,
         }
+    }
+}
+
+impl From<guard_model::OutOfMemory> for DecodeFault {
+    ghost from_gives = { λ _ e. e ≡ OutOfMemory };
+
+    fn from(_e: guard_model::OutOfMemory) -> DecodeFault {
+        DecodeFault::OutOfMemory
     }
 }
 

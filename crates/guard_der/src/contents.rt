@@ -1,5 +1,5 @@
-//! Contents octets of the simple kinds (X.690 8.2 to 8.8, 8.19, 8.23): the value that they say, or what is wrong with them.
-//! Each reader is given the offset of the element, where its faults are named.
+//! Contents octets of the simple kinds (X.690 8.2 to 8.8, 8.19, 8.23): the value that they say, or what is wrong with
+//! them. Each reader is given the offset of the element, where its faults are named.
 ghost use Rattle.std.specs.Prelude.{◌≡◌, ◌+◌, ◌-◌, ◌<◌, ◌≤◌, ◌^◌, ◌∷◌, length, map, None, if◌then◌else◌};
 ghost use Rattle.guard_model.specs.AbstractValue as abstract;
 ghost use Rattle.guard_model.specs.Answer.{Gives};
@@ -62,7 +62,8 @@ fn null(at: usize, octets: &[u8]) -> Result<Value, DecodeFault>
     }
 }
 
-/// The first octet is the count of unused bits, which are zero (X.690 8.6.2, 11.2.1); where bits are named, the last one isn't (11.2.2).
+/// The first octet is the count of unused bits, which are zero (X.690 8.6.2, 11.2.1); where bits are named, the last
+/// one isn't (11.2.2).
 fn bit_string(
     alloc: Global,
     names: &[Named],

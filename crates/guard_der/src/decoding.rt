@@ -3,6 +3,7 @@ ghost use Rattle.std.specs.Prelude.{◌≡◌, ◌&&◌, ℕ, ◌+◌, ◌-◌, 
 ghost use Rattle.guard_model.specs.Answer.{Gives};
 ghost use Rattle.guard_model.specs.AbstractType.{type_of, no_constraints};
 ghost use Rattle.guard_model.specs.AbstractValue.{AbstractValue, no_fields};
+ghost use Rattle.guard_model.specs.Slots.{all_absent};
 ghost use Rattle.guard_model.specs.TypeView.{type_view, kind_view, component_view, components_of, presence_view};
 ghost use Rattle.guard_model.specs.ValueView.{value_view, field_view, fields_view, items_view};
 ghost use Rattle.guard_tagcheck.specs.FirstTags.{begins_with};
@@ -12,21 +13,21 @@ ghost use Rattle.guard_der.specs.Der.{der};
 ghost use Rattle.guard_der.specs.Fits.{fits, descends as descending};
 ghost use Rattle.guard_der.specs.Sound.{is_sound, is_proper, is_proper_kind, are_proper, is_proper_presence};
 ghost use Rattle.guard_der.specs.Breach.{AbstractBreach, IsBreach};
-ghost use Rattle.guard_der.specs.Reading.{due_at, alone_at, component_at, end_at, element_at, untagged_at, contents_at, chosen_at, part_at, fields_at, item_alone, item_at, items_at, message_of, sent_at, all_absent, set_element_at, set_at};
+ghost use Rattle.guard_der.specs.Reading.{due_at, alone_at, component_at, end_at, element_at, untagged_at, contents_at, chosen_at, part_at, fields_at, item_alone, item_at, items_at, message_of, sent_at, set_element_at, set_at};
 ghost use Rattle.guard_der.specs.Views.{head_view, breach_of};
 
 mod set;
 
 use crate::breach::{Code, DecodeFault};
 use crate::contents::value_of_simple;
-use crate::decoding::set::{absent_fields, completed, place_of, put};
+use crate::decoding::set::{completed, place_of};
 use crate::faults::{end, fault_at, header_at_front, wrong_form};
 use crate::fitting::ascending::descends;
 use crate::forms::{is_constructed, is_form};
 use crate::head::Head;
 use crate::presence::{is_left_out, not_sent};
 use crate::tags::{begins, begins_in, one_with};
-use guard_model::{Comp, Kind, Presence, Step, Tag, Ty, Value};
+use guard_model::{Comp, Kind, Presence, Step, Tag, Ty, Value, absent_fields, set_field};
 use std::alloc::Global;
 
 /// The value of the type that the octets encode, all of them; or their breach.
@@ -257,7 +258,7 @@ fn component(
     Ok((Some(value), head.size + head.contents))
 }
 
-/// The component at this place of the list where its element stands: its header is read, its tag accepted.
+/// The component at this place of the list where its element is there: its header is read, its tag accepted.
 #[cycle(reading)]
 fn sent(
     alloc: Global,
@@ -315,7 +316,7 @@ fn items(
     Ok(items)
 }
 
-/// The element at this place of the list, where the octets of the one before it are these; and how many octets it takes.
+/// The element at this place of the list, where the octets of the one before it are these; and how many octets it has.
 #[cycle(reading)]
 fn item(
     alloc: Global,
@@ -366,7 +367,7 @@ fn next_item(
     Ok((value, size))
 }
 
-/// Whether an element with these octets may not stand behind one with the octets `before`.
+/// Whether an element with these octets may not come after one with the octets `before`.
 fn is_out_of_order(ordered: bool, before: &[u8], octets: &[u8]) -> bool
     ensures { result ≡ (ordered && descending before.now octets.now) }
 {
@@ -394,7 +395,7 @@ fn set_components(
     while !rest.is_empty() {
         let (place, value, head) = set_component(alloc, comps, &fields, before, at, rest)?;
         let size = head.size + head.contents;
-        put(&mut fields, place, Some(value));
+        set_field(&mut fields, place, Some(value));
         before = Some(head.tag);
         let (_, behind) = rest.split_at(size);
         at += size;

@@ -8,6 +8,6 @@ pub struct Header {
     pub constructed: bool,
     /// The offset of the first contents octet, which is `end` where there is none.
     pub contents: usize,
-    /// The offset of the first octet behind the element.
+    /// The offset of the first octet after the element.
     pub end: usize,
 }

@@ -34,8 +34,8 @@ pub enum EncodeFault {
 /// The most octets that an encoding may have.
 const LONGEST: usize = 1_048_576;
 
-/// The encoding of the value (X.690), which must be one of the type's, constraints aside. TooLong exactly where it has more than
-/// 1,048,576 octets, or a length in it would need more than four; OutOfMemory where a growth is refused.
+/// The encoding of the value (X.690), which must be one of the type's, constraints aside. TooLong exactly where it has
+/// more than 1,048,576 octets, or a length in it would need more than four; OutOfMemory where a growth is refused.
 pub fn encode(alloc: Global, ty: &Ty, value: &Value) -> Result<Vec<u8>, EncodeFault>
     requires { IsTrue (fits (type_view ty.now) (value_view value.now)) }
     // The octets of the value's encoding where it is short enough, else TooLong, unless memory runs out.
@@ -48,8 +48,8 @@ pub fn encode(alloc: Global, ty: &Ty, value: &Value) -> Result<Vec<u8>, EncodeFa
     Ok(octets)
 }
 
-/// The contents octets of a value of this kind (X.690 8.1.4). TooLong exactly where a length in them would need more than four
-/// octets; OutOfMemory where a growth is refused.
+/// The contents octets of a value of this kind (X.690 8.1.4). TooLong exactly where a length in them would need more
+/// than four octets; OutOfMemory where a growth is refused.
 pub fn encode_contents(alloc: Global, kind: &Kind, value: &Value) -> Result<Vec<u8>, EncodeFault>
     requires { IsTrue (fits_kind (kind_view kind.now) (value_view value.now)) }
     ensures exact { Gives (λ v. v.items) refusal result (or_too_long (contents_octets (kind_view kind.now) (value_view value.now))) }
@@ -57,8 +57,8 @@ pub fn encode_contents(alloc: Global, kind: &Kind, value: &Value) -> Result<Vec<
     values::contents(alloc, kind, value)
 }
 
-/// Contents octets in their tags, the outermost first, each but the last a wrapper (X.690 8.14); without a tag they stand alone.
-/// TooLong exactly where a length would need more than four octets; OutOfMemory where a growth is refused.
+/// Contents octets in their tags, the outermost first, each but the last a wrapper (X.690 8.14). Without a tag nothing
+/// is added. TooLong exactly where a length would need more than four octets; OutOfMemory where a growth is refused.
 pub fn encode_tagged(
     alloc: Global,
     tags: &[Tag],

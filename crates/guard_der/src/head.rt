@@ -25,12 +25,12 @@ pub struct Head {
 /// The header of the element that begins at an offset. Its contents must not reach past the end of the octets.
 ///
 /// Refusals are breaches at that offset, their path empty: Truncated, TagForm, IndefiniteLength, NonMinimalLength and
-/// LengthTooLarge, the first that stands from left to right.
+/// LengthTooLarge, the first that holds from left to right.
 pub fn header(octets: &[u8], at: usize) -> Result<Header, Breach>
     requires { at ≤ length octets.now }
-    // What is answered stands there, spelled as X.690 spells it.
+    // What is answered is there, spelled as X.690 spells it.
     ensures stands { IfOk result (IsHeader octets.now at) }
-    // What stands there is answered.
+    // What is there is answered.
     ensures only { (h : Header) → IsHeader octets.now at h → result ≡ Ok h }
     // Which header, and which fault.
     ensures exact { Gives (λ h. h) (λ b. Some (breach_view b)) result (header_at at octets.now) }

@@ -20,7 +20,8 @@ pub fn law_one_encoding(ty: &Ty, one: &Value, other: &Value, octets: &[u8])
     ensures { der (type_view ty.now) (value_view one.now) ≡ Some octets.now → der (type_view ty.now) (value_view other.now) ≡ Some octets.now → value_view one.now ≡ value_view other.now }
 {}
 
-/// No encoding begins another: where octets begin with the encodings of two values, the values are one, and so is what follows.
+/// No encoding begins another: where octets begin with the encodings of two values, the values are one, and so is what
+/// follows.
 pub fn law_no_prefix(ty: &Ty, one: &Value, other: &Value)
     requires sound { IsTrue (is_sound (type_view ty.now)) }
     requires one_fits { IsTrue (fits (type_view ty.now) (value_view one.now)) }
@@ -37,8 +38,8 @@ pub fn law_one_answer(ty: &Ty, octets: &[u8])
     ensures one_breach { (b c : AbstractBreach) → IsBreach (type_view ty.now) octets.now b → IsBreach (type_view ty.now) octets.now c → b ≡ c }
 {}
 
-/// What `is_sound` asks of the tags of a type, and of each type contained in its constraints at any depth, is that all differ that must
-/// (X.680 25.6, 27.3, 29.3).
+/// What `is_sound` asks of the tags of a type, and of each type contained in its constraints at any depth, is that all
+/// differ that must (X.680 25.6, 27.3, 29.3).
 pub fn law_distinct_tags()
     ensures { (t : AbstractType) → IsTrue (has_distinct_tags t) ↔ Distinct t }
 {}

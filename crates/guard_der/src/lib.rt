@@ -1,13 +1,16 @@
-//! The distinguished encoding rules (X.690): from octets to the value of a type that they encode, or the first place that breaks the rules; from a
-//! value to its encoding; and which types are sound.
+//! The distinguished encoding rules (X.690): from octets to the value of a type that they encode, or the first place
+//! that breaks the rules; from a value to its encoding; and which types are sound.
 //!
 //! | question | code | definition |
 //! |---|---|---|
-//! | What is the encoding of a value? | `encoding.rt` (`encode`) and its folder | `specs/Der.antt`, `specs/Element.antt`, `specs/Contents.antt`, `specs/Encoding.antt` |
+//! | What is the encoding of a value? | `encoding.rt` (`encode`), folder | `specs/Der.antt`, `specs/Encoding.antt` |
+//! | What are its octets? | `encoding/element.rt`, `encoding/simple.rt` | `specs/Element.antt`, `specs/Contents.antt` |
 //! | Which values does a type have, constraints aside? | `fitting.rt` (`fits`) | `specs/Fits.antt` |
-//! | Of which types do encodings tell the values, and which constraints may they have? | `sound_types.rt` (`sound`), `sound_types/forms.rt` | `specs/Sound.antt`, `specs/ProperConstraints.antt` |
-//! | Which value do octets encode, and where do they break the rules first? | `decoding.rt` (`decode`), simple kinds `contents.rt`, SET `decoding/set.rt` | `specs/Breach.antt`, `specs/Simple.antt` |
-//! | Which header stands at an offset? | `head.rt` (`header`) | `specs/Head.antt`, `specs/Header.antt` |
+//! | Of which types do encodings tell the values? | `sound_types.rt` (`sound`) | `specs/Sound.antt` |
+//! | Which constraints may they have? | `sound_types.rt`, `sound_types/forms.rt` | `specs/ProperConstraints.antt` |
+//! | Which value do octets encode, or what is wrong with them? | `decoding.rt` (`decode`) | `specs/Breach.antt` |
+//! | And those of simple kinds, and of a SET? | `contents.rt`, `decoding/set.rt` | `specs/Simple.antt`, `Breach.antt` |
+//! | Which header is at an offset? | `head.rt` (`header`) | `specs/Head.antt`, `specs/Header.antt` |
 //! | Which breaches are there, and what are they called? | `breach.rt` | `specs/Names.antt` |
 //! | What holds for every type, value and octets? | `laws.rt` | `specs/Der.antt`, `specs/Breach.antt` |
 #![tactic(auto)]

@@ -37,9 +37,6 @@ pub fn not_sent(
         Presence::Mandatory => Err(fault),
         Presence::Optional => Ok(None),
         Presence::Pending => Ok(None),
-        Presence::Default(value) => match value.copy(alloc) {
-            Ok(copy) => Ok(Some(copy)),
-            Err(_) => Err(DecodeFault::OutOfMemory),
-        },
+        Presence::Default(value) => Ok(Some(value.copy(alloc)?)),
     }
 }

@@ -25,13 +25,14 @@ use guard_model::{
 use guard_tagcheck::{find_clash, is_within_limits};
 use std::alloc::Global;
 
-/// Whether the type is sound: a tag at each node but a CHOICE, numbers of tags up to 268,435,455, at most 64 components or
-/// alternatives in each list, nesting up to 32; tags that tell components and alternatives apart (X.680 25.6, 27.3, 29.3);
-/// no default that is pending, and each default a value of its type whose encoding has at most 1,048,576 octets. Each element of
-/// a constraint applies to the kind that it constrains, SIZE to none with named bits and inside SIZE to INTEGER; single values are as
-/// defaults, contained types sound and of the same base, and parts that are named by their places exist (51.2 to 51.8). So tags tell
-/// components and alternatives apart in contained types too, at every depth: of each `law_distinct_tags` says that the test is true
-/// exactly where all tags that must differ do. Its one refusal is want of memory.
+/// Whether the type is sound: a tag at each node but a CHOICE, numbers of tags up to 268,435,455, at most 64 components
+/// or alternatives in each list, nesting up to 32; tags by which components and alternatives are distinguished (X.680
+/// 25.6, 27.3, 29.3); no default that is pending, and each default a value of its type whose encoding has at most
+/// 1,048,576 octets. Each element of a constraint applies to the kind that it constrains, SIZE to none with named bits
+/// and inside SIZE to INTEGER; single values are as defaults, contained types sound and of the same base, and parts
+/// that are named by their places exist (51.2 to 51.8). So components and alternatives are distinguished by their tags
+/// in contained types too, at every depth: of each `law_distinct_tags` says that the test is true exactly where all
+/// tags that must differ do. Its one refusal is want of memory.
 pub fn sound(alloc: Global, ty: &Ty) -> Result<bool, OutOfMemory>
     ensures exact { IfOk result (λ b. b ≡ is_sound (type_view ty.now)) }
     // Of a sound type all tags that must differ do.
@@ -243,7 +244,7 @@ fn is_proper_within(alloc: Global, within: &Option<Cons>, ty: &Ty) -> Result<boo
     }
 }
 
-// ---- values that stand in a type
+// ---- values that are written in a type
 
 /// The value is one of the type's, and its encoding isn't too long.
 fn may_stand_in(alloc: Global, ty: &Ty, value: &Value) -> Result<bool, OutOfMemory>

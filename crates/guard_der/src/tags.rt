@@ -8,7 +8,8 @@ ghost use Rattle.guard_model.specs.Tags.{same_tag};
 
 use guard_model::{Comp, Kind, Tag, Ty};
 
-/// Whether an encoding of a kind with these tags may begin with this tag. An untagged CHOICE has the tags of all its alternatives.
+/// Whether an encoding of a kind with these tags may begin with this tag. An untagged CHOICE has the tags of all its
+/// alternatives.
 pub fn begins_in(tags: &[Tag], kind: &Kind, tag: Tag) -> bool
     ensures { result ≡ begins_with (type_of tags.now (kind_view kind.now) no_constraints) tag }
 {

@@ -54,7 +54,7 @@ near_element i h = ap Element (min-eq_left h)
 
 -- ---- parts of types within the limits
 
--- of a component: it keeps the limits, isn't nested deeper and stands among so many
+-- of a component: it keeps the limits, isn't nested deeper and is one of so many
 component_is : (cs : Components) (i : ℕ) (c : OneComponent) → component_at i cs ≡ Some c → IsTrue (every_component is_formed cs)
     → IsTrue (keeps_limits c.ty) × (nesting c.ty ≤ deepest cs) × (i < component_count cs)
 component_is no_components i c e h = absurd cc

@@ -115,7 +115,7 @@ sound_parts t h =
     let a = and_parts (is_proper t && none_clash (first_clash t)) (nat_le (nesting t) 32) h in
     ((and_parts (is_proper t) (none_clash (first_clash t)) a.0).0, a.1)
 
--- of a constraint that may stand on a type
+-- of a constraint that a type may have
 pub proper_keeps_base : (c : Constraint) (t : AbstractType) → IsTrue (is_proper_constraint c t) → ConstraintKeepsBase c (kind_of t)
 proper_keeps_base c t h = constraint_keeps c t h
 

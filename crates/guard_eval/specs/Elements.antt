@@ -1,4 +1,4 @@
--- Sets of values that speak of a value alone: of a number, a size or characters.
+-- Sets of values by a value alone: by its number, its size or its characters.
 use Rattle.std.specs.Prelude.{ℕ, ◌*◌, ◌-◌, ℤ, pos, Bool, true, false, ◌&&◌, List, length, int_le, int_lt, Option, Some, None}
 use Rattle.std.specs.Int.{is_in_range}
 use Rattle.std.specs.List.{list_all, list_any}
@@ -25,8 +25,8 @@ abbrev pub is_between : Limit → Limit → AbstractValue → Bool
 is_between low high (value.integer z) = is_above low z && is_under high z
 is_between low high _ = false
 
--- The size of a value in bits, octets, characters or elements (51.5); other kinds have none. A string of bits that fits its type has at
--- most 7 unused bits, and none without an octet: so the difference is never cut off at 0.
+-- The size of a value in bits, octets, characters or elements (51.5); other kinds have none. A string of bits that fits
+-- its type has at most 7 unused bits, and none without an octet: so the difference is never cut off at 0.
 abbrev pub size_of : AbstractValue → Option ℕ
 size_of (value.bit_string os unused) = Some (8 * length os - unused)
 size_of (value.octet_string os) = Some (length os)
@@ -42,7 +42,7 @@ some_passes test (Some n) = fits_128_bits (pos n) && test (value.integer (pos n)
 abbrev pub has_size : (AbstractValue → Bool) → AbstractValue → Bool
 has_size test v = some_passes test (size_of v)
 
--- FROM: the strings all of whose characters lie in one of the ranges, both ends in (51.7)
+-- FROM: the strings all of whose characters are in one of the ranges, both ends in (51.7)
 abbrev pub is_in_some : List (ℕ × ℕ) → ℕ → Bool
 is_in_some ranges c = list_any (λ r. is_in_range r.0 r.1 c) ranges
 

@@ -12,8 +12,8 @@ use Rattle.guard_eval.specs.Elements.{is_between, has_size, is_spelled_in, every
 use Rattle.guard_eval.specs.Presence.{element_kind, kind_at, has_parts, part_at, is_there, if_there, is_placed, first_intruder}
 
 abbrev mutual
-  -- A member fits the type, and each constraint holds, there and in each part: each component that is there, the chosen alternative,
-  -- each element.
+  -- A member fits the type, and each constraint holds, of the value itself and of each part: each component that is
+  -- there, the chosen alternative, each element.
   pub is_member : AbstractType → AbstractValue → Bool
   is_member (type_of tags kind cons) v = fits_kind kind v && all_hold cons kind v && parts_are_members kind v
 
@@ -25,7 +25,7 @@ abbrev mutual
   parts_are_members (type.set_of t) (value.items vs) = every_item (is_member t) vs
   parts_are_members _ v = true
 
-  -- An absent OPTIONAL component is tested nowhere. A component that is its default has a value though it is not sent.
+  -- An absent OPTIONAL component is never tested. A component that is its default has a value though it is not sent.
   pub fields_are_members : Components → Fields → Bool
   fields_are_members (component name t presence cs) (value.present v fs) = is_member t v && fields_are_members cs fs
   fields_are_members (component name t presence cs) (value.absent fs) = fields_are_members cs fs
@@ -55,8 +55,9 @@ abbrev mutual
   holds_element (type.permitted_alphabet ranges) kind v = is_spelled_in ranges v
   -- 51.8.4: those each of whose elements the constraint has
   holds_element (type.with_component c) kind v = has_each (holds c (element_kind kind)) v
-  -- 51.8.5: those of which all is so that is said of listed parts and, by a full list, of the others
-  holds_element (type.with_components partial ps) kind v = has_parts v && parts_hold ps partial kind v && is_none (first_intruder partial kind ps v)
+  -- 51.8.5: those whose listed parts are as the list says, and whose other parts are as a full list says of them
+  holds_element (type.with_components partial ps) kind v =
+      has_parts v && parts_hold ps partial kind v && is_none (first_intruder partial kind ps v)
   -- 50: sets as in arithmetic
   holds_element (type.union cs) kind v = some_hold cs kind v
   holds_element (type.intersection cs) kind v = all_hold cs kind v
@@ -71,11 +72,12 @@ abbrev mutual
   some_hold no_constraints kind v = false
   some_hold (constraint c cs) kind v = holds c kind v || some_hold cs kind v
 
-  -- a word speaks of presence, a constraint of the value that is there (51.8.6 to 51.8.9)
+  -- a word is about presence, a constraint about the value that is there (51.8.6 to 51.8.9)
   pub parts_hold : Parts → Bool → AbstractKind → AbstractValue → Bool
   parts_hold type.no_parts partial kind v = true
   parts_hold (type.part site i word ps) partial kind v =
       is_placed partial (component_at i (components_in kind)) word (is_there i v) && parts_hold ps partial kind v
   parts_hold (type.part_within site i c word ps) partial kind v =
-      (is_placed partial (component_at i (components_in kind)) word (is_there i v) && if_there (holds c (kind_at i kind)) (part_at i v))
+      (is_placed partial (component_at i (components_in kind)) word (is_there i v)
+      && if_there (holds c (kind_at i kind)) (part_at i v))
       && parts_hold ps partial kind v

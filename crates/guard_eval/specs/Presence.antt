@@ -80,7 +80,7 @@ is_listed i (type.part_within site j c word ps) = nat_eq i j || is_listed i ps
 abbrev pub is_ruled_out : AbstractKind → Parts → ℕ → AbstractPresence → Bool
 is_ruled_out kind ps i presence = not (is_listed i ps) && (is_choice kind || may_be_absent presence)
 
--- the first of these components that should be absent and is there; the first of them stands at place i
+-- the first of these components that should be absent and is there; their own first one is component i
 abbrev pub first_ruled_out : AbstractKind → Parts → AbstractValue → ℕ → Components → Option ℕ
 first_ruled_out kind ps v i no_components = None
 first_ruled_out kind ps v i (component name t presence rest) =

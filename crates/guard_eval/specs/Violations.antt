@@ -29,12 +29,12 @@ violation_view w = record { site = w.site; path = w.path.items }
 abbrev pub shortfall_view : ℕ × Violation → ℕ × AbstractViolation
 shortfall_view r = (r.0, violation_view r.1)
 
--- seen from the value round it
+-- with the path from the value that has this one in it
 abbrev pub below : Step → Option AbstractViolation → Option AbstractViolation
 below step None = None
 below step (Some w) = Some (record { site = w.site; path = step ∷ w.path })
 
--- what stands here is blamed itself
+-- the value itself violates the constraint at this site
 abbrev pub here : Site → Option AbstractViolation
 here site = Some (record { site = site; path = [] })
 
@@ -59,7 +59,8 @@ misplaced partial site i None word there = here site
 misplaced partial site i (Some c) word there = below (Component i) (unless (is_placed partial (Some c) word there) site)
 
 -- in the value of the part at this place, if it is there
-abbrev pub blame_in_part : (AbstractValue → Option AbstractViolation) → ℕ → Option AbstractValue → Option AbstractViolation
+abbrev pub blame_in_part :
+    (AbstractValue → Option AbstractViolation) → ℕ → Option AbstractValue → Option AbstractViolation
 blame_in_part find i None = None
 blame_in_part find i (Some v) = below (Component i) (find v)
 
@@ -69,7 +70,8 @@ blame_intruder site None = None
 blame_intruder site (Some i) = below (Component i) (here site)
 
 abbrev mutual
-  -- the constraints of the type itself, then those of its components in written order, of the chosen alternative, or of its elements in turn
+  -- the constraints of the type itself, then those of its components in written order, of the chosen alternative, or of
+  -- its elements in turn
   pub violation : AbstractType → AbstractValue → Option AbstractViolation
   violation (type_of tags kind cons) v = option_or (first_failing cons kind v) (violation_inside kind v)
 
@@ -83,7 +85,8 @@ abbrev mutual
 
   -- from component i on
   pub violation_from : ℕ → Components → Fields → Option AbstractViolation
-  violation_from i (component name t presence cs) (value.present v fs) = option_or (below (Component i) (violation t v)) (violation_from (suc i) cs fs)
+  violation_from i (component name t presence cs) (value.present v fs) =
+      option_or (below (Component i) (violation t v)) (violation_from (suc i) cs fs)
   violation_from i (component name t presence cs) (value.absent fs) = violation_from (suc i) cs fs
   violation_from i _ _ = None
 
@@ -97,8 +100,8 @@ abbrev mutual
   first_failing no_constraints kind v = None
   first_failing (constraint c cs) kind v = option_or (blame c kind v) (first_failing cs kind v)
 
-  -- Most elements are blamed themselves. An intersection blames its first failing part, EXCEPT its left side where that fails and
-  -- otherwise itself, WITH COMPONENT what fails in the first failing element.
+  -- Most elements are blamed themselves. An intersection blames its first failing part, EXCEPT its left side where that
+  -- fails and otherwise itself, WITH COMPONENT what fails in the first failing element.
   pub blame : Constraint → AbstractKind → AbstractValue → Option AbstractViolation
   blame (at site (type.single_value w)) kind v = unless (same w v) site
   blame (at site (type.contained_subtype t)) kind v = unless (is_member t v) site
@@ -108,7 +111,8 @@ abbrev mutual
   blame (at site (type.with_component c)) kind v = blame_in_items (blame c (element_kind kind)) site v
   -- the first failing name in written order, then the first part that should be absent
   blame (at site (type.with_components partial ps)) kind v =
-      option_or (unless (has_parts v) site) (option_or (first_failing_part ps partial kind v) (blame_intruder site (first_intruder partial kind ps v)))
+      option_or (unless (has_parts v) site)
+      (option_or (first_failing_part ps partial kind v) (blame_intruder site (first_intruder partial kind ps v)))
   blame (at site (type.union cs)) kind v = unless (some_hold cs kind v) site
   blame (at site (type.intersection cs)) kind v = first_failing cs kind v
   blame (at site (type.except c d)) kind v = option_or (blame c kind v) (unless (not (holds d kind v)) site)
@@ -118,12 +122,17 @@ abbrev mutual
   pub first_failing_part : Parts → Bool → AbstractKind → AbstractValue → Option AbstractViolation
   first_failing_part type.no_parts partial kind v = None
   first_failing_part (type.part site i word ps) partial kind v =
-      option_or (misplaced partial site i (component_at i (components_in kind)) word (is_there i v)) (first_failing_part ps partial kind v)
+      option_or
+      (misplaced partial site i (component_at i (components_in kind)) word (is_there i v))
+      (first_failing_part ps partial kind v)
   first_failing_part (type.part_within site i c word ps) partial kind v =
       option_or
-      (option_or (misplaced partial site i (component_at i (components_in kind)) word (is_there i v)) (blame_in_part (blame c (kind_at i kind)) i (part_at i v)))
+      (option_or
+      (misplaced partial site i (component_at i (components_in kind)) word (is_there i v))
+      (blame_in_part (blame c (kind_at i kind)) i (part_at i v)))
       (first_failing_part ps partial kind v)
 
 -- a value that fits violates nothing exactly where it is a member
 abbrev pub MembersViolateNothing : Type 0
-MembersViolateNothing = (t : AbstractType) (v : AbstractValue) → IsTrue (fits t v) → (violation t v ≡ None) ↔ IsTrue (is_member t v)
+MembersViolateNothing =
+    (t : AbstractType) (v : AbstractValue) → IsTrue (fits t v) → (violation t v ≡ None) ↔ IsTrue (is_member t v)

@@ -1,4 +1,4 @@
-//! Sets of values that speak of a number, a size or characters.
+//! Sets of values by a number, a size or characters.
 ghost use Rattle.std.specs.Prelude.{◌≡◌, ◌*◌, ◌-◌, length, pos, chars, option_map};
 ghost use Rattle.std.specs.List.{list_all};
 ghost use Rattle.guard_model.specs.ValueView.{value_view};
@@ -62,7 +62,7 @@ fn count_bits(bits: &Bits) -> i128
     all.saturating_sub(u128::from(bits.unused)) as i128
 }
 
-/// The value is a string all of whose characters lie in one of the ranges (X.680 51.7).
+/// The value is a string all of whose characters are in one of the ranges (X.680 51.7).
 pub fn is_spelled_in(ranges: &[(u32, u32)], value: &Value) -> bool
     ensures { result ≡ is_spelled_in ranges.now (value_view value.now) }
 {

@@ -2,10 +2,11 @@
 //!
 //! | question | code | definition |
 //! |---|---|---|
-//! | Which values are of a number, a size, of some characters? | `elements.rt` | `specs/Elements.antt` |
+//! | Which values does a number, a size or an alphabet allow? | `elements.rt` | `specs/Elements.antt` |
 //! | What does WITH COMPONENTS say of a part's presence? | `presence.rt` | `specs/Presence.antt` |
-//! | Which values does a constraint allow, and which are members of a type? | `members.rt` (`holds`, `member`; inside types `holds_on_kind`, `proper_member`) | `specs/Member.antt` |
-//! | Which constraint is failed first, and in which part? | `violation.rt` (`first_violation`) | `specs/Violations.antt` |
+//! | What does a constraint allow? | `members.rt` (`holds`, inside types `holds_on_kind`) | `specs/Member.antt` |
+//! | Which are members of a type? | `members.rt` (`member`, inside types `proper_member`) | `specs/Member.antt` |
+//! | Which constraint is failed first, and where? | `violation.rt` (`first_violation`) | `specs/Violations.antt` |
 //! | How are all of these found in one walk? | `search.rt` | `specs/inside/Failures.antt` |
 //! | What holds for every type and value? | `laws.rt` | `specs/Violations.antt` |
 #![tactic(auto)]

@@ -11,7 +11,7 @@ ghost use Rattle.guard_eval.specs.Member.{holds, is_member};
 use super::search::{failure, failure_by};
 use guard_model::{Cons, Kind, Ty, Value};
 
-/// Whether a constraint that may stand on this type has the value, which fits the type (X.680 clauses 49 to 51).
+/// Whether a constraint that this type may have allows the value, which fits the type (X.680 clauses 49 to 51).
 pub fn holds(cons: &Cons, ty: &Ty, value: &Value) -> bool
     requires proper { IsTrue (is_proper_constraint (constraint_view cons.now) (type_view ty.now)) }
     requires fits { IsTrue (fits (type_view ty.now) (value_view value.now)) }
@@ -20,9 +20,9 @@ pub fn holds(cons: &Cons, ty: &Ty, value: &Value) -> bool
     failure_by(cons, &ty.kind, value).is_none()
 }
 
-/// Whether a value that fits the sound type is a member: each constraint holds, there and in each part, that is each
-/// component, the chosen alternative, each element. An absent component is tested nowhere; one that is its default
-/// is there.
+/// Whether a value that fits the sound type is a member: each constraint holds, of the value itself and of each part,
+/// that is each component, the chosen alternative, each element. An absent component is never tested; one that is its
+/// default is there.
 pub fn member(ty: &Ty, value: &Value) -> bool
     requires sound { IsTrue (is_sound (type_view ty.now)) }
     requires fits { IsTrue (fits (type_view ty.now) (value_view value.now)) }
@@ -31,9 +31,10 @@ pub fn member(ty: &Ty, value: &Value) -> bool
     failure(ty, value).is_none()
 }
 
-// ---- as they stand inside sound types
+// ---- for what is inside sound types
 
-/// Whether a constraint that may stand on a type of this kind has the value, which fits the kind (X.680 clauses 49 to 51).
+/// Whether a constraint that a type of this kind may have allows the value, which fits the kind (X.680 clauses 49 to
+/// 51).
 pub fn holds_on_kind(cons: &Cons, kind: &Kind, value: &Value) -> bool
     requires proper { (t : AbstractType) × (kind_of t ≡ kind_view kind.now) × IsTrue (is_proper_constraint (constraint_view cons.now) t) }
     requires fits { IsTrue (fits_kind (kind_view kind.now) (value_view value.now)) }
@@ -42,7 +43,7 @@ pub fn holds_on_kind(cons: &Cons, kind: &Kind, value: &Value) -> bool
     failure_by(cons, kind, value).is_none()
 }
 
-/// Whether a value that fits the proper type is a member of it. A sound type is proper, and so is each type that stands in it.
+/// Whether a value that fits the proper type is a member of it. A sound type is proper, and so is each type inside it.
 pub fn proper_member(ty: &Ty, value: &Value) -> bool
     requires proper { IsTrue (is_proper (type_view ty.now)) }
     requires fits { IsTrue (fits (type_view ty.now) (value_view value.now)) }

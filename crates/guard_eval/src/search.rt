@@ -1,5 +1,5 @@
-//! The first constraint that a value fails: one walk over the type, its constraints and the value. What is asked of a value
-//! twice, whether a constraint has it and where it fails, is this one walk.
+//! The first constraint that a value fails: one walk over the type, its constraints and the value. Whether a constraint
+//! has the value and where the value fails it are both found by this one walk.
 ghost use Rattle.std.specs.Prelude.{◌≡◌, None, map, option_map};
 ghost use Rattle.std.specs.Option.{is_none, option_or};
 ghost use Rattle.guard_model.specs.declared.site.Step.TheVariants.{Component};
@@ -108,8 +108,8 @@ fn some_allows(cons: &[Cons], kind: &Kind, value: &Value) -> bool
     false
 }
 
-/// An intersection is failed by its first failing part, EXCEPT by its left side or else itself, WITH COMPONENT and WITH COMPONENTS
-/// in a part of the value; all others themselves.
+/// Of an intersection the first failing part is blamed, of EXCEPT its left side or else itself, of WITH COMPONENT and
+/// WITH COMPONENTS what fails in a part of the value; all others are blamed themselves.
 #[cycle(search)]
 pub fn failure_by(cons: &Cons, kind: &Kind, value: &Value) -> Option<Violation>
     ensures { option_map violation_view result ≡ failure_by (constraint_view cons.now) (kind_view kind.now) (value_view value.now) }

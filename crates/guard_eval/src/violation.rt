@@ -13,7 +13,7 @@ ghost use Rattle.guard_eval.specs.inside.Failures.{under};
 use super::search::failure;
 use guard_model::{DEEPEST_NESTING, Path, Site, Step, Ty, Value};
 
-/// A constraint that a value fails: where the constraint stands, and the way to the part of the value that fails it.
+/// A constraint that a value fails: where it is written, and the way to the part of the value that fails it.
 #[derive(Debug, Drop)]
 pub struct Violation {
     pub site: Site,
@@ -31,14 +31,14 @@ impl Violation {
         }
     }
 
-    /// Seen from the value round it, of which this is the component or alternative at this place.
+    /// With the path from the value of which this is the component or alternative at this place.
     pub(crate) fn under_component(self, at: usize) -> Violation
         ensures { Some (violation_view result) ≡ under (Component at) (Some (violation_view self)) }
     {
         self.under(Step::Component(u8::try_from(at).unwrap_or(u8::MAX)))
     }
 
-    /// Seen from the list round it, of which this is the element at this place.
+    /// With the path from the list of which this is the element at this place.
     pub(crate) fn under_element(self, at: usize) -> Violation
         ensures { Some (violation_view result) ≡ under (Element at) (Some (violation_view self)) }
     {
@@ -57,7 +57,8 @@ impl Violation {
 }
 
 /// Of the constraints that the value fails the first: those of the type itself in written order, then those of its
-/// components in written order, of the chosen alternative, or of its elements in turn. None where the value is a member.
+/// components in written order, of the chosen alternative, or of its elements in turn. None where the value is a
+/// member.
 pub fn first_violation(ty: &Ty, value: &Value) -> Option<Violation>
     requires sound { IsTrue (is_sound (type_view ty.now)) }
     requires fits { IsTrue (fits (type_view ty.now) (value_view value.now)) }

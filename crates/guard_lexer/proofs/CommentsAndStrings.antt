@@ -1,4 +1,4 @@
--- What is left behind a comment or string is what stands behind it.
+-- What reading leaves of a comment or string is what follows it.
 use Rattle.std.proofs.Common.{◌≡◌, ℕ, zero, suc, ◌-◌, ◌≤◌, ◌<◌, Bool, true, false, eqb, List, [], ◌∷◌, ◌++◌, length, drop, Option, Some, None, refl, sym, ap, ◌∙◌, inl, inr, arith}
 use Rattle.std.proofs.lemmas.Bool.{and_parts, and_from, cases_Bool, false≢true, cond-true, cond-false, eqb-true, ne_eqb}
 use Rattle.std.proofs.lemmas.Bool.Decides.{nat_tests}
@@ -9,7 +9,7 @@ use Rattle.guard_lexer.specs.Octets.{is_quote, is_apostrophe, is_line_end, is_of
 use Rattle.guard_lexer.specs.Items.{opens, closes, begins_comment, ends_comment, is_block_rest, is_string_rest, is_digits_rest}
 use Rattle.guard_lexer.specs.inside.Reading.{behind_block_comment, behind_string, behind_digits}
 
--- The front of the octets that passes the test, with what is left behind it.
+-- The front of the octets that passes the test, with what is left after it.
 abbrev pub Splits : (List ℕ → Bool) → List ℕ → List ℕ → Type 0
 Splits test octets rest = (body : List ℕ) × (octets ≡ body ++ rest) × (test body ≡ true)
 
@@ -22,22 +22,22 @@ is_closed_rest inner octets = elim inner [ zero ↦ eqb (length octets) 0 | suc 
 abbrev behind_closing : ℕ → List ℕ → Option (List ℕ)
 behind_closing inner octets = elim inner [ zero ↦ Some octets | suc others ↦ behind_block_comment others octets ]
 
-closing-append : (inner : ℕ) (octets behind : List ℕ) → ((n : ℕ) → is_block_rest n octets ≡ true → behind_block_comment n (octets ++ behind) ≡ Some behind)
-    → is_closed_rest inner octets ≡ true → behind_closing inner (octets ++ behind) ≡ Some behind
-closing-append zero octets behind others h = ap (λ (o : List ℕ). Some (o ++ behind)) (nil_from_length octets (eqb-true _ _ h))
-closing-append (suc n) octets behind others h = others n h
+closing-append : (inner : ℕ) (octets after : List ℕ) → ((n : ℕ) → is_block_rest n octets ≡ true → behind_block_comment n (octets ++ after) ≡ Some after)
+    → is_closed_rest inner octets ≡ true → behind_closing inner (octets ++ after) ≡ Some after
+closing-append zero octets after others h = ap (λ (o : List ℕ). Some (o ++ after)) (nil_from_length octets (eqb-true _ _ h))
+closing-append (suc n) octets after others h = others n h
 
-pub block_comment-append : (inner : ℕ) (octets behind : List ℕ) → is_block_rest inner octets ≡ true → behind_block_comment inner (octets ++ behind) ≡ Some behind
-block_comment-append inner [] behind h = absurd (false≢true h)
-block_comment-append inner (a ∷ []) behind h = absurd (false≢true h)
-block_comment-append inner (a ∷ b ∷ os) behind h =
+pub block_comment-append : (inner : ℕ) (octets after : List ℕ) → is_block_rest inner octets ≡ true → behind_block_comment inner (octets ++ after) ≡ Some after
+block_comment-append inner [] after h = absurd (false≢true h)
+block_comment-append inner (a ∷ []) after h = absurd (false≢true h)
+block_comment-append inner (a ∷ b ∷ os) after h =
     elim (chosen (opens a b) _ _ true h) [
-      | inl (deeper, more) ↦ cond-true (opens a b) _ _ deeper ∙ block_comment-append (suc inner) os behind more
+      | inl (deeper, more) ↦ cond-true (opens a b) _ _ deeper ∙ block_comment-append (suc inner) os after more
       | inr (shut, more) ↦
           cond-false (opens a b) _ _ shut
           ∙ elim (chosen (closes a b) _ _ true more) [
-            | inl (ends, last) ↦ cond-true (closes a b) _ _ ends ∙ closing-append inner os behind (λ n. block_comment-append n os behind) last
-            | inr (other, last) ↦ cond-false (closes a b) _ _ other ∙ block_comment-append inner (b ∷ os) behind last
+            | inl (ends, last) ↦ cond-true (closes a b) _ _ ends ∙ closing-append inner os after (λ n. block_comment-append n os after) last
+            | inr (other, last) ↦ cond-false (closes a b) _ _ other ∙ block_comment-append inner (b ∷ os) after last
           ]
     ]
 
@@ -105,14 +105,14 @@ block_comment-Some inner (a ∷ b ∷ os) rest e =
 quote-in_line : (c : ℕ) → is_quote c ≡ true → is_line_end c ≡ false
 quote-in_line c h = grind (arith, nat_tests)
 
-closing : (c : ℕ) (behind : List ℕ) → is_quote c ≡ true → begins is_quote behind ≡ false → behind_string (c ∷ behind) ≡ Some behind
+closing : (c : ℕ) (after : List ℕ) → is_quote c ≡ true → begins is_quote after ≡ false → behind_string (c ∷ after) ≡ Some after
 closing c [] h none = cond-true (is_quote c) _ _ h
 closing c (d ∷ ds) h none = cond-false (is_line_end c) _ _ (quote-in_line c h) ∙ cond-true (is_quote c) _ _ h ∙ cond-false (is_quote d) _ _ none
 
-pub string-append : (octets behind : List ℕ) → is_string_rest octets ≡ true → begins is_quote behind ≡ false → behind_string (octets ++ behind) ≡ Some behind
-string-append [] behind h none = absurd (false≢true h)
-string-append (a ∷ []) behind h none = closing a behind h none
-string-append (a ∷ b ∷ os) behind h none =
+pub string-append : (octets after : List ℕ) → is_string_rest octets ≡ true → begins is_quote after ≡ false → behind_string (octets ++ after) ≡ Some after
+string-append [] after h none = absurd (false≢true h)
+string-append (a ∷ []) after h none = closing a after h none
+string-append (a ∷ b ∷ os) after h none =
     elim (chosen (is_line_end a) _ _ true h) [
       | inl (ends, wrong) ↦ absurd (false≢true wrong)
       | inr (goes_on, more) ↦
@@ -120,8 +120,8 @@ string-append (a ∷ b ∷ os) behind h none =
           ∙ elim (chosen (is_quote a) _ _ true more) [
             | inl (quoted, twice) ↦
                 let p = and_parts (is_quote b) (is_string_rest os) twice in
-                cond-true (is_quote a) _ _ quoted ∙ cond-true (is_quote b) _ _ p.0 ∙ string-append os behind p.1 none
-            | inr (other, last) ↦ cond-false (is_quote a) _ _ other ∙ string-append (b ∷ os) behind last none
+                cond-true (is_quote a) _ _ quoted ∙ cond-true (is_quote b) _ _ p.0 ∙ string-append os after p.1 none
+            | inr (other, last) ↦ cond-false (is_quote a) _ _ other ∙ string-append (b ∷ os) after last none
           ]
     ]
 
@@ -129,7 +129,7 @@ string-cons : (a : ℕ) (body : List ℕ) → is_line_end a ≡ false → is_quo
 string-cons a [] goes_on other h = absurd (false≢true h)
 string-cons a (b ∷ body) goes_on other h = cond-false (is_line_end a) _ _ goes_on ∙ cond-false (is_quote a) _ _ other ∙ h
 
--- a string, with no quote directly behind it
+-- a string, with no quote directly after it
 abbrev pub SplitsString : List ℕ → List ℕ → Type 0
 SplitsString octets rest = (body : List ℕ) × (octets ≡ body ++ rest) × (is_string_rest body ≡ true) × (begins is_quote rest ≡ false)
 
@@ -145,8 +145,8 @@ string-Some (a ∷ b ∷ os) rest e =
           elim (chosen (is_quote a) _ _ (Some rest) more) [
             | inl (quoted, last) ↦
                 elim (chosen (is_quote b) _ _ (Some rest) last) [
-                  | inl (twice, behind) ↦
-                      let r = string-Some os rest behind in
+                  | inl (twice, after) ↦
+                      let r = string-Some os rest after in
                       (a ∷ b ∷ r.0, ap (λ (x : List ℕ). a ∷ b ∷ x) r.1, cond-false (is_line_end a) _ _ goes_on ∙ cond-true (is_quote a) _ _ quoted ∙ and_from _ _ twice r.2, r.3)
                   | inr (once, here) ↦
                       let same : b ∷ os ≡ rest = same_Some (b ∷ os) rest here in
@@ -160,22 +160,22 @@ string-Some (a ∷ b ∷ os) rest e =
 
 -- ---- bit and hexadecimal strings
 
-pub digits-append : (digit : ℕ → Bool) (letter : ℕ) (octets behind : List ℕ) → is_digits_rest digit letter octets ≡ true → behind_digits digit letter (octets ++ behind) ≡ Some behind
-digits-append digit letter [] behind h = absurd (false≢true h)
-digits-append digit letter (a ∷ []) behind h =
+pub digits-append : (digit : ℕ → Bool) (letter : ℕ) (octets after : List ℕ) → is_digits_rest digit letter octets ≡ true → behind_digits digit letter (octets ++ after) ≡ Some after
+digits-append digit letter [] after h = absurd (false≢true h)
+digits-append digit letter (a ∷ []) after h =
     elim (chosen (is_apostrophe a) _ _ true h) [
       | inl (closed, wrong) ↦ absurd (false≢true wrong)
       | inr (other, wrong) ↦ absurd (false≢true (and_parts (digit a) false wrong).1)
     ]
-digits-append digit letter (a ∷ b ∷ os) behind h =
+digits-append digit letter (a ∷ b ∷ os) after h =
     elim (chosen (is_apostrophe a) _ _ true h) [
       | inl (closed, last) ↦
           let p = and_parts (eqb b letter) (eqb (suc (length os)) 1) last in
           let none = nil_from_length os (omega (arith, eqb-true _ _ p.1)) in
-          cond-true (is_apostrophe a) _ _ closed ∙ cond-true (eqb b letter) _ _ p.0 ∙ ap (λ (o : List ℕ). Some (o ++ behind)) none
+          cond-true (is_apostrophe a) _ _ closed ∙ cond-true (eqb b letter) _ _ p.0 ∙ ap (λ (o : List ℕ). Some (o ++ after)) none
       | inr (other, more) ↦
           let p = and_parts (digit a) (is_digits_rest digit letter (b ∷ os)) more in
-          cond-false (is_apostrophe a) _ _ other ∙ cond-true (digit a) _ _ p.0 ∙ digits-append digit letter (b ∷ os) behind p.1
+          cond-false (is_apostrophe a) _ _ other ∙ cond-true (digit a) _ _ p.0 ∙ digits-append digit letter (b ∷ os) after p.1
     ]
 
 digits-cons : (digit : ℕ → Bool) (letter a : ℕ) (body : List ℕ) → is_apostrophe a ≡ false → digit a ≡ true → is_digits_rest digit letter body ≡ true → is_digits_rest digit letter (a ∷ body) ≡ true
@@ -191,22 +191,22 @@ digits-Some digit letter (a ∷ b ∷ os) rest e =
           (a ∷ b ∷ [], ap (λ (x : List ℕ). a ∷ b ∷ x) same, cond-true (is_apostrophe a) _ _ closed ∙ and_from _ _ is_letter refl)
       | inr (other, more) ↦
           elim (chosen (digit a) _ _ (Some rest) more) [
-            | inl (is_digit, behind) ↦
-                let r = digits-Some digit letter (b ∷ os) rest behind in
+            | inl (is_digit, after) ↦
+                let r = digits-Some digit letter (b ∷ os) rest after in
                 (a ∷ r.0, ap (λ (x : List ℕ). a ∷ x) r.1, digits-cons digit letter a r.0 other is_digit r.2)
             | inr (none, wrong) ↦ absurd (none-some rest wrong)
           ]
     ]
 
 -- a hexadecimal string is no bit string
-pub no_bits : (octets behind : List ℕ) → is_digits_rest is_of_hexadecimal 72 octets ≡ true → behind_digits is_of_bits 66 (octets ++ behind) ≡ None
-no_bits [] behind h = absurd (false≢true h)
-no_bits (a ∷ []) behind h =
+pub no_bits : (octets after : List ℕ) → is_digits_rest is_of_hexadecimal 72 octets ≡ true → behind_digits is_of_bits 66 (octets ++ after) ≡ None
+no_bits [] after h = absurd (false≢true h)
+no_bits (a ∷ []) after h =
     elim (chosen (is_apostrophe a) _ _ true h) [
       | inl (closed, wrong) ↦ absurd (false≢true wrong)
       | inr (other, wrong) ↦ absurd (false≢true (and_parts (is_of_hexadecimal a) false wrong).1)
     ]
-no_bits (a ∷ b ∷ os) behind h =
+no_bits (a ∷ b ∷ os) after h =
     elim (chosen (is_apostrophe a) _ _ true h) [
       | inl (closed, last) ↦
           let b_is = eqb-true b 72 (and_parts (eqb b 72) (eqb (suc (length os)) 1) last).0 in
@@ -215,7 +215,7 @@ no_bits (a ∷ b ∷ os) behind h =
           let p = and_parts (is_of_hexadecimal a) (is_digits_rest is_of_hexadecimal 72 (b ∷ os)) more in
           cond-false (is_apostrophe a) _ _ other
           ∙ elim (cases_Bool (is_of_bits a)) [
-            | inl d ↦ cond-true (is_of_bits a) _ _ d ∙ no_bits (b ∷ os) behind p.1
+            | inl d ↦ cond-true (is_of_bits a) _ _ d ∙ no_bits (b ∷ os) after p.1
             | inr none ↦ cond-false (is_of_bits a) _ _ none
           ]
     ]

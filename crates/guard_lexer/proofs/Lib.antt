@@ -1,6 +1,6 @@
 -- the definitions, computed on examples
 mod Rows
--- what stands at the front of a text
+-- what a text begins with
 pub mod OctetTests
 pub mod Lengths
 pub mod CommentsAndStrings

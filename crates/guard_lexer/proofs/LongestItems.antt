@@ -32,54 +32,54 @@ item_at-letter c cs h = rw (letter-not_white c h, h) refl
 item_at-digit : (c : ℕ) (cs : List ℕ) → is_digit c ≡ true → item_at (c ∷ cs) ≡ Some (found_item item.Number (number_len c cs))
 item_at-digit c cs h = rw (digit-not_white c h, digit-not_letter c h, h) refl
 
--- What reading finds where an item stands: a longer item, or this one.
+-- What reading finds where an item begins: a longer item, or this one.
 abbrev pub Covers : ItemKind → List ℕ → Option FoundItem → Type 0
 Covers s octets found = (t : ItemKind) × (n : ℕ) × (found ≡ Some (found_item t n)) × ((length octets < n) ⊎ ((length octets ≡ n) × (s ≡ t)))
 
 longer_or_same : (a b : ℕ) (s : ItemKind) → a ≤ b → (a < b) ⊎ ((a ≡ b) × (s ≡ s))
 longer_or_same a b s le = elim (cases_lt a b) [ inl lt ↦ inl lt | inr ge ↦ inr (omega arith, refl) ]
 
-covers-white : (octets behind : List ℕ) → is_one_white_space octets ≡ true → Covers item.WhiteSpace octets (item_at (octets ++ behind))
-covers-white [] behind h = absurd (false≢true h)
-covers-white (c ∷ []) behind h = (item.WhiteSpace, 1, item_at-white c behind (and_parts (is_white_space c) true h).0, inr (refl, refl))
-covers-white (c ∷ d ∷ cs) behind h = absurd (omega (arith, eqb-true _ _ (and_parts (is_white_space c) (eqb (length (c ∷ d ∷ cs)) 1) h).1))
+covers-white : (octets after : List ℕ) → is_one_white_space octets ≡ true → Covers item.WhiteSpace octets (item_at (octets ++ after))
+covers-white [] after h = absurd (false≢true h)
+covers-white (c ∷ []) after h = (item.WhiteSpace, 1, item_at-white c after (and_parts (is_white_space c) true h).0, inr (refl, refl))
+covers-white (c ∷ d ∷ cs) after h = absurd (omega (arith, eqb-true _ _ (and_parts (is_white_space c) (eqb (length (c ∷ d ∷ cs)) 1) h).1))
 
-covers-word : (octets behind : List ℕ) → is_word octets ≡ true → Covers item.Word octets (item_at (octets ++ behind))
-covers-word [] behind h = absurd (false≢true h)
-covers-word (c ∷ cs) behind h =
+covers-word : (octets after : List ℕ) → is_word octets ≡ true → Covers item.Word octets (item_at (octets ++ after))
+covers-word [] after h = absurd (false≢true h)
+covers-word (c ∷ cs) after h =
     let p = and_parts (is_letter c) (are_of_word cs) h in
-    (item.Word, suc (word_len (cs ++ behind)), item_at-letter c (cs ++ behind) p.0, longer_or_same _ _ item.Word (omega (arith, word-longest cs behind p.1)))
+    (item.Word, suc (word_len (cs ++ after)), item_at-letter c (cs ++ after) p.0, longer_or_same _ _ item.Word (omega (arith, word-longest cs after p.1)))
 
-number-longest : (c : ℕ) (cs behind : List ℕ) → list_all is_digit cs ≡ true → (not (eqb c 48) || eqb (length cs) 0) ≡ true → suc (length cs) ≤ number_len c (cs ++ behind)
-number-longest c cs behind digits first =
-    cond_both (eqb c 48) 1 (suc (prefix_len is_digit (cs ++ behind))) (λ n. suc (length cs) ≤ n)
+number-longest : (c : ℕ) (cs after : List ℕ) → list_all is_digit cs ≡ true → (not (eqb c 48) || eqb (length cs) 0) ≡ true → suc (length cs) ≤ number_len c (cs ++ after)
+number-longest c cs after digits first =
+    cond_both (eqb c 48) 1 (suc (prefix_len is_digit (cs ++ after))) (λ n. suc (length cs) ≤ n)
     (λ zero_first.
     elim (or_cases (not (eqb c 48)) (eqb (length cs) 0) first) [
       | inl other ↦ absurd (false≢true (sym (ap not zero_first) ∙ other))
       | inr alone ↦ omega (arith, eqb-true _ _ alone)
     ])
-    (λ _. omega (arith, digits-longest cs behind digits))
+    (λ _. omega (arith, digits-longest cs after digits))
 
-covers-number : (octets behind : List ℕ) → is_number octets ≡ true → Covers item.Number octets (item_at (octets ++ behind))
-covers-number [] behind h = absurd (false≢true h)
-covers-number (c ∷ cs) behind h =
+covers-number : (octets after : List ℕ) → is_number octets ≡ true → Covers item.Number octets (item_at (octets ++ after))
+covers-number [] after h = absurd (false≢true h)
+covers-number (c ∷ cs) after h =
     let p = and_parts (is_digit c && list_all is_digit cs) (not (eqb c 48) || eqb (length cs) 0) h in
     let q = and_parts (is_digit c) (list_all is_digit cs) p.0 in
-    (item.Number, number_len c (cs ++ behind), item_at-digit c (cs ++ behind) q.0, longer_or_same _ _ item.Number (number-longest c cs behind q.1 p.1))
+    (item.Number, number_len c (cs ++ after), item_at-digit c (cs ++ after) q.0, longer_or_same _ _ item.Number (number-longest c cs after q.1 p.1))
 
-covers-line_comment : (octets behind : List ℕ) → is_line_comment octets ≡ true → Covers item.LineComment octets (item_at (octets ++ behind))
-covers-line_comment [] behind h = absurd (false≢true h)
-covers-line_comment (c ∷ []) behind h = absurd (false≢true h)
-covers-line_comment (c ∷ d ∷ body) behind h =
+covers-line_comment : (octets after : List ℕ) → is_line_comment octets ≡ true → Covers item.LineComment octets (item_at (octets ++ after))
+covers-line_comment [] after h = absurd (false≢true h)
+covers-line_comment (c ∷ []) after h = absurd (false≢true h)
+covers-line_comment (c ∷ d ∷ body) after h =
     let p = and_parts (is_hyphen c && is_hyphen d) (is_line_comment_body body) h in
     let q = and_parts (is_hyphen c) (is_hyphen d) p.0 in
-    let n : ℕ = suc (suc (comment_body_len (body ++ behind))) in
-    let e : item_at (c ∷ d ∷ body ++ behind) ≡ Some (found_item item.LineComment n) =
-    subst (λ (x : ℕ). item_at (x ∷ d ∷ body ++ behind) ≡ Some (found_item item.LineComment n)) (sym (hyphen-is c q.0))
-    (subst (λ (x : ℕ). item_at (45 ∷ x ∷ body ++ behind) ≡ Some (found_item item.LineComment n)) (sym (hyphen-is d q.1)) refl) in
-    (item.LineComment, n, e, longer_or_same _ _ item.LineComment (omega (arith, body-longest body behind p.1)))
+    let n : ℕ = suc (suc (comment_body_len (body ++ after))) in
+    let e : item_at (c ∷ d ∷ body ++ after) ≡ Some (found_item item.LineComment n) =
+    subst (λ (x : ℕ). item_at (x ∷ d ∷ body ++ after) ≡ Some (found_item item.LineComment n)) (sym (hyphen-is c q.0))
+    (subst (λ (x : ℕ). item_at (45 ∷ x ∷ body ++ after) ≡ Some (found_item item.LineComment n)) (sym (hyphen-is d q.1)) refl) in
+    (item.LineComment, n, e, longer_or_same _ _ item.LineComment (omega (arith, body-longest body after p.1)))
 
-minus : (behind : List ℕ) → (item_at (45 ∷ behind) ≡ option_map found_mark (mark_at (45 ∷ behind))) ⊎ Covers (item.Mark mark.Minus) (45 ∷ []) (item_at (45 ∷ behind))
+minus : (after : List ℕ) → (item_at (45 ∷ after) ≡ option_map found_mark (mark_at (45 ∷ after))) ⊎ Covers (item.Mark mark.Minus) (45 ∷ []) (item_at (45 ∷ after))
 minus [] = inl refl
 minus (c ∷ cs) =
     elim (cases_Bool (is_hyphen c)) [
@@ -89,40 +89,40 @@ minus (c ∷ cs) =
 
 -- a mark is looked for in the table, but for a hyphen where a comment begins
 ByTable : Mark → List ℕ → Type 0
-ByTable m behind =
-    (item_at (mark_spelling m ++ behind) ≡ option_map found_mark (mark_at (mark_spelling m ++ behind)))
-    ⊎ Covers (item.Mark m) (mark_spelling m) (item_at (mark_spelling m ++ behind))
+ByTable m after =
+    (item_at (mark_spelling m ++ after) ≡ option_map found_mark (mark_at (mark_spelling m ++ after)))
+    ⊎ Covers (item.Mark m) (mark_spelling m) (item_at (mark_spelling m ++ after))
 
-by_table : (m : Mark) (behind : List ℕ) → ByTable m behind
+by_table : (m : Mark) (after : List ℕ) → ByTable m after
 unfolding ByTable
-by_table mark.Assignment behind = inl refl
-by_table mark.Ellipsis behind = inl refl
-by_table mark.RangeSeparator behind = inl refl
-by_table mark.LeftVersionBrackets behind = inl refl
-by_table mark.RightVersionBrackets behind = inl refl
-by_table mark.LeftBrace behind = inl refl
-by_table mark.RightBrace behind = inl refl
-by_table mark.LeftParenthesis behind = inl refl
-by_table mark.RightParenthesis behind = inl refl
-by_table mark.LeftBracket behind = inl refl
-by_table mark.RightBracket behind = inl refl
-by_table mark.Comma behind = inl refl
-by_table mark.Semicolon behind = inl refl
-by_table mark.Colon behind = inl refl
-by_table mark.Bar behind = inl refl
-by_table mark.Caret behind = inl refl
-by_table mark.LessThan behind = inl refl
-by_table mark.Minus behind = minus behind
-by_table mark.FullStop behind = inl refl
-by_table mark.Exclamation behind = inl refl
-by_table mark.CommercialAt behind = inl refl
+by_table mark.Assignment after = inl refl
+by_table mark.Ellipsis after = inl refl
+by_table mark.RangeSeparator after = inl refl
+by_table mark.LeftVersionBrackets after = inl refl
+by_table mark.RightVersionBrackets after = inl refl
+by_table mark.LeftBrace after = inl refl
+by_table mark.RightBrace after = inl refl
+by_table mark.LeftParenthesis after = inl refl
+by_table mark.RightParenthesis after = inl refl
+by_table mark.LeftBracket after = inl refl
+by_table mark.RightBracket after = inl refl
+by_table mark.Comma after = inl refl
+by_table mark.Semicolon after = inl refl
+by_table mark.Colon after = inl refl
+by_table mark.Bar after = inl refl
+by_table mark.Caret after = inl refl
+by_table mark.LessThan after = inl refl
+by_table mark.Minus after = minus after
+by_table mark.FullStop after = inl refl
+by_table mark.Exclamation after = inl refl
+by_table mark.CommercialAt after = inl refl
 
-covers-mark : (m : Mark) (behind : List ℕ) → Covers (item.Mark m) (mark_spelling m) (item_at (mark_spelling m ++ behind))
+covers-mark : (m : Mark) (after : List ℕ) → Covers (item.Mark m) (mark_spelling m) (item_at (mark_spelling m ++ after))
 unfolding ByTable
-covers-mark m behind =
-    elim (by_table m behind) [
+covers-mark m after =
+    elim (by_table m after) [
       | inl e ↦
-          let f = mark-found m behind in (
+          let f = mark-found m after in (
             item.Mark f.0,
             mark_len f.0,
             e ∙ ap (option_map found_mark) f.1,
@@ -130,77 +130,77 @@ covers-mark m behind =
               | inl lt ↦ inl lt
               | inr ge ↦
                   let same : mark_len f.0 ≡ mark_len m = omega (arith, f.2) in
-                  let spelled : mark_spelling f.0 ≡ mark_spelling m = mark-stands (mark_spelling m ++ behind) f.0 f.1 ∙ take_at (mark_spelling m) behind (mark_len f.0) (sym same) in
+                  let spelled : mark_spelling f.0 ≡ mark_spelling m = mark-stands (mark_spelling m ++ after) f.0 f.1 ∙ take_at (mark_spelling m) after (mark_len f.0) (sym same) in
                   inr (sym same, ap item.Mark (same_mark m f.0 (sym spelled)))
             ],
           )
       | inr c ↦ c
     ]
 
--- what is read up to what is left has the length of what stands before
+-- what is read up to what is left has the length of what comes before
 before-len : (octets left : List ℕ) → length octets ≡ length (octets ++ left) - length left
 before-len octets left = omega (arith, length-append octets left)
 
-covers-block_comment : (octets behind : List ℕ) → is_block_comment octets ≡ true → Covers item.BlockComment octets (item_at (octets ++ behind))
-covers-block_comment [] behind h = absurd (false≢true h)
-covers-block_comment (a ∷ []) behind h = absurd (false≢true h)
-covers-block_comment (a ∷ b ∷ os) behind h =
+covers-block_comment : (octets after : List ℕ) → is_block_comment octets ≡ true → Covers item.BlockComment octets (item_at (octets ++ after))
+covers-block_comment [] after h = absurd (false≢true h)
+covers-block_comment (a ∷ []) after h = absurd (false≢true h)
+covers-block_comment (a ∷ b ∷ os) after h =
     let p = and_parts (opens a b) (is_block_rest 0 os) h in
     let q = and_parts (is_slash a) (is_asterisk b) p.0 in
     let made : List ℕ → Option (List ℕ) → Option FoundItem = λ text o. option_map (found_before item.BlockComment text) o in
-    let e : item_at (a ∷ b ∷ os ++ behind) ≡ made (a ∷ b ∷ os ++ behind) (behind_block_comment 0 (os ++ behind)) =
-    subst (λ (x : ℕ). item_at (x ∷ b ∷ os ++ behind) ≡ made (x ∷ b ∷ os ++ behind) (behind_block_comment 0 (os ++ behind))) (sym (eqb-true a 47 q.0))
-    (subst (λ (x : ℕ). item_at (47 ∷ x ∷ os ++ behind) ≡ made (47 ∷ x ∷ os ++ behind) (behind_block_comment 0 (os ++ behind))) (sym (eqb-true b 42 q.1)) refl) in
-    (item.BlockComment, length (a ∷ b ∷ os ++ behind) - length behind, e ∙ ap (made (a ∷ b ∷ os ++ behind)) (block_comment-append 0 os behind p.1), inr (before-len (a ∷ b ∷ os) behind, refl))
+    let e : item_at (a ∷ b ∷ os ++ after) ≡ made (a ∷ b ∷ os ++ after) (behind_block_comment 0 (os ++ after)) =
+    subst (λ (x : ℕ). item_at (x ∷ b ∷ os ++ after) ≡ made (x ∷ b ∷ os ++ after) (behind_block_comment 0 (os ++ after))) (sym (eqb-true a 47 q.0))
+    (subst (λ (x : ℕ). item_at (47 ∷ x ∷ os ++ after) ≡ made (47 ∷ x ∷ os ++ after) (behind_block_comment 0 (os ++ after))) (sym (eqb-true b 42 q.1)) refl) in
+    (item.BlockComment, length (a ∷ b ∷ os ++ after) - length after, e ∙ ap (made (a ∷ b ∷ os ++ after)) (block_comment-append 0 os after p.1), inr (before-len (a ∷ b ∷ os) after, refl))
 
-covers-string : (octets behind : List ℕ) → is_character_string octets ≡ true → not (begins is_quote behind) ≡ true → Covers item.CharacterString octets (item_at (octets ++ behind))
-covers-string [] behind h none = absurd (false≢true h)
-covers-string (a ∷ os) behind h none =
+covers-string : (octets after : List ℕ) → is_character_string octets ≡ true → not (begins is_quote after) ≡ true → Covers item.CharacterString octets (item_at (octets ++ after))
+covers-string [] after h none = absurd (false≢true h)
+covers-string (a ∷ os) after h none =
     let p = and_parts (is_quote a) (is_string_rest os) h in
     let made : List ℕ → Option (List ℕ) → Option FoundItem = λ text o. option_map (found_before item.CharacterString text) o in
-    let e : item_at (a ∷ os ++ behind) ≡ made (a ∷ os ++ behind) (behind_string (os ++ behind)) =
-    subst (λ (x : ℕ). item_at (x ∷ os ++ behind) ≡ made (x ∷ os ++ behind) (behind_string (os ++ behind))) (sym (eqb-true a 34 p.0)) refl in
-    (item.CharacterString, length (a ∷ os ++ behind) - length behind, e ∙ ap (made (a ∷ os ++ behind)) (string-append os behind p.1 (not-true _ none)), inr (before-len (a ∷ os) behind, refl))
+    let e : item_at (a ∷ os ++ after) ≡ made (a ∷ os ++ after) (behind_string (os ++ after)) =
+    subst (λ (x : ℕ). item_at (x ∷ os ++ after) ≡ made (x ∷ os ++ after) (behind_string (os ++ after))) (sym (eqb-true a 34 p.0)) refl in
+    (item.CharacterString, length (a ∷ os ++ after) - length after, e ∙ ap (made (a ∷ os ++ after)) (string-append os after p.1 (not-true _ none)), inr (before-len (a ∷ os) after, refl))
 
 item_at-apostrophe : (c : ℕ) (cs : List ℕ) → is_apostrophe c ≡ true → item_at (c ∷ cs) ≡ found_digit_string (c ∷ cs) (behind_bits cs) (behind_hexadecimal cs)
 item_at-apostrophe c cs h =
     subst (λ (x : ℕ). item_at (x ∷ cs) ≡ found_digit_string (x ∷ cs) (behind_bits cs) (behind_hexadecimal cs)) (sym (eqb-true c 39 h)) refl
 
-covers-bits : (octets behind : List ℕ) → is_bit_string octets ≡ true → Covers item.BitString octets (item_at (octets ++ behind))
-covers-bits [] behind h = absurd (false≢true h)
-covers-bits (a ∷ os) behind h =
+covers-bits : (octets after : List ℕ) → is_bit_string octets ≡ true → Covers item.BitString octets (item_at (octets ++ after))
+covers-bits [] after h = absurd (false≢true h)
+covers-bits (a ∷ os) after h =
     let p = and_parts (is_apostrophe a) (is_digits_rest is_of_bits 66 os) h in (
       item.BitString,
-      length (a ∷ os ++ behind) - length behind,
-      item_at-apostrophe a (os ++ behind) p.0 ∙ ap (λ (o : Option (List ℕ)). found_digit_string (a ∷ os ++ behind) o (behind_hexadecimal (os ++ behind))) (digits-append is_of_bits 66 os behind p.1),
-      inr (before-len (a ∷ os) behind, refl),
+      length (a ∷ os ++ after) - length after,
+      item_at-apostrophe a (os ++ after) p.0 ∙ ap (λ (o : Option (List ℕ)). found_digit_string (a ∷ os ++ after) o (behind_hexadecimal (os ++ after))) (digits-append is_of_bits 66 os after p.1),
+      inr (before-len (a ∷ os) after, refl),
     )
 
-covers-hexadecimal : (octets behind : List ℕ) → is_hexadecimal_string octets ≡ true → Covers item.HexadecimalString octets (item_at (octets ++ behind))
-covers-hexadecimal [] behind h = absurd (false≢true h)
-covers-hexadecimal (a ∷ os) behind h =
+covers-hexadecimal : (octets after : List ℕ) → is_hexadecimal_string octets ≡ true → Covers item.HexadecimalString octets (item_at (octets ++ after))
+covers-hexadecimal [] after h = absurd (false≢true h)
+covers-hexadecimal (a ∷ os) after h =
     let p = and_parts (is_apostrophe a) (is_digits_rest is_of_hexadecimal 72 os) h in (
       item.HexadecimalString,
-      length (a ∷ os ++ behind) - length behind,
-      item_at-apostrophe a (os ++ behind) p.0 ∙ ap (λ (o : Option (List ℕ)). found_digit_string (a ∷ os ++ behind) o (behind_hexadecimal (os ++ behind))) (no_bits os behind p.1)
-          ∙ ap (λ (o : Option (List ℕ)). found_digit_string (a ∷ os ++ behind) None o) (digits-append is_of_hexadecimal 72 os behind p.1),
-      inr (before-len (a ∷ os) behind, refl),
+      length (a ∷ os ++ after) - length after,
+      item_at-apostrophe a (os ++ after) p.0 ∙ ap (λ (o : Option (List ℕ)). found_digit_string (a ∷ os ++ after) o (behind_hexadecimal (os ++ after))) (no_bits os after p.1)
+          ∙ ap (λ (o : Option (List ℕ)). found_digit_string (a ∷ os ++ after) None o) (digits-append is_of_hexadecimal 72 os after p.1),
+      inr (before-len (a ∷ os) after, refl),
     )
 
-pub covers : (s : ItemKind) (octets behind : List ℕ) → IsItem s octets behind → Covers s octets (item_at (octets ++ behind))
-covers item.WhiteSpace octets behind h = covers-white octets behind h
-covers item.LineComment octets behind h = covers-line_comment octets behind h
-covers item.BlockComment octets behind h = covers-block_comment octets behind h
-covers item.Word octets behind h = covers-word octets behind h
-covers item.Number octets behind h = covers-number octets behind h
-covers item.CharacterString octets behind h = covers-string octets behind h.0 h.1
-covers item.BitString octets behind h = covers-bits octets behind h
-covers item.HexadecimalString octets behind h = covers-hexadecimal octets behind h
-covers (item.Mark m) octets behind h = subst (λ (o : List ℕ). Covers (item.Mark m) o (item_at (o ++ behind))) (sym h) (covers-mark m behind)
+pub covers : (s : ItemKind) (octets after : List ℕ) → IsItem s octets after → Covers s octets (item_at (octets ++ after))
+covers item.WhiteSpace octets after h = covers-white octets after h
+covers item.LineComment octets after h = covers-line_comment octets after h
+covers item.BlockComment octets after h = covers-block_comment octets after h
+covers item.Word octets after h = covers-word octets after h
+covers item.Number octets after h = covers-number octets after h
+covers item.CharacterString octets after h = covers-string octets after h.0 h.1
+covers item.BitString octets after h = covers-bits octets after h
+covers item.HexadecimalString octets after h = covers-hexadecimal octets after h
+covers (item.Mark m) octets after h = subst (λ (o : List ℕ). Covers (item.Mark m) o (item_at (o ++ after))) (sym h) (covers-mark m after)
 
 -- ---- what is found is an item
 
--- what is found has octets, stands in the text, and is an item
+-- what is found has octets, all of them of the text, and is an item
 abbrev pub IsFound : List ℕ → Option FoundItem → Type 0
 IsFound text None = Unit {0}
 IsFound text (Some p) = (0 < p.len) × (p.len ≤ length text) × IsItem p.kind (take p.len text) (drop p.len text)
@@ -270,8 +270,8 @@ longest text p e =
     record {
       split = sym (take-append-drop p.len text);
       is_item = f.2;
-      longest = λ other behind split is.
-          let c = covers other.kind other.octets behind is in
+      longest = λ other after split is.
+          let c = covers other.kind other.octets after is in
           let same : p ≡ found_item c.0 c.1 = same_Some p (found_item c.0 c.1) (sym e ∙ ap item_at split ∙ c.2) in
           let len : p.len ≡ c.1 = ap (λ (q : FoundItem). q.len) same in
           elim c.3 [
@@ -281,7 +281,7 @@ longest text p e =
     }
 
 pub none_begins : (text : List ℕ) → item_at text ≡ None → BeginsNone text
-none_begins text e item behind split is = let c = covers item.kind item.octets behind is in absurd (none-some _ (sym e ∙ ap item_at split ∙ c.2))
+none_begins text e item after split is = let c = covers item.kind item.octets after is in absurd (none-some _ (sym e ∙ ap item_at split ∙ c.2))
 
 pub longest_found : (text : List ℕ) (item : Item) (left : List ℕ) → IsLongest text item left → item_at text ≡ Some (found_item item.kind (length item.octets))
 longest_found text item left l =
@@ -301,13 +301,13 @@ none-from text (Some p) e none = let l = longest text p e in absurd (none (item_
 pub none_found : (text : List ℕ) → BeginsNone text → item_at text ≡ None
 none_found text none = none-from text (item_at text) refl none
 
-item-is : (text : List ℕ) (i j : Item) (behind left : List ℕ) → text ≡ i.octets ++ behind → text ≡ j.octets ++ left → i.kind ≡ j.kind → length i.octets ≡ length j.octets → (i ≡ j) × (behind ≡ left)
-item-is text i j behind left e f kinds lengths =
-    let octets : i.octets ≡ j.octets = sym (take_at i.octets behind (length i.octets) refl) ∙ ap (take (length i.octets)) (sym e ∙ f) ∙ take_at j.octets left (length i.octets) (sym lengths) in
-    ((λ k. record { kind = kinds k; octets = octets k }), sym (drop_at i.octets behind (length i.octets) refl) ∙ ap (drop (length i.octets)) (sym e ∙ f) ∙ drop_at j.octets left (length i.octets) (sym lengths))
+item-is : (text : List ℕ) (i j : Item) (after left : List ℕ) → text ≡ i.octets ++ after → text ≡ j.octets ++ left → i.kind ≡ j.kind → length i.octets ≡ length j.octets → (i ≡ j) × (after ≡ left)
+item-is text i j after left e f kinds lengths =
+    let octets : i.octets ≡ j.octets = sym (take_at i.octets after (length i.octets) refl) ∙ ap (take (length i.octets)) (sym e ∙ f) ∙ take_at j.octets left (length i.octets) (sym lengths) in
+    ((λ k. record { kind = kinds k; octets = octets k }), sym (drop_at i.octets after (length i.octets) refl) ∙ ap (drop (length i.octets)) (sym e ∙ f) ∙ drop_at j.octets left (length i.octets) (sym lengths))
 
 -- at most one item is the longest
-pub one_longest : (text : List ℕ) (i j : Item) (behind left : List ℕ) → IsLongest text i behind → IsLongest text j left → (i ≡ j) × (behind ≡ left)
-one_longest text i j behind left a b =
-    let same : found_item i.kind (length i.octets) ≡ found_item j.kind (length j.octets) = same_Some _ _ (sym (longest_found text i behind a) ∙ longest_found text j left b) in
-    item-is text i j behind left a.split b.split (ap (λ (q : FoundItem). q.kind) same) (ap (λ (q : FoundItem). q.len) same)
+pub one_longest : (text : List ℕ) (i j : Item) (after left : List ℕ) → IsLongest text i after → IsLongest text j left → (i ≡ j) × (after ≡ left)
+one_longest text i j after left a b =
+    let same : found_item i.kind (length i.octets) ≡ found_item j.kind (length j.octets) = same_Some _ _ (sym (longest_found text i after a) ∙ longest_found text j left b) in
+    item-is text i j after left a.split b.split (ap (λ (q : FoundItem). q.kind) same) (ap (λ (q : FoundItem). q.len) same)

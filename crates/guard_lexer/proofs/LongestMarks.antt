@@ -1,4 +1,4 @@
--- The mark that is found in the table is the longest that stands at the front.
+-- The mark that is found in the table is the longest that the text begins with.
 use Rattle.std.proofs.Common.{◌≡◌, ℕ, ◌≤◌, ◌<◌, Bool, true, leb, ◌&&◌, List, [], ◌∷◌, ◌++◌, length, take, Option, Some, refl, sym, ap, ◌∙◌, inl, inr, arith}
 use Rattle.std.specs.Prelude.{bytes_eq, find}
 use Rattle.std.specs.List.{list_all, list_any}
@@ -139,15 +139,15 @@ mark-back mark.CommercialAt = refl
 pub same_mark : (m n : Mark) → mark_spelling m ≡ mark_spelling n → m ≡ n
 same_mark m n e = same_Some m n (sym (mark-back m) ∙ ap spelled_mark e ∙ mark-back n)
 
-pub stands : (m : Mark) (behind : List ℕ) → stands_at (mark_spelling m ++ behind) m ≡ true
-stands m behind = (bytes_eq-Decides (mark_spelling m) (take (mark_len m) (mark_spelling m ++ behind))).1 (sym (take_at (mark_spelling m) behind (mark_len m) refl))
+pub stands : (m : Mark) (after : List ℕ) → stands_at (mark_spelling m ++ after) m ≡ true
+stands m after = (bytes_eq-Decides (mark_spelling m) (take (mark_len m) (mark_spelling m ++ after))).1 (sym (take_at (mark_spelling m) after (mark_len m) refl))
 
--- what is found where a mark stands
-pub mark-found : (m : Mark) (behind : List ℕ) → (n : Mark) × (mark_at (mark_spelling m ++ behind) ≡ Some n) × (mark_len m ≤ mark_len n)
+-- what is found where a mark begins
+pub mark-found : (m : Mark) (after : List ℕ) → (n : Mark) × (mark_at (mark_spelling m ++ after) ≡ Some n) × (mark_len m ≤ mark_len n)
 unfolding mark_at
-mark-found m behind = found (mark_spelling m ++ behind) marks marks-descend m (mark-in m) (stands m behind)
+mark-found m after = found (mark_spelling m ++ after) marks marks-descend m (mark-in m) (stands m after)
 
--- what is found stands there
+-- the text begins with what is found
 find-Some : (test : Mark → Bool) (table : List Mark) (m : Mark) → find test table ≡ Some m → test m ≡ true
 find-Some test [] m e = absurd (none-some m e)
 find-Some test (x ∷ xs) m e =

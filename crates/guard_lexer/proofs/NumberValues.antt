@@ -1,23 +1,33 @@
--- The number that digits write grows with each digit.
-use Rattle.std.proofs.Common.{◌≡◌, ℕ, ◌+◌, ◌-◌, ◌*◌, ◌≤◌, ◌<◌, false, ltb, List, [], ◌∷◌, length, get_or, take, drop, sym, ap, arith}
+-- The number that digits write, as they are read one by one.
+use Rattle.std.proofs.Common.{◌≡◌, ℕ, suc, ◌+◌, ◌-◌, ◌*◌, ◌<◌, ◌≤◌, List, [], ◌∷◌, length, get_or, drop, sym, ap, ◌∙◌, arith}
 use Rattle.std.specs.Prelude.{fold}
-use Rattle.std.proofs.lemmas.Bool.{le-ltb}
-use Rattle.std.proofs.lemmas.List.{take-append-drop}
-use Rattle.std.proofs.lemmas.List.Sums.{fold-append, fold_more}
+use Rattle.std.proofs.Math.Seq.{drop-cons}
+use Rattle.std.proofs.lemmas.List.{drop_all}
 use Rattle.guard_lexer.specs.Items.{number_value}
 
-step : ℕ → ℕ → ℕ
-step value digit = value * 10 + (digit - 48)
+abbrev pub with_digit : ℕ → ℕ → ℕ
+with_digit value digit = value * 10 + (digit - 48)
 
-grows_from : (ds : List ℕ) (value : ℕ) → value ≤ fold (λ value digit. value * 10 + (digit - 48)) value ds
-grows_from [] value = omega arith
-grows_from (d ∷ ds) value = omega (arith, grows_from ds (value * 10 + (d - 48)))
+-- more digits make no number smaller
+grows : (digits : List ℕ) (n : ℕ) → n ≤ fold with_digit n digits
+grows [] n = omega arith
+grows (d ∷ ds) n =
+    let h : with_digit n d ≤ fold with_digit (with_digit n d) ds = grows ds (with_digit n d) in omega arith
 
-value-grows : (ds : List ℕ) (i : ℕ) → number_value (take i ds) ≤ number_value ds
-value-grows ds i =
-    omega (arith, grows_from (drop i ds) (number_value (take i ds)), fold-append (λ value digit. value * 10 + (digit - 48)) 0 (take i ds) (drop i ds), ap number_value (take-append-drop i ds))
+-- what is below a bound with all digits is so with one more digit
+pub was_small : (ds : List ℕ) (i n total bound : ℕ) → i < length ds → fold with_digit n (drop i ds) ≡ total
+    → total < bound → with_digit n (get_or ds i 0) < bound
+was_small ds i n total bound lt e small =
+    let d = get_or ds i 0 in
+    let more : fold with_digit (with_digit n d) (drop (suc i) ds) ≡ total =
+    ap (λ (xs : List ℕ). fold with_digit n xs) (sym (drop-cons ds i 0 lt)) ∙ e in
+    let h : with_digit n d ≤ fold with_digit (with_digit n d) (drop (suc i) ds) =
+    grows (drop (suc i) ds) (with_digit n d) in
+    omega arith
 
--- where one digit more makes the number too large, all digits do
-pub too_large : (ds : List ℕ) (i limit : ℕ) → i < length ds → limit ≤ number_value (take i ds) * 10 + (get_or ds i 0 - 48) → false ≡ ltb (number_value ds) limit
-too_large ds i limit lt above =
-    sym (le-ltb (number_value ds) limit (omega (arith, value-grows ds (i + 1), fold_more (λ value digit. value * 10 + (digit - 48)) 0 ds i 0 lt)))
+-- once all digits are read, the value is the number
+pub ended : (ds : List ℕ) (i n bound : ℕ) → length ds ≤ i → fold with_digit n (drop i ds) ≡ number_value ds → n < bound
+    → (number_value ds < bound) × (n ≡ number_value ds)
+ended ds i n bound le e small =
+    let done : n ≡ number_value ds = ap (λ (xs : List ℕ). fold with_digit n xs) (sym (drop_all i ds le)) ∙ e in
+    (omega arith, done)

@@ -13,10 +13,10 @@ pub cut-fits : (text : List ℕ) (items : List Item) (left : List ℕ) → IsCut
 cut-fits text [] left cut = omega (arith, ap length cut)
 cut-fits text (i ∷ is) left cut = omega (arith, cut-fits cut.0 is left cut.3, ap length cut.1.split, length-append i.octets cut.0)
 
-pub cut_push : (text : List ℕ) (items : List Item) (left : List ℕ) (item : Item) (behind : List ℕ) → IsCut text items left
-    → IsLongest left item behind → item_fault item.kind item.octets behind ≡ None → IsCut text (items ++ item ∷ []) behind
-cut_push text [] left item behind cut l fine = (behind, subst (λ (t : List ℕ). IsLongest t item behind) (sym cut) l, fine, refl)
-cut_push text (i ∷ is) left item behind cut l fine = (cut.0, cut.1, cut.2, cut_push cut.0 is left item behind cut.3 l fine)
+pub cut_push : (text : List ℕ) (items : List Item) (left : List ℕ) (item : Item) (after : List ℕ) → IsCut text items left
+    → IsLongest left item after → item_fault item.kind item.octets after ≡ None → IsCut text (items ++ item ∷ []) after
+cut_push text [] left item after cut l fine = (after, subst (λ (t : List ℕ). IsLongest t item after) (sym cut) l, fine, refl)
+cut_push text (i ∷ is) left item after cut l fine = (cut.0, cut.1, cut.2, cut_push cut.0 is left item after cut.3 l fine)
 
 pub tokens_push : (place : ℕ) (whole text : List ℕ) (start : ℕ) (items : List Item) (left : List ℕ) (item : Item) → IsCut text items left
     → tokens_from place whole start (items ++ item ∷ []) ≡ tokens_from place whole start items ++ option_to_list (token_of place whole (start + (length text - length left)) item)
@@ -32,26 +32,26 @@ tokens_push place whole text start (i ∷ is) left item cut =
 
 -- ---- one way to cut
 
--- nothing without fault stands at the front
+-- the text begins with nothing without fault
 abbrev pub IsStuck : List ℕ → Type 0
-IsStuck left = (item : Item) (behind : List ℕ) → IsLongest left item behind → item_fault item.kind item.octets behind ≡ None → ⊥
+IsStuck left = (item : Item) (after : List ℕ) → IsLongest left item after → item_fault item.kind item.octets after ≡ None → ⊥
 
-nothing_stands : (item : Item) (behind : List ℕ) → IsLongest [] item behind → ⊥
-nothing_stands item behind l = none-some _ (longest_found [] item behind l)
+nothing_stands : (item : Item) (after : List ℕ) → IsLongest [] item after → ⊥
+nothing_stands item after l = none-some _ (longest_found [] item after l)
 
 pub stuck_at_end : IsStuck []
-stuck_at_end item behind l fine = nothing_stands item behind l
+stuck_at_end item after l fine = nothing_stands item after l
 
 abbrev fault_of_item : Item → List ℕ → Option OffsetFault
-fault_of_item item behind = item_fault item.kind item.octets behind
+fault_of_item item after = item_fault item.kind item.octets after
 
-faults-agree : (text : List ℕ) (i j : Item) (behind left : List ℕ) → IsLongest text i behind → IsLongest text j left → fault_of_item i behind ≡ fault_of_item j left
-faults-agree text i j behind left a b = let one = one_longest text i j behind left a b in λ k. fault_of_item (one.0 k) (one.1 k)
+faults-agree : (text : List ℕ) (i j : Item) (after left : List ℕ) → IsLongest text i after → IsLongest text j left → fault_of_item i after ≡ fault_of_item j left
+faults-agree text i j after left a b = let one = one_longest text i j after left a b in λ k. fault_of_item (one.0 k) (one.1 k)
 
 pub stuck_at_fault : (left : List ℕ) (wrong : OffsetFault) → HasFault left wrong → IsStuck left
-stuck_at_fault left wrong (inl none) item behind l fine = none.1 item behind l.split l.is_item
-stuck_at_fault left wrong (inr faulty) item behind l fine =
-    none-some wrong (sym fine ∙ faults-agree left item faulty.0 behind faulty.1 l faulty.2 ∙ faulty.3)
+stuck_at_fault left wrong (inl none) item after l fine = none.1 item after l.split l.is_item
+stuck_at_fault left wrong (inr faulty) item after l fine =
+    none-some wrong (sym fine ∙ faults-agree left item faulty.0 after faulty.1 l faulty.2 ∙ faulty.3)
 
 pub one_offset_fault : (left : List ℕ) (v w : OffsetFault) → HasFault left v → HasFault left w → v ≡ w
 one_offset_fault left v w (inl a) (inl b) = a.2 ∙ sym b.2

@@ -39,7 +39,7 @@ no_item place before left site f some e at zero_is named =
     let nothing : before ++ take (no_item_fault left).offset left ≡ before = ap (λ (n : ℕ). before ++ take n left) zero_is ∙ append-nil before in
     (no_item_fault left, inl (some, none_begins left e, refl), named ∙ ap (no_item_fault left).fault (at ∙ ap (site_after place) (sym nothing)))
 
--- what a found item_fault names
+-- what a fault of an item names
 pub item_fault_named : (place : ℕ) (before left : List ℕ) (p : FoundItem) (o : Option OffsetFault) (f : LexFault) → item_at left ≡ Some p → item_fault p.kind (take p.len left) (drop p.len left) ≡ o
     → Some f ≡ option_map (λ wrong. wrong.fault (site_after place (before ++ take wrong.offset left))) o → IsFaultAt place before left f
 item_fault_named place before left p None f e d named = absurd cc
@@ -96,7 +96,7 @@ fault_here place text left at site tokens f r left_is w =
     let here : site ≡ site_after site.text (take at text) = r.site_is ∙ ap (λ (m : ℕ). site_after m (take at text)) (sym placed) in
     fault_at place text at site tokens f r (subst (λ (l : List ℕ). IsFaultAt place (take at text) l f) left_is (subst (λ (m : ℕ). IsFaultAt m (take at text) left f) placed (w (take at text) here)))
 
--- the site behind an item
+-- the site after an item
 pub site_behind_item : (place : ℕ) (text : List ℕ) (at n : ℕ) → site_after place (take at text ++ take n (drop at text)) ≡ site_at place text (at + n)
 site_behind_item place text at n = ap (site_after place) (sym (take-add at n text))
 

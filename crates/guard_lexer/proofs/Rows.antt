@@ -7,7 +7,7 @@ use Rattle.guard_lexer.specs.Words.{word_kind}
 use Rattle.guard_lexer.specs.declared.token.Reserved.TheVariants as word
 use Rattle.guard_lexer.specs.declared.token.TokenKind.TheVariants as kind
 
--- a hyphen stands in a word before a letter or digit alone
+-- a hyphen belongs to a word only before a letter or digit
 single_hyphens : is_word (codes "a-b-1") ≡ true
 single_hyphens = refl
 

@@ -112,12 +112,12 @@ word-spelled octets w = word-from octets (reserved_word octets) refl w
 
 -- ---- all kinds
 
-spelled : (s : ItemKind) (octets behind : List ℕ) (k : TokenKind) → IsItem s octets behind → item_fault s octets behind ≡ None → kind_of s octets ≡ Some k → IsSpelled k octets
-spelled item.WhiteSpace octets behind k is fine e = absurd (none-some k e)
-spelled item.LineComment octets behind k is fine e = absurd (none-some k e)
-spelled item.BlockComment octets behind k is fine e = absurd (none-some k e)
-spelled item.Word octets behind k is fine e = subst (λ (x : TokenKind). IsSpelled x octets) (same_Some (word_kind octets) k e) (word-spelled octets is)
-spelled item.Number octets behind k is fine e =
+spelled : (s : ItemKind) (octets after : List ℕ) (k : TokenKind) → IsItem s octets after → item_fault s octets after ≡ None → kind_of s octets ≡ Some k → IsSpelled k octets
+spelled item.WhiteSpace octets after k is fine e = absurd (none-some k e)
+spelled item.LineComment octets after k is fine e = absurd (none-some k e)
+spelled item.BlockComment octets after k is fine e = absurd (none-some k e)
+spelled item.Word octets after k is fine e = subst (λ (x : TokenKind). IsSpelled x octets) (same_Some (word_kind octets) k e) (word-spelled octets is)
+spelled item.Number octets after k is fine e =
     subst (λ (x : TokenKind). IsSpelled x octets) (same_Some kind.Number k e) (
       is,
       elim (cases_Bool (leb (2 ^ 128) (number_value octets))) [
@@ -125,10 +125,10 @@ spelled item.Number octets behind k is fine e =
         | inr small ↦ leb-false _ _ small
       ],
     )
-spelled item.CharacterString octets behind k is fine e = subst (λ (x : TokenKind). IsSpelled x octets) (same_Some kind.CharacterString k e) is.0
-spelled item.BitString octets behind k is fine e = subst (λ (x : TokenKind). IsSpelled x octets) (same_Some kind.BitString k e) is
-spelled item.HexadecimalString octets behind k is fine e = subst (λ (x : TokenKind). IsSpelled x octets) (same_Some kind.HexadecimalString k e) is
-spelled (item.Mark m) octets behind k is fine e = subst (λ (x : TokenKind). IsSpelled x octets) (same_Some (kind.Mark m) k e) is
+spelled item.CharacterString octets after k is fine e = subst (λ (x : TokenKind). IsSpelled x octets) (same_Some kind.CharacterString k e) is.0
+spelled item.BitString octets after k is fine e = subst (λ (x : TokenKind). IsSpelled x octets) (same_Some kind.BitString k e) is
+spelled item.HexadecimalString octets after k is fine e = subst (λ (x : TokenKind). IsSpelled x octets) (same_Some kind.HexadecimalString k e) is
+spelled (item.Mark m) octets after k is fine e = subst (λ (x : TokenKind). IsSpelled x octets) (same_Some (kind.Mark m) k e) is
 
 -- ---- spans
 

@@ -1,4 +1,4 @@
--- What octets each found_item of a text has (X.680 clause 12).
+-- Which octets are white space, a comment, a word, a number, a string or a mark (X.680 clause 12).
 use Rattle.std.specs.Prelude.{◌≡◌, ℕ, zero, suc, ◌+◌, ◌-◌, ◌*◌, Bool, true, false, List, [], ◌∷◌, ◌&&◌, ◌||◌, ◌==◌, if◌then◌else◌, not, length, fold, IsTrue}
 use Rattle.std.specs.List.{list_all}
 use Rattle.guard_lexer.specs.Octets.{is_letter, is_digit, is_letter_or_digit, is_hyphen, is_line_end, is_quote, is_apostrophe, is_slash, is_asterisk, is_of_bits, is_of_hexadecimal, is_white_space, begins}
@@ -6,9 +6,9 @@ use Rattle.guard_lexer.specs.Spelling.{mark_spelling}
 use Rattle.guard_lexer.specs.declared.item.ItemKind.{ItemKind}
 use Rattle.guard_lexer.specs.declared.item.ItemKind.TheVariants as item
 
--- An octet of a word, seen with those behind it: a letter, a digit, or a hyphen with a letter or digit behind it.
+-- An octet of a word, seen with those after it: a letter, a digit, or a hyphen with a letter or digit after it.
 abbrev pub is_of_word : ℕ → List ℕ → Bool
-is_of_word octet behind = is_letter_or_digit octet || (is_hyphen octet && begins is_letter_or_digit behind)
+is_of_word octet after = is_letter_or_digit octet || (is_hyphen octet && begins is_letter_or_digit after)
 
 abbrev pub are_of_word : List ℕ → Bool
 are_of_word [] = true
@@ -28,7 +28,7 @@ is_number (octet ∷ octets) = is_digit octet && list_all is_digit octets && (no
 abbrev pub number_value : List ℕ → ℕ
 number_value digits = fold (λ value digit. value * 10 + (digit - 48)) 0 digits
 
--- Behind the hyphens that open a comment stand no line end, and no two hyphens but those that close it (12.6.3).
+-- After the hyphens that open a comment come no line end, and no two hyphens but those that close it (12.6.3).
 abbrev pub is_line_comment_body : List ℕ → Bool
 is_line_comment_body [] = true
 is_line_comment_body (octet ∷ octets) =
@@ -63,7 +63,8 @@ is_block_rest inner [] = false
 is_block_rest inner (octet ∷ []) = false
 is_block_rest inner (first ∷ second ∷ octets) =
     if opens first second then is_block_rest (suc inner) octets
-    else (if closes first second then elim inner [ zero ↦ length octets == 0 | suc others ↦ is_block_rest others octets ]
+    else (if closes first second
+    then elim inner [ zero ↦ length octets == 0 | suc others ↦ is_block_rest others octets ]
     else is_block_rest inner (second ∷ octets))
 
 abbrev pub is_block_comment : List ℕ → Bool
@@ -71,7 +72,7 @@ is_block_comment [] = false
 is_block_comment (octet ∷ []) = false
 is_block_comment (first ∷ second ∷ octets) = opens first second && is_block_rest 0 octets
 
--- Behind the quote that opens a string stand no line end, quotes in pairs, and the one that closes it (12.14).
+-- After the quote that opens a string come no line end, quotes in pairs, and the one that closes it (12.14).
 abbrev pub is_string_rest : List ℕ → Bool
 is_string_rest [] = false
 is_string_rest (octet ∷ []) = is_quote octet
@@ -83,7 +84,7 @@ abbrev pub is_character_string : List ℕ → Bool
 is_character_string [] = false
 is_character_string (octet ∷ octets) = is_quote octet && is_string_rest octets
 
--- Behind the apostrophe that opens a string stand its digits, and the one that closes it with the letter (12.10, 12.12).
+-- After the apostrophe that opens a string come its digits, the apostrophe that closes it and a letter (12.10, 12.12).
 abbrev pub is_digits_rest : (ℕ → Bool) → ℕ → List ℕ → Bool
 is_digits_rest digit letter [] = false
 is_digits_rest digit letter (octet ∷ octets) =
@@ -101,14 +102,14 @@ is_hexadecimal_string (octet ∷ octets) = is_apostrophe octet && is_digits_rest
 abbrev pub is_one_white_space : List ℕ → Bool
 is_one_white_space octets = begins is_white_space octets && length octets == 1
 
--- The octets are an item of this kind, with `behind` behind them. A quote directly behind a string belongs to it.
+-- The octets are an item of this kind, and `after` follows them. A quote directly after a string belongs to it.
 abbrev pub IsItem : ItemKind → List ℕ → List ℕ → Type 0
-IsItem item.WhiteSpace octets behind = IsTrue (is_one_white_space octets)
-IsItem item.LineComment octets behind = IsTrue (is_line_comment octets)
-IsItem item.BlockComment octets behind = IsTrue (is_block_comment octets)
-IsItem item.Word octets behind = IsTrue (is_word octets)
-IsItem item.Number octets behind = IsTrue (is_number octets)
-IsItem item.CharacterString octets behind = IsTrue (is_character_string octets) × IsTrue (not (begins is_quote behind))
-IsItem item.BitString octets behind = IsTrue (is_bit_string octets)
-IsItem item.HexadecimalString octets behind = IsTrue (is_hexadecimal_string octets)
-IsItem (item.Mark mark) octets behind = octets ≡ mark_spelling mark
+IsItem item.WhiteSpace octets after = IsTrue (is_one_white_space octets)
+IsItem item.LineComment octets after = IsTrue (is_line_comment octets)
+IsItem item.BlockComment octets after = IsTrue (is_block_comment octets)
+IsItem item.Word octets after = IsTrue (is_word octets)
+IsItem item.Number octets after = IsTrue (is_number octets)
+IsItem item.CharacterString octets after = IsTrue (is_character_string octets) × IsTrue (not (begins is_quote after))
+IsItem item.BitString octets after = IsTrue (is_bit_string octets)
+IsItem item.HexadecimalString octets after = IsTrue (is_hexadecimal_string octets)
+IsItem (item.Mark mark) octets after = octets ≡ mark_spelling mark

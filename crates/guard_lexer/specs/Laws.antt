@@ -6,16 +6,24 @@ use Rattle.guard_lexer.specs.declared.token.Token.{Token}
 
 -- at most one list of tokens
 abbrev pub OneLexing : Type 0
-OneLexing = (place : ℕ) (text : List ℕ) (one other : List Token) → Lexes place text one → Lexes place text other → one ≡ other
+OneLexing =
+    (place : ℕ) (text : List ℕ) (one other : List Token)
+    → Lexes place text one → Lexes place text other → one ≡ other
 
 -- at most one fault
 abbrev pub OneFault : Type 0
-OneFault = (place : ℕ) (text : List ℕ) (one other : LexFault) → FirstFault place text one → FirstFault place text other → one ≡ other
+OneFault =
+    (place : ℕ) (text : List ℕ) (one other : LexFault)
+    → FirstFault place text one → FirstFault place text other → one ≡ other
 
 -- no tokens where there is a fault
 abbrev pub NoneWithFault : Type 0
-NoneWithFault = (place : ℕ) (text : List ℕ) (tokens : List Token) (fault : LexFault) → Lexes place text tokens → FirstFault place text fault → ⊥
+NoneWithFault =
+    (place : ℕ) (text : List ℕ) (tokens : List Token) (fault : LexFault)
+    → Lexes place text tokens → FirstFault place text fault → ⊥
 
 -- tokens where there is no fault
 abbrev pub TokensOrFault : Type 0
-TokensOrFault = (place : ℕ) (text : List ℕ) → ((tokens : List Token) × Lexes place text tokens) ⊎ ((fault : LexFault) × FirstFault place text fault)
+TokensOrFault =
+    (place : ℕ) (text : List ℕ)
+    → ((tokens : List Token) × Lexes place text tokens) ⊎ ((fault : LexFault) × FirstFault place text fault)

@@ -18,21 +18,23 @@ pub record Item : Type 0 where
   pub kind : ItemKind
   pub octets : List ℕ
 
--- The item stands at the front of text, with `left` behind it, and no longer one stands there.
+-- The text begins with the item, `left` is what follows it, and the text begins with no longer one.
 pub record IsLongest (text : List ℕ) (item : Item) (left : List ℕ) : Type 0 where
   pub split : text ≡ item.octets ++ left
   pub is_item : IsItem item.kind item.octets left
-  pub longest : (other : Item) (behind : List ℕ) → text ≡ other.octets ++ behind → IsItem other.kind other.octets behind → length other.octets ≤ length item.octets
+  pub longest : (other : Item) (after : List ℕ) → text ≡ other.octets ++ after → IsItem other.kind other.octets after
+      → length other.octets ≤ length item.octets
 
--- A fault that stands so many octets behind the place where it is found.
+-- A fault that is so many octets after the place where it is found.
 pub record OffsetFault : Type 0 where
   pub offset : ℕ
   pub fault : Site → LexFault
 
--- a hyphen that goes on with no word and begins no comment
+-- a hyphen that neither continues a word nor begins a comment
 abbrev pub is_lone_hyphen : List ℕ → Bool
 is_lone_hyphen [] = false
-is_lone_hyphen (octet ∷ octets) = is_hyphen octet && not (begins is_letter_or_digit octets) && not (begins is_hyphen octets)
+is_lone_hyphen (octet ∷ octets) =
+    is_hyphen octet && not (begins is_letter_or_digit octets) && not (begins is_hyphen octets)
 
 abbrev pub bad_character : ℕ → OffsetFault
 bad_character offset = record { offset = offset; fault = λ site. faults.BadCharacter site }
@@ -49,25 +51,26 @@ open_comment = record { offset = 0; fault = λ site. faults.OpenComment site }
 abbrev pub number_too_large : OffsetFault
 number_too_large = record { offset = 0; fault = λ site. faults.NumberTooLarge site }
 
--- What is wrong with an item, by its octets and what is left behind it. A digit can stand directly behind the number 0 alone.
+-- What is wrong with an item, by its octets and what is left after it. (Of numbers only 0 can have a digit after it.)
 abbrev pub item_fault : ItemKind → List ℕ → List ℕ → Option OffsetFault
-item_fault item.WhiteSpace octets behind = None
-item_fault item.LineComment octets behind = None
-item_fault item.BlockComment octets behind = None
-item_fault item.Word octets behind = if is_lone_hyphen behind then Some bad_hyphen else None
-item_fault item.Number octets behind =
+item_fault item.WhiteSpace octets after = None
+item_fault item.LineComment octets after = None
+item_fault item.BlockComment octets after = None
+item_fault item.Word octets after = if is_lone_hyphen after then Some bad_hyphen else None
+item_fault item.Number octets after =
     if nat_le (2 ^ 128) (number_value octets) then Some number_too_large
-    else (if begins is_digit behind then Some (bad_character (length octets)) else None)
-item_fault item.CharacterString octets behind = None
-item_fault item.BitString octets behind = None
-item_fault item.HexadecimalString octets behind = None
-item_fault (item.Mark mark) octets behind = None
+    else (if begins is_digit after then Some (bad_character (length octets)) else None)
+item_fault item.CharacterString octets after = None
+item_fault item.BitString octets after = None
+item_fault item.HexadecimalString octets after = None
+item_fault (item.Mark mark) octets after = None
 
--- Up to `left` the text is these items in turn, each the longest where it stands, and none at fault.
+-- Up to `left` the text is these items in turn, each the longest where it begins, and none at fault.
 abbrev pub IsCut : List ℕ → List Item → List ℕ → Type 0
 IsCut text [] left = text ≡ left
 IsCut text (item ∷ items) left =
-    (behind : List ℕ) × IsLongest text item behind × (item_fault item.kind item.octets behind ≡ None) × IsCut behind items left
+    (after : List ℕ) × IsLongest text item after × (item_fault item.kind item.octets after ≡ None)
+    × IsCut after items left
 
 abbrev pub kind_of : ItemKind → List ℕ → Option TokenKind
 kind_of item.WhiteSpace octets = None
@@ -83,17 +86,23 @@ kind_of (item.Mark mark) octets = Some (kind.Mark mark)
 -- the token that an item is, where it is one, at this offset of the text
 abbrev pub token_of : ℕ → List ℕ → ℕ → Item → Option Token
 token_of place text start item =
-    option_map (λ kind. record { kind = kind; start = start; end = start + length item.octets; site = site_at place text start }) (kind_of item.kind item.octets)
+    option_map (λ kind. record {
+      kind = kind;
+      start = start;
+      end = start + length item.octets;
+      site = site_at place text start;
+    }) (kind_of item.kind item.octets)
 
--- the tokens among items that stand in the text from this offset on
+-- the tokens among items that follow one another in the text from this offset on
 abbrev pub tokens_from : ℕ → List ℕ → ℕ → List Item → List Token
 tokens_from place text start [] = []
 tokens_from place text start (item ∷ items) =
     option_to_list (token_of place text start item) ++ tokens_from place text (start + length item.octets) items
 
--- no item stands at the front
+-- the text begins with no item
 abbrev pub BeginsNone : List ℕ → Type 0
-BeginsNone text = (item : Item) (behind : List ℕ) → text ≡ item.octets ++ behind → ¬ (IsItem item.kind item.octets behind)
+BeginsNone text =
+    (item : Item) (after : List ℕ) → text ≡ item.octets ++ after → ¬ (IsItem item.kind item.octets after)
 
 -- What is wrong where no item begins: a string that is none, a comment that isn't closed, else the first character.
 abbrev pub no_item_fault : List ℕ → OffsetFault
@@ -101,13 +110,14 @@ no_item_fault left =
     if begins is_quote left || begins is_apostrophe left then bad_string
     else (if begins_comment left then open_comment else bad_character 0)
 
--- What is wrong at the front of what is left: no item stands there, or the one that does is at fault.
+-- What is wrong at the front of what is left: no item begins there, or the one that does is at fault.
 abbrev pub HasFault : List ℕ → OffsetFault → Type 0
 HasFault left wrong =
     ((0 < length left) × BeginsNone left × (wrong ≡ no_item_fault left))
-    ⊎ ((item : Item) × (behind : List ℕ) × IsLongest left item behind × (item_fault item.kind item.octets behind ≡ Some wrong))
+    ⊎ ((item : Item) × (after : List ℕ) × IsLongest left item after
+    × (item_fault item.kind item.octets after ≡ Some wrong))
 
--- The leftmost fault: what stands before it are items without fault.
+-- The leftmost fault: all before it are items without fault.
 abbrev pub FaultAt : ℕ → List ℕ → LexFault → Type 0
 FaultAt place text fault =
     (items : List Item) × (left : List ℕ) × (wrong : OffsetFault)

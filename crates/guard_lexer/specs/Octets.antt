@@ -41,7 +41,7 @@ is_line_end octet = nat_le 10 octet && nat_le octet 13
 abbrev pub is_white_space : ℕ → Bool
 is_white_space octet = (nat_le 9 octet && nat_le octet 13) || octet == 32
 
--- what can stand between the quotes of a bit string, and of a hexadecimal string
+-- what can be between the quotes of a bit string, and of a hexadecimal string
 abbrev pub is_of_bits : ℕ → Bool
 is_of_bits octet = octet == 48 || octet == 49 || is_white_space octet
 

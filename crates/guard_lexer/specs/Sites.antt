@@ -1,4 +1,4 @@
--- Where an octet stands in a text.
+-- In which line and column an octet of a text is.
 use Rattle.std.specs.Prelude.{ℕ, ◌+◌, List, not, take, count_by}
 use Rattle.std.specs.List.{suffix_len}
 use Rattle.guard_model.specs.declared.site.Site.{Site}

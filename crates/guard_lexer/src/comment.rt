@@ -4,7 +4,7 @@ ghost use Rattle.guard_lexer.specs.inside.Reading.{comment_body_len, behind_bloc
 
 use crate::octet::{begins_comment, begins_with_hyphen, ends_comment, is_line_end};
 
-/// How many octets belong to a line comment, behind the hyphens that open it.
+/// How many octets belong to a line comment after the hyphens that open it.
 pub(crate) fn comment_body_len(text: &[u8]) -> usize
     ensures reads { result ≡ comment_body_len text.now }
     ensures within { result ≤ length text.now }
@@ -19,7 +19,7 @@ pub(crate) fn comment_body_len(text: &[u8]) -> usize
     n
 }
 
-/// What is left behind a comment, from behind the `/*` that opens it on, if it is closed.
+/// What is left after a comment that is closed; `text` begins after the `/*` that opens it.
 pub(crate) fn behind_block_comment(text: &[u8]) -> Option<&[u8]>
     ensures reads { option_copied result ≡ behind_block_comment 0 text.now }
     ensures within { IfSome result (λ left. length left.now ≤ length text.now) }

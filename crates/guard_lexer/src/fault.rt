@@ -10,16 +10,16 @@ use thiserror::Error;
 /// that is too long comes before one that isn't UTF-8, and this before all others, of which the leftmost is named.
 #[derive(Clone, Copy, Debug, PartialEq, Eq, Error)]
 pub enum LexFault {
-    /// Here no token, comment or white space begins, or a digit stands directly behind the number 0.
+    /// Here no token, comment or white space begins, or a digit comes directly after the number 0.
     #[error("L1 BadCharacter {0}")]
     BadCharacter(Site),
-    /// The string that begins here is none: it isn't closed, a character can't stand in it, or a line ends in it.
+    /// The string that begins here is none: it isn't closed, it can't have one of its characters, or a line ends in it.
     #[error("L2 BadString {0}")]
     BadString(Site),
     /// The comment that `/*` opens here isn't closed.
     #[error("L3 OpenComment {0}")]
     OpenComment(Site),
-    /// Behind the word here stands a hyphen that goes on with no word and begins no comment.
+    /// The word here is followed by a hyphen that neither continues it nor begins a comment.
     #[error("L4 BadHyphen {0}")]
     BadHyphen(Site),
     /// The number here is above 2^128-1.

@@ -1,4 +1,4 @@
-//! White space, comments and tokens: which of them stands at the front of a text, and how long it is.
+//! White space, comments and tokens: which of them a text begins with, and how long it is.
 ghost use Rattle.std.specs.Prelude.{◌≡◌, length, ◌≤◌, option_map, option_copied};
 ghost use Rattle.std.specs.Option.{ForSome};
 ghost use Rattle.guard_lexer.specs.inside.Reading.{behind_bits, behind_hexadecimal, found_before, found_digit_string, item_at, marked_item_at};
@@ -45,13 +45,13 @@ pub(crate) struct FoundItem {
 pub(crate) fn item_at(text: &[u8]) -> Option<FoundItem>
     ensures { result ≡ item_at text.now }
 {
-    let [first, behind @ ..] = text else {
+    let [first, after @ ..] = text else {
         return None;
     };
     let (kind, len) = match *first {
         octet if is_white_space(octet) => (ItemKind::WhiteSpace, 1),
-        octet if octet.is_ascii_alphabetic() => (ItemKind::Word, 1 + word_len(behind)),
-        octet if octet.is_ascii_digit() => (ItemKind::Number, number_len(octet, behind)),
+        octet if octet.is_ascii_alphabetic() => (ItemKind::Word, 1 + word_len(after)),
+        octet if octet.is_ascii_digit() => (ItemKind::Number, number_len(octet, after)),
         _ => return marked_item_at(text),
     };
     Some(FoundItem { kind, len })
@@ -61,19 +61,19 @@ pub(crate) fn item_at(text: &[u8]) -> Option<FoundItem>
 fn marked_item_at(text: &[u8]) -> Option<FoundItem>
     ensures { result ≡ marked_item_at text.now }
 {
-    let [first, behind @ ..] = text else {
+    let [first, after @ ..] = text else {
         return None;
     };
     match *first {
-        b'-' if begins_with_hyphen(behind) => {
-            let len = 2 + comment_body_len(&behind[1..]);
+        b'-' if begins_with_hyphen(after) => {
+            let len = 2 + comment_body_len(&after[1..]);
             let kind = ItemKind::LineComment;
             Some(FoundItem { kind, len })
         }
-        b'"' => item_before(ItemKind::CharacterString, text, behind_string(behind)),
-        b'\'' => digit_string_at(text, behind),
-        b'/' if begins_with_asterisk(behind) => {
-            let left = behind_block_comment(&behind[1..]);
+        b'"' => item_before(ItemKind::CharacterString, text, behind_string(after)),
+        b'\'' => digit_string_at(text, after),
+        b'/' if begins_with_asterisk(after) => {
+            let left = behind_block_comment(&after[1..]);
             item_before(ItemKind::BlockComment, text, left)
         }
         _ => {
@@ -94,17 +94,13 @@ fn item_before(kind: ItemKind, text: &[u8], left: Option<&[u8]>) -> Option<Found
     Some(FoundItem { kind, len })
 }
 
-/// The bit or hexadecimal string at the front of a text, `behind` behind its apostrophe.
-fn digit_string_at(text: &[u8], behind: &[u8]) -> Option<FoundItem>
-    requires { length behind.now ≤ length text.now }
-    ensures { result ≡ found_digit_string text.now (behind_bits behind.now) (behind_hexadecimal behind.now) }
+/// The bit or hexadecimal string at the front of a text; `after` is what follows its first apostrophe.
+fn digit_string_at(text: &[u8], after: &[u8]) -> Option<FoundItem>
+    requires { length after.now ≤ length text.now }
+    ensures { result ≡ found_digit_string text.now (behind_bits after.now) (behind_hexadecimal after.now) }
 {
-    match behind_bits(behind) {
+    match behind_bits(after) {
         Some(left) => item_before(ItemKind::BitString, text, Some(left)),
-        None => item_before(
-            ItemKind::HexadecimalString,
-            text,
-            behind_hexadecimal(behind),
-        ),
+        None => item_before(ItemKind::HexadecimalString, text, behind_hexadecimal(after)),
     }
 }

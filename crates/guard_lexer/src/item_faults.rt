@@ -11,7 +11,7 @@ use crate::octet::{begins_with_digit, begins_with_hyphen, begins_with_letter_or_
 use crate::site::site_behind;
 use guard_model::Site;
 
-/// What is wrong with the item at the front of what is left of a text, which stands at the site.
+/// What is wrong with the item at the front of what is left of a text, which begins at the site.
 pub(crate) fn item_fault(found: FoundItem, left: &[u8], site: Site) -> Option<LexFault>
     requires within { found.len ≤ length left.now }
     requires item { IsItem found.kind (take found.len left.now) (drop found.len left.now) }
@@ -22,11 +22,11 @@ pub(crate) fn item_fault(found: FoundItem, left: &[u8], site: Site) -> Option<Le
         ≡ option_map (λ wrong. wrong.fault (site_after site.text (before ++ take wrong.offset left.now)))
         (item_fault found.kind (take found.len left.now) (drop found.len left.now)) }
 {
-    let (octets, behind) = left.split_at(found.len);
+    let (octets, after) = left.split_at(found.len);
     match found.kind {
-        ItemKind::Word if is_lone_hyphen(behind) => Some(LexFault::BadHyphen(site)),
+        ItemKind::Word if is_lone_hyphen(after) => Some(LexFault::BadHyphen(site)),
         ItemKind::Number if !is_below_limit(octets) => Some(LexFault::NumberTooLarge(site)),
-        ItemKind::Number if begins_with_digit(behind) => {
+        ItemKind::Number if begins_with_digit(after) => {
             Some(LexFault::BadCharacter(site_behind(site, octets)))
         }
         _ => None,
@@ -47,5 +47,5 @@ pub(crate) fn no_item_fault(left: &[u8], site: Site) -> LexFault
 fn is_lone_hyphen(text: &[u8]) -> bool
     ensures { result ≡ is_lone_hyphen text.now }
 {
-    matches!(text, [b'-', behind @ ..] if !begins_with_letter_or_digit(behind) && !begins_with_hyphen(behind))
+    matches!(text, [b'-', after @ ..] if !begins_with_letter_or_digit(after) && !begins_with_hyphen(after))
 }

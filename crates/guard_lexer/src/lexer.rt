@@ -21,10 +21,10 @@ use std::str;
 pub const LONGEST_TEXT: usize = 1_048_576;
 
 /// The tokens of a text, in order; white space and comments are none. `place` is the place of the text in the list
-/// that was handed in, from 1, and stands in the sites alone.
+/// that was handed in, from 1, and only the sites show it.
 ///
 /// It refuses a text of more than 1,048,576 octets (TextTooLong), else one that isn't UTF-8 (NotUtf8), else one with
-/// another fault, by the leftmost of them; OutOfMemory may stand in place of any answer.
+/// another fault, by the leftmost of them; OutOfMemory may come in place of any answer.
 pub fn tokens(alloc: Global, place: u32, text: &[u8]) -> Result<Vec<Token>, LexFault>
     // What is answered are the tokens of the text.
     ensures tokens { IfOk result (λ v. Lexes place text.now v.items) }
@@ -85,7 +85,7 @@ fn read_items(alloc: Global, place: u32, text: &[u8]) -> Result<Vec<Token>, LexF
     Ok(tokens)
 }
 
-/// The longest item at the front of what is left of a text, which stands at the site, if it isn't at fault.
+/// The longest item at the front of what is left of a text, which begins at the site, if it isn't at fault.
 fn read_item(left: &[u8], site: Site) -> Result<FoundItem, LexFault>
     requires some { 0 < length left.now }
     requires line { site.line + length left.now < 2 ^ 32 }

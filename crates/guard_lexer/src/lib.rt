@@ -5,9 +5,10 @@
 //! | Which tokens has a text? | `lexer.rt` (`tokens`) | `specs/Lexing.antt` |
 //! | What is a token, and how is it spelled? | `token.rt`, `spelling.rt` | `specs/Spans.antt`, `specs/Spelling.antt` |
 //! | Why has a text no tokens? | `fault.rt`, `item_faults.rt` | `specs/Lexing.antt` |
-//! | Which word, number, mark, string or comment stands here? | `item.rt`, and a file for each of them | `specs/Items.antt`, `specs/Words.antt` |
+//! | Which item begins here? | `item.rt`, and a file for each kind | `specs/Items.antt`, `specs/Words.antt` |
 //! | Which octets are letters, digits, white space? | `octet.rt` | `specs/Octets.antt` |
-//! | In which line and column does it stand? | `site.rt` | `specs/Sites.antt` |
+//! | In which line and column does it begin? | `site.rt` | `specs/Sites.antt` |
+//! | Which number do digits write? | `number.rt` (`magnitude`) | `specs/Items.antt` (`number_value`) |
 //! | What holds for every text? | `laws.rt` | `specs/Laws.antt` |
 #![tactic(auto)]
 
@@ -28,4 +29,5 @@ mod word;
 
 pub use fault::LexFault;
 pub use lexer::{LONGEST_TEXT, tokens};
+pub use number::magnitude;
 pub use token::{Mark, Reserved, Token, TokenKind};

@@ -1,4 +1,4 @@
-//! Which mark stands at the front of a text.
+//! Which mark a text begins with.
 ghost use Rattle.std.specs.Prelude.{◌≡◌, find};
 ghost use Rattle.guard_lexer.specs.inside.Reading.{stands_at, mark_at};
 

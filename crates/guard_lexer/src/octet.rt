@@ -15,14 +15,14 @@ pub(crate) fn is_line_end(octet: u8) -> bool
     matches!(octet, 10..=13)
 }
 
-/// Whether it can stand in a bit string.
+/// Whether a bit string can have it between its quotes.
 pub(crate) fn is_of_bits(octet: u8) -> bool
     ensures { result ≡ is_of_bits octet }
 {
     matches!(octet, b'0' | b'1') || is_white_space(octet)
 }
 
-/// Whether it can stand in a hexadecimal string.
+/// Whether a hexadecimal string can have it between its quotes.
 pub(crate) fn is_of_hexadecimal(octet: u8) -> bool
     ensures { result ≡ is_of_hexadecimal octet }
 {
@@ -67,9 +67,9 @@ pub(crate) fn begins_with_letter_or_digit(text: &[u8]) -> bool
     matches!(text, [first, ..] if first.is_ascii_alphanumeric())
 }
 
-/// Whether an octet belongs to a word, by those behind it.
-pub(crate) fn is_of_word(octet: u8, behind: &[u8]) -> bool
-    ensures { result ≡ is_of_word octet behind.now }
+/// Whether an octet belongs to a word, by the octets after it.
+pub(crate) fn is_of_word(octet: u8, after: &[u8]) -> bool
+    ensures { result ≡ is_of_word octet after.now }
 {
-    octet.is_ascii_alphanumeric() || octet == b'-' && begins_with_letter_or_digit(behind)
+    octet.is_ascii_alphanumeric() || octet == b'-' && begins_with_letter_or_digit(after)
 }

@@ -1,10 +1,10 @@
-//! Where the octets of a text stand.
+//! In which line and column the octets of a text are.
 ghost use Rattle.std.specs.Prelude.{◌≡◌, ◌+◌, ◌<◌, ◌^◌, ◌++◌, List, ℕ, length};
 ghost use Rattle.guard_lexer.specs.Sites.{site_after};
 
 use guard_model::Site;
 
-/// The site behind octets that begin at a site.
+/// The site after octets that begin at a site.
 pub(crate) fn site_behind(site: Site, octets: &[u8]) -> Site
     requires line { site.line + length octets.now < 2 ^ 32 }
     requires column { site.column + length octets.now < 2 ^ 32 }

@@ -4,7 +4,7 @@ ghost use Rattle.guard_lexer.specs.inside.Reading.{behind_string, behind_bits, b
 
 use crate::octet::{is_line_end, is_of_bits, is_of_hexadecimal};
 
-/// What is left behind a string, from behind the quote that opens it on, if it is one.
+/// What is left after a string, if it is one; `text` begins after the quote that opens it.
 pub(crate) fn behind_string(text: &[u8]) -> Option<&[u8]>
     ensures reads { option_copied result ≡ behind_string text.now }
     ensures within { IfSome result (λ left. length left.now ≤ length text.now) }
@@ -13,15 +13,15 @@ pub(crate) fn behind_string(text: &[u8]) -> Option<&[u8]>
     loop {
         match left {
             [] => return None,
-            [b'"', b'"', behind @ ..] => left = behind,
-            [b'"', behind @ ..] => return Some(behind),
+            [b'"', b'"', after @ ..] => left = after,
+            [b'"', after @ ..] => return Some(after),
             [first, ..] if is_line_end(*first) => return None,
-            [_, behind @ ..] => left = behind,
+            [_, after @ ..] => left = after,
         }
     }
 }
 
-/// What is left behind a bit string, from behind the apostrophe that opens it on, if it is one.
+/// What is left after a bit string, if it is one; `text` begins after the apostrophe that opens it.
 pub(crate) fn behind_bits(text: &[u8]) -> Option<&[u8]>
     ensures reads { option_copied result ≡ behind_bits text.now }
     ensures within { IfSome result (λ left. length left.now ≤ length text.now) }
@@ -29,14 +29,14 @@ pub(crate) fn behind_bits(text: &[u8]) -> Option<&[u8]>
     let mut left = text;
     loop {
         match left {
-            [b'\'', b'B', behind @ ..] => return Some(behind),
-            [first, behind @ ..] if is_of_bits(*first) => left = behind,
+            [b'\'', b'B', after @ ..] => return Some(after),
+            [first, after @ ..] if is_of_bits(*first) => left = after,
             _ => return None,
         }
     }
 }
 
-/// What is left behind a hexadecimal string, from behind the apostrophe that opens it on, if it is one.
+/// What is left after a hexadecimal string, if it is one; `text` begins after the apostrophe that opens it.
 pub(crate) fn behind_hexadecimal(text: &[u8]) -> Option<&[u8]>
     ensures reads { option_copied result ≡ behind_hexadecimal text.now }
     ensures within { IfSome result (λ left. length left.now ≤ length text.now) }
@@ -44,8 +44,8 @@ pub(crate) fn behind_hexadecimal(text: &[u8]) -> Option<&[u8]>
     let mut left = text;
     loop {
         match left {
-            [b'\'', b'H', behind @ ..] => return Some(behind),
-            [first, behind @ ..] if is_of_hexadecimal(*first) => left = behind,
+            [b'\'', b'H', after @ ..] => return Some(after),
+            [first, after @ ..] if is_of_hexadecimal(*first) => left = after,
             _ => return None,
         }
     }

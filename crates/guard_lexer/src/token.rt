@@ -1,7 +1,7 @@
 //! Tokens (X.680 clause 12).
 use guard_model::Site;
 
-/// A token: a span of the text, and where it stands.
+/// A token: a span of the text, and the line and column where it begins.
 #[derive(Clone, Copy, Debug, PartialEq, Eq)]
 pub struct Token {
     pub kind: TokenKind,

@@ -1,15 +1,16 @@
 -- Components of the code, one after another and by their places.
 use Rattle.std.proofs.Common.{◌≡◌, ℕ, zero, suc, ◌+◌, ◌<◌, ◌≤◌, List, [], ◌∷◌, Option, Some, None, Bor, length, drop, get_or, map, option_map, slice_get, MatchOption, refl, sym, ap, ◌∙◌}
 use Rattle.std.specs.List.{HoldsAt}
-use Rattle.std.specs.Prelude.{string_bytes}
+use Rattle.std.specs.Prelude.{replicate, string_bytes}
 use Rattle.std.proofs.lemmas.List.{at_drop_more, at_drop_all, length-map}
 use Rattle.std.proofs.lemmas.Option.{slice_get_past, slice_get_read}
 use Rattle.guard_model.specs.AbstractType.{Components, no_components, component}
-use Rattle.guard_model.specs.AbstractValue.{AbstractValue, items_of}
+use Rattle.guard_model.specs.AbstractValue.{AbstractValue, absent, items_of}
 use Rattle.guard_model.specs.Components.{component_at}
 use Rattle.guard_model.specs.Counts.{component_count, item_count}
+use Rattle.guard_model.specs.Slots.{all_absent}
 use Rattle.guard_model.specs.TypeView.{OneComponent, type_view, component_view, components_of, presence_view}
-use Rattle.guard_model.specs.ValueView.{value_view, items_view}
+use Rattle.guard_model.specs.ValueView.{value_view, fields_view, items_view}
 use Rattle.guard_model.specs.declared.ty.Comp.{Comp}
 use Rattle.guard_model.specs.declared.ty.Kind.TheViews.{out-Comp}
 use Rattle.guard_model.specs.declared.value.Value.{Value}
@@ -76,3 +77,9 @@ item_count_is (v ∷ vs) = ap suc (item_count_is vs)
 
 pub item_count_view : (vs : List Value) → item_count (items_view vs) ≡ length vs
 item_count_view vs = item_count_is (map value_view vs) ∙ length-map vs value_view
+
+-- ---- their slots, before any has a value
+
+pub fields_absent : (comps : List Comp) → all_absent (in_view comps) ≡ fields_view (replicate (length comps) None)
+fields_absent [] = refl
+fields_absent (c ∷ comps) = ap absent (fields_absent comps)

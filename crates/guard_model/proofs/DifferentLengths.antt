@@ -1,4 +1,4 @@
--- Lists of different lengths stand for different components, constraints and parts.
+-- Lists of different lengths are different components, constraints and parts.
 use Rattle.std.proofs.Common.{◌≡◌, ℕ, suc, true, false, List, [], ◌∷◌, Option, Some, None, refl, sym, ap, ◌∙◌, map, length}
 use Rattle.std.proofs.lemmas.Bool.{and_parts, false_from_ne_true, false≢true}
 use Rattle.std.proofs.lemmas.List.{length-map}

@@ -1,4 +1,4 @@
--- What a test tells. More of this kind stands in Rattle.std.proofs.lemmas.Bool.
+-- What a test shows. More of this kind is in Rattle.std.proofs.lemmas.Bool.
 use Rattle.std.proofs.Common.{◌≡◌, Bool, true, false, cond, ◌&&◌, ◌⊎◌, inl, inr, refl, sym}
 
 -- what is chosen by a test
@@ -18,7 +18,7 @@ same_test true false f g = sym (f refl)
 same_test false true f g = g refl
 same_test false false f g = refl
 
--- ---- a test of all, as a loop makes it: it goes on behind a part that passes, and is over at one that doesn't
+-- ---- a test of all, as a loop makes it: it goes on after a part that passes, and ends at one that doesn't
 
 pub and_on : (a b whole : Bool) → a ≡ true → (a && b) ≡ whole → b ≡ whole
 and_on true b whole passed e = e

@@ -1,4 +1,4 @@
--- One level of what a type stands for.
+-- One level of the abstract type of a type.
 use Rattle.std.proofs.Common.{◌≡◌, sym, ap, ◌∙◌, map}
 use Rattle.std.specs.Global.{Vec, Box}
 use Rattle.std.specs.Prelude.{string_bytes}
@@ -16,7 +16,7 @@ use Rattle.guard_model.specs.declared.ty.Ty.{Ty}
 pub type_view_is : (ty : Ty) → type_view ty ≡ type_of (out-Ty ty).tags.items (kind_view (out-Ty ty).kind) (constraints_of (map constraint_view (out-Ty ty).cons.items))
 type_view_is ty = fold_out-Ty AbstractKind Element OneComponent Constraint OnePart AbstractType kind_step rule_step comp_step cons_step part_step ty_step ty
 
--- a component, with its type still to be seen
+-- a component, with its type's view still to be computed
 abbrev pub opened : Comp → OneComponent
 opened comp = record { name = string_bytes (out-Comp comp).name; ty = type_view (out-Comp comp).ty; presence = presence_view (out-Comp comp).presence }
 

@@ -1,4 +1,4 @@
--- One level of what a value stands for.
+-- One level of the abstract value of a value.
 use Rattle.std.proofs.Common.{◌≡◌, List, [], ◌∷◌, Option, Some, None, ℕ, String, Global, string_bytes, refl, ap, sym, ◌∙◌, map}
 use Rattle.std.specs.Global.{Vec, Box}
 use Rattle.std.specs.Str.{chars}

@@ -1,4 +1,4 @@
--- Types as the definitions see them: without where they lie in memory.
+-- Types as the definitions use them, without where they are kept in memory.
 use Rattle.std.specs.Prelude.{ℕ, ℤ, Bool, List, Option}
 use Rattle.guard_model.specs.AbstractValue.{AbstractValue}
 use Rattle.guard_model.specs.declared.tag.Tag.{Tag}
@@ -21,7 +21,8 @@ pub data AbstractPresence : Type 0 where
   default : AbstractValue → AbstractPresence
 
 mutual
-  -- its tags, the outermost first (X.680 31): the last is the kind's own and the others wrap it; a CHOICE has none of its own, so all of its tags wrap it
+  -- its tags, the outermost first (X.680 31): the last is the kind's own and the others wrap it; a CHOICE has none of
+  -- its own, so all of its tags wrap it
   pub data AbstractType : Type 0 where
     type_of : List Tag → AbstractKind → Constraints → AbstractType
 
@@ -90,7 +91,8 @@ mutual
     except : Constraint → Constraint → Element
     all_except : Constraint → Element
 
-  -- what WITH COMPONENTS says (51.8.5): the name's site, the component's place, its constraint where there is one, its presence word
+  -- what WITH COMPONENTS says (51.8.5): the name's site, the component's place, its constraint where there is one, its
+  -- presence word
   pub data Parts : Type 0 where
     no_parts : Parts
     part : Site → ℕ → Option Word → Parts → Parts

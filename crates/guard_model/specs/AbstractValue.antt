@@ -1,4 +1,4 @@
--- Abstract values (X.680 3.8): what a message says, without where it lies in memory.
+-- Abstract values (X.680 3.8): what a message says, without where it is kept in memory.
 use Rattle.std.specs.Prelude.{ℕ, ℤ, Bool, List, [], ◌∷◌, Option, Some, None}
 
 mutual

@@ -8,7 +8,8 @@ use Rattle.guard_model.specs.declared.ty.CharKind.TheVariants.{Numeric, Printabl
 
 -- space and ' ( ) + , - . / : = ?
 abbrev pub is_printable_mark : ℕ → Bool
-is_printable_mark c = nat_eq c 32 || is_in_range 39 41 c || is_in_range 43 47 c || nat_eq c 58 || nat_eq c 61 || nat_eq c 63
+is_printable_mark c =
+    nat_eq c 32 || is_in_range 39 41 c || is_in_range 43 47 c || nat_eq c 58 || nat_eq c 61 || nat_eq c 63
 
 -- A character of UTF8String is any of Unicode.
 abbrev pub is_character : CharKind → ℕ → Bool

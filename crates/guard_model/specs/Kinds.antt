@@ -1,5 +1,5 @@
 -- What kinds have inside, and which elements of constraints apply to them (X.680 clause 51).
-use Rattle.std.specs.Prelude.{ℕ, Bool, true, false, List, [], ◌∷◌, Option, Some, None, option_map}
+use Rattle.std.specs.Prelude.{ℕ, Bool, true, false, [], ◌∷◌, Option, Some, None, option_map}
 use Rattle.guard_model.specs.declared.tag.Class.TheVariants.{Universal}
 use Rattle.guard_model.specs.AbstractType as type
 use Rattle.guard_model.specs.AbstractType.{AbstractType, AbstractKind, NamedNumber, type_of}

@@ -7,12 +7,13 @@ pub mod AbstractType
 pub mod Components
 pub mod Counts
 pub mod Kinds
+pub mod Slots
 -- ---- what is said of them
 pub mod Limits
 pub mod Alphabets
 pub mod Same
 pub mod SameBase
--- ---- which of them a value or type of the code stands for
+-- ---- which of them a value or type of the code is
 pub mod ValueView
 pub mod TypeView
 pub mod SameType

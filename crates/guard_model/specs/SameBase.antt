@@ -1,11 +1,12 @@
--- Types of the same base: equal kinds without the outermost tags and constraints. Inside, parts are equal in name, tags, presence, default and constraints.
--- Named numbers of an INTEGER and sites count nowhere. Of named bits it counts whether there are some, since then a value has no trailing zero bit.
--- The items of an ENUMERATED count, in written order and with their numbers.
+-- Types of the same base: equal kinds without the outermost tags and constraints. Parts inside are equal in name, tags,
+-- presence, default and constraints. Named numbers of an INTEGER and sites never count. Of named bits it counts only
+-- whether there are any, since then a value has no trailing zero bit. The items of an ENUMERATED count, in written
+-- order and with their numbers.
 use Rattle.std.specs.Prelude.{◌≡◌, List, [], ◌∷◌, pos}
 use Rattle.guard_model.specs.AbstractType.{AbstractType, AbstractKind, Components, Constraint, Constraints, Element, NamedNumber, Parts, type_of, boolean, integer, bit_string, octet_string, null, object_identifier, enumerated, characters, sequence, set, choice, sequence_of, set_of, no_components, component, at, no_constraints, constraint, single_value, contained_subtype, range, permitted_alphabet, size, with_component, with_components, union, intersection, except, all_except, no_parts, part, part_within}
 use Rattle.guard_model.specs.declared.site.Site.{Site}
 
--- stands in place of every site
+-- the same for all, so that no site counts
 abbrev pub no_site : Site
 no_site = record { text = 0; line = 0; column = 0 }
 

@@ -77,7 +77,8 @@ abbrev mutual
 
   pub same_components : Components → Components → Bool
   same_components no_components no_components = true
-  same_components (component n t p cs) (component m u q ds) = (bytes_eq n m && (same_type t u && same_presence p q)) && same_components cs ds
+  same_components (component n t p cs) (component m u q ds) =
+      (bytes_eq n m && (same_type t u && same_presence p q)) && same_components cs ds
   same_components _ _ = false
 
   pub same_constraints : Constraints → Constraints → Bool
@@ -105,7 +106,8 @@ abbrev mutual
   pub same_parts : Parts → Parts → Bool
   same_parts no_parts no_parts = true
   same_parts (part s i w ps) (part r j v qs) = (same_site s r && (nat_eq i j && same_word w v)) && same_parts ps qs
-  same_parts (part_within s i c w ps) (part_within r j d v qs) = (same_site s r && (nat_eq i j && (same_constraint c d && same_word w v))) && same_parts ps qs
+  same_parts (part_within s i c w ps) (part_within r j d v qs) =
+      (same_site s r && (nat_eq i j && (same_constraint c d && same_word w v))) && same_parts ps qs
   same_parts _ _ = false
 
 -- equality of bases

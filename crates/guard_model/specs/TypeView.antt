@@ -1,4 +1,4 @@
--- The abstract type that a type of the code stands for.
+-- The abstract type of a type of the code.
 use Rattle.std.specs.Prelude.{ℕ, List, [], ◌∷◌, map, string_bytes, Option, Some, None}
 use Rattle.guard_model.specs.AbstractType as abstract
 use Rattle.guard_model.specs.AbstractType.{AbstractType, AbstractKind, AbstractPresence, Components, Constraint, Constraints, Element, NamedNumber, Parts}
@@ -53,7 +53,7 @@ abbrev pub parts_of : List OnePart → Parts
 parts_of [] = abstract.no_parts
 parts_of (p ∷ ps) = part_before p.site p.place p.within p.word (parts_of ps)
 
--- one level of each, with what is inside already seen
+-- one level of each; what is inside is abstract already
 abbrev pub kind_step : Kind-F AbstractKind Element OneComponent Constraint OnePart AbstractType → AbstractKind
 kind_step Kind-F.Bool = abstract.boolean
 kind_step (Kind-F.Int ns) = abstract.integer (map named_view ns.items)
@@ -95,19 +95,31 @@ abbrev pub ty_step : Ty-F AbstractKind Element OneComponent Constraint OnePart A
 ty_step t = abstract.type_of t.tags.items t.kind (constraints_of t.cons.items)
 
 abbrev pub type_view : Ty → AbstractType
-type_view = fold-Ty AbstractKind Element OneComponent Constraint OnePart AbstractType kind_step rule_step comp_step cons_step part_step ty_step
+type_view =
+    fold-Ty AbstractKind Element OneComponent Constraint OnePart AbstractType
+    kind_step rule_step comp_step cons_step part_step ty_step
 
 abbrev pub kind_view : Kind → AbstractKind
-kind_view = fold-Kind AbstractKind Element OneComponent Constraint OnePart AbstractType kind_step rule_step comp_step cons_step part_step ty_step
+kind_view =
+    fold-Kind AbstractKind Element OneComponent Constraint OnePart AbstractType
+    kind_step rule_step comp_step cons_step part_step ty_step
 
 abbrev pub component_view : Comp → OneComponent
-component_view = fold-Comp AbstractKind Element OneComponent Constraint OnePart AbstractType kind_step rule_step comp_step cons_step part_step ty_step
+component_view =
+    fold-Comp AbstractKind Element OneComponent Constraint OnePart AbstractType
+    kind_step rule_step comp_step cons_step part_step ty_step
 
 abbrev pub constraint_view : Cons → Constraint
-constraint_view = fold-Cons AbstractKind Element OneComponent Constraint OnePart AbstractType kind_step rule_step comp_step cons_step part_step ty_step
+constraint_view =
+    fold-Cons AbstractKind Element OneComponent Constraint OnePart AbstractType
+    kind_step rule_step comp_step cons_step part_step ty_step
 
 abbrev pub element_view : Rule → Element
-element_view = fold-Rule AbstractKind Element OneComponent Constraint OnePart AbstractType kind_step rule_step comp_step cons_step part_step ty_step
+element_view =
+    fold-Rule AbstractKind Element OneComponent Constraint OnePart AbstractType
+    kind_step rule_step comp_step cons_step part_step ty_step
 
 abbrev pub part_view : Part → OnePart
-part_view = fold-Part AbstractKind Element OneComponent Constraint OnePart AbstractType kind_step rule_step comp_step cons_step part_step ty_step
+part_view =
+    fold-Part AbstractKind Element OneComponent Constraint OnePart AbstractType
+    kind_step rule_step comp_step cons_step part_step ty_step

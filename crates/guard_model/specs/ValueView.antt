@@ -1,11 +1,11 @@
--- The abstract value that a value of the code stands for.
+-- The abstract value of a value of the code.
 use Rattle.std.specs.Prelude.{List, map, Option, Some, None, string_bytes, chars}
 use Rattle.guard_model.specs.AbstractValue as abstract
 use Rattle.guard_model.specs.AbstractValue.{AbstractValue, Fields, Items, fields_of, items_of}
 use Rattle.guard_model.specs.declared.value.Value.{Value, fold-Value}
 use Rattle.guard_model.specs.declared.value.Value.TheOpen.{Value-F}
 
--- one level, with each value inside already seen
+-- one level; each value inside is abstract already
 abbrev pub value_step : Value-F AbstractValue → AbstractValue
 value_step (Value-F.Bool b) = abstract.boolean b
 value_step (Value-F.Int z) = abstract.integer z

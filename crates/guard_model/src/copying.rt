@@ -1,4 +1,4 @@
-//! Copies of values and types. Each stands for what its source stands for; the one refusal is want of memory.
+//! Copies of values and types. A copy means what its source means, and a call fails only where memory runs out.
 ghost use Rattle.std.specs.Prelude.{◌≡◌, map, IfOk};
 ghost use Rattle.guard_model.specs.TypeView.{type_view, kind_view, named_view, presence_view, component_view, constraint_view, element_view, part_view};
 ghost use Rattle.guard_model.specs.ValueView.{value_view, field_view};
@@ -9,7 +9,7 @@ use crate::value::{Bits, Value};
 use std::alloc::Global;
 
 impl Value {
-    /// A value that stands for the same abstract value. Its one refusal is want of memory.
+    /// A value that means the same abstract value. It fails only where memory runs out.
     #[cycle(value_copies)]
     pub fn copy(&self, alloc: Global) -> Result<Value, OutOfMemory>
         ensures { IfOk result (λ copy. value_view copy ≡ value_view self.now) }
@@ -79,7 +79,7 @@ fn copy_of_items(alloc: Global, items: &[Value]) -> Result<Vec<Value>, OutOfMemo
 }
 
 impl Ty {
-    /// A type that stands for the same abstract type. Its one refusal is want of memory.
+    /// A type that means the same abstract type. It fails only where memory runs out.
     #[cycle(type_copies)]
     pub fn copy(&self, alloc: Global) -> Result<Ty, OutOfMemory>
         ensures { IfOk result (λ copy. type_view copy ≡ type_view self.now) }

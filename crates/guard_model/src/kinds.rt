@@ -10,7 +10,7 @@ use crate::ty::{Comp, Kind, Ty};
 use std::alloc::Global;
 
 impl Ty {
-    /// INTEGER, of which a size is a value (51.5.3). Its one refusal is want of memory.
+    /// INTEGER, of which a size is a value (51.5.3). It fails only where memory runs out.
     pub fn integer(alloc: Global) -> Result<Ty, OutOfMemory>
         ensures { IfOk result (λ t. type_view t ≡ type_of_size) }
     {

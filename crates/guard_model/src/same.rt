@@ -7,7 +7,7 @@ ghost use Rattle.guard_model.specs.ValueView.{value_view, fields_view, items_vie
 use crate::value::{Bits, Value};
 
 impl Value {
-    /// Whether both stand for the same abstract value: they are of one form and their parts are the same, one by one.
+    /// Whether both mean the same abstract value: they have the same form, and their parts are the same one by one.
     pub fn same(&self, other: &Value) -> bool
         ensures test { result ≡ same (value_view self.now) (value_view other.now) }
         ensures equal { Decides result (value_view self.now ≡ value_view other.now) }

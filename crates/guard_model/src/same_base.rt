@@ -12,9 +12,10 @@ use crate::tag::Tag;
 use crate::ty::{Comp, Cons, Kind, Limit, Named, Part, Presence, Rule, Ty};
 
 impl Ty {
-    /// Whether both have the same base: equal kinds without the outermost tags and constraints. Inside, parts are compared in name, tags, presence, default and constraints.
-    /// Named numbers of an INTEGER and sites count nowhere. Of named bits it counts whether there are some. The items of an ENUMERATED count, in written order and with their numbers.
-    /// Constraints are compared as they are written.
+    /// Whether both have the same base: equal kinds without the outermost tags and constraints. Parts inside are
+    /// compared in name, tags, presence, default and constraints. Named numbers of an INTEGER and sites never count.
+    /// Of named bits it counts only whether there are any. The items of an ENUMERATED count, in written order and with
+    /// their numbers. Constraints are compared as they are written.
     pub fn same_base(&self, other: &Ty) -> bool
         ensures test { result ≡ same_base (type_view self.now) (type_view other.now) }
         ensures equal { Decides result (HasSameBase (type_view self.now) (type_view other.now)) }

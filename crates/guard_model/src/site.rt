@@ -1,4 +1,4 @@
-//! Where something stands: in a module text, or in a value.
+//! Where something is: in a module text, or in a value.
 use crate::limits::DEEPEST_NESTING;
 use arrayvec::ArrayVec;
 use std::fmt;
@@ -6,7 +6,7 @@ use std::fmt;
 /// A place in a module text. All three numbers count from 1.
 #[derive(Clone, Copy, Debug, PartialEq, Eq)]
 pub struct Site {
-    /// The place of the text in the list that was handed in.
+    /// The place of the text in the list of texts, from 1.
     pub text: u32,
     /// 1 plus the line feeds before the place.
     pub line: u32,
@@ -45,7 +45,8 @@ impl fmt::Display for Step {
     }
 }
 
-/// The way from a value to a value inside it, the outermost step first. It has room for the deepest nesting of this profile.
+/// The way from a value to a value inside it, the outermost step first. It has room for the deepest nesting of this
+/// profile.
 pub type Path = ArrayVec<Step, DEEPEST_NESTING>;
 
 /// Prints a path from `$` on: `$.1[0].2`.

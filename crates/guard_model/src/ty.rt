@@ -7,7 +7,8 @@ use crate::value::Value;
 #[derive(Debug, Drop)]
 #[cycle(types)]
 pub struct Ty {
-    /// The outermost first. The last one is the kind's own, and those before it are explicit and wrap it; a CHOICE has none of its own, so all of its tags wrap it, and it may have no tag.
+    /// The outermost first. The last one is the kind's own, and those before it are explicit and wrap it. A CHOICE has
+    /// none of its own, so all of its tags wrap it, and it may have no tag.
     pub tags: Vec<Tag>,
     pub kind: Kind,
     /// In written order, those of a referenced type before the added ones.
@@ -68,12 +69,12 @@ pub struct Comp {
 pub enum Presence {
     Mandatory,
     Optional,
-    /// There is a default whose value is not known yet. It stands only while a schema is built.
+    /// There is a default whose value is not known yet. This occurs only while a schema is built.
     Pending,
     Default(Value),
 }
 
-/// A constraint, and where its first token stands.
+/// A constraint, and where its first token is.
 #[derive(Debug, Drop)]
 #[cycle(types)]
 pub struct Cons {
@@ -97,7 +98,7 @@ pub enum Rule {
     Alphabet(Vec<(u32, u32)>),
     /// WITH COMPONENT: the lists each of whose elements this constraint allows (51.8.4).
     Each(Box<Cons>),
-    /// WITH COMPONENTS (51.8.5); true where it is partial, that is where `...` stands first.
+    /// WITH COMPONENTS (51.8.5); true where it is partial, that is where it begins with `...`.
     Parts(bool, Vec<Part>),
     /// A union.
     Any(Vec<Cons>),
@@ -124,7 +125,7 @@ pub enum Limit {
 #[derive(Debug, Drop)]
 #[cycle(types)]
 pub struct Part {
-    /// Where its name stands.
+    /// Where its name is.
     pub site: Site,
     /// The place of the component in the written list, from 0.
     pub at: u8,

@@ -1,6 +1,6 @@
 //! Values.
 
-/// A value of a type. Names of named numbers, items and alternatives are not in it: a value says what it is by its type.
+/// A value of a type. It has no names of named numbers, items and alternatives: the type says what a number means.
 #[derive(Debug, Drop)]
 pub enum Value {
     Bool(bool),
@@ -27,6 +27,6 @@ pub enum Value {
 pub struct Bits {
     /// The bits from the highest of the first octet on.
     pub octets: Vec<u8>,
-    /// How many of the lowest bits of the last octet are none of the string's, 0 to 7.
+    /// How many of the lowest bits of the last octet don't belong to the string, 0 to 7.
     pub unused: u8,
 }

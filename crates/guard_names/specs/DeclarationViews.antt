@@ -16,4 +16,9 @@ origin_view (origin.Import from) = declared.imported_from from.now
 origin_view (origin.Assignment number exports) = declared.assigned_by number exports
 
 abbrev pub declaration_view : Declaration → declared.Declaration
-declaration_view d = record { scope = scope_view d.scope; name = d.name.now; site = d.site; origin = origin_view d.origin }
+declaration_view d = record {
+  scope = scope_view d.scope;
+  name = d.name.now;
+  site = d.site;
+  origin = origin_view d.origin;
+}

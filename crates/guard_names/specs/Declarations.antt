@@ -1,11 +1,12 @@
--- The names that modules declare (X.680 13.1): their own, those that they import, and those to which they assign a type or a value.
-use Rattle.std.specs.Prelude.{ℕ, ◌+◌, Bool, true, false, ◌&&◌, List, [], ◌∷◌, ◌++◌, map, length, Option, Some, None, option_map, bytes_eq, find, if◌then◌else◌}
+-- The names that modules declare (X.680 13.1): their own, those that they import, and those to which they assign a type
+-- or a value.
+use Rattle.std.specs.Prelude.{ℕ, ◌+◌, Bool, true, ◌&&◌, List, [], ◌∷◌, ◌++◌, map, length, Option, Some, None, option_map, bytes_eq, find, if◌then◌else◌}
 use Rattle.std.specs.List.{flat_map, list_any}
 use Rattle.std.specs.Option.{option_eq}
 use Rattle.guard_model.specs.declared.site.Site.{Site}
 use Rattle.guard_syntax.specs.Trees.{WrittenSymbol, WrittenExports, all_exported, exported, WrittenImport, WrittenAssignment, WrittenModule}
 
--- an assignment, and the module in which it stands
+-- an assignment, and its module
 pub record Definition : Type 0 where
   pub home : WrittenModule
   pub assignment : WrittenAssignment
@@ -45,7 +46,7 @@ listed_exports None = []
 listed_exports (Some all_exported) = []
 listed_exports (Some (exported symbols)) = symbols
 
--- the imports of a module, one for each module that is named behind FROM
+-- the imports of a module, one for each module that is named after FROM
 abbrev pub written_imports : Option (List WrittenImport) → List WrittenImport
 written_imports None = []
 written_imports (Some imports) = imports
@@ -55,7 +56,8 @@ module_declaration m = record { scope = None; name = m.name; site = m.site; orig
 
 -- those of names that are imported from one module
 abbrev pub symbol_declarations : List ℕ → List ℕ → List WrittenSymbol → List Declaration
-symbol_declarations home from symbols = map (λ s. record { scope = Some home; name = s.name; site = s.site; origin = imported_from from }) symbols
+symbol_declarations home from symbols =
+    map (λ s. record { scope = Some home; name = s.name; site = s.site; origin = imported_from from }) symbols
 
 abbrev pub import_declarations : List ℕ → WrittenImport → List Declaration
 import_declarations home i = symbol_declarations home i.module_name i.symbols
@@ -64,12 +66,18 @@ import_declarations home i = symbol_declarations home i.module_name i.symbols
 abbrev pub assigned_declarations : WrittenModule → ℕ → List WrittenAssignment → List Declaration
 assigned_declarations m number [] = []
 assigned_declarations m number (a ∷ rest) =
-    record { scope = Some m.name; name = a.name; site = a.site; origin = assigned_by number (lists_name m.exports a.name) } ∷ assigned_declarations m (number + 1) rest
+    record {
+      scope = Some m.name;
+      name = a.name;
+      site = a.site;
+      origin = assigned_by number (lists_name m.exports a.name);
+    } ∷ assigned_declarations m (number + 1) rest
 
 -- those of a module, in the order of its text
 abbrev pub module_declarations : ℕ → WrittenModule → List Declaration
 module_declarations number m =
-    module_declaration m ∷ (flat_map (import_declarations m.name) (written_imports m.imports) ++ assigned_declarations m number m.assignments)
+    module_declaration m ∷ (flat_map (import_declarations m.name) (written_imports m.imports)
+    ++ assigned_declarations m number m.assignments)
 
 abbrev pub declarations_from : ℕ → List WrittenModule → List Declaration
 declarations_from number [] = []
@@ -107,16 +115,17 @@ exported_number (Some of_module) = None
 exported_number (Some (imported_from home)) = None
 exported_number (Some (assigned_by number exports)) = if exports then Some number else None
 
--- the definition in which a name of this origin is assigned: in its own module, or in the one from which it is imported and that exports it
-abbrev pub number_behind : Origins → List ℕ → Option Origin → Option ℕ
-number_behind origins name None = None
-number_behind origins name (Some of_module) = None
-number_behind origins name (Some (imported_from home)) = exported_number (origins (Some home) name)
-number_behind origins name (Some (assigned_by number exports)) = Some number
+-- the definition in which a name of this origin is assigned: in its own module, or in the one from which it is imported
+-- and that exports it
+abbrev pub number_of_origin : Origins → List ℕ → Option Origin → Option ℕ
+number_of_origin origins name None = None
+number_of_origin origins name (Some of_module) = None
+number_of_origin origins name (Some (imported_from home)) = exported_number (origins (Some home) name)
+number_of_origin origins name (Some (assigned_by number exports)) = Some number
 
 -- which definition each name is the name of, in the module of a name
 abbrev pub Numbers : Type 0
 Numbers = List ℕ → List ℕ → Option ℕ
 
 abbrev pub definition_of : Origins → Numbers
-definition_of origins home name = number_behind origins name (origins (Some home) name)
+definition_of origins home name = number_of_origin origins name (origins (Some home) name)

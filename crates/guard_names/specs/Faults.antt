@@ -1,4 +1,4 @@
--- Why names mean nothing. Each fault is looked for in module and text order, and named at the first place where it stands.
+-- Why names mean nothing. Each fault is looked for in module and text order, and named at the first place where it is.
 use Rattle.std.specs.Prelude.{◌≡◌, ◌⊎◌, ℕ, Bool, true, false, not, ◌&&◌, List, [], ◌∷◌, ◌++◌, length, Option, Some, None, option_map, is_some, slice_get, nat_lt, if◌then◌else◌}
 use Rattle.std.specs.Option.{option_or}
 use Rattle.guard_model.specs.declared.site.Site.{Site}
@@ -32,12 +32,13 @@ too_many ms = nat_lt most_modules (length ms)
 -- N1: a name that is declared once more in the same module, or as the name of a module, where these are declared before
 abbrev pub duplicate_after : List Declaration → List Declaration → Option Site
 duplicate_after before [] = None
-duplicate_after before (d ∷ ds) = if is_some (origin_there before d.scope d.name) then Some d.site else duplicate_after (before ++ d ∷ []) ds
+duplicate_after before (d ∷ ds) =
+    if is_some (origin_there before d.scope d.name) then Some d.site else duplicate_after (before ++ d ∷ []) ds
 
 abbrev pub duplicate : List WrittenModule → Option Site
 duplicate ms = duplicate_after [] (declarations ms)
 
--- N3: a module behind FROM that isn't there
+-- N3: a module after FROM that isn't there
 abbrev pub is_missing : Origins → WrittenImport → Bool
 is_missing origins i = not (is_some (origins None i.module_name))
 
@@ -80,7 +81,8 @@ abbrev pub is_undefined_export : Origins → List ℕ → WrittenSymbol → Bool
 is_undefined_export origins home s = not (is_some (assigned_number (origins (Some home) s.name)))
 
 abbrev pub undefined_export_in : Origins → WrittenModule → Option Site
-undefined_export_in origins m = first_where (is_undefined_export origins m.name) (λ s. s.site) (listed_exports m.exports)
+undefined_export_in origins m =
+    first_where (is_undefined_export origins m.name) (λ s. s.site) (listed_exports m.exports)
 
 abbrev pub is_undefined_mention : Numbers → List ℕ → Mention → Bool
 is_undefined_mention numbers home x = is_type x.kind && not (is_some (numbers home x.name))
@@ -89,12 +91,15 @@ abbrev pub undefined_mention_in : Numbers → List ℕ → WrittenAssignment →
 undefined_mention_in numbers home a = first_where (is_undefined_mention numbers home) (λ x. x.site) (mentions a)
 
 abbrev pub undefined_in : Origins → Numbers → WrittenModule → Option Site
-undefined_in origins numbers m = option_or (undefined_export_in origins m) (first_found (undefined_mention_in numbers m.name) m.assignments)
+undefined_in origins numbers m =
+    option_or (undefined_export_in origins m) (first_found (undefined_mention_in numbers m.name) m.assignments)
 
 abbrev pub undefined : List WrittenModule → Option Site
-undefined ms = let origins = origin_there (declarations ms) in first_found (undefined_in origins (definition_of origins)) ms
+undefined ms =
+    let origins = origin_there (declarations ms) in
+    first_found (undefined_in origins (definition_of origins)) ms
 
--- the first of these that stands, in this order
+-- the first of these faults, in this order
 abbrev pub fault_of_names : List WrittenModule → Option NameFault
 fault_of_names ms =
     option_or (if too_many ms then Some TooManyModules else None)
@@ -106,7 +111,9 @@ fault_of_names ms =
 
 -- N6: the first definition that uses itself, directly or through others, is that of the name there
 abbrev pub IsRecursiveAt : List WrittenModule → Site → Type 0
-IsRecursiveAt ms site = (number : ℕ) × IsFirstRecursive (Uses ms) number × (d : Definition) × (slice_get (definitions ms) number ≡ Some d) × (site ≡ d.assignment.site)
+IsRecursiveAt ms site =
+    (number : ℕ) × IsFirstRecursive (Uses ms) number
+    × (d : Definition) × (slice_get (definitions ms) number ≡ Some d) × (site ≡ d.assignment.site)
 
 -- The names in these modules have no fault.
 pub record AreFaultless (ms : List WrittenModule) : Type 0 where
@@ -115,7 +122,9 @@ pub record AreFaultless (ms : List WrittenModule) : Type 0 where
 
 -- This is the first fault of the names in these modules.
 abbrev pub IsFirstFault : List WrittenModule → NameFault → Type 0
-IsFirstFault ms f = (fault_of_names ms ≡ Some f) ⊎ ((fault_of_names ms ≡ None) × (site : Site) × (f ≡ Recursive site) × IsRecursiveAt ms site)
+IsFirstFault ms f =
+    (fault_of_names ms ≡ Some f)
+    ⊎ ((fault_of_names ms ≡ None) × (site : Site) × (f ≡ Recursive site) × IsRecursiveAt ms site)
 
 -- a refusal names a fault, unless memory ran out
 abbrev pub named : NameFault → Option NameFault

@@ -7,7 +7,9 @@ use Rattle.guard_names.specs.Declarations.{Definition, definitions, Origin, impo
 
 -- in the module of this name the name is declared so
 abbrev pub IsDeclared : List WrittenModule → List ℕ → List ℕ → Origin → Type 0
-IsDeclared ms home name origin = (site : Site) × Contains (declarations ms) (record { scope = Some home; name = name; site = site; origin = origin })
+IsDeclared ms home name origin =
+    (site : Site)
+    × Contains (declarations ms) (record { scope = Some home; name = name; site = site; origin = origin })
 
 -- the name is assigned there, in the definition of this number
 abbrev pub IsAssigned : List WrittenModule → List ℕ → List ℕ → ℕ → Type 0
@@ -15,7 +17,8 @@ IsAssigned ms home name number = (exports : Bool) × IsDeclared ms home name (as
 
 -- it is imported from a module that assigns it, in the definition of this number, and exports it
 abbrev pub IsImported : List WrittenModule → List ℕ → List ℕ → ℕ → Type 0
-IsImported ms home name number = (from : List ℕ) × IsDeclared ms home name (imported_from from) × IsDeclared ms from name (assigned_by number true)
+IsImported ms home name number =
+    (from : List ℕ) × IsDeclared ms home name (imported_from from) × IsDeclared ms from name (assigned_by number true)
 
 -- In the module of this name the name means the definition of this number.
 abbrev pub Means : List WrittenModule → List ℕ → List ℕ → ℕ → Type 0
@@ -28,4 +31,5 @@ number_meant ms = definition_of (origin_there (declarations ms))
 -- The definition of the first number uses that of the second one: it mentions a name that means it in its module.
 abbrev pub Uses : List WrittenModule → ℕ → ℕ → Type 0
 Uses ms number used =
-    (d : Definition) × (slice_get (definitions ms) number ≡ Some d) × (m : Mention) × Contains (mentions d.assignment) m × Means ms d.home.name m.name used
+    (d : Definition) × (slice_get (definitions ms) number ≡ Some d)
+    × (m : Mention) × Contains (mentions d.assignment) m × Means ms d.home.name m.name used

@@ -1,5 +1,5 @@
--- The names that an assignment mentions, in the order of its text: names of types, and names that stand as values. Names of components,
--- alternatives, items, numbers and arcs declare or select something of a type, and mention nothing.
+-- The names that an assignment mentions, in the order of its text: names of types, and names that are values. Names of
+-- components, alternatives, items, numbers and arcs declare or select something of a type, and mention nothing.
 use Rattle.std.specs.Prelude.{ℕ, List, [], ◌∷◌, ◌++◌, Option, Some, None}
 use Rattle.std.specs.List.{flat_map}
 use Rattle.guard_model.specs.declared.site.Site.{Site}
@@ -19,7 +19,7 @@ type_name site name = record { site = site; kind = symbol.Type; name = name } �
 abbrev pub value_name : Site → List ℕ → List Mention
 value_name site name = record { site = site; kind = symbol.Value; name = name } ∷ []
 
--- ---- values: a name that stands alone is that of a value (X.680 14.1), perhaps behind the name of an alternative or a component
+-- ---- values: a name alone is that of a value (X.680 14.1), perhaps after the name of an alternative or a component
 
 abbrev mutual
   pub in_value : WrittenValue → List Mention
@@ -138,7 +138,7 @@ abbrev pub in_component : WrittenComponentForm → List Mention
 in_component (named name t presence) = in_type t ++ in_presence presence
 in_component (components_of_type t) = in_type t
 
--- ---- assignments: the type, and behind it the value
+-- ---- assignments: the type, and then the value
 
 abbrev pub in_perhaps_value : Option WrittenValue → List Mention
 in_perhaps_value None = []

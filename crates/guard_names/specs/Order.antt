@@ -1,5 +1,5 @@
--- The order in which definitions stand behind all that they use, where there is one. They are named by their numbers; `uses` says which
--- uses which, and there are `count` of them.
+-- The order in which each definition comes after all that it uses, where there is one. Definitions are named by their
+-- numbers; `uses` says which uses which, and there are `count` of them.
 use Rattle.std.specs.Prelude.{◌≡◌, ℕ, ◌<◌, Bool, false, List, [], ◌∷◌, ◌++◌, IsTrue, nat_eq}
 use Rattle.std.specs.List.{list_any}
 
@@ -18,7 +18,7 @@ module _ (count : ℕ) (uses : ℕ → ℕ → Type 0) where
     pub ready : IsReady listed number
     pub first : (other : ℕ) → other < number → ¬ IsReady listed other
 
-  -- each of these is the next one behind those listed before it
+  -- each of these is the next one after those listed before it
   abbrev pub Follow : List ℕ → List ℕ → Type 0
   Follow listed [] = Unit {0}
   Follow listed (number ∷ rest) = IsNext listed number × Follow (listed ++ number ∷ []) rest

@@ -1,10 +1,10 @@
--- Where the definitions that names mean stand in an order of definitions, and what is known of them there.
+-- The places in an order of definitions of those that names mean, and what is known of them there.
 use Rattle.std.specs.Prelude.{ℕ, suc, List, [], ◌∷◌, Option, Some, None, option_map, slice_get, nat_eq, if◌then◌else◌}
 use Rattle.std.specs.Option.{option_and_then}
 use Rattle.guard_syntax.specs.Trees.{WrittenModule}
 use Rattle.guard_names.specs.Meanings.{number_meant}
 
--- the first place at which the number stands
+-- the first place of the number
 abbrev pub place_in : List ℕ → ℕ → Option ℕ
 place_in [] number = None
 place_in (n ∷ ns) number = if nat_eq number n then Some 0 else option_map suc (place_in ns number)

@@ -72,7 +72,7 @@ fn add_module<'a>(
     add_assigned(alloc, tree, first, into)
 }
 
-/// The imports of a module, one for each module that is named behind FROM.
+/// The imports of a module, one for each module that is named after FROM.
 pub fn written_imports<'m, 'a>(tree: &'m Module<'a>) -> &'m [ImportTree<'a>]
     ensures { map import_view result.now ≡ declared.written_imports (module_view tree.now).imports }
 {

@@ -12,10 +12,11 @@ pub enum NameFault {
     /// The name here is declared before: in this module, or as the name of another one.
     #[error("N1 Duplicate {0}")]
     Duplicate(Site),
-    /// The name of a type here is neither assigned nor imported in its module, or the name here is exported and isn't assigned.
+    /// The name of a type here is neither assigned nor imported in its module, or the name here is exported and isn't
+    /// assigned.
     #[error("N2 Undefined {0}")]
     Undefined(Site),
-    /// There is no module of the name here, behind FROM.
+    /// There is no module of the name here, which is after FROM.
     #[error("N3 NoModule {0}")]
     NoModule(Site),
     /// The name here is imported from a module that doesn't export it.

@@ -232,7 +232,7 @@ fn add_element<'a>(element: &ElementTree<'a>, into: &mut Vec<Mention<'a>>) -> Re
 }
 
 #[cycle(sets)]
-#[tactic(auto, using(crate::proofs::Fronts::in_parts_before))]
+#[tactic(auto, using(crate::proofs::Mentioned::Fronts::in_parts_before))]
 fn add_parts<'a>(
     parts: &[ComponentConsTree<'a>],
     into: &mut Vec<Mention<'a>>,

@@ -23,7 +23,7 @@ pub struct Names<'m, 'a> {
     modules: &'m [Module<'a>],
     meanings: Meanings<'a>,
     order: Vec<Id>,
-    /// Where each definition stands in the order, by definitions.
+    /// The place of each definition in the order, by definitions.
     places: Vec<usize>,
     pub ghost faultless: { is_some (fault_of_names (map module_view modules.now)) ≡ false },
     pub ghost meant: { (home name : List ℕ) → meaning_in meanings home name ≡ number_meant (map module_view modules.now) home name } by { Prim.hlevel props },
@@ -35,7 +35,8 @@ pub struct Names<'m, 'a> {
 impl<'m, 'a> Names<'m, 'a> {
     ghost use Rattle.guard_names.specs.NamesView.{modules_of, order_of};
 
-    /// The names in modules without faults, of which this is known: what they mean, and which definitions each definition uses.
+    /// The names in modules without faults, of which this is known: what they mean, and which definitions each
+    /// definition uses.
     pub(crate) fn of(
         alloc: Global,
         modules: &'m [Module<'a>],
@@ -58,8 +59,8 @@ impl<'m, 'a> Names<'m, 'a> {
         })
     }
 
-    /// The definition that a name means in the module of a name (X.680 13.1): one that is assigned there, or in a module from which the
-    /// name is imported and that exports it.
+    /// The definition that a name means in the module of a name (X.680 13.1): one that is assigned there, or in a
+    /// module from which the name is imported and that exports it.
     pub fn find(&self, module_name: &str, name: &str) -> Option<Id>
         ensures meant { (number : ℕ) → (result ≡ Some number) ↔ Means (modules_of self.now) module_name.now name.now number }
         ensures home { IfSome result (λ id. (d : Definition) × (slice_get (definitions (modules_of self.now)) id ≡ Some d) × (d.assignment.name ≡ name.now)) }
@@ -67,7 +68,7 @@ impl<'m, 'a> Names<'m, 'a> {
         self.meanings.find(module_name.as_bytes(), name.as_bytes())
     }
 
-    /// The same of names as they stand in trees, which are octets.
+    /// The same of names as they are in trees, which are octets.
     pub fn meaning(&self, module_name: &[u8], name: &[u8]) -> Option<Id>
         ensures meant { (number : ℕ) → (result ≡ Some number) ↔ Means (modules_of self.now) module_name.now name.now number }
         ensures computed { result ≡ number_meant (modules_of self.now) module_name.now name.now }
@@ -75,8 +76,8 @@ impl<'m, 'a> Names<'m, 'a> {
         self.meanings.find(module_name, name)
     }
 
-    /// All definitions, each behind those that it uses: again and again the first one in module and text order of those that may
-    /// stand next.
+    /// All definitions, each after those that it uses: again and again the first one in module and text order of those
+    /// that may be next.
     pub fn order(&self) -> &[Id]
         ensures same { result.now ≡ order_of self.now }
         ensures ordered { IsOrder (length (definitions (modules_of self.now))) (Uses (modules_of self.now)) result.now }
@@ -117,7 +118,7 @@ pub fn home_of<'m, 'a>(
     None
 }
 
-/// Where each of the numbers below this one stands in a list of them.
+/// The place of each of the numbers below this one in a list of them.
 fn places(alloc: Global, order: &[Id], count: usize) -> Result<Vec<usize>, AllocError>
     requires { (number : ℕ) → IsTrue (is_listed order.now number) → number < count }
     ensures size { IfOk result (λ v. length v.items ≡ count) }

@@ -1,4 +1,4 @@
-//! The order in which definitions stand behind all that they use.
+//! The order in which each definition comes after all that it uses.
 ghost use Rattle.std.specs.Prelude.{◌≡◌, ℕ, ◌+◌, ◌<◌, ◌≤◌, ◌++◌, ◌∷◌, [], false, true, length, map, slice_index_or, replicate, IfOk, OnOk, IfSome, IfNone, IsTrue};
 ghost use Rattle.std.specs.Bool.{OnTrue, OnFalse};
 ghost use Rattle.std.specs.List.{All};
@@ -6,7 +6,7 @@ ghost use Rattle.std.specs.BinaryHeap.{IsHeap, heap_items};
 ghost use Rattle.std.specs.Ordering.{nat_cmp};
 ghost use Rattle.std.proofs.Props.{props};
 ghost use Rattle.guard_names.specs.Order.{IsOrder, IsRecursive, is_listed};
-ghost use Rattle.guard_names.specs.inside.Queues.{AreInside, UsesIn, IsReleased, Stands, once_at, times_waiting};
+ghost use Rattle.guard_names.specs.inside.Queues.{AreInside, UsesIn, IsReleased, ArePlaced, once_at, times_waiting};
 
 use crate::declarations::Id;
 use std::alloc::{AllocError, Global};
@@ -47,7 +47,7 @@ pub fn order(alloc: Global, uses: &[Vec<Id>]) -> Result<Vec<Id>, AllocError>
 }
 
 impl Queue {
-    ghost use Rattle.guard_names.specs.inside.QueueViews.{IsQueue, IsSized, StandsIn, left_in, times_ready};
+    ghost use Rattle.guard_names.specs.inside.QueueViews.{IsQueue, IsSized, ArePlacedIn, left_in, times_ready};
 
     /// Nothing is listed yet.
     fn new(alloc: Global, uses: &[Vec<Id>]) -> Result<Queue, AllocError>
@@ -86,11 +86,11 @@ impl Queue {
     fn list(&mut self, alloc: Global, uses: &[Vec<Id>], next: Id) -> Result<(), AllocError>
         requires inside { AreInside (map (λ v. v.items) uses.now) }
         requires next { next < length uses.now }
-        requires stands { StandsIn (map (λ v. v.items) uses.now) self.old (once_at next) }
+        requires placed { ArePlacedIn (map (λ v. v.items) uses.now) self.old (once_at next) }
         requires sized { IsSized (map (λ v. v.items) uses.now) self.old }
         ensures order { OnOk result (self.new.order.items ≡ self.old.order.items ++ next ∷ []) }
         ensures sized { OnOk result (IsSized (map (λ v. v.items) uses.now) self.new) }
-        ensures stands { OnOk result (StandsIn (map (λ v. v.items) uses.now) self.new (λ _. 0)) }
+        ensures placed { OnOk result (ArePlacedIn (map (λ v. v.items) uses.now) self.new (λ _. 0)) }
         ensures left { OnOk result (left_in self.new ≡ left_in self.old) }
     {
         self.order.push(next)?;
@@ -104,10 +104,10 @@ impl Queue {
         requires inside { AreInside (map (λ v. v.items) uses.now) }
         requires released { All (IsReleased (map (λ v. v.items) uses.now) self.old.order.items) released.now }
         requires sized { IsSized (map (λ v. v.items) uses.now) self.old }
-        requires stands { StandsIn (map (λ v. v.items) uses.now) self.old (times_waiting released.now) }
+        requires placed { ArePlacedIn (map (λ v. v.items) uses.now) self.old (times_waiting released.now) }
         ensures order { OnOk result (self.new.order.items ≡ self.old.order.items) }
         ensures sized { OnOk result (IsSized (map (λ v. v.items) uses.now) self.new) }
-        ensures stands { OnOk result (StandsIn (map (λ v. v.items) uses.now) self.new (λ _. 0)) }
+        ensures placed { OnOk result (ArePlacedIn (map (λ v. v.items) uses.now) self.new (λ _. 0)) }
         ensures left { OnOk result (left_in self.new ≡ left_in self.old + length released.now) }
     {
         for waiting in released {
@@ -123,7 +123,7 @@ impl Queue {
         requires sized { IsSized (map (λ v. v.items) uses.now) self.old }
         ensures order { OnOk result (self.new.order.items ≡ self.old.order.items) }
         ensures sized { OnOk result (IsSized (map (λ v. v.items) uses.now) self.new) }
-        ensures stands { OnOk result ((underway : ℕ → ℕ) → IsReleased (map (λ v. v.items) uses.now) self.old.order.items waiting → StandsIn (map (λ v. v.items) uses.now) self.old (λ k. once_at waiting.number k + underway k) → StandsIn (map (λ v. v.items) uses.now) self.new underway) }
+        ensures placed { OnOk result ((underway : ℕ → ℕ) → IsReleased (map (λ v. v.items) uses.now) self.old.order.items waiting → ArePlacedIn (map (λ v. v.items) uses.now) self.old (λ k. once_at waiting.number k + underway k) → ArePlacedIn (map (λ v. v.items) uses.now) self.new underway) }
         ensures left { OnOk result (left_in self.new ≡ left_in self.old + 1) }
     {
         let used = &uses[waiting.number];

@@ -22,7 +22,8 @@ pub enum Mark {
     Done,
 }
 
-/// A part of the path, from a place up to the next part. Chains of uses lead from each of its definitions to the first one.
+/// A part of the path, from a place up to the next part. Chains of uses lead from each of its definitions to the first
+/// one.
 #[derive(Clone, Copy)]
 pub struct Part {
     pub start: usize,
@@ -197,7 +198,7 @@ fn add_pending(place: usize, uses: &[Id], into: &mut Vec<Pending>) -> Result<(),
     Ok(())
 }
 
-/// Makes one part of the one with this place and those behind it, since a chain of uses leads back to the place.
+/// Makes one part of the one with this place and those after it, since a chain of uses leads back to the place.
 fn join(parts: &mut Vec<Part>, place: usize)
     requires { StartsFirst parts.old.items (place + 1) }
     ensures { Joins parts.old.items place parts.new.items }

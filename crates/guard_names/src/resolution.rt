@@ -27,11 +27,11 @@ use std::alloc::Global;
 /// How many modules there may be.
 pub const MOST_MODULES: usize = 64;
 
-/// What the names in these modules mean, or the first fault of names in this order, each in module and text order: more than 64
-/// modules (`TooManyModules`), a name that is declared twice (`Duplicate`), an import from a module that isn't there (`NoModule`), of a
-/// name that isn't assigned there (`ImportNotDefined`) or isn't exported (`NotExported`), a name that is exported and not assigned or
-/// the name of a type that means nothing (`Undefined`), a definition that uses itself (`Recursive`). OutOfMemory may stand in place
-/// of any answer.
+/// What the names in these modules mean, or the first fault of names in this order, each in module and text order: more
+/// than 64 modules (`TooManyModules`), a name that is declared twice (`Duplicate`), an import from a module that isn't
+/// there (`NoModule`), of a name that isn't assigned there (`ImportNotDefined`) or isn't exported (`NotExported`), a
+/// name that is exported and not assigned or the name of a type that means nothing (`Undefined`), a definition that
+/// uses itself (`Recursive`). OutOfMemory may be answered instead of anything else.
 pub fn resolve<'m, 'a>(alloc: Global, modules: &'m [Module<'a>]) -> Result<Names<'m, 'a>, NameFault>
     ensures faultless { IfOk result (λ _. AreFaultless (map module_view modules.now)) }
     ensures modules { IfOk result (λ names. modules_of names ≡ map module_view modules.now) }

@@ -77,8 +77,8 @@ impl<'a> Table<'a> {
         }
     }
 
-    /// The definition of a name in the module of this name: one that is assigned there, or in the module from which the name is
-    /// imported and that exports it.
+    /// The definition of a name in the module of this name: one that is assigned there, or in the module from which the
+    /// name is imported and that exports it.
     pub fn definition(&self, home: &[u8], name: &[u8]) -> Option<Id>
         ensures { result ≡ definition_of (origin_in self.now) home.now name.now }
     {

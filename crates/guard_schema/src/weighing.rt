@@ -1,5 +1,6 @@
 //! What a definition weighs, by its tree and the weights of the definitions that it names.
 use crate::weight::{Load, Weight};
+use guard_lexer::magnitude;
 use guard_names::{Id, Names};
 use guard_syntax::{
     AlternativeTree, BaseTree, CompForm, CompTree, ComponentConsTree, ConsTree, DifferenceTree,
@@ -29,7 +30,7 @@ const PART: u64 = 32;
 const CHARACTERS: u64 = 8;
 
 /// The greatest number of a named bit. A value holds all bits before it.
-const GREATEST_BIT: u64 = 65_535;
+const GREATEST_BIT: u128 = 65_535;
 
 /// Where something is written.
 #[derive(Clone, Copy)]
@@ -181,17 +182,12 @@ fn greatest_bit(named: &[NamedTree]) -> u64 {
     greatest
 }
 
-/// The number of digits, and none above that of the greatest bit.
+/// The number of a named bit. One above the greatest is a fault later.
 fn bit_number(digits: &[u8]) -> u64 {
-    let mut number = 0u64;
-    for digit in digits {
-        let last = u64::from(digit.saturating_sub(b'0'));
-        number = number
-            .saturating_mul(10)
-            .saturating_add(last)
-            .min(GREATEST_BIT);
+    match magnitude(digits) {
+        Some(number) => number.min(GREATEST_BIT) as u64,
+        None => GREATEST_BIT as u64,
     }
-    number
 }
 
 /// Braces have a place for each component, or its default.

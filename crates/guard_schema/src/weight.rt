@@ -11,10 +11,11 @@ use guard_names::{Id, Names};
 use guard_syntax::Module;
 use std::alloc::{AllocError, Global};
 
-/// What may be copied, besides so much for each octet of the texts.
-const COPIED_ALWAYS: u64 = 16_777_216;
+/// What may be copied: always so much, and so much more for each octet of the texts. In the first is room for contained
+/// types that double up to 100,000, so that they have their own fault (S3).
+const COPIED_ALWAYS: u64 = 25_165_824;
 
-const COPIED_PER_OCTET: u64 = 24;
+const COPIED_PER_OCTET: u64 = 16;
 
 /// What may be looked through: the named numbers among which a name is looked for, the types that are compared, and the
 /// constraints of which each part of a value is to be a member.

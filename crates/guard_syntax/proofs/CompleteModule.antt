@@ -168,7 +168,7 @@ default_complete (Some tag_default.Explicit) ls ss = refl
 default_complete (Some tag_default.Implicit) ls ss = refl
 default_complete (Some tag_default.Automatic) ls ss = refl
 
--- what stands before the exports
+-- what comes before the exports
 head_complete : (name : List ℕ) (id : List WrittenIdentifierPart) (d : Option TagDefault) (ls : List Lexeme) (ss : List Site) → let behind_id = sited_identifier id (past ss) in let h : WrittenHead = record { name = name; identifier = behind_id.0; tag_default = d } in
     read_head (place (upper_name name ∷ identifier_then id (word Definitions ∷ perhaps_then tag_default_then d (mark Assignment ∷ word Begin ∷ ls))) ss) ≡ Ok (h, place ls (past (past (past_tag_default d (past behind_id.1)))))
 unfolding read_head read_spelling read_token
@@ -176,7 +176,7 @@ head_complete name id d ls ss =
     let more = perhaps_then tag_default_then d (mark Assignment ∷ word Begin ∷ ls) in
     rw (identifier_complete id (word Definitions ∷ more) (past ss) (λ ts. refl), default_complete d (word Begin ∷ ls) (past (sited_identifier id (past ss)).1)) refl
 
--- A module of the grammar is read from its tokens, wherever they stand.
+-- A module of the grammar is read from its tokens, whatever their sites.
 pub module_complete : (m : WrittenModule) (ss : List Site) → IsModule m → read_module (place (tokens_of m) ss) ≡ Ok (sited m ss)
 unfolding read_module read_token read_end assignments_then
 module_complete m ss h =

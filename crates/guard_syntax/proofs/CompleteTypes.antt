@@ -29,7 +29,7 @@ use Rattle.guard_syntax.proofs.CompleteLists.{place, Complete, Whatever, NotBefo
 use Rattle.guard_syntax.proofs.CompleteValues.{AfterValue, value_complete}
 use Rattle.guard_syntax.proofs.CompleteSets.{AfterSet, constraints_complete, set_complete}
 
--- the tokens behind do not lengthen a type
+-- the tokens after a type do not lengthen it
 pub record AfterType (ls : List Lexeme) : Type 0 where
   pub not_constraint : NotBefore (Mark LeftParenthesis) ls
   pub not_brace : NotBefore (Mark LeftBrace) ls
@@ -332,7 +332,7 @@ module _ (levels : ℕ) {values : Reader WrittenValue} {sets : Reader WrittenSet
   base_complete (of_type collection.Set c ty) ls ss h after = of_complete collection.Set c ty ls ss h.0 h.1 after
   base_complete (named_type site name) ls ss h after = refl
 
-  -- ---- the constraints behind a base
+  -- ---- the constraints after a base
 
   constraint_goes : (c : WrittenConstraint) (ls : List Lexeme) (ss : List Site) → begins_constraint (place (constraint_then c ls) ss) ≡ true
   constraint_goes (constraint s i) ls ss = refl

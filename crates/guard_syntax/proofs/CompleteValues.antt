@@ -19,7 +19,7 @@ use Rattle.guard_syntax.proofs.SoundLists.{arc_sound}
 use Rattle.guard_syntax.proofs.SoundValues.{entry_then, sited_entry, IsEntry, entries_print, entries_sited, entry_sound, form_sound, value_sound}
 use Rattle.guard_syntax.proofs.CompleteLists.{place, Complete, NotBefore, number_complete, arc_complete, site_first, each_complete, parted_complete}
 
--- the token behind does not lengthen a value
+-- the token after a value does not lengthen it
 abbrev pub AfterValue : List Lexeme → Type 0
 AfterValue ls = NotBefore (Mark Colon) ls
 
@@ -122,7 +122,7 @@ entries_each : (levels : ℕ) (es : WrittenEntries) → AreEntries levels es →
 entries_each levels no_entries h = tt
 entries_each levels (entry site name v others) h = (h.0, entries_each levels others h.1)
 
--- what stands behind a value in a list does not make it arcs
+-- what follows a value in a list does not make it arcs
 no_arcs_behind : (others : WrittenEntries) (ls : List Lexeme) (ss : List Site) → (begins_with Number (place (entries_comma others (entries_then others (mark RightBrace ∷ ls))) ss) ≡ false) × (begins_with LowerName (place (entries_comma others (entries_then others (mark RightBrace ∷ ls))) ss) ≡ false) × (begins_with (Mark LeftParenthesis) (place (entries_comma others (entries_then others (mark RightBrace ∷ ls))) ss) ≡ false)
 no_arcs_behind no_entries ls ss = (refl, refl, refl)
 no_arcs_behind (entry site name v others) ls ss = (refl, refl, refl)
@@ -149,7 +149,7 @@ entries_no_arcs no_entries ls ss = refl
 entries_no_arcs (entry site None v others) ls ss = value_no_arcs v (entries_comma others (entries_then others (mark RightBrace ∷ ls))) ss (no_arcs_behind others ls)
 entries_no_arcs (entry site (Some name) v others) ls ss = value_not LeftParenthesis (refl, refl) v (entries_comma others (entries_then others (mark RightBrace ∷ ls))) (past ss)
 
--- where a value stands one may stand
+-- where a value is, one is allowed
 may_stand : (levels : ℕ) (v : WrittenValue) → IsValue levels v → (levels == 0) ≡ false
 may_stand zero (value_node site f) h = absurd h
 may_stand (suc levels) v h = grind (arith, nat_tests)

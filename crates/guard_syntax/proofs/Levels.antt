@@ -1,4 +1,4 @@
--- A set and a type where one may stand.
+-- A set and a type where one is allowed.
 use Rattle.std.proofs.Common.{◌≡◌, ℕ, suc, ◌-◌, List, ap, arith}
 use Rattle.guard_syntax.specs.inside.ReadTokens.{Placed}
 use Rattle.guard_syntax.specs.inside.ReadValues.{read_value}

@@ -17,7 +17,7 @@ regroup {A} earlier a (Ok x) = ap (λ (all : List A). Ok (all, x.1)) (simp appen
 regroup earlier a (Err failure) = refl
 
 module _ {A : Type 0} (read : Reader A) (earlier : List A) (count i : ℕ) (ps : List Placed) (total : Result (List A × List Placed) Failure) where
-  -- parted by commas
+  -- separated by commas
   module _ (lt : i < count) (so_far : with_earlier earlier (read_parted read (count - i) ps) ≡ total) where
     next : count - i ≡ suc (count - (i + 1))
     next = omega arith

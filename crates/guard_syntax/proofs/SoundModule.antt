@@ -94,7 +94,7 @@ symbol_sound ps =
     if_holds (begins_with UpperName ps) _ _ (λ h. then_holds _ (took_spelled UpperName ps) (λ a t. ok_holds _ (record { lexemes_are = t.lexemes_are; sites_are = rw t.sites_are refl; shorter = omega (arith, t.shorter); lawful = tt }))) (λ h.
     then_holds _ (took_spelled LowerName ps) (λ a t. ok_holds _ (record { lexemes_are = t.lexemes_are; sites_are = rw t.sites_are refl; shorter = omega (arith, t.shorter); lawful = tt })))
 
--- behind the word EXPORTS
+-- after the word EXPORTS
 record ExportedRead (ps : List Placed) (x : WrittenExports) (rest : List Placed) : Type 0 where
   pub lexemes_are : word Exports ∷ lexemes ps ≡ exports_then x (lexemes rest)
   pub sites_are : (ss : List Site) → past ss ≡ sites ps → sited_exports x ss ≡ (x, sites rest)

@@ -264,7 +264,7 @@ module _ (levels : ℕ) {values : Reader WrittenValue} {sets : Reader WrittenSet
         lawful = c.lawful;
       })))
 
-  -- behind the words WITH COMPONENTS
+  -- after the words WITH COMPONENTS
   record ComponentsRead (ps : List Placed) (form : WrittenElementForm) (rest : List Placed) : Type 0 where
     pub lexemes_are : word With ∷ word Components ∷ lexemes ps ≡ element_form_then form (lexemes rest)
     pub sites_are : (ss : List Site) → past (past ss) ≡ sites ps → sited_element_form form ss ≡ (form, sites rest)

@@ -42,7 +42,7 @@ if_holds false x y h k = k refl
 pub so_holds : {A : Type 0} {P Q : A → Type 0} {r : Result A Failure} → Holds r P → ((a : A) → P a → Q a) → Holds r Q
 so_holds h k = record { when = λ a e. k a (h.when a e) }
 
--- one token, and what is behind it
+-- one token, and what is after it
 pub record Took (ps : List Placed) (l : Lexeme) (rest : List Placed) : Type 0 where
   pub lexemes_are : lexemes ps ≡ l ∷ lexemes rest
   pub sites_are : past (sites ps) ≡ sites rest

@@ -197,7 +197,7 @@ unfolding PlainAt
 plain_or_name_sound levels None ps h = then_holds _ (took_spelled UpperName ps) (λ a name. ok_holds _ (record { lexemes_are = name.lexemes_are; sites_are = rw name.sites_are refl; shorter = omega (arith, name.shorter); lawful = tt }))
 plain_or_name_sound levels (Some p) ps h = ok_holds _ (record { lexemes_are = h.lexemes_are; sites_are = rw h.sites_are refl; shorter = h.shorter; lawful = tt })
 
--- behind ENUMERATED
+-- after ENUMERATED
 abbrev items_then : List WrittenItem → List Lexeme → List Lexeme
 items_then all rest = mark LeftBrace ∷ parted_then item_then all (mark RightBrace ∷ rest)
 
@@ -343,7 +343,7 @@ some_alternatives : (levels : ℕ) (all : List WrittenAlternative) → AreSome (
 some_alternatives levels [] h = absurd h
 some_alternatives levels (a ∷ all) h = (tt, (h.0, alternatives_lawful levels all h.1))
 
--- ---- constraints behind a type
+-- ---- constraints after a type
 
 may_have_none : (levels : ℕ) (b : WrittenBase) → MayConstrain levels b []
 may_have_none levels (plain p) = tt
@@ -365,14 +365,14 @@ may_have_each levels (choice all) cs e h = h
 may_have_each levels (of_type k c ty) cs e h = absurd cc
 may_have_each levels (named_type site name) cs e h = h
 
--- what stands behind the type of a component
+-- what follows the type of a component
 record PresenceRead (levels : ℕ) (ps : List Placed) (p : WrittenPresence) (rest : List Placed) : Type 0 where
   pub lexemes_are : lexemes ps ≡ presence_then p (lexemes rest)
   pub sites_are : sited_presence p (sites ps) ≡ (p, sites rest)
   pub shorter : length rest ≤ length ps
   pub lawful : IsPresence levels p
 
--- behind the word SEQUENCE, SET or CHOICE
+-- after the word SEQUENCE, SET or CHOICE
 record BehindRead (levels : ℕ) (w : ReservedWord) (ps : List Placed) (b : WrittenBase) (rest : List Placed) : Type 0 where
   pub lexemes_are : word w ∷ lexemes ps ≡ base_then b (lexemes rest)
   pub sites_are : (ss : List Site) → past ss ≡ sites ps → sited_base b ss ≡ (b, sites rest)
@@ -507,7 +507,7 @@ module _ (levels : ℕ) {values : Reader WrittenValue} {sets : Reader WrittenSet
       if_holds (begins_with (Reserved Choice) ps) _ _ (λ h. so_holds (choice_sound (behind ps)) (λ a i. behind_word levels Choice ps a.0 a.1 (took (Reserved Choice) ps h) i)) (λ h.
       simple_sound levels ps)))
 
-  -- the constraints behind a base
+  -- the constraints after a base
   record ConstraintsRead (b : WrittenBase) (ps : List Placed) (cs : List WrittenConstraint) (rest : List Placed) : Type 0 where
     pub lexemes_are : lexemes ps ≡ each_then constraint_then cs (lexemes rest)
     pub sites_are : sited_each sited_constraint cs (sites ps) ≡ (cs, sites rest)

@@ -17,9 +17,12 @@ is_extension kind = same_kind kind (Mark Ellipsis) || same_kind kind (Mark Excla
 
 -- the tokens of forms that are left out
 abbrev pub is_left_out : TokenKind → Bool
-is_left_out kind = same_kind kind Unsupported || is_extension kind || same_kind kind (Mark LeftVersionBrackets) || same_kind kind (Mark RightVersionBrackets) || same_kind kind (Mark CommercialAt) || same_kind kind (Mark FullStop)
+is_left_out kind =
+    same_kind kind Unsupported || is_extension kind || same_kind kind (Mark LeftVersionBrackets)
+    || same_kind kind (Mark RightVersionBrackets) || same_kind kind (Mark CommercialAt)
+    || same_kind kind (Mark FullStop)
 
--- some token of a form that is left out stands there, and is spelled so
+-- the token is one of these, belongs to a form that is left out, and is spelled so
 pub record IsLeftOut (text : List ℕ) (tokens : List Token) (spelling : List ℕ) (token : Token) : Type 0 where
   pub stands : Contains tokens token
   pub left_out : is_left_out token.kind ≡ true
@@ -31,20 +34,23 @@ is_line_feed octet = octet == 10
 abbrev pub is_no_line_feed : ℕ → Bool
 is_no_line_feed octet = not (octet == 10)
 
--- the site behind the last octet of a text; lines and columns are counted from 1, and a line feed ends a line
+-- the site after the last octet of a text; lines and columns are counted from 1, and a line feed ends a line
 abbrev pub end_site : ℕ → List ℕ → Site
-end_site place text = record { text = place; line = 1 + count_by is_line_feed text; column = 1 + suffix_len is_no_line_feed text }
+end_site place text =
+    record { text = place; line = 1 + count_by is_line_feed text; column = 1 + suffix_len is_no_line_feed text }
 
--- some token stands there
+-- the token is one of these, and its site is this one
 pub record IsAtToken (tokens : List Token) (site : Site) (token : Token) : Type 0 where
   pub stands : Contains tokens token
   pub at : site ≡ token.site
 
--- P1 is at a token or where the text ends (a text of less than 2 ^ 32 octets), P2 names a token of a form that is left out, and
--- P3 is at a token.
+-- P1 is at a token or where the text ends (a text of less than 2 ^ 32 octets), P2 names a token of a form that is left
+-- out, and P3 is at a token.
 abbrev pub NamesToken : ℕ → List ℕ → List Token → SyntaxFault → Type 0
-NamesToken place text tokens (fault.Unexpected site) = ((token : Token) × IsAtToken tokens site token) ⊎ (length text + 1 < 2 ^ 32 → site ≡ end_site place text)
-NamesToken place text tokens (fault.Unsupported spelling site) = (token : Token) × IsLeftOut text tokens spelling.octets.items token × (site ≡ token.site)
+NamesToken place text tokens (fault.Unexpected site) =
+    ((token : Token) × IsAtToken tokens site token) ⊎ (length text + 1 < 2 ^ 32 → site ≡ end_site place text)
+NamesToken place text tokens (fault.Unsupported spelling site) =
+    (token : Token) × IsLeftOut text tokens spelling.octets.items token × (site ≡ token.site)
 NamesToken place text tokens (fault.TooDeep site) = (token : Token) × IsAtToken tokens site token
 NamesToken place text tokens fault.OutOfMemory = Unit {0}
 

@@ -1,4 +1,4 @@
--- What the grammar allows, of all trees. `levels` says how many types, values and sets may stand one in the other.
+-- What the grammar allows, of all trees. `levels` says how deep types, values and sets may be nested.
 use Rattle.std.specs.Prelude.{◌≡◌, ◌≢◌, ℕ, zero, suc, Bool, true, false, List, [], ◌∷◌, Option, Some, None}
 use Rattle.guard_syntax.specs.Trees.{WrittenNumber, WrittenArc, WrittenValue, value_node, WrittenValueForm, boolean, null, integer, text, reference, chosen, list, arcs, WrittenEntries, no_entries, entry, WrittenEndForm, end_integer, end_reference, end_characters, WrittenEnd, WrittenRange, WrittenSet, set_node, WrittenSetForm, all_except, union, WrittenUnited, none_united, united, WrittenIntersection, intersection, WrittenMet, none_met, met, WrittenDifference, element_alone, element_except, WrittenElement, element_node, WrittenElementForm, parentheses, value, contained, range, size, from, with_component, with_components, WrittenConstraint, constraint, WrittenParts, no_parts, part, part_in, WrittenNamed, WrittenItem, WrittenOfConstraint, WrittenPresence, mandatory, optional, default, WrittenType, type_node, WrittenBase, plain, numbers, named_bits, enumerated, structure, choice, of_type, named_type, WrittenComponents, no_components, component, components_from, WrittenAlternatives, no_alternatives, alternative, WrittenImport, WrittenAssignment, WrittenModule}
 
@@ -148,7 +148,7 @@ IsPresence levels mandatory = Unit {0}
 IsPresence levels optional = Unit {0}
 IsPresence levels (default v) = IsValue levels v
 
--- Constraints behind an OF type belong to the type of its elements.
+-- Constraints after an OF type belong to the type of its elements.
 abbrev pub MayConstrain : ℕ → WrittenBase → List WrittenConstraint → Type 0
 MayConstrain levels (of_type k c ty) [] = Unit {0}
 MayConstrain levels (of_type k c ty) (d ∷ ds) = ⊥
@@ -176,7 +176,8 @@ abbrev mutual
 
   pub AreComponents : ℕ → WrittenComponents → Type 0
   AreComponents levels no_components = Unit {0}
-  AreComponents levels (component site name ty presence others) = IsType levels ty × IsPresence levels presence × AreComponents levels others
+  AreComponents levels (component site name ty presence others) =
+      IsType levels ty × IsPresence levels presence × AreComponents levels others
   AreComponents levels (components_from site ty others) = IsType levels ty × AreComponents levels others
 
   pub AreAlternatives : ℕ → WrittenAlternatives → Type 0
@@ -188,13 +189,13 @@ abbrev mutual
 abbrev pub IsImport : WrittenImport → Type 0
 IsImport i = AreSome Any i.symbols
 
--- 128 others, and the one that lies in them
+-- 128 others, and the one within them
 abbrev pub most_levels : ℕ
 most_levels = 129
 
 abbrev pub IsAssignment : WrittenAssignment → Type 0
 IsAssignment a = IsType most_levels a.ty × IsPerhaps (IsValue most_levels) a.value
 
--- A module of the grammar in which each type, value and set lies in at most 128 others.
+-- A module of the grammar in which each type, value and set is within at most 128 others.
 abbrev pub IsModule : WrittenModule → Type 0
 IsModule m = IsPerhaps (AreEach IsImport) m.imports × AreEach IsAssignment m.assignments

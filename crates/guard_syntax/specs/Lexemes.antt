@@ -8,7 +8,7 @@ use Rattle.guard_lexer.specs.declared.token.Reserved.{Reserved}
 use Rattle.guard_lexer.specs.declared.token.Mark.{Mark}
 use Rattle.guard_lexer.specs.Spelling.{reserved_spelling, mark_spelling}
 
--- A kind and a spelling. A reserved word and a mark have one spelling each, so that they stand for it.
+-- A kind and a spelling. A reserved word and a mark have one spelling each, so it need not be said.
 pub data Lexeme : Type 0 where
   word : Reserved → Lexeme
   mark : Mark → Lexeme

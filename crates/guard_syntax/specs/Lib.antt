@@ -9,7 +9,9 @@ pub mod Trees
 pub mod TokensOf
 pub mod Sites
 pub mod Grammar
--- ---- which tree a tree of the code stands for
+-- ---- which integer a number is
+pub mod Numbers
+-- ---- which tree of the definitions a tree of the code is
 pub mod Views
 pub mod SetViews
 pub mod TypeViews

@@ -1,4 +1,4 @@
--- The trees of the definitions that the code's trees stand for: modules.
+-- Which trees of the definitions the code's trees are: modules.
 use Rattle.std.specs.Prelude.{List, Vec, map, Option, Some, None}
 use Rattle.guard_syntax.specs.Trees.{WrittenValue, WrittenIdentifierPart, bare_name, arc_part, WrittenSymbol, WrittenExports, all_exported, exported, WrittenImport, WrittenAssignment, WrittenModule}
 use Rattle.guard_syntax.specs.Views.{arc_view, value_view}
@@ -31,7 +31,14 @@ perhaps_exports_view None = None
 perhaps_exports_view (Some x) = Some (exports_view x)
 
 abbrev pub import_view : ImportTree → WrittenImport
-import_view i = record { site = i.site; symbols = map symbol_view i.symbols.items; module_site = i.module.site; module_name = i.module.name.now; identifier = map identifier_part_view i.identifier.items }
+import_view i =
+    record {
+      site = i.site;
+      symbols = map symbol_view i.symbols.items;
+      module_site = i.module.site;
+      module_name = i.module.name.now;
+      identifier = map identifier_part_view i.identifier.items;
+    }
 
 abbrev pub imports_view : {Z : Type 0} → Option (Vec ImportTree Z) → Option (List WrittenImport)
 imports_view None = None
@@ -42,10 +49,21 @@ perhaps_value_view None = None
 perhaps_value_view (Some v) = Some (value_view v)
 
 abbrev pub assignment_view : Assignment → WrittenAssignment
-assignment_view a = record { site = a.site; name = a.name.now; ty = type_view a.ty.value; value = perhaps_value_view a.value }
+assignment_view a =
+    record { site = a.site; name = a.name.now; ty = type_view a.ty.value; value = perhaps_value_view a.value }
 
 abbrev pub module_view : Module → WrittenModule
-module_view m = record { site = m.site; name = m.name.now; identifier = map identifier_part_view m.identifier.items; tag_default = m.tag_default; exports = perhaps_exports_view m.exports; imports = imports_view m.imports; assignments = map assignment_view m.assignments.items }
+module_view m =
+    record {
+      site = m.site;
+      name = m.name.now;
+      identifier = map identifier_part_view m.identifier.items;
+      tag_default = m.tag_default;
+      exports = perhaps_exports_view m.exports;
+      imports = imports_view m.imports;
+      assignments = map assignment_view m.assignments.items;
+    }
 
 abbrev pub head_view : Heading → WrittenHead
-head_view h = record { name = h.name.now; identifier = map identifier_part_view h.identifier.items; tag_default = h.tag_default }
+head_view h =
+    record { name = h.name.now; identifier = map identifier_part_view h.identifier.items; tag_default = h.tag_default }

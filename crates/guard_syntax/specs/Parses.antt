@@ -7,8 +7,8 @@ use Rattle.guard_syntax.specs.TokensOf.{tokens_of}
 use Rattle.guard_syntax.specs.Sites.{sited}
 use Rattle.guard_syntax.specs.Grammar.{IsModule}
 
--- The tree is one of the grammar, in which each type, value and set lies in at most 128 others, and is written with these
--- lexemes.
+-- The tree is one of the grammar, in which each type, value and set is within at most 128 others, and is written with
+-- these lexemes.
 pub record IsWritten (m : WrittenModule) (ls : List Lexeme) : Type 0 where
   pub grammar : IsModule m
   pub tokens : tokens_of m ≡ ls

@@ -1,4 +1,4 @@
--- The trees of the definitions that the code's trees stand for: sets of values and constraints.
+-- Which trees of the definitions the code's trees are: sets of values and constraints.
 use Rattle.std.specs.Prelude.{Option, Some, None}
 use Rattle.std.specs.Option.{option_map}
 use Rattle.std.specs.Global.{Box}
@@ -35,20 +35,23 @@ end_or_view None = None
 end_or_view (Some e) = Some (end_view e)
 
 abbrev pub range_view : RangeTree → WrittenRange
-range_view r = record { low = end_or_view r.low; above_low = r.above_low; below_high = r.below_high; high = end_or_view r.high }
+range_view r =
+    record { low = end_or_view r.low; above_low = r.above_low; below_high = r.below_high; high = end_or_view r.high }
 
--- where an element stands
+-- where an element begins
 abbrev pub site_of_element : WrittenElement → Site
 site_of_element (element_node site form) = site
 
--- where a difference stands
+-- where a difference begins
 abbrev pub site_of_difference : WrittenDifference → Site
 site_of_difference (element_alone site e) = site
 site_of_difference (element_except site e f) = site
 
--- One level of each, with the sets inside already seen. A difference begins where its element does, and an intersection where its
--- first difference does.
-abbrev pub element_form_step : ElementForm-F WrittenElementForm WrittenSetForm WrittenPart WrittenConstraint WrittenDifference WrittenElement WrittenIntersection WrittenJoinedDifference WrittenJoinedIntersection WrittenSet → WrittenElementForm
+-- One level of each, with the sets inside already seen. A difference begins where its element does, and an intersection
+-- where its first difference does.
+abbrev pub element_form_step : ElementForm-F WrittenElementForm WrittenSetForm WrittenPart WrittenConstraint
+    WrittenDifference WrittenElement WrittenIntersection WrittenJoinedDifference WrittenJoinedIntersection WrittenSet
+    → WrittenElementForm
 element_form_step (ElementForm-F.Parentheses s) = parentheses s.value
 element_form_step (ElementForm-F.Value v) = value (value_view v)
 element_form_step (ElementForm-F.Contained includes name) = contained includes name.site name.name.now
@@ -58,63 +61,119 @@ element_form_step (ElementForm-F.From c) = from c.value
 element_form_step (ElementForm-F.WithComponent c) = with_component c.value
 element_form_step (ElementForm-F.WithComponents partial ps) = with_components partial (parts_of ps.items)
 
-abbrev pub set_form_step : SetForm-F WrittenElementForm WrittenSetForm WrittenPart WrittenConstraint WrittenDifference WrittenElement WrittenIntersection WrittenJoinedDifference WrittenJoinedIntersection WrittenSet → WrittenSetForm
+abbrev pub set_form_step : SetForm-F WrittenElementForm WrittenSetForm WrittenPart WrittenConstraint WrittenDifference
+    WrittenElement WrittenIntersection WrittenJoinedDifference WrittenJoinedIntersection WrittenSet → WrittenSetForm
 set_form_step (SetForm-F.AllExcept e) = all_except e
 set_form_step (SetForm-F.Union i others) = union i.value (united_of others.items)
 
-abbrev pub part_step : ComponentConsTree-F WrittenElementForm WrittenSetForm WrittenPart WrittenConstraint WrittenDifference WrittenElement WrittenIntersection WrittenJoinedDifference WrittenJoinedIntersection WrittenSet → WrittenPart
+abbrev pub part_step : ComponentConsTree-F WrittenElementForm WrittenSetForm WrittenPart WrittenConstraint
+    WrittenDifference WrittenElement WrittenIntersection WrittenJoinedDifference WrittenJoinedIntersection WrittenSet
+    → WrittenPart
 part_step p = record { site = p.site; name = p.name.now; constraint = p.cons; presence = p.presence }
 
-abbrev pub constraint_step : ConsTree-F WrittenElementForm WrittenSetForm WrittenPart WrittenConstraint WrittenDifference WrittenElement WrittenIntersection WrittenJoinedDifference WrittenJoinedIntersection WrittenSet → WrittenConstraint
+abbrev pub constraint_step : ConsTree-F WrittenElementForm WrittenSetForm WrittenPart WrittenConstraint
+    WrittenDifference WrittenElement WrittenIntersection WrittenJoinedDifference WrittenJoinedIntersection WrittenSet
+    → WrittenConstraint
 constraint_step c = constraint c.site c.set.value
 
-abbrev pub difference_step : DifferenceTree-F WrittenElementForm WrittenSetForm WrittenPart WrittenConstraint WrittenDifference WrittenElement WrittenIntersection WrittenJoinedDifference WrittenJoinedIntersection WrittenSet → WrittenDifference
+abbrev pub difference_step : DifferenceTree-F WrittenElementForm WrittenSetForm WrittenPart WrittenConstraint
+    WrittenDifference WrittenElement WrittenIntersection WrittenJoinedDifference WrittenJoinedIntersection WrittenSet
+    → WrittenDifference
 difference_step d = difference_of (site_of_element d.element) d.element (option_map (λ e. e.value) d.except)
 
-abbrev pub element_step : ElementTree-F WrittenElementForm WrittenSetForm WrittenPart WrittenConstraint WrittenDifference WrittenElement WrittenIntersection WrittenJoinedDifference WrittenJoinedIntersection WrittenSet → WrittenElement
+abbrev pub element_step : ElementTree-F WrittenElementForm WrittenSetForm WrittenPart WrittenConstraint
+    WrittenDifference WrittenElement WrittenIntersection WrittenJoinedDifference WrittenJoinedIntersection WrittenSet
+    → WrittenElement
 element_step e = element_node e.site e.form
 
-abbrev pub intersection_step : IntersectionTree-F WrittenElementForm WrittenSetForm WrittenPart WrittenConstraint WrittenDifference WrittenElement WrittenIntersection WrittenJoinedDifference WrittenJoinedIntersection WrittenSet → WrittenIntersection
+abbrev pub intersection_step : IntersectionTree-F WrittenElementForm WrittenSetForm WrittenPart WrittenConstraint
+    WrittenDifference WrittenElement WrittenIntersection WrittenJoinedDifference WrittenJoinedIntersection WrittenSet
+    → WrittenIntersection
 intersection_step i = intersection (site_of_difference i.first) i.first (met_of i.others.items)
 
-abbrev pub joined_difference_step : JoinedDifference-F WrittenElementForm WrittenSetForm WrittenPart WrittenConstraint WrittenDifference WrittenElement WrittenIntersection WrittenJoinedDifference WrittenJoinedIntersection WrittenSet → WrittenJoinedDifference
+abbrev pub joined_difference_step : JoinedDifference-F WrittenElementForm WrittenSetForm WrittenPart WrittenConstraint
+    WrittenDifference WrittenElement WrittenIntersection WrittenJoinedDifference WrittenJoinedIntersection WrittenSet
+    → WrittenJoinedDifference
 joined_difference_step j = record { mark = j.mark; joined = j.part }
 
-abbrev pub joined_intersection_step : JoinedIntersection-F WrittenElementForm WrittenSetForm WrittenPart WrittenConstraint WrittenDifference WrittenElement WrittenIntersection WrittenJoinedDifference WrittenJoinedIntersection WrittenSet → WrittenJoinedIntersection
+abbrev pub joined_intersection_step : JoinedIntersection-F WrittenElementForm WrittenSetForm WrittenPart
+    WrittenConstraint WrittenDifference WrittenElement WrittenIntersection WrittenJoinedDifference
+    WrittenJoinedIntersection WrittenSet → WrittenJoinedIntersection
 joined_intersection_step j = record { mark = j.mark; joined = j.part }
 
-abbrev pub set_step : SetTree-F WrittenElementForm WrittenSetForm WrittenPart WrittenConstraint WrittenDifference WrittenElement WrittenIntersection WrittenJoinedDifference WrittenJoinedIntersection WrittenSet → WrittenSet
+abbrev pub set_step : SetTree-F WrittenElementForm WrittenSetForm WrittenPart WrittenConstraint WrittenDifference
+    WrittenElement WrittenIntersection WrittenJoinedDifference WrittenJoinedIntersection WrittenSet → WrittenSet
 set_step s = set_node s.site s.form
 
 abbrev pub element_form_view : ElementForm → WrittenElementForm
-element_form_view = fold-ElementForm WrittenElementForm WrittenSetForm WrittenPart WrittenConstraint WrittenDifference WrittenElement WrittenIntersection WrittenJoinedDifference WrittenJoinedIntersection WrittenSet element_form_step set_form_step part_step constraint_step difference_step element_step intersection_step joined_difference_step joined_intersection_step set_step
+element_form_view =
+    fold-ElementForm WrittenElementForm WrittenSetForm WrittenPart WrittenConstraint WrittenDifference WrittenElement
+    WrittenIntersection WrittenJoinedDifference WrittenJoinedIntersection WrittenSet element_form_step set_form_step
+    part_step constraint_step difference_step element_step intersection_step joined_difference_step
+    joined_intersection_step set_step
 
 abbrev pub set_form_view : SetForm → WrittenSetForm
-set_form_view = fold-SetForm WrittenElementForm WrittenSetForm WrittenPart WrittenConstraint WrittenDifference WrittenElement WrittenIntersection WrittenJoinedDifference WrittenJoinedIntersection WrittenSet element_form_step set_form_step part_step constraint_step difference_step element_step intersection_step joined_difference_step joined_intersection_step set_step
+set_form_view =
+    fold-SetForm WrittenElementForm WrittenSetForm WrittenPart WrittenConstraint WrittenDifference WrittenElement
+    WrittenIntersection WrittenJoinedDifference WrittenJoinedIntersection WrittenSet element_form_step set_form_step
+    part_step constraint_step difference_step element_step intersection_step joined_difference_step
+    joined_intersection_step set_step
 
 abbrev pub part_view : ComponentConsTree → WrittenPart
-part_view = fold-ComponentConsTree WrittenElementForm WrittenSetForm WrittenPart WrittenConstraint WrittenDifference WrittenElement WrittenIntersection WrittenJoinedDifference WrittenJoinedIntersection WrittenSet element_form_step set_form_step part_step constraint_step difference_step element_step intersection_step joined_difference_step joined_intersection_step set_step
+part_view =
+    fold-ComponentConsTree WrittenElementForm WrittenSetForm WrittenPart WrittenConstraint WrittenDifference
+    WrittenElement WrittenIntersection WrittenJoinedDifference WrittenJoinedIntersection WrittenSet element_form_step
+    set_form_step part_step constraint_step difference_step element_step intersection_step joined_difference_step
+    joined_intersection_step set_step
 
 abbrev pub constraint_view : ConsTree → WrittenConstraint
-constraint_view = fold-ConsTree WrittenElementForm WrittenSetForm WrittenPart WrittenConstraint WrittenDifference WrittenElement WrittenIntersection WrittenJoinedDifference WrittenJoinedIntersection WrittenSet element_form_step set_form_step part_step constraint_step difference_step element_step intersection_step joined_difference_step joined_intersection_step set_step
+constraint_view =
+    fold-ConsTree WrittenElementForm WrittenSetForm WrittenPart WrittenConstraint WrittenDifference WrittenElement
+    WrittenIntersection WrittenJoinedDifference WrittenJoinedIntersection WrittenSet element_form_step set_form_step
+    part_step constraint_step difference_step element_step intersection_step joined_difference_step
+    joined_intersection_step set_step
 
 abbrev pub difference_view : DifferenceTree → WrittenDifference
-difference_view = fold-DifferenceTree WrittenElementForm WrittenSetForm WrittenPart WrittenConstraint WrittenDifference WrittenElement WrittenIntersection WrittenJoinedDifference WrittenJoinedIntersection WrittenSet element_form_step set_form_step part_step constraint_step difference_step element_step intersection_step joined_difference_step joined_intersection_step set_step
+difference_view =
+    fold-DifferenceTree WrittenElementForm WrittenSetForm WrittenPart WrittenConstraint WrittenDifference WrittenElement
+    WrittenIntersection WrittenJoinedDifference WrittenJoinedIntersection WrittenSet element_form_step set_form_step
+    part_step constraint_step difference_step element_step intersection_step joined_difference_step
+    joined_intersection_step set_step
 
 abbrev pub element_view : ElementTree → WrittenElement
-element_view = fold-ElementTree WrittenElementForm WrittenSetForm WrittenPart WrittenConstraint WrittenDifference WrittenElement WrittenIntersection WrittenJoinedDifference WrittenJoinedIntersection WrittenSet element_form_step set_form_step part_step constraint_step difference_step element_step intersection_step joined_difference_step joined_intersection_step set_step
+element_view =
+    fold-ElementTree WrittenElementForm WrittenSetForm WrittenPart WrittenConstraint WrittenDifference WrittenElement
+    WrittenIntersection WrittenJoinedDifference WrittenJoinedIntersection WrittenSet element_form_step set_form_step
+    part_step constraint_step difference_step element_step intersection_step joined_difference_step
+    joined_intersection_step set_step
 
 abbrev pub intersection_view : IntersectionTree → WrittenIntersection
-intersection_view = fold-IntersectionTree WrittenElementForm WrittenSetForm WrittenPart WrittenConstraint WrittenDifference WrittenElement WrittenIntersection WrittenJoinedDifference WrittenJoinedIntersection WrittenSet element_form_step set_form_step part_step constraint_step difference_step element_step intersection_step joined_difference_step joined_intersection_step set_step
+intersection_view =
+    fold-IntersectionTree WrittenElementForm WrittenSetForm WrittenPart WrittenConstraint WrittenDifference
+    WrittenElement WrittenIntersection WrittenJoinedDifference WrittenJoinedIntersection WrittenSet element_form_step
+    set_form_step part_step constraint_step difference_step element_step intersection_step joined_difference_step
+    joined_intersection_step set_step
 
 abbrev pub joined_difference_view : JoinedDifference → WrittenJoinedDifference
-joined_difference_view = fold-JoinedDifference WrittenElementForm WrittenSetForm WrittenPart WrittenConstraint WrittenDifference WrittenElement WrittenIntersection WrittenJoinedDifference WrittenJoinedIntersection WrittenSet element_form_step set_form_step part_step constraint_step difference_step element_step intersection_step joined_difference_step joined_intersection_step set_step
+joined_difference_view =
+    fold-JoinedDifference WrittenElementForm WrittenSetForm WrittenPart WrittenConstraint WrittenDifference
+    WrittenElement WrittenIntersection WrittenJoinedDifference WrittenJoinedIntersection WrittenSet element_form_step
+    set_form_step part_step constraint_step difference_step element_step intersection_step joined_difference_step
+    joined_intersection_step set_step
 
 abbrev pub joined_intersection_view : JoinedIntersection → WrittenJoinedIntersection
-joined_intersection_view = fold-JoinedIntersection WrittenElementForm WrittenSetForm WrittenPart WrittenConstraint WrittenDifference WrittenElement WrittenIntersection WrittenJoinedDifference WrittenJoinedIntersection WrittenSet element_form_step set_form_step part_step constraint_step difference_step element_step intersection_step joined_difference_step joined_intersection_step set_step
+joined_intersection_view =
+    fold-JoinedIntersection WrittenElementForm WrittenSetForm WrittenPart WrittenConstraint WrittenDifference
+    WrittenElement WrittenIntersection WrittenJoinedDifference WrittenJoinedIntersection WrittenSet element_form_step
+    set_form_step part_step constraint_step difference_step element_step intersection_step joined_difference_step
+    joined_intersection_step set_step
 
 abbrev pub set_view : SetTree → WrittenSet
-set_view = fold-SetTree WrittenElementForm WrittenSetForm WrittenPart WrittenConstraint WrittenDifference WrittenElement WrittenIntersection WrittenJoinedDifference WrittenJoinedIntersection WrittenSet element_form_step set_form_step part_step constraint_step difference_step element_step intersection_step joined_difference_step joined_intersection_step set_step
+set_view =
+    fold-SetTree WrittenElementForm WrittenSetForm WrittenPart WrittenConstraint WrittenDifference WrittenElement
+    WrittenIntersection WrittenJoinedDifference WrittenJoinedIntersection WrittenSet element_form_step set_form_step
+    part_step constraint_step difference_step element_step intersection_step joined_difference_step
+    joined_intersection_step set_step
 
 -- what may be missing
 abbrev pub perhaps_constraint_view : Option ConsTree → Option WrittenConstraint

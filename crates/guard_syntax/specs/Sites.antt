@@ -1,5 +1,5 @@
--- The sites of a tree: each node has that of its first token. Each definition goes through a node as it is written, takes
--- the sites of its tokens from the list, and gives the node with its sites, and those of the tokens behind it.
+-- The sites of a tree: each node has that of its first token. Each definition goes through a node as it is written,
+-- takes the sites of its tokens from the list, and gives the node with its sites, and those of the tokens after it.
 use Rattle.std.specs.Prelude.{ℕ, Bool, true, false, List, [], ◌∷◌, Option, Some, None}
 use Rattle.guard_model.specs.declared.site.Site.{Site}
 use Rattle.guard_syntax.specs.declared.tree.PlainType.{PlainType}
@@ -11,17 +11,17 @@ abbrev pub first : List Site → Site
 first [] = record { text = 0; line = 0; column = 0 }
 first (s ∷ ss) = s
 
--- the sites behind one token
+-- the sites after one token
 abbrev pub past : List Site → List Site
 past [] = []
 past (s ∷ ss) = ss
 
--- behind a token that is there or not
+-- after a token that is there or not
 abbrev pub past_if : Bool → List Site → List Site
 past_if true ss = past ss
 past_if false ss = ss
 
--- behind a word or mark that may be missing
+-- after a word or mark that may be missing
 abbrev pub past_perhaps : {A : Type 0} → Option A → List Site → List Site
 past_perhaps None ss = ss
 past_perhaps (Some a) ss = past ss
@@ -165,17 +165,20 @@ abbrev mutual
   pub sited_element_form : WrittenElementForm → List Site → WrittenElementForm × List Site
   sited_element_form (parentheses s) ss = let inside = sited_set s (past ss) in (parentheses inside.0, past inside.1)
   sited_element_form (value v) ss = let one = sited_value v ss in (value one.0, one.1)
-  sited_element_form (contained includes site name) ss = (contained includes (first (past_if includes ss)) name, past (past_if includes ss))
+  sited_element_form (contained includes site name) ss =
+      (contained includes (first (past_if includes ss)) name, past (past_if includes ss))
   sited_element_form (range r) ss = let one = sited_range r ss in (range one.0, one.1)
   sited_element_form (size c) ss = let one = sited_constraint c (past ss) in (size one.0, one.1)
   sited_element_form (from c) ss = let one = sited_constraint c (past ss) in (from one.0, one.1)
-  sited_element_form (with_component c) ss = let one = sited_constraint c (past (past ss)) in (with_component one.0, one.1)
+  sited_element_form (with_component c) ss =
+      let one = sited_constraint c (past (past ss)) in (with_component one.0, one.1)
   sited_element_form (with_components partial ps) ss =
       let inside = sited_parts ps (past_partial partial (past (past (past ss)))) in
       (with_components partial inside.0, past inside.1)
 
   pub sited_constraint : WrittenConstraint → List Site → WrittenConstraint × List Site
-  sited_constraint (constraint site s) ss = let inside = sited_set s (past ss) in (constraint (first ss) inside.0, past inside.1)
+  sited_constraint (constraint site s) ss =
+      let inside = sited_set s (past ss) in (constraint (first ss) inside.0, past inside.1)
 
   pub sited_parts : WrittenParts → List Site → WrittenParts × List Site
   sited_parts no_parts ss = (no_parts, ss)
@@ -190,17 +193,28 @@ abbrev mutual
 -- ---- types
 
 abbrev pub sited_tag : WrittenTag → List Site → WrittenTag × List Site
-sited_tag t ss = (record { site = first ss; class = t.class; number = t.number; mode = t.mode }, past_perhaps t.mode (past (past (past_perhaps t.class (past ss)))))
+sited_tag t ss = (
+  record {
+    site = first ss;
+    class = t.class;
+    number = t.number;
+    mode = t.mode;
+  },
+  past_perhaps t.mode (past (past (past_perhaps t.class (past ss)))),
+)
 
 -- a number in parentheses
 abbrev pub sited_parenthesised : WrittenNumber → List Site → WrittenNumber × List Site
 sited_parenthesised n ss = let m = sited_number n (past ss) in (m.0, past m.1)
 
 abbrev pub sited_named : WrittenNamed → List Site → WrittenNamed × List Site
-sited_named n ss = let m = sited_parenthesised n.number (past ss) in (record { site = first ss; name = n.name; number = m.0 }, m.1)
+sited_named n ss =
+    let m = sited_parenthesised n.number (past ss) in (record { site = first ss; name = n.name; number = m.0 }, m.1)
 
 abbrev pub sited_item : WrittenItem → List Site → WrittenItem × List Site
-sited_item i ss = let m = sited_perhaps sited_parenthesised i.number (past ss) in (record { site = first ss; name = i.name; number = m.0 }, m.1)
+sited_item i ss =
+    let m = sited_perhaps sited_parenthesised i.number (past ss) in
+    (record { site = first ss; name = i.name; number = m.0 }, m.1)
 
 abbrev pub sited_numbers : List WrittenNamed → List Site → List WrittenNamed × List Site
 sited_numbers [] ss = ([], ss)
@@ -248,9 +262,12 @@ abbrev mutual
   sited_base (plain p) ss = (plain p, past_plain p ss)
   sited_base (numbers ns) ss = let inside = sited_numbers ns (past ss) in (numbers inside.0, inside.1)
   sited_base (named_bits bs) ss = let inside = sited_numbers bs (past (past ss)) in (named_bits inside.0, inside.1)
-  sited_base (enumerated is) ss = let inside = sited_parted sited_item is (past (past ss)) in (enumerated inside.0, past inside.1)
-  sited_base (structure k cs) ss = let inside = sited_components cs (past (past ss)) in (structure k inside.0, past inside.1)
-  sited_base (choice alternatives) ss = let inside = sited_alternatives alternatives (past (past ss)) in (choice inside.0, past inside.1)
+  sited_base (enumerated is) ss =
+      let inside = sited_parted sited_item is (past (past ss)) in (enumerated inside.0, past inside.1)
+  sited_base (structure k cs) ss =
+      let inside = sited_components cs (past (past ss)) in (structure k inside.0, past inside.1)
+  sited_base (choice alternatives) ss =
+      let inside = sited_alternatives alternatives (past (past ss)) in (choice inside.0, past inside.1)
   sited_base (of_type k c ty) ss =
       let before = sited_perhaps sited_of_constraint c (past ss) in
       let inside = sited_type ty (past before.1) in
@@ -284,7 +301,8 @@ sited_identifier_part (arc_part a) ss = let one = sited_arc a ss in (arc_part on
 
 abbrev pub sited_identifier : List WrittenIdentifierPart → List Site → List WrittenIdentifierPart × List Site
 sited_identifier [] ss = ([], ss)
-sited_identifier (p ∷ ps) ss = let inside = sited_each sited_identifier_part (p ∷ ps) (past ss) in (inside.0, past inside.1)
+sited_identifier (p ∷ ps) ss =
+    let inside = sited_each sited_identifier_part (p ∷ ps) (past ss) in (inside.0, past inside.1)
 
 abbrev pub past_tag_default : {A : Type 0} → Option A → List Site → List Site
 past_tag_default None ss = ss
@@ -295,13 +313,22 @@ sited_symbol s ss = (record { site = first ss; kind = s.kind; name = s.name }, p
 
 abbrev pub sited_exports : WrittenExports → List Site → WrittenExports × List Site
 sited_exports all_exported ss = (all_exported, past (past (past ss)))
-sited_exports (exported symbols) ss = let inside = sited_parted sited_symbol symbols (past ss) in (exported inside.0, past inside.1)
+sited_exports (exported symbols) ss =
+    let inside = sited_parted sited_symbol symbols (past ss) in (exported inside.0, past inside.1)
 
 abbrev pub sited_import : WrittenImport → List Site → WrittenImport × List Site
 sited_import i ss =
     let names = sited_parted sited_symbol i.symbols ss in
-    let id = sited_identifier i.identifier (past (past names.1)) in
-    (record { site = first ss; symbols = names.0; module_site = first (past names.1); module_name = i.module_name; identifier = id.0 }, id.1)
+    let id = sited_identifier i.identifier (past (past names.1)) in (
+      record {
+        site = first ss;
+        symbols = names.0;
+        module_site = first (past names.1);
+        module_name = i.module_name;
+        identifier = id.0;
+      },
+      id.1,
+    )
 
 abbrev pub sited_imports : List WrittenImport → List Site → List WrittenImport × List Site
 sited_imports all ss = let inside = sited_each sited_import all (past ss) in (inside.0, past inside.1)
@@ -325,4 +352,12 @@ sited m ss =
     let exports = sited_perhaps sited_exports m.exports (past (past (past_tag_default m.tag_default (past id.1)))) in
     let imports = sited_perhaps sited_imports m.imports exports.1 in
     let inside = sited_each sited_assignment m.assignments imports.1 in
-    record { site = first ss; name = m.name; identifier = id.0; tag_default = m.tag_default; exports = exports.0; imports = imports.0; assignments = inside.0 }
+    record {
+      site = first ss;
+      name = m.name;
+      identifier = id.0;
+      tag_default = m.tag_default;
+      exports = exports.0;
+      imports = imports.0;
+      assignments = inside.0;
+    }

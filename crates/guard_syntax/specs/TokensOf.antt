@@ -36,7 +36,7 @@ abbrev pub comma_before : {A : Type 0} → List A → List Lexeme → List Lexem
 comma_before [] rest = rest
 comma_before (a ∷ others) rest = mark Comma ∷ rest
 
--- one after the other, parted by commas
+-- one after the other, separated by commas
 abbrev pub parted_then : {A : Type 0} → (A → List Lexeme → List Lexeme) → List A → List Lexeme → List Lexeme
 parted_then one_then [] rest = rest
 parted_then one_then (a ∷ others) rest = one_then a (comma_before others (parted_then one_then others rest))
@@ -60,7 +60,8 @@ number_then n rest = if_there_then n.minus (mark Minus) (number n.digits ∷ res
 -- Arc = number | lower "(" number ")"
 abbrev pub arc_form_then : Option (List ℕ) → List ℕ → List Lexeme → List Lexeme
 arc_form_then None digits rest = number digits ∷ rest
-arc_form_then (Some name) digits rest = lower_name name ∷ mark LeftParenthesis ∷ number digits ∷ mark RightParenthesis ∷ rest
+arc_form_then (Some name) digits rest =
+    lower_name name ∷ mark LeftParenthesis ∷ number digits ∷ mark RightParenthesis ∷ rest
 
 abbrev pub arc_then : WrittenArc → List Lexeme → List Lexeme
 arc_then a rest = arc_form_then a.name a.number rest
@@ -99,10 +100,11 @@ abbrev mutual
   value_form_then (list es) rest = mark LeftBrace ∷ entries_then es (mark RightBrace ∷ rest)
   value_form_then (arcs all) rest = mark LeftBrace ∷ each_then arc_then all (mark RightBrace ∷ rest)
 
-  -- Entry = Value | lower Value, parted by commas
+  -- Entry = Value | lower Value, separated by commas
   pub entries_then : WrittenEntries → List Lexeme → List Lexeme
   entries_then no_entries rest = rest
-  entries_then (entry site name v others) rest = entry_name_then name (value_then v (entries_comma others (entries_then others rest)))
+  entries_then (entry site name v others) rest =
+      entry_name_then name (value_then v (entries_comma others (entries_then others rest)))
 
 -- ---- sets of values
 
@@ -119,7 +121,10 @@ end_or_then w (Some e) rest = end_form_then e.form rest
 
 -- Range = (MIN|End) ["<"] ".." ["<"] (MAX|End)
 abbrev pub range_then : WrittenRange → List Lexeme → List Lexeme
-range_then r rest = end_or_then Min r.low (if_there_then r.above_low (mark LessThan) (mark RangeSeparator ∷ if_there_then r.below_high (mark LessThan) (end_or_then Max r.high rest)))
+range_then r rest =
+    end_or_then Min r.low
+    (if_there_then r.above_low (mark LessThan)
+    (mark RangeSeparator ∷ if_there_then r.below_high (mark LessThan) (end_or_then Max r.high rest)))
 
 abbrev pub union_mark : JoinMark → Lexeme
 union_mark join.Sign = mark Bar
@@ -181,22 +186,27 @@ abbrev mutual
   pub element_form_then : WrittenElementForm → List Lexeme → List Lexeme
   element_form_then (parentheses s) rest = mark LeftParenthesis ∷ set_then s (mark RightParenthesis ∷ rest)
   element_form_then (value v) rest = value_then v rest
-  element_form_then (contained includes site name) rest = if_there_then includes (word Includes) (upper_name name ∷ rest)
+  element_form_then (contained includes site name) rest =
+      if_there_then includes (word Includes) (upper_name name ∷ rest)
   element_form_then (range r) rest = range_then r rest
   element_form_then (size c) rest = word Size ∷ constraint_then c rest
   element_form_then (from c) rest = word From ∷ constraint_then c rest
   element_form_then (with_component c) rest = word With ∷ word Component ∷ constraint_then c rest
-  element_form_then (with_components partial ps) rest = word With ∷ word Components ∷ mark LeftBrace ∷ partial_then partial (parts_then ps (mark RightBrace ∷ rest))
+  element_form_then (with_components partial ps) rest =
+      word With ∷ word Components ∷ mark LeftBrace ∷ partial_then partial (parts_then ps (mark RightBrace ∷ rest))
 
   -- Cons = "(" Set ")"
   pub constraint_then : WrittenConstraint → List Lexeme → List Lexeme
   constraint_then (constraint site s) rest = mark LeftParenthesis ∷ set_then s (mark RightParenthesis ∷ rest)
 
-  -- Part = lower [Cons] [PRESENT|ABSENT|OPTIONAL], parted by commas
+  -- Part = lower [Cons] [PRESENT|ABSENT|OPTIONAL], separated by commas
   pub parts_then : WrittenParts → List Lexeme → List Lexeme
   parts_then no_parts rest = rest
-  parts_then (part site name presence others) rest = lower_name name ∷ perhaps_then presence_word_then presence (parts_comma others (parts_then others rest))
-  parts_then (part_in site name c presence others) rest = lower_name name ∷ constraint_then c (perhaps_then presence_word_then presence (parts_comma others (parts_then others rest)))
+  parts_then (part site name presence others) rest =
+      lower_name name ∷ perhaps_then presence_word_then presence (parts_comma others (parts_then others rest))
+  parts_then (part_in site name c presence others) rest =
+      lower_name name ∷
+      constraint_then c (perhaps_then presence_word_then presence (parts_comma others (parts_then others rest)))
 
 -- ---- types
 
@@ -217,7 +227,9 @@ mode_then m rest = word (mode_word m) ∷ rest
 
 -- Tag = "[" [UNIVERSAL|APPLICATION|PRIVATE] number "]" [IMPLICIT|EXPLICIT]
 abbrev pub tag_then : WrittenTag → List Lexeme → List Lexeme
-tag_then t rest = mark LeftBracket ∷ perhaps_then class_then t.class (number t.number ∷ mark RightBracket ∷ perhaps_then mode_then t.mode rest)
+tag_then t rest =
+    mark LeftBracket ∷
+    perhaps_then class_then t.class (number t.number ∷ mark RightBracket ∷ perhaps_then mode_then t.mode rest)
 
 -- a number in parentheses
 abbrev pub parenthesised_then : WrittenNumber → List Lexeme → List Lexeme
@@ -274,30 +286,38 @@ alternatives_comma (alternative site name ty others) rest = mark Comma ∷ rest
 abbrev mutual
   -- Type = {Tag} Base {Cons}
   pub type_then : WrittenType → List Lexeme → List Lexeme
-  type_then (type_node site tags base constraints) rest = each_then tag_then tags (base_then base (each_then constraint_then constraints rest))
+  type_then (type_node site tags base constraints) rest =
+      each_then tag_then tags (base_then base (each_then constraint_then constraints rest))
 
   -- Base = INTEGER ["{" Num,+ "}"] | BIT STRING ["{" Bit,+ "}"] | ENUMERATED "{" Item,+ "}"
-  --      | (SEQUENCE|SET) "{" [Comp,+] "}" | CHOICE "{" Alt,+ "}" | (SEQUENCE|SET) [Cons | SIZE Cons] OF Type | upper | words
+  --      | (SEQUENCE|SET) "{" [Comp,+] "}" | CHOICE "{" Alt,+ "}" | (SEQUENCE|SET) [Cons | SIZE Cons] OF Type
+  --      | upper | words
   pub base_then : WrittenBase → List Lexeme → List Lexeme
   base_then (plain p) rest = plain_then p rest
   base_then (numbers ns) rest = word Integer ∷ numbers_then ns rest
   base_then (named_bits bs) rest = word Bit ∷ word String ∷ numbers_then bs rest
   base_then (enumerated is) rest = word Enumerated ∷ mark LeftBrace ∷ parted_then item_then is (mark RightBrace ∷ rest)
-  base_then (structure k cs) rest = word (collection_word k) ∷ mark LeftBrace ∷ components_then cs (mark RightBrace ∷ rest)
-  base_then (choice alternatives) rest = word Choice ∷ mark LeftBrace ∷ alternatives_then alternatives (mark RightBrace ∷ rest)
-  base_then (of_type k c ty) rest = word (collection_word k) ∷ perhaps_then of_constraint_then c (word Of ∷ type_then ty rest)
+  base_then (structure k cs) rest =
+      word (collection_word k) ∷ mark LeftBrace ∷ components_then cs (mark RightBrace ∷ rest)
+  base_then (choice alternatives) rest =
+      word Choice ∷ mark LeftBrace ∷ alternatives_then alternatives (mark RightBrace ∷ rest)
+  base_then (of_type k c ty) rest =
+      word (collection_word k) ∷ perhaps_then of_constraint_then c (word Of ∷ type_then ty rest)
   base_then (named_type site name) rest = upper_name name ∷ rest
 
-  -- Comp = lower Type [OPTIONAL | DEFAULT Value] | COMPONENTS OF Type, parted by commas
+  -- Comp = lower Type [OPTIONAL | DEFAULT Value] | COMPONENTS OF Type, separated by commas
   pub components_then : WrittenComponents → List Lexeme → List Lexeme
   components_then no_components rest = rest
-  components_then (component site name ty presence others) rest = lower_name name ∷ type_then ty (presence_then presence (components_comma others (components_then others rest)))
-  components_then (components_from site ty others) rest = word Components ∷ word Of ∷ type_then ty (components_comma others (components_then others rest))
+  components_then (component site name ty presence others) rest =
+      lower_name name ∷ type_then ty (presence_then presence (components_comma others (components_then others rest)))
+  components_then (components_from site ty others) rest =
+      word Components ∷ word Of ∷ type_then ty (components_comma others (components_then others rest))
 
-  -- Alt = lower Type, parted by commas
+  -- Alt = lower Type, separated by commas
   pub alternatives_then : WrittenAlternatives → List Lexeme → List Lexeme
   alternatives_then no_alternatives rest = rest
-  alternatives_then (alternative site name ty others) rest = lower_name name ∷ type_then ty (alternatives_comma others (alternatives_then others rest))
+  alternatives_then (alternative site name ty others) rest =
+      lower_name name ∷ type_then ty (alternatives_comma others (alternatives_then others rest))
 
 -- ---- modules
 
@@ -335,7 +355,8 @@ exports_then (exported symbols) rest = word Exports ∷ parted_then symbol_then 
 
 -- Name,+ FROM upper [Oid]
 abbrev pub import_then : WrittenImport → List Lexeme → List Lexeme
-import_then i rest = parted_then symbol_then i.symbols (word From ∷ upper_name i.module_name ∷ identifier_then i.identifier rest)
+import_then i rest =
+    parted_then symbol_then i.symbols (word From ∷ upper_name i.module_name ∷ identifier_then i.identifier rest)
 
 -- Imports = IMPORTS {Name,+ FROM upper [Oid]} ";"
 abbrev pub imports_then : List WrittenImport → List Lexeme → List Lexeme
@@ -353,5 +374,7 @@ assignment_then a rest = assigned_then a.name a.ty a.value rest
 -- Module = upper [Oid] DEFINITIONS [(EXPLICIT|IMPLICIT|AUTOMATIC) TAGS] "::=" BEGIN [Exports] [Imports] {Assign} END
 abbrev pub tokens_of : WrittenModule → List Lexeme
 tokens_of m =
-    upper_name m.name ∷ identifier_then m.identifier (word Definitions ∷ perhaps_then tag_default_then m.tag_default (mark Assignment ∷ word Begin ∷
-    perhaps_then exports_then m.exports (perhaps_then imports_then m.imports (each_then assignment_then m.assignments (word End ∷ [])))))
+    upper_name m.name ∷ identifier_then m.identifier (word Definitions ∷
+    perhaps_then tag_default_then m.tag_default (mark Assignment ∷ word Begin ∷
+    perhaps_then exports_then m.exports (perhaps_then imports_then m.imports
+    (each_then assignment_then m.assignments (word End ∷ [])))))

@@ -1,4 +1,4 @@
--- Syntax trees as the definitions see them: without where they lie in memory. Each node has the site of its first token.
+-- Syntax trees as the definitions see them: without places in memory. Each node has the site of its first token.
 use Rattle.std.specs.Prelude.{ℕ, Bool, List, [], ◌∷◌, Option, Some, None}
 use Rattle.guard_model.specs.declared.site.Site.{Site}
 use Rattle.guard_syntax.specs.declared.tree.TagDefault.{TagDefault}
@@ -184,14 +184,14 @@ pub record WrittenOfConstraint : Type 0 where
   pub size : Bool
   pub constraint : WrittenConstraint
 
--- what is written behind the type of a component (X.680 25.1)
+-- what is written after the type of a component (X.680 25.1)
 pub data WrittenPresence : Type 0 where
   mandatory : WrittenPresence
   optional : WrittenPresence
   default : WrittenValue → WrittenPresence
 
 mutual
-  -- a type with its tags and the constraints behind it
+  -- a type with its tags and the constraints after it
   pub data WrittenType : Type 0 where
     type_node : Site → List WrittenTag → WrittenBase → List WrittenConstraint → WrittenType
 
@@ -216,7 +216,7 @@ mutual
     no_alternatives : WrittenAlternatives
     alternative : Site → List ℕ → WrittenType → WrittenAlternatives → WrittenAlternatives
 
--- what stands in a component list
+-- an entry of a component list, without its site
 pub data WrittenComponentForm : Type 0 where
   named : List ℕ → WrittenType → WrittenPresence → WrittenComponentForm
   components_of_type : WrittenType → WrittenComponentForm
@@ -245,7 +245,7 @@ alternatives_of (a ∷ others) = alternative a.site a.name a.ty (alternatives_of
 
 -- ---- modules (X.680 13.1)
 
--- a part of an object identifier behind a module's name
+-- a part of an object identifier after a module's name
 pub data WrittenIdentifierPart : Type 0 where
   bare_name : List ℕ → WrittenIdentifierPart
   arc_part : WrittenArc → WrittenIdentifierPart

@@ -1,4 +1,4 @@
--- The trees of the definitions that the code's trees stand for: numbers and values.
+-- Which trees of the definitions the code's trees are: numbers and values.
 use Rattle.std.specs.Prelude.{ℕ, List, map, Option, Some, None}
 use Rattle.guard_syntax.specs.Trees.{WrittenNumber, WrittenArc, WrittenValue, value_node, WrittenValueForm, boolean, null, integer, text, reference, chosen, list, arcs, WrittenEntry, entries_of}
 use Rattle.guard_syntax.specs.declared.tree.NumberTree.{NumberTree}

@@ -17,7 +17,7 @@ pub struct Cursor<'a, 't> {
     pub tokens: &'t [Token],
 }
 
-/// What was read, and what is still to be read behind it.
+/// What was read, and what is still to be read after it.
 pub type Read<'a, 't, T> = Result<(T, Cursor<'a, 't>), ReadError>;
 
 impl<'a, 't> Cursor<'a, 't> {
@@ -37,7 +37,7 @@ impl<'a, 't> Cursor<'a, 't> {
         }
     }
 
-    /// Behind the first token.
+    /// After the first token.
     pub fn behind(self) -> Cursor<'a, 't>
         ensures { ahead result ≡ reading.behind (ahead self.entry) }
     {
@@ -50,7 +50,7 @@ impl<'a, 't> Cursor<'a, 't> {
         }
     }
 
-    /// Behind a token that is there or not.
+    /// After a token that is there or not.
     pub fn behind_if(self, there: bool) -> Cursor<'a, 't>
         ensures { ahead result ≡ reading.behind_if there (ahead self.entry) }
     {
@@ -78,7 +78,7 @@ impl<'a, 't> Cursor<'a, 't> {
         ReadError::At(Failure::Unexpected(self.len()))
     }
 
-    /// Reading fails here since a node would lie too deep, where a token begins one.
+    /// Reading fails here since a node would be too deep, where a token begins one.
     pub fn too_deep(self, begins: bool) -> ReadError
         ensures deep { begins ≡ true → failure_of result ≡ Some (Failure.TooDeep (length (ahead self.entry))) }
         ensures other { begins ≡ false → failure_of result ≡ Some (Failure.Unexpected (length (ahead self.entry))) }
@@ -90,7 +90,7 @@ impl<'a, 't> Cursor<'a, 't> {
         }
     }
 
-    /// Behind one token of this kind.
+    /// After one token of this kind.
     #[tactic(auto, unfolding(crate::specs::inside::ReadTokens::read_token))]
     pub fn after(self, kind: TokenKind) -> Result<Cursor<'a, 't>, ReadError>
         ensures { Gives ahead failure_of result (reading.read_token kind (ahead self.entry)) }

@@ -7,16 +7,17 @@ use std::fmt;
 use std::fmt::Write;
 use thiserror::Error;
 
-/// Why a text has no tree. Its text is the number, the name and the fields, parted by spaces.
+/// Why a text has no tree. It is shown as its number, its name and its fields, separated by spaces.
 #[derive(Debug, Drop, Error)]
 pub enum SyntaxFault {
-    /// A token that no module has behind the tokens before it, or the end of the text where a module would go on.
+    /// A token that no module has after the tokens before it, or the end of the text where a module would go on.
     #[error("P1 Unexpected {0}")]
     Unexpected(Site),
-    /// The same at a token of a form that is left out. Where a comma stands before an extension or an exception, that is named.
+    /// The same at a token of a form that is left out. Where a comma comes directly before an extension or an
+    /// exception, it is the latter that is named.
     #[error("P2 Unsupported {0} {1}")]
     Unsupported(Spelling, Site),
-    /// The first token of a type, value or set with more than 128 others round it.
+    /// The first token of a type, value or set that is within more than 128 others.
     #[error("P3 TooDeep {0}")]
     TooDeep(Site),
     /// Memory ran out. A call may answer so whatever the text is.

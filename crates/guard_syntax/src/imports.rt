@@ -12,7 +12,7 @@ use crate::tree::{ExportsTree, ImportTree, NameTree, SymbolKind, SymbolTree};
 use guard_lexer::{Mark, Reserved, TokenKind};
 use std::alloc::Global;
 
-/// The exports, where the word EXPORTS stands.
+/// The exports, where the word EXPORTS is written.
 #[tactic(auto, unfolding(crate::specs::inside::ReadModule::read_exports))]
 pub fn exports<'a, 't>(alloc: Global, at: Cursor<'a, 't>) -> Read<'a, 't, Option<ExportsTree<'a>>>
     ensures { Reads perhaps_exports_view result (reading.read_exports (ahead at.entry)) }
@@ -42,7 +42,7 @@ fn exported<'a, 't>(alloc: Global, at: Cursor<'a, 't>) -> Read<'a, 't, ExportsTr
     }
 }
 
-/// One or more names, parted by commas. Each takes a token, so there are no more than tokens.
+/// One or more names, separated by commas. Each takes a token, so there are no more than tokens.
 #[tactic(auto, using(crate::proofs::Loops::parted_loop))]
 fn symbols<'a, 't>(alloc: Global, at: Cursor<'a, 't>) -> Read<'a, 't, Vec<SymbolTree<'a>>>
     ensures { Reads (each_view symbol_view) result (tokens_reading.read_parted reading.read_symbol (length (ahead at.entry)) (ahead at.entry)) }
@@ -76,7 +76,7 @@ fn symbol<'a, 't>(at: Cursor<'a, 't>) -> Read<'a, 't, SymbolTree<'a>>
     }
 }
 
-/// The imports, where the word IMPORTS stands.
+/// The imports, where the word IMPORTS is written.
 #[tactic(auto, unfolding(crate::specs::inside::ReadModule::read_imports))]
 pub fn imports<'a, 't>(
     alloc: Global,

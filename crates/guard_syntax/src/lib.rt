@@ -1,18 +1,24 @@
 //! The parser of module texts (X.680): from the tokens of a text to its tree, or the first token where there is none.
 //!
-//! The one call is [`parse`]. Each reader below takes a [`Cursor`](cursor::Cursor) and answers what it read, with the cursor behind it.
+//! The one call is [`parse`]. Each reader below takes a [`Cursor`](cursor::Cursor) and answers what it read, with the
+//! cursor after it. What digits write as an integer is [`NumberTree::integer`].
 //!
 //! | question | file |
 //! |---|---|
 //! | What does `parse` promise? | `parser.rt`, `specs/Parses.antt`, `specs/Faults.antt` |
-//! | What is a tree? | `tree.rt`; without places in memory `specs/Trees.antt`, and the way between them `specs/*Views.antt` |
+//! | What is a tree? | `tree.rt`; for the definitions `specs/Trees.antt`; from one to the other `specs/*Views.antt` |
 //! | Which trees does the grammar allow, and how are they written? | `specs/Grammar.antt`, `specs/TokensOf.antt` |
 //! | Which token is the site of a node? | `specs/Sites.antt` |
-//! | How is a form read? | modules `module.rt`, `imports.rt`, `module_identifiers.rt`; types `types.rt`, `tags.rt`, `named_numbers.rt`, `named_bits.rt`; constraints and sets of values `sets.rt`, `join_marks.rt`, `ranges.rt`; values `values.rt`, `numbers.rt`; each beside its reading function in `specs/Read*.antt` |
-//! | How is one token read? | `cursor.rt` |
+//! | How is a module read? | `module.rt`, `imports.rt`, `module_identifiers.rt`; `specs/inside/ReadModule.antt` |
+//! | How is a type read? | `types.rt`, `tags.rt`, `named_numbers.rt`, `named_bits.rt`; `specs/inside/ReadTypes.antt` |
+//! | How are constraints and sets read? | `sets.rt`, `join_marks.rt`, `ranges.rt`; `specs/inside/ReadSets.antt` |
+//! | How is a value read? | `values.rt`, `numbers.rt`; `specs/inside/ReadValues.antt` |
+//! | How is one token read? | `cursor.rt`; `specs/inside/ReadTokens.antt` |
+//! | Which integer is written? | `number_values.rt`; `specs/Numbers.antt` |
 //! | How deep may a tree be nested? | `MOST_OTHERS` in `module.rt`, `most_levels` in `specs/Grammar.antt` |
-//! | Where does a new fault go? | `fault.rt` (its text), `read_error.rt` (where a reader fails), `fault_of_failure.rt` (which fault that is), `specs/Faults.antt` |
-//! | Why is what is read the text's tree, and the only one? | `proofs/Lib.antt` lists the lemmas in reading order; `laws.rt` |
+//! | Where does a new fault go? | its text: `fault.rt`; what it names: `specs/Faults.antt` |
+//! | How does a reader fail, and with which fault? | `read_error.rt`, `fault_of_failure.rt` |
+//! | Why is what is read the text's tree, and the only one? | `proofs/Lib.antt` lists the lemmas in order; `laws.rt` |
 #![tactic(auto)]
 
 mod cursor;
@@ -25,6 +31,7 @@ mod module;
 mod module_identifiers;
 mod named_bits;
 mod named_numbers;
+mod number_values;
 mod numbers;
 mod parser;
 mod ranges;

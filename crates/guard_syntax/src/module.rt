@@ -18,10 +18,10 @@ use crate::values::value;
 use guard_lexer::{Mark, Reserved, TokenKind};
 use std::alloc::Global;
 
-/// In so many others a type, value or set may lie.
+/// A type, value or set may be within so many others.
 const MOST_OTHERS: u8 = 128;
 
-/// What stands before the word BEGIN.
+/// What comes before the word BEGIN.
 #[derive(Drop)]
 struct Heading<'a> {
     name: &'a [u8],
@@ -29,7 +29,7 @@ struct Heading<'a> {
     tag_default: Option<TagDefault>,
 }
 
-/// A module, and no token behind it.
+/// A module, and no token after it.
 #[tactic(auto, unfolding(crate::specs::inside::ReadModule::read_module))]
 pub fn module<'a>(alloc: Global, at: Cursor<'a, '_>) -> Result<Module<'a>, ReadError>
     ensures { Gives module_view failure_of result (reading.read_module (ahead at.entry)) }
@@ -84,7 +84,7 @@ fn tag_default<'a, 't>(at: Cursor<'a, 't>) -> Read<'a, 't, Option<TagDefault>>
     Ok((written, rest))
 }
 
-/// The word before TAGS that stands here.
+/// The word before TAGS that is written here.
 fn tag_default_at(at: Cursor) -> Option<TagDefault>
     ensures { result ≡ reading.tag_default_at (ahead at.entry) }
 {
@@ -128,7 +128,7 @@ fn assignment<'a, 't>(alloc: Global, at: Cursor<'a, 't>) -> Read<'a, 't, Assignm
     }
 }
 
-/// How many types, values and sets may stand one in the other in an assignment: the others, and the one that lies in them.
+/// How deep types, values and sets may be nested in an assignment: the others, and the one within them.
 fn levels() -> u8
     ensures { result ≡ most_levels }
 {

@@ -1,4 +1,4 @@
-//! Object identifiers behind module names.
+//! Object identifiers after module names.
 ghost use Rattle.std.specs.Prelude.{◌≡◌, map, length};
 ghost use Rattle.guard_model.specs.Answer.{Gives};
 ghost use Rattle.guard_syntax.specs.inside.ReadTokens as tokens_reading;
@@ -13,7 +13,7 @@ use crate::tree::PartTree;
 use guard_lexer::{Mark, TokenKind};
 use std::alloc::Global;
 
-/// The parts of the object identifier behind a module's name. Where no brace stands there are none.
+/// The parts of the object identifier after a module's name. Where no brace follows there are none.
 #[tactic(auto, unfolding(crate::specs::inside::ReadModule::read_identifier))]
 pub fn identifier<'a, 't>(alloc: Global, at: Cursor<'a, 't>) -> Read<'a, 't, Vec<PartTree<'a>>>
     ensures { Reads (each_view identifier_part_view) result (reading.read_identifier (ahead at.entry)) }
@@ -68,7 +68,7 @@ fn part<'a, 't>(at: Cursor<'a, 't>) -> Read<'a, 't, PartTree<'a>>
     }
 }
 
-/// Whether a name stands here that no parenthesis follows.
+/// Whether a name begins here that no parenthesis follows.
 fn begins_bare_name(at: Cursor) -> bool
     ensures { result ≡ reading.begins_bare_name (ahead at.entry) }
 {

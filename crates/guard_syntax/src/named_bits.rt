@@ -12,7 +12,7 @@ use crate::tree::{NamedTree, NumberTree};
 use guard_lexer::{Mark, TokenKind};
 use std::alloc::Global;
 
-/// The named bits after BIT STRING. Where no brace stands there are none.
+/// The named bits after BIT STRING. Where no brace follows there are none.
 #[tactic(auto, unfolding(crate::specs::inside::ReadTypes::read_numbers))]
 pub fn bits<'a, 't>(alloc: Global, at: Cursor<'a, 't>) -> Read<'a, 't, Vec<NamedTree<'a>>>
     ensures { Reads (each_view named_view) result (reading.read_numbers reading.read_bit (ahead at.entry)) }

@@ -13,7 +13,7 @@ use crate::tree::{ItemTree, NamedTree, NumberTree};
 use guard_lexer::{Mark, TokenKind};
 use std::alloc::Global;
 
-/// The named numbers behind INTEGER. Where no brace stands there are none.
+/// The named numbers after INTEGER. Where no brace follows there are none.
 #[tactic(auto, unfolding(crate::specs::inside::ReadTypes::read_numbers))]
 pub fn numbers<'a, 't>(alloc: Global, at: Cursor<'a, 't>) -> Read<'a, 't, Vec<NamedTree<'a>>>
     ensures { Reads (each_view named_view) result (reading.read_numbers reading.read_named (ahead at.entry)) }
@@ -26,7 +26,7 @@ pub fn numbers<'a, 't>(alloc: Global, at: Cursor<'a, 't>) -> Read<'a, 't, Vec<Na
     Ok((all, rest))
 }
 
-/// One or more named numbers, parted by commas. Each takes a token, so there are no more than tokens.
+/// One or more named numbers, separated by commas. Each takes a token, so there are no more than tokens.
 #[tactic(auto, using(crate::proofs::Loops::parted_loop))]
 fn some_named<'a, 't>(alloc: Global, at: Cursor<'a, 't>) -> Read<'a, 't, Vec<NamedTree<'a>>>
     ensures { Reads (each_view named_view) result (tokens_reading.read_parted reading.read_named (length (ahead at.entry)) (ahead at.entry)) }
@@ -65,7 +65,7 @@ fn in_parentheses<'a, 't>(at: Cursor<'a, 't>) -> Read<'a, 't, NumberTree<'a>>
     Ok((number, rest))
 }
 
-/// The items behind ENUMERATED.
+/// The items after ENUMERATED.
 #[tactic(auto, unfolding(crate::specs::inside::ReadTypes::read_items))]
 pub fn items<'a, 't>(alloc: Global, at: Cursor<'a, 't>) -> Read<'a, 't, Vec<ItemTree<'a>>>
     ensures { Reads (each_view item_view) result (reading.read_items (ahead at.entry)) }
@@ -76,7 +76,7 @@ pub fn items<'a, 't>(alloc: Global, at: Cursor<'a, 't>) -> Read<'a, 't, Vec<Item
     Ok((all, rest))
 }
 
-/// One or more items, parted by commas. Each takes a token, so there are no more than tokens.
+/// One or more items, separated by commas. Each takes a token, so there are no more than tokens.
 #[tactic(auto, using(crate::proofs::Loops::parted_loop))]
 fn some_items<'a, 't>(alloc: Global, at: Cursor<'a, 't>) -> Read<'a, 't, Vec<ItemTree<'a>>>
     ensures { Reads (each_view item_view) result (tokens_reading.read_parted reading.read_item (length (ahead at.entry)) (ahead at.entry)) }

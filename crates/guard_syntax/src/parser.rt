@@ -18,9 +18,9 @@ use std::alloc::Global;
 
 /// The tree of a module text that is cut into these tokens. Sites in a fault have `place` as the number of the text.
 ///
-/// The tree is the one that is written with the tokens. A text that has none is refused with P1 Unexpected, P2 Unsupported or
-/// P3 TooDeep. The clauses say what such a fault may name; that reading goes from left to right, and so which of these it
-/// names, is shown by worked examples alone.
+/// The tree is the one that is written with the tokens. A text that has none is refused with P1 Unexpected, P2
+/// Unsupported or P3 TooDeep. The clauses say what such a fault may name; that reading goes from left to right, and so
+/// which of these it names, is shown by worked examples alone.
 pub fn parse<'a>(
     alloc: Global,
     place: u32,
@@ -30,7 +30,8 @@ pub fn parse<'a>(
     // The tree is written with these tokens, and has their sites.
     ensures found { IfOk result (λ m. IsWritten (module_view m) (lexemes_of text.now tokens.now)) }
     ensures sites { IfOk result (λ m. HasSites (module_view m) (sites_of tokens.now)) }
-    // A tree that is written with these tokens is answered, unless memory runs out. So a fault comes only where there is none.
+    // A tree that is written with these tokens is answered, unless memory runs out. So a fault comes only where there
+    // is none.
     ensures only { (m : WrittenModule) → IsWritten m (lexemes_of text.now tokens.now) → Gives module_view fault_of result (Ok (sited m (sites_of tokens.now))) }
     // P1 is at a token or where the text ends, P2 names a token of a form that is left out, P3 is at a token.
     ensures named { IfErr result (NamesToken place text.now tokens.now) }

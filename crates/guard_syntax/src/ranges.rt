@@ -11,7 +11,7 @@ use crate::tree::{EndForm, EndTree, RangeTree};
 use crate::values::begins_number;
 use guard_lexer::{Mark, Reserved, TokenKind};
 
-/// Whether a range stands here, and no value: MIN, or an end with `..` or `<` behind it.
+/// Whether a range begins here, and no value: MIN, or an end with `..` or `<` after it.
 pub fn begins_range(at: Cursor) -> bool
     ensures { result ≡ reading.begins_range (ahead at.entry) }
 {
@@ -26,7 +26,7 @@ pub fn begins_range(at: Cursor) -> bool
             && begins_dots(next)
 }
 
-/// Whether a number stands here that may follow a minus sign.
+/// Whether a number begins here that may follow a minus sign.
 fn begins_with_nonzero(at: Cursor) -> bool
     ensures { result ≡ reading.begins_with_nonzero (ahead at.entry) }
 {

@@ -8,7 +8,7 @@ use std::alloc::{AllocError, AllocFailed};
 pub enum Failure {
     /// At a token with which no module goes on, or at the end.
     Unexpected(usize),
-    /// At the first token of a type or set that lies too deep.
+    /// At the first token of a type, value or set that is too deep.
     TooDeep(usize),
 }
 

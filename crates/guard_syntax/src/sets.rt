@@ -40,7 +40,7 @@ fn begins_set(at: Cursor) -> bool
     at.begins_with(TokenKind::Reserved(Reserved::All)) || begins_element(at)
 }
 
-/// A set in parentheses. `levels` says how many types, values and sets may stand one in the other here.
+/// A set in parentheses. `levels` says how deep types, values and sets may be nested here.
 #[cycle(sets)]
 #[tactic(auto, unfolding(crate::specs::inside::ReadSets::read_constraint))]
 pub fn constraint<'a, 't>(
@@ -350,7 +350,7 @@ fn partial<'a, 't>(at: Cursor<'a, 't>) -> Read<'a, 't, bool>
     Ok((true, rest))
 }
 
-/// One or more parts, parted by commas. Each takes a token, so there are no more than tokens.
+/// One or more parts, separated by commas. Each takes a token, so there are no more than tokens.
 #[cycle(sets)]
 #[tactic(auto, using(crate::proofs::Loops::parted_loop))]
 fn parts<'a, 't>(
@@ -413,7 +413,7 @@ fn perhaps_constraint<'a, 't>(
     Ok((Some(one), rest))
 }
 
-/// The presence word that stands here.
+/// The presence word that is written here.
 fn presence_at(at: Cursor) -> Option<PresenceWord>
     ensures { result ≡ reading.presence_at (ahead at.entry) }
 {

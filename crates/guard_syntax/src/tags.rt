@@ -58,7 +58,7 @@ fn tag<'a, 't>(at: Cursor<'a, 't>) -> Read<'a, 't, TagTree<'a>>
     ))
 }
 
-/// The word for a class that stands here.
+/// The word for a class that is written here.
 fn class_at(at: Cursor) -> Option<TagClass>
     ensures { result ≡ reading.class_at (ahead at.entry) }
 {
@@ -73,7 +73,7 @@ fn class_at(at: Cursor) -> Option<TagClass>
     }
 }
 
-/// The word IMPLICIT or EXPLICIT that stands here.
+/// The word IMPLICIT or EXPLICIT that is written here.
 fn mode_at(at: Cursor) -> Option<TagMode>
     ensures { result ≡ reading.mode_at (ahead at.entry) }
 {

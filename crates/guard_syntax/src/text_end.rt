@@ -5,7 +5,7 @@ ghost use Rattle.guard_syntax.specs.Faults.{is_line_feed, is_no_line_feed, end_s
 
 use guard_model::Site;
 
-/// The site behind the last octet of the text, also where that is white space or stands in a comment.
+/// The site after the last octet of the text, also where that octet is white space or part of a comment.
 pub fn end_of(place: u32, text: &[u8]) -> Site
     ensures { length text.now + 1 < 2 ^ 32 → result ≡ end_site place text.now }
 {
@@ -36,7 +36,7 @@ fn octets_of_last_line(text: &[u8]) -> usize
     count
 }
 
-/// One more. The greatest number stands for all greater ones.
+/// One more. The greatest number of 32 bits stays as it is.
 fn from_one(count: usize) -> u32
     ensures { count + 1 < 2 ^ 32 → result ≡ 1 + count }
 {

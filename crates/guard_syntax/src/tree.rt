@@ -1,5 +1,5 @@
-//! Syntax trees. Their names and numbers are parts of the text. Where a form may be spelled in two ways a tree says which was
-//! taken, and each of its nodes has the site of its first token.
+//! Syntax trees. Their names and numbers are parts of the text. Where a form may be spelled in two ways a tree says
+//! which was taken, and each of its nodes has the site of its first token.
 use guard_model::Site;
 
 /// A module (X.680 13.1).
@@ -7,13 +7,13 @@ use guard_model::Site;
 pub struct Module<'a> {
     pub site: Site,
     pub name: &'a [u8],
-    /// The parts of the object identifier behind its name, in written order. Where there are none, none is written.
+    /// The parts of the object identifier after its name, in written order. Where there are none, none is written.
     pub identifier: Vec<PartTree<'a>>,
     /// What is written before the word TAGS. Where nothing is written it means EXPLICIT TAGS.
     pub tag_default: Option<TagDefault>,
     /// The exports. Where nothing is written everything is exported.
     pub exports: Option<ExportsTree<'a>>,
-    /// The imports, one for each module named behind FROM. Where nothing is written the word IMPORTS isn't there.
+    /// The imports, one for each module named after FROM. Where nothing is written the word IMPORTS isn't there.
     pub imports: Option<Vec<ImportTree<'a>>>,
     /// In written order.
     pub assignments: Vec<Assignment<'a>>,
@@ -27,7 +27,7 @@ pub enum TagDefault {
     Automatic,
 }
 
-/// A part of an object identifier behind a module's name (X.680 32.3).
+/// A part of an object identifier after a module's name (X.680 32.3).
 #[derive(Clone, Copy)]
 pub enum PartTree<'a> {
     /// A bare name.
@@ -60,7 +60,7 @@ pub struct SymbolTree<'a> {
     pub name: &'a [u8],
 }
 
-/// What a name stands for, which its first letter tells.
+/// What a name names, which its first letter says.
 #[derive(Clone, Copy, Debug, PartialEq, Eq)]
 pub enum SymbolKind {
     /// A type: the name begins with a capital letter.
@@ -75,13 +75,13 @@ pub struct ImportTree<'a> {
     pub site: Site,
     /// In written order.
     pub symbols: Vec<SymbolTree<'a>>,
-    /// The module named behind FROM.
+    /// The module named after FROM.
     pub module: NameTree<'a>,
-    /// The parts of the object identifier behind that name. Where there are none, none is written.
+    /// The parts of the object identifier after that name. Where there are none, none is written.
     pub identifier: Vec<PartTree<'a>>,
 }
 
-/// A name, and where it stands.
+/// A name, and the site where it is written.
 #[derive(Clone, Copy)]
 pub struct NameTree<'a> {
     pub site: Site,
@@ -107,7 +107,7 @@ pub struct TypeTree<'a> {
     /// In written order, from the outside in.
     pub tags: Vec<TagTree<'a>>,
     pub base: BaseTree<'a>,
-    /// The constraints behind it, in written order. An OF type has none: those belong to the type of its elements.
+    /// The constraints after it, in written order. An OF type has none: those belong to the type of its elements.
     pub cons: Vec<ConsTree<'a>>,
 }
 
@@ -129,14 +129,14 @@ pub enum TagClass {
     Private,
 }
 
-/// The word behind a tag (X.680 31.2).
+/// The word after a tag (X.680 31.2).
 #[derive(Clone, Copy, Debug, PartialEq, Eq)]
 pub enum TagMode {
     Implicit,
     Explicit,
 }
 
-/// A type without its tags and the constraints behind it.
+/// A type without its tags and the constraints after it.
 #[derive(Drop)]
 #[cycle(trees)]
 pub enum BaseTree<'a> {
@@ -212,7 +212,7 @@ pub struct CompTree<'a> {
     pub form: CompForm<'a>,
 }
 
-/// What stands in a component list.
+/// What a component list has as an entry.
 #[derive(Drop)]
 #[cycle(trees)]
 pub enum CompForm<'a> {
@@ -222,7 +222,7 @@ pub enum CompForm<'a> {
     ComponentsOf(Box<TypeTree<'a>>),
 }
 
-/// What is written behind the type of a component (X.680 25.1).
+/// What is written after the type of a component (X.680 25.1).
 #[derive(Drop)]
 pub enum PresenceTree<'a> {
     /// Nothing.
@@ -274,8 +274,8 @@ pub struct JoinedIntersection<'a> {
     pub part: IntersectionTree<'a>,
 }
 
-/// An intersection (X.680 50.1): the first difference and those joined to it. Where nothing is joined it is the difference alone.
-/// Its site is that of the first difference.
+/// An intersection (X.680 50.1): the first difference and those joined to it. Where nothing is joined it is the
+/// difference alone. Its site is that of the first difference.
 #[derive(Drop)]
 #[cycle(sets)]
 pub struct IntersectionTree<'a> {
@@ -361,9 +361,9 @@ pub enum PresenceWord {
 pub struct RangeTree<'a> {
     /// Where there is none, MIN is written.
     pub low: Option<EndTree<'a>>,
-    /// Whether `<` stands behind the low end, which leaves that end out.
+    /// Whether `<` is written after the low end, which leaves that end out.
     pub above_low: bool,
-    /// Whether `<` stands before the high end, which leaves that end out.
+    /// Whether `<` is written before the high end, which leaves that end out.
     pub below_high: bool,
     /// Where there is none, MAX is written.
     pub high: Option<EndTree<'a>>,
@@ -438,7 +438,7 @@ pub struct EntryTree<'a> {
 #[derive(Clone, Copy)]
 pub struct NumberTree<'a> {
     pub site: Site,
-    /// Whether a minus sign stands before the digits.
+    /// Whether a minus sign is written before the digits.
     pub minus: bool,
     pub digits: &'a [u8],
 }

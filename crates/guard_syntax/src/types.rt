@@ -40,7 +40,7 @@ fn begins_type(at: Cursor) -> bool
         || at.begins_with(TokenKind::UpperName)
 }
 
-/// The type that is written with the word that stands here.
+/// The type that the word here is.
 fn single_word_at(at: Cursor) -> Option<PlainType>
     ensures { result ≡ reading.single_word_at (ahead at.entry) }
 {
@@ -85,7 +85,7 @@ fn two_words<'a, 't>(at: Cursor<'a, 't>) -> Read<'a, 't, PlainType>
     }
 }
 
-/// A type. `levels` says how many types, values and sets may stand one in the other here.
+/// A type. `levels` says how deep types, values and sets may be nested here.
 #[cycle(types)]
 #[tactic(auto, using(crate::proofs::Levels::read_type_above))]
 pub fn type_tree<'a, 't>(
@@ -101,7 +101,7 @@ pub fn type_tree<'a, 't>(
     inner_type(alloc, levels - 1, at)
 }
 
-/// No type may stand here: it would lie too deep.
+/// No type is allowed here: it would be too deep.
 #[tactic(auto, unfolding(crate::specs::inside::ReadTypes::read_type))]
 fn type_too_deep(at: Cursor) -> ReadError
     ensures { Refuses (failure_of result) (reading.read_type 0 (ahead at.entry)) }
@@ -131,7 +131,7 @@ fn inner_type<'a, 't>(
     Ok((Box::new(alloc, tree)?, rest))
 }
 
-/// Whether constraints behind it belong to the type of its elements.
+/// Whether constraints after it belong to the type of its elements.
 fn is_of(base: &BaseTree) -> bool
     ensures { result ≡ reading.is_of (base_view base.now) }
 {
@@ -147,7 +147,7 @@ fn is_of(base: &BaseTree) -> bool
     }
 }
 
-/// The constraints behind a type; behind an OF type there are none.
+/// The constraints after a type; after an OF type there are none.
 #[tactic(auto, unfolding(crate::specs::inside::ReadTypes::read_constraints))]
 fn constraints<'a, 't>(
     alloc: Global,
@@ -208,7 +208,7 @@ fn base<'a, 't>(alloc: Global, levels: u8, at: Cursor<'a, 't>) -> Read<'a, 't, B
     }
 }
 
-/// A base in which no type stands.
+/// A base with no type inside.
 #[tactic(auto, unfolding(crate::specs::inside::ReadTypes::read_simple))]
 fn simple<'a, 't>(alloc: Global, at: Cursor<'a, 't>) -> Read<'a, 't, BaseTree<'a>>
     ensures { Reads base_view result (reading.read_simple (ahead at.entry)) }
@@ -254,7 +254,7 @@ fn word_or_name<'a, 't>(at: Cursor<'a, 't>) -> Read<'a, 't, BaseTree<'a>>
     }
 }
 
-/// What stands behind SEQUENCE or SET.
+/// What follows SEQUENCE or SET.
 #[cycle(types)]
 #[tactic(auto, unfolding(crate::specs::inside::ReadTypes::read_collection))]
 fn collection<'a, 't>(
@@ -339,7 +339,7 @@ fn components<'a, 't>(
     some_components(alloc, levels, at)
 }
 
-/// One or more components, parted by commas. Each takes a token, so there are no more than tokens.
+/// One or more components, separated by commas. Each takes a token, so there are no more than tokens.
 #[cycle(types)]
 #[tactic(auto, using(crate::proofs::Loops::parted_loop))]
 fn some_components<'a, 't>(
@@ -393,7 +393,7 @@ fn component_form<'a, 't>(
     Ok((CompForm::Named(name, ty, presence), rest))
 }
 
-/// What stands behind the type of a component.
+/// What follows the type of a component.
 #[tactic(auto, unfolding(crate::specs::inside::ReadTypes::read_presence))]
 fn presence<'a, 't>(alloc: Global, levels: u8, at: Cursor<'a, 't>) -> Read<'a, 't, PresenceTree<'a>>
     ensures { Reads presence_view result (reading.read_presence (read_value levels) (ahead at.entry)) }
@@ -408,7 +408,7 @@ fn presence<'a, 't>(alloc: Global, levels: u8, at: Cursor<'a, 't>) -> Read<'a, '
     }
 }
 
-/// What stands behind CHOICE.
+/// What follows CHOICE.
 #[cycle(types)]
 #[tactic(auto, unfolding(crate::specs::inside::ReadTypes::read_choice))]
 fn choice<'a, 't>(alloc: Global, levels: u8, at: Cursor<'a, 't>) -> Read<'a, 't, BaseTree<'a>>
@@ -420,7 +420,7 @@ fn choice<'a, 't>(alloc: Global, levels: u8, at: Cursor<'a, 't>) -> Read<'a, 't,
     Ok((BaseTree::Choice(all), rest))
 }
 
-/// One or more alternatives, parted by commas. Each takes a token, so there are no more than tokens.
+/// One or more alternatives, separated by commas. Each takes a token, so there are no more than tokens.
 #[cycle(types)]
 #[tactic(auto, using(crate::proofs::Loops::parted_loop))]
 fn alternatives<'a, 't>(

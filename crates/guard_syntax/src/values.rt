@@ -47,7 +47,7 @@ fn string_at(at: Cursor) -> Option<StringKind>
     }
 }
 
-/// A value. `levels` says how many types, values and sets may stand one in the other here.
+/// A value. `levels` says how deep types, values and sets may be nested here.
 #[cycle(values)]
 #[tactic(auto, unfolding(crate::specs::inside::ReadValues::read_value))]
 pub fn value<'a, 't>(alloc: Global, levels: u8, at: Cursor<'a, 't>) -> Read<'a, 't, ValueTree<'a>>
@@ -144,7 +144,7 @@ fn braces<'a, 't>(alloc: Global, levels: u8, at: Cursor<'a, 't>) -> Read<'a, 't,
     Ok((ValueForm::List(all), rest))
 }
 
-/// Whether arcs stand behind an opening brace: a number and then a number or name, or a name and then a parenthesis.
+/// Whether arcs follow an opening brace: a number and then a number or name, or a name and then a parenthesis.
 fn begins_arcs(at: Cursor) -> bool
     ensures { result ≡ reading.begins_arcs (ahead at.entry) }
 {
@@ -155,7 +155,7 @@ fn begins_arcs(at: Cursor) -> bool
             && next.begins_with(TokenKind::Mark(Mark::LeftParenthesis))
 }
 
-/// Entries up to the closing brace, perhaps none. Where no value may stand in the braces the first entry is too deep.
+/// Entries up to the closing brace, perhaps none. Where no value is allowed in the braces the first entry is too deep.
 #[cycle(values)]
 #[tactic(auto, unfolding(crate::specs::inside::ReadValues::read_entries))]
 fn entries<'a, 't>(
@@ -174,7 +174,7 @@ fn entries<'a, 't>(
     some_entries(alloc, levels, at)
 }
 
-/// One or more entries, parted by commas. Each takes a token, so there are no more than tokens.
+/// One or more entries, separated by commas. Each takes a token, so there are no more than tokens.
 #[cycle(values)]
 #[tactic(auto, using(crate::proofs::Loops::parted_loop))]
 fn some_entries<'a, 't>(

@@ -265,7 +265,7 @@ mutual
       let b = and_parts (is_plain_constraint (kind_of t) c) (are_plain (kind_of t) cs) plain in
       two k v (spread_one k (kind_of t) c) (spread_all k (kind_of t) cs) (holds c (kind_of t) v) (all_hold cs (kind_of t) v) (one_fails k c t v a.0 b.0 fit) (all_fail k cs t v a.1 b.1 fit)
 
--- a constraint that may stand on some type of the kind
+-- a constraint that some type of the kind may have
 standing_fails : (k : Slots) (kind : AbstractKind) (c : Constraint) (t : AbstractType) (v : AbstractValue) → kind_of t ≡ kind → IsTrue (is_proper_constraint c t) → IsTrue (is_plain_constraint kind c) → IsTrue (fits_kind kind v)
     → Fails k v (spread_one k kind c) (holds c kind v)
 standing_fails k kind c t v e h plain fit =

@@ -160,7 +160,7 @@ chosen_step kind e i k m (equals w) s v slot = other_atom k m slot
 chosen_step kind e i k m (sized c) s v slot = other_atom k m slot
 chosen_step kind e i k m (spelled ranges) s v slot = other_atom k m slot
 
--- what stands on the left of each step moves to the right of what is there
+-- what is on the left of each step moves to the right of what is there
 regrouped : (g x w y r : Bool) → (g || x) ≡ (r || y) → (g || (x || w)) ≡ ((r || w) || y)
 regrouped g x w y r e = sym (or_again g x w) ∙ ap (λ (b : Bool). b || w) e ∙ swapped r y w
   where
@@ -377,7 +377,7 @@ after_component i cs kind name t presence h j = subst (λ (n : ℕ). part_of n k
 pub type_here : (i : ℕ) (cs : Components) (kind : AbstractKind) (name : List ℕ) (t : AbstractType) (presence : AbstractPresence) → FollowTypes i (component name t presence cs) kind → part_of i kind ≡ Some t
 type_here i cs kind name t presence h = subst (λ (n : ℕ). part_of n kind ≡ Some t) (omega arith) (h 0)
 
--- no test speaks of what stands after the last component
+-- no test speaks of what comes after the last component
 after_last : (b : Bool) (i j : ℕ) (kind : AbstractKind) (f : Bool) → leb i j ≡ b → FollowTypes i no_components kind → (part_of j kind ≡ None → ⊥) → (b && f) ≡ false
 after_last true i j kind f e h there = absurd (there (subst (λ (n : ℕ). part_of n kind ≡ None) (omega (arith, leb-true i j e)) (h (j - i))))
 after_last false i j kind f e h there = refl

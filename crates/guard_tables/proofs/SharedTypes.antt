@@ -59,7 +59,7 @@ further types place u t b lt is test untold all sum =
     let next : place_by (same_type (type_view u.now) t) (types_view (drop (place + 1) types)) t ≡ suc (place_of (types_view (drop (place + 1) types)) t) = ap (λ (b : Bool). place_by b (types_view (drop (place + 1) types)) t) (sym test ∙ untold) in
     omega (arith, one, next, sum)
 
--- ---- with more behind it
+-- ---- with more after it
 
 stays : (ts us : List AbstractType) (place : ℕ) (t : AbstractType) → slice_get ts place ≡ Some t → slice_get (ts ++ us) place ≡ Some t
 stays [] us place t e = absurd cc

@@ -68,7 +68,7 @@ short_contents kind w tags (Some os) is h = inside (tagged tags (is_constructed 
         let b : length z ≤ 1048576 = leb-true (length z) 1048576 short in
         record { octets = os; are = is; short = omega (arith, a, b) }
 
--- of a value that may stand in a type of the same base
+-- of a value that may be written in a type of the same base
 pub standing_contents : (kind : AbstractKind) (t : AbstractType) (w : AbstractValue) → IsAlike (kind_of t) kind → IsTrue (may_stand_in t w) → HasContents kind w
 standing_contents kind (type_of tags own cons) w base h =
     let a = and_parts (fits_kind own w) (is_short (der (type_of tags own cons) w)) h in

@@ -13,7 +13,7 @@ use Rattle.guard_tables.specs.Spread.{is_scalar}
 abbrev pub IsAlike : AbstractKind → AbstractKind → Type 0
 IsAlike one other = bare_kind one ≡ bare_kind other
 
--- the constraint may stand on a type of this kind
+-- a type of this kind may have the constraint
 abbrev pub MayStandOn : AbstractKind → Constraint → Type 0
 MayStandOn kind c = (t : AbstractType) × (kind_of t ≡ kind) × IsTrue (is_proper_constraint c t)
 

@@ -19,8 +19,8 @@ abbrev pub inside : ℕ → (ℕ → List ℕ → ℕ) → List ℕ → ℕ
 inside ends count [] = ends
 inside ends count (place ∷ way) = count place way
 
--- The conditions that each lays on the node at the end of the way: a type lays one on each of its parts, and a constraint one on the part of
--- which it speaks (X.680 clauses 49 to 51).
+-- The conditions that each lays on the node at the end of the way: a type lays one on each of its parts, and a
+-- constraint one on the part of which it speaks (X.680 clauses 49 to 51).
 abbrev mutual
   pub of_type : AbstractType → List ℕ → ℕ
   of_type (type_of tags kind cons) way = of_kind kind way + of_constraints cons way
@@ -50,7 +50,7 @@ abbrev mutual
   of_constraints no_constraints way = 0
   of_constraints (constraint c cs) way = of_constraint c way + of_constraints cs way
 
-  -- one for the constraint itself, and those of what stands in it
+  -- one for the constraint itself, and those of what is in it
   pub of_constraint : Constraint → List ℕ → ℕ
   of_constraint (at site element) way = here way + of_element element way
 
@@ -66,9 +66,9 @@ abbrev mutual
   of_element (type.intersection cs) way = of_constraints cs way
   of_element (type.except c d) way = of_constraint c way + of_constraint d way
   of_element (type.all_except c) way = of_constraint c way
-  -- 51.5: what stands in SIZE speaks of a number and isn't counted
+  -- 51.5: what is in SIZE speaks of a number and isn't counted
   of_element (type.size c) way = 0
-  -- 51.2, 51.4, 51.7: nothing stands inside
+  -- 51.2, 51.4, 51.7: nothing is inside
   of_element (type.single_value v) way = 0
   of_element (type.range low high) way = 0
   of_element (type.permitted_alphabet ranges) way = 0
@@ -77,7 +77,8 @@ abbrev mutual
   pub of_parts : Parts → ℕ → List ℕ → ℕ
   of_parts type.no_parts place way = 0
   of_parts (type.part site at_place word ps) place way = of_parts ps place way
-  of_parts (type.part_within site at_place c word ps) place way = (if nat_eq at_place place then of_constraint c way else 0) + of_parts ps place way
+  of_parts (type.part_within site at_place c word ps) place way =
+      (if nat_eq at_place place then of_constraint c way else 0) + of_parts ps place way
 
 -- of several types
 abbrev pub conditions : List AbstractType → List ℕ → ℕ

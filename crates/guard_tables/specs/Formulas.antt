@@ -1,4 +1,5 @@
--- Formulas over what has failed at a node (X.680 50): a union fails where all of its members do, `A EXCEPT B` where A fails or B doesn't.
+-- Formulas over what has failed at a node (X.680 50): a union fails where all of its members do, `A EXCEPT B` where A
+-- fails or B doesn't.
 use Rattle.std.specs.Prelude.{ℕ, Bool, true, false, not, ◌&&◌, ◌||◌, List, [], ◌∷◌}
 use Rattle.guard_tables.specs.declared.slots.Slots.{Slots}
 use Rattle.guard_tables.specs.Slots.{added, has}

@@ -80,7 +80,8 @@ abbrev pub items_marked : (AbstractValue → Slots → Slots) → Items → Slot
 items_marked mark value.no_items m = m
 items_marked mark (value.item v vs) m = items_marked mark vs (mark v m)
 
--- What has failed once a value of this kind has passed the body, where m had failed before. Of a value of another form nothing is said.
+-- What has failed once a value of this kind has passed the body, where m had failed before. Of a value of another form
+-- nothing is said.
 unfoldable mutual
   pub marked : AbstractKind → Body → AbstractValue → Slots → Slots
   marked kind (simple k cs) v m = conditions_marked cs (facts_of kind v) m
@@ -98,8 +99,10 @@ unfoldable mutual
   type_marked (type_of tags kind cons) (plan others constructed body) v m = marked kind body v m
 
   pub fields_marked : Components → Parts → Fields → Slots → Slots
-  fields_marked (component name t presence cs) (part side p ps) (value.present v fs) m = fields_marked cs ps fs (type_marked t p v (added m side.present))
-  fields_marked (component name t presence cs) (part side p ps) (value.absent fs) m = fields_marked cs ps fs (absence_marked side.absent m)
+  fields_marked (component name t presence cs) (part side p ps) (value.present v fs) m =
+      fields_marked cs ps fs (type_marked t p v (added m side.present))
+  fields_marked (component name t presence cs) (part side p ps) (value.absent fs) m =
+      fields_marked cs ps fs (absence_marked side.absent m)
   fields_marked _ _ _ m = m
 
   pub alternative_marked : Components → Parts → ℕ → AbstractValue → Slots → Slots

@@ -9,4 +9,6 @@ use Rattle.guard_tables.specs.Marking.{type_marked}
 
 -- What fails at a value is added to what failed before.
 abbrev pub MarkedLaw : Type 0
-MarkedLaw = (t : AbstractType) (p : Plan) (v : AbstractValue) (m : Slots) → type_marked t p v m ≡ added m (type_marked t p v none)
+MarkedLaw =
+    (t : AbstractType) (p : Plan) (v : AbstractValue) (m : Slots)
+    → type_marked t p v m ≡ added m (type_marked t p v none)

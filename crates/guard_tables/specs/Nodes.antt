@@ -1,5 +1,5 @@
--- The nodes of a type are the type itself and its parts at any depth. A way leads to one by the positions of components and alternatives
--- in their written lists, from 0; all elements of an OF type are its part 0.
+-- The nodes of a type are the type itself and its parts at any depth. A way leads to one by the positions of components
+-- and alternatives in their written lists, from 0; all elements of an OF type are its part 0.
 use Rattle.std.specs.Prelude.{ℕ, suc, List, [], ◌∷◌, ◌++◌, map}
 use Rattle.guard_model.specs.AbstractType as type
 use Rattle.guard_model.specs.AbstractType.{AbstractType, AbstractKind, Components, type_of, no_components, component}
@@ -24,7 +24,7 @@ abbrev mutual
   ways_inside (type.enumerated items) = []
   ways_inside (type.characters kind) = []
 
-  -- through these components, the first of which stands at this place
+  -- through these components, the first of which is at this place
   pub ways_among : ℕ → Components → List (List ℕ)
   ways_among place no_components = []
   ways_among place (component name t presence cs) = map (λ way. place ∷ way) (ways t) ++ ways_among (suc place) cs

@@ -1,4 +1,5 @@
--- What the nodes of a table stand for: a tree that has, at each node, how its octets are read and what is asked of its value.
+-- What the nodes of a table stand for: a tree that says, at each node, how its octets are read and what is asked of its
+-- value.
 use Rattle.std.specs.Prelude.{ℕ, ℤ, Bool, List, [], ◌∷◌, Option}
 use Rattle.guard_model.specs.declared.tag.Tag.{Tag}
 use Rattle.guard_model.specs.AbstractType.{AbstractKind}
@@ -21,7 +22,8 @@ pub record AbstractCondition : Type 0 where
   pub slots : Slots
   pub test : AbstractTest
 
--- What is said of a component, beside its type. Of an alternative `present` alone counts: what fails where it is the chosen one.
+-- What is said of a component, beside its type. Of an alternative `present` alone counts: what fails where it is the
+-- chosen one.
 pub record Side : Type 0 where
   -- what fails where it isn't there; none where it has to be there
   pub absent : Option Slots
@@ -31,7 +33,8 @@ pub record Side : Type 0 where
   pub default : Option (List ℕ)
 
 mutual
-  -- its tags from the outside in, each but the last a wrapper, and whether the last has the constructed form: as of a type
+  -- its tags from the outside in, each but the last a wrapper, and whether the last has the constructed form: as of
+  -- a type
   pub data Plan : Type 0 where
     plan : List Tag → Bool → Body → Plan
 

@@ -12,7 +12,9 @@ Fails cs z slots = (f : Facts) (m : Slots) → f.number ≡ Some z → condition
 
 -- for both numbers the same
 abbrev pub FailsAlike : List AbstractCondition → ℤ → ℤ → Type 0
-FailsAlike cs y z = (f g : Facts) (m : Slots) → f.number ≡ Some y → g.number ≡ Some z → conditions_marked cs f m ≡ conditions_marked cs g m
+FailsAlike cs y z =
+    (f g : Facts) (m : Slots) → f.number ≡ Some y → g.number ≡ Some z
+    → conditions_marked cs f m ≡ conditions_marked cs g m
 
 -- its slots fail for each of its numbers, and all conditions are on numbers
 abbrev pub IsSegment : List AbstractCondition → Segment → Type 0

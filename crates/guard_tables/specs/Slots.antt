@@ -1,4 +1,5 @@
--- Sets of slots, as four words of 64 bits. Each thing that is asked of a value has a slot, and a set has those slots where it isn't met.
+-- Sets of slots, as four words of 64 bits. Each thing that is asked of a value has a slot, and a set has those slots
+-- where it isn't met.
 use Rattle.std.specs.Prelude.{ℕ, ◌-◌, ◌^◌, Bool, nat_eq, nat_lt, if◌then◌else◌}
 use Rattle.std.specs.Int.{bit_at}
 use Rattle.std.specs.Int.Bits.{bit_and, bit_or, bit_xor}
@@ -18,7 +19,12 @@ only slot =
 
 -- the slots of both
 unfoldable pub added : Slots → Slots → Slots
-added m k = record { first = bit_or m.first k.first; second = bit_or m.second k.second; third = bit_or m.third k.third; fourth = bit_or m.fourth k.fourth }
+added m k = record {
+  first = bit_or m.first k.first;
+  second = bit_or m.second k.second;
+  third = bit_or m.third k.third;
+  fourth = bit_or m.fourth k.fourth;
+}
 
 -- a word with its lowest n bits, all of 64 at most
 abbrev pub low_bits : ℕ → ℕ
@@ -26,7 +32,12 @@ low_bits n = if nat_lt n 64 then 2 ^ n - 1 else 2 ^ 64 - 1
 
 -- the slots below this one
 unfoldable pub below : ℕ → Slots
-below slot = record { first = low_bits slot; second = low_bits (slot - 64); third = low_bits (slot - 128); fourth = low_bits (slot - 192) }
+below slot = record {
+  first = low_bits slot;
+  second = low_bits (slot - 64);
+  third = low_bits (slot - 128);
+  fourth = low_bits (slot - 192);
+}
 
 -- the bits of one word that aren't in the other
 abbrev pub bits_without : ℕ → ℕ → ℕ
@@ -34,7 +45,12 @@ bits_without a b = bit_and a (bit_xor a b)
 
 -- the slots of one that aren't in the other
 unfoldable pub without : Slots → Slots → Slots
-without m k = record { first = bits_without m.first k.first; second = bits_without m.second k.second; third = bits_without m.third k.third; fourth = bits_without m.fourth k.fourth }
+without m k = record {
+  first = bits_without m.first k.first;
+  second = bits_without m.second k.second;
+  third = bits_without m.third k.third;
+  fourth = bits_without m.fourth k.fourth;
+}
 
 abbrev pub bit_of : Slots → ℕ → ℕ
 bit_of m slot =

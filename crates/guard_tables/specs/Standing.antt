@@ -29,7 +29,8 @@ Spells kind =
 abbrev pub inside_at : List Tag → AbstractKind → reading.Body
 inside_at [] kind = contents_at kind
 inside_at (t ∷ []) kind = contents_at kind
-inside_at (t ∷ u ∷ ts) kind = λ at start os. alone_at (same_tag u) (tags_at (u ∷ ts) (is_constructed kind) (contents_at kind) (untagged_at kind)) start os
+inside_at (t ∷ u ∷ ts) kind = λ at start os.
+    alone_at (same_tag u) (tags_at (u ∷ ts) (is_constructed kind) (contents_at kind) (untagged_at kind)) start os
 
 -- The octets that are stored of a default tell it from each other value.
 abbrev pub Tells : List Tag → AbstractKind → AbstractValue → List ℕ → Type 0
@@ -51,7 +52,8 @@ SideFor side p tags kind type.optional = IsTrue (is_some side.absent) × (side.d
 SideFor side p tags kind type.pending = ⊥
 SideFor side p tags kind (type.default d) =
     IsTrue (is_some side.absent) × DefaultFor side.default tags kind d
-    × ((m : Slots) → type_marked (type_of tags kind type.no_constraints) p d (added m side.present) ≡ absence_marked side.absent m)
+    × ((m : Slots)
+    → type_marked (type_of tags kind type.no_constraints) p d (added m side.present) ≡ absence_marked side.absent m)
 
 -- ---- types
 
@@ -59,7 +61,8 @@ SideFor side p tags kind (type.default d) =
 abbrev pub SimpleFor : AbstractKind → AbstractKind → Type 0
 SimpleFor type.boolean type.boolean = ⊤
 SimpleFor (type.integer one) (type.integer other) = ⊤
-SimpleFor (type.bit_string one) (type.bit_string other) = has_named_bits (type.bit_string one) ≡ has_named_bits (type.bit_string other)
+SimpleFor (type.bit_string one) (type.bit_string other) =
+    has_named_bits (type.bit_string one) ≡ has_named_bits (type.bit_string other)
 SimpleFor type.octet_string type.octet_string = ⊤
 SimpleFor type.null type.null = ⊤
 SimpleFor type.object_identifier type.object_identifier = ⊤
@@ -80,7 +83,8 @@ IsWhole (formula raises body) = IsWhole body
 
 abbrev mutual
   pub PlanFor : Plan → AbstractType → Type 0
-  PlanFor (plan tags constructed body) (type_of others kind cons) = (tags ≡ others) × (constructed ≡ is_constructed kind) × BodyFor body kind
+  PlanFor (plan tags constructed body) (type_of others kind cons) =
+      (tags ≡ others) × (constructed ≡ is_constructed kind) × BodyFor body kind
 
   pub BodyFor : Body → AbstractKind → Type 0
   BodyFor (simple one cs) kind = SimpleFor one kind
@@ -96,7 +100,8 @@ abbrev mutual
 
   pub PartsFor : Parts → Components → Type 0
   PartsFor no_parts no_components = ⊤
-  PartsFor (part side p ps) (component name (type_of tags kind cons) presence cs) = PlanFor p (type_of tags kind cons) × SideFor side p tags kind presence × PartsFor ps cs
+  PartsFor (part side p ps) (component name (type_of tags kind cons) presence cs) =
+      PlanFor p (type_of tags kind cons) × SideFor side p tags kind presence × PartsFor ps cs
   PartsFor ps cs = ⊥
 
   pub AlternativesFor : Parts → Components → Type 0

@@ -1,4 +1,4 @@
--- How the nodes of a table stand for plans: parts before wholes, so that each stands for what those before it make of it.
+-- How the nodes of a table stand for plans: parts before wholes, so each stands for what those before it make of it.
 use Rattle.std.specs.Prelude.{ℕ, ◌+◌, ◌<◌, ◌≤◌, ◌≡◌, ◌≤ℤ◌, Bool, true, false, List, [], ◌∷◌, ◌++◌, length, take, drop, map, slice_get, get_or, Option, Some, None, option_map}
 use Rattle.std.specs.Option.{is_none}
 use Rattle.guard_model.specs.declared.tag.Tag.{Tag}
@@ -24,7 +24,10 @@ pub record Spot : Type 0 where
   pub plan : Plan
 
 abbrev pub blank : Spot
-blank = record { side = record { absent = None; present = none; default = None }; plan = plan [] false (simple type.null []) }
+blank = record {
+  side = record { absent = None; present = none; default = None };
+  plan = plan [] false (simple type.null []);
+}
 
 abbrev pub spot_at : List Spot → ℕ → Spot
 spot_at spots k = get_or spots k blank
@@ -83,12 +86,18 @@ form_of_kind kind.Asked inner = inner
 form_of_kind kind.Formula inner = inner
 
 abbrev pub side_of : Hot → Cold → Side
-side_of h c = record { absent = absence_of h.need c.absent; present = c.present; default = option_map (λ v. v.items) c.default }
+side_of h c = record {
+  absent = absence_of h.need c.absent;
+  present = c.present;
+  default = option_map (λ v. v.items) c.default;
+}
 
 unfoldable pub spot_of : Hot → Cold → List Spot → Spot
 spot_of h c spots = record {
   side = side_of h c;
-  plan = plan (tags_of_kind h.kind c.tag (tags_in (spot_at spots h.first).plan)) (form_of_kind h.kind (form_in (spot_at spots h.first).plan)) (body_of_kind h.kind h c spots);
+  plan = plan (tags_of_kind h.kind c.tag (tags_in (spot_at spots h.first).plan))
+      (form_of_kind h.kind (form_in (spot_at spots h.first).plan))
+      (body_of_kind h.kind h c spots);
 }
 
 -- what all of them stand for, the first of them beside those before it
@@ -125,7 +134,8 @@ pub record IsFree (s : Spot) (os : List ℕ) : Type 0 where
 
 -- So are those that spell a number from low to high.
 abbrev pub IsPlain : Hot → Spot → Type 0
-IsPlain h s = (os : List ℕ) → integer_fault os ≡ None → h.low ≤ℤ twos_complement os → twos_complement os ≤ℤ h.high → IsFree s os
+IsPlain h s =
+    (os : List ℕ) → integer_fault os ≡ None → h.low ≤ℤ twos_complement os → twos_complement os ≤ℤ h.high → IsFree s os
 
 abbrev pub has_inner : Kind → Bool
 has_inner (kind.Simple k) = false
@@ -140,7 +150,7 @@ has_inner kind.Formula = true
 
 -- what holds of a node at place k beside these
 pub record IsNode (h : Hot) (c : Cold) (spots : List Spot) (k : ℕ) : Type 0 where
-  -- its parts stand before it
+  -- its parts are before it
   pub before : h.first + h.count ≤ k
   pub inner : has_inner h.kind ≡ true → h.first < k
   pub identifier : h.identifier ≡ identifier_of (tags_in (spot_of h c spots).plan) (form_in (spot_of h c spots).plan)
@@ -152,4 +162,5 @@ pub record IsNode (h : Hot) (c : Cold) (spots : List Spot) (k : ℕ) : Type 0 wh
 
 pub record IsBuilt (hots : List Hot) (colds : List Cold) : Type 0 where
   pub lengths : length colds ≡ length hots
-  pub each : (k : ℕ) (h : Hot) (c : Cold) → slice_get hots k ≡ Some h → slice_get colds k ≡ Some c → IsNode h c (spots_of hots colds) k
+  pub each : (k : ℕ) (h : Hot) (c : Cold) → slice_get hots k ≡ Some h → slice_get colds k ≡ Some c
+      → IsNode h c (spots_of hots colds) k

@@ -1,4 +1,5 @@
-//! All that is asked at a node: the tests of the node, and the formulas over its slots where not all demands are conjunctions.
+//! All that is asked at a node: the tests of the node, and the formulas over its slots where not all demands are
+//! conjunctions.
 ghost use Rattle.std.specs.Prelude.{◌≡◌, ◌≤◌, map, IfOk};
 ghost use Rattle.guard_tables.specs.Forms.{forms_of};
 ghost use Rattle.guard_tables.specs.NodeViews.{raise_view};

@@ -1,5 +1,5 @@
-//! The conditions that types and constraints lay on one node. They are counted up to the greatest number of a usize, which
-//! is far more than a node may have.
+//! The conditions that types and constraints lay on one node. They are counted up to the greatest number of a usize,
+//! which is far more than a node may have.
 ghost use Rattle.std.specs.Prelude.{◌≡◌, [], map, not, nat_le};
 ghost use Rattle.guard_model.specs.TypeView.{type_view, constraint_view, element_view, constraints_of};
 ghost use Rattle.guard_tables.specs.Conditions.{of_type, of_constraints, of_constraint, of_element, most_conditions};
@@ -65,7 +65,7 @@ fn of_constraints(constraints: &[Cons]) -> usize
     count
 }
 
-/// One of the constraint itself, and those of what stands in it.
+/// One of the constraint itself, and those of what is in it.
 #[cycle(conditions)]
 fn of_constraint(constraint: &Cons) -> usize
     ensures { result ≡ counted (of_constraint (constraint_view constraint.now) []) }
@@ -74,7 +74,7 @@ fn of_constraint(constraint: &Cons) -> usize
     own.saturating_add(of_rule(&constraint.rule))
 }
 
-/// What speaks of parts lays nothing on the node; inside SIZE stand conditions on a number, which don't count.
+/// What speaks of parts lays nothing on the node; inside SIZE are conditions on a number, which don't count.
 #[cycle(conditions)]
 fn of_rule(rule: &Rule) -> usize
     ensures { result ≡ counted (of_element (element_view rule.now) []) }

@@ -6,8 +6,8 @@ use guard_model::OutOfMemory;
 use std::alloc::{AllocError, AllocFailed};
 use thiserror::Error;
 
-/// Why the types of a message and its rules make no table. Too many rules come first, then the first rule with another type, then
-/// too many conditions.
+/// Why the types of a message and its rules make no table. Too many rules come first, then the first rule with another
+/// type, then too many conditions.
 #[derive(Clone, Copy, Debug, PartialEq, Eq, Error)]
 pub enum TableFault {
     /// The type of the rule at this place, from 0, hasn't the declared type's tags and base.

@@ -7,7 +7,8 @@ use crate::asks::{Atom, Term};
 use guard_model::OutOfMemory;
 use std::alloc::Global;
 
-/// To so many parts; `exclusive` where only one of them is there, as of a CHOICE: that it is another one speaks of each.
+/// To so many parts; `exclusive` where only one of them is there, as of a CHOICE: that it is another one speaks of
+/// each.
 pub(crate) fn give_out<'a>(
     alloc: Global,
     exclusive: bool,

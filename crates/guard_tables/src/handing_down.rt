@@ -1,5 +1,5 @@
-//! What lays conditions on the parts of a node: of all that lays conditions on the node, what speaks of each part, given
-//! out in one pass.
+//! What lays conditions on the parts of a node: of all that lays conditions on the node, what speaks of each part,
+//! given out in one pass.
 ghost use Rattle.std.specs.Prelude.{◌≡◌, [], map, replicate, OnOk, IfOk};
 ghost use Rattle.guard_model.specs.TypeView.{type_view, kind_view, component_view, constraint_view, element_view, part_view, components_of, constraints_of, parts_of};
 ghost use Rattle.guard_tables.specs.inside.Counting.{source_view, sources_view};

@@ -1,4 +1,5 @@
-//! The types of a table: the declared one, and those of its rules in order. Each type is kept once, however many rules have it.
+//! The types of a table: the declared one, and those of its rules in order. Each type is kept once, however many rules
+//! have it.
 ghost use Rattle.std.specs.Prelude.{◌≡◌};
 ghost use Rattle.guard_tables.specs.inside.SharedTypes.{type_at};
 

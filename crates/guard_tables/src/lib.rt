@@ -2,23 +2,42 @@
 //!
 //! | question | code | definition |
 //! |---|---|---|
-//! | What is a table, and which types make one? | `table.rt` (`Table::compile`), its types `kept_types.rt` | `specs/TableView.antt`, `specs/Tables.antt` |
-//! | Why do types make none, and which reason comes first? | `fault.rt` | `specs/Tables.antt` |
-//! | What is asked of a value at a node, and how much is too much? | `conditions.rt` | `specs/Conditions.antt`, as it is counted `specs/inside/Counting.antt` |
-//! | At which nodes is that looked at, and what is laid on parts? | `nodes.rt`, `handing_down.rt` | `specs/Conditions.antt`, as it is looked for `specs/inside/Search.antt`, `specs/inside/HandingDown.antt` |
-//! | Which types does a table keep once, and what do they ask together? | `sharing.rt`, `same_types.rt` | `specs/inside/SharedTypes.antt`, `specs/inside/Sharing.antt`, `specs/inside/SameParts.antt` |
-//! | Which slots have failed? | `slots.rt` | `specs/Slots.antt` |
-//! | How are the nodes of a table put together? | `layout.rt` (`lay_nodes`), a node `drafts.rt`, `kinds_of_nodes.rt`, `identifiers.rt`, steps `assembly.rt`, `laid.rt` | `specs/Lay.antt`, `specs/inside/Laid.antt`, `specs/inside/Bare.antt`, `specs/inside/Aside.antt` |
-//! | Which tests has a node, and what is said of a component beside its type? | `conditions_at_node.rt`, `sides.rt`, octets `encoded.rt` | `specs/Lay.antt`, `specs/inside/SideViews.antt` |
-//! | What fails for a number of many conditions on one number? | `conditions_list.rt` (`Conditions::failed_at`), `segments.rt` | `specs/Marking.antt`, `specs/Segments.antt` |
-//! | Which numbers fail nothing at a node? | `plain_interval.rt` | `specs/TableNodes.antt` (`IsFree`), `specs/inside/Intervals.antt` |
-//! | What do nodes stand for, and what fails at a value? | laws `marking_laws.rt` | `specs/Plan.antt`, `specs/Formulas.antt`, `specs/Marking.antt` |
-//! | For which types does a plan stand, and for which a table's nodes? | `table.rt` | `specs/Standing.antt`, `specs/StandsFor.antt` |
-//! | Which nodes are there, and what keeps them in order? | `node.rt`, `node_list.rt` | `specs/NodeViews.antt`, `specs/TableNodes.antt`, `specs/NodesView.antt` |
-//! | How is what types and constraints ask tested at one node? | `slots.rt` | `specs/Demands.antt`, `specs/Spread.antt`, `specs/Forms.antt` |
-//! | Which plan asks all of it, and how many slots does a node need? | laws in `laws.rt` | `specs/Lay.antt`, `specs/Handed.antt`, `specs/Laws.antt` |
-//! | What is asked at a node, in code? | `asks.rt`; as tests `spreading.rt`, `parts.rt`, as formulas `form_terms.rt`, `asks_at_node.rt`, of parts `giving.rt`, `gathering.rt`, `presence.rt` | `specs/inside/AskViews.antt`, as it is put together `specs/inside/OnePart.antt`, `specs/inside/FormSteps.antt` |
-//! | Which numbers, sizes and scalar values does a constraint have, as one set? | `number_sets.rt`, `range_lists.rt`, `simple_tests.rt`, `scalars.rt` | `specs/inside/NumberSets.antt`, `specs/inside/Pieces.antt`, `specs/inside/Scalars.antt` |
+//! | What is a table, and which types make one? | `table.rt` (`Table::compile`) | `TableView.antt`, `Tables.antt` |
+//! | Why do types make none, and which reason comes first? | `fault.rt` | `Tables.antt` |
+//! | Which types does a table keep? | `kept_types.rt`, each once `sharing.rt` | `SharedTypes.antt`, `Sharing.antt` |
+//! | When are two types one and the same? | `same_types.rt` | `SameParts.antt` |
+//! | What is asked of a value at a node, how much is too much? | `conditions.rt` | `Conditions.antt`, `Counting.antt` |
+//! | At which nodes is that looked at? | `nodes.rt` | `Conditions.antt`, `Search.antt` |
+//! | What is laid on the parts of a node? | `handing_down.rt` | `HandingDown.antt` |
+//! | Which slots have failed? | `slots.rt` | `Slots.antt` |
+//! | How are the nodes of a table put together? | `layout.rt` (`lay_nodes`) | `Lay.antt` |
+//! | By which steps? | `assembly.rt`, `laid.rt` | `Laid.antt`, `Bare.antt`, `Aside.antt` |
+//! | What is a node before it is with the others? | `drafts.rt`, `kinds_of_nodes.rt`, `identifiers.rt` | `Lay.antt` |
+//! | Which tests has a node? | `conditions_at_node.rt`, octets `encoded.rt` | `Lay.antt` |
+//! | What is said of a component beside its type? | `sides.rt` | `Lay.antt`, `SideViews.antt` |
+//! | What fails for a number? | `conditions_list.rt` (`Conditions::failed_at`) | `Marking.antt` |
+//! | And of many conditions on one number? | `segments.rt` | `Segments.antt` |
+//! | Which numbers fail nothing at a node? | `plain_interval.rt` | `TableNodes.antt` (`IsFree`), `Intervals.antt` |
+//! | What do nodes stand for? | laws `marking_laws.rt` | `Plan.antt`, `Formulas.antt` |
+//! | What fails at a value? | laws `marking_laws.rt` | `Marking.antt`, `MarkingLaws.antt` |
+//! | For which types does a plan stand, for which a table's nodes? | `table.rt` | `Standing.antt`, `StandsFor.antt` |
+//! | Which nodes are there? | `node.rt` | `NodeViews.antt` |
+//! | What keeps them in order? | `node_list.rt` | `TableNodes.antt`, `NodesView.antt` |
+//! | Which tests of one node test what types and constraints ask? | `laws.rt` | `Demands.antt`, `Spread.antt` |
+//! | And which formulas over its slots? | `laws.rt` | `Forms.antt` |
+//! | Which plan asks all of it, how many slots does a node need? | `laws.rt` | `Lay.antt`, `Handed.antt`, `Laws.antt` |
+//! | What is asked at a node, in code? | `asks.rt` | `AskViews.antt` |
+//! | Which of it is a conjunction, that tests ask in full? | `plain.rt` | `Spread.antt` |
+//! | The same as tests | `spreading.rt`, `parts.rt` | `Spread.antt`, `OnePart.antt` |
+//! | The same as formulas | `form_terms.rt`, `form_trees.rt`, `asks_at_node.rt` | `FormSteps.antt` |
+//! | The same of parts | `giving.rt`, `gathering.rt` | `Handed.antt`, `Giving.antt` |
+//! | The same of a component's presence | `presence.rt` | `Lay.antt` |
+//! | Which numbers does a constraint have? | `number_sets.rt` | `NumberSets.antt` |
+//! | Which sizes and characters? | `simple_tests.rt` | `Lay.antt` |
+//! | And as one set of ranges? | `range_lists.rt` | `Pieces.antt` |
+//! | Which values of the other simple kinds? | `scalars.rt` | `Scalars.antt` |
+//!
+//! The definitions are in `specs/`; what only private contracts cite is in `specs/inside/`.
 #![tactic(auto)]
 
 mod asks;

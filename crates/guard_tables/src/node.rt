@@ -21,7 +21,7 @@ pub enum SimpleKind {
 #[derive(Clone, Copy, PartialEq, Eq, Debug)]
 pub enum Kind {
     Simple(SimpleKind),
-    /// SEQUENCE, SET and CHOICE: their parts stand side by side in the nodes.
+    /// SEQUENCE, SET and CHOICE: their parts are side by side in the nodes.
     Series,
     Set,
     Choice,
@@ -49,7 +49,8 @@ pub enum Need {
 /// What every message reads of a node.
 #[derive(Clone, Copy, Debug)]
 pub struct Hot {
-    /// Its identifier octet and the one of the other form; 256 where it has none: for a tag from 31 on, and for a CHOICE without a tag.
+    /// Its identifier octet and the one of the other form; 256 where it has none: for a tag from 31 on, and for a
+    /// CHOICE without a tag.
     pub identifier: u16,
     pub other: u16,
     pub kind: Kind,

@@ -1,5 +1,5 @@
-//! Sets of integers of signed 128 bits, as lists of ranges. Those that are made here from the list of all integers are in ascending
-//! order and apart.
+//! Sets of integers of signed 128 bits, as lists of ranges. Those that are made here from the list of all integers are
+//! in ascending order and separated.
 ghost use Rattle.std.specs.Prelude.{◌≡◌, ◌++◌, ℤ, not, ◌&&◌, ◌||◌, OnOk, IfOk};
 ghost use Rattle.std.specs.Int.{int_max, int_min};
 ghost use Rattle.guard_model.specs.Limits.{fits_128_bits};

@@ -8,7 +8,8 @@ ghost use Rattle.guard_tables.specs.inside.SameParts.{same_component, same_part,
 
 use guard_model::{Comp, Cons, Kind, Limit, Named, Part, Presence, Rule, Site, Tag, Ty};
 
-/// Whether both are one and the same type. Constraints come first: rules' types mostly differ there, and kinds are large.
+/// Whether both are one and the same type. Constraints come first: rules' types mostly differ there, and kinds are
+/// large.
 #[cycle(same_types)]
 pub(crate) fn are_same_types(one: &Ty, two: &Ty) -> bool
     ensures { result ≡ same_type (type_view one.now) (type_view two.now) }

@@ -21,8 +21,8 @@ use std::alloc::Global;
 /// How many rules a message may have.
 const MOST_RULES: usize = 255;
 
-/// The types by which messages of one name are judged: the declared one, and one for each rule. Its nodes ask all of them
-/// at once, the declared type with slot 0 and rule i with slot i + 1.
+/// The types by which messages of one name are judged: the declared one, and one for each rule. Its nodes ask all of
+/// them at once, the declared type with slot 0 and rule i with slot i + 1.
 #[derive(Drop)]
 pub struct Table {
     pub types: KeptTypes,
@@ -45,9 +45,9 @@ impl Table {
 
     /// The table of a declared type and the types of rules.
     ///
-    /// It refuses, with the first that stands: TooManyRules for more than 255 rules; RuleTypeMismatch with the place of the first
-    /// rule whose type hasn't the tags and the base of the declared one; TooManyConditions where all types together ask more than
-    /// 256 things of a value at one node. OutOfMemory may stand in place of any answer.
+    /// It refuses, with the first that applies: TooManyRules for more than 255 rules; RuleTypeMismatch with the place
+    /// of the first rule whose type hasn't the tags and the base of the declared one; TooManyConditions where all types
+    /// together ask more than 256 things of a value at one node. OutOfMemory may come in place of any answer.
     pub fn compile(alloc: Global, declared: &Ty, rules: &[&Ty]) -> Result<Table, TableFault>
         requires declared_sound { IsTrue (is_sound (type_view declared.now)) }
         requires rules_sound { All (λ t. IsTrue (is_sound t)) (types_view rules.now) }

@@ -11,7 +11,7 @@ use Rattle.guard_model.proofs.Options.{option_or_some, option_or_none}
 use Rattle.guard_model.proofs.Tests.{chosen}
 use Rattle.guard_tagcheck.proofs.Options.{paired_some, paired_none}
 
--- behind component k a later one may come next
+-- a later component may come next, past component k
 abbrev pub PassedAt : Bool → Components → ℕ → Type 0
 PassedAt in_sequence cs k = IfSome (component_at k cs) (λ c. IsTrue (is_passed in_sequence c.presence))
 

@@ -48,7 +48,7 @@ module _ (s : Bool) (cs : Components) (n : ℕ) (c : OneComponent) (at : compone
     | inr more ↦ let same : k ≡ n = omega (arith, lt, more) in rw same (passed_here passed)
   ]
 
-  -- ---- the notes behind component n
+  -- ---- the notes after component n
 
   earlier_open : (tag : Tag) (i : ℕ) → i < n → Open s cs (n + 1) tag i → Open s cs n tag i
   earlier_open tag i lt o = (lt, λ k le less. o.1 k le (omega (arith, less)), o.2)

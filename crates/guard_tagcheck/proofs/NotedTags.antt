@@ -17,7 +17,7 @@ use Rattle.guard_model.specs.contracts.tag.TagOrd.TheImpl as derived
 use Rattle.guard_model.proofs.Tags.{equal_tags, same_tag_itself}
 use Rattle.guard_tagcheck.specs.inside.Noting.{noted, IsEarliest, Notes, IsNoted, earlier}
 
--- ---- the derived order of tags tells which are the same
+-- ---- the derived order of tags says which are the same
 
 same_number : (x y : ℕ) → is_eq (nat_cmp x y) ≡ eqb x y
 same_number x y = elim (cases_order x y) [

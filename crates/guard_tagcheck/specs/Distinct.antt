@@ -13,8 +13,9 @@ use Rattle.guard_tagcheck.specs.FirstTags.{begins_with}
 abbrev pub CanBeAbsent : Components → ℕ → ℕ → Type 0
 CanBeAbsent cs i j = (k : ℕ) → i ≤ k → k < j → IfSome (component_at k cs) (λ c. c.presence ≢ type.mandatory)
 
--- The tags of component i must differ from those of the later component j: in a SEQUENCE where the encoding that comes after
--- those of the components before i may be that of either one (25.6), in a SET (27.3) and in a CHOICE (29.3) always.
+-- The tags of component i must differ from those of the later component j: in a SEQUENCE where the encoding that comes
+-- after those of the components before i may be that of either one (25.6), in a SET (27.3) and in a CHOICE (29.3)
+-- always.
 abbrev pub MustDiffer : AbstractKind → ℕ → ℕ → Type 0
 MustDiffer (type.sequence cs) i j = (i < j) × CanBeAbsent cs i j
 MustDiffer (type.set cs) i j = i < j
@@ -30,7 +31,9 @@ abbrev pub Collide : AbstractType → ℕ → ℕ → Type 0
 Collide (type_of tags kind cons) i j =
     MustDiffer kind i j
     × ((a : OneComponent) × (b : OneComponent)
-    × (component_at i (components_in kind) ≡ Some a) × (component_at j (components_in kind) ≡ Some b) × ShareTag a.ty b.ty)
+    × (component_at i (components_in kind) ≡ Some a)
+    × (component_at j (components_in kind) ≡ Some b)
+    × ShareTag a.ty b.ty)
 
 abbrev pub component_type : ℕ → Components → Option AbstractType
 component_type i no_components = None
@@ -51,7 +54,7 @@ abbrev pub type_at : List Step → AbstractType → Option AbstractType
 type_at [] t = Some t
 type_at (step ∷ path) (type_of tags kind cons) = elim (part_at kind step) [ None ↦ None | Some u ↦ type_at path u ]
 
--- At the end of the path stands a type of which components i and j collide.
+-- The path leads to a type of which components i and j collide.
 abbrev pub CollideAt : AbstractType → List Step → ℕ → ℕ → Type 0
 CollideAt t path i j = (u : AbstractType) × (type_at path t ≡ Some u) × Collide u i j
 
@@ -77,8 +80,8 @@ Before [] (r ∷ q) = Unit {0}
 Before (s ∷ p) [] = ⊥
 Before (s ∷ p) (r ∷ q) = (place s < place r) ⊎ ((s ≡ r) × Before p q)
 
--- Two components collide, and no two do in a type that comes before, nor a lesser pair in the same one. So no type round theirs
--- has such a pair, and theirs is the first in written order that lies in no other one with such a pair.
+-- Two components collide, and no two do in a type that comes before, nor a lesser pair in the same one. So no type
+-- around theirs has such a pair, and of the types that are in no other one with such a pair theirs is written first.
 abbrev pub IsClash : AbstractType → AbstractClash → Type 0
 IsClash t c =
     CollideAt t c.path c.first c.second

@@ -1,9 +1,9 @@
--- when the tags of components tell them apart
+-- when the tags of components distinguish them
 pub mod FirstTags
 pub mod Distinct
 -- which types are looked at
 pub mod Limits
--- how the first clash is looked for, and what the code's answer stands for
+-- how the first clash is looked for, and what the code's answer means
 pub mod Search
 -- how it is looked for with a map of the tags
 pub mod Views

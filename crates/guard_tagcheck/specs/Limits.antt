@@ -1,4 +1,4 @@
--- The limits of this profile. Types that stand inside constraints and defaults don't count.
+-- The limits of this profile. Types inside constraints and defaults don't count.
 use Rattle.std.specs.Prelude.{ℕ, suc, ◌+◌, Bool, true, false, ◌&&◌, ◌||◌, List, [], ◌∷◌, length, max, nat_le}
 use Rattle.guard_model.specs.AbstractType as type
 use Rattle.guard_model.specs.AbstractType.{AbstractType, AbstractKind, Components, type_of, no_components, component}
@@ -76,7 +76,9 @@ abbrev pub type_within : AbstractType → ℕ → Bool
 type_within t depth = keeps_limits t && nat_le (nesting t) depth
 
 abbrev pub kind_within : AbstractKind → ℕ → Bool
-kind_within kind depth = nat_le (component_count (components_in kind)) most_components && (parts_keep_limits kind && nat_le (nesting_inside kind) depth)
+kind_within kind depth =
+    nat_le (component_count (components_in kind)) most_components
+    && (parts_keep_limits kind && nat_le (nesting_inside kind) depth)
 
 abbrev pub all_within : Components → ℕ → Bool
 all_within cs depth = components_keep_limits cs && nat_le (deepest cs) depth

@@ -26,11 +26,12 @@ abbrev pub is_mandatory : AbstractPresence → Bool
 is_mandatory type.mandatory = true
 is_mandatory _ = false
 
--- behind a component with this presence a later one may come next: in a SEQUENCE only where it can be absent
+-- A later component may come next, past one with this presence: in a SEQUENCE only where it can be absent.
 abbrev pub is_passed : Bool → AbstractPresence → Bool
 is_passed in_sequence presence = not in_sequence || not (is_mandatory presence)
 
--- the position of the first of these components that shares a tag with a type before them; the first of them is component j
+-- the position of the first of these components that shares a tag with a type before them; component j is the first of
+-- them
 abbrev pub partner : Bool → AbstractType → ℕ → Components → Option ℕ
 partner in_sequence a j no_components = None
 partner in_sequence a j (component name t presence rest) =
@@ -76,4 +77,5 @@ abbrev mutual
   -- in the types of these components, of which the first is component i
   pub clash_inside : ℕ → Components → Option AbstractClash
   clash_inside i no_components = None
-  clash_inside i (component name t presence rest) = option_or (inside (Component i) (first_clash t)) (clash_inside (suc i) rest)
+  clash_inside i (component name t presence rest) =
+      option_or (inside (Component i) (first_clash t)) (clash_inside (suc i) rest)

@@ -1,4 +1,4 @@
--- What the code's answers stand for.
+-- What the code's answers mean.
 use Rattle.guard_tagcheck.specs.declared.clash.Clash.{Clash}
 use Rattle.guard_tagcheck.specs.Distinct.{AbstractClash}
 

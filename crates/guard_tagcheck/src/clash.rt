@@ -7,8 +7,8 @@ use thiserror::Error;
 #[derive(Debug, Drop, Error)]
 #[error("{way} {first} {second}", way = PathText(.path))]
 pub struct Clash {
-    /// The way from the type to the SEQUENCE, SET or CHOICE. A component or alternative is `Step::Component`, the type of
-    /// an OF type's elements `Step::Element(0)`.
+    /// The way from the type to the SEQUENCE, SET or CHOICE. A component or alternative is `Step::Component`, the type
+    /// of an OF type's elements `Step::Element(0)`.
     pub path: Path,
     /// The position of the earlier one in the written list, from 0.
     pub first: u8,
@@ -22,7 +22,7 @@ impl Clash {
     ghost use Rattle.guard_tagcheck.specs.Search.{below};
     ghost use Rattle.guard_tagcheck.specs.Views.{clash_view};
 
-    /// The clash of a part, seen from the type round it.
+    /// The clash of a part, with the path from the type that has the part.
     pub(crate) fn below(mut self, step: Step) -> Clash
         requires { length self.path.items < deepest_nesting }
         ensures { clash_view result ≡ below step (clash_view self) }

@@ -14,9 +14,9 @@ use crate::noting::least_pair;
 use guard_model::{Comp, Kind, OutOfMemory, Path, Step, Ty};
 use std::alloc::Global;
 
-/// The first clash of the type, or None where tags tell its components and alternatives apart: the question of `check`, with
-/// memory. At each SEQUENCE, SET and CHOICE it looks the first tags of the components up in a map, each of n once, so that it takes
-/// n log n steps, where `check` compares each two of them. Want of memory is its one refusal.
+/// The first clash of the type, or None where all tags differ that must: what `check` says too, found with memory. At
+/// each SEQUENCE, SET and CHOICE it looks up the first tags of the components in a map, each of n once, so that it
+/// takes n log n steps, where `check` compares each two of them. It fails only where memory runs out.
 pub fn find_clash(alloc: Global, ty: &Ty) -> Result<Option<Clash>, OutOfMemory>
     requires { IsTrue (is_within_limits (type_view ty.now)) }
     // Where it finds none, all differ.

@@ -7,8 +7,8 @@ ghost use Rattle.guard_tagcheck.specs.Search.{share_tag, one_shares_tag};
 
 use guard_model::{Comp, Kind, Tag, Ty};
 
-/// Whether an encoding of either type may begin with the same tag. It takes as many steps as the one type has first tags
-/// times the other, and no memory.
+/// Whether an encoding of either type may begin with the same tag. It takes as many steps as there are pairs of a first
+/// tag of the one type and a first tag of the other, and no memory.
 #[cycle(sharing)]
 pub(crate) fn share_tag(a: &Ty, b: &Ty) -> bool
     ensures { result ≡ share_tag (type_view a.now) (type_view b.now) }

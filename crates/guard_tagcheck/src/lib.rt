@@ -1,9 +1,9 @@
-//! Whether the tags of a type's components and alternatives tell them apart (X.680 25.6, 27.3, 29.3).
+//! Whether the tags of a type's components and alternatives distinguish them (X.680 25.6, 27.3, 29.3).
 //!
 //! | question | code | definition |
 //! |---|---|---|
-//! | Do the tags of a type tell its components apart, or which two are the first that clash? | `search.rt` (`check`) | `specs/Distinct.antt`, `specs/Search.antt` |
-//! | The same, with memory for a map of the tags? | `find.rt` (`find_clash`), `noting.rt` | `specs/Distinct.antt`, `specs/inside/Noting.antt` |
+//! | Which components are the first that clash? | `search.rt` (`check`) | `specs/Distinct.antt`, `specs/Search.antt` |
+//! | The same, with a map of the tags? | `find.rt` (`find_clash`), `noting.rt` | `specs/inside/Noting.antt` |
 //! | What is a clash, and how does it print? | `clash.rt` | `specs/Distinct.antt`, `specs/Views.antt` |
 //! | With which tags may an encoding of a type begin? | `first_tags.rt` | `specs/FirstTags.antt` |
 //! | Which types can be looked at? | `limits.rt` (`is_within_limits`) | `specs/Limits.antt` |

@@ -7,8 +7,8 @@ ghost use Rattle.guard_tagcheck.specs.Limits.{is_within_limits, is_tagged, kind_
 
 use guard_model::{Comp, DEEPEST_NESTING, Kind, MOST_COMPONENTS, Tag, Ty};
 
-/// Whether each type inside has a tag unless it is a CHOICE, no list of components or alternatives has more than 64, and
-/// the type is nested 32 deep at most: a type takes a level for each of its tags, a CHOICE one more.
+/// Whether each type inside has a tag unless it is a CHOICE, no list of components or alternatives has more than 64,
+/// and the type is nested 32 deep at most: a type takes a level for each of its tags, a CHOICE one more.
 pub fn is_within_limits(ty: &Ty) -> bool
     ensures { result ≡ is_within_limits (type_view ty.now) }
 {

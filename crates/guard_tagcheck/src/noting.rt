@@ -12,8 +12,8 @@ use guard_model::{Comp, Kind, OutOfMemory, Tag, Ty};
 use std::alloc::Global;
 use std::collections::BTreeMap;
 
-/// The least pair of positions whose components must differ in their tags and share one. It looks up each first tag once,
-/// in a map of those before it. Behind a mandatory component of a SEQUENCE none of those before counts.
+/// The least pair of positions whose components must differ in their tags and share one. It looks up each first tag
+/// once, in a map of those before it. After a mandatory component of a SEQUENCE none of those before it counts.
 pub(crate) fn least_pair(
     alloc: Global,
     comps: &[Comp],
@@ -34,8 +34,8 @@ pub(crate) fn least_pair(
     Ok(least)
 }
 
-/// Notes the position at each first tag of the component's type that has none yet. Answers the earliest position before it that
-/// one of them has.
+/// Notes the position at each first tag of the component's type that has none yet. The result is the earliest position
+/// before it that one of them has.
 #[cycle(noting)]
 fn note(notes: &mut BTreeMap<Tag, u8>, ty: &Ty, position: u8) -> Result<Option<u8>, OutOfMemory>
     ensures noted { OnOk result (Notes (noted notes.old.entries) (begins_with (type_view ty.now)) position (noted notes.new.entries)) }
@@ -96,7 +96,7 @@ fn earlier(a: Option<u8>, b: Option<u8>) -> Option<u8>
     }
 }
 
-/// The least pair so far, or one whose second component stands behind all of those.
+/// The least pair so far, or one whose second component comes after all of those.
 fn lesser(least: Option<(u8, u8)>, first: Option<u8>, second: u8) -> Option<(u8, u8)>
     ensures { result ≡ lesser least first second }
 {

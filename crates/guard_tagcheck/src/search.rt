@@ -14,22 +14,22 @@ use crate::clash::Clash;
 use crate::first_tags::share_tag;
 use guard_model::{Comp, Kind, Path, Presence, Step, Ty};
 
-/// Whether the tags tell components and alternatives apart, in the type and in each type inside it. All of a SET (X.680
-/// 27.3) and of a CHOICE (29.3) must differ in theirs; in a SEQUENCE (25.6) a component that may be left out must differ
-/// from those that may then come next, of which the first mandatory one is the last. A CHOICE without a tag counts with
-/// those of its alternatives. Types that stand in constraints and defaults have no part in it.
+/// Whether the tags distinguish components and alternatives, in the type and in each type inside it. All of a SET
+/// (X.680 27.3) and of a CHOICE (29.3) must differ in theirs. In a SEQUENCE (25.6) a component that may be left out
+/// must differ from those that may then come next, of which the first mandatory one is the last. A CHOICE without a tag
+/// counts with those of its alternatives. Types inside constraints and defaults don't count.
 ///
-/// Where two share a tag, it names the first such pair: a type comes before its parts, parts come as they are written, and
-/// in one type the least pair of positions counts.
+/// Where two share a tag, it names the first such pair: a type comes before its parts, parts come as they are written,
+/// and in one type the least pair of positions counts.
 pub fn check(ty: &Ty) -> Result<(), Clash>
     requires { IsTrue (is_within_limits (type_view ty.now)) }
     // Ok says that they all differ.
     ensures distinct { IfOk result (λ x. Distinct (type_view ty.now)) }
     // Where they all differ it is Ok.
     ensures accepted { Distinct (type_view ty.now) → IsOk result }
-    // A clash that is answered is the type's.
+    // A clash that it returns is the type's.
     ensures clash { IfErr result (λ c. IsClash (type_view ty.now) (clash_view c)) }
-    // The type's clash is answered.
+    // It returns the type's clash.
     ensures only { (c : AbstractClash) → IsClash (type_view ty.now) c → Gives (λ x. x) (λ e. Some (clash_view e)) result (Err c) }
 {
     match first_clash(ty) {
@@ -110,7 +110,7 @@ fn first_pair(comps: &[Comp], in_sequence: bool) -> Option<(u8, u8)>
     None
 }
 
-/// The position of the first component behind this one that shares a tag with its type. In a SEQUENCE the next mandatory
+/// The position of the first component after this one that shares a tag with its type. In a SEQUENCE the next mandatory
 /// component is the last that counts.
 fn partner(comps: &[Comp], index: usize, ty: &Ty, in_sequence: bool) -> Option<u8>
     requires there { index < length comps.now }
@@ -129,7 +129,7 @@ fn partner(comps: &[Comp], index: usize, ty: &Ty, in_sequence: bool) -> Option<u
     None
 }
 
-/// Whether a later component may come next behind one with this presence: in a SEQUENCE only where it may be left out.
+/// Whether a later component may come next, past one with this presence: in a SEQUENCE only where it may be left out.
 pub(crate) fn is_passed(presence: &Presence, in_sequence: bool) -> bool
     ensures { result ≡ is_passed in_sequence (presence_view presence.now) }
 {

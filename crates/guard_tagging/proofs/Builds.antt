@@ -4,7 +4,7 @@ use Rattle.std.proofs.lemmas.Option.{same_Some}
 use Rattle.guard_model.specs.AbstractType.{AbstractType}
 use Rattle.guard_syntax.specs.Trees.{WrittenModule}
 use Rattle.guard_tagging.specs.Faults.{nodes}
-use Rattle.guard_tagging.specs.Surroundings.{meaning_at, known_behind, known_from, nodes_of_all}
+use Rattle.guard_tagging.specs.Surroundings.{meaning_at, known_after, known_from, nodes_of_all}
 use Rattle.guard_tagging.specs.Types.{Meaning}
 
 -- ---- a number below the count is that of a definition
@@ -17,15 +17,15 @@ no_such (x ∷ xs) (suc i) l h = no_such xs i (omega (arith, l)) h
 -- ---- a definition more after those that are built
 
 module _ (ms : List WrittenModule) (order : List ℕ) where
-  pub known_end : (known : List Meaning) (rest : List ℕ) → known_behind ms order known rest [] ≡ known
+  pub known_end : (known : List Meaning) (rest : List ℕ) → known_after ms order known rest [] ≡ known
   known_end known [] = refl
   known_end known (n ∷ rest) = refl
 
   known_more : (known : List Meaning) (rest : List ℕ) (types : List AbstractType) (t : AbstractType) (number : ℕ)
       → slice_get rest (length types) ≡ Some number
-      → known_behind ms order known rest (types ++ t ∷ [])
-      ≡ known_behind ms order known rest types
-      ++ meaning_at ms order (known_behind ms order known rest types) number t ∷ []
+      → known_after ms order known rest (types ++ t ∷ [])
+      ≡ known_after ms order known rest types
+      ++ meaning_at ms order (known_after ms order known rest types) number t ∷ []
   known_more known [] types t number h = absurd cc
   known_more known (n ∷ rest) [] t number h =
       known_end (known ++ meaning_at ms order known n t ∷ []) rest

@@ -1,5 +1,4 @@
--- Numbers of items, named numbers and named bits: what digits spell, which are free, and which are there twice.
-pub mod Digits
+-- Numbers of items, named numbers and named bits: which are free, and which are there twice.
 pub mod Repeated
 pub mod Items
 pub mod FreeNumbers

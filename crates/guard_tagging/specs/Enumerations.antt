@@ -4,7 +4,7 @@ use Rattle.std.specs.List.{list_any}
 use Rattle.std.specs.Ordering.{int_eq}
 use Rattle.guard_model.specs.AbstractType.{NamedNumber}
 use Rattle.guard_syntax.specs.Trees.{WrittenNamed, WrittenItem, WrittenNumber}
-use Rattle.guard_tagging.specs.Numbers.{number_of}
+use Rattle.guard_syntax.specs.Numbers.{number_of}
 
 -- the numbers that are written with items
 abbrev pub written_number : Option WrittenNumber → List ℤ

@@ -22,7 +22,7 @@ use Rattle.guard_syntax.specs.declared.tree.TagMode.TheVariants as mode
 use Rattle.guard_syntax.specs.Trees.{WrittenTag, WrittenNamed, WrittenItem, WrittenType, type_node, WrittenBase, plain, numbers, named_bits, enumerated, structure, choice, of_type, named_type, WrittenComponents, no_components, component, components_from, WrittenAlternatives, no_alternatives, alternative}
 use Rattle.guard_tagging.specs.declared.fault.TagFault.{TagFault}
 use Rattle.guard_tagging.specs.declared.fault.TagFault.TheVariants.{UniversalTag, ImplicitChoice, TagTooLarge, ComponentsOfKind, ComponentsOfAutomatic, ComponentsOfTagged, DuplicateName, DuplicateNumber, TooManyComponents, TooDeep, SchemaTooLarge, NumberTooLarge}
-use Rattle.guard_tagging.specs.Numbers.{number_of}
+use Rattle.guard_syntax.specs.Numbers.{number_of}
 use Rattle.guard_tagging.specs.Tagging.{is_untagged_choice, automatic_tag, with_automatic_tag}
 use Rattle.guard_tagging.specs.Types.{Surroundings, denoted, denoted_base, denoted_components, denoted_alternatives, parts_of, is_automatic, is_automatic_list, is_automatic_choice}
 
@@ -160,20 +160,24 @@ abbrev pub repeated : List Placed → List Placed → Option Site
 repeated before [] = None
 repeated before (p ∷ ps) = if list_any (clash_with p) before then Some p.site else repeated (before ++ p ∷ []) ps
 
+-- a name without a number
+abbrev pub placed : Site → List ℕ → Placed
+placed site name = record { site = site; name = name; number = None }
+
 abbrev pub placed_at : Site → Components → List Placed
 placed_at site type.no_components = []
-placed_at site (type.component name t presence cs) = record { site = site; name = name; number = None } ∷ placed_at site cs
+placed_at site (type.component name t presence cs) = placed site name ∷ placed_at site cs
 
 -- the names of components, those that COMPONENTS OF puts in at that word
 abbrev pub component_names : Surroundings → WrittenComponents → List Placed
 component_names around no_components = []
-component_names around (component site name t presence cs) = record { site = site; name = name; number = None } ∷ component_names around cs
+component_names around (component site name t presence cs) = placed site name ∷ component_names around cs
 component_names around (components_from site t cs) =
     placed_at site (parts_of (denoted around t)) ++ component_names around cs
 
 abbrev pub alternative_names : WrittenAlternatives → List Placed
 alternative_names no_alternatives = []
-alternative_names (alternative site name t others) = record { site = site; name = name; number = None } ∷ alternative_names others
+alternative_names (alternative site name t others) = placed site name ∷ alternative_names others
 
 abbrev pub named_place : WrittenNamed → Placed
 named_place n = record { site = n.site; name = n.name; number = Some (number_of n.number) }

@@ -1,5 +1,4 @@
 -- Definitions, in reading order.
-pub mod Numbers
 pub mod Tagging
 pub mod Enumerations
 pub mod Types

@@ -28,19 +28,22 @@ is_automatic_definition ms order known None = false
 is_automatic_definition ms order known (Some d) = is_automatic (surroundings ms order known d.home) d.assignment.ty
 
 abbrev pub meaning_at : List WrittenModule → List ℕ → List Meaning → ℕ → AbstractType → Meaning
-meaning_at ms order known number t = record { ty = t; is_automatic = is_automatic_definition ms order known (slice_get (definitions ms) number) }
+meaning_at ms order known number t = record {
+  ty = t;
+  is_automatic = is_automatic_definition ms order known (slice_get (definitions ms) number);
+}
 
 -- what is known with the definitions that follow in the order, of which these are the types
-abbrev pub known_behind : List WrittenModule → List ℕ → List Meaning → List ℕ → List AbstractType → List Meaning
-known_behind ms order known [] types = known
-known_behind ms order known (number ∷ rest) [] = known
-known_behind ms order known (number ∷ rest) (t ∷ types) =
-    known_behind ms order (known ++ meaning_at ms order known number t ∷ []) rest types
+abbrev pub known_after : List WrittenModule → List ℕ → List Meaning → List ℕ → List AbstractType → List Meaning
+known_after ms order known [] types = known
+known_after ms order known (number ∷ rest) [] = known
+known_after ms order known (number ∷ rest) (t ∷ types) =
+    known_after ms order (known ++ meaning_at ms order known number t ∷ []) rest types
 
 -- what is known where these are the types of the first definitions in the order: found by going through them, and as a
 -- law says what `AreMeanings` asks for
 abbrev pub known_from : List WrittenModule → List ℕ → List AbstractType → List Meaning
-known_from ms order types = known_behind ms order [] order types
+known_from ms order types = known_after ms order [] order types
 
 -- how many types they are made of
 abbrev pub nodes_of_all : List AbstractType → ℕ

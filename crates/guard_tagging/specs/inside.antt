@@ -1,5 +1,4 @@
 -- What only private contracts and proofs cite.
-pub mod ReadNumbers
 pub mod ReadTags
 pub mod ReadNames
 pub mod Views

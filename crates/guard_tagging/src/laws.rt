@@ -38,6 +38,8 @@ pub fn law_automatic(names: &Names, types: &[Ty])
     ensures one { (known others : List Meaning) → AreMeanings (modules_of names.now) (order_of names.now) (map type_view types.now) known
         → AreMeanings (modules_of names.now) (order_of names.now) (map type_view types.now) others → known ≡ others }
     ensures found { (known : List Meaning) → AreMeanings (modules_of names.now) (order_of names.now) (map type_view types.now) known
-        → (number : ℕ) (d : Definition) → slice_get (order_of names.now) (length types.now) ≡ Some number → slice_get (definitions (modules_of names.now)) number ≡ Some d
-        → (is_automatic (surroundings (modules_of names.now) (order_of names.now) known d.home) d.assignment.ty ≡ true) ↔ Automatic (modules_of names.now) number }
+        → (number : ℕ) (d : Definition) → slice_get (order_of names.now) (length types.now) ≡ Some number
+        → slice_get (definitions (modules_of names.now)) number ≡ Some d
+        → (is_automatic (surroundings (modules_of names.now) (order_of names.now) known d.home) d.assignment.ty ≡ true)
+        ↔ Automatic (modules_of names.now) number }
 {}

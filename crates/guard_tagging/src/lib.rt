@@ -2,15 +2,17 @@
 //!
 //! | question | code | definition |
 //! |---|---|---|
-//! | Which type has a definition? | `definition.rt` (`skeleton`, `skeleton_after`) | `specs/Skeletons.antt`, `specs/Surroundings.antt` |
-//! | Which type does a written type denote? | `walk.rt`, the parts of a list in `parts.rt`, a type of each kind in `base.rt` | `specs/Types.antt`; as it is read `specs/inside/ReadTypes.antt`, `specs/inside/ReadParts.antt`, `specs/inside/ReadBases.antt` |
+//! | Which type has a definition? | `definition.rt` | `specs/Skeletons.antt` |
+//! | Which type does a written type denote? | `walk.rt` | `specs/Types.antt`, `specs/inside/ReadTypes.antt` |
+//! | Which parts does a written list have? | `parts.rt` | `specs/Types.antt`, `specs/inside/ReadParts.antt` |
+//! | What is a type of each kind made of? | `base.rt` | `specs/Types.antt`, `specs/inside/ReadBases.antt` |
 //! | Which fault is the first, and how do faults print? | `fault.rt` | `specs/Faults.antt` |
-//! | Which tags does a type get from those that are written? | `tags.rt` | `specs/Tagging.antt`, `specs/inside/ReadTags.antt` |
-//! | Which lists are tagged automatically? | `automatic.rt` | `specs/Types.antt`; of definitions `specs/Automatic.antt` |
+//! | Which tags does a type get from written ones? | `tags.rt` | `specs/Tagging.antt`, `specs/inside/ReadTags.antt` |
+//! | Which lists are tagged automatically? | `automatic.rt` | `specs/Types.antt`, `specs/Automatic.antt` |
 //! | What may COMPONENTS OF take in? | `taken.rt` | `specs/Faults.antt`, `specs/inside/ReadParts.antt` |
-//! | Which numbers do items and named numbers have? | `numbering.rt`, `number.rt` | `specs/Enumerations.antt`, `specs/Numbers.antt`, `specs/inside/ReadItems.antt` |
+//! | Which numbers have items? | `numbering.rt` | `specs/Enumerations.antt`, `specs/inside/ReadItems.antt` |
 //! | Which names and numbers are there twice? | `names.rt` | `specs/Faults.antt`, `specs/inside/ReadNames.antt` |
-//! | What is too deep or too large? | `node.rt`, of a finished type `measure.rt` | `specs/Faults.antt`, `specs/inside/ReadNodes.antt` |
+//! | What is too deep or too large? | `node.rt`, `measure.rt` | `specs/Faults.antt`, `specs/inside/ReadNodes.antt` |
 //! | What does a name mean where a type is written? | `scope.rt` | `specs/Surroundings.antt`, `specs/ScopeView.antt` |
 //! | Which kind and universal tag has a type? | `kinds.rt` | `specs/Types.antt` |
 #![tactic(auto)]
@@ -25,7 +27,6 @@ mod made;
 mod measure;
 mod names;
 mod node;
-mod number;
 mod numbering;
 mod parts;
 mod scope;

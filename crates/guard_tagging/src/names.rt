@@ -7,7 +7,7 @@ ghost use Rattle.guard_tagging.specs.Faults.{repeated};
 ghost use Rattle.guard_tagging.specs.inside.ReadNames.{text_octets, read_places, named_place, item_place, signed_key, near_number, has_number, same_key};
 ghost use Rattle.guard_tagging.specs.inside.Views.{place_view};
 
-use crate::number::magnitude;
+use guard_lexer::magnitude;
 use guard_model::{Comp, Site};
 use guard_syntax::{ItemTree, NamedTree, NumberTree};
 use std::alloc::{AllocError, Global};
@@ -126,7 +126,7 @@ fn item_placed<'a>(tree: &ItemTree<'a>) -> Placed<'a>
 fn key(number: &NumberTree) -> (bool, u128)
     ensures { signed_key result ≡ near_number (number_view number.now) }
 {
-    let size = magnitude(number.digits);
+    let size = magnitude(number.digits).unwrap_or(u128::MAX);
     if number.minus && size > 0 {
         (true, size - 1)
     } else {

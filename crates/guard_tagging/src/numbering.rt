@@ -10,20 +10,19 @@ ghost use Rattle.guard_syntax.specs.Views.{number_view};
 ghost use Rattle.guard_tagging.specs.Enumerations.{free_from};
 ghost use Rattle.guard_tagging.specs.Faults as faults;
 ghost use Rattle.guard_tagging.specs.Named.{named, allowed};
-ghost use Rattle.guard_tagging.specs.Numbers.{number_of};
+ghost use Rattle.guard_syntax.specs.Numbers.{number_of};
 ghost use Rattle.guard_tagging.specs.inside.ReadItems as reading;
 ghost use Rattle.guard_tagging.specs.inside.ReadItems.{read_at, read_named, read_written, read_numbered, read_items};
 
 use crate::fault::TagFault;
 use crate::names::name_text;
-use crate::number::{integer, magnitude};
 use guard_model::{Named, Site};
 use guard_syntax::{ItemTree, NamedTree, NumberTree};
 use std::alloc::{AllocError, Global};
 use std::collections::BTreeSet;
 
 /// The greatest number of a named bit.
-const GREATEST_BIT: u128 = 65535;
+const GREATEST_BIT: i128 = 65535;
 
 /// The named numbers of an INTEGER.
 pub fn named_numbers(alloc: Global, trees: &[NamedTree]) -> Result<Vec<Named>, TagFault>
@@ -70,15 +69,17 @@ fn check_bits(trees: &[NamedTree]) -> Result<(), TagFault>
 fn is_bit(number: &NumberTree) -> bool
     ensures { result ≡ faults.is_bit (number_of (number_view number.now)) }
 {
-    let greatest = if number.minus { 0 } else { GREATEST_BIT };
-    magnitude(number.digits) <= greatest
+    match number.integer() {
+        Some(number) => 0 <= number && number <= GREATEST_BIT,
+        None => false,
+    }
 }
 
 /// The number of the item or named number with the name there.
 fn number_at(site: Site, tree: &NumberTree) -> Result<i128, TagFault>
     ensures { Gives (λ z. z) named result (read_at site (number_view tree.now)) }
 {
-    match integer(tree) {
+    match tree.integer() {
         Some(number) => Ok(number),
         None => Err(TagFault::NumberTooLarge(site)),
     }

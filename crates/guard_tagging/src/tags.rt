@@ -10,7 +10,7 @@ ghost use Rattle.guard_tagging.specs.Tagging as tagging;
 
 use crate::fault::TagFault;
 use crate::made::Node;
-use crate::number::magnitude;
+use guard_lexer::magnitude;
 use guard_model::{Class, GREATEST_TAG_NUMBER, Tag};
 use guard_syntax::{TagClass, TagDefault, TagMode, TagTree};
 use std::alloc::{AllocError, Global};
@@ -104,14 +104,13 @@ fn is_explicit(mode: Option<TagMode>, default: TagDefault) -> bool
 fn tag_of(tree: &TagTree) -> Result<Tag, TagFault>
     ensures { Gives (λ tag. tag) named result (read_tag (tag_view tree.now)) }
 {
-    let number = magnitude(tree.number);
-    if number > GREATEST_TAG_NUMBER as u128 {
-        return Err(TagFault::TagTooLarge(tree.site));
+    match magnitude(tree.number) {
+        Some(number) if number <= GREATEST_TAG_NUMBER as u128 => Ok(Tag {
+            class: class_of(tree.class),
+            number: number as u32,
+        }),
+        _ => Err(TagFault::TagTooLarge(tree.site)),
     }
-    Ok(Tag {
-        class: class_of(tree.class),
-        number: number as u32,
-    })
 }
 
 /// The class that is written before the number.

@@ -1,5 +1,4 @@
 -- What numbers, strings, arcs and names of bits are read as.
-pub mod NumbersByDigits
 pub mod DigitsInOctets
 pub mod CharactersInTurn
 pub mod ArcsInTurn

@@ -1,5 +1,4 @@
 -- ---- what single values say
-pub mod Numbers
 pub mod Strings
 pub mod ObjectIdentifiers
 pub mod Meanings

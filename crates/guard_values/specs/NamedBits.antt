@@ -1,5 +1,5 @@
 -- A BIT STRING with named bits: what names in braces say, and where its values end (X.680 22.4 to 22.7).
-use Rattle.std.specs.Prelude.{ℕ, zero, suc, ◌+◌, ℤ, pos, negsuc, Bool, false, ◌||◌, List, [], ◌∷◌, map, nat_lt, nat_le, nat_eq, Option, Some, None, option_and_then, if◌then◌else◌}
+use Rattle.std.specs.Prelude.{ℕ, zero, ◌+◌, ℤ, pos, negsuc, Bool, false, ◌||◌, List, [], ◌∷◌, map, nat_lt, nat_le, nat_eq, Option, Some, None, option_and_then, if◌then◌else◌}
 use Rattle.std.specs.List.{range_with_len}
 use Rattle.guard_model.specs.AbstractType.{NamedNumber}
 use Rattle.guard_model.specs.Limits.{greatest_bit}

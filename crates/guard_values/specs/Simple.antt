@@ -13,7 +13,7 @@ use Rattle.guard_model.specs.Limits.{fits_128_bits}
 use Rattle.guard_syntax.specs.declared.tree.StringKind.{StringKind}
 use Rattle.guard_syntax.specs.declared.tree.StringKind.TheVariants as string
 use Rattle.guard_syntax.specs.Trees.{WrittenNumber, WrittenArc}
-use Rattle.guard_values.specs.Numbers.{number_of}
+use Rattle.guard_syntax.specs.Numbers.{number_of}
 use Rattle.guard_values.specs.Strings.{binary_digits, hexadecimal_bits, octets_of_bits, quoted}
 use Rattle.guard_values.specs.NamedBits.{bits_kept}
 use Rattle.guard_values.specs.ObjectIdentifiers.{arc_numbers, too_large_arc, are_arcs}

@@ -1,6 +1,8 @@
 -- What the code's results and arguments mean.
 use Rattle.std.specs.Prelude.{ℕ, List, [], Option, Some, None, slice_get, IsTrue, IfSome}
+use Rattle.std.specs.Option.{option_map}
 use Rattle.std.specs.Borrow.{Bor}
+use Rattle.guard_model.specs.AbstractType.{AbstractType}
 use Rattle.guard_model.specs.TypeView.{type_view}
 use Rattle.guard_model.specs.ValueView.{value_view}
 use Rattle.guard_model.specs.declared.ty.Ty.{Ty}
@@ -13,7 +15,6 @@ use Rattle.guard_values.specs.declared.scope.VisibleValue.{VisibleValue}
 use Rattle.guard_values.specs.Meanings.{Governed, Meaning}
 use Rattle.guard_names.specs.declared.names.Names.{Names}
 use Rattle.guard_names.specs.Declarations.{Definition, definitions}
-use Rattle.guard_names.specs.Meanings.{number_meant}
 use Rattle.guard_names.specs.NamesView.{modules_of, order_of}
 use Rattle.guard_names.specs.Places.{place_meant}
 use Rattle.guard_der.specs.Fits.{fits}
@@ -35,7 +36,7 @@ located_view x = record { place = x.0; ty = type_view x.1.now }
 abbrev pub encoded_view : Encoded → EncodedValue
 encoded_view e = record { octets = e.octets.items; value = value_view e.value }
 
--- ---- what visible names mean
+-- ---- what is known
 
 -- a value and its type, where both are known
 abbrev pub known_pair : Option Ty → Option (Option Value) → Option Governed
@@ -45,34 +46,45 @@ known_pair _ _ = None
 abbrev pub known_at : Known → ℕ → Option Governed
 known_at known place = known_pair (slice_get known.types.items place) (slice_get known.values.items place)
 
+abbrev pub type_at : Known → ℕ → Option AbstractType
+type_at known place = option_map type_view (slice_get known.types.items place)
+
 -- of the definition at this place in the order
 abbrev pub known_definition : Known → Option ℕ → Option Governed
 known_definition known None = None
 known_definition known (Some place) = known_at known place
 
--- the definition that the scope's name means
-abbrev pub definition_of : Scope → List ℕ → Option ℕ
-definition_of scope name = number_meant (modules_of scope.names.now) scope.home.now name
+abbrev pub placed_type : Known → Option ℕ → Option AbstractType
+placed_type known None = None
+placed_type known (Some place) = type_at known place
 
-abbrev pub place_of : Scope → List ℕ → Option ℕ
-place_of scope name = place_meant (modules_of scope.names.now) (order_of scope.names.now) scope.home.now name
+-- each known value is one of its governor's
+abbrev pub AreKnownFitting : Known → Type 0
+AreKnownFitting known = (place : ℕ) → IfSome (known_at known place) (λ g. IsTrue (fits g.ty g.value))
 
-abbrev pub meaning_of : Scope → Meaning
-meaning_of scope name = known_definition scope.known.now (place_of scope name)
-
--- ---- for a definition
+-- ---- what names mean in the module of a definition
 
 -- the name of the module that assigns it
 abbrev pub home_name : Option Definition → List ℕ
 home_name None = []
 home_name (Some d) = d.home.name
 
--- what names mean in the module of this definition
-abbrev pub visible_from : Names → Known → ℕ → Meaning
-visible_from names known id name =
-    known_definition known
-    (place_meant (modules_of names) (order_of names) (home_name (slice_get (definitions (modules_of names)) id)) name)
+-- the place in the order of what a name means there
+abbrev pub place_from : Names → ℕ → List ℕ → Option ℕ
+place_from names id name =
+    place_meant (modules_of names) (order_of names) (home_name (slice_get (definitions (modules_of names)) id)) name
 
--- each known value is one of its governor's
-abbrev pub AreKnownFitting : Known → Type 0
-AreKnownFitting known = (place : ℕ) → IfSome (known_at known place) (λ g. IsTrue (fits g.ty g.value))
+-- values
+abbrev pub visible_from : Names → Known → ℕ → Meaning
+visible_from names known id name = known_definition known (place_from names id name)
+
+-- types, and of values their governors
+abbrev pub types_from : Names → Known → ℕ → List ℕ → Option AbstractType
+types_from names known id name = placed_type known (place_from names id name)
+
+-- the same in a scope, which has all three
+abbrev pub meaning_of : Scope → Meaning
+meaning_of scope = visible_from scope.names.now scope.known.now scope.id
+
+abbrev pub types_of : Scope → List ℕ → Option AbstractType
+types_of scope = types_from scope.names.now scope.known.now scope.id

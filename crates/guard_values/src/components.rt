@@ -1,17 +1,16 @@
 //! Components of a SEQUENCE or SET, and alternatives of a CHOICE: one slot for the value of each.
-ghost use Rattle.std.specs.Prelude.{◌≡◌, ◌&&◌, nat_lt, ◌<◌, length, map, set, option_map, IsTrue, IfOk, IfSome, Ok};
+ghost use Rattle.std.specs.Prelude.{◌≡◌, ◌&&◌, nat_lt, ◌<◌, length, map, option_map, IsTrue, IfOk, IfSome};
 ghost use Rattle.guard_model.specs.Answer.{Gives};
 ghost use Rattle.guard_der.specs.Sound.{is_proper, is_proper_kind, are_proper};
 ghost use Rattle.guard_model.specs.TypeView.{component_view, components_of, presence_view, type_view, kind_view};
 ghost use Rattle.guard_syntax.specs.Views.{name_view};
 ghost use Rattle.guard_model.specs.ValueView.{field_view, fields_view};
-ghost use Rattle.guard_der.specs.Reading.{all_absent};
 ghost use Rattle.guard_values.specs.Places as places;
 ghost use Rattle.guard_values.specs.inside.Reading as reading;
 ghost use Rattle.guard_values.specs.Views.{named, located_view};
 
 use crate::fault::ValueFault;
-use guard_model::{Comp, Kind, Presence, Site, Ty, Value};
+use guard_model::{Comp, Kind, Presence, Site, Ty, Value, set_field};
 use std::alloc::Global;
 
 /// The first component with this name: its place, and its type.
@@ -94,18 +93,6 @@ fn is_late(ordered: bool, place: usize, next: usize) -> bool
     ordered && place < next
 }
 
-/// No entry was read yet.
-pub fn absent_fields(alloc: Global, comps: &[Comp]) -> Result<Vec<Option<Value>>, ValueFault>
-    ensures count { IfOk result (λ v. length v.items ≡ length comps.now) }
-    ensures given { Gives (λ v. fields_view v.items) named result (Ok (all_absent (components_of (map component_view comps.now)))) }
-{
-    let mut fields = Vec::with_capacity(alloc, comps.len())?;
-    for _comp in comps {
-        fields.push(None)?;
-    }
-    Ok(fields)
-}
-
 /// The components without an entry: absent, or their default.
 pub fn completed(
     alloc: Global,
@@ -118,7 +105,7 @@ pub fn completed(
 {
     for (index, comp) in comps.iter().enumerate() {
         if fields[index].is_none() {
-            put(&mut fields, index, left_out(alloc, site, &comp.presence)?);
+            set_field(&mut fields, index, left_out(alloc, site, &comp.presence)?);
         }
     }
     Ok(fields)
@@ -134,12 +121,4 @@ fn left_out(alloc: Global, site: Site, presence: &Presence) -> Result<Option<Val
         Presence::Mandatory => Err(ValueFault::MissingComponent(site)),
         Presence::Pending => Err(ValueFault::MissingComponent(site)),
     }
-}
-
-/// The component at this place is settled: a value, or absent.
-pub fn put(fields: &mut Vec<Option<Value>>, place: usize, field: Option<Value>)
-    requires { place < length fields.old.items }
-    ensures { fields.new.items ≡ set fields.old.items place field }
-{
-    fields[place] = field;
 }

@@ -3,10 +3,10 @@
 //! | question | code | definition |
 //! |---|---|---|
 //! | Which value does a tree denote, and why none? | `values.rt` (`value`), `fault.rt` | `specs/Denotes.antt`, `specs/Faults.antt`, `specs/FirstFault.antt` |
-//! | What do visible names mean? | `scope.rt` (`Known`, `Scope`) | `specs/inside/Visible.antt`, `specs/Views.antt` |
+//! | What do visible names mean where something is written? | `scope.rt` (`Known`, `Scope`) | `specs/Views.antt` |
 //! | How are trees read by their types? | `written.rt` | `specs/inside/Reading.antt` |
 //! | What do names in braces say for a BIT STRING, and where do its values end? | `named_bits.rt` | `specs/NamedBits.antt` |
-//! | What do forms without a value inside say? | `simple.rt`, `numbers.rt`, `strings.rt` (`quoted`), `object_identifiers.rt`, `names.rt` | `specs/Simple.antt` |
+//! | What do forms without a value inside say? | `simple.rt`, `strings.rt` (`quoted`), `object_identifiers.rt`, `names.rt` | `specs/Simple.antt` |
 //! | For which component is an entry, and what are those without one? | `components.rt` | `specs/Places.antt` |
 //! | How many elements may there be, and in which order does a SET OF have them? | `elements.rt`, `arrangement.rt` | `specs/Arrangement.antt` |
 //! | Is there one value, in whatever order a SET OF is written? | `laws.rt` | `specs/Denotes.antt` |
@@ -19,7 +19,6 @@ mod fault;
 pub mod laws;
 mod named_bits;
 mod names;
-mod numbers;
 mod object_identifiers;
 mod scope;
 mod simple;
@@ -30,4 +29,4 @@ mod written;
 pub use fault::ValueFault;
 pub use scope::{Known, Scope, VisibleValue};
 pub use strings::quoted;
-pub use values::{home, value};
+pub use values::value;

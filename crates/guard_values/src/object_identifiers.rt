@@ -10,7 +10,7 @@ ghost use Rattle.guard_values.specs.inside.Reading.{read_arc, limited_arcs, unle
 ghost use Rattle.guard_values.specs.Views.{named};
 
 use crate::fault::ValueFault;
-use crate::numbers::magnitude;
+use guard_lexer::magnitude;
 use guard_model::{Site, Value};
 use guard_syntax::ArcTree;
 use std::alloc::Global;

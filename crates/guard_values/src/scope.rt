@@ -1,6 +1,9 @@
-//! What visible lower-case names mean where a value is written.
-ghost use Rattle.std.specs.Prelude.{◌≡◌, option_map};
-ghost use Rattle.guard_values.specs.Views.{visible_view, meaning_of, place_of, definition_of, known_at};
+//! Where something is written, and what visible names mean there.
+ghost use Rattle.std.specs.Prelude.{◌≡◌, option_map, slice_get};
+ghost use Rattle.guard_model.specs.TypeView.{type_view};
+ghost use Rattle.guard_names.specs.Declarations.{definitions};
+ghost use Rattle.guard_names.specs.NamesView.{modules_of};
+ghost use Rattle.guard_values.specs.Views.{visible_view, home_name, known_at, type_at, place_from, meaning_of, types_of};
 
 use guard_model::{Ty, Value};
 use guard_names::{Id, Names};
@@ -13,12 +16,13 @@ pub struct Known {
     pub values: Vec<Option<Value>>,
 }
 
-/// The names that are visible in the module of this name, and what is known of the definitions that they mean.
+/// Where something is written: in which definition, among which names, and what is known of the definitions that these
+/// mean.
 #[derive(Clone, Copy)]
 pub struct Scope<'s, 'm, 'a> {
     pub names: &'s Names<'m, 'a>,
     pub known: &'s Known,
-    pub home: &'s [u8],
+    pub id: Id,
 }
 
 /// The value that a visible name means, and its governor.
@@ -37,10 +41,17 @@ impl Known {
         let value = self.values.get(place)?.as_ref()?;
         Some(VisibleValue { ty, value })
     }
+
+    /// The type that is known of the definition at this place in the order.
+    fn type_at(&self, place: usize) -> Option<&Ty>
+        ensures { option_map (λ ty. type_view ty.now) result ≡ type_at self.now place }
+    {
+        self.types.get(place)
+    }
 }
 
 impl<'s, 'm, 'a> Scope<'s, 'm, 'a> {
-    /// What the name means (X.680 13.1), where it is visible and known.
+    /// The value that a name means (X.680 13.1), where it is visible and known.
     pub fn meaning(&self, name: &[u8]) -> Option<VisibleValue<'s>>
         ensures { option_map visible_view result ≡ meaning_of self.now name.now }
     {
@@ -50,20 +61,33 @@ impl<'s, 'm, 'a> Scope<'s, 'm, 'a> {
         }
     }
 
-    /// The place in the order of the definition that the name means.
-    pub fn place(&self, name: &[u8]) -> Option<usize>
-        ensures { result ≡ place_of self.now name.now }
+    /// The type that a name means, where it is visible and known; of a value its governor.
+    pub fn type_named(&self, name: &[u8]) -> Option<&'s Ty>
+        ensures { option_map (λ ty. type_view ty.now) result ≡ types_of self.now name.now }
     {
-        match self.definition(name) {
+        match self.place(name) {
+            Some(place) => self.known.type_at(place),
+            None => None,
+        }
+    }
+
+    /// The place in the order of the definition that a name means.
+    fn place(&self, name: &[u8]) -> Option<usize>
+        ensures { result ≡ place_from self.now.names.now self.now.id name.now }
+    {
+        match self.names.meaning(self.home(), name) {
             Some(id) => self.names.place(id),
             None => None,
         }
     }
 
-    /// The definition that the name means.
-    fn definition(&self, name: &[u8]) -> Option<Id>
-        ensures { result ≡ definition_of self.now name.now }
+    /// The name of the module in which it is written.
+    fn home(&self) -> &'s [u8]
+        ensures { result.now ≡ home_name (slice_get (definitions (modules_of self.now.names.now)) self.now.id) }
     {
-        self.names.meaning(self.home, name)
+        match self.names.home(self.id) {
+            Some((module_tree, _)) => module_tree.name,
+            None => &[],
+        }
     }
 }

@@ -15,7 +15,6 @@ ghost use Rattle.guard_model.specs.AbstractValue.{octet_string};
 
 use crate::fault::ValueFault;
 use crate::named_bits::bits_kept;
-use crate::numbers;
 use crate::object_identifiers::object_identifier;
 use crate::strings::{binary_digits, bit_string, hexadecimal_bits, octets_of_bits, quoted};
 use guard_model::{CharKind, Kind, Named, Site, Value};
@@ -47,7 +46,7 @@ pub fn integer(kind: &Kind, site: Site, number: &NumberTree) -> Result<Value, Va
     ensures { Gives value_view named result (read_integer site (kind_view kind.now) (number_view number.now)) }
 {
     match kind {
-        Kind::Int(_) => match numbers::integer(number) {
+        Kind::Int(_) => match number.integer() {
             Some(value) => Ok(Value::Int(value)),
             None => Err(ValueFault::TooLarge(number.site)),
         },

@@ -1,17 +1,15 @@
 //! The value that a tree of the notation denotes under its type (X.680 clause 17).
-ghost use Rattle.std.specs.Prelude.{◌≡◌, slice_get, IsTrue, IfOk, IfErr, IfSome};
+ghost use Rattle.std.specs.Prelude.{IsTrue, IfOk, IfErr, IfSome};
 ghost use Rattle.guard_model.specs.AbstractValue.{AbstractValue};
 ghost use Rattle.guard_model.specs.TypeView.{type_view};
 ghost use Rattle.guard_model.specs.ValueView.{value_view};
 ghost use Rattle.guard_der.specs.Fits.{fits};
 ghost use Rattle.guard_der.specs.Sound.{is_sound};
-ghost use Rattle.guard_names.specs.Declarations.{definitions};
-ghost use Rattle.guard_names.specs.NamesView.{modules_of};
 ghost use Rattle.guard_syntax.specs.Views as trees;
 ghost use Rattle.guard_values.specs.Denotes.{Denotes};
 ghost use Rattle.guard_values.specs.Faults.{IsFaultIn};
 ghost use Rattle.guard_values.specs.FirstFault.{IsFirstFault};
-ghost use Rattle.guard_values.specs.Views.{named, visible_from, home_name, AreKnownFitting};
+ghost use Rattle.guard_values.specs.Views.{named, visible_from, AreKnownFitting};
 
 use crate::fault::ValueFault;
 use crate::scope::{Known, Scope};
@@ -42,16 +40,5 @@ pub fn value(
     // It is the first one.
     ensures first { IfErr result (λ e. IfSome (named e) (IsFirstFault (visible_from names.now known.now id) (type_view ty.now) (trees.value_view tree.now))) }
 {
-    let home = home(names, id);
-    value_within_limit(alloc, Scope { names, known, home }, tree, ty)
-}
-
-/// The name of the module that assigns a definition.
-pub fn home<'s>(names: &'s Names, id: Id) -> &'s [u8]
-    ensures { result.now ≡ home_name (slice_get (definitions (modules_of names.now)) id) }
-{
-    match names.home(id) {
-        Some((module_tree, _)) => module_tree.name,
-        None => &[],
-    }
+    value_within_limit(alloc, Scope { names, known, id }, tree, ty)
 }

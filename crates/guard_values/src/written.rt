@@ -1,11 +1,11 @@
 //! Written values, read by their type.
 ghost use Rattle.std.specs.Prelude.{◌≡◌, ◌<◌, length, map, IsTrue, IfOk, Some, true, false};
 ghost use Rattle.guard_model.specs.Answer.{Gives};
+ghost use Rattle.guard_model.specs.Slots.{all_absent};
 ghost use Rattle.guard_model.specs.TypeView.{type_view, kind_view, component_view, components_of};
 ghost use Rattle.guard_model.specs.ValueView.{value_view, fields_view};
 ghost use Rattle.guard_der.specs.Der.{der};
 ghost use Rattle.guard_der.specs.Sound.{is_proper, is_proper_kind, are_proper};
-ghost use Rattle.guard_der.specs.Reading.{all_absent};
 ghost use Rattle.guard_syntax.specs.Trees.{entries_of};
 ghost use Rattle.guard_syntax.specs.Views as trees;
 ghost use Rattle.guard_values.specs.Meanings.{AreFitting};
@@ -15,14 +15,14 @@ ghost use Rattle.guard_values.specs.inside.Reading.{read_form, read_chosen, read
 ghost use Rattle.guard_values.specs.Views.{named, encoded_view, meaning_of};
 
 use crate::arrangement::Encoded;
-use crate::components::{absent_fields, alternative, completed, place_of, put};
+use crate::components::{alternative, completed, place_of};
 use crate::elements::{encoded, listed, listed_set, object_identifier_fault};
 use crate::fault::ValueFault;
 use crate::named_bits::value_of_names;
 use crate::names::reference;
 use crate::scope::Scope;
 use crate::simple::{arcs, boolean, integer, null, text};
-use guard_model::{Comp, Kind, Site, Ty, Value};
+use guard_model::{Comp, Kind, Site, Ty, Value, absent_fields, set_field};
 use guard_syntax::{EntryTree, ValueForm, ValueTree};
 use std::alloc::Global;
 
@@ -194,7 +194,7 @@ fn entry_fields(
         let (place, value) = entry_value(
             alloc, scope, sorted, entry, ordered, comps, next, &fields,
         )?;
-        put(&mut fields, place, Some(value));
+        set_field(&mut fields, place, Some(value));
         next = place + 1;
     }
     Ok(fields)

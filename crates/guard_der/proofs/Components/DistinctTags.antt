@@ -20,7 +20,7 @@ abbrev pub differs_from_all : AbstractType → Components → Bool
 differs_from_all t no_components = true
 differs_from_all t (component name u presence rest) = differ t u && differs_from_all t rest
 
--- from those that may stand where it is absent: the next ones, up to and with a mandatory one
+-- from those that may come where it is absent: the next ones, up to and with a mandatory one
 abbrev pub differs_from_next : AbstractType → Components → Bool
 differs_from_next t no_components = true
 differs_from_next t (component name u presence rest) = differ t u && (is_mandatory presence || differs_from_next t rest)

@@ -61,7 +61,7 @@ mandatory_kept (type.default d) v e = absurd cc
 
 -- ---- a component
 
--- no element of the component stands at the front
+-- no element of the component is at the front
 abbrev pub Unsent : (Tag → Bool) → List ℕ → Type 0
 Unsent wanted os = (os ≡ []) ⊎ ((h : Head) × (head_of os ≡ Ok h) × (wanted h.tag ≡ false))
 

@@ -209,7 +209,7 @@ module _ (i : ℕ) (presence : AbstractPresence) (read : Reader) (at : ℕ) (h :
 abbrev pub OneRead : Type 0
 OneRead = Result (Option AbstractValue × ℕ) AbstractBreach
 
--- behind its header
+-- after its header
 abbrev pub headed : ℕ → AbstractPresence → (Tag → Bool) → Reader → ℕ → List ℕ → Head → OneRead
 headed i presence wanted read at os h =
     cond (wanted h.tag)

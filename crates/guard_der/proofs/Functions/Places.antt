@@ -1,4 +1,4 @@
--- What a type stands for, one level at a time, and components one after the other.
+-- A type as the definitions see it, one level at a time, and components one after the other.
 use Rattle.std.proofs.Common.{◌≡◌, ℕ, zero, suc, ◌<◌, ◌≤◌, List, [], ◌∷◌, length, get_or, ap, ◌∙◌, map, arith}
 use Rattle.guard_model.specs.AbstractType.{AbstractType, AbstractPresence, Components, no_components, component}
 use Rattle.guard_model.specs.TypeView.{OneComponent, type_view, component_view, components_of}

@@ -1,6 +1,6 @@
 -- The fields for the components of a SET, as the code has them.
 use Rattle.std.proofs.Common.{◌≡◌, ℕ, zero, suc, ◌+◌, ◌<◌, ◌≤◌, true, false, List, [], ◌∷◌, ◌++◌, length, take, drop, get_or, map, Option, Some, None, Result, Ok, refl, sym, ap, ◌∙◌, add-one, arith}
-use Rattle.std.specs.Prelude.{set, replicate, is_some, string_bytes}
+use Rattle.std.specs.Prelude.{set, is_some, string_bytes}
 use Rattle.std.proofs.Math.Seq.{drop-cons, take-suc}
 use Rattle.std.proofs.lemmas.List.{map_push, take_all, take_more_set, drop-set-lt, length-set}
 use Rattle.guard_model.specs.Answer.{◌>>=◌, Refuses}
@@ -13,16 +13,12 @@ use Rattle.guard_model.specs.declared.value.Value.{Value}
 use Rattle.guard_model.specs.declared.ty.Comp.{Comp}
 use Rattle.guard_model.specs.declared.ty.Kind.TheViews.{out-Comp}
 use Rattle.guard_der.specs.Breach.{AbstractBreach}
-use Rattle.guard_der.specs.Reading.{all_absent, is_filled, fill, settled, completed, missing_at, field_before}
+use Rattle.guard_der.specs.Reading.{is_filled, fill, settled, completed, missing_at, field_before}
 use Rattle.guard_der.proofs.Functions.ComponentLoop.{with_front, regroup, followed_all}
-use Rattle.guard_model.proofs.Components.{left, left_is, none_left, in_view}
+use Rattle.guard_model.proofs.Components.{left, left_is, none_left}
 
 abbrev pub CodeFields : Type 0
 CodeFields = List (Option Value)
-
-pub fields_absent : (comps : List Comp) → all_absent (in_view comps) ≡ fields_view (replicate (length comps) None)
-fields_absent [] = refl
-fields_absent (c ∷ comps) = ap value.absent (fields_absent comps)
 
 pub field_is_filled : (fields : CodeFields) (i : ℕ) (s : Option Value) → i < length fields → s ≡ get_or fields i s → is_filled i (fields_view fields) ≡ is_some s
 field_is_filled [] i s lt is = absurd (omega (arith, lt))

@@ -24,7 +24,8 @@ use Rattle.guard_der.specs.Octets.{base_128}
 use Rattle.guard_der.specs.Element.{form_bit, identifier_octets}
 use Rattle.guard_der.specs.Sound.{is_proper_kind, are_proper}
 use Rattle.guard_der.specs.Breach.{AbstractBreach}
-use Rattle.guard_der.specs.Reading.{Reader, located, fill, presence_at, placed_at, set_element_at, completed, set_at, part_at, sent_at, element_at, all_absent, contents_at, fields_read}
+use Rattle.guard_model.specs.Slots.{all_absent}
+use Rattle.guard_der.specs.Reading.{Reader, located, fill, presence_at, placed_at, set_element_at, completed, set_at, part_at, sent_at, element_at, contents_at, fields_read}
 use Rattle.guard_der.proofs.Numbers.Digits.{AreDigits}
 use Rattle.guard_der.proofs.Headers.Heads.{head_takes}
 use Rattle.guard_der.proofs.Components.OneComponent.{located_is}

@@ -82,7 +82,7 @@ by_both false keeps apart shallow e f = refl
 pub distinct_within : (t : AbstractType) → is_within_limits t ≡ true → Distinct t → is_proper t ≡ is_sound t
 distinct_within t within distinct = by_both (is_proper t) (keeps_limits t) (none_clash (first_clash t)) (nat_le (nesting t) deepest_nesting) (apart_none t (first_clash t) refl distinct) within
 
--- ---- what is told of the tags
+-- ---- what is said of the tags
 
 all_apart : (t : AbstractType) (found : Option AbstractClash) → first_clash t ≡ found → none_clash found ≡ true → Distinct t
 all_apart t None e none = type_none t e

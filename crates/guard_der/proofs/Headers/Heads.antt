@@ -53,7 +53,7 @@ tag_again bits m rest small =
       | inr large ↦ (31, base_128 m ++ rest, ap (λ (x : List ℕ). x ++ rest) (cond-false (ltb m 31) ((bits + m) ∷ []) ((bits + 31) ∷ base_128 m) (le-ltb m 31 large)), omega arith, high_again m rest large small)
     ]
 
--- the header stands at the front of the octets, and its contents behind it
+-- the header is at the front of the octets, and its contents after it
 pub record Stands (os : List ℕ) (h : Head) : Type 0 where
   pub rest : List ℕ
   pub parts : os ≡ identifier_octets h.tag h.constructed ++ (length_octets h.contents ++ rest)
@@ -119,7 +119,7 @@ head_again tag constructed n rest number small room =
     ap head_of t.2
     ∙ rw (low_again (class_rank tag.class) t.0 constructed t.3, t.4, length_again n rest small, le-ltb (length rest) n room, class_again tag.class (form_bit constructed) t.0 (form_small constructed) t.3, form_again (class_rank tag.class) t.0 constructed t.3, size) refl
 
--- what is left behind a header is no more than there was
+-- what is left after a header is no more than there was
 pub left_over : (octets os rest after : List ℕ) (low m n : ℕ) → low < 32 → AreDigits 256 os → length os + 1 ≤ length octets → tag_number low os ≡ Ok (m, rest) → length_at rest ≡ Ok (n, after) → length after ≤ length octets
 left_over octets os rest after low m n small digits shorter tag len =
     let t = tag_takes 0 low m os rest small digits tag in

@@ -1,4 +1,4 @@
--- The header that is read is the one that stands there, and one that stands there is read.
+-- The header that is read is the one that is there, and one that is there is read.
 use Rattle.std.proofs.Common.{◌≡◌, ℕ, zero, suc, ◌+◌, ◌-◌, ◌*◌, ◌/◌, ◌%◌, ◌^◌, ◌<◌, ◌≤◌, false, cond, ltb, eqb, List, [], ◌∷◌, ◌++◌, length, map, take, drop, Result, Ok, Err, refl, sym, ap, ◌∙◌, arith, inl, inr}
 use Rattle.std.specs.Prelude.{◌||◌}
 use Rattle.std.proofs.Math.Nat.{pow-le-pow_right}
@@ -25,7 +25,7 @@ read n rest = Ok (n, rest)
 abbrev pub marked : List ℕ → List ℕ
 marked ds = map (λ d. 128 + d) ds
 
--- what `number_from` took behind the number n
+-- what `number_from` took after the number n
 record Rest (n tries m : ℕ) (os rest : List ℕ) : Type 0 where
   ds : List ℕ
   d : ℕ

@@ -31,7 +31,7 @@ use Rattle.std.proofs.lemmas.Option.{same_Some}
 abbrev OneItem : Type 0
 OneItem = Result (AbstractValue × ℕ) AbstractBreach
 
--- the element and its octets, if they stand in order
+-- the element and its octets, if they are in order
 abbrev ordered_item : Bool → List ℕ → ℕ → List ℕ → AbstractValue → Head → OneItem
 ordered_item ordered before at os v h = cond (ordered && descends before (take (h.size + h.contents) os)) (Err (fault code.SetOfOrder at)) (Ok (v, h.size + h.contents))
 
@@ -73,7 +73,7 @@ pub item_ok : (ordered : Bool) (wanted : Tag → Bool) (read : Reader) (i : ℕ)
 unfolding item_at
 item_ok ordered wanted read i before at os x e = alone_ok ordered wanted read before at os x (inside_ok (Element i) (item_alone ordered wanted read before at os) x e)
 
--- an element that stands there is read
+-- an element that is there is read
 pub alone_read : (ordered : Bool) (wanted : Tag → Bool) (read : Reader) (before : List ℕ) (at : ℕ) (os : List ℕ) (h : Head) (v : AbstractValue) → head_of os ≡ Ok h → wanted h.tag ≡ true → read at h os ≡ Ok v
     → item_alone ordered wanted read before at os ≡ ordered_item ordered before at os v h
 unfolding item_alone
@@ -299,7 +299,7 @@ one_through t ordered i before at v front rest law fit e up =
 abbrev pub Read : AbstractType → Bool → ℕ → ℕ → List ℕ → ℕ → List ℕ → Result Items AbstractBreach
 Read t ordered tries i before at os = items_at tries ordered (λ tag. begins_with t tag) (element_at t) i before at os
 
--- elements that fit are passed, and what is behind them is read
+-- elements that fit are passed, and what is after them is read
 pub items_through : (t : AbstractType) (ordered : Bool) (vs : Items) (es : List (List ℕ)) (tries left i j at from : ℕ) (before os behind : List ℕ) → LawfulType t → every_fits (fits t) vs ≡ true → item_encodings (der t) vs ≡ Some es
     → (not ordered || ascend_from before es) ≡ true → tries ≡ item_count vs + left → j ≡ i + item_count vs → from ≡ at + length (joined es) → os ≡ joined es ++ behind
     → Read t ordered tries i before at os ≡ prefixed vs (Read t ordered left j (last_behind before es) from behind)

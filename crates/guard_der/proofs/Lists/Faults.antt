@@ -103,7 +103,7 @@ first_fault t ordered i at before os b one =
       seen = one.seen ∙ ap (λ (n : ℕ). after n one.inner) offset;
     }
 
--- the first is read, and one behind it isn't
+-- the first is read, and one after it isn't
 later_fault : (t : AbstractType) (ordered : Bool) (i at n : ℕ) (before os : List ℕ) (v : AbstractValue) (b : AbstractBreach) → n ≤ length os → fits t v ≡ true → der t v ≡ Some (take n os) → (ordered && descends before (take n os)) ≡ false
     → ItemsFault t ordered (suc i) (at + n) (take n os) (drop n os) b → ItemsFault t ordered i at before os b
 later_fault t ordered i at n before os v b room fit encoded up f =

@@ -11,7 +11,7 @@ use Rattle.std.proofs.lemmas.List.Sums.{fold-append}
 use Rattle.guard_der.specs.Octets.{fewest, big_endian}
 use Rattle.guard_der.proofs.Numbers.Widths.{room_next}
 
--- the number n with more digits behind it
+-- the number n with more digits after it
 abbrev pub spell : ℕ → ℕ → List ℕ → ℕ
 spell base n digits = fold (λ (m d : ℕ). m * base + d) n digits
 
@@ -34,7 +34,7 @@ spell_next os i h =
 no_places : (base limit : ℕ) → limit * base ^ zero ≡ limit
 no_places base limit = ap (λ (p : ℕ). limit * p) (pow-zero base) ∙ mul-one limit
 
--- digits behind n make less than the next number with as many zeros
+-- digits after n make less than the next number with as many zeros
 pub spell_bound : (base n : ℕ) (ds : List ℕ) → AreDigits base ds → spell base n ds < (n + 1) * base ^ length ds
 spell_bound base n [] h = rw (no_places base (n + 1)) (omega arith)
 spell_bound base n (d ∷ ds) h =
@@ -51,7 +51,7 @@ fewest_spells base limit (suc more) n =
     (λ _. omega arith)
     (λ _. spell_append base 0 (fewest base limit more (n / base)) ((n % base) ∷ []) ∙ ap (λ (m : ℕ). m * base + n % base) (fewest_spells base limit more (n / base)) ∙ div-add-mod' n base)
 
--- one more digit behind the fewest of a number
+-- one more digit after the fewest of a number
 pub fewest_next : (base limit more n d : ℕ) → d < base → limit ≤ n * base + d → fewest base limit (suc more) (n * base + d) ≡ fewest base limit more n ++ d ∷ []
 unfolding fewest
 fewest_next base limit more n d small large =
@@ -59,7 +59,7 @@ fewest_next base limit more n d small large =
     let rest : (n * base + d) % base ≡ d = mod-mul-add n base d small in
     cond-false (ltb (n * base + d) limit) _ _ (le-ltb (n * base + d) limit large) ∙ ap (λ (m : ℕ). fewest base limit more m ++ ((n * base + d) % base) ∷ []) quotient ∙ ap (λ (r : ℕ). fewest base limit more n ++ r ∷ []) rest
 
--- more digits behind the fewest of a number that isn't 0
+-- more digits after the fewest of a number that isn't 0
 pub fewest_behind : (base limit more n : ℕ) (ds : List ℕ) → limit ≤ base → 1 ≤ n → AreDigits base ds → fewest base limit (length ds + more) (spell base n ds) ≡ fewest base limit more n ++ ds
 fewest_behind base limit more n [] le some h = ap (λ (k : ℕ). fewest base limit k n) (zero-add more) ∙ sym (append-nil (fewest base limit more n))
 fewest_behind base limit more n (d ∷ ds) le some h =

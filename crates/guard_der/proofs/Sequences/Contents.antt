@@ -143,7 +143,7 @@ last_after_sent : (name : List ℕ) (t : AbstractType) (presence : AbstractPrese
 last_after_sent name t presence no_components v fs e = refl
 last_after_sent name t presence (component name2 u p cs) v fs e = e
 
--- a last one that is sent stands behind one that is not
+-- a last one that is sent comes after one that is not
 abbrev SomeLast : Components → Fields → Type 0
 SomeLast cs fs = (cs ≢ no_components) × (last_is_sent cs fs ≡ true)
 
@@ -218,7 +218,7 @@ unlike_present t name u presence cs v fs front behind true left law other fit se
     let optional = skips_optional presence (here code.MissingComponent) (Some v) (left_skips presence v (here code.MissingComponent) left) in
     later optional (sends_left name u presence cs v fs front left sends) (left_end name u presence cs v fs behind left (some_end (component name u presence cs) (value.present v fs) behind end))
 
--- What stands behind a component that is not sent is not of it.
+-- What comes after a component that is not sent is not of it.
 unlike : (t : AbstractType) (k : ℕ) (cs : Components) (fs : Fields) (front behind : List ℕ) → AllLawful cs → differs_from_next t cs ≡ true → fits_fields (first_components k cs) fs ≡ true → Sends (first_components k cs) fs front
     → (behind ≡ []) ⊎ SomeLast (first_components k cs) fs → Unsent (λ tag. begins_with t tag) (front ++ behind)
 unlike t zero cs fs front behind laws others fit sends end = inl (nowhere front behind no_components fs (none_sent fs front fit sends) refl end)

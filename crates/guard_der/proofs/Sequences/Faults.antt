@@ -1,4 +1,4 @@
--- The fault that reading a SEQUENCE finds stands there, and the one that stands there is found.
+-- The fault that reading a SEQUENCE finds is there, and the one that is there is found.
 use Rattle.std.proofs.Common.{◌≡◌, ◌≢◌, ℕ, zero, suc, ◌+◌, ◌^◌, ◌<◌, ◌≤◌, Bool, true, false, cond, List, [], ◌∷◌, ◌++◌, length, take, drop, Option, Some, None, Result, Ok, Err, refl, sym, ap, subst, ◌∙◌, append_assoc, arith, inl, inr}
 use Rattle.std.specs.Prelude.{IsTrue, ◌&&◌, not, ◌⊎◌}
 use Rattle.std.proofs.Math.Nat.{le-max_left, le-max_right}
@@ -87,7 +87,7 @@ here_fault i name t presence cs Sent at os b digits law give (inr (inr (inr (inr
       seen = is ∙ ap (below (Component i)) (fault_after code.DefaultPresent at);
     }
 
--- the fault behind a component that is not sent is seen from it
+-- the fault after a component that is not sent is seen from it
 extend : (i : ℕ) (name : List ℕ) (t : AbstractType) (presence : AbstractPresence) (cs : Components) (Sent : ℕ → Faulty) (os : List ℕ) (c : AbstractBreach)
     → is_mandatory presence ≡ false → Unsent (λ tag. begins_with t tag) os → SequenceFault (suc i) cs Sent os c → SequenceFault i (component name t presence cs) Sent os c
 extend i name t presence cs Sent os c optional unsent (inl (j, empty, next, is)) = inl (j, empty, cond-false (is_mandatory presence) _ _ optional ∙ next, is)

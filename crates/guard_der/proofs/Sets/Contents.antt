@@ -16,7 +16,8 @@ use Rattle.guard_der.specs.Der.{Part, alternative_octets, parts_of, parts_joined
 use Rattle.guard_der.specs.Fits.{fits_kind, fits_alternative}
 use Rattle.guard_der.specs.Sound.{are_proper}
 use Rattle.guard_der.specs.Breach.{AbstractBreach, FaultInPart, FaultInSent, FaultInContents, SendsDefault, SetFault, one_with, is_found, is_after, is_sent, missing, fits_partly, here, after, below}
-use Rattle.guard_der.specs.Reading.{all_absent, is_filled, presence_at, follows, set_element_at, completed, set_at, part_at, contents_at, fields_read, missing_at, fault}
+use Rattle.guard_model.specs.Slots.{all_absent}
+use Rattle.guard_der.specs.Reading.{is_filled, presence_at, follows, set_element_at, completed, set_at, part_at, contents_at, fields_read, missing_at, fault}
 use Rattle.guard_der.proofs.Elements.Steps.{option_parts, moved, fault_after, after_after, head_is}
 use Rattle.guard_der.proofs.Numbers.Digits.{AreDigits}
 use Rattle.guard_der.proofs.Components.OneComponent.{none_stands}

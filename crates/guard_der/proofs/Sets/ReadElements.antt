@@ -10,7 +10,8 @@ use Rattle.guard_tagcheck.specs.FirstTags.{begins_with}
 use Rattle.guard_der.specs.Der.{Part, der, outermost, outermost_alternative, alternative_octets, parts_of, parts_joined, ascending, is_left_out, part_unless, tag_before}
 use Rattle.guard_der.specs.Fits.{fits, fits_alternative}
 use Rattle.guard_der.specs.Breach.{fits_partly, is_after}
-use Rattle.guard_der.specs.Reading.{all_absent, is_filled, fill, presence_at, follows}
+use Rattle.guard_model.specs.Slots.{all_absent}
+use Rattle.guard_der.specs.Reading.{is_filled, fill, presence_at, follows}
 use Rattle.guard_der.proofs.Elements.Steps.{bind, option_parts}
 use Rattle.guard_der.proofs.Components.DistinctTags.{differs_from_all, all_differ}
 use Rattle.guard_der.proofs.Components.ByTag.{LawfulType, AllLawful, part_begins, part_lawful, differ_all, within_fits}

@@ -9,7 +9,8 @@ use Rattle.guard_der.specs.Head.{Head, head_of}
 use Rattle.guard_der.specs.Der.{alternative_octets}
 use Rattle.guard_der.specs.Fits.{fits_alternative}
 use Rattle.guard_der.specs.Breach.{AbstractBreach}
-use Rattle.guard_der.specs.Reading.{all_absent, fill, follows, set_element_at, completed, set_at, part_at}
+use Rattle.guard_model.specs.Slots.{all_absent}
+use Rattle.guard_der.specs.Reading.{fill, follows, set_element_at, completed, set_at, part_at}
 use Rattle.guard_der.proofs.Numbers.Digits.{AreDigits}
 use Rattle.guard_der.proofs.Headers.TagsAndLengths.{digits_drop}
 use Rattle.guard_der.proofs.Headers.Offsets.{head_room}
@@ -33,7 +34,7 @@ some_octets cs j v octets laws fit e = let a = (part_lawful cs j laws (within_fi
 abbrev pub rest_at : ℕ → Components → List ReadElement → ℕ → List ℕ → Result Fields AbstractBreach
 rest_at n cs es at os = set_at n cs (part_at cs) (read_fields cs es) (last_tag cs es) at os
 
--- the state in which the octets behind the elements are read
+-- the state in which the octets after the elements are read
 pub record Behind (cs : Components) (n at : ℕ) (es : List ReadElement) (rest : List ℕ) : Type 0 where
   pub tries : ℕ
   pub enough : length rest ≤ tries
@@ -151,7 +152,7 @@ well (suc n) cs es at (o ∷ os) fs digits laws in_order e =
 abbrev pub FaultHere : Components → List ReadElement → ℕ → List ℕ → AbstractBreach → Type 0
 FaultHere cs es at os b = ((os ≡ []) × (completed 0 cs (read_fields cs es) at ≡ Err b)) ⊎ ((os ≢ []) × (set_element_at cs (part_at cs) (read_fields cs es) (last_tag cs es) at os ≡ Err b))
 
--- reading went on behind these elements, and ended there with a fault
+-- reading went on after these elements, and ended there with a fault
 pub record ReadBadly (cs : Components) (es : List ReadElement) (at : ℕ) (os : List ℕ) (b : AbstractBreach) : Type 0 where
   pub elements : List ReadElement
   pub front : List ℕ

@@ -14,7 +14,8 @@ use Rattle.guard_der.specs.Fits.{fits, fits_fields, fits_alternative, may_be_abs
 use Rattle.guard_der.specs.ProperConstraints.{is_short}
 use Rattle.guard_der.specs.Sound.{is_proper, is_proper_presence, are_proper}
 use Rattle.guard_der.specs.Breach.{AbstractBreach, fits_partly, is_sent, missing}
-use Rattle.guard_der.specs.Reading.{all_absent, is_filled, fill, presence_at, settled, completed, not_sent, missing_at, field_before}
+use Rattle.guard_model.specs.Slots.{all_absent}
+use Rattle.guard_der.specs.Reading.{is_filled, fill, presence_at, settled, completed, not_sent, missing_at, field_before}
 use Rattle.guard_der.proofs.Elements.Steps.{bind, option_parts}
 use Rattle.guard_der.proofs.Components.OneComponent.{wanting_again, optional_skips}
 use Rattle.guard_tagcheck.specs.Search.{is_mandatory}
@@ -286,7 +287,7 @@ filled_sent (component name t presence rest) (suc j) v (value.absent gs) e f = f
 abbrev pub part_from : Components → ℕ → AbstractValue → List ℕ → Part
 part_from cs j v octets = record { tag = outermost_alternative cs j v; octets = octets }
 
--- where the part of one more component stands among the others
+-- where the part of one more component is among the others
 pub record Between (cs : Components) (j : ℕ) (v : AbstractValue) (octets : List ℕ) (gs : Fields) (ps : List Part) : Type 0 where
   pub xs : List Part
   pub ys : List Part

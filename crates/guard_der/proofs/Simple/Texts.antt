@@ -65,7 +65,7 @@ are_low k (c ∷ cs) one h (suc i) = are_low k cs one (and_parts (is_character k
 low_encoded : (cs : List ℕ) → IsAscii cs → encode_utf8_all cs ≡ cs
 low_encoded cs all = sym (ap encode_utf8_all (chars-IsAscii cs all)) ∙ encodes-chars cs (IsUtf8-from_ascii cs all)
 
--- characters of one octet each stand in octets as their codes
+-- characters of one octet each are written in octets as their codes
 own_codes : (k : CharKind) (octets : List ℕ) → HasOneOctet k → IsUtf8 octets → all_characters k (chars octets) ≡ true → chars octets ≡ octets
 own_codes k octets one spelled h = sym (low_encoded (chars octets) (are_low k (chars octets) one h)) ∙ encodes-chars octets spelled
 

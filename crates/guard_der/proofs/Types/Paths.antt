@@ -17,7 +17,8 @@ use Rattle.guard_der.specs.Head.{Head}
 use Rattle.guard_der.specs.Der.{is_constructed}
 use Rattle.guard_der.specs.Sound.{is_proper, is_proper_kind, are_proper, is_proper_presence, are_proper_constraints}
 use Rattle.guard_der.specs.Breach.{AbstractBreach, one_with}
-use Rattle.guard_der.specs.Reading.{Reader, Body, due_at, element_at, untagged_at, contents_at, fields_at, part_at, end_at, component_at, chosen_at, items_at, item_alone, alone_at, tags_at, framed, ended, field_before, inside, fault, same_form, all_absent, set_at}
+use Rattle.guard_model.specs.Slots.{all_absent}
+use Rattle.guard_der.specs.Reading.{Reader, Body, due_at, element_at, untagged_at, contents_at, fields_at, part_at, end_at, component_at, chosen_at, items_at, item_alone, alone_at, tags_at, framed, ended, field_before, inside, fault, same_form, set_at}
 use Rattle.guard_der.proofs.Elements.Steps.{due_path, inside_err}
 use Rattle.guard_der.proofs.Components.OneComponent.{ComponentErr, component_err}
 use Rattle.guard_der.proofs.Simple.Laws.{simple_paths}

@@ -1,4 +1,4 @@
--- How the digits of a number stand in octets.
+-- How the digits of a number are written in octets.
 use Rattle.std.specs.Prelude.{ℕ, ◌+◌, ◌-◌}
 use Rattle.guard_der.specs.declared.encoding.octets.Form.{Form}
 use Rattle.guard_der.specs.declared.encoding.octets.Form.TheVariants.{Plain, Marked, Turned}

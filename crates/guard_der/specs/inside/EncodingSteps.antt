@@ -22,7 +22,7 @@ abbrev pub place_among : Tag → List Part → ℕ
 place_among t [] = 0
 place_among t (q ∷ qs) = if tag_before q.tag t then suc (place_among t qs) else 0
 
--- these parts and those behind them
+-- these parts and those after them
 abbrev pub with_parts : List Part → Option (List Part) → Option (List Part)
 with_parts before others = others >>= λ ps. Some (before ++ ps)
 

@@ -1,4 +1,4 @@
--- Worked examples of constraints that may stand on a type, and of those that may not, computed from the definitions.
+-- Worked examples of constraints that a type may have, and of those that it may not, computed from the definitions.
 use Rattle.std.specs.Prelude.{◌≡◌, ℕ, pos, true, false, [], ◌∷◌, codes, None, refl}
 use Rattle.guard_model.specs.declared.ty.CharKind.TheVariants.{Numeric, Utf8}
 use Rattle.guard_model.specs.declared.ty.Limit.TheVariants.{At, Free}
@@ -66,7 +66,8 @@ the_same_base = refl
 contained_fault : is_sound (only number (type.contained_subtype (only number (type.size up_to_five)))) ≡ false
 contained_fault = refl
 
--- SEQUENCE OF INTEGER (WITH COMPONENT (MIN..5)), SEQUENCE OF INTEGER (WITH COMPONENT (SIZE (MIN..5))), INTEGER (WITH COMPONENT (MIN..5))
+-- SEQUENCE OF INTEGER (WITH COMPONENT (MIN..5)), SEQUENCE OF INTEGER (WITH COMPONENT (SIZE (MIN..5))), INTEGER (WITH
+-- COMPONENT (MIN..5))
 each_number : is_sound (only numbers (type.with_component up_to_five)) ≡ true
 each_number = refl
 
@@ -77,10 +78,14 @@ no_elements : is_sound (only number (type.with_component up_to_five)) ≡ false
 no_elements = refl
 
 -- level and urgent are at the places 0 and 1
-level_up_to_five : is_sound (only ping (type.with_components true (type.part_within no_site 0 up_to_five None type.no_parts))) ≡ true
+level_up_to_five :
+    is_sound (only ping (type.with_components true (type.part_within no_site 0 up_to_five None type.no_parts)))
+    ≡ true
 level_up_to_five = refl
 
-urgent_up_to_five : is_sound (only ping (type.with_components true (type.part_within no_site 1 up_to_five None type.no_parts))) ≡ false
+urgent_up_to_five :
+    is_sound (only ping (type.with_components true (type.part_within no_site 1 up_to_five None type.no_parts)))
+    ≡ false
 urgent_up_to_five = refl
 
 last_place : is_sound (only ping (type.with_components true (type.part no_site 1 None type.no_parts))) ≡ true
@@ -90,7 +95,10 @@ past_the_last : is_sound (only ping (type.with_components true (type.part no_sit
 past_the_last = refl
 
 -- SEQUENCE {a NumericString DEFAULT "q"}
-letter_for_digits : is_sound (plain (universal 16) (type.sequence (component (codes "a") digits (type.default (value.characters (codes "q"))) no_components))) ≡ false
+letter_for_digits :
+    is_sound (plain (universal 16)
+    (type.sequence (component (codes "a") digits (type.default (value.characters (codes "q"))) no_components)))
+    ≡ false
 letter_for_digits = refl
 
 -- ---- an order and what is left of it with a small quantity
@@ -103,13 +111,17 @@ limited_order = plain (universal 16) (type.sequence
     (component (codes "id") (only (plain (context 0) (type.integer [])) (between 0 99999)) type.mandatory
     (component (codes "kind") (plain (context 1) kinds) type.mandatory
     (component (codes "qty") (plain (context 2) (type.integer [])) (type.default (value.integer (pos 1)))
-    (component (codes "note") (only (plain (context 3) (type.characters Utf8)) (type.size (type.at no_site (between 0 20)))) type.optional
+    (component (codes "note")
+    (only (plain (context 3) (type.characters Utf8)) (type.size (type.at no_site (between 0 20)))) type.optional
     (component (codes "lines") (plain (context 4) (type.sequence_of number)) type.mandatory no_components))))))
 
 sound_order : is_sound limited_order ≡ true
 unfolding fewest unsigned_octets signed_octets base_128 identifier_octets length_octets element
 sound_order = refl
 
-sound_small : is_sound (only limited_order (type.with_components true (type.part_within no_site 2 (type.at no_site (between 1 10)) None type.no_parts))) ≡ true
+sound_small :
+    is_sound (only limited_order
+    (type.with_components true (type.part_within no_site 2 (type.at no_site (between 1 10)) None type.no_parts)))
+    ≡ true
 unfolding fewest unsigned_octets signed_octets base_128 identifier_octets length_octets element
 sound_small = refl

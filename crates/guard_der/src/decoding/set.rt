@@ -1,30 +1,18 @@
 //! The components of a SET that were read so far: one slot for each.
-ghost use Rattle.std.specs.Prelude.{◌≡◌, ◌<◌, ◌≤◌, length, map, set, Ok, IfOk};
+ghost use Rattle.std.specs.Prelude.{◌≡◌, ◌<◌, ◌≤◌, length, map, IfOk};
 ghost use Rattle.guard_model.specs.Answer.{Gives};
 ghost use Rattle.guard_model.specs.TypeView.{component_view, components_of};
 ghost use Rattle.guard_model.specs.ValueView.{fields_view};
-ghost use Rattle.guard_der.specs.Reading.{all_absent, completed, follows as comes_after, placed_at};
+ghost use Rattle.guard_der.specs.Reading.{completed, follows as comes_after, placed_at};
 ghost use Rattle.guard_der.specs.Views.{breach_of};
 
 use crate::breach::{Code, DecodeFault};
 use crate::faults::fault_at;
 use crate::presence::not_sent;
 use crate::tags::one_with;
-use guard_model::{Comp, Step, Tag, Value};
+use guard_model::{Comp, Step, Tag, Value, set_field};
 use std::alloc::Global;
 use std::cmp::Ordering;
-
-/// Nothing was read yet.
-pub fn absent_fields(alloc: Global, comps: &[Comp]) -> Result<Vec<Option<Value>>, DecodeFault>
-    ensures count { IfOk result (λ v. length v.items ≡ length comps.now) }
-    ensures given { Gives (λ v. fields_view v.items) breach_of result (Ok (all_absent (components_of (map component_view comps.now)))) }
-{
-    let mut fields = Vec::with_capacity(alloc, comps.len())?;
-    for _comp in comps {
-        fields.push(None)?;
-    }
-    Ok(fields)
-}
 
 /// The place of the component with this tag, which comes after those that were read and was not there among them.
 pub fn place_of(
@@ -75,7 +63,7 @@ pub fn completed(
     for (index, comp) in comps.iter().enumerate() {
         if fields[index].is_none() {
             let missing = fault_at(Code::MissingComponent, at).below(Step::Component(index as u8));
-            put(
+            set_field(
                 &mut fields,
                 index,
                 not_sent(alloc, &comp.presence, missing)?,
@@ -83,12 +71,4 @@ pub fn completed(
         }
     }
     Ok(fields)
-}
-
-/// The component at this place is settled: a value, or absent.
-pub fn put(fields: &mut Vec<Option<Value>>, place: usize, field: Option<Value>)
-    requires { place < length fields.old.items }
-    ensures { fields.new.items ≡ set fields.old.items place field }
-{
-    fields[place] = field;
 }

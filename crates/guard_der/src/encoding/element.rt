@@ -18,7 +18,8 @@ const LENGTHS: usize = 1 << 32;
 /// More than an identifier and a length together have.
 const HEADER: usize = 12;
 
-/// The contents in their tags, each but the last a wrapper, the outermost first (X.690 8.14). Without a tag they stand alone.
+/// The contents in their tags, each but the last a wrapper, the outermost first (X.690 8.14). Without a tag nothing is
+/// added.
 pub fn tagged(
     alloc: Global,
     tags: &[Tag],

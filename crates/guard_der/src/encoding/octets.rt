@@ -5,12 +5,12 @@ ghost use Rattle.guard_der.specs.inside.Digits.{digit_octet, digits_below};
 
 use guard_model::OutOfMemory;
 
-/// How a digit stands in its octet.
+/// How a digit is written in its octet.
 #[derive(Clone, Copy)]
 enum Form {
     /// As it is.
     Plain,
-    /// With bit 8 set: there is a digit behind it.
+    /// With bit 8 set: a digit follows it.
     Marked,
     /// With each bit turned over.
     Turned,
@@ -47,7 +47,8 @@ pub fn push_base_128(out: &mut Vec<u8>, number: u128) -> Result<(), OutOfMemory>
     Ok(out.push((number % 128) as u8)?)
 }
 
-/// Appends the fewest digits of the number to the base, the first of several below the limit: at most so many before the last.
+/// Appends the fewest digits of the number to the base, the first of several below the limit: at most so many before
+/// the last.
 #[tactic(auto, unfolding(crate::specs::Octets::fewest))]
 fn push_fewest(
     out: &mut Vec<u8>,

@@ -52,8 +52,8 @@ pub fn object_identifier(alloc: Global, arcs: &[u128]) -> Result<Vec<u8>, OutOfM
     Ok(out)
 }
 
-/// UTF-8 for UTF8String (X.690 8.23.10), else one octet a character (8.23.5). Each character of the other kinds has one octet
-/// in UTF-8 too.
+/// UTF-8 for UTF8String (X.690 8.23.10), else one octet a character (8.23.5). Each character of the other kinds has one
+/// octet in UTF-8 too.
 pub fn characters(alloc: Global, kind: CharKind, text: &str) -> Result<Vec<u8>, OutOfMemory>
     requires { IsTrue (fits_characters kind (chars text.now)) }
     ensures { IfOk result (λ v. v.items ≡ character_octets kind (chars text.now)) }

@@ -1,4 +1,4 @@
-//! Whether the elements of a SET OF stand in the order of their encodings.
+//! Whether the elements of a SET OF are in the order of their encodings.
 ghost use Rattle.std.specs.Prelude.{◌≡◌, IfOk, IsTrue, option_map, slice_index};
 ghost use Rattle.guard_model.specs.TypeView.{type_view};
 ghost use Rattle.guard_model.specs.ValueView.{value_view, items_view};

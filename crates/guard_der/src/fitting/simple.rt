@@ -22,8 +22,8 @@ pub fn are_octets(octets: &[u8]) -> bool
     true
 }
 
-/// At most seven bits are unused, none where there are no octets (X.690 8.6.2); the unused bits are zero (11.2.1). Where bits are named,
-/// the last one isn't (11.2.2).
+/// At most seven bits are unused, none where there are no octets (X.690 8.6.2); the unused bits are zero (11.2.1).
+/// Where bits are named, the last one isn't (11.2.2).
 pub fn bits_fit(names: &[Named], bits: &Bits) -> bool
     ensures { result ≡ (fits_bits bits.now.octets.items bits.now.unused && ends_as_named (map named_view names.now) bits.now.octets.items bits.now.unused) }
 {
@@ -33,7 +33,8 @@ pub fn bits_fit(names: &[Named], bits: &Bits) -> bool
         && ends_as_named(names, &bits.octets, bits.unused)
 }
 
-/// X.660 has three first arcs, 0, 1 and 2, and 40 arcs each under 0 and 1; in this profile no subidentifier has more than 128 bits.
+/// X.660 has three first arcs, 0, 1 and 2, and 40 arcs each under 0 and 1; in this profile no subidentifier has more
+/// than 128 bits.
 pub fn arcs_fit(arcs: &[u128]) -> bool
     ensures { result ≡ fits_arcs arcs.now }
 {

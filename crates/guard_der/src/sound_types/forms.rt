@@ -1,4 +1,4 @@
-//! Tests of one type: its tags, and whether SIZE may stand on it.
+//! Tests of one type: its tags, and whether it may have SIZE.
 ghost use Rattle.std.specs.Prelude.{◌≡◌, ◌&&◌};
 ghost use Rattle.guard_model.specs.TypeView.{kind_view};
 ghost use Rattle.guard_tagcheck.specs.Limits.{is_tagged, are_low};
@@ -30,7 +30,7 @@ fn are_low(tags: &[Tag]) -> bool
     true
 }
 
-/// SIZE stands on strings and OF types (51.5), but not where bits are named (22.7).
+/// Strings and OF types may have SIZE (51.5), but not where bits are named (22.7).
 pub fn takes_size(kind: &Kind) -> bool
     ensures { result ≡ takes_size (kind_view kind.now) }
 {

@@ -1,5 +1,5 @@
--- What the code computes: the first violation in one walk. Elements that are blamed themselves are tested by the same walk, contained types
--- are not asked whether the value fits, and paths have the bounds of the code's numbers.
+-- What the code computes: the first violation in one walk. Elements that are blamed themselves are tested by the same
+-- walk, contained types are not asked whether the value fits, and paths have the bounds of the code's numbers.
 use Rattle.std.specs.Prelude.{ℕ, zero, suc, Bool, false, ◌∷◌, take, Option, Some, None, ◌||◌, min}
 use Rattle.std.specs.Option.{option_or, is_none, is_some}
 use Rattle.guard_model.specs.declared.site.Site.{Site}
@@ -30,15 +30,18 @@ abbrev pub failure_among : (AbstractValue → Option AbstractViolation) → ℕ 
 failure_among find i value.no_items = None
 failure_among find i (value.item v vs) = option_or (under (Element i) (find v)) (failure_among find (suc i) vs)
 
-abbrev pub failure_in_items : (AbstractValue → Option AbstractViolation) → Site → AbstractValue → Option AbstractViolation
+abbrev pub failure_in_items :
+    (AbstractValue → Option AbstractViolation) → Site → AbstractValue → Option AbstractViolation
 failure_in_items find site (value.items vs) = failure_among find 0 vs
 failure_in_items find site _ = here site
 
 abbrev pub placing_failure : Bool → Site → ℕ → Option OneComponent → Option Word → Bool → Option AbstractViolation
 placing_failure partial site i None word there = here site
-placing_failure partial site i (Some c) word there = under (Component i) (unless (is_placed partial (Some c) word there) site)
+placing_failure partial site i (Some c) word there =
+    under (Component i) (unless (is_placed partial (Some c) word there) site)
 
-abbrev pub failure_in_part : (AbstractValue → Option AbstractViolation) → ℕ → Option AbstractValue → Option AbstractViolation
+abbrev pub failure_in_part :
+    (AbstractValue → Option AbstractViolation) → ℕ → Option AbstractValue → Option AbstractViolation
 failure_in_part find i None = None
 failure_in_part find i (Some v) = under (Component i) (find v)
 
@@ -59,7 +62,8 @@ abbrev mutual
   failure_inside _ v = None
 
   pub failure_from : ℕ → Components → Fields → Option AbstractViolation
-  failure_from i (component name t presence cs) (value.present v fs) = option_or (under (Component i) (failure t v)) (failure_from (suc i) cs fs)
+  failure_from i (component name t presence cs) (value.present v fs) =
+      option_or (under (Component i) (failure t v)) (failure_from (suc i) cs fs)
   failure_from i (component name t presence cs) (value.absent fs) = failure_from (suc i) cs fs
   failure_from i _ _ = None
 
@@ -84,19 +88,25 @@ abbrev mutual
   failure_by (at site (type.permitted_alphabet ranges)) kind v = unless (is_spelled_in ranges v) site
   failure_by (at site (type.with_component c)) kind v = failure_in_items (failure_by c (element_kind kind)) site v
   failure_by (at site (type.with_components partial ps)) kind v =
-      option_or (unless (has_parts v) site) (option_or (first_part_failure ps partial kind v) (intruder_failure site (first_intruder partial kind ps v)))
+      option_or (unless (has_parts v) site)
+      (option_or (first_part_failure ps partial kind v) (intruder_failure site (first_intruder partial kind ps v)))
   failure_by (at site (type.union cs)) kind v = unless (some_allows cs kind v) site
   failure_by (at site (type.intersection cs)) kind v = first_failure cs kind v
-  failure_by (at site (type.except c d)) kind v = option_or (failure_by c kind v) (unless (is_some (failure_by d kind v)) site)
+  failure_by (at site (type.except c d)) kind v =
+      option_or (failure_by c kind v) (unless (is_some (failure_by d kind v)) site)
   failure_by (at site (type.all_except c)) kind v = unless (is_some (failure_by c kind v)) site
 
   pub first_part_failure : Parts → Bool → AbstractKind → AbstractValue → Option AbstractViolation
   first_part_failure type.no_parts partial kind v = None
   first_part_failure (type.part site i word ps) partial kind v =
-      option_or (placing_failure partial site i (component_at i (components_in kind)) word (is_there i v)) (first_part_failure ps partial kind v)
+      option_or
+      (placing_failure partial site i (component_at i (components_in kind)) word (is_there i v))
+      (first_part_failure ps partial kind v)
   first_part_failure (type.part_within site i c word ps) partial kind v =
       option_or
-      (option_or (placing_failure partial site i (component_at i (components_in kind)) word (is_there i v)) (failure_in_part (failure_by c (kind_at i kind)) i (part_at i v)))
+      (option_or
+      (placing_failure partial site i (component_at i (components_in kind)) word (is_there i v))
+      (failure_in_part (failure_by c (kind_at i kind)) i (part_at i v)))
       (first_part_failure ps partial kind v)
 
 -- of one part: its presence, then its constraint
@@ -108,4 +118,6 @@ failure_within p kind v = elim p.within [
 
 abbrev pub part_failure : OnePart → Bool → AbstractKind → AbstractValue → Option AbstractViolation
 part_failure p partial kind v =
-    option_or (placing_failure partial p.site p.place (component_at p.place (components_in kind)) p.word (is_there p.place v)) (failure_within p kind v)
+    option_or
+    (placing_failure partial p.site p.place (component_at p.place (components_in kind)) p.word (is_there p.place v))
+    (failure_within p kind v)

@@ -1,5 +1,5 @@
 -- Worked examples of every constraint.
-use Rattle.std.specs.Prelude.{◌≡◌, ℕ, pos, true, false, List, [], ◌∷◌, codes, Some, None, refl}
+use Rattle.std.specs.Prelude.{◌≡◌, ℕ, pos, Bool, true, false, List, [], ◌∷◌, codes, Some, None, refl}
 use Rattle.guard_model.specs.declared.site.Step.TheVariants.{Component, Element}
 use Rattle.guard_model.specs.declared.ty.CharKind.TheVariants.{Utf8, Ia5}
 use Rattle.guard_model.specs.declared.ty.Limit.TheVariants.{Free, At}
@@ -7,7 +7,7 @@ use Rattle.guard_model.specs.declared.ty.Word.TheVariants.{Absent}
 use Rattle.guard_model.specs.AbstractType as type
 use Rattle.guard_model.specs.AbstractType.{AbstractType, AbstractKind, Components, Constraint, Constraints, Element as SetElement, Parts, type_of, no_components, component, at, no_constraints, constraint}
 use Rattle.guard_model.specs.AbstractValue as value
-use Rattle.guard_model.specs.AbstractValue.{AbstractValue}
+use Rattle.guard_model.specs.AbstractValue.{AbstractValue, Fields}
 use Rattle.guard_eval.specs.Member.{is_member}
 use Rattle.guard_eval.specs.Violations.{violation}
 use Rattle.guard_eval.specs.rows.Rows.{column, between_at, range_at, tagged, plain, ranged, either, number_chosen, nothing_chosen}
@@ -69,21 +69,36 @@ five : violation without_five (whole 5) ≡ Some (record { site = column 10; pat
 five = refl
 
 -- INTEGER (1..4 EXCEPT 2 | 2)
-two : is_member (ranged (at (column 10) (type.union (both_of (at (column 10) (type.except (range_at 10 (pos 1) (pos 4)) (number_at 22 2))) (number_at 26 2))))) (whole 2) ≡ true
+abbrev again_two : AbstractType
+again_two =
+    ranged (at (column 10) (type.union (both_of
+    (at (column 10) (type.except (range_at 10 (pos 1) (pos 4)) (number_at 22 2)))
+    (number_at 26 2))))
+
+two : is_member again_two (whole 2) ≡ true
 two = refl
 
 -- ---- contained types, sizes, characters
 
 -- INTEGER (Small), where Small is INTEGER (0..5)
-small_six : violation (ranged (at (column 10) (type.contained_subtype (ranged (range_at 40 (pos 0) (pos 5)))))) (whole 6) ≡ Some (record { site = column 10; path = [] })
+abbrev small : AbstractType
+small = ranged (at (column 10) (type.contained_subtype (ranged (range_at 40 (pos 0) (pos 5)))))
+
+small_six : violation small (whole 6) ≡ Some (record { site = column 10; path = [] })
 small_six = refl
 
 -- UTF8String (SIZE (1)): a character of two octets is one
-one_character : is_member (tagged 12 (type.characters Utf8) (alone (at (column 12) (type.size (number_at 18 1))))) (value.characters (0xE9 ∷ [])) ≡ true
+abbrev one_of_size : AbstractType
+one_of_size = tagged 12 (type.characters Utf8) (alone (at (column 12) (type.size (number_at 18 1))))
+
+one_character : is_member one_of_size (value.characters (0xE9 ∷ [])) ≡ true
 one_character = refl
 
 -- BIT STRING (SIZE (3))
-three_bits : is_member (tagged 3 (type.bit_string []) (alone (at (column 12) (type.size (number_at 18 3))))) (value.bit_string (0xA0 ∷ []) 5) ≡ true
+abbrev bits_of_size : AbstractType
+bits_of_size = tagged 3 (type.bit_string []) (alone (at (column 12) (type.size (number_at 18 3))))
+
+three_bits : is_member bits_of_size (value.bit_string (0xA0 ∷ []) 5) ≡ true
 three_bits = refl
 
 -- SIZE applies to no INTEGER
@@ -92,7 +107,9 @@ no_size = refl
 
 -- IA5String (FROM ("a".."c" | "xy"))
 abbrev few_letters : AbstractType
-few_letters = tagged 22 (type.characters Ia5) (alone (at (column 12) (type.permitted_alphabet ((97, 99) ∷ (120, 120) ∷ (121, 121) ∷ []))))
+few_letters =
+    tagged 22 (type.characters Ia5)
+    (alone (at (column 12) (type.permitted_alphabet ((97, 99) ∷ (120, 120) ∷ (121, 121) ∷ []))))
 
 no_letter : is_member few_letters (value.characters []) ≡ true
 no_letter = refl
@@ -114,7 +131,9 @@ numbers ns = value.items (list_of ns)
 
 -- SEQUENCE (SIZE (1..2)) OF INTEGER (0..5)
 abbrev one_or_two : AbstractType
-one_or_two = tagged 16 (type.sequence_of (ranged (range_at 40 (pos 0) (pos 5)))) (alone (at (column 20) (type.size (range_at 26 (pos 1) (pos 2)))))
+one_or_two =
+    tagged 16 (type.sequence_of (ranged (range_at 40 (pos 0) (pos 5))))
+    (alone (at (column 20) (type.size (range_at 26 (pos 1) (pos 2)))))
 
 one_five : is_member one_or_two (numbers (5 ∷ [])) ≡ true
 one_five = refl
@@ -127,36 +146,59 @@ one_six = refl
 
 -- SEQUENCE OF INTEGER, with (WITH COMPONENT (0..5))
 abbrev small_numbers : AbstractType
-small_numbers = tagged 16 (type.sequence_of (plain 2 (type.integer []))) (alone (at (column 20) (type.with_component (range_at 36 (pos 0) (pos 5)))))
+small_numbers =
+    tagged 16 (type.sequence_of (plain 2 (type.integer [])))
+    (alone (at (column 20) (type.with_component (range_at 36 (pos 0) (pos 5)))))
 
 small_ones : violation small_numbers (numbers (0 ∷ 5 ∷ [])) ≡ None
 small_ones = refl
 
-second_too_large : violation small_numbers (numbers (0 ∷ 6 ∷ [])) ≡ Some (record { site = column 36; path = Element 1 ∷ [] })
+second_too_large :
+    violation small_numbers (numbers (0 ∷ 6 ∷ [])) ≡ Some (record { site = column 36; path = Element 1 ∷ [] })
 second_too_large = refl
 
 -- Two components of type NULL, both OPTIONAL, of which WITH COMPONENTS lists the first: in full, or with `...` in part
 abbrev two_nulls : SetElement → AbstractType
 two_nulls e =
-    tagged 16 (type.sequence (component (codes "a") (plain 0 type.null) type.optional (component (codes "b") (plain 1 type.null) type.optional no_components)))
+    tagged 16 (type.sequence
+    (component (codes "a") (plain 0 type.null) type.optional
+    (component (codes "b") (plain 1 type.null) type.optional
+    no_components)))
     (alone (at (column 20) e))
+
+abbrev if_sent : Bool → Fields → Fields
+if_sent true fs = value.present value.null fs
+if_sent false fs = value.absent fs
+
+-- with a where the first is true, with b where the second is
+abbrev nulls : Bool → Bool → AbstractValue
+nulls a b = value.fields (if_sent a (if_sent b value.no_fields))
 
 abbrev only_a : Parts
 only_a = type.part (column 38) 0 None type.no_parts
 
-neither_there : violation (two_nulls (type.with_components false only_a)) (value.fields (value.absent (value.absent value.no_fields))) ≡ Some (record { site = column 38; path = Component 0 ∷ [] })
+neither_there :
+    violation (two_nulls (type.with_components false only_a)) (nulls false false)
+    ≡ Some (record { site = column 38; path = Component 0 ∷ [] })
 neither_there = refl
 
-both_there : violation (two_nulls (type.with_components false only_a)) (value.fields (value.present value.null (value.present value.null value.no_fields))) ≡ Some (record { site = column 20; path = Component 1 ∷ [] })
+both_there :
+    violation (two_nulls (type.with_components false only_a)) (nulls true true)
+    ≡ Some (record { site = column 20; path = Component 1 ∷ [] })
 both_there = refl
 
-a_there : violation (two_nulls (type.with_components false only_a)) (value.fields (value.present value.null (value.absent value.no_fields))) ≡ None
+a_there : violation (two_nulls (type.with_components false only_a)) (nulls true false) ≡ None
 a_there = refl
 
-in_part : violation (two_nulls (type.with_components true only_a)) (value.fields (value.absent (value.present value.null value.no_fields))) ≡ None
+in_part : violation (two_nulls (type.with_components true only_a)) (nulls false true) ≡ None
 in_part = refl
 
-b_absent : violation (two_nulls (type.with_components true (type.part (column 44) 1 (Some Absent) type.no_parts))) (value.fields (value.absent (value.present value.null value.no_fields))) ≡ Some (record { site = column 44; path = Component 1 ∷ [] })
+abbrev no_b : Parts
+no_b = type.part (column 44) 1 (Some Absent) type.no_parts
+
+b_absent :
+    violation (two_nulls (type.with_components true no_b)) (nulls false true)
+    ≡ Some (record { site = column 44; path = Component 1 ∷ [] })
 b_absent = refl
 
 abbrev with_constraint : AbstractType → Constraint → AbstractType
@@ -164,7 +206,9 @@ with_constraint (type_of tags kind cons) c = type_of tags kind (alone c)
 
 -- CHOICE { none NULL, some INTEGER (0..5) }, with (WITH COMPONENTS { some (1..3) })
 abbrev some_only : AbstractType
-some_only = with_constraint either (at (column 20) (type.with_components false (type.part_within (column 38) 1 (range_at 44 (pos 1) (pos 3)) None type.no_parts)))
+some_only =
+    with_constraint either (at (column 20) (type.with_components false
+    (type.part_within (column 38) 1 (range_at 44 (pos 1) (pos 3)) None type.no_parts)))
 
 two_chosen : violation some_only (number_chosen (pos 2)) ≡ None
 two_chosen = refl

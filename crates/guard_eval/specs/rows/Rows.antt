@@ -38,7 +38,9 @@ whole n = value.integer (pos n)
 
 -- INTEGER (5..9)(1..7)
 abbrev pub narrowed : AbstractType
-narrowed = tagged 2 (type.integer []) (constraint (range_at 9 (pos 5) (pos 9)) (constraint (range_at 15 (pos 1) (pos 7)) no_constraints))
+narrowed =
+    tagged 2 (type.integer [])
+    (constraint (range_at 9 (pos 5) (pos 9)) (constraint (range_at 15 (pos 1) (pos 7)) no_constraints))
 
 four : is_member narrowed (whole 4) ≡ false
 four = refl
@@ -113,7 +115,10 @@ nothing = refl
 identifier : violation (plain 6 type.object_identifier) (value.object_identifier (2 ∷ 999 ∷ 3 ∷ [])) ≡ None
 identifier = refl
 
-item : violation (plain 10 (type.enumerated (record { name = codes "buy"; number = pos 0 } ∷ []))) (value.enumerated (pos 0)) ≡ None
+abbrev buying : AbstractKind
+buying = type.enumerated (record { name = codes "buy"; number = pos 0 } ∷ [])
+
+item : violation (plain 10 buying) (value.enumerated (pos 0)) ≡ None
 item = refl
 
 text : violation (plain 12 (type.characters Utf8)) (value.characters (0xE9 ∷ [])) ≡ None
@@ -135,13 +140,16 @@ nested =
 abbrev pub levelled : ℤ → ℤ → AbstractValue
 levelled level qty =
     value.fields (value.present (value.integer level)
-    (value.present (value.fields (value.present (value.boolean true) (value.present (value.integer qty) value.no_fields)))
+    (value.present (value.fields
+    (value.present (value.boolean true) (value.present (value.integer qty) value.no_fields)))
     value.no_fields))
 
 all_within : is_member nested (levelled (pos 5) (pos 10)) ≡ true
 all_within = refl
 
-inner_fails : violation nested (levelled (pos 5) (pos 11)) ≡ Some (record { site = column 70; path = Component 1 ∷ Component 1 ∷ [] })
+inner_fails :
+    violation nested (levelled (pos 5) (pos 11))
+    ≡ Some (record { site = column 70; path = Component 1 ∷ Component 1 ∷ [] })
 inner_fails = refl
 
 -- components are tested in written order
@@ -153,11 +161,14 @@ abbrev pub order_set : AbstractType
 order_set =
     plain 17 (type.set
     (component (codes "qty") (ranged (range_at 20 (pos 2) (pos 10))) (type.default (value.integer (pos 1)))
-    (component (codes "note") (plain 16 (type.sequence (component (codes "size") (ranged (range_at 40 (pos 1) (pos 3))) type.mandatory no_components))) type.optional
+    (component (codes "note") (plain 16 (type.sequence
+    (component (codes "size") (ranged (range_at 40 (pos 1) (pos 3))) type.mandatory no_components))) type.optional
     (component (codes "urgent") (plain 1 type.boolean) type.mandatory no_components))))
 
 abbrev pub ordered : ℤ → AbstractValue
-ordered qty = value.fields (value.present (value.integer qty) (value.absent (value.present (value.boolean true) value.no_fields)))
+ordered qty =
+    value.fields (value.present (value.integer qty)
+    (value.absent (value.present (value.boolean true) value.no_fields)))
 
 abbrev pub noted : ℤ → ℤ → AbstractValue
 noted qty size =
@@ -176,7 +187,9 @@ default_fails = refl
 note_passes : violation order_set (noted (pos 10) (pos 3)) ≡ None
 note_passes = refl
 
-note_fails : violation order_set (noted (pos 10) (pos 4)) ≡ Some (record { site = column 40; path = Component 1 ∷ Component 0 ∷ [] })
+note_fails :
+    violation order_set (noted (pos 10) (pos 4))
+    ≡ Some (record { site = column 40; path = Component 1 ∷ Component 0 ∷ [] })
 note_fails = refl
 
 -- ---- CHOICE and the OF types
@@ -208,7 +221,9 @@ abbrev pub many : AbstractType
 many = plain 16 (type.sequence_of either)
 
 abbrev pub three_items : ℤ → ℤ → AbstractValue
-three_items first second = value.items (value.item (number_chosen first) (value.item nothing_chosen (value.item (number_chosen second) value.no_items)))
+three_items first second =
+    value.items (value.item (number_chosen first)
+    (value.item nothing_chosen (value.item (number_chosen second) value.no_items)))
 
 no_items : violation many (value.items value.no_items) ≡ None
 no_items = refl
@@ -216,19 +231,27 @@ no_items = refl
 items_pass : violation many (three_items (pos 0) (pos 5)) ≡ None
 items_pass = refl
 
-last_item_fails : violation many (three_items (pos 0) (pos 6)) ≡ Some (record { site = column 30; path = Element 2 ∷ Component 1 ∷ [] })
+last_item_fails :
+    violation many (three_items (pos 0) (pos 6))
+    ≡ Some (record { site = column 30; path = Element 2 ∷ Component 1 ∷ [] })
 last_item_fails = refl
 
 -- elements are tested in order
-first_item_fails : violation many (three_items (pos 7) (pos 6)) ≡ Some (record { site = column 30; path = Element 0 ∷ Component 1 ∷ [] })
+first_item_fails :
+    violation many (three_items (pos 7) (pos 6))
+    ≡ Some (record { site = column 30; path = Element 0 ∷ Component 1 ∷ [] })
 first_item_fails = refl
 
 -- SET OF INTEGER (0..5)
 abbrev set_of_digits : AbstractType
 set_of_digits = plain 17 (type.set_of (ranged (range_at 30 (pos 0) (pos 5))))
 
-set_item_passes : violation set_of_digits (value.items (value.item (whole 1) (value.item (whole 5) value.no_items))) ≡ None
+abbrev two_items : ℕ → ℕ → AbstractValue
+two_items m n = value.items (value.item (whole m) (value.item (whole n) value.no_items))
+
+set_item_passes : violation set_of_digits (two_items 1 5) ≡ None
 set_item_passes = refl
 
-set_item_fails : violation set_of_digits (value.items (value.item (whole 1) (value.item (whole 6) value.no_items))) ≡ Some (record { site = column 30; path = Element 1 ∷ [] })
+set_item_fails :
+    violation set_of_digits (two_items 1 6) ≡ Some (record { site = column 30; path = Element 1 ∷ [] })
 set_item_fails = refl

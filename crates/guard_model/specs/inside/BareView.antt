@@ -1,4 +1,4 @@
--- Lists of the code's parts of types, as the comparison of bases sees them.
+-- Lists of the code's parts of types, for the comparison of bases.
 use Rattle.std.specs.Prelude.{Bool, true, false, ◌&&◌, List, map, Option, Some, None, nat_eq}
 use Rattle.std.specs.Str.{bytes_eq}
 use Rattle.guard_model.specs.AbstractType.{Components, Constraint, Constraints, Parts}
@@ -20,7 +20,8 @@ bare_parts_view parts = bare_parts (parts_of (map part_view parts))
 
 -- one component, or one alternative
 abbrev pub same_component : OneComponent → OneComponent → Bool
-same_component c d = bytes_eq c.name d.name && (same_type (bare c.ty) (bare d.ty) && same_presence c.presence d.presence)
+same_component c d =
+    bytes_eq c.name d.name && (same_type (bare c.ty) (bare d.ty) && same_presence c.presence d.presence)
 
 abbrev pub same_within : Option Constraint → Option Constraint → Bool
 same_within None None = true

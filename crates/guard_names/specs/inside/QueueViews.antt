@@ -4,7 +4,7 @@ use Rattle.std.specs.BinaryHeap.{heap_items}
 use Rattle.std.specs.declared.cmp.Reverse.{Reverse}
 use Rattle.guard_names.specs.declared.order.Queue.{Queue}
 use Rattle.guard_names.specs.Order.{Follow}
-use Rattle.guard_names.specs.inside.Queues.{UsesIn, Stands, AreFlags}
+use Rattle.guard_names.specs.inside.Queues.{UsesIn, ArePlaced, AreFlags}
 
 -- how often a number is ready
 abbrev pub times_ready : List (Reverse ℕ) → ℕ → ℕ
@@ -19,11 +19,12 @@ module _ (us : List (List ℕ)) where
     pub flags : AreFlags us q.listed.items q.order.items
     pub waiting : length q.waiting.items ≡ length us
 
-  abbrev pub StandsIn : Queue → (ℕ → ℕ) → Type 0
-  StandsIn q underway = Stands us q.order.items (times_ready (heap_items q.ready)) (map (λ v. v.items) q.waiting.items) underway
+  abbrev pub ArePlacedIn : Queue → (ℕ → ℕ) → Type 0
+  ArePlacedIn q underway =
+      ArePlaced us q.order.items (times_ready (heap_items q.ready)) (map (λ v. v.items) q.waiting.items) underway
 
   -- Each definition is in one place, and the listed ones follow one another as in the order.
   pub record IsQueue (q : Queue) : Type 0 where
     pub sized : IsSized q
-    pub stands : StandsIn q (λ _. 0)
+    pub placed : ArePlacedIn q (λ _. 0)
     pub follow : Follow (length us) (UsesIn us) [] q.order.items

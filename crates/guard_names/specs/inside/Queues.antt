@@ -1,10 +1,10 @@
--- Definitions on their way into the order, as the code keeps them: some are listed, some are ready, and the others wait, each for one that it
--- uses and that isn't listed.
+-- Definitions on their way into the order, as the code keeps them: some are listed, some are ready, and the others
+-- wait, each for one that it uses and that isn't listed.
 use Rattle.std.specs.Prelude.{◌≡◌, ℕ, ◌+◌, ◌<◌, Bool, false, List, [], length, slice_index_or, All, IsTrue, nat_eq, nat_lt, if◌then◌else◌, count_by, sum_by}
 use Rattle.guard_names.specs.declared.order.Waiting.{Waiting}
 use Rattle.guard_names.specs.Order.{is_listed}
 
--- how often a number stands in a list
+-- how often a number is in a list
 abbrev pub times : List ℕ → ℕ → ℕ
 times xs k = count_by (nat_eq k) xs
 
@@ -37,9 +37,10 @@ module _ (us : List (List ℕ)) where
 
   -- of what it uses all before this place is listed
   abbrev pub IsMetBefore : List ℕ → ℕ → ℕ → Type 0
-  IsMetBefore listed number place = (i : ℕ) → i < place → IsTrue (is_listed listed (slice_index_or (used_by number) i 0))
+  IsMetBefore listed number place =
+      (i : ℕ) → i < place → IsTrue (is_listed listed (slice_index_or (used_by number) i 0))
 
-  -- it waits for this definition, which isn't listed and stands at its place among those that it uses
+  -- it waits for this definition, which isn't listed and is at its place among those that it uses
   pub record IsWaitingFor (listed : List ℕ) (used : ℕ) (w : Waiting) : Type 0 where
     pub number : w.number < length us
     pub here : w.met < length (used_by w.number)
@@ -48,9 +49,11 @@ module _ (us : List (List ℕ)) where
     pub unlisted : is_listed listed used ≡ false
 
   -- Each definition is in one place: listed, ready, waiting, or on the way as often as `underway` says.
-  pub record Stands (listed : List ℕ) (ready : ℕ → ℕ) (waiting : List (List Waiting)) (underway : ℕ → ℕ) : Type 0 where
+  pub record ArePlaced
+      (listed : List ℕ) (ready : ℕ → ℕ) (waiting : List (List Waiting)) (underway : ℕ → ℕ) : Type 0 where
     pub size : length waiting ≡ length us
-    pub once : (k : ℕ) → times listed k + ready k + times_in waiting k + underway k ≡ (if nat_lt k (length us) then 1 else 0)
+    pub once : (k : ℕ)
+        → times listed k + ready k + times_in waiting k + underway k ≡ (if nat_lt k (length us) then 1 else 0)
     pub ready_met : (k : ℕ) → 0 < ready k → IsMet listed k
     pub waiting_for : (used : ℕ) → All (IsWaitingFor listed used) (slice_index_or waiting used [])
 

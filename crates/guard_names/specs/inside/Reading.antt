@@ -22,10 +22,16 @@ refused_at fault (Some site) = Err (fault site)
 -- ---- the faults, one kind after the other
 
 abbrev pub check_imports : List WrittenModule → Result (Unit {0}) NameFault
-check_imports ms = refused_at NoModule (no_module ms) >>= λ _. (refused_at ImportNotDefined (not_defined ms) >>= λ _. refused_at NotExported (not_exported ms))
+check_imports ms =
+    refused_at NoModule (no_module ms) >>= λ _.
+    (refused_at ImportNotDefined (not_defined ms) >>= λ _.
+    refused_at NotExported (not_exported ms))
 
 abbrev pub check_names : List WrittenModule → Result (Unit {0}) NameFault
-check_names ms = refused_at Duplicate (duplicate ms) >>= λ _. (check_imports ms >>= λ _. refused_at Undefined (undefined ms))
+check_names ms =
+    refused_at Duplicate (duplicate ms) >>= λ _.
+    (check_imports ms >>= λ _.
+    refused_at Undefined (undefined ms))
 
 -- ---- uses
 

@@ -1,4 +1,5 @@
--- A search through chains of uses, as the code keeps it: marks of definitions, a path cut into parts, and uses that aren't followed yet.
+-- A search through chains of uses, as the code keeps it: marks of definitions, a path cut into parts, and uses that
+-- aren't followed yet.
 use Rattle.std.specs.Prelude.{◌≡◌, ◌⊎◌, ℕ, ◌+◌, ◌-◌, ◌<◌, ◌≤◌, Bool, true, false, List, [], ◌∷◌, ◌++◌, length, take, slice_index_or, Contains, Option, Some, None, nat_le, nat_lt, if◌then◌else◌, fold}
 use Rattle.std.specs.List.{AllPairs}
 use Rattle.guard_names.specs.declared.recursion.Mark.{Mark}
@@ -24,17 +25,17 @@ abbrev pub StartsFirst : List Part → ℕ → Type 0
 StartsFirst [] len = len ≡ 0
 StartsFirst (p ∷ ps) len = p.start ≡ 0
 
--- each part starts behind the one before it, and before the path's end
+-- each part starts after the one before it, and before the path's end
 abbrev pub Rises : ℕ → List Part → ℕ → Type 0
 Rises low [] len = low ≤ len
 Rises low (p ∷ ps) len = (low ≤ p.start) × Rises (p.start + 1) ps len
 
--- the part with this place takes in those behind it, and is cyclic
+-- the part with this place takes in those after it, and is cyclic
 pub record Joins (parts : List Part) (place : ℕ) (joined : List Part) : Type 0 where
   pub last : ℕ
   pub here : last < length parts
   pub start : (slice_index_or parts last no_part).start ≤ place
-  pub behind : (i : ℕ) → last < i → i < length parts → place < (slice_index_or parts i no_part).start
+  pub after : (i : ℕ) → last < i → i < length parts → place < (slice_index_or parts i no_part).start
   pub is : joined ≡ take last parts ++ record { start = (slice_index_or parts last no_part).start; cyclic = true } ∷ []
 
 -- one of the last part uses it
@@ -57,7 +58,9 @@ new_left (New ∷ ms) (u ∷ us) = 1 + length u + new_left ms us
 new_left (OnPath q ∷ ms) (u ∷ us) = new_left ms us
 new_left (Done ∷ ms) (u ∷ us) = new_left ms us
 
-module _ (us : List (List ℕ)) (len : ℕ) (node : ℕ → ℕ) (start : ℕ → ℕ) (cyclic : ℕ → Bool) (pending : List Pending) (mark : ℕ → Mark) where
+module _
+    (us : List (List ℕ)) (len : ℕ) (node : ℕ → ℕ) (start : ℕ → ℕ) (cyclic : ℕ → Bool)
+    (pending : List Pending) (mark : ℕ → Mark) where
   -- the use of a definition on the path is followed
   pub data IsFollowed (place used : ℕ) : Type 0 where
     -- what is used is left
@@ -65,7 +68,8 @@ module _ (us : List (List ℕ)) (len : ℕ) (node : ℕ → ℕ) (start : ℕ �
     -- the use is still to be followed
     pending_use : Contains pending (record { place = place; used = used }) → IsFollowed place used
     -- what is used is on the path, in the same part, which is cyclic then, or in a later one
-    on_path : (other : ℕ) → other < len → node other ≡ used → start place ≤ start other → (start place ≡ start other → cyclic place ≡ true) → IsFollowed place used
+    on_path : (other : ℕ) → other < len → node other ≡ used → start place ≤ start other
+        → (start place ≡ start other → cyclic place ≡ true) → IsFollowed place used
 
   -- what holds of a search, where all uses are followed but those of one
   pub record IsPath (excepted : ℕ → Type 0) : Type 0 where
@@ -90,9 +94,13 @@ pub record IsLeast (us : List (List ℕ)) (mark : ℕ → Mark) (first : Option 
   pub least : (k : ℕ) → mark k ≡ Done → IsRecursive (UsesIn us) k → (least : ℕ) × (first ≡ Some least) × (least ≤ k)
 
 -- what holds of a search
-pub record IsSearchOf (us : List (List ℕ)) (marks : List Mark) (path : List ℕ) (parts : List Part) (pending : List Pending) (first : Option ℕ) (excepted : ℕ → Type 0) : Type 0 where
+pub record IsSearchOf
+    (us : List (List ℕ)) (marks : List Mark) (path : List ℕ) (parts : List Part) (pending : List Pending)
+    (first : Option ℕ) (excepted : ℕ → Type 0) : Type 0 where
   pub sized : length marks ≡ length us
   pub starts : StartsFirst parts (length path)
   pub rises : Rises 0 parts (length path)
-  pub is_path : IsPath us (length path) (λ q. slice_index_or path q 0) (λ q. (part_at parts q).start) (λ q. (part_at parts q).cyclic) pending (λ k. slice_index_or marks k New) excepted
+  pub is_path : IsPath us (length path) (λ q. slice_index_or path q 0)
+      (λ q. (part_at parts q).start) (λ q. (part_at parts q).cyclic)
+      pending (λ k. slice_index_or marks k New) excepted
   pub is_least : IsLeast us (λ k. slice_index_or marks k New) first

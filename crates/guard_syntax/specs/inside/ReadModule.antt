@@ -14,7 +14,7 @@ use Rattle.guard_syntax.specs.inside.ReadTokens.{Placed, Reader, begins_with, be
 use Rattle.guard_syntax.specs.inside.ReadValues.{is_there, does_not_close, read_value}
 use Rattle.guard_syntax.specs.inside.ReadTypes.{read_type}
 
--- ---- object identifiers behind module names
+-- ---- object identifiers after module names
 
 -- a name that no parenthesis follows
 abbrev pub begins_bare_name : List Placed → Bool
@@ -29,7 +29,8 @@ read_identifier_part ps =
 unfoldable pub read_identifier_parts : Reader (List WrittenIdentifierPart)
 read_identifier_parts ps =
     if begins_with (Mark RightBrace) ps then unexpected ps
-    else (read_each does_not_close read_identifier_part (length ps) ps >>= λ all. read_token (Mark RightBrace) all.1 >>= λ closing. Ok (all.0, closing))
+    else (read_each does_not_close read_identifier_part (length ps) ps >>= λ all.
+    read_token (Mark RightBrace) all.1 >>= λ closing. Ok (all.0, closing))
 
 unfoldable pub read_identifier : Reader (List WrittenIdentifierPart)
 read_identifier ps = if begins_with (Mark LeftBrace) ps then read_identifier_parts (behind ps) else Ok ([], ps)
@@ -44,24 +45,32 @@ tag_default_at ps =
     else None))
 
 unfoldable pub read_tag_default : Reader (Option TagDefault)
-read_tag_default ps = if is_there (tag_default_at ps) then (read_token (Reserved Tags) (behind ps) >>= λ rest. Ok (tag_default_at ps, rest)) else Ok (None, ps)
+read_tag_default ps =
+    if is_there (tag_default_at ps)
+    then (read_token (Reserved Tags) (behind ps) >>= λ rest. Ok (tag_default_at ps, rest))
+    else Ok (None, ps)
 
 -- ---- exports and imports
 
 unfoldable pub read_symbol : Reader WrittenSymbol
 read_symbol ps =
-    if begins_with UpperName ps then (read_spelling UpperName ps >>= λ name. Ok (record { site = site_at ps; kind = symbol.Type; name = name.0 }, name.1))
-    else (read_spelling LowerName ps >>= λ name. Ok (record { site = site_at ps; kind = symbol.Value; name = name.0 }, name.1))
+    if begins_with UpperName ps
+    then (read_spelling UpperName ps >>= λ name.
+    Ok (record { site = site_at ps; kind = symbol.Type; name = name.0 }, name.1))
+    else (read_spelling LowerName ps >>= λ name.
+    Ok (record { site = site_at ps; kind = symbol.Value; name = name.0 }, name.1))
 
--- behind EXPORTS
+-- after EXPORTS
 unfoldable pub read_exported : Reader WrittenExports
 read_exported ps =
     if begins_with (Reserved All) ps then (read_token (Mark Semicolon) (behind ps) >>= λ rest. Ok (all_exported, rest))
     else (if begins_with (Mark Semicolon) ps then Ok (exported [], behind ps)
-    else (read_parted read_symbol (length ps) ps >>= λ all. read_token (Mark Semicolon) all.1 >>= λ rest. Ok (exported all.0, rest)))
+    else (read_parted read_symbol (length ps) ps >>= λ all. read_token (Mark Semicolon) all.1 >>= λ rest.
+    Ok (exported all.0, rest)))
 
 unfoldable pub read_exports : Reader (Option WrittenExports)
-read_exports ps = if begins_with (Reserved Exports) ps then (read_exported (behind ps) >>= λ x. Ok (Some x.0, x.1)) else Ok (None, ps)
+read_exports ps =
+    if begins_with (Reserved Exports) ps then (read_exported (behind ps) >>= λ x. Ok (Some x.0, x.1)) else Ok (None, ps)
 
 unfoldable pub read_import : Reader WrittenImport
 read_import ps = do
@@ -69,14 +78,25 @@ read_import ps = do
   from ← read_token (Reserved From) symbols.1
   name ← read_spelling UpperName from
   id ← read_identifier name.1
-  Ok (record { site = site_at ps; symbols = symbols.0; module_site = site_at from; module_name = name.0; identifier = id.0 }, id.1)
+  Ok (
+    record {
+      site = site_at ps;
+      symbols = symbols.0;
+      module_site = site_at from;
+      module_name = name.0;
+      identifier = id.0;
+    },
+    id.1,
+  )
 
 abbrev pub goes_on_importing : List Placed → Bool
 goes_on_importing ps = not (begins_with (Mark Semicolon) ps)
 
 unfoldable pub read_imports : Reader (Option (List WrittenImport))
 read_imports ps =
-    if begins_with (Reserved Imports) ps then (read_each goes_on_importing read_import (length (behind ps)) (behind ps) >>= λ all. read_token (Mark Semicolon) all.1 >>= λ rest. Ok (Some all.0, rest))
+    if begins_with (Reserved Imports) ps
+    then (read_each goes_on_importing read_import (length (behind ps)) (behind ps) >>= λ all.
+    read_token (Mark Semicolon) all.1 >>= λ rest. Ok (Some all.0, rest))
     else Ok (None, ps)
 
 -- ---- assignments
@@ -124,7 +144,7 @@ unfoldable pub read_end : List Placed → Result (Unit {0}) Failure
 read_end [] = Ok tt
 read_end (p ∷ ps) = unexpected (p ∷ ps)
 
--- a module, and nothing behind it
+-- a module, and nothing after it
 unfoldable pub read_module : List Placed → Result WrittenModule Failure
 read_module ps = do
   head ← read_head ps
@@ -133,4 +153,12 @@ read_module ps = do
   assignments ← read_each goes_on_assigning read_assignment (length imports.1) imports.1
   end ← read_token (Reserved End) assignments.1
   nothing ← read_end end
-  Ok (record { site = site_at ps; name = head.0.name; identifier = head.0.identifier; tag_default = head.0.tag_default; exports = exports.0; imports = imports.0; assignments = assignments.0 })
+  Ok (record {
+    site = site_at ps;
+    name = head.0.name;
+    identifier = head.0.identifier;
+    tag_default = head.0.tag_default;
+    exports = exports.0;
+    imports = imports.0;
+    assignments = assignments.0;
+  })

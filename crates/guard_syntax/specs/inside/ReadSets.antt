@@ -22,10 +22,11 @@ begins_dots ps = begins_with (Mark RangeSeparator) ps || begins_with (Mark LessT
 abbrev pub begins_with_nonzero : List Placed → Bool
 begins_with_nonzero ps = begins_with Number ps && not (begins_with_zero ps)
 
--- a range, and no value: MIN, or an end with `..` or `<` behind it
+-- a range, and no value: MIN, or an end with `..` or `<` after it
 abbrev pub begins_range : List Placed → Bool
 begins_range ps =
-    begins_with (Reserved Min) ps || begins_with (Mark Minus) ps && begins_dots (behind (behind ps)) && begins_with_nonzero (behind ps)
+    begins_with (Reserved Min) ps
+    || begins_with (Mark Minus) ps && begins_dots (behind (behind ps)) && begins_with_nonzero (behind ps)
     || (begins_with Number ps || begins_with LowerName ps || begins_with CharacterString ps) && begins_dots (behind ps)
 
 unfoldable pub read_end_form : Reader WrittenEndForm
@@ -45,14 +46,24 @@ read_range ps = do
   low ← read_end_or Min ps
   dots ← read_token (Mark RangeSeparator) (behind_if (begins_with (Mark LessThan) low.1) low.1)
   high ← read_end_or Max (behind_if (begins_with (Mark LessThan) dots) dots)
-  Ok (record { low = low.0; above_low = begins_with (Mark LessThan) low.1; below_high = begins_with (Mark LessThan) dots; high = high.0 }, high.1)
+  Ok (
+    record {
+      low = low.0;
+      above_low = begins_with (Mark LessThan) low.1;
+      below_high = begins_with (Mark LessThan) dots;
+      high = high.0;
+    },
+    high.1,
+  )
 
 -- ---- elements
 
 abbrev pub begins_element : List Placed → Bool
 begins_element ps =
-    begins_with (Mark LeftParenthesis) ps || begins_with UpperName ps || begins_with (Reserved Includes) ps || begins_with (Reserved Min) ps
-    || begins_with (Reserved Size) ps || begins_with (Reserved From) ps || begins_with (Reserved With) ps || begins_value ps
+    begins_with (Mark LeftParenthesis) ps || begins_with UpperName ps || begins_with (Reserved Includes) ps
+    || begins_with (Reserved Min) ps
+    || begins_with (Reserved Size) ps || begins_with (Reserved From) ps || begins_with (Reserved With) ps
+    || begins_value ps
 
 abbrev pub begins_set : List Placed → Bool
 begins_set ps = begins_with (Reserved All) ps || begins_element ps
@@ -74,7 +85,8 @@ read_parentheses sets ps = do
 unfoldable pub read_contained : Reader WrittenElementForm
 read_contained ps =
     let includes = begins_with (Reserved Includes) ps in
-    read_spelling UpperName (behind_if includes ps) >>= λ name. Ok (contained includes (site_at (behind_if includes ps)) name.0, name.1)
+    read_spelling UpperName (behind_if includes ps) >>= λ name.
+    Ok (contained includes (site_at (behind_if includes ps)) name.0, name.1)
 
 abbrev pub presence_at : List Placed → Option PresenceWord
 presence_at ps =
@@ -83,19 +95,31 @@ presence_at ps =
     else (if begins_with (Reserved Optional) ps then Some presence.Optional
     else None))
 
--- what stands before a presence word
+-- what comes before a presence word
 unfoldable pub read_perhaps_constraint : Reader WrittenSet → Reader (Option WrittenConstraint)
-read_perhaps_constraint sets ps = if begins_with (Mark LeftParenthesis) ps then (read_constraint sets ps >>= λ c. Ok (Some c.0, c.1)) else Ok (None, ps)
+read_perhaps_constraint sets ps =
+    if begins_with (Mark LeftParenthesis) ps then (read_constraint sets ps >>= λ c. Ok (Some c.0, c.1))
+    else Ok (None, ps)
 
 unfoldable pub read_part : Reader WrittenSet → Reader WrittenPart
 read_part sets ps = do
   name ← read_spelling LowerName ps
   c ← read_perhaps_constraint sets name.1
-  Ok (record { site = site_at ps; name = name.0; constraint = c.0; presence = presence_at c.1 }, behind_if (is_there (presence_at c.1)) c.1)
+  Ok (
+    record {
+      site = site_at ps;
+      name = name.0;
+      constraint = c.0;
+      presence = presence_at c.1;
+    },
+    behind_if (is_there (presence_at c.1)) c.1,
+  )
 
 -- "..." and a comma, where there are both
 unfoldable pub read_partial : Reader Bool
-read_partial ps = if begins_with (Mark Ellipsis) ps then (read_token (Mark Comma) (behind ps) >>= λ comma. Ok (true, comma)) else Ok (false, ps)
+read_partial ps =
+    if begins_with (Mark Ellipsis) ps then (read_token (Mark Comma) (behind ps) >>= λ comma. Ok (true, comma))
+    else Ok (false, ps)
 
 unfoldable pub read_with_components : Reader WrittenSet → Reader WrittenElementForm
 read_with_components sets ps = do
@@ -108,8 +132,10 @@ read_with_components sets ps = do
 unfoldable pub read_inner_type_constraints : Reader WrittenSet → Reader WrittenElementForm
 read_inner_type_constraints sets ps =
     read_token (Reserved With) ps >>= λ behind_with.
-    if begins_with (Reserved Component) behind_with then (read_constraint sets (behind behind_with) >>= λ c. Ok (with_component c.0, c.1))
-    else (read_token (Reserved Components) behind_with >>= λ behind_components. read_with_components sets behind_components)
+    if begins_with (Reserved Component) behind_with
+    then (read_constraint sets (behind behind_with) >>= λ c. Ok (with_component c.0, c.1))
+    else (read_token (Reserved Components) behind_with >>= λ behind_components.
+    read_with_components sets behind_components)
 
 -- a range or a single value
 unfoldable pub read_range_or_value : Reader WrittenValue → Reader WrittenElementForm
@@ -132,7 +158,9 @@ read_element values sets ps = read_element_form values sets ps >>= λ form. Ok (
 -- ---- sets
 
 unfoldable pub read_except : Reader WrittenValue → Reader WrittenSet → Reader (Option WrittenElement)
-read_except values sets ps = if begins_with (Reserved Except) ps then (read_element values sets (behind ps) >>= λ e. Ok (Some e.0, e.1)) else Ok (None, ps)
+read_except values sets ps =
+    if begins_with (Reserved Except) ps then (read_element values sets (behind ps) >>= λ e. Ok (Some e.0, e.1))
+    else Ok (None, ps)
 
 unfoldable pub read_difference : Reader WrittenValue → Reader WrittenSet → Reader WrittenDifference
 read_difference values sets ps = do
@@ -188,13 +216,14 @@ read_all_except values sets ps = do
   Ok (all_except e.0, e.1)
 
 unfoldable pub read_set_form : Reader WrittenValue → Reader WrittenSet → Reader WrittenSetForm
-read_set_form values sets ps = if begins_with (Reserved All) ps then read_all_except values sets ps else read_union values sets ps
+read_set_form values sets ps =
+    if begins_with (Reserved All) ps then read_all_except values sets ps else read_union values sets ps
 
--- a set with what stands inside
+-- a set with what is inside
 unfoldable pub read_inner_set : Reader WrittenValue → Reader WrittenSet → Reader WrittenSet
 read_inner_set values sets ps = read_set_form values sets ps >>= λ form. Ok (set_node (site_at ps) form.0, form.1)
 
--- A set. The number says how many types, values and sets may stand one in the other here.
+-- A set. The number says how deep types, values and sets may be nested here.
 unfoldable pub read_set : ℕ → Reader WrittenSet
 read_set zero ps = too_deep (begins_set ps) ps
 read_set (suc levels) ps = read_inner_set (read_value levels) (read_set levels) ps

@@ -1,4 +1,5 @@
--- Reading tokens from left to right: what they write and the tokens behind it, or how many tokens are left where that fails.
+-- Reading tokens from left to right: what they write and the tokens after it, or how many tokens are left where that
+-- fails.
 use Rattle.std.specs.Prelude.{ℕ, zero, suc, Bool, true, false, ◌&&◌, ◌==◌, if◌then◌else◌, List, [], ◌∷◌, length, map, Option, Some, None, Result, Ok, Err}
 use Rattle.guard_model.specs.Answer.{◌>>=◌}
 use Rattle.guard_model.specs.declared.site.Site.{Site}
@@ -37,12 +38,12 @@ abbrev pub begins_with : TokenKind → List Placed → Bool
 begins_with k [] = false
 begins_with k (p ∷ ps) = same_kind (kind_of p.lexeme) k
 
--- the tokens behind the first
+-- the tokens after the first
 abbrev pub behind : List Placed → List Placed
 behind [] = []
 behind (p ∷ ps) = ps
 
--- the tokens behind one that is there or not
+-- the tokens after one that is there or not
 abbrev pub behind_if : Bool → List Placed → List Placed
 behind_if true ps = behind ps
 behind_if false ps = ps
@@ -61,7 +62,7 @@ spelling_at (p ∷ ps) = spelling_of p.lexeme
 abbrev pub unexpected : {A : Type 0} → List Placed → Result A Failure
 unexpected ps = Err (Unexpected (length ps))
 
--- a node that may not stand here since it lies too deep; where nothing begins it, the token is unexpected
+-- a node that is not allowed here since it is too deep; where nothing begins it, the token is unexpected
 abbrev pub too_deep : {A : Type 0} → Bool → List Placed → Result A Failure
 too_deep begins ps = if begins then Err (TooDeep (length ps)) else unexpected ps
 
@@ -80,12 +81,13 @@ read_each goes_on read (suc n) ps =
     if goes_on ps then (read ps >>= λ one. read_each goes_on read n one.1 >>= λ others. Ok (one.0 ∷ others.0, others.1))
     else Ok ([], ps)
 
--- One or more parted by commas. The number is that of the tokens.
+-- One or more separated by commas. The number is that of the tokens.
 unfoldable pub read_parted : {A : Type 0} → Reader A → ℕ → Reader (List A)
 read_parted read zero ps = unexpected ps
 read_parted read (suc n) ps =
     read ps >>= λ one.
-    if begins_with (Mark Comma) one.1 then (read_parted read n (behind one.1) >>= λ others. Ok (one.0 ∷ others.0, others.1))
+    if begins_with (Mark Comma) one.1
+    then (read_parted read n (behind one.1) >>= λ others. Ok (one.0 ∷ others.0, others.1))
     else Ok (one.0 ∷ [], one.1)
 
 abbrev pub is_zero : List ℕ → Bool
@@ -103,10 +105,12 @@ read_digits minus ps = if minus && begins_with_zero ps then unexpected ps else r
 unfoldable pub read_number : Reader WrittenNumber
 read_number ps =
     let minus = begins_with (Mark Minus) ps in
-    read_digits minus (behind_if minus ps) >>= λ digits. Ok (record { site = site_at ps; minus = minus; digits = digits.0 }, digits.1)
+    read_digits minus (behind_if minus ps) >>= λ digits.
+    Ok (record { site = site_at ps; minus = minus; digits = digits.0 }, digits.1)
 
 unfoldable pub read_bare_arc : Reader WrittenArc
-read_bare_arc ps = read_spelling Number ps >>= λ number. Ok (record { site = site_at ps; name = None; number = number.0 }, number.1)
+read_bare_arc ps =
+    read_spelling Number ps >>= λ number. Ok (record { site = site_at ps; name = None; number = number.0 }, number.1)
 
 unfoldable pub read_named_arc : Reader WrittenArc
 read_named_arc ps = do

@@ -37,7 +37,15 @@ read_tag ps = do
   opening ← read_token (Mark LeftBracket) ps
   number ← read_spelling Number (behind_if (is_there (class_at opening)) opening)
   closing ← read_token (Mark RightBracket) number.1
-  Ok (record { site = site_at ps; class = class_at opening; number = number.0; mode = mode_at closing }, behind_if (is_there (mode_at closing)) closing)
+  Ok (
+    record {
+      site = site_at ps;
+      class = class_at opening;
+      number = number.0;
+      mode = mode_at closing;
+    },
+    behind_if (is_there (mode_at closing)) closing,
+  )
 
 abbrev pub begins_tag : List Placed → Bool
 begins_tag ps = begins_with (Mark LeftBracket) ps
@@ -76,7 +84,9 @@ read_bit ps = do
   Ok (record { site = site_at ps; name = name.0; number = n.0 }, n.1)
 
 unfoldable pub read_item_number : Reader (Option WrittenNumber)
-read_item_number ps = if begins_with (Mark LeftParenthesis) ps then (read_in_parentheses ps >>= λ n. Ok (Some n.0, n.1)) else Ok (None, ps)
+read_item_number ps =
+    if begins_with (Mark LeftParenthesis) ps then (read_in_parentheses ps >>= λ n. Ok (Some n.0, n.1))
+    else Ok (None, ps)
 
 unfoldable pub read_item : Reader WrittenItem
 read_item ps = do
@@ -84,14 +94,15 @@ read_item ps = do
   n ← read_item_number name.1
   Ok (record { site = site_at ps; name = name.0; number = n.0 }, n.1)
 
--- In braces what is named after INTEGER or BIT STRING. Where no brace stands there is none.
+-- In braces what is named after INTEGER or BIT STRING. Where no brace follows there is none.
 unfoldable pub read_numbers : Reader WrittenNamed → Reader (List WrittenNamed)
 read_numbers read ps =
     if begins_with (Mark LeftBrace) ps
-    then (read_parted read (length (behind ps)) (behind ps) >>= λ all. read_token (Mark RightBrace) all.1 >>= λ closing. Ok (all.0, closing))
+    then (read_parted read (length (behind ps)) (behind ps) >>= λ all. read_token (Mark RightBrace) all.1 >>= λ closing.
+    Ok (all.0, closing))
     else Ok ([], ps)
 
--- behind ENUMERATED
+-- after ENUMERATED
 unfoldable pub read_items : Reader (List WrittenItem)
 read_items ps = do
   opening ← read_token (Mark LeftBrace) ps
@@ -118,8 +129,10 @@ begins_two_words ps = begins_with (Reserved Octet) ps || begins_with (Reserved O
 
 unfoldable pub read_two_words : Reader PlainType
 read_two_words ps =
-    if begins_with (Reserved Octet) ps then (read_token (Reserved String) (behind ps) >>= λ rest. Ok (plain_type.OctetString, rest))
-    else (read_token (Reserved Object) ps >>= λ rest. read_token (Reserved Identifier) rest >>= λ rest. Ok (plain_type.ObjectIdentifier, rest))
+    if begins_with (Reserved Octet) ps
+    then (read_token (Reserved String) (behind ps) >>= λ rest. Ok (plain_type.OctetString, rest))
+    else (read_token (Reserved Object) ps >>= λ rest. read_token (Reserved Identifier) rest >>= λ rest.
+    Ok (plain_type.ObjectIdentifier, rest))
 
 -- ---- components and alternatives
 
@@ -131,15 +144,19 @@ read_presence values ps =
 
 unfoldable pub read_component_form : Reader WrittenValue → Reader WrittenType → Reader WrittenComponentForm
 read_component_form values types ps =
-    if begins_with (Reserved Components) ps then (read_token (Reserved Of) (behind ps) >>= λ rest. types rest >>= λ ty. Ok (components_of_type ty.0, ty.1))
-    else (read_spelling LowerName ps >>= λ name. types name.1 >>= λ ty. read_presence values ty.1 >>= λ p. Ok (named name.0 ty.0 p.0, p.1))
+    if begins_with (Reserved Components) ps
+    then (read_token (Reserved Of) (behind ps) >>= λ rest. types rest >>= λ ty. Ok (components_of_type ty.0, ty.1))
+    else (read_spelling LowerName ps >>= λ name. types name.1 >>= λ ty. read_presence values ty.1 >>= λ p.
+    Ok (named name.0 ty.0 p.0, p.1))
 
 unfoldable pub read_component : Reader WrittenValue → Reader WrittenType → Reader WrittenComponent
-read_component values types ps = read_component_form values types ps >>= λ form. Ok (record { site = site_at ps; form = form.0 }, form.1)
+read_component values types ps =
+    read_component_form values types ps >>= λ form. Ok (record { site = site_at ps; form = form.0 }, form.1)
 
 -- components, up to the closing brace
 unfoldable pub read_components : Reader WrittenValue → Reader WrittenType → Reader (List WrittenComponent)
-read_components values types ps = if begins_with (Mark RightBrace) ps then Ok ([], ps) else read_parted (read_component values types) (length ps) ps
+read_components values types ps =
+    if begins_with (Mark RightBrace) ps then Ok ([], ps) else read_parted (read_component values types) (length ps) ps
 
 unfoldable pub read_alternative : Reader WrittenType → Reader WrittenAlternative
 read_alternative types ps = do
@@ -167,7 +184,9 @@ read_structure k values types ps = do
 unfoldable pub read_of_constraint : Reader WrittenSet → Reader (Option WrittenOfConstraint)
 read_of_constraint sets ps =
     let size = begins_with (Reserved Size) ps in
-    if size || begins_constraint ps then (read_constraint sets (behind_if size ps) >>= λ c. Ok (Some (record { site = site_at ps; size = size; constraint = c.0 }), c.1))
+    if size || begins_constraint ps
+    then (read_constraint sets (behind_if size ps) >>= λ c.
+    Ok (Some (record { site = site_at ps; size = size; constraint = c.0 }), c.1))
     else Ok (None, ps)
 
 unfoldable pub read_of : Collection → Reader WrittenSet → Reader WrittenType → Reader WrittenBase
@@ -177,9 +196,11 @@ read_of k sets types ps = do
   ty ← types of
   Ok (of_type k c.0 ty.0, ty.1)
 
--- behind SEQUENCE or SET
-unfoldable pub read_collection : Collection → Reader WrittenValue → Reader WrittenSet → Reader WrittenType → Reader WrittenBase
-read_collection k values sets types ps = if begins_with (Mark LeftBrace) ps then read_structure k values types ps else read_of k sets types ps
+-- after SEQUENCE or SET
+unfoldable pub read_collection : Collection → Reader WrittenValue → Reader WrittenSet → Reader WrittenType
+    → Reader WrittenBase
+read_collection k values sets types ps =
+    if begins_with (Mark LeftBrace) ps then read_structure k values types ps else read_of k sets types ps
 
 -- a type that is a single word, or the name of a type
 abbrev pub plain_or_name : Option PlainType → Reader WrittenBase
@@ -191,13 +212,15 @@ read_word_or_name ps = plain_or_name (single_word_at ps) ps
 
 -- after BIT
 unfoldable pub read_bit_string : Reader WrittenBase
-read_bit_string ps = read_token (Reserved String) ps >>= λ rest. read_numbers read_bit rest >>= λ all. Ok (named_bits all.0, all.1)
+read_bit_string ps =
+    read_token (Reserved String) ps >>= λ rest. read_numbers read_bit rest >>= λ all. Ok (named_bits all.0, all.1)
 
--- a base in which no type stands
+-- a base with no type inside
 unfoldable pub read_simple : Reader WrittenBase
 read_simple ps =
     if begins_two_words ps then (read_two_words ps >>= λ p. Ok (plain p.0, p.1))
-    else (if begins_with (Reserved Integer) ps then (read_numbers read_named (behind ps) >>= λ all. Ok (numbers all.0, all.1))
+    else (if begins_with (Reserved Integer) ps
+    then (read_numbers read_named (behind ps) >>= λ all. Ok (numbers all.0, all.1))
     else (if begins_with (Reserved Bit) ps then read_bit_string (behind ps)
     else (if begins_with (Reserved Enumerated) ps then (read_items (behind ps) >>= λ all. Ok (enumerated all.0, all.1))
     else (read_word_or_name ps))))
@@ -209,20 +232,23 @@ read_base values sets types ps =
     else (if begins_with (Reserved Choice) ps then read_choice types (behind ps)
     else (read_simple ps)))
 
--- Constraints behind an OF type belong to the type of its elements.
+-- Constraints after an OF type belong to the type of its elements.
 abbrev pub is_of : WrittenBase → Bool
 is_of (of_type k c ty) = true
 is_of base = false
 
 unfoldable pub read_constraints : Reader WrittenSet → Bool → Reader (List WrittenConstraint)
-read_constraints sets of ps = if of then Ok ([], ps) else read_each begins_constraint (read_constraint sets) (length ps) ps
+read_constraints sets of ps =
+    if of then Ok ([], ps) else read_each begins_constraint (read_constraint sets) (length ps) ps
 
 abbrev pub begins_type : List Placed → Bool
 begins_type ps =
-    begins_tag ps || is_there (single_word_at ps) || begins_two_words ps || begins_with (Reserved Integer) ps || begins_with (Reserved Bit) ps
-    || begins_with (Reserved Enumerated) ps || begins_with (Reserved Sequence) ps || begins_with (Reserved Set) ps || begins_with (Reserved Choice) ps || begins_with UpperName ps
+    begins_tag ps || is_there (single_word_at ps) || begins_two_words ps || begins_with (Reserved Integer) ps
+    || begins_with (Reserved Bit) ps
+    || begins_with (Reserved Enumerated) ps || begins_with (Reserved Sequence) ps || begins_with (Reserved Set) ps
+    || begins_with (Reserved Choice) ps || begins_with UpperName ps
 
--- a type with what stands inside
+-- a type with what is inside
 unfoldable pub read_inner_type : Reader WrittenValue → Reader WrittenSet → Reader WrittenType → Reader WrittenType
 read_inner_type values sets types ps = do
   tags ← read_each begins_tag read_tag (length ps) ps
@@ -230,7 +256,7 @@ read_inner_type values sets types ps = do
   constraints ← read_constraints sets (is_of base.0) base.1
   Ok (type_node (site_at ps) tags.0 base.0 constraints.0, constraints.1)
 
--- A type. The number says how many types, values and sets may stand one in the other here.
+-- A type. The number says how deep types, values and sets may be nested here.
 unfoldable pub read_type : ℕ → Reader WrittenType
 read_type zero ps = too_deep (begins_type ps) ps
 read_type (suc levels) ps = read_inner_type (read_value levels) (read_set levels) (read_type levels) ps

@@ -26,10 +26,11 @@ begins_number ps = begins_with (Mark Minus) ps || begins_with Number ps
 
 abbrev pub begins_value : List Placed → Bool
 begins_value ps =
-    begins_with (Reserved True) ps || begins_with (Reserved False) ps || begins_with (Reserved Null) ps || begins_number ps
+    begins_with (Reserved True) ps || begins_with (Reserved False) ps || begins_with (Reserved Null) ps
+    || begins_number ps
     || is_there (string_at ps) || begins_with LowerName ps || begins_with (Mark LeftBrace) ps
 
--- what stands behind an opening brace are arcs: a number and then a number or name, or a name and then a parenthesis
+-- what follows an opening brace are arcs: a number and then a number or name, or a name and then a parenthesis
 abbrev pub begins_arcs : List Placed → Bool
 begins_arcs ps =
     begins_with Number ps && (begins_with Number (behind ps) || begins_with LowerName (behind ps))
@@ -38,7 +39,9 @@ begins_arcs ps =
 -- the name before a value, where there is one
 unfoldable pub read_entry_name : Reader (Option (List ℕ))
 read_entry_name ps =
-    if begins_with LowerName ps then (if begins_value (behind ps) then (read_spelling LowerName ps >>= λ name. Ok (Some name.0, name.1)) else Ok (None, ps))
+    if begins_with LowerName ps
+    then (if begins_value (behind ps) then (read_spelling LowerName ps >>= λ name. Ok (Some name.0, name.1))
+    else Ok (None, ps))
     else Ok (None, ps)
 
 unfoldable pub read_entry : Reader WrittenValue → Reader WrittenEntry
@@ -47,7 +50,8 @@ read_entry values ps = do
   v ← values name.1
   Ok (record { site = site_at ps; name = name.0; value = v.0 }, v.1)
 
--- Entries, up to the closing brace. Where no value may stand in the braces the first entry is too deep, with its name if it has one.
+-- Entries, up to the closing brace. Where no value is allowed in the braces the first entry is too deep, with its name
+-- if it has one.
 unfoldable pub read_entries : ℕ → Reader WrittenValue → Reader (List WrittenEntry)
 read_entries levels values ps =
     if begins_with (Mark RightBrace) ps then Ok ([], ps)
@@ -64,14 +68,16 @@ are_arcs (a ∷ []) = is_there a.name
 are_arcs (a ∷ b ∷ others) = true
 
 unfoldable pub read_arcs : Reader (List WrittenArc)
-read_arcs ps = read_each does_not_close read_arc (length ps) ps >>= λ all. if are_arcs all.0 then Ok all else unexpected ps
+read_arcs ps =
+    read_each does_not_close read_arc (length ps) ps >>= λ all. if are_arcs all.0 then Ok all else unexpected ps
 
 unfoldable pub read_braces : ℕ → Reader WrittenValue → Reader WrittenValueForm
 read_braces levels values ps =
     read_token (Mark LeftBrace) ps >>= λ opening.
     if begins_arcs opening
     then (read_arcs opening >>= λ all. read_token (Mark RightBrace) all.1 >>= λ closing. Ok (arcs all.0, closing))
-    else (read_entries levels values opening >>= λ all. read_token (Mark RightBrace) all.1 >>= λ closing. Ok (list (entries_of all.0), closing))
+    else (read_entries levels values opening >>= λ all. read_token (Mark RightBrace) all.1 >>= λ closing.
+    Ok (list (entries_of all.0), closing))
 
 -- a name, or a chosen alternative
 unfoldable pub read_name : Reader WrittenValue → Reader WrittenValueForm
@@ -85,7 +91,8 @@ read_integer_form ps = read_number ps >>= λ n. Ok (integer n.0, n.1)
 
 unfoldable pub read_string : Reader WrittenValueForm
 read_string ps =
-    if begins_with CharacterString ps then (read_spelling CharacterString ps >>= λ s. Ok (text string.Characters s.0, s.1))
+    if begins_with CharacterString ps
+    then (read_spelling CharacterString ps >>= λ s. Ok (text string.Characters s.0, s.1))
     else (if begins_with BitString ps then (read_spelling BitString ps >>= λ s. Ok (text string.Bits s.0, s.1))
     else (read_spelling HexadecimalString ps >>= λ s. Ok (text string.Hexadecimal s.0, s.1)))
 
@@ -99,7 +106,8 @@ read_value_form levels values ps =
     else (if begins_with (Mark LeftBrace) ps then read_braces levels values ps
     else (read_string ps))))))
 
--- A value. The number says how many types, values and sets may stand one in the other here.
+-- A value. The number says how deep types, values and sets may be nested here.
 unfoldable pub read_value : ℕ → Reader WrittenValue
 read_value zero ps = too_deep (begins_value ps) ps
-read_value (suc levels) ps = read_value_form levels (read_value levels) ps >>= λ form. Ok (value_node (site_at ps) form.0, form.1)
+read_value (suc levels) ps =
+    read_value_form levels (read_value levels) ps >>= λ form. Ok (value_node (site_at ps) form.0, form.1)

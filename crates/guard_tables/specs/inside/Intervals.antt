@@ -30,4 +30,5 @@ IsItemPassed z items cs = (is_item z (map unnamed items) ≡ true) × PassesAll 
 -- contents octets that are lawful for the kind and fail nothing
 pub record IsPassed (kind : SimpleKind) (c : Cold) (os : List ℕ) : Type 0 where
   pub lawful : simple_fault (kind_view kind c.items.items) os ≡ None
-  pub free : (m : Slots) → conditions_marked (conditions_of c) (facts (simple_value (kind_view kind c.items.items) os) (Some os)) m ≡ m
+  pub free : (m : Slots)
+      → conditions_marked (conditions_of c) (facts (simple_value (kind_view kind c.items.items) os) (Some os)) m ≡ m

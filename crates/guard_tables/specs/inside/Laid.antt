@@ -90,7 +90,8 @@ pub record WithPart (others : List Node) (l : Laid) (side : Side) (new : LaidPar
   pub stand : (ps : Parts)
       → parts_in new ps ≡ parts_then (spots_at (spots_so_far l.builder) others) (part side (plan_in l) ps)
 
--- with what is inside it: one part more, of which this is said and which stands for this plan, whatever parts come after it
+-- with what is inside it: one part more, of which this is said and which stands for this plan, whatever parts come
+-- after it
 pub record Extends (old new : LaidParts) (side : Side) (p : Plan) : Type 0 where
   pub grows : Grows old.builder new.builder
   pub nodes : MayCome new

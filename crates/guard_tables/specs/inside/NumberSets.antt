@@ -5,7 +5,7 @@ use Rattle.guard_model.specs.Limits.{fits_128_bits}
 use Rattle.guard_tables.specs.declared.node.Range.{Range}
 use Rattle.guard_tables.specs.Marking.{is_in_one}
 
--- whatever the kind of type is on which it stands
+-- whatever kind of type has it
 abbrev pub HasNumbers : List Range → (AbstractKind → ℤ → Bool) → Type 0
 HasNumbers rs allows = (kind : AbstractKind) (z : ℤ) → is_in_one rs z ≡ (fits_128_bits z && allows kind z)
 

@@ -14,7 +14,8 @@ spread_inner k kind i None = []
 spread_inner k kind i (Some c) = term k (within i (by_constraint (kind_at i kind) c)) ∷ []
 
 abbrev pub spread_part : Slots → AbstractKind → Bool → OnePart → List Term
-spread_part k kind partial p = placed partial (component_at p.place (components_in kind)) p.word p.place k ++ spread_inner k kind p.place p.within
+spread_part k kind partial p =
+    placed partial (component_at p.place (components_in kind)) p.word p.place k ++ spread_inner k kind p.place p.within
 
 -- of a component that a full list may leave out
 abbrev pub spread_unlisted_one : Slots → AbstractKind → Parts → ℕ → AbstractPresence → List Term

@@ -17,4 +17,5 @@ same_within (Some c) None = false
 
 -- one part of WITH COMPONENTS
 abbrev pub same_part : OnePart → OnePart → Bool
-same_part p q = same_site p.site q.site && (nat_eq p.place q.place && (same_within p.within q.within && same_word p.word q.word))
+same_part p q =
+    same_site p.site q.site && (nat_eq p.place q.place && (same_within p.within q.within && same_word p.word q.word))

@@ -1,4 +1,5 @@
--- How a node with too many conditions is looked for: from a type on, through its parts in written order, each with what lays conditions on it.
+-- How a node with too many conditions is looked for: from a type on, through its parts in written order, each with what
+-- lays conditions on it.
 use Rattle.std.specs.Prelude.{Bool, false, not, nat_le, ◌||◌, List, [], ◌∷◌, replicate}
 use Rattle.std.specs.List.{list_any}
 use Rattle.guard_model.specs.AbstractType as type

@@ -18,7 +18,8 @@ small = one (up_to 9)
 abbrev pub not_small : Constraint
 not_small = one (type.except (one (up_to 99)) small)
 
-pub a_scalar_is_one_test : spread (only 1) (by_constraint (type.integer []) not_small) ≡ term (only 1) (scalar (type.integer []) not_small) ∷ []
+pub a_scalar_is_one_test : spread (only 1) (by_constraint (type.integer []) not_small)
+    ≡ term (only 1) (scalar (type.integer []) not_small) ∷ []
 a_scalar_is_one_test = refl
 
 abbrev pub octets_up_to_9 : Constraint

@@ -56,10 +56,12 @@ too_many_come_first = refl
 
 -- ---- conditions of one node: both types, the union, and its values
 
-pub as_many_conditions_as_may_be : first_fault (integer no_constraints) (integer (only (type.union (numbers 253))) ∷ []) ≡ None
+pub as_many_conditions_as_may_be : first_fault (integer no_constraints) (integer (only (type.union (numbers 253))) ∷ [])
+    ≡ None
 as_many_conditions_as_may_be = refl
 
-pub one_condition_more : first_fault (integer no_constraints) (integer (only (type.union (numbers 254))) ∷ []) ≡ Some TooManyConditions
+pub one_condition_more : first_fault (integer no_constraints) (integer (only (type.union (numbers 254))) ∷ [])
+    ≡ Some TooManyConditions
 one_condition_more = refl
 
 -- ---- a rule's type
@@ -67,13 +69,16 @@ one_condition_more = refl
 abbrev pub tagged : AbstractType
 tagged = type_of (context 0 ∷ universal 2 ∷ []) (type.integer []) no_constraints
 
-pub other_tags : first_fault (integer no_constraints) (integer (only (up_to 9)) ∷ tagged ∷ []) ≡ Some (RuleTypeMismatch 1)
+pub other_tags : first_fault (integer no_constraints) (integer (only (up_to 9)) ∷ tagged ∷ [])
+    ≡ Some (RuleTypeMismatch 1)
 other_tags = refl
 
 pub other_base : first_fault (integer no_constraints) (boolean ∷ tagged ∷ []) ≡ Some (RuleTypeMismatch 0)
 other_base = refl
 
-pub mismatches_come_before_conditions : first_fault (integer no_constraints) (integer (only (type.union (numbers 254))) ∷ boolean ∷ []) ≡ Some (RuleTypeMismatch 1)
+pub mismatches_come_before_conditions :
+    first_fault (integer no_constraints) (integer (only (type.union (numbers 254))) ∷ boolean ∷ [])
+    ≡ Some (RuleTypeMismatch 1)
 mismatches_come_before_conditions = refl
 
 -- ---- what is counted where
@@ -82,7 +87,7 @@ mismatches_come_before_conditions = refl
 abbrev pub list : AbstractType
 list = type_of (universal 16 ∷ []) (type.sequence_of (integer (only (up_to 5)))) (only (type.size (one (up_to 2))))
 
--- SEQUENCE { first INTEGER (0..5), rest SEQUENCE (SIZE (0..2)) OF INTEGER (0..5) } with these constraints behind it
+-- SEQUENCE { first INTEGER (0..5), rest SEQUENCE (SIZE (0..2)) OF INTEGER (0..5) } with these constraints after it
 abbrev pub pair : Constraints → AbstractType
 pair cons = type_of (universal 16 ∷ []) (type.sequence
     (component (codes "first") (integer (only (up_to 5))) type.mandatory
@@ -91,7 +96,7 @@ pair cons = type_of (universal 16 ∷ []) (type.sequence
 pub nodes_of_a_pair : ways (pair no_constraints) ≡ [] ∷ (0 ∷ []) ∷ (1 ∷ []) ∷ (1 ∷ 0 ∷ []) ∷ []
 nodes_of_a_pair = refl
 
--- the type and SIZE, and not what stands inside SIZE
+-- the type and SIZE, and not what is inside SIZE
 pub at_a_list : conditions (list ∷ []) [] ≡ 2
 at_a_list = refl
 
@@ -122,10 +127,15 @@ at_an_element_of_its_list = refl
 pub at_a_contained_subtype : conditions (pair (only (type.contained_subtype (pair (only inner)))) ∷ []) [] ≡ 4
 at_a_contained_subtype = refl
 
-pub at_a_part_of_a_contained_subtype : conditions (pair (only (type.contained_subtype (pair (only inner)))) ∷ []) (0 ∷ []) ≡ 5
+pub at_a_part_of_a_contained_subtype :
+    conditions (pair (only (type.contained_subtype (pair (only inner)))) ∷ []) (0 ∷ []) ≡ 5
 at_a_part_of_a_contained_subtype = refl
 
 -- the same inside WITH COMPONENTS: (WITH COMPONENTS {..., rest (List)})
 pub at_a_subtype_contained_in_a_part :
-    conditions (pair (only (type.with_components true (type.part_within site 1 (one (type.contained_subtype list)) None type.no_parts))) ∷ []) (1 ∷ 0 ∷ []) ≡ 4
+    conditions (pair
+    (only (type.with_components true (type.part_within site 1 (one (type.contained_subtype list)) None type.no_parts)))
+    ∷ [])
+    (1 ∷ 0 ∷ [])
+    ≡ 4
 at_a_subtype_contained_in_a_part = refl

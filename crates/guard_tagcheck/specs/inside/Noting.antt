@@ -1,4 +1,5 @@
--- How tags are noted with the first component that may begin with them, and the least pair of components that share one is kept.
+-- How tags are noted with the first component that may begin with them, and how the least pair of components that share
+-- one is kept.
 use Rattle.std.specs.Prelude.{◌≡◌, ℕ, ◌<◌, ◌≤◌, min, Bool, List, Option, Some, None, IsTrue, if◌then◌else◌, nat_le}
 use Rattle.std.specs.Map.{lookup}
 use Rattle.std.specs.Option.{option_or}
@@ -18,7 +19,7 @@ IsEarliest IsSo (Some first) = IsSo first × ((i : ℕ) → IsSo i → first ≤
 abbrev pub Notes : (Tag → Option ℕ) → (Tag → Bool) → ℕ → (Tag → Option ℕ) → Type 0
 Notes old begins position new = (tag : Tag) → new tag ≡ option_or (old tag) (if begins tag then Some position else None)
 
--- position i, which lies before this one, is noted at one of these tags
+-- position i, which is before this one, is noted at one of these tags
 abbrev pub IsNoted : (Tag → Option ℕ) → (Tag → Bool) → ℕ → ℕ → Type 0
 IsNoted notes begins position i = (tag : Tag) × IsTrue (begins tag) × (notes tag ≡ Some i) × (i < position)
 
@@ -28,7 +29,7 @@ earlier None b = b
 earlier (Some i) None = Some i
 earlier (Some i) (Some j) = Some (min i j)
 
--- the least pair so far, or one whose second position lies behind all of that
+-- the least pair so far, or one whose second position comes after all of that
 abbrev pub lesser : Option (ℕ × ℕ) → Option ℕ → ℕ → Option (ℕ × ℕ)
 lesser least None second = least
 lesser None (Some first) second = Some (first, second)

@@ -11,8 +11,8 @@ use Rattle.guard_names.specs.Faults.{fault_of_names}
 use Rattle.guard_names.specs.Meanings.{Means, Uses, number_meant}
 use Rattle.guard_names.specs.Order.{IsOrder}
 use Rattle.guard_names.specs.Places.{place_in, known_meant}
-use Rattle.guard_names.proofs.Places.{placed_there}
-use Rattle.guard_names.proofs.SameUses.{are_means, are_meant}
+use Rattle.guard_names.proofs.InOrder.Places.{placed_there}
+use Rattle.guard_names.proofs.ByNames.SameUses.{are_means, are_meant}
 use Rattle.guard_tagging.specs.Automatic.{base_of, IsAutomaticList, Automatic, as_list, by_name}
 use Rattle.guard_tagging.specs.Skeletons.{AreMeanings}
 use Rattle.guard_tagging.specs.Surroundings.{tag_default_of, surroundings, is_automatic_definition}

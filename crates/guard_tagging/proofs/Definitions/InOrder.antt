@@ -9,7 +9,7 @@ use Rattle.guard_names.specs.Faults.{fault_of_names}
 use Rattle.guard_names.specs.Meanings.{Uses}
 use Rattle.guard_names.specs.Order.{IsOrder}
 use Rattle.guard_tagging.specs.Skeletons.{AreMeanings, AreSurroundings, surroundings_of}
-use Rattle.guard_tagging.specs.Surroundings.{surroundings, meaning_at, known_behind, known_from}
+use Rattle.guard_tagging.specs.Surroundings.{surroundings, meaning_at, known_after, known_from}
 use Rattle.guard_tagging.specs.Types.{Meaning, Surroundings}
 use Rattle.guard_tagging.proofs.Definitions.AutomaticLists.{definition_right}
 use Rattle.guard_tagging.proofs.Definitions.Meanings.{none_yet, one_meaning_more, same_meanings}
@@ -31,7 +31,7 @@ module _ (ms : List WrittenModule) (none : fault_of_names ms ≡ None) (order : 
   gone_through : (front rest : List ℕ) (done types : List AbstractType) (known : List Meaning) → order ≡ front ++ rest
       → length front ≡ length done
       → AreMeanings ms order done known → AreMeanings ms order (done
-      ++ take (length rest) types) (known_behind ms order known rest types)
+      ++ take (length rest) types) (known_after ms order known rest types)
   gone_through front [] done types known split many are =
       subst (λ (ts : List AbstractType). AreMeanings ms order ts known) (sym (append-nil done)) are
   gone_through front (n ∷ rest) done [] known split many are =
@@ -43,7 +43,7 @@ module _ (ms : List WrittenModule) (none : fault_of_names ms ≡ None) (order : 
       let right = definition_right ms none order ordered done known are n next (slice_get (definitions ms) n) refl in
       let more = one_meaning_more ms order done known t (meaning_at ms order known n t) n are next (refl, right) in
       subst (λ (ts : List AbstractType). AreMeanings ms order ts
-      (known_behind ms order (known ++ meaning_at ms order known n t ∷ []) rest types))
+      (known_after ms order (known ++ meaning_at ms order known n t ∷ []) rest types))
       (append_assoc done (t ∷ []) (take (length rest) types))
       (gone_through (front ++ n ∷ []) rest (done ++ t ∷ []) types (known ++ meaning_at ms order known n t ∷ [])
       (split ∙ sym (append_assoc front (n ∷ []) rest))

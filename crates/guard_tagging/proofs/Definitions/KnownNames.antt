@@ -15,8 +15,8 @@ use Rattle.guard_names.specs.Meanings.{Uses}
 use Rattle.guard_names.specs.Mentions.{Mention, mentions, in_type, in_base, in_components, in_alternatives, in_constraint, in_of_constraint, in_presence, in_perhaps_value}
 use Rattle.guard_names.specs.Order.{is_listed, Follow, IsOrder}
 use Rattle.guard_names.specs.Places.{place_in}
-use Rattle.guard_names.proofs.Places.{placed_before}
-use Rattle.guard_names.proofs.SameUses.{are_means}
+use Rattle.guard_names.proofs.InOrder.Places.{placed_before}
+use Rattle.guard_names.proofs.ByNames.SameUses.{are_means}
 use Rattle.guard_tagging.specs.Skeletons.{AreMeanings}
 use Rattle.guard_tagging.specs.Surroundings.{surroundings}
 use Rattle.guard_tagging.specs.Types.{Surroundings, Meaning}

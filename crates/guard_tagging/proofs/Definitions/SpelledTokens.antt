@@ -134,10 +134,10 @@ high_leaves (Some e) rest h = end_form_leaves e.form rest h
 range_leaves : Leaves range_then
 range_leaves r rest h =
     let high = end_or_then Max r.high rest in
-    let behind = if_there_then r.below_high (mark LessThan) high in
+    let after = if_there_then r.below_high (mark LessThan) high in
     high_leaves r.high rest (there_leaves r.below_high (mark LessThan) high
-    (there_leaves r.above_low (mark LessThan) (mark RangeSeparator ∷ behind)
-    (low_leaves r.low (if_there_then r.above_low (mark LessThan) (mark RangeSeparator ∷ behind)) h)).1)
+    (there_leaves r.above_low (mark LessThan) (mark RangeSeparator ∷ after)
+    (low_leaves r.low (if_there_then r.above_low (mark LessThan) (mark RangeSeparator ∷ after)) h)).1)
 
 presence_word_leaves : Leaves presence_word_then
 presence_word_leaves p rest h = h.1
@@ -219,9 +219,9 @@ mode_leaves m rest h = h.1
 
 tag_leaves : Leaves tag_then
 tag_leaves t rest h =
-    let behind = perhaps_then mode_then t.mode rest in
+    let after = perhaps_then mode_then t.mode rest in
     perhaps_leaves mode_then mode_leaves t.mode rest
-    (perhaps_leaves class_then class_leaves t.class (number t.number ∷ mark RightBracket ∷ behind) h.1).1.1
+    (perhaps_leaves class_then class_leaves t.class (number t.number ∷ mark RightBracket ∷ after) h.1).1.1
 
 parenthesised_fits : (n : WrittenNumber) (rest : List Lexeme) → AllFit (parenthesised_then n rest)
     → IsShort n × AllFit rest
@@ -284,8 +284,8 @@ alternatives_comma_leaves (alternative site name ty others) rest h = h.1
 mutual
   type_fits : (t : WrittenType) (rest : List Lexeme) → AllFit (type_then t rest) → IsSpelled t × AllFit rest
   type_fits (type_node site tags base constraints) rest h =
-      let behind = each_then constraint_then constraints rest in
-      let b = base_fits base behind (each_leaves tag_then tag_leaves tags (base_then base behind) h) in
+      let after = each_then constraint_then constraints rest in
+      let b = base_fits base after (each_leaves tag_then tag_leaves tags (base_then base after) h) in
       (b.0, each_leaves constraint_then constraint_leaves constraints rest b.1)
 
   base_fits : (base : WrittenBase) (rest : List Lexeme) → AllFit (base_then base rest)
@@ -304,11 +304,11 @@ mutual
       → AreSpelled cs × AllFit rest
   components_fit no_components rest h = (tt, h)
   components_fit (component site name t presence others) rest h =
-      let behind = components_comma others (components_then others rest) in
-      let f = type_fits t (presence_then presence behind) h.1 in
+      let after = components_comma others (components_then others rest) in
+      let f = type_fits t (presence_then presence after) h.1 in
       let more =
       components_fit others rest (components_comma_leaves others (components_then others rest)
-      (presence_leaves presence behind f.1)) in
+      (presence_leaves presence after f.1)) in
       ((h.0, f.0, more.0), more.1)
   components_fit (components_from site t others) rest h =
       let f = type_fits t (components_comma others (components_then others rest)) h.1.1 in
@@ -401,11 +401,11 @@ alphabetic_low octet h =
 hyphen_low : (octet : ℕ) → is_hyphen octet ≡ true → octet < 128
 hyphen_low octet h = omega (arith, eqb-true octet 45 h)
 
-of_word_low : (octet : ℕ) (behind : List ℕ) → is_of_word octet behind ≡ true → octet < 128
-of_word_low octet behind h =
+of_word_low : (octet : ℕ) (after : List ℕ) → is_of_word octet after ≡ true → octet < 128
+of_word_low octet after h =
     ⊎_elim (alphanumeric_low octet) (λ b. hyphen_low octet
-    (and_parts (is_hyphen octet) (begins is_letter_or_digit behind) b).0)
-    (or_cases (is_letter_or_digit octet) (is_hyphen octet && begins is_letter_or_digit behind) h)
+    (and_parts (is_hyphen octet) (begins is_letter_or_digit after) b).0)
+    (or_cases (is_letter_or_digit octet) (is_hyphen octet && begins is_letter_or_digit after) h)
 
 low_first : (octet : ℕ) (octets : List ℕ) → octet < 128 → All (λ b. b < 128) octets
     → All (λ b. b < 128) (octet ∷ octets)

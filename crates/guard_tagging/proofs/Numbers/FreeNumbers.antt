@@ -6,7 +6,7 @@ use Rattle.std.proofs.lemmas.Bool.{cases_lt}
 use Rattle.std.proofs.lemmas.Bool.Decides.{Decides-int_eq}
 use Rattle.guard_syntax.specs.Trees.{WrittenItem, WrittenNumber}
 use Rattle.guard_tagging.specs.Enumerations.{written_number, written_numbers, free_from, given_number, next_number, numbered_from, numbered, is_among, HasNumber, AreNumbered}
-use Rattle.guard_tagging.specs.Numbers.{number_of}
+use Rattle.guard_syntax.specs.Numbers.{number_of}
 use Rattle.guard_tagging.proofs.Numbers.Items.{free_now, free_next}
 
 -- ---- how many of some numbers are as great as this one or greater
@@ -198,7 +198,7 @@ module _ (written : List ℤ) (tries : ℕ) (few : length written ≤ tries) whe
 
       below : (m : ℕ) → m < free_from written tries next → (m < next) ⊎ (next ≤ m) → is_among taken (pos m) ≡ true
       below m lt (inl before) = state.1.0 m before
-      below m lt (inr behind) = state.0 (pos m) (is_first.1.1 m behind lt)
+      below m lt (inr after) = state.0 (pos m) (is_first.1.1 m after lt)
 
       up_to : (m : ℕ) → m < suc (free_from written tries next)
           → (m < free_from written tries next) ⊎ (free_from written tries next ≤ m)

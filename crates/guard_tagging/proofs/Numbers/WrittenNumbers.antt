@@ -19,7 +19,7 @@ use Rattle.guard_tagging.specs.Enumerations.{written_number, written_numbers, fr
 use Rattle.guard_tagging.specs.Faults as faults
 use Rattle.guard_tagging.specs.Faults.{Placed, fault_where, is_bit, first_outside, number_too_large}
 use Rattle.guard_tagging.specs.Named.{unless, allowed}
-use Rattle.guard_tagging.specs.Numbers.{signed, number_of}
+use Rattle.guard_syntax.specs.Numbers.{signed, number_of}
 use Rattle.guard_tagging.specs.inside.ReadItems.{number_result, read_at, numbered_name, read_named, bits_fault, read_bits, own_number, option_list, read_written, read_number, read_numbered, read_items}
 use Rattle.guard_tagging.specs.inside.ReadNames as reading
 use Rattle.guard_tagging.specs.inside.ReadNames.{text_octets, near_number}

@@ -8,7 +8,13 @@ use Rattle.guard_tagging.specs.declared.made.Made as code_made
 use Rattle.guard_tagging.specs.inside.ReadNodes.{Node, Whole, Made}
 
 abbrev pub node_view : code_node.Node → Node
-node_view n = record { site = n.site; tags = map tag_view n.tags.now; tag_default = n.tag_default; counts = n.counts; automatic = n.automatic }
+node_view n = record {
+  site = n.site;
+  tags = map tag_view n.tags.now;
+  tag_default = n.tag_default;
+  counts = n.counts;
+  automatic = n.automatic;
+}
 
 abbrev pub whole_view : code_whole.Whole → Whole
 whole_view w = record { tags = w.tags.items; nesting = w.nesting; nodes = w.nodes }

@@ -1,19 +1,23 @@
 -- Named numbers, named bits and items, as they are read.
-use Rattle.std.specs.Prelude.{ℕ, suc, ℤ, pos, not, List, [], ◌∷◌, ◌++◌, length, Option, Some, None, Result, Ok, Err}
+use Rattle.std.specs.Prelude.{ℕ, suc, ℤ, pos, not, List, [], ◌∷◌, ◌++◌, length, Option, Some, None, Result, Ok, Err, if◌then◌else◌}
 use Rattle.guard_model.specs.declared.site.Site.{Site}
 use Rattle.guard_model.specs.AbstractType.{NamedNumber}
 use Rattle.guard_model.specs.Answer.{◌>>=◌}
+use Rattle.guard_model.specs.Limits.{fits_128_bits}
 use Rattle.guard_syntax.specs.Trees.{WrittenNumber, WrittenNamed, WrittenItem}
 use Rattle.guard_tagging.specs.declared.fault.TagFault.{TagFault}
 use Rattle.guard_tagging.specs.declared.fault.TagFault.TheVariants.{NumberTooLarge}
 use Rattle.guard_model.specs.inside.Each.{each}
 use Rattle.guard_tagging.specs.Faults.{fault_where, is_bit}
 use Rattle.guard_tagging.specs.Named.{allowed}
-use Rattle.guard_tagging.specs.Numbers.{number_of}
+use Rattle.guard_syntax.specs.Numbers.{number_of}
 use Rattle.std.specs.Option.{option_or}
 use Rattle.guard_tagging.specs.Enumerations.{free_from}
-use Rattle.guard_tagging.specs.inside.ReadNumbers.{read_integer}
 use Rattle.guard_tagging.specs.inside.ReadNames.{text_octets}
+
+-- the integer that is written, where it is one of 128 bits
+abbrev pub read_integer : WrittenNumber → Option ℤ
+read_integer n = if fits_128_bits (number_of n) then Some (number_of n) else None
 
 abbrev pub number_result : Site → Option ℤ → Result ℤ TagFault
 number_result site None = Err (NumberTooLarge site)

@@ -6,7 +6,7 @@ use Rattle.guard_model.specs.declared.site.Site.{Site}
 use Rattle.guard_model.specs.TypeView.{OneComponent}
 use Rattle.guard_lexer.specs.Items.{number_value}
 use Rattle.guard_syntax.specs.Trees.{WrittenNumber, WrittenNamed, WrittenItem}
-use Rattle.guard_tagging.specs.Numbers.{signed}
+use Rattle.guard_syntax.specs.Numbers.{signed}
 use Rattle.guard_tagging.specs.Faults.{Placed, same_number}
 
 -- the octets of a name as text

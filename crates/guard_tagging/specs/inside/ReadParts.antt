@@ -51,8 +51,13 @@ abbrev pub named_component : List ℕ → AbstractType → AbstractPresence → 
 named_component name t presence = record { name = text_octets name; ty = t; presence = presence }
 
 abbrev pub pushed : PartList → Site → OneComponent → ℕ → ℕ → PartList
-pushed parts site comp nesting nodes =
-    record { sites = parts.sites ++ site ∷ []; comps = parts.comps ++ comp ∷ []; deepest = max parts.deepest nesting; nodes = nodes; refused = parts.refused }
+pushed parts site comp nesting nodes = record {
+  sites = parts.sites ++ site ∷ [];
+  comps = parts.comps ++ comp ∷ [];
+  deepest = max parts.deepest nesting;
+  nodes = nodes;
+  refused = parts.refused;
+}
 
 abbrev pub with_component : PartList → Site → List ℕ → Made → AbstractPresence → PartList
 with_component parts site name made presence =
@@ -64,8 +69,13 @@ listed (type.component name t presence cs) = record { name = name; ty = t; prese
 
 -- all these at one site
 abbrev pub appended : PartList → Site → List OneComponent → ℕ → ℕ → PartList
-appended parts site comps nesting nodes =
-    record { sites = parts.sites ++ replicate (length comps) site; comps = parts.comps ++ comps; deepest = max parts.deepest nesting; nodes = nodes; refused = parts.refused }
+appended parts site comps nesting nodes = record {
+  sites = parts.sites ++ replicate (length comps) site;
+  comps = parts.comps ++ comps;
+  deepest = max parts.deepest nesting;
+  nodes = nodes;
+  refused = parts.refused;
+}
 
 -- those of a SEQUENCE or SET that COMPONENTS OF takes in: they are nested one level less than it
 abbrev pub with_list : PartList → Site → Made → PartList
@@ -77,17 +87,31 @@ abbrev pub site_where : Bool → Site → Option Site
 site_where wrong site = if wrong then Some site else None
 
 abbrev pub refused_at : Collection → Bool → Site → AbstractType → Refused
-refused_at k automatic site t = record { kind = site_where (not (is_of_kind k t)) site; automatic = site_where automatic site; tagged = site_where (is_tagged t) site }
+refused_at k automatic site t = record {
+  kind = site_where (not (is_of_kind k t)) site;
+  automatic = site_where automatic site;
+  tagged = site_where (is_tagged t) site;
+}
 
 abbrev pub is_refused : Refused → Bool
 is_refused r = is_some r.kind || (is_some r.automatic || is_some r.tagged)
 
 -- the first of each sort
 abbrev pub or_refused : Refused → Refused → Refused
-or_refused a b = record { kind = option_or a.kind b.kind; automatic = option_or a.automatic b.automatic; tagged = option_or a.tagged b.tagged }
+or_refused a b = record {
+  kind = option_or a.kind b.kind;
+  automatic = option_or a.automatic b.automatic;
+  tagged = option_or a.tagged b.tagged;
+}
 
 abbrev pub with_refused : PartList → Refused → PartList
-with_refused parts refused = record { sites = parts.sites; comps = parts.comps; deepest = parts.deepest; nodes = parts.nodes; refused = or_refused parts.refused refused }
+with_refused parts refused = record {
+  sites = parts.sites;
+  comps = parts.comps;
+  deepest = parts.deepest;
+  nodes = parts.nodes;
+  refused = or_refused parts.refused refused;
+}
 
 abbrev pub taken_in : PartList → Collection → Bool → Site → Made → PartList
 taken_in parts k automatic site made =

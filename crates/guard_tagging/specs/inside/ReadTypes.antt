@@ -19,7 +19,13 @@ is_tagged_entry (components_of_type t) = false
 unfoldable mutual
   pub read_type : Surroundings → Bool → Option Tag → ℕ → WrittenType → Result Made TagFault
   read_type around counts automatic before (type_node site tags base cons) =
-      read_base around (record { site = site; tags = tags; tag_default = around.tag_default; counts = counts; automatic = automatic }) before base
+      read_base around (record {
+        site = site;
+        tags = tags;
+        tag_default = around.tag_default;
+        counts = counts;
+        automatic = automatic;
+      }) before base
 
   pub read_base : Surroundings → Node → ℕ → WrittenBase → Result Made TagFault
   read_base around node before (plain p) = make.plain_type node p before

@@ -1,6 +1,6 @@
 -- The fields for the components, as the code has them.
-use Rattle.std.proofs.Common.{◌≡◌, ℕ, zero, suc, ◌+◌, ◌<◌, ◌≤◌, true, false, List, [], ◌∷◌, ◌++◌, length, take, drop, get_or, map, Option, Some, None, Result, Ok, Err, refl, sym, ap, ◌∙◌, add-one, arith}
-use Rattle.std.specs.Prelude.{set, replicate, is_some, string_bytes}
+use Rattle.std.proofs.Common.{◌≡◌, ℕ, suc, ◌+◌, ◌<◌, ◌≤◌, true, false, List, [], ◌∷◌, ◌++◌, length, take, drop, get_or, map, Option, Some, None, Result, Ok, Err, refl, sym, ap, ◌∙◌, add-one, arith}
+use Rattle.std.specs.Prelude.{set, is_some, string_bytes}
 use Rattle.std.proofs.Math.Seq.{drop-cons, take-suc}
 use Rattle.std.proofs.lemmas.List.{map_push, take_all, take_more_set, drop-set-lt, length-set}
 use Rattle.guard_model.specs.Answer.{◌>>=◌, Refuses}
@@ -8,15 +8,15 @@ use Rattle.guard_model.specs.AbstractType.{AbstractType, AbstractPresence, Compo
 use Rattle.guard_model.specs.AbstractValue as value
 use Rattle.guard_model.specs.AbstractValue.{AbstractValue, Fields, fields_of}
 use Rattle.guard_model.specs.TypeView.{type_view, presence_view}
-use Rattle.guard_model.specs.ValueView.{value_view, field_view, fields_view}
+use Rattle.guard_model.specs.ValueView.{field_view, fields_view}
 use Rattle.guard_model.specs.declared.value.Value.{Value}
 use Rattle.guard_model.specs.declared.ty.Comp.{Comp}
 use Rattle.guard_model.specs.declared.ty.Kind.TheViews.{out-Comp}
 use Rattle.guard_model.specs.declared.site.Site.{Site}
-use Rattle.guard_der.specs.Reading.{all_absent, is_filled, fill, field_before}
+use Rattle.guard_der.specs.Reading.{field_before}
 use Rattle.guard_values.specs.declared.fault.ValueFault.{ValueFault}
 use Rattle.guard_values.specs.inside.Reading.{settled, completed}
-use Rattle.guard_model.proofs.Components.{left, left_is, none_left, in_view}
+use Rattle.guard_model.proofs.Components.{left, left_is, none_left}
 
 -- ---- what was settled before, and what is still settled
 
@@ -49,24 +49,6 @@ nothing_before (Err b) = refl
 
 abbrev pub CodeFields : Type 0
 CodeFields = List (Option Value)
-
-pub fields_absent : (comps : List Comp) → all_absent (in_view comps) ≡ fields_view (replicate (length comps) None)
-fields_absent [] = refl
-fields_absent (c ∷ comps) = ap value.absent (fields_absent comps)
-
-pub field_is_filled : (fields : CodeFields) (i : ℕ) (s : Option Value) → i < length fields → s ≡ get_or fields i s → is_filled i (fields_view fields) ≡ is_some s
-field_is_filled [] i s lt is = absurd (omega (arith, lt))
-field_is_filled (None ∷ fields) zero s lt is = ap is_some (sym is)
-field_is_filled (Some v ∷ fields) zero s lt is = ap is_some (sym is)
-field_is_filled (None ∷ fields) (suc i) s lt is = field_is_filled fields i s (omega (arith, lt)) is
-field_is_filled (Some v ∷ fields) (suc i) s lt is = field_is_filled fields i s (omega (arith, lt)) is
-
-pub field_filled : (fields : CodeFields) (i : ℕ) (v : Value) → i < length fields → fields_view (set fields i (Some v)) ≡ fill i (value_view v) (fields_view fields)
-field_filled [] i v lt = absurd (omega (arith, lt))
-field_filled (None ∷ fields) zero v lt = refl
-field_filled (Some w ∷ fields) zero v lt = refl
-field_filled (None ∷ fields) (suc i) v lt = ap value.absent (field_filled fields i v (omega (arith, lt)))
-field_filled (Some w ∷ fields) (suc i) v lt = ap (value.present (value_view w)) (field_filled fields i v (omega (arith, lt)))
 
 -- ---- at the end, one component after the other
 

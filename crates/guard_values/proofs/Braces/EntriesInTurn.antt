@@ -22,7 +22,7 @@ use Rattle.guard_syntax.specs.declared.tree.ValueForm.TheOpen.{ValueForm-F}
 use Rattle.guard_syntax.specs.declared.tree.ValueForm.TheVariants.{rolls-List}
 use Rattle.guard_model.specs.Kinds.{kind_of}
 use Rattle.guard_values.specs.Places.{Located}
-use Rattle.guard_values.proofs.Braces.CodeFields.{field_filled}
+use Rattle.guard_der.proofs.Functions.SetFields.{field_filled}
 use Rattle.guard_syntax.specs.Trees.{WrittenValue, WrittenEntry, WrittenEntries, no_entries, entry, entries_of}
 use Rattle.guard_syntax.specs.Views.{value_form_step, entry_step, value_step, value_view, entry_view, name_view, value_form_view}
 use Rattle.guard_syntax.specs.Trees.{WrittenValueForm, value_node}

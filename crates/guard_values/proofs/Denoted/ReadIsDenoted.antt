@@ -14,7 +14,8 @@ use Rattle.guard_model.specs.AbstractValue.{AbstractValue, Fields, items_of}
 use Rattle.guard_tagcheck.specs.Distinct.{component_type}
 use Rattle.guard_der.specs.Der.{der}
 use Rattle.guard_der.specs.ProperConstraints.{is_short}
-use Rattle.guard_der.specs.Reading.{all_absent, is_filled, fill, field_before}
+use Rattle.guard_model.specs.Slots.{all_absent}
+use Rattle.guard_der.specs.Reading.{is_filled, fill, field_before}
 use Rattle.guard_syntax.specs.Trees as written
 use Rattle.guard_syntax.specs.Trees.{WrittenNumber, WrittenArc, WrittenValue, WrittenValueForm, WrittenEntries, value_node, no_entries, entry}
 use Rattle.guard_values.specs.declared.fault.ValueFault.{ValueFault}

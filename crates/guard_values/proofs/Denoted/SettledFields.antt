@@ -10,7 +10,8 @@ use Rattle.guard_model.specs.AbstractType.{AbstractType, AbstractPresence, Compo
 use Rattle.guard_model.specs.AbstractValue as value
 use Rattle.guard_model.specs.AbstractValue.{AbstractValue, Fields}
 use Rattle.guard_tagcheck.specs.Distinct.{component_type}
-use Rattle.guard_der.specs.Reading.{all_absent, is_filled, fill, field_before}
+use Rattle.guard_model.specs.Slots.{all_absent}
+use Rattle.guard_der.specs.Reading.{is_filled, fill, field_before}
 use Rattle.guard_values.specs.Places.{Located, located, further, is_among, LeftOut, FieldDenotes, FieldsDenote}
 use Rattle.guard_values.specs.inside.Reading.{Read, settled, completed}
 

@@ -19,7 +19,7 @@ use Rattle.guard_syntax.specs.Trees as written
 use Rattle.guard_syntax.specs.Trees.{WrittenNumber, WrittenArc, WrittenValue, WrittenValueForm, WrittenEntries, value_node, no_entries, entry}
 use Rattle.guard_values.specs.declared.fault.ValueFault.{ValueFault}
 use Rattle.guard_values.specs.declared.fault.ValueFault.TheVariants.{WrongNotation, UnknownName, MissingComponent, RepeatedComponent, OutOfOrder, BadCharacter, BadObjectId, TooLarge}
-use Rattle.guard_values.specs.Numbers.{number_of}
+use Rattle.guard_syntax.specs.Numbers.{number_of}
 use Rattle.guard_values.specs.ObjectIdentifiers.{arc_numbers, too_large_arc, are_arcs}
 use Rattle.guard_values.specs.Meanings.{Governed, Meaning, own_number}
 use Rattle.guard_model.specs.Kinds.{kind_of, is_integer, is_string}

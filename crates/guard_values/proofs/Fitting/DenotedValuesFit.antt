@@ -26,7 +26,7 @@ use Rattle.guard_syntax.specs.declared.tree.StringKind.{StringKind}
 use Rattle.guard_syntax.specs.declared.tree.StringKind.TheVariants as string
 use Rattle.guard_syntax.specs.Trees as written
 use Rattle.guard_syntax.specs.Trees.{WrittenNumber, WrittenArc, WrittenValue, WrittenValueForm, WrittenEntries, value_node, no_entries, entry}
-use Rattle.guard_values.specs.Numbers.{number_of}
+use Rattle.guard_syntax.specs.Numbers.{number_of}
 use Rattle.guard_values.specs.Strings.{binary_digits, hexadecimal_bits, quoted}
 use Rattle.guard_values.specs.Meanings.{Governed, Meaning, AreFitting, number_named, own_number}
 use Rattle.guard_model.specs.Kinds.{kind_of}

@@ -1,5 +1,5 @@
 -- The octets of digits: each is below 256, and the last one is filled with zeros.
-use Rattle.std.proofs.Common.{◌≡◌, ℕ, zero, suc, ◌+◌, ◌-◌, ◌*◌, ◌/◌, ◌%◌, ◌^◌, ◌<◌, ◌≤◌, Bool, true, false, cond, inl, inr, ◌++◌, List, [], ◌∷◌, length, map, drop, refl, sym, ap, ◌∙◌, subst, arith, length-drop, pow-add}
+use Rattle.std.proofs.Common.{◌≡◌, ℕ, zero, suc, ◌+◌, ◌-◌, ◌*◌, ◌/◌, ◌%◌, ◌^◌, ◌<◌, ◌≤◌, Bool, true, false, cond, inl, inr, List, [], ◌∷◌, length, map, drop, refl, sym, ap, ◌∙◌, subst, arith, length-drop, pow-add}
 use Rattle.std.specs.Prelude.{nat_lt, filter}
 use Rattle.std.proofs.Math.Nat.{pow-zero, pow-suc, mul-le-mul_right, mul-mod_left, mul-div_cancel}
 use Rattle.std.proofs.lemmas.Bool.{and_from}
@@ -8,7 +8,7 @@ use Rattle.guard_model.specs.AbstractType as type
 use Rattle.guard_der.specs.Fits.{all_below, last_octet, has_proper_end, has_zero_end, fits_bits, has_no_trailing_zero, fits_kind}
 use Rattle.guard_model.specs.AbstractType.{NamedNumber}
 use Rattle.guard_values.specs.NamedBits.{ones_at, bits_kept}
-use Rattle.guard_values.specs.Strings.{is_binary_digit, is_hexadecimal_digit, digit_value, binary_digits, hexadecimal_digits, four_bits, bits_of_digits, hexadecimal_bits, filled, packed, octets_of_bits}
+use Rattle.guard_values.specs.Strings.{is_binary_digit, is_hexadecimal_digit, digit_value, binary_digits, hexadecimal_digits, bits_of_digits, hexadecimal_bits, filled, packed, octets_of_bits}
 use Rattle.guard_values.specs.Simple.{bits_value}
 use Rattle.guard_values.proofs.SingleValues.NamedBits.{AreBits, EndsInOne, ones_small, ones_end, last_one_small, last_one_end}
 use Rattle.guard_values.proofs.SingleValues.DigitsInOctets.{binary_below, hexadecimal_below, bits_below}

@@ -1,7 +1,7 @@
 -- What reading gives, by the definitions: the first fault, or the value denoted; and that there is one of the two, and
 -- not both.
-use Rattle.std.proofs.Common.{◌≡◌, ℕ, Bool, true, false, List, [], ◌∷◌, Option, Some, None, Ok, Err, inl, inr, ◌⊎◌, Result, IfOk, IfErr, IfSome, option_map, refl, sym, ap, ◌∙◌, subst, arith}
-use Rattle.std.specs.Prelude.{◌↔◌, nat_eq, not, ◌&&◌}
+use Rattle.std.proofs.Common.{◌≡◌, ℕ, true, false, List, [], ◌∷◌, Option, Some, None, Ok, Err, inl, inr, ◌⊎◌, Result, IfOk, IfErr, IfSome, option_map, refl, sym, ap, ◌∙◌, subst, arith}
+use Rattle.std.specs.Prelude.{◌↔◌, nat_eq, not}
 use Rattle.std.proofs.lemmas.Bool.{and_parts, eq-eqb}
 use Rattle.guard_model.proofs.Results.{same_Ok}
 use Rattle.guard_model.specs.Answer.{Gives, Refuses}
@@ -10,8 +10,7 @@ use Rattle.guard_model.specs.declared.value.Value.{Value}
 use Rattle.guard_model.specs.declared.site.Site.{Site}
 use Rattle.guard_model.specs.AbstractType as type
 use Rattle.guard_model.specs.AbstractType.{AbstractType, AbstractKind, Components, type_of}
-use Rattle.guard_model.specs.AbstractValue as value
-use Rattle.guard_model.specs.AbstractValue.{AbstractValue, Fields, items_of}
+use Rattle.guard_model.specs.AbstractValue.{AbstractValue, Fields}
 use Rattle.guard_tagcheck.specs.Distinct.{component_type}
 use Rattle.guard_der.specs.Der.{der, contents_octets}
 use Rattle.guard_der.specs.ProperConstraints.{is_short}
@@ -21,12 +20,12 @@ use Rattle.guard_syntax.specs.Trees.{WrittenValue, WrittenValueForm, WrittenEntr
 use Rattle.guard_values.specs.declared.fault.ValueFault.{ValueFault}
 use Rattle.guard_values.specs.Meanings.{Meaning}
 use Rattle.guard_model.specs.Kinds.{kind_of}
-use Rattle.guard_values.specs.Places.{Located, located, entry_place, entry_places, is_among, are_different}
+use Rattle.guard_values.specs.Places.{Located, located, entry_places, is_among, are_different}
 use Rattle.guard_values.specs.Arrangement.{are_short}
 use Rattle.guard_values.specs.Denotes.{alternatives_of, Says, FormSays, BracesDenote, ChosenDenotes, EntrySays, EntriesSay, Denotes}
 use Rattle.guard_values.specs.Faults.{entry_type, chosen_type, Somewhere, Inside, InEntry, HasLongEncoding}
 use Rattle.guard_values.specs.FirstFault.{fault_of, IsFirstFault}
-use Rattle.guard_values.specs.inside.Reading.{Read, read, read_whole}
+use Rattle.guard_values.specs.inside.Reading.{Read, read_whole}
 use Rattle.guard_values.specs.Views.{named}
 use Rattle.guard_values.proofs.Denoted.DenotedIsRead.{says_read, after_first, at_first, not_true, place_tells, or_second, ordered_differ}
 use Rattle.guard_values.proofs.Denoted.SettledFields.{field_at, located_type, fields_wanted}

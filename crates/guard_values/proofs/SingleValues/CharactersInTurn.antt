@@ -1,9 +1,8 @@
 -- Texts, character by character.
-use Rattle.std.proofs.Common.{◌≡◌, ℕ, ◌+◌, ◌<◌, Bool, true, false, ◌&&◌, cond, List, length, get_or, drop, Option, Some, None, refl, sym, ap, ◌∙◌, arith}
+use Rattle.std.proofs.Common.{◌≡◌, ℕ, Bool, true, false, ◌&&◌, cond, List, Option, Some, None, refl}
 use Rattle.std.specs.Str.{chars, is_utf8, IsUtf8}
 use Rattle.std.proofs.lemmas.Str.{IsUtf8-from_is_utf8, is_utf8-from_IsUtf8}
-use Rattle.std.proofs.lemmas.List.{at_drop_more, drop_all}
-use Rattle.guard_model.specs.Alphabets.{is_character, all_characters, fits_characters}
+use Rattle.guard_model.specs.Alphabets.{fits_characters}
 use Rattle.guard_model.specs.declared.ty.CharKind.{CharKind}
 
 abbrev pub text_in : CharKind → List ℕ → Option (List ℕ)

@@ -8,7 +8,8 @@ use Rattle.guard_model.specs.AbstractValue as value
 use Rattle.guard_model.specs.AbstractValue.{AbstractValue, Fields, items_of}
 use Rattle.guard_der.specs.Der.{der}
 use Rattle.guard_der.specs.ProperConstraints.{is_short}
-use Rattle.guard_der.specs.Reading.{all_absent, is_filled, fill, field_before}
+use Rattle.guard_model.specs.Slots.{all_absent}
+use Rattle.guard_der.specs.Reading.{is_filled, fill, field_before}
 use Rattle.guard_syntax.specs.declared.tree.StringKind.{StringKind}
 use Rattle.guard_syntax.specs.declared.tree.StringKind.TheVariants as string
 use Rattle.guard_syntax.specs.Trees as written

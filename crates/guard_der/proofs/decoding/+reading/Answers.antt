@@ -463,12 +463,12 @@ set_components-loop-rest-preserved t c =
     let place = c.in_ok-place.place in
     let head = c.in_ok-place.head in
     let within : place < length c.loop-rest.fields.items = omega (arith, c.in_ok-place.ensures.place, c.loop-rest.invariant.count) in
-    let filled = ap fields_view c.put.ensures ∙ field_filled c.loop-rest.fields.items place c.in_ok-place.value within in
+    let filled = ap fields_view c.set_field.ensures ∙ field_filled c.loop-rest.fields.items place c.in_ok-place.value within in
     let on = set_components.goes_on (in_view c.args.comps.now) (fields_view c.loop-rest.fields.items) c.loop-rest.before c.loop-rest.at c.loop-rest.rest.now place (value_view c.in_ok-place.value) (head_view head)
     (set_read c.args.comps.now c.args.start c.args.octets.now) (sym c.is_empty.ensures ∙ c.loop-rest-test.true) c.in_ok-place.ensures.some (rw c.deref.ensures.value at c.in_ok-place.ensures.given) c.loop-rest.invariant.so_far in
     record {
       so_far = rw (filled, c.split_at.ensures.back) on;
-      count = ap length c.put.ensures ∙ length-set c.loop-rest.fields.items place _ ∙ c.loop-rest.invariant.count;
+      count = ap length c.set_field.ensures ∙ length-set c.loop-rest.fields.items place _ ∙ c.loop-rest.invariant.count;
       room = rw c.split_at.ensures.back (omega (arith, c.loop-rest.invariant.room, c.in_ok-place.ensures.within, length-drop (head.size + head.contents) c.loop-rest.rest.now));
     }
 

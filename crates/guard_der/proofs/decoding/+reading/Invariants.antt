@@ -6,7 +6,8 @@ use Rattle.guard_model.specs.TypeView.{type_view, kind_view, component_view, com
 use Rattle.guard_tagcheck.specs.FirstTags.{begins_with}
 use Rattle.guard_tagcheck.specs.Limits.{nesting, nesting_inside, deepest}
 use Rattle.guard_der.specs.Sound.{are_proper}
-use Rattle.guard_der.specs.Reading.{element_at, fields_at, items_at, all_absent, part_at, set_at}
+use Rattle.guard_model.specs.Slots.{all_absent}
+use Rattle.guard_der.specs.Reading.{element_at, fields_at, items_at, part_at, set_at}
 use Rattle.guard_der.proofs.Functions.ComponentLoop.{with_front}
 use Rattle.guard_der.proofs.Functions.ElementLoop.{with_items, items_left}
 use Rattle.guard_der.proofs.Functions.SetLoop.{Going}
@@ -31,7 +32,7 @@ invariant-items-loop-before l = record {
 abbrev pub decreases-items-loop-before : goal.decreases-items-loop-before
 decreases-items-loop-before l = length l.rest
 
--- Each call goes down: from what stands alone to its element, from there to its contents, and from a kind to its parts.
+-- Each call goes down: from an element and nothing after it to the element, from there to its contents, and from a kind to its parts.
 abbrev pub decreases-alone : goal.decreases-alone
 decreases-alone l = 8 * nesting (type_of l.tags.now (kind_view l.kind.now) no_constraints) + 4
 

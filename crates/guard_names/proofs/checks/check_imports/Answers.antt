@@ -5,7 +5,7 @@ use Rattle.guard_names.specs.DeclarationViews.{declaration_view}
 use Rattle.guard_names.specs.Faults.{named}
 use Rattle.guard_names.specs.inside.Reading.{nothing}
 use Rattle.guard_names.specs.TableViews.{origin_in}
-use Rattle.guard_names.proofs.Steps.{last_import_step}
+use Rattle.guard_names.proofs.Faults.Steps.{last_import_step}
 use Rattle.guard_names.proofs.checks.check_imports.Goals as goal
 
 pub returns : goal.returns

@@ -1,4 +1,4 @@
-use Rattle.guard_names.proofs.Listing.{more_listed}
+use Rattle.guard_names.proofs.Declared.Listing.{more_listed}
 use Rattle.guard_names.proofs.exports.listed.Goals as goal
 
 pub loop-symbol-preserved : goal.loop-symbol-preserved

@@ -1,6 +1,6 @@
 use Rattle.std.proofs.Common.{map}
 use Rattle.guard_syntax.specs.ModuleViews.{module_view}
-use Rattle.guard_names.proofs.Behind.{means_as_before}
+use Rattle.guard_names.proofs.ByNames.Added.{means_as_before}
 use Rattle.guard_names.proofs.laws.law_modules_behind.Goals as goal
 
 pub returns : goal.returns

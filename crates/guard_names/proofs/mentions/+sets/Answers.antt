@@ -3,8 +3,8 @@ use Rattle.guard_syntax.specs.Trees.{united_of, met_of, parts_of}
 use Rattle.guard_syntax.specs.SetViews.{joined_intersection_view, joined_difference_view, part_view}
 use Rattle.guard_syntax.specs.declared.tree.ElementForm.TheFolds.{fold_out-JoinedIntersection, fold_out-JoinedDifference}
 use Rattle.guard_names.specs.Mentions as mentions
-use Rattle.guard_names.proofs.Fronts.{in_parts_first}
-use Rattle.guard_names.proofs.Gathering.{one_more, all_gathered}
+use Rattle.guard_names.proofs.Mentioned.Fronts.{in_parts_first}
+use Rattle.guard_names.proofs.Mentioned.Gathering.{one_more, all_gathered}
 use Rattle.guard_names.proofs.mentions.+sets.Goals as goal
 
 pub add_united-loop-joined-init : goal.add_united-loop-joined-init

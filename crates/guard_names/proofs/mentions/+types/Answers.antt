@@ -3,8 +3,8 @@ use Rattle.guard_syntax.specs.Trees.{components_of, alternatives_of}
 use Rattle.guard_syntax.specs.TypeViews.{component_view, alternative_view}
 use Rattle.guard_syntax.specs.declared.tree.BaseTree.TheFolds.{fold_out-AlternativeTree}
 use Rattle.guard_names.specs.Mentions as mentions
-use Rattle.guard_names.proofs.Fronts.{in_components_first}
-use Rattle.guard_names.proofs.Gathering.{one_more, all_gathered}
+use Rattle.guard_names.proofs.Mentioned.Fronts.{in_components_first}
+use Rattle.guard_names.proofs.Mentioned.Gathering.{one_more, all_gathered}
 use Rattle.guard_names.proofs.mentions.+types.Goals as goal
 
 pub add_alternatives-loop-alternative-init : goal.add_alternatives-loop-alternative-init

@@ -3,7 +3,7 @@ use Rattle.guard_syntax.specs.Trees.{entries_of}
 use Rattle.guard_syntax.specs.Views.{entry_view}
 use Rattle.guard_syntax.specs.declared.tree.ValueForm.TheFolds.{fold_out-EntryTree}
 use Rattle.guard_names.specs.Mentions as mentions
-use Rattle.guard_names.proofs.Gathering.{one_more, all_gathered}
+use Rattle.guard_names.proofs.Mentioned.Gathering.{one_more, all_gathered}
 use Rattle.guard_names.proofs.mentions.+values.Goals as goal
 
 pub add_entries-loop-entry-init : goal.add_entries-loop-entry-init

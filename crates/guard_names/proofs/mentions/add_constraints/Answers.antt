@@ -2,7 +2,7 @@ use Rattle.std.proofs.Common.{map, refl}
 use Rattle.std.specs.List.{flat_map}
 use Rattle.guard_syntax.specs.SetViews.{constraint_view}
 use Rattle.guard_names.specs.Mentions as mentions
-use Rattle.guard_names.proofs.Gathering.{one_more, all_gathered}
+use Rattle.guard_names.proofs.Mentioned.Gathering.{one_more, all_gathered}
 use Rattle.guard_names.proofs.mentions.add_constraints.Goals as goal
 
 pub loop-constraint-init : goal.loop-constraint-init

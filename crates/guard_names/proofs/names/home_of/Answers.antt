@@ -1,6 +1,6 @@
 use Rattle.std.proofs.Common.{Some, arith, sym}
-use Rattle.guard_names.proofs.LookedUp.{read}
-use Rattle.guard_names.proofs.HomePlaces.{home_here, home_later}
+use Rattle.guard_names.proofs.Declared.LookedUp.{read}
+use Rattle.guard_names.proofs.Declared.HomePlaces.{home_here, home_later}
 use Rattle.guard_names.proofs.names.home_of.Goals as goal
 
 pub returns-in-Some : goal.returns-in-Some

@@ -1,6 +1,6 @@
 use Rattle.std.proofs.Common.{◌<◌, get_or, sym, ◌∙◌, subst, arith, length-set}
 use Rattle.std.proofs.lemmas.Option.{slice_get-get_or}
-use Rattle.guard_names.proofs.Placing.{listed_there, placed_more}
+use Rattle.guard_names.proofs.InOrder.Placing.{listed_there, placed_more}
 use Rattle.guard_names.proofs.names.places.Goals as goal
 
 pub index_mut-requires : goal.index_mut-requires

@@ -1,5 +1,5 @@
 use Rattle.std.proofs.Common.{get_or}
-use Rattle.guard_names.proofs.Settling.{listed_at}
+use Rattle.guard_names.proofs.InOrder.Settling.{listed_at}
 use Rattle.guard_names.proofs.order.first_unlisted.Goals as goal
 
 pub bounds-listed-used : goal.bounds-listed-used

@@ -2,7 +2,7 @@ use Rattle.std.proofs.Common.{◌≡◌, map, length, sym, ◌∙◌, ap, arith}
 use Rattle.std.specs.Prelude.{replicate}
 use Rattle.std.proofs.lemmas.List.{length-map}
 use Rattle.guard_names.specs.declared.recursion.Mark.TheVariants.{New}
-use Rattle.guard_names.proofs.Searching.{none_searched, first_of_search, met_is_done}
+use Rattle.guard_names.proofs.Recursive.Searching.{none_searched, first_of_search, met_is_done}
 use Rattle.guard_names.proofs.recursion.first_recursive.Goals as goal
 
 pub returns : goal.returns

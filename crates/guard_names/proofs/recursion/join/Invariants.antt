@@ -5,7 +5,7 @@ use Rattle.guard_names.proofs.recursion.join.Given as goal
 abbrev pub invariant-loop-last : goal.invariant-loop-last
 invariant-loop-last l = record {
   here : l.last < length l.parts.items;
-  behind : (i : ℕ) → l.last < i → i < length l.parts.items → l.place < (get_or l.parts.items i no_part).start;
+  after : (i : ℕ) → l.last < i → i < length l.parts.items → l.place < (get_or l.parts.items i no_part).start;
 }
 
 abbrev pub decreases-loop-last : goal.decreases-loop-last

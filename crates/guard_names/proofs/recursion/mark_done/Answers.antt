@@ -1,5 +1,5 @@
 use Rattle.std.proofs.Common.{◌<◌, length, get_or, arith}
-use Rattle.guard_names.proofs.Searching.{listed_more, others_more, left_more}
+use Rattle.guard_names.proofs.Recursive.Searching.{listed_more, others_more, left_more}
 use Rattle.guard_names.proofs.recursion.mark_done.Goals as goal
 
 pub loop-number-preserved : goal.loop-number-preserved

@@ -1,6 +1,6 @@
 use Rattle.std.proofs.Common.{◌≡◌, ◌-◌, Some, length, sym, ◌∙◌, subst}
 use Rattle.std.specs.List.{slice_get}
-use Rattle.guard_names.proofs.Searching.{pending_before, last_element}
+use Rattle.guard_names.proofs.Recursive.Lists.{pending_before, last_element}
 use Rattle.guard_names.proofs.recursion.next_use.Goals as goal
 
 pub returns-then-last-start-clause-none : goal.returns-then-last-start-clause-none

@@ -8,7 +8,7 @@ use Rattle.guard_names.specs.Declarations.{definition_of}
 use Rattle.guard_names.specs.Faults.{named, first_found, undefined_in}
 use Rattle.guard_names.specs.inside.Reading.{refused_at, used_in_module}
 use Rattle.guard_names.specs.TableViews.{origin_in, meaning_in}
-use Rattle.guard_names.proofs.Steps.{same_numbers}
+use Rattle.guard_names.proofs.Faults.Steps.{same_numbers}
 use Rattle.guard_names.proofs.resolution.by_table.Goals as goal
 
 pub returns-in_err-uses-clause-refused : goal.returns-in_err-uses-clause-refused

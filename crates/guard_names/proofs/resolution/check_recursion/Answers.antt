@@ -1,6 +1,6 @@
 use Rattle.std.proofs.Common.{map}
 use Rattle.guard_syntax.specs.ModuleViews.{module_view}
-use Rattle.guard_names.proofs.Found.{lists_inside, first_within, recursive_fault, acyclic_so}
+use Rattle.guard_names.proofs.ByNames.Found.{lists_inside, first_within, recursive_fault, acyclic_so}
 use Rattle.guard_names.proofs.resolution.check_recursion.Goals as goal
 
 pub first_recursive-requires : goal.first_recursive-requires

@@ -7,7 +7,7 @@ use Rattle.guard_names.specs.DeclarationViews.{declaration_view}
 use Rattle.guard_names.specs.Faults.{named}
 use Rattle.guard_names.specs.inside.Reading.{nothing, used_in_module, listed_uses}
 use Rattle.guard_names.specs.TableViews.{origin_in, meaning_in}
-use Rattle.guard_names.proofs.Steps.{numbers_are, last_step}
+use Rattle.guard_names.proofs.Faults.Steps.{numbers_are, last_step}
 use Rattle.guard_names.proofs.resolution.meanings_and_uses.Goals as goal
 
 pub returns : goal.returns

@@ -1,7 +1,7 @@
 use Rattle.std.proofs.Common.{map, ap, ◌∙◌}
 use Rattle.std.proofs.lemmas.Result.{err_from_is_err_and}
 use Rattle.guard_syntax.specs.ModuleViews.{module_view}
-use Rattle.guard_names.proofs.Refusals.{few_enough, refuses_first, accepts_none}
+use Rattle.guard_names.proofs.Faults.Refusals.{few_enough, refuses_first, accepts_none}
 use Rattle.guard_names.proofs.resolution.resolve.Goals as goal
 
 pub returns-in_err-meanings-clause-refused : goal.returns-in_err-meanings-clause-refused

@@ -6,8 +6,8 @@ use Rattle.guard_names.specs.declared.fault.NameFault.TheVariants as fault
 use Rattle.guard_names.specs.Faults.{named, undefined_mention_in}
 use Rattle.guard_names.specs.inside.Reading.{refused_at, used_in, listed_uses}
 use Rattle.guard_names.specs.TableViews.{meaning_in}
-use Rattle.guard_names.proofs.FirstFaults.{refused_so, accepted_so, found_here, passes_here, none_found}
-use Rattle.guard_names.proofs.Gathering.{one_more, all_gathered}
+use Rattle.guard_names.proofs.Faults.FirstFaults.{refused_so, accepted_so, found_here, passes_here, none_found}
+use Rattle.guard_names.proofs.Mentioned.Gathering.{one_more, all_gathered}
 use Rattle.guard_names.proofs.uses.add_uses.Goals as goal
 
 pub returns-in_err-used-clause-refused : goal.returns-in_err-used-clause-refused

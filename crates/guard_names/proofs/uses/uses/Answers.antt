@@ -6,8 +6,8 @@ use Rattle.guard_names.specs.declared.fault.NameFault.TheVariants as fault
 use Rattle.guard_names.specs.Faults.{named, undefined_in}
 use Rattle.guard_names.specs.inside.Reading.{refused_at, used_in_module}
 use Rattle.guard_names.specs.TableViews.{origin_in, meaning_in}
-use Rattle.guard_names.proofs.FirstFaults.{refused_so, accepted_so, found_here, passes_here, none_found}
-use Rattle.guard_names.proofs.Gathering.{one_more, all_gathered}
+use Rattle.guard_names.proofs.Faults.FirstFaults.{refused_so, accepted_so, found_here, passes_here, none_found}
+use Rattle.guard_names.proofs.Mentioned.Gathering.{one_more, all_gathered}
 use Rattle.guard_names.proofs.uses.uses.Goals as goal
 
 pub returns-in_err-check_exports-clause-refused : goal.returns-in_err-check_exports-clause-refused

@@ -6,9 +6,9 @@ use Rattle.guard_names.specs.Faults.{named, first_where, is_undefined_mention}
 use Rattle.guard_names.specs.inside.Reading.{refused_at}
 use Rattle.guard_names.specs.TableViews.{meaning_in}
 use Rattle.guard_names.specs.inside.Views.{mention_view}
-use Rattle.guard_names.proofs.FirstFaults.{refused_so, accepted_so, where_here, passes_where, none_where}
-use Rattle.guard_names.proofs.Gathering.{all_gathered}
-use Rattle.guard_names.proofs.Used.{used_of, one_more_used}
+use Rattle.guard_names.proofs.Faults.FirstFaults.{refused_so, accepted_so, where_here, passes_where, none_where}
+use Rattle.guard_names.proofs.Mentioned.Gathering.{all_gathered}
+use Rattle.guard_names.proofs.Mentioned.Used.{used_of, one_more_used}
 use Rattle.guard_names.proofs.uses.uses_of.Goals as goal
 
 pub loop-mention-init : goal.loop-mention-init

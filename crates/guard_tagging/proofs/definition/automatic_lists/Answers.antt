@@ -5,7 +5,7 @@ use Rattle.guard_model.specs.TypeView.{type_view}
 use Rattle.guard_names.specs.Declarations.{definitions}
 use Rattle.guard_names.specs.Faults.{fault_of_names}
 use Rattle.guard_names.specs.NamesView.{modules_of, order_of}
-use Rattle.guard_names.proofs.Refusals.{none_is}
+use Rattle.guard_names.proofs.Faults.Refusals.{none_is}
 use Rattle.guard_tagging.specs.ScopeView.{known_list}
 use Rattle.guard_tagging.specs.Surroundings.{is_automatic_definition}
 use Rattle.guard_tagging.proofs.Definitions.Flags.{none_flagged, all_flagged, one_flag_more}

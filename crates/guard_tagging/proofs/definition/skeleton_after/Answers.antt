@@ -12,8 +12,8 @@ use Rattle.guard_names.specs.Declarations.{Definition, definitions}
 use Rattle.guard_names.specs.Faults.{fault_of_names}
 use Rattle.guard_names.specs.Meanings.{Uses}
 use Rattle.guard_names.specs.NamesView.{modules_of, order_of}
-use Rattle.guard_names.proofs.Placing.{listed_there, order_below}
-use Rattle.guard_names.proofs.Refusals.{none_is}
+use Rattle.guard_names.proofs.InOrder.Placing.{listed_there, order_below}
+use Rattle.guard_names.proofs.Faults.Refusals.{none_is}
 use Rattle.guard_tagcheck.specs.Limits.{is_within_limits}
 use Rattle.guard_tagging.specs.Automatic.{Automatic}
 use Rattle.guard_tagging.specs.declared.fault.TagFault.{TagFault}

@@ -3,7 +3,7 @@ use Rattle.std.proofs.lemmas.List.{length-map}
 use Rattle.guard_model.specs.TypeView.{type_view}
 use Rattle.guard_names.specs.Faults.{fault_of_names}
 use Rattle.guard_names.specs.NamesView.{modules_of, order_of}
-use Rattle.guard_names.proofs.Refusals.{none_is}
+use Rattle.guard_names.proofs.Faults.Refusals.{none_is}
 use Rattle.guard_tagging.proofs.Definitions.AutomaticLists.{found_right}
 use Rattle.guard_tagging.proofs.Definitions.InOrder.{known_in_order}
 use Rattle.guard_tagging.proofs.Definitions.Meanings.{same_meanings}

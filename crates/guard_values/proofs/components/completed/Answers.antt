@@ -18,7 +18,7 @@ loop-index-preserved c = elim c.if-is_none.branch [
       let settles = is_empty presence c.index.result.now c.args.site (c.is_none.ensures ∙ ap not w.if-is_none.true) ∙ w.in_ok-left_out.ensures in
       let p = put_settles c.args.comps.now c.loop-index.index c.index-comps-index.result c.loop-index.fields.items c.if-is_none.fields.items c.index.result.now w.in_ok-left_out.field-0 c.args.site
       (completed c.args.site (left c.args.comps.now 0) (fields_view c.args.fields.items)) c.loop-index-test.true c.loop-index.invariant.count c.index-comps-index.is c.index.ensures
-      settles (ap (λ v. v.items) w.fields-is ∙ w.put.ensures) c.loop-index.invariant.so_far in
+      settles (ap (λ v. v.items) w.fields-is ∙ w.set_field.ensures) c.loop-index.invariant.so_far in
       record { so_far = p.0; count = p.1 }
   | else-is_none w ↦
       let kept = kept_settles c.args.comps.now c.loop-index.index c.index-comps-index.result c.loop-index.fields.items c.index.result.now c.args.site

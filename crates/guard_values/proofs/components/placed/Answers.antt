@@ -2,7 +2,7 @@ use Rattle.std.proofs.Common.{option_map, sym, ap, ◌∙◌}
 use Rattle.guard_model.specs.ValueView.{fields_view}
 use Rattle.guard_values.specs.Views.{located_view}
 use Rattle.guard_values.proofs.Braces.ComponentsByName.{place_taken, place_late, place_found}
-use Rattle.guard_values.proofs.Braces.CodeFields.{field_is_filled}
+use Rattle.guard_der.proofs.Functions.SetFields.{field_is_filled}
 use Rattle.guard_values.proofs.components.placed.Goals as goal
 
 pub returns-then-is_some-clause-given : goal.returns-then-is_some-clause-given

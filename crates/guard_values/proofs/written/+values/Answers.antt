@@ -6,7 +6,7 @@ use Rattle.guard_model.specs.AbstractValue.{AbstractValue}
 use Rattle.guard_model.specs.TypeView.{type_view, kind_view, component_view, components_of}
 use Rattle.guard_model.specs.ValueView.{value_view, fields_view}
 use Rattle.guard_model.proofs.TypeViews.{kind_view_sequence, kind_view_set, kind_view_sequence_of, kind_view_set_of}
-use Rattle.guard_der.specs.Reading.{all_absent}
+use Rattle.guard_model.specs.Slots.{all_absent}
 use Rattle.guard_syntax.specs.Trees.{entries_of}
 use Rattle.guard_syntax.specs.Views as trees
 use Rattle.guard_syntax.specs.declared.tree.ValueForm.{the_lemmas}
@@ -70,10 +70,10 @@ pub entry_fields-loop-entry-preserved : goal.entry_fields-loop-entry-preserved
 entry_fields-loop-entry-preserved t c =
     let cs = components_of (map component_view c.args.comps.now) in
     record {
-      count = ap length c.put.ensures ∙ length-set c.loop-entry.fields.items c.in_ok-place.place _ ∙ c.loop-entry.invariant.count;
-      so_far = entries_put (meaning_of c.args.scope) c.args.sorted c.args.ordered cs c.args.entries.now c.loop-entry.next c.loop-entry.fields.items c.put.new.fields.items c.loop-entry.entry-index c.entry-item.result c.in_ok-place.place c.in_ok-place.value
+      count = ap length c.set_field.ensures ∙ length-set c.loop-entry.fields.items c.in_ok-place.place _ ∙ c.loop-entry.invariant.count;
+      so_far = entries_put (meaning_of c.args.scope) c.args.sorted c.args.ordered cs c.args.entries.now c.loop-entry.next c.loop-entry.fields.items c.set_field.new.fields.items c.loop-entry.entry-index c.entry-item.result c.in_ok-place.place c.in_ok-place.value
           (read_entries (meaning_of c.args.scope) c.args.sorted c.args.ordered cs 0 (all_absent cs) (entries_of (map trees.entry_view c.args.entries.now))) c.loop-entry-test.true c.entry-item.is
-          (rw c.deref.ensures.value at c.in_ok-place.ensures.given) (subst (λ n. c.in_ok-place.place < n) (sym c.loop-entry.invariant.count) c.in_ok-place.ensures.within) c.put.ensures c.loop-entry.invariant.so_far;
+          (rw c.deref.ensures.value at c.in_ok-place.ensures.given) (subst (λ n. c.in_ok-place.place < n) (sym c.loop-entry.invariant.count) c.in_ok-place.ensures.within) c.set_field.ensures c.loop-entry.invariant.so_far;
     }
 
 pub entry_fields-returns-in_err-place-clause-given : goal.entry_fields-returns-in_err-place-clause-given

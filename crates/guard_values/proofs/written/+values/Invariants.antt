@@ -1,7 +1,7 @@
 use Rattle.std.proofs.Common.{◌≡◌, map, drop, length, false, true}
 use Rattle.guard_model.specs.TypeView.{type_view, component_view, components_of}
 use Rattle.guard_model.specs.ValueView.{value_view, fields_view}
-use Rattle.guard_der.specs.Reading.{all_absent}
+use Rattle.guard_model.specs.Slots.{all_absent}
 use Rattle.guard_syntax.specs.Trees.{entries_of}
 use Rattle.guard_syntax.specs.Views.{entry_view}
 use Rattle.guard_values.specs.Arrangement.{AreEncodings, encoded_value}

@@ -2,7 +2,7 @@ use Rattle.std.proofs.Common.{ℕ, List, Some, sym, ◌∙◌}
 use Rattle.std.specs.Borrow.{Bor}
 use Rattle.guard_names.specs.declared.table.Key.{Key}
 use Rattle.guard_names.specs.TableViews.{origin_in}
-use Rattle.guard_names.proofs.Keys.{lookup_key, passes_module, passes_unknown, takes_number}
+use Rattle.guard_names.proofs.Declared.Keys.{lookup_key, passes_module, passes_unknown, takes_number}
 use Rattle.guard_names.proofs.meanings.Meanings.of.Goals as goal
 
 pub loop-declaration-preserved-in_default : goal.loop-declaration-preserved-in_default

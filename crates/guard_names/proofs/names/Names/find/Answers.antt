@@ -1,6 +1,6 @@
 use Rattle.guard_names.specs.NamesView.{modules_of}
-use Rattle.guard_names.proofs.Refusals.{none_is}
-use Rattle.guard_names.proofs.Found.{found_means, found_home}
+use Rattle.guard_names.proofs.Faults.Refusals.{none_is}
+use Rattle.guard_names.proofs.ByNames.Found.{found_means, found_home}
 use Rattle.std.proofs.Common.{◌∙◌}
 use Rattle.guard_names.proofs.names.Names.find.Goals as goal
 

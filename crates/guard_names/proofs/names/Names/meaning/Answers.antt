@@ -1,6 +1,6 @@
 use Rattle.guard_names.specs.NamesView.{modules_of}
-use Rattle.guard_names.proofs.Refusals.{none_is}
-use Rattle.guard_names.proofs.Found.{found_means}
+use Rattle.guard_names.proofs.Faults.Refusals.{none_is}
+use Rattle.guard_names.proofs.ByNames.Found.{found_means}
 use Rattle.std.proofs.Common.{◌∙◌}
 use Rattle.guard_names.proofs.names.Names.meaning.Goals as goal
 

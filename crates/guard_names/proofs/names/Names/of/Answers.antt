@@ -3,9 +3,9 @@ use Rattle.std.proofs.lemmas.List.{length-map}
 use Rattle.guard_syntax.specs.ModuleViews.{module_view}
 use Rattle.guard_names.specs.Order.{is_listed, IsOrder}
 use Rattle.guard_names.specs.inside.Queues.{UsesIn}
-use Rattle.guard_names.proofs.Found.{lists_inside, lists_acyclic, ordered_so}
-use Rattle.guard_names.proofs.SameUses.{as_many}
-use Rattle.guard_names.proofs.Placing.{order_below}
+use Rattle.guard_names.proofs.ByNames.Found.{lists_inside, lists_acyclic, ordered_so}
+use Rattle.guard_names.proofs.ByNames.SameUses.{as_many}
+use Rattle.guard_names.proofs.InOrder.Placing.{order_below}
 use Rattle.guard_names.proofs.names.Names.of.Goals as goal
 
 pub order-requires-clause-inside : goal.order-requires-clause-inside

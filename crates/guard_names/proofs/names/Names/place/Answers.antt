@@ -2,9 +2,9 @@ use Rattle.std.proofs.Common.{◌≡◌, ◌↔◌, ℕ, length, Some, slice_get
 use Rattle.guard_names.specs.NamesView.{modules_of, order_of}
 use Rattle.guard_names.specs.Declarations.{definitions}
 use Rattle.guard_names.specs.Meanings.{Uses}
-use Rattle.guard_names.proofs.LookedUp.{read}
-use Rattle.guard_names.proofs.Found as found
-use Rattle.guard_names.proofs.Places.{place_is}
+use Rattle.guard_names.proofs.Declared.LookedUp.{read}
+use Rattle.guard_names.proofs.ByNames.Found as found
+use Rattle.guard_names.proofs.InOrder.Places.{place_is}
 use Rattle.guard_names.proofs.names.Names.place.Goals as goal
 
 pub returns : goal.returns

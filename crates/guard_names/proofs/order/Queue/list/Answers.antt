@@ -3,8 +3,8 @@ use Rattle.std.specs.List.{All}
 use Rattle.std.proofs.lemmas.List.{length-map}
 use Rattle.indexmap.proofs.MapLemmas.{OnOk-map}
 use Rattle.guard_names.specs.inside.Queues.{IsReleased, AreFlags}
-use Rattle.guard_names.proofs.Settling.{row_is, taken_row, taken_total, flag_set, begins, left_same}
-use Rattle.guard_names.proofs.Queueing.{released_by}
+use Rattle.guard_names.proofs.InOrder.Settling.{row_is, taken_row, taken_total, flag_set, begins, left_same}
+use Rattle.guard_names.proofs.InOrder.Queueing.{released_by}
 use Rattle.guard_names.proofs.order.Queue.list.Goals as goal
 
 pub settle_all-requires : goal.settle_all-requires
@@ -22,13 +22,13 @@ settle_all-requires c =
     record {
       inside = c.requires.inside;
       released = subst (λ x. All (IsReleased us x) c.deref.result.now) (sym listed_is)
-          (subst (All (IsReleased us (c.args.self.now.order.items ++ c.args.next ∷ []))) (sym released_is) (released_by us c.args.self.now.order.items _ _ _ c.args.next c.requires.stands));
+          (subst (All (IsReleased us (c.args.self.now.order.items ++ c.args.next ∷ []))) (sym released_is) (released_by us c.args.self.now.order.items _ _ _ c.args.next c.requires.placed));
       sized = record {
         flags = subst (AreFlags us (set c.args.self.now.listed.items c.args.next true)) (sym listed_is) (flag_set us c.args.self.now.listed.items c.args.self.now.order.items c.args.next c.requires.sized.flags below);
         waiting = length-set rows c.args.next c.replace-released.new.dest ∙ l;
       };
-      stands = begins us c.args.self.now.order.items c.push.new.self.items _ (map (λ v. v.items) rows) _ c.args.next c.deref.result.now listed_is
-          (taken_row (λ v. v.items) rows c.args.next c.replace-released.new.dest empty) released_is c.requires.stands below;
+      placed = begins us c.args.self.now.order.items c.push.new.self.items _ (map (λ v. v.items) rows) _ c.args.next c.deref.result.now listed_is
+          (taken_row (λ v. v.items) rows c.args.next c.replace-released.new.dest empty) released_is c.requires.placed below;
     }
 
 pub returns : goal.returns
@@ -42,6 +42,6 @@ returns c =
     record {
       order = OnOk-map c.settle_all.result _ _ (λ h. h ∙ c.in_ok-push.ensures.items) c.settle_all.ensures.order;
       sized = c.settle_all.ensures.sized;
-      stands = c.settle_all.ensures.stands;
+      placed = c.settle_all.ensures.placed;
       left = OnOk-map c.settle_all.result _ _ (λ h. h ∙ left_same _ _ _ _ _ t (ap length taken_is)) c.settle_all.ensures.left;
     }

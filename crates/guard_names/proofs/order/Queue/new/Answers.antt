@@ -2,10 +2,10 @@ use Rattle.std.proofs.Common.{◌≡◌, ◌+◌, ◌<◌, false, [], map, lengt
 use Rattle.std.specs.Prelude.{replicate}
 use Rattle.std.proofs.lemmas.List.{length-map, length-replicate}
 use Rattle.guard_names.specs.Order.{Follow}
-use Rattle.guard_names.specs.inside.Queues.{UsesIn, AreFlags, Stands}
+use Rattle.guard_names.specs.inside.Queues.{UsesIn, AreFlags, ArePlaced}
 use Rattle.guard_names.specs.inside.QueueViews.{times_ready}
-use Rattle.guard_names.proofs.Settling.{from_on, one_settled, all_settled, no_flags, none_settled}
-use Rattle.guard_names.proofs.Queueing.{same_underway}
+use Rattle.guard_names.proofs.InOrder.Settling.{from_on, one_settled, all_settled, no_flags, none_settled}
+use Rattle.guard_names.proofs.InOrder.Queueing.{same_underway}
 use Rattle.guard_names.proofs.order.Queue.new.Goals as goal
 
 pub loop-number-preserved : goal.loop-number-preserved
@@ -16,9 +16,9 @@ loop-number-preserved c =
     record {
       order = c.in_ok-settle.ensures.order ∙ c.loop-number.invariant.order;
       sized = c.in_ok-settle.ensures.sized;
-      stands = c.in_ok-settle.ensures.stands (from_on (c.loop-number.number + 1) (length us))
+      placed = c.in_ok-settle.ensures.placed (from_on (c.loop-number.number + 1) (length us))
           (record { number = below; met = λ i h. absurd (omega (arith, h)) })
-          (same_underway us _ _ _ _ c.loop-number.invariant.stands _ (λ k. sym (one_settled c.loop-number.number (length us) k below)));
+          (same_underway us _ _ _ _ c.loop-number.invariant.placed _ (λ k. sym (one_settled c.loop-number.number (length us) k below)));
     }
 
 pub loop-number-init : goal.loop-number-init
@@ -33,7 +33,7 @@ loop-number-init c =
         flags = subst (AreFlags us c.in_ok-vec.field-0.items) (sym c.new.ensures.items) (no_flags us c.in_ok-vec.field-0.items flags_are);
         waiting = sym (length-map c.in_ok-empty_lists.field-0.items (λ v. v.items)) ∙ ap length rows_are ∙ length-replicate (length us) [];
       };
-      stands = subst (λ x. Stands us x (times_ready (heap_items c.new-2.result)) (map (λ v. v.items) c.in_ok-empty_lists.field-0.items) (from_on 0 (length us))) (sym c.new.ensures.items)
+      placed = subst (λ x. ArePlaced us x (times_ready (heap_items c.new-2.result)) (map (λ v. v.items) c.in_ok-empty_lists.field-0.items) (from_on 0 (length us))) (sym c.new.ensures.items)
           (none_settled us _ _ rows_are (λ k. ap (λ x. times_ready x k) c.new-2.ensures.items));
     }
 
@@ -45,6 +45,6 @@ returns c =
     let at_end : length us ≡ c.loop-number.number = omega (arith, count) in
     record {
       sized = inv.sized;
-      stands = same_underway us _ _ _ _ inv.stands (λ _. 0) (λ k. sym (subst (λ n. from_on n (length us) k ≡ 0) at_end (all_settled (length us) k)));
+      placed = same_underway us _ _ _ _ inv.placed (λ _. 0) (λ k. sym (subst (λ n. from_on n (length us) k ≡ 0) at_end (all_settled (length us) k)));
       follow = subst (Follow (length us) (UsesIn us) []) (sym inv.order) tt;
     }

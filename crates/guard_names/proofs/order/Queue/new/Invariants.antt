@@ -1,6 +1,6 @@
 use Rattle.std.proofs.Common.{◌≡◌, [], map, length}
-use Rattle.guard_names.specs.inside.QueueViews.{IsSized, StandsIn}
-use Rattle.guard_names.proofs.Settling.{from_on}
+use Rattle.guard_names.specs.inside.QueueViews.{IsSized, ArePlacedIn}
+use Rattle.guard_names.proofs.InOrder.Settling.{from_on}
 use Rattle.guard_names.proofs.order.Queue.new.Given as goal
 
 -- those from here on are on the way
@@ -8,5 +8,5 @@ abbrev pub invariant-loop-number : goal.invariant-loop-number
 invariant-loop-number l = record {
   order : l.queue.order.items ≡ [];
   sized : IsSized (map (λ v. v.items) l.uses) l.queue;
-  stands : StandsIn (map (λ v. v.items) l.uses) l.queue (from_on l.number (length (map (λ v. v.items) l.uses)));
+  placed : ArePlacedIn (map (λ v. v.items) l.uses) l.queue (from_on l.number (length (map (λ v. v.items) l.uses)));
 }

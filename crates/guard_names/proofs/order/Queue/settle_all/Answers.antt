@@ -3,12 +3,12 @@ use Rattle.std.proofs.lemmas.List.{length-map, at_drop_all}
 use Rattle.std.proofs.lemmas.List.Elements.{All-get_or}
 use Rattle.guard_names.specs.declared.order.Waiting.{Waiting}
 use Rattle.guard_names.specs.inside.Queues.{times_waiting, IsReleased}
-use Rattle.guard_names.proofs.Settling.{first_released, left_one_less, none_left}
-use Rattle.guard_names.proofs.Queueing.{same_underway}
+use Rattle.guard_names.proofs.InOrder.Settling.{first_released, left_one_less, none_left}
+use Rattle.guard_names.proofs.InOrder.Queueing.{same_underway}
 use Rattle.guard_names.proofs.order.Queue.settle_all.Goals as goal
 
 pub loop-waiting-init : goal.loop-waiting-init
-loop-waiting-init c = record { order = refl; sized = c.requires.sized; stands = c.requires.stands; left = refl }
+loop-waiting-init c = record { order = refl; sized = c.requires.sized; placed = c.requires.placed; left = refl }
 
 pub settle-requires : goal.settle-requires
 settle-requires c =
@@ -33,9 +33,9 @@ loop-waiting-preserved c =
     record {
       order = c.in_ok-settle.ensures.order ∙ inv.order;
       sized = c.in_ok-settle.ensures.sized;
-      stands = c.in_ok-settle.ensures.stands (times_waiting (drop (i + 1) items))
+      placed = c.in_ok-settle.ensures.placed (times_waiting (drop (i + 1) items))
           (subst (λ x. IsReleased us x (get_or items i none)) (sym inv.order) released)
-          (same_underway us _ _ _ _ inv.stands _ (λ k. sym (first_released items i k none below)));
+          (same_underway us _ _ _ _ inv.placed _ (λ k. sym (first_released items i k none below)));
       left = left_one_less _ _ _ items i c.in_ok-settle.ensures.left inv.left below;
     }
 
@@ -49,6 +49,6 @@ returns c =
     record {
       order = inv.order;
       sized = inv.sized;
-      stands = same_underway us _ _ _ _ inv.stands (λ _. 0) (λ k. sym (at_drop_all (λ ws. times_waiting ws k) items i ends));
+      placed = same_underway us _ _ _ _ inv.placed (λ _. 0) (λ k. sym (at_drop_all (λ ws. times_waiting ws k) items i ends));
       left = none_left _ _ _ _ inv.left (at_drop_all length items i ends);
     }

@@ -1,8 +1,9 @@
 use Rattle.std.proofs.Common.{◌≡◌, ◌<◌, map, length, ◌∙◌, ap, arith, length-append}
 use Rattle.std.proofs.lemmas.List.{length-map}
 use Rattle.guard_names.specs.inside.Queues.{used_by}
-use Rattle.guard_names.proofs.Settling.{row_is}
-use Rattle.guard_names.proofs.Searching.{searched_entered, steps_entered, pending_more}
+use Rattle.guard_names.proofs.InOrder.Settling.{row_is}
+use Rattle.guard_names.proofs.Recursive.Searching.{searched_entered, steps_entered}
+use Rattle.guard_names.proofs.Recursive.Lists.{pending_more}
 use Rattle.guard_names.proofs.recursion.Search.enter.Goals as goal
 
 pub returns-clause-search : goal.returns-clause-search

@@ -1,8 +1,9 @@
 use Rattle.std.proofs.Common.{◌<◌, map, length, sym, ◌∙◌, arith}
 use Rattle.std.proofs.lemmas.List.{length-map}
 use Rattle.guard_names.specs.declared.recursion.Mark.TheVariants.{New}
-use Rattle.guard_names.proofs.Paths.{comes_to}
-use Rattle.guard_names.proofs.Searching.{searched_left, searched_joined, any_default}
+use Rattle.guard_names.proofs.Recursive.Paths.{comes_to}
+use Rattle.guard_names.proofs.Recursive.Searching.{searched_left, searched_joined}
+use Rattle.guard_names.proofs.Recursive.Lists.{any_default}
 use Rattle.guard_names.proofs.recursion.Search.follow.Goals as goal
 
 pub enter-requires-clause-comes : goal.enter-requires-clause-comes

@@ -1,5 +1,6 @@
 use Rattle.std.proofs.Common.{◌∙◌}
-use Rattle.guard_names.proofs.Searching.{searched_leaving, rest_is}
+use Rattle.guard_names.proofs.Recursive.Searching.{searched_leaving}
+use Rattle.guard_names.proofs.Recursive.Lists.{rest_is}
 use Rattle.guard_names.proofs.recursion.Search.leave.Goals as goal
 
 pub returns-clause-search : goal.returns-clause-search

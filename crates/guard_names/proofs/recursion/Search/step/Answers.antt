@@ -4,8 +4,9 @@ use Rattle.std.proofs.lemmas.List.{length-map}
 use Rattle.std.proofs.lemmas.List.Elements.{Contains-push}
 use Rattle.guard_names.specs.declared.recursion.Pending.{Pending}
 use Rattle.guard_names.specs.inside.Searches.{Rises, IsSearchOf}
-use Rattle.guard_names.proofs.Parts.{rises_popped}
-use Rattle.guard_names.proofs.Searching.{searched_taken, taken_from, last_split}
+use Rattle.guard_names.proofs.Recursive.Parts.{rises_popped}
+use Rattle.guard_names.proofs.Recursive.Searching.{searched_taken, taken_from}
+use Rattle.guard_names.proofs.Recursive.Lists.{last_split}
 use Rattle.guard_names.proofs.recursion.Search.step.Goals as goal
 
 pub follow-requires-clause-inside : goal.follow-requires-clause-inside

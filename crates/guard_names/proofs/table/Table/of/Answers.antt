@@ -1,7 +1,7 @@
 use Rattle.std.proofs.Common.{ap}
 use Rattle.guard_names.specs.declared.fault.NameFault.TheVariants as fault
 use Rattle.guard_names.specs.inside.Reading.{refused_at}
-use Rattle.guard_names.proofs.Keys.{more_origins, passes_new, is_duplicate, some_from_old, none_from_old}
+use Rattle.guard_names.proofs.Declared.Keys.{more_origins, passes_new, is_duplicate, some_from_old, none_from_old}
 use Rattle.guard_names.proofs.table.Table.of.Goals as goal
 
 pub loop-declaration-preserved : goal.loop-declaration-preserved

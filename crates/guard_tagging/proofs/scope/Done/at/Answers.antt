@@ -1,5 +1,5 @@
 use Rattle.std.proofs.Common.{sym, ◌∙◌, ap, option_map}
-use Rattle.guard_names.proofs.LookedUp.{read}
+use Rattle.guard_names.proofs.Declared.LookedUp.{read}
 use Rattle.guard_tagging.proofs.Definitions.AtPlaces.{no_type, no_flag, type_and_flag}
 use Rattle.guard_tagging.proofs.scope.Done.at.Goals as goal
 

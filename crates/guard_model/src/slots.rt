@@ -1,0 +1,30 @@
+//! One slot for each component of a SEQUENCE or SET, which holds its value or nothing.
+ghost use Rattle.std.specs.Prelude.{◌≡◌, ◌<◌, length, map, set, IfOk};
+ghost use Rattle.guard_model.specs.Slots.{all_absent};
+ghost use Rattle.guard_model.specs.TypeView.{component_view, components_of};
+ghost use Rattle.guard_model.specs.ValueView.{fields_view};
+
+use crate::memory::OutOfMemory;
+use crate::ty::Comp;
+use crate::value::Value;
+use std::alloc::Global;
+
+/// A slot for each component, none of which has a value yet. It fails only where memory runs out.
+pub fn absent_fields(alloc: Global, comps: &[Comp]) -> Result<Vec<Option<Value>>, OutOfMemory>
+    ensures count { IfOk result (λ v. length v.items ≡ length comps.now) }
+    ensures absent { IfOk result (λ v. fields_view v.items ≡ all_absent (components_of (map component_view comps.now))) }
+{
+    let mut fields = Vec::with_capacity(alloc, comps.len())?;
+    for _comp in comps {
+        fields.push(None)?;
+    }
+    Ok(fields)
+}
+
+/// The component at this place is settled: its value, or absent.
+pub fn set_field(fields: &mut Vec<Option<Value>>, place: usize, field: Option<Value>)
+    requires { place < length fields.old.items }
+    ensures { fields.new.items ≡ set fields.old.items place field }
+{
+    fields[place] = field;
+}

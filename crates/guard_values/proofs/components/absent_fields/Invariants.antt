@@ -1,6 +1,0 @@
-use Rattle.std.proofs.Common.{◌≡◌, None}
-use Rattle.std.specs.Prelude.{replicate}
-use Rattle.guard_values.proofs.components.absent_fields.Given as goal
-
-abbrev pub invariant-loop-comp : goal.invariant-loop-comp
-invariant-loop-comp l = l.fields.items ≡ replicate l._comp-index None

@@ -19,7 +19,7 @@ const COPIED_PER_OCTET: u64 = 16;
 
 /// What may be looked through: the named numbers among which a name is looked for, the types that are compared, and the
 /// constraints of which each part of a value is to be a member.
-const MOST_COMPARED: u64 = 17_179_869_184;
+const MOST_COMPARED: u64 = 8_589_934_592;
 
 /// The octets of the longest text times those of the longest name of a module.
 const MOST_LOOKED_UP: u64 = 4_294_967_296;

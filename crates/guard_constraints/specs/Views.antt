@@ -1,6 +1,5 @@
 -- What the code's results and arguments mean.
-use Rattle.std.specs.Prelude.{ℕ, List, Option, Some, None, slice_get, IsTrue, IfSome}
-use Rattle.std.specs.Option.{option_map}
+use Rattle.std.specs.Prelude.{ℕ, Option, Some, None, IsTrue, IfSome}
 use Rattle.std.specs.Borrow.{Bor}
 use Rattle.guard_model.specs.AbstractType.{AbstractType}
 use Rattle.guard_model.specs.TypeView.{type_view, component_view}
@@ -11,13 +10,10 @@ use Rattle.guard_syntax.specs.declared.tree.ComponentConsTree.{ComponentConsTree
 use Rattle.guard_values.specs.declared.fault.ValueFault.{ValueFault}
 use Rattle.guard_values.specs.declared.fault.ValueFault.TheVariants as value_fault
 use Rattle.guard_values.specs.declared.scope.Known.{Known}
-use Rattle.guard_values.specs.Views.{home_name, visible_from}
+use Rattle.guard_values.specs.declared.scope.Scope.{Scope}
+use Rattle.guard_values.specs.Views.{type_at, types_from, visible_from}
 use Rattle.guard_names.specs.declared.names.Names.{Names}
-use Rattle.guard_names.specs.Declarations.{definitions}
-use Rattle.guard_names.specs.NamesView.{modules_of, order_of}
-use Rattle.guard_names.specs.Places.{place_meant}
 use Rattle.guard_der.specs.Sound.{is_sound}
-use Rattle.guard_constraints.specs.declared.context.Context.{Context}
 use Rattle.guard_constraints.specs.declared.fault.ConsFault.{ConsFault}
 use Rattle.guard_constraints.specs.declared.fault.ConsFault.TheVariants as fault
 use Rattle.guard_constraints.specs.declared.alphabets.End.{End}
@@ -42,25 +38,12 @@ fault_with f = fault.Value f
 
 -- ---- names
 
-abbrev pub type_at : Known → ℕ → Option AbstractType
-type_at known place = option_map type_view (slice_get known.types.items place)
-
--- of the definition at this place in the order
-abbrev pub placed_type : Known → Option ℕ → Option AbstractType
-placed_type known None = None
-placed_type known (Some place) = type_at known place
-
--- what upper-case names mean in the module of this definition
-abbrev pub types_from : Names → Known → ℕ → List ℕ → Option AbstractType
-types_from names known id name =
-    placed_type known (place_meant (modules_of names) (order_of names)
-    (home_name (slice_get (definitions (modules_of names)) id)) name)
-
+-- what they mean in the module of this definition
 abbrev pub visible_at : Names → Known → ℕ → Visible
 visible_at names known id = record { values = visible_from names known id; types = types_from names known id }
 
-abbrev pub visible_in : Context → Visible
-visible_in context = visible_at context.names.now context.known.now context.id
+abbrev pub visible_in : Scope → Visible
+visible_in scope = visible_at scope.names.now scope.known.now scope.id
 
 -- each known type is sound
 abbrev pub AreKnownSound : Known → Type 0

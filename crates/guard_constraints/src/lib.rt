@@ -11,14 +11,13 @@
 //! | how are ends of ranges read | `range_ends.rt`, `specs/RangeEnds.antt` |
 //! | what may be written inside FROM | `alphabets.rt`, `specs/PermittedAlphabets.antt` |
 //! | what may WITH COMPONENTS list | `listed_parts.rt`, `specs/ListedParts.antt` |
-//! | what do names mean | `context.rt`, `specs/Visible.antt`; contained types: `contained_types.rt` |
+//! | what do names mean | `specs/Visible.antt`, by `Scope` of `guard_values`; contained types: `contained_types.rt` |
 //! | what does the code compute, step by step | `specs/inside/Reading.antt` |
 //! | which integers does a set hold | `int_set.rt`, `specs/IntSets.antt`; lists of ranges, their gaps and their common parts: `ranges.rt` |
 #![tactic(auto)]
 
 mod alphabets;
 mod contained_types;
-mod context;
 mod fault;
 mod int_set;
 mod kinds;

@@ -6,30 +6,29 @@ ghost use Rattle.guard_model.specs.ValueView as values;
 ghost use Rattle.guard_der.specs.Sound.{is_sound};
 ghost use Rattle.guard_syntax.specs.Views as trees;
 ghost use Rattle.guard_syntax.specs.SetViews.{end_view, end_or_view, range_view};
-ghost use Rattle.guard_values.specs.Views.{visible_from, AreKnownFitting};
+ghost use Rattle.guard_values.specs.Views.{meaning_of, AreKnownFitting};
 ghost use Rattle.guard_constraints.specs.RangeEnds as ends;
 ghost use Rattle.guard_constraints.specs.inside.Reading.{read_range, read_limit, read_end, integer_in};
 ghost use Rattle.guard_constraints.specs.Views.{named};
 
-use crate::context::Context;
 use crate::fault::ConsFault;
 use crate::written_values::written_value;
 use guard_model::{Cons, Limit, Rule, Site, Ty, Value};
 use guard_syntax::{EndForm, EndTree, RangeTree, StringKind, ValueForm, ValueTree};
-use guard_values::ValueFault;
+use guard_values::{Scope, ValueFault};
 use std::alloc::Global;
 
 /// The integers between two ends.
 pub fn range(
     alloc: Global,
-    context: Context,
+    scope: Scope,
     tree: &RangeTree,
     site: Site,
     ty: &Ty,
 ) -> Result<Cons, ConsFault>
     requires sound { IsTrue (is_sound (type_view ty.now)) }
-    requires fitting { AreKnownFitting context.known.now }
-    ensures { Gives constraint_view named result (read_range (visible_from context.entry.names.now context.entry.known.now context.entry.id) (type_view ty.now) site (range_view tree.now)) }
+    requires fitting { AreKnownFitting scope.known.now }
+    ensures { Gives constraint_view named result (read_range (meaning_of scope.entry) (type_view ty.now) site (range_view tree.now)) }
 {
     if !ty.kind.is_integer() {
         return Err(ConsFault::NotApplicable(site));
@@ -37,8 +36,8 @@ pub fn range(
     if !has_proper_ends(tree) {
         return Err(ConsFault::ExclusiveLimit(site));
     }
-    let low = limit(alloc, context, &tree.low, tree.above_low, ty)?;
-    let high = limit(alloc, context, &tree.high, tree.below_high, ty)?;
+    let low = limit(alloc, scope, &tree.low, tree.above_low, ty)?;
+    let high = limit(alloc, scope, &tree.high, tree.below_high, ty)?;
     Ok(Cons {
         site,
         rule: Rule::Range(low, high),
@@ -57,19 +56,19 @@ fn has_proper_ends(tree: &RangeTree) -> bool
 /// What an end limits: where `<` is at it, it is outside.
 fn limit(
     alloc: Global,
-    context: Context,
+    scope: Scope,
     end: &Option<EndTree>,
     outside: bool,
     ty: &Ty,
 ) -> Result<Limit, ConsFault>
     requires sound { IsTrue (is_sound (type_view ty.now)) }
-    requires fitting { AreKnownFitting context.known.now }
-    ensures { Gives (λ l. l) named result (read_limit (visible_from context.entry.names.now context.entry.known.now context.entry.id) (type_view ty.now) outside (end_or_view end.now)) }
+    requires fitting { AreKnownFitting scope.known.now }
+    ensures { Gives (λ l. l) named result (read_limit (meaning_of scope.entry) (type_view ty.now) outside (end_or_view end.now)) }
 {
     let Some(end) = end else {
         return Ok(Limit::Free);
     };
-    let number = number_at(alloc, context, end, ty)?;
+    let number = number_at(alloc, scope, end, ty)?;
     if outside {
         Ok(Limit::Past(number))
     } else {
@@ -78,12 +77,12 @@ fn limit(
 }
 
 /// The integer that an end is.
-fn number_at(alloc: Global, context: Context, end: &EndTree, ty: &Ty) -> Result<i128, ConsFault>
+fn number_at(alloc: Global, scope: Scope, end: &EndTree, ty: &Ty) -> Result<i128, ConsFault>
     requires sound { IsTrue (is_sound (type_view ty.now)) }
-    requires fitting { AreKnownFitting context.known.now }
-    ensures { Gives (λ n. n) named result (read_end (visible_from context.entry.names.now context.entry.known.now context.entry.id) (type_view ty.now) (end_view end.now)) }
+    requires fitting { AreKnownFitting scope.known.now }
+    ensures { Gives (λ n. n) named result (read_end (meaning_of scope.entry) (type_view ty.now) (end_view end.now)) }
 {
-    let number = written_value(alloc, context, &value_of_end(end), ty)?;
+    let number = written_value(alloc, scope, &value_of_end(end), ty)?;
     integer_in(end.site, &number)
 }
 

@@ -20,7 +20,6 @@ ghost use Rattle.guard_constraints.specs.Views.{named, visible_at, visible_in, A
 
 use crate::alphabets::alphabet;
 use crate::contained_types::contained;
-use crate::context::Context;
 use crate::fault::ConsFault;
 use crate::kinds::{element_type, size_type};
 use crate::listed_parts::{check_parts, located, word_of};
@@ -32,7 +31,7 @@ use guard_syntax::{
     ComponentConsTree, ConsTree, DifferenceTree, ElementForm, ElementTree, IntersectionTree,
     JoinedDifference, JoinedIntersection, SetForm, SetTree, ValueTree,
 };
-use guard_values::Known;
+use guard_values::{Known, Scope};
 use std::alloc::{AllocError, Global};
 
 /// The constraint that a tree denotes on a type, where it is written in this definition; or the first fault. The type
@@ -56,35 +55,35 @@ pub fn constraint(
     ensures first { IfErr result (λ e. IfSome (named e) (λ f. IsFirstConstraintFault (visible_at names.now known.now id) (type_view ty.now) (views.constraint_view tree.now) f)) }
     ensures none { IfErr result (λ e. IfSome (named e) (λ f. (c : Constraint) → Denotes (visible_at names.now known.now id) (type_view ty.now) (views.constraint_view tree.now) c → ⊥)) }
 {
-    on_type(alloc, Context { names, known, id }, tree, ty)
+    on_type(alloc, Scope { names, known, id }, tree, ty)
 }
 
 /// A set in parentheses.
 #[cycle(sets)]
 #[tactic(auto, unfolding(crate::specs::inside::Reading::read))]
-fn on_type(alloc: Global, context: Context, tree: &ConsTree, ty: &Ty) -> Result<Cons, ConsFault>
+fn on_type(alloc: Global, scope: Scope, tree: &ConsTree, ty: &Ty) -> Result<Cons, ConsFault>
     requires sound { IsTrue (is_sound (type_view ty.now)) }
-    requires fitting { AreKnownFitting context.known.now }
-    ensures { Gives constraint_view named result (reading.read (visible_in context.entry) (type_view ty.now) (views.constraint_view tree.now)) }
+    requires fitting { AreKnownFitting scope.known.now }
+    ensures { Gives constraint_view named result (reading.read (visible_in scope.entry) (type_view ty.now) (views.constraint_view tree.now)) }
 {
-    set(alloc, context, &tree.set, ty)
+    set(alloc, scope, &tree.set, ty)
 }
 
 #[cycle(sets)]
 #[tactic(auto, unfolding(crate::specs::inside::Reading::read))]
-fn set(alloc: Global, context: Context, tree: &SetTree, ty: &Ty) -> Result<Cons, ConsFault>
+fn set(alloc: Global, scope: Scope, tree: &SetTree, ty: &Ty) -> Result<Cons, ConsFault>
     requires sound { IsTrue (is_sound (type_view ty.now)) }
-    requires fitting { AreKnownFitting context.known.now }
-    ensures { Gives constraint_view named result (reading.read_set (visible_in context.entry) (type_view ty.now) (views.set_view tree.now)) }
+    requires fitting { AreKnownFitting scope.known.now }
+    ensures { Gives constraint_view named result (reading.read_set (visible_in scope.entry) (type_view ty.now) (views.set_view tree.now)) }
 {
     match &tree.form {
         SetForm::AllExcept(other) => {
-            let other = element(alloc, context, other, ty)?;
+            let other = element(alloc, scope, other, ty)?;
             Ok(all_except(alloc, tree.site, other)?)
         }
         SetForm::Union(first, others) => {
-            let first = intersection(alloc, context, first, ty)?;
-            let others = united(alloc, context, others, ty)?;
+            let first = intersection(alloc, scope, first, ty)?;
+            let others = united(alloc, scope, others, ty)?;
             Ok(joined(alloc, Join::Union, tree.site, first, others)?)
         }
     }
@@ -156,17 +155,17 @@ fn of_all(join: Join, site: Site, all: Vec<Cons>) -> Cons
 #[cycle(sets)]
 fn united(
     alloc: Global,
-    context: Context,
+    scope: Scope,
     others: &[JoinedIntersection],
     ty: &Ty,
 ) -> Result<Vec<Cons>, ConsFault>
     requires sound { IsTrue (is_sound (type_view ty.now)) }
-    requires fitting { AreKnownFitting context.known.now }
-    ensures { Gives (λ v. map constraint_view v.items) named result (reading.joined_intersections (visible_in context.entry) (type_view ty.now) (map views.joined_intersection_view others.now)) }
+    requires fitting { AreKnownFitting scope.known.now }
+    ensures { Gives (λ v. map constraint_view v.items) named result (reading.joined_intersections (visible_in scope.entry) (type_view ty.now) (map views.joined_intersection_view others.now)) }
 {
     let mut all = Vec::new(alloc);
     for other in others {
-        all.push(intersection(alloc, context, &other.part, ty)?)?;
+        all.push(intersection(alloc, scope, &other.part, ty)?)?;
     }
     Ok(all)
 }
@@ -175,17 +174,17 @@ fn united(
 #[tactic(auto, unfolding(crate::specs::inside::Reading::read))]
 fn intersection(
     alloc: Global,
-    context: Context,
+    scope: Scope,
     tree: &IntersectionTree,
     ty: &Ty,
 ) -> Result<Cons, ConsFault>
     requires sound { IsTrue (is_sound (type_view ty.now)) }
-    requires fitting { AreKnownFitting context.known.now }
-    ensures { Gives constraint_view named result (reading.read_intersection (visible_in context.entry) (type_view ty.now) (views.intersection_view tree.now)) }
+    requires fitting { AreKnownFitting scope.known.now }
+    ensures { Gives constraint_view named result (reading.read_intersection (visible_in scope.entry) (type_view ty.now) (views.intersection_view tree.now)) }
 {
     let site = tree.first.element.site;
-    let first = difference(alloc, context, &tree.first, ty)?;
-    let others = met(alloc, context, &tree.others, ty)?;
+    let first = difference(alloc, scope, &tree.first, ty)?;
+    let others = met(alloc, scope, &tree.others, ty)?;
     Ok(joined(alloc, Join::Intersection, site, first, others)?)
 }
 
@@ -193,17 +192,17 @@ fn intersection(
 #[cycle(sets)]
 fn met(
     alloc: Global,
-    context: Context,
+    scope: Scope,
     others: &[JoinedDifference],
     ty: &Ty,
 ) -> Result<Vec<Cons>, ConsFault>
     requires sound { IsTrue (is_sound (type_view ty.now)) }
-    requires fitting { AreKnownFitting context.known.now }
-    ensures { Gives (λ v. map constraint_view v.items) named result (reading.joined_differences (visible_in context.entry) (type_view ty.now) (map views.joined_difference_view others.now)) }
+    requires fitting { AreKnownFitting scope.known.now }
+    ensures { Gives (λ v. map constraint_view v.items) named result (reading.joined_differences (visible_in scope.entry) (type_view ty.now) (map views.joined_difference_view others.now)) }
 {
     let mut all = Vec::new(alloc);
     for other in others {
-        all.push(difference(alloc, context, &other.part, ty)?)?;
+        all.push(difference(alloc, scope, &other.part, ty)?)?;
     }
     Ok(all)
 }
@@ -213,19 +212,19 @@ fn met(
 #[tactic(auto, unfolding(crate::specs::inside::Reading::read))]
 fn difference(
     alloc: Global,
-    context: Context,
+    scope: Scope,
     tree: &DifferenceTree,
     ty: &Ty,
 ) -> Result<Cons, ConsFault>
     requires sound { IsTrue (is_sound (type_view ty.now)) }
-    requires fitting { AreKnownFitting context.known.now }
-    ensures { Gives constraint_view named result (reading.read_difference (visible_in context.entry) (type_view ty.now) (views.difference_view tree.now)) }
+    requires fitting { AreKnownFitting scope.known.now }
+    ensures { Gives constraint_view named result (reading.read_difference (visible_in scope.entry) (type_view ty.now) (views.difference_view tree.now)) }
 {
-    let all = element(alloc, context, &tree.element, ty)?;
+    let all = element(alloc, scope, &tree.element, ty)?;
     match &tree.except {
         None => Ok(all),
         Some(less) => {
-            let less = element(alloc, context, less, ty)?;
+            let less = element(alloc, scope, less, ty)?;
             Ok(except(alloc, tree.element.site, all, less)?)
         }
     }
@@ -246,22 +245,22 @@ fn except(alloc: Global, site: Site, all: Cons, less: Cons) -> Result<Cons, Allo
 
 #[cycle(sets)]
 #[tactic(auto, unfolding(crate::specs::inside::Reading::read))]
-fn element(alloc: Global, context: Context, tree: &ElementTree, ty: &Ty) -> Result<Cons, ConsFault>
+fn element(alloc: Global, scope: Scope, tree: &ElementTree, ty: &Ty) -> Result<Cons, ConsFault>
     requires sound { IsTrue (is_sound (type_view ty.now)) }
-    requires fitting { AreKnownFitting context.known.now }
-    ensures { Gives constraint_view named result (reading.read_element (visible_in context.entry) (type_view ty.now) (views.element_view tree.now)) }
+    requires fitting { AreKnownFitting scope.known.now }
+    ensures { Gives constraint_view named result (reading.read_element (visible_in scope.entry) (type_view ty.now) (views.element_view tree.now)) }
 {
     let site = tree.site;
     match &tree.form {
-        ElementForm::Parentheses(inner) => set(alloc, context, inner, ty),
-        ElementForm::Value(tree) => single_value(alloc, context, tree, site, ty),
-        ElementForm::Contained(_, name) => contained(alloc, context, name.name, site, ty),
-        ElementForm::Range(tree) => range(alloc, context, tree, site, ty),
-        ElementForm::Size(inner) => size(alloc, context, inner, site, ty),
+        ElementForm::Parentheses(inner) => set(alloc, scope, inner, ty),
+        ElementForm::Value(tree) => single_value(alloc, scope, tree, site, ty),
+        ElementForm::Contained(_, name) => contained(alloc, scope, name.name, site, ty),
+        ElementForm::Range(tree) => range(alloc, scope, tree, site, ty),
+        ElementForm::Size(inner) => size(alloc, scope, inner, site, ty),
         ElementForm::From(inner) => alphabet(alloc, inner, site, ty),
-        ElementForm::WithComponent(inner) => each(alloc, context, inner, site, ty),
+        ElementForm::WithComponent(inner) => each(alloc, scope, inner, site, ty),
         ElementForm::WithComponents(partial, listed) => {
-            parts(alloc, context, listed, *partial, site, ty)
+            parts(alloc, scope, listed, *partial, site, ty)
         }
     }
 }
@@ -270,16 +269,16 @@ fn element(alloc: Global, context: Context, tree: &ElementTree, ty: &Ty) -> Resu
 #[tactic(auto, unfolding(crate::specs::inside::Reading::read))]
 fn single_value(
     alloc: Global,
-    context: Context,
+    scope: Scope,
     tree: &ValueTree,
     site: Site,
     ty: &Ty,
 ) -> Result<Cons, ConsFault>
     requires sound { IsTrue (is_sound (type_view ty.now)) }
-    requires fitting { AreKnownFitting context.known.now }
-    ensures { Gives constraint_view named result (reading.read_element_form (visible_in context.entry) (type_view ty.now) site (trees.value (values.value_view tree.now))) }
+    requires fitting { AreKnownFitting scope.known.now }
+    ensures { Gives constraint_view named result (reading.read_element_form (visible_in scope.entry) (type_view ty.now) site (trees.value (values.value_view tree.now))) }
 {
-    let single = written_value(alloc, context, tree, ty)?;
+    let single = written_value(alloc, scope, tree, ty)?;
     Ok(Cons {
         site,
         rule: Rule::One(single),
@@ -291,17 +290,17 @@ fn single_value(
 #[tactic(auto, unfolding(crate::specs::inside::Reading::read))]
 fn size(
     alloc: Global,
-    context: Context,
+    scope: Scope,
     inner: &ConsTree,
     site: Site,
     ty: &Ty,
 ) -> Result<Cons, ConsFault>
     requires sound { IsTrue (is_sound (type_view ty.now)) }
-    requires fitting { AreKnownFitting context.known.now }
-    ensures { Gives constraint_view named result (reading.read_element_form (visible_in context.entry) (type_view ty.now) site (trees.size (views.constraint_view inner.now))) }
+    requires fitting { AreKnownFitting scope.known.now }
+    ensures { Gives constraint_view named result (reading.read_element_form (visible_in scope.entry) (type_view ty.now) site (trees.size (views.constraint_view inner.now))) }
 {
     let number = size_type(alloc, ty, site)?;
-    let size = on_type(alloc, context, inner, &number)?;
+    let size = on_type(alloc, scope, inner, &number)?;
     of_size(alloc, site, size, ty)
 }
 
@@ -324,17 +323,17 @@ fn of_size(alloc: Global, site: Site, size: Cons, ty: &Ty) -> Result<Cons, ConsF
 #[tactic(auto, unfolding(crate::specs::inside::Reading::read))]
 fn each(
     alloc: Global,
-    context: Context,
+    scope: Scope,
     inner: &ConsTree,
     site: Site,
     ty: &Ty,
 ) -> Result<Cons, ConsFault>
     requires sound { IsTrue (is_sound (type_view ty.now)) }
-    requires fitting { AreKnownFitting context.known.now }
-    ensures { Gives constraint_view named result (reading.read_element_form (visible_in context.entry) (type_view ty.now) site (trees.with_component (views.constraint_view inner.now))) }
+    requires fitting { AreKnownFitting scope.known.now }
+    ensures { Gives constraint_view named result (reading.read_element_form (visible_in scope.entry) (type_view ty.now) site (trees.with_component (views.constraint_view inner.now))) }
 {
     let element = element_type(ty, site)?;
-    let each = Box::new(alloc, on_type(alloc, context, inner, element)?)?;
+    let each = Box::new(alloc, on_type(alloc, scope, inner, element)?)?;
     Ok(Cons {
         site,
         rule: Rule::Each(each),
@@ -348,18 +347,18 @@ fn each(
 #[tactic(auto, unfolding(crate::specs::inside::Reading::read))]
 fn parts(
     alloc: Global,
-    context: Context,
+    scope: Scope,
     listed: &[ComponentConsTree],
     partial: bool,
     site: Site,
     ty: &Ty,
 ) -> Result<Cons, ConsFault>
     requires sound { IsTrue (is_sound (type_view ty.now)) }
-    requires fitting { AreKnownFitting context.known.now }
-    ensures { Gives constraint_view named result (reading.read_element_form (visible_in context.entry) (type_view ty.now) site (trees.with_components partial (trees.parts_of (map views.part_view listed.now)))) }
+    requires fitting { AreKnownFitting scope.known.now }
+    ensures { Gives constraint_view named result (reading.read_element_form (visible_in scope.entry) (type_view ty.now) site (trees.with_components partial (trees.parts_of (map views.part_view listed.now)))) }
 {
     check_parts(listed, ty, site)?;
-    let parts = each_part(alloc, context, listed, ty)?;
+    let parts = each_part(alloc, scope, listed, ty)?;
     Ok(with_components(site, partial, parts))
 }
 
@@ -375,17 +374,17 @@ fn with_components(site: Site, partial: bool, parts: Vec<Part>) -> Cons
 #[cycle(sets)]
 fn each_part(
     alloc: Global,
-    context: Context,
+    scope: Scope,
     listed: &[ComponentConsTree],
     ty: &Ty,
 ) -> Result<Vec<Part>, ConsFault>
     requires sound { IsTrue (is_sound (type_view ty.now)) }
-    requires fitting { AreKnownFitting context.known.now }
-    ensures { Gives (λ v. map part_view v.items) named result (each (reading.read_part (visible_in context.entry) (kind_of (type_view ty.now))) (map views.part_view listed.now)) }
+    requires fitting { AreKnownFitting scope.known.now }
+    ensures { Gives (λ v. map part_view v.items) named result (each (reading.read_part (visible_in scope.entry) (kind_of (type_view ty.now))) (map views.part_view listed.now)) }
 {
     let mut parts = Vec::with_capacity(alloc, listed.len())?;
     for one in listed {
-        parts.push(part(alloc, context, one, ty)?)?;
+        parts.push(part(alloc, scope, one, ty)?)?;
     }
     Ok(parts)
 }
@@ -393,21 +392,16 @@ fn each_part(
 /// One part, at the place of its component or alternative.
 #[cycle(sets)]
 #[tactic(auto, unfolding(crate::specs::inside::Reading::read))]
-fn part(
-    alloc: Global,
-    context: Context,
-    tree: &ComponentConsTree,
-    ty: &Ty,
-) -> Result<Part, ConsFault>
+fn part(alloc: Global, scope: Scope, tree: &ComponentConsTree, ty: &Ty) -> Result<Part, ConsFault>
     requires sound { IsTrue (is_sound (type_view ty.now)) }
-    requires fitting { AreKnownFitting context.known.now }
-    ensures { Gives part_view named result (reading.read_part (visible_in context.entry) (kind_of (type_view ty.now)) (views.part_view tree.now)) }
+    requires fitting { AreKnownFitting scope.known.now }
+    ensures { Gives part_view named result (reading.read_part (visible_in scope.entry) (kind_of (type_view ty.now)) (views.part_view tree.now)) }
 {
     let (place, inside) = located(tree.name, ty, tree.site)?;
     match &tree.cons {
         None => Ok(part_at(tree, place, None)),
         Some(inner) => {
-            let cons = on_type(alloc, context, inner, inside)?;
+            let cons = on_type(alloc, scope, inner, inside)?;
             Ok(part_at(tree, place, Some(cons)))
         }
     }

@@ -1,7 +1,5 @@
 -- What elements of a type's constraints speak of, by the type's kind.
-use Rattle.std.proofs.Common.{◌≡◌, ℕ, ◌<◌, ◌≤◌, true, false, List, length, Option, Some, None, Ok, Err, Bor, Fits, w8, refl, sym, ap, ◌∙◌, subst, arith, IsTrue, option_map, slice_get, MatchOption}
-use Rattle.std.specs.List.{HoldsAt}
-use Rattle.std.proofs.lemmas.Option.{slice_get_past, slice_get_read}
+use Rattle.std.proofs.Common.{◌≡◌, ℕ, ◌<◌, ◌≤◌, true, false, List, length, Option, Some, None, Ok, Err, Bor, Fits, w8, refl, sym, ap, ◌∙◌, subst, arith, IsTrue, option_map}
 use Rattle.guard_model.specs.declared.site.Site.{Site}
 use Rattle.guard_model.specs.AbstractType.{AbstractType}
 use Rattle.guard_model.specs.Components.{components_in}
@@ -76,10 +74,3 @@ module _ (ty : Ty) (name : List ℕ) (comps : List Comp) (listed : in_view comps
       let few : component_count (components_in (kind_of (type_view ty))) ≤ 64 = few_components (type_view ty) sound in
       let same : component_count (components_in (kind_of (type_view ty))) ≡ length comps = ap component_count (ap components_in (kind_is ty) ∙ sym listed) ∙ component_count_view comps in
       omega (arith, few, same, lt)
-
--- ---- known types by their places
-
-pub type_got : (found : Option (Bor Ty)) (types : List Ty) (i : ℕ) → MatchOption found (length types ≤ i) (λ t. (i < length types) × HoldsAt (λ d. t.now ≡ d) types i)
-    → option_map (λ t. type_view t.now) found ≡ option_map type_view (slice_get types i)
-type_got None types i h = sym (ap (option_map type_view) (slice_get_past types i h))
-type_got (Some t) types i h = sym (ap (option_map type_view) (slice_get_read types (length types) i t.now refl h.0 (h.1 t.now)))

@@ -1,5 +1,5 @@
 -- What guard_values answers of a written value, as an answer on the constraint.
-use Rattle.std.proofs.Common.{◌≡◌, Result, Ok, Err, IfOk, IfErr, IfSome, IsTrue, refl}
+use Rattle.std.proofs.Common.{◌≡◌, Result, Ok, Err, IfSome, IsTrue, refl}
 use Rattle.guard_model.specs.AbstractType.{AbstractType}
 use Rattle.guard_model.specs.Answer.{Refuses}
 use Rattle.guard_model.specs.ValueView.{value_view}

@@ -1,5 +1,5 @@
 -- What guard_values proves of written values, as constraints need it, and what is known of visible names.
-use Rattle.std.proofs.Common.{◌≡◌, ℕ, ◌&&◌, List, [], ◌∷◌, Option, Some, None, Result, Ok, Err, inl, slice_get, refl, IfSome, IsTrue, subst}
+use Rattle.std.proofs.Common.{◌≡◌, ℕ, ◌&&◌, List, [], ◌∷◌, Option, Some, None, Result, Ok, Err, inl, refl, IfSome, IsTrue, subst}
 use Rattle.std.specs.Prelude.{nat_le}
 use Rattle.std.proofs.lemmas.Bool.{and_parts}
 use Rattle.guard_model.specs.AbstractType.{AbstractType}
@@ -9,24 +9,20 @@ use Rattle.guard_tagcheck.specs.Search.{first_clash}
 use Rattle.guard_der.specs.Fits.{fits}
 use Rattle.guard_der.specs.Sound.{is_sound, is_proper, none_clash}
 use Rattle.guard_syntax.specs.Trees.{WrittenValue}
-use Rattle.guard_names.specs.Declarations.{definitions}
-use Rattle.guard_names.specs.NamesView.{modules_of, order_of}
-use Rattle.guard_names.specs.Places.{place_meant}
 use Rattle.guard_names.specs.declared.names.Names.{Names}
 use Rattle.guard_values.specs.declared.fault.ValueFault.{ValueFault}
 use Rattle.guard_values.specs.declared.scope.Known.{Known}
 use Rattle.guard_values.specs.Meanings.{Meaning, AreFitting}
 use Rattle.guard_values.specs.Denotes as values
 use Rattle.guard_values.specs.inside.Reading.{read_whole}
-use Rattle.guard_values.specs.Views.{visible_from, known_definition, home_name, AreKnownFitting}
+use Rattle.guard_values.specs.Views.{place_from, placed_type, types_from}
 use Rattle.guard_values.proofs.Denoted.DenotedIsRead.{says_read}
 use Rattle.guard_values.proofs.OneAnswer.FaultOrValue.{first_excludes}
 use Rattle.guard_values.proofs.FirstFaults.HoldAtTheirSites.{whole_denotes, whole_first}
 use Rattle.guard_values.proofs.Fitting.DenotedValuesFit.{says_fits}
-use Rattle.guard_values.specs.FirstFault.{IsFirstFault}
 use Rattle.guard_constraints.specs.FirstFault.{value_under}
 use Rattle.guard_constraints.specs.inside.Reading.{of_value}
-use Rattle.guard_constraints.specs.Views.{types_from, placed_type, AreKnownSound}
+use Rattle.guard_constraints.specs.Views.{AreKnownSound}
 use Rattle.guard_constraints.proofs.Denoted.Agreement.{Agrees}
 use Rattle.guard_constraints.proofs.Denoted.PlainElements.{DenotesFitting, ValuesAgree}
 use Rattle.guard_constraints.proofs.Denoted.DenotedIsRead.{ValuesSaid}
@@ -55,21 +51,12 @@ values_agree m fit = λ t tree sound. value_agrees m fit t tree sound (read_whol
 -- ---- names
 
 module _ (names : Names) (known : Known) (id : ℕ) where
-  abbrev place : List ℕ → Option ℕ
-  place name = place_meant (modules_of names) (order_of names) (home_name (slice_get (definitions (modules_of names)) id)) name
-
-  pub visible_fit : AreKnownFitting known → AreFitting (visible_from names known id)
-  visible_fit fit = λ name. at (place name) where
-    at : (there : Option ℕ) → IfSome (known_definition known there) (λ g. IsTrue (fits g.ty g.value))
-    at None = tt
-    at (Some p) = fit p
-
   sound_there : (found : Option AbstractType) (u : AbstractType) → IfSome found (λ t. IsTrue (is_sound t)) → found ≡ Some u → IsTrue (is_sound u)
   sound_there None u h e = absurd cc
   sound_there (Some t) u h e = let same : t ≡ u = cc in subst (λ (x : AbstractType). IsTrue (is_sound x)) same h
 
   pub visible_sound : AreKnownSound known → (name : List ℕ) (u : AbstractType) → types_from names known id name ≡ Some u → IsTrue (is_sound u)
-  visible_sound sound name u e = sound_there (types_from names known id name) u (at (place name)) e where
+  visible_sound sound name u e = sound_there (types_from names known id name) u (at (place_from names id name)) e where
     at : (there : Option ℕ) → IfSome (placed_type known there) (λ t. IsTrue (is_sound t))
     at None = tt
     at (Some p) = sound p

@@ -23,7 +23,7 @@ use Rattle.guard_constraints.proofs.written.+sets.Goals as goal
 pub set-returns-in_err-others-in-Union : goal.set-returns-in_err-others-in-Union
 unfolding read
 set-returns-in_err-others-in-Union t c =
-    let names = visible_in c.args.context in
+    let names = visible_in c.args.scope in
     let ty = type_view c.args.ty.now in
     let site = (out-SetTree c.args.tree.now).site in
     let first = views.intersection_view c.in-Union.first.value in
@@ -38,7 +38,7 @@ set-returns-in_err-others-in-Union t c =
 pub set-returns-in_ok-joined-in-Union : goal.set-returns-in_ok-joined-in-Union
 unfolding read
 set-returns-in_ok-joined-in-Union t c =
-    let names = visible_in c.args.context in
+    let names = visible_in c.args.scope in
     let ty = type_view c.args.ty.now in
     let site = (out-SetTree c.args.tree.now).site in
     let first = views.intersection_view c.in-Union.first.value in
@@ -51,16 +51,16 @@ set-returns-in_ok-joined-in-Union t c =
 
 pub united-loop-other-preserved : goal.united-loop-other-preserved
 united-loop-other-preserved t c =
-    let step = λ (j : WrittenJoinedIntersection). read_intersection (visible_in c.args.context) (type_view c.args.ty.now) j.joined in
-    let total = joined_intersections (visible_in c.args.context) (type_view c.args.ty.now) (map views.joined_intersection_view c.args.others.now) in
+    let step = λ (j : WrittenJoinedIntersection). read_intersection (visible_in c.args.scope) (type_view c.args.ty.now) j.joined in
+    let total = joined_intersections (visible_in c.args.scope) (type_view c.args.ty.now) (map views.joined_intersection_view c.args.others.now) in
     pushes step views.joined_intersection_view constraint_view c.loop-other.all.items c.args.others.now c.loop-other.other-index total c.loop-other.invariant
     c.other-item.result c.loop-other-test.true c.other-item.is c.in_ok-intersection.field-0 _ c.in_ok-push.ensures.items
     (rw (joined_intersection_is c.other-item.result) c.in_ok-intersection.ensures)
 
 pub united-returns-in_err-intersection : goal.united-returns-in_err-intersection
 united-returns-in_err-intersection t c =
-    let step = λ (j : WrittenJoinedIntersection). read_intersection (visible_in c.args.context) (type_view c.args.ty.now) j.joined in
-    let total = joined_intersections (visible_in c.args.context) (type_view c.args.ty.now) (map views.joined_intersection_view c.args.others.now) in
+    let step = λ (j : WrittenJoinedIntersection). read_intersection (visible_in c.args.scope) (type_view c.args.ty.now) j.joined in
+    let total = joined_intersections (visible_in c.args.scope) (type_view c.args.ty.now) (map views.joined_intersection_view c.args.others.now) in
     let p = err_from_is_err_and c.from_residual.result c.from_residual.ensures.1 in
     rw (p.1, p.2) (stops_at step views.joined_intersection_view (map constraint_view c.loop-other.all.items) c.args.others.now c.loop-other.other-index total c.loop-other.invariant
     c.other-item.result c.other-item.result c.loop-other-test.true c.other-item.is (named c.in_err-intersection.field-0.0)
@@ -68,15 +68,15 @@ united-returns-in_err-intersection t c =
 
 pub united-returns : goal.united-returns
 united-returns t c =
-    let step = λ (j : WrittenJoinedIntersection). read_intersection (visible_in c.args.context) (type_view c.args.ty.now) j.joined in
-    let total = joined_intersections (visible_in c.args.context) (type_view c.args.ty.now) (map views.joined_intersection_view c.args.others.now) in
+    let step = λ (j : WrittenJoinedIntersection). read_intersection (visible_in c.args.scope) (type_view c.args.ty.now) j.joined in
+    let total = joined_intersections (visible_in c.args.scope) (type_view c.args.ty.now) (map views.joined_intersection_view c.args.others.now) in
     ends_there step views.joined_intersection_view (map constraint_view c.loop-other.all.items) c.args.others.now c.loop-other.other-index total c.loop-other.invariant c.loop-other-test.false
 
 -- ---- intersections
 
 pub intersection-returns-in_err-others : goal.intersection-returns-in_err-others
 intersection-returns-in_err-others t c =
-    let names = visible_in c.args.context in
+    let names = visible_in c.args.scope in
     let ty = type_view c.args.ty.now in
     let i = out-IntersectionTree c.args.tree.now in
     let site = (out-ElementTree (out-DifferenceTree i.first).element).site in
@@ -90,7 +90,7 @@ intersection-returns-in_err-others t c =
 
 pub intersection-returns : goal.intersection-returns
 intersection-returns t c =
-    let names = visible_in c.args.context in
+    let names = visible_in c.args.scope in
     let ty = type_view c.args.ty.now in
     let i = out-IntersectionTree c.args.tree.now in
     let site = (out-ElementTree (out-DifferenceTree i.first).element).site in
@@ -103,16 +103,16 @@ intersection-returns t c =
 
 pub met-loop-other-preserved : goal.met-loop-other-preserved
 met-loop-other-preserved t c =
-    let step = λ (j : WrittenJoinedDifference). read_difference (visible_in c.args.context) (type_view c.args.ty.now) j.joined in
-    let total = joined_differences (visible_in c.args.context) (type_view c.args.ty.now) (map views.joined_difference_view c.args.others.now) in
+    let step = λ (j : WrittenJoinedDifference). read_difference (visible_in c.args.scope) (type_view c.args.ty.now) j.joined in
+    let total = joined_differences (visible_in c.args.scope) (type_view c.args.ty.now) (map views.joined_difference_view c.args.others.now) in
     pushes step views.joined_difference_view constraint_view c.loop-other.all.items c.args.others.now c.loop-other.other-index total c.loop-other.invariant
     c.other-item.result c.loop-other-test.true c.other-item.is c.in_ok-difference.field-0 _ c.in_ok-push.ensures.items
     (rw (joined_difference_is c.other-item.result) c.in_ok-difference.ensures)
 
 pub met-returns-in_err-difference : goal.met-returns-in_err-difference
 met-returns-in_err-difference t c =
-    let step = λ (j : WrittenJoinedDifference). read_difference (visible_in c.args.context) (type_view c.args.ty.now) j.joined in
-    let total = joined_differences (visible_in c.args.context) (type_view c.args.ty.now) (map views.joined_difference_view c.args.others.now) in
+    let step = λ (j : WrittenJoinedDifference). read_difference (visible_in c.args.scope) (type_view c.args.ty.now) j.joined in
+    let total = joined_differences (visible_in c.args.scope) (type_view c.args.ty.now) (map views.joined_difference_view c.args.others.now) in
     let p = err_from_is_err_and c.from_residual.result c.from_residual.ensures.1 in
     rw (p.1, p.2) (stops_at step views.joined_difference_view (map constraint_view c.loop-other.all.items) c.args.others.now c.loop-other.other-index total c.loop-other.invariant
     c.other-item.result c.other-item.result c.loop-other-test.true c.other-item.is (named c.in_err-difference.field-0.0)
@@ -120,8 +120,8 @@ met-returns-in_err-difference t c =
 
 pub met-returns : goal.met-returns
 met-returns t c =
-    let step = λ (j : WrittenJoinedDifference). read_difference (visible_in c.args.context) (type_view c.args.ty.now) j.joined in
-    let total = joined_differences (visible_in c.args.context) (type_view c.args.ty.now) (map views.joined_difference_view c.args.others.now) in
+    let step = λ (j : WrittenJoinedDifference). read_difference (visible_in c.args.scope) (type_view c.args.ty.now) j.joined in
+    let total = joined_differences (visible_in c.args.scope) (type_view c.args.ty.now) (map views.joined_difference_view c.args.others.now) in
     ends_there step views.joined_difference_view (map constraint_view c.loop-other.all.items) c.args.others.now c.loop-other.other-index total c.loop-other.invariant c.loop-other-test.false
 
 -- ---- WITH COMPONENTS
@@ -129,28 +129,28 @@ met-returns t c =
 pub parts-returns-in_err-check_parts : goal.parts-returns-in_err-check_parts
 parts-returns-in_err-check_parts t c =
     let p = err_from_is_err_and c.from_residual.result c.from_residual.ensures.1 in
-    rw (p.1, p.2) (parts_checked (visible_in c.args.context) (type_view c.args.ty.now) c.args.site c.args.partial c.args.listed.now (named c.in_err-check_parts.field-0.0) c.in_err-check_parts.ensures)
+    rw (p.1, p.2) (parts_checked (visible_in c.args.scope) (type_view c.args.ty.now) c.args.site c.args.partial c.args.listed.now (named c.in_err-check_parts.field-0.0) c.in_err-check_parts.ensures)
 
 pub parts-returns-in_err-parts : goal.parts-returns-in_err-parts
 parts-returns-in_err-parts t c =
     let p = err_from_is_err_and c.from_residual-in_err-parts.result c.from_residual-in_err-parts.ensures.1 in
-    rw (p.1, p.2) (parts_refused (visible_in c.args.context) (type_view c.args.ty.now) c.args.site c.args.partial c.args.listed.now (named c.in_err-parts.field-0.0) c.in_ok-check_parts.ensures c.in_err-parts.ensures)
+    rw (p.1, p.2) (parts_refused (visible_in c.args.scope) (type_view c.args.ty.now) c.args.site c.args.partial c.args.listed.now (named c.in_err-parts.field-0.0) c.in_ok-check_parts.ensures c.in_err-parts.ensures)
 
 pub parts-returns : goal.parts-returns
 parts-returns t c =
-    let e = parts_made (visible_in c.args.context) (type_view c.args.ty.now) c.args.site c.args.partial c.args.listed.now (map part_view c.in_ok-parts.parts.items) c.in_ok-check_parts.ensures c.in_ok-parts.ensures in
+    let e = parts_made (visible_in c.args.scope) (type_view c.args.ty.now) c.args.site c.args.partial c.args.listed.now (map part_view c.in_ok-parts.parts.items) c.in_ok-check_parts.ensures c.in_ok-parts.ensures in
     rw (e, c.with_components.ensures) refl
 
 pub each_part-loop-one-preserved : goal.each_part-loop-one-preserved
 each_part-loop-one-preserved t c =
-    let step = read_part (visible_in c.args.context) (kind_of (type_view c.args.ty.now)) in
+    let step = read_part (visible_in c.args.scope) (kind_of (type_view c.args.ty.now)) in
     let total = each step (map views.part_view c.args.listed.now) in
     pushes step views.part_view part_view c.loop-one.parts.items c.args.listed.now c.loop-one.one-index total c.loop-one.invariant
     c.one-item.result c.loop-one-test.true c.one-item.is c.in_ok-part.field-0 _ c.in_ok-push.ensures.items c.in_ok-part.ensures
 
 pub each_part-returns-in_err-part : goal.each_part-returns-in_err-part
 each_part-returns-in_err-part t c =
-    let step = read_part (visible_in c.args.context) (kind_of (type_view c.args.ty.now)) in
+    let step = read_part (visible_in c.args.scope) (kind_of (type_view c.args.ty.now)) in
     let total = each step (map views.part_view c.args.listed.now) in
     let p = err_from_is_err_and c.from_residual-in_err-part.result c.from_residual-in_err-part.ensures.1 in
     rw (p.1, p.2) (stops_at step views.part_view (map part_view c.loop-one.parts.items) c.args.listed.now c.loop-one.one-index total c.loop-one.invariant
@@ -158,5 +158,5 @@ each_part-returns-in_err-part t c =
 
 pub each_part-returns : goal.each_part-returns
 each_part-returns t c =
-    let step = read_part (visible_in c.args.context) (kind_of (type_view c.args.ty.now)) in
+    let step = read_part (visible_in c.args.scope) (kind_of (type_view c.args.ty.now)) in
     ends_there step views.part_view (map part_view c.loop-one.parts.items) c.args.listed.now c.loop-one.one-index (each step (map views.part_view c.args.listed.now)) c.loop-one.invariant c.loop-one-test.false

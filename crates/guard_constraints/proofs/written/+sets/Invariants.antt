@@ -10,15 +10,15 @@ use Rattle.guard_constraints.proofs.written.+sets.Given as goal
 
 abbrev pub invariant-united-loop-other : goal.invariant-united-loop-other
 invariant-united-loop-other l =
-    with_front (map constraint_view l.all.items) (joined_intersections (visible_in l.context) (type_view l.ty) (map views.joined_intersection_view (drop l.other-index l.others)))
-    ≡ joined_intersections (visible_in l.context) (type_view l.ty) (map views.joined_intersection_view l.others)
+    with_front (map constraint_view l.all.items) (joined_intersections (visible_in l.scope) (type_view l.ty) (map views.joined_intersection_view (drop l.other-index l.others)))
+    ≡ joined_intersections (visible_in l.scope) (type_view l.ty) (map views.joined_intersection_view l.others)
 
 abbrev pub invariant-met-loop-other : goal.invariant-met-loop-other
 invariant-met-loop-other l =
-    with_front (map constraint_view l.all.items) (joined_differences (visible_in l.context) (type_view l.ty) (map views.joined_difference_view (drop l.other-index l.others)))
-    ≡ joined_differences (visible_in l.context) (type_view l.ty) (map views.joined_difference_view l.others)
+    with_front (map constraint_view l.all.items) (joined_differences (visible_in l.scope) (type_view l.ty) (map views.joined_difference_view (drop l.other-index l.others)))
+    ≡ joined_differences (visible_in l.scope) (type_view l.ty) (map views.joined_difference_view l.others)
 
 abbrev pub invariant-each_part-loop-one : goal.invariant-each_part-loop-one
 invariant-each_part-loop-one l =
-    with_front (map part_view l.parts.items) (each (read_part (visible_in l.context) (kind_of (type_view l.ty))) (map views.part_view (drop l.one-index l.listed)))
-    ≡ each (read_part (visible_in l.context) (kind_of (type_view l.ty))) (map views.part_view l.listed)
+    with_front (map part_view l.parts.items) (each (read_part (visible_in l.scope) (kind_of (type_view l.ty))) (map views.part_view (drop l.one-index l.listed)))
+    ≡ each (read_part (visible_in l.scope) (kind_of (type_view l.ty))) (map views.part_view l.listed)

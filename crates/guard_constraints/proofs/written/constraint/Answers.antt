@@ -2,7 +2,8 @@ use Rattle.guard_model.specs.TypeView.{type_view}
 use Rattle.guard_syntax.specs.SetViews as views
 use Rattle.guard_constraints.specs.Views.{visible_at}
 use Rattle.guard_constraints.proofs.Denoted.CodeAnswers.{gives_denoted, gives_proper, gives_faultless, gives_first, gives_none}
-use Rattle.guard_constraints.proofs.Denoted.WrittenValues.{visible_fit, visible_sound}
+use Rattle.guard_values.proofs.Fitting.KnownValuesFit.{visible_fit}
+use Rattle.guard_constraints.proofs.Denoted.WrittenValues.{visible_sound}
 use Rattle.guard_constraints.proofs.written.constraint.Goals as goal
 
 pub returns-clause-denoted : goal.returns-clause-denoted

@@ -1,4 +1,4 @@
-use Rattle.std.proofs.Common.{◌≡◌, sym, ◌∙◌}
+use Rattle.std.proofs.Common.{sym, ◌∙◌}
 use Rattle.guard_model.specs.TypeView.{constraint_view}
 use Rattle.guard_constraints.proofs.CodeSteps.JoinedConstraints.{joined_alone, joined_several}
 use Rattle.guard_constraints.proofs.written.joined.Goals as goal

@@ -3,14 +3,16 @@
 //!
 //! | folder | what answers its rows |
 //! |---|---|
-//! | `rows`, `lexer`, `syntax`, `names`; `model`, but for alphabets; `tagging`, but for octets | the crate `conformance_texts`, and of sets of integers in `constraints`, of headers in `der` |
-//! | `values`, `constraints`, `schema`, `der`, `eval`, `tables`, `reader` | the crate `conformance_schemas` |
+//! | `rows`, `lexer`, `syntax`, `names` | the crate `conformance_texts` |
+//! | `model`, but for alphabets; `tagging`, but for octets | the crate `conformance_texts` |
+//! | sets of integers in `constraints`, headers in `der` | the crate `conformance_texts` |
+//! | all else of those, `values`, `schema`, `eval`, `tables`, `reader` | the crate `conformance_schemas` |
 //! | `policy`, `report`, `frames` | the crate `conformance_decisions` |
 //! | `program` | `programs.rt`, `memory.rt` |
 //!
-//! Each of these crates stands on no more layers than its rows ask, so that most are proved before the program that they
-//! try at last. On the octets of the rows of `der`, `eval`, `tagging` and `schema`, and of `policy` and `frames`, two
-//! ways to judge them are compared: `walked.rt`. Files of rows are read by the crate `conformance_rows`.
+//! Each of these crates is built on no more layers than its rows ask, so that most are proved before the program that
+//! they try at last. On the octets of the rows of `der`, `eval`, `tagging` and `schema`, and of `policy` and `frames`,
+//! two ways to judge them are compared: `walked.rt`. Files of rows are read by the crate `conformance_rows`.
 #![tactic(auto)]
 
 mod memory;

@@ -5,7 +5,7 @@ use conformance_rows::{Layer, octets_in, text_of};
 use derguard_program::program;
 use std::alloc::{AllocError, Global};
 
-/// What is told of a standard output that fails.
+/// What is reported of a standard output that fails.
 const OUT_FAILED: &[u8] = b"derguard: F2 WriteFailed\n";
 
 /// What the rows ask.
@@ -15,9 +15,9 @@ enum Asked {
     All,
     /// The same with the first line alone of each output.
     FirstLines,
-    /// How many runs end with 3 where standard output fails after so many octets, for each number, with that told.
+    /// How many runs end with 3 where standard output fails after so many octets, for each number, with that report.
     EachOut,
-    /// The same where standard error fails, and nothing is told after what it took.
+    /// The same where standard error fails, and nothing is said after what it took.
     EachErr,
 }
 
@@ -172,7 +172,7 @@ impl Programs {
         }
     }
 
-    /// Sets a number: `ample` stands for one that is never reached.
+    /// Sets a number: `ample` means one that is never reached.
     fn set_number(&mut self, name: &str, text: &str) -> bool {
         let number = match text {
             "ample" => usize::MAX,

@@ -84,7 +84,8 @@ fn agrees(
     }
 }
 
-/// Gives the gateway the records, with the second policy before the one at this place, and answers whether it takes all.
+/// Gives the gateway the records, with the second policy before the one at this place, and answers whether it takes
+/// all.
 fn takes(
     alloc: Global,
     links: &Links,

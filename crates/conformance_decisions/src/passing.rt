@@ -35,7 +35,7 @@ pub enum Said {
     Frames,
 }
 
-/// The policy that stands above rows.
+/// The policy above rows.
 #[derive(Drop)]
 pub struct PolicyRows {
     said: Said,

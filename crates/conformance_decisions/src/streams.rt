@@ -43,7 +43,7 @@ enum Asked {
 #[derive(Drop)]
 pub struct Streams {
     asked: Asked,
-    /// The texts of the modules that a policy stands on, separated by `====`.
+    /// The texts of the modules that a policy is built on, separated by `====`.
     modules: Vec<u8>,
     /// The policy that decides.
     policy: Option<Policy>,

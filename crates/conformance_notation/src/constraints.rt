@@ -15,7 +15,7 @@ impl Words<'_> {
         }
     }
 
-    /// Puts on a type the constraints that are written behind it.
+    /// Puts on a type the constraints that are written after it.
     #[cycle(notation)]
     pub fn constraints(&mut self, alloc: Global, ty: &mut Ty, depth: u32) -> Result<(), Unread> {
         for _ in 0..u32::MAX {
@@ -179,7 +179,7 @@ impl Words<'_> {
         Ok(Rule::One(Box::into_inner(value)))
     }
 
-    /// The low end of a range and the two dots behind it.
+    /// The low end of a range and the two dots after it.
     fn low_end(&mut self) -> Option<Limit> {
         let word = self.word();
         let out = self.take("<");

@@ -11,7 +11,7 @@
 //! | `(1 \|)`, `(1 ^)` | a union and an intersection of one element |
 //! | `WITH COMPONENTS {2 PRESENT}` | a part by its place, from 0, in place of its name; there need be none |
 //! | `{a ABSENT}` | the place of a component left empty, even if it has a default |
-//! | `'A1'H UNUSED 5` | a string of bits by the octets that are kept for it, and how many of their last bits are none of its |
+//! | `'A1'H UNUSED 5` | a string of bits by the octets that are kept for it, and how many of their last bits it lacks |
 //! | `'00'H` for a character string | the string by the octets of its UTF-8 |
 //!
 //! The notation is read and not checked: components may share a name or a tag, and any constraint may follow any type.

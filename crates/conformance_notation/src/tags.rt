@@ -7,7 +7,7 @@ use guard_model::{Class, Tag};
 #[derive(Clone, Copy)]
 pub struct Prefix {
     pub tag: Tag,
-    /// Whether it stands in place of the type's outermost tag.
+    /// Whether it is in place of the type's outermost tag.
     pub implicit: bool,
 }
 

@@ -7,7 +7,7 @@ use crate::words::Words;
 use guard_model::{CharKind, Class, Comp, Kind, Named, Presence, Tag, Ty};
 use std::alloc::Global;
 
-/// How deep parts may stand in each other.
+/// How deep parts may be nested.
 pub const DEEPEST: u32 = 1_000;
 
 /// The type that a text writes.
@@ -18,7 +18,7 @@ pub fn type_of(alloc: Global, text: &str) -> Result<Box<Ty>, Unread> {
     Ok(ty)
 }
 
-/// The depth that is left to the parts of what stands at this depth.
+/// The depth that is left to the parts of what is at this depth.
 pub fn below(depth: u32) -> Result<u32, Unread>
     ensures { IfOk result (λ left. left + 1 ≡ depth) }
 {
@@ -65,7 +65,7 @@ fn put_tags(ty: &mut Ty, prefixes: &[Prefix]) -> Result<(), Unread> {
 }
 
 impl Words<'_> {
-    /// A type, with tags in front and constraints behind.
+    /// A type, with tags before it and constraints after it.
     #[cycle(notation)]
     pub fn ty(&mut self, alloc: Global, depth: u32) -> Result<Box<Ty>, Unread> {
         let left = below(depth)?;
@@ -106,7 +106,7 @@ impl Words<'_> {
         }
     }
 
-    /// What follows SEQUENCE. Constraints in front of OF are read behind the type of the elements.
+    /// What follows SEQUENCE. Constraints in front of OF are read after the type of the elements.
     #[cycle(notation)]
     fn sequence(&mut self, alloc: Global, depth: u32) -> Result<Box<Ty>, Unread> {
         let mut in_front = *self;

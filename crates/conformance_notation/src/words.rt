@@ -19,7 +19,7 @@ impl<'a> Words<'a> {
         self.left.len()
     }
 
-    /// The word in front, which stays: letters, digits and hyphens. It is empty where another character stands there.
+    /// The word in front, which stays: letters, digits and hyphens. It is empty where another character is there.
     pub fn front(&self) -> &'a str {
         match self
             .left
@@ -37,12 +37,12 @@ impl<'a> Words<'a> {
         word
     }
 
-    /// Whether these characters stand in front.
+    /// Whether these characters come next.
     pub fn is_next(&self, mark: &str) -> bool {
         self.left.starts_with(mark)
     }
 
-    /// Takes these characters where they stand in front, and answers whether they did.
+    /// Takes these characters where they come next, and answers whether they did.
     pub fn take(&mut self, mark: &str) -> bool {
         match self.left.strip_prefix(mark) {
             Some(left) => {
@@ -53,7 +53,7 @@ impl<'a> Words<'a> {
         }
     }
 
-    /// Takes OF, and constraints in front of it, where they stand in front, and answers whether they did.
+    /// Takes OF, and constraints in front of it, where they come next, and answers whether they did.
     pub fn take_of(&mut self) -> bool {
         if !self.is_next("(") {
             return self.take("OF");
@@ -67,7 +67,7 @@ impl<'a> Words<'a> {
         }
     }
 
-    /// Takes these characters, which must stand in front.
+    /// Takes these characters, which must come next.
     pub fn expect(&mut self, mark: &str) -> Result<(), Unread> {
         if self.take(mark) {
             Ok(())
@@ -76,7 +76,7 @@ impl<'a> Words<'a> {
         }
     }
 
-    /// Takes what stands between two such quotes in front.
+    /// Takes what comes next, between two such quotes.
     pub fn quoted(&mut self, quote: char) -> Result<&'a str, Unread> {
         let (text, left) = self
             .left
@@ -92,7 +92,7 @@ impl<'a> Words<'a> {
         Ok(self.word().parse::<i128>()?)
     }
 
-    /// Nothing must be left behind what was read.
+    /// Nothing must be left after what was read.
     pub fn end(&self) -> Result<(), Unread> {
         if self.left.is_empty() {
             Ok(())

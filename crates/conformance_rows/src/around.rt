@@ -1,7 +1,7 @@
-//! What stands round each text of a group of rows.
+//! What is written round each text of a group of rows.
 use std::alloc::{AllocError, Global};
 
-/// What stands round each text.
+/// What is written round each text.
 #[derive(Drop)]
 pub struct Around {
     before: Vec<u8>,
@@ -17,7 +17,7 @@ impl Around {
         }
     }
 
-    /// The text with what stands round it.
+    /// The text with what is round it.
     pub fn text(&self, alloc: Global, text: &[u8]) -> Result<Vec<u8>, AllocError> {
         let mut whole = Vec::from_slice(alloc, &self.before)?;
         whole.extend_from_slice(text)?;

@@ -1,6 +1,6 @@
-//! Octets as they are written in a row: as they stand, but for what a backslash begins.
+//! Octets as they are written in a row: each as itself, but for what a backslash begins.
 //!
-//! `\n` is a line feed, `\x1F` the octet of two hexadecimal digits, and `\[128*TEXT\]` stands for as many copies of
+//! `\n` is a line feed, `\x1F` the octet of two hexadecimal digits, and `\[128*TEXT\]` means as many copies of
 //! TEXT, in each of which `\#` is the copy's number, from 1.
 ghost use Rattle.std.specs.Prelude.{◌<◌, IfSome};
 
@@ -24,7 +24,7 @@ pub fn octets_of(alloc: Global, written: &str) -> Result<Option<Vec<u8>>, AllocE
     Ok(Some(octets))
 }
 
-/// Adds what `NUMBER*TEXT\]REST` stands for, and answers whether it has that form.
+/// Adds what `NUMBER*TEXT\]REST` means, and answers whether it has that form.
 fn add_copies(octets: &mut Vec<u8>, part: &str) -> Result<bool, AllocError> {
     let Some((repeated, rest)) = part.split_once("\\]") else {
         return Ok(false);

@@ -44,7 +44,7 @@ pub(crate) fn read<R: Files + AllocGlobal>(rt: &R, file: &str) -> io::Result<Str
 #[derive(Drop)]
 struct Rows<'a> {
     file: &'a str,
-    /// The lines that stand in front of the next row's input.
+    /// The lines in front of the next row's input.
     before: Vec<u8>,
     read: u32,
     differing: u32,

@@ -6,7 +6,7 @@ use std::alloc::{AllocError, Global};
 use std::io;
 use std::rt::Files;
 
-/// What stands above a row, and how a row is tried under it.
+/// What comes above a row, and how a row is tried under it.
 pub trait Subject: Drop {
     /// Sets for the rows below what the line `@NAME TEXT` names, if that is of use here.
     fn set(&mut self, alloc: Global, name: &str, text: &[u8]) -> Result<(), AllocError>;
@@ -24,7 +24,7 @@ pub trait Subject: Drop {
 #[derive(Drop)]
 struct Walks<S: Subject> {
     subject: S,
-    /// The lines that stand in front of the next row.
+    /// The lines in front of the next row.
     before: Vec<u8>,
     rows: u32,
     compared: Compared,
@@ -72,7 +72,7 @@ impl<S: Subject> Walks<S> {
         Ok(())
     }
 
-    /// Adds what a text stands for to the lines in front of the next row.
+    /// Adds what a text means to the lines in front of the next row.
     fn add(&mut self, alloc: Global, text: &str) -> Result<(), AllocError> {
         if let Some(octets) = octets_of(alloc, text)? {
             self.before.extend_from_slice(&octets)?;

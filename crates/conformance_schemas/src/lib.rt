@@ -12,8 +12,8 @@
 //! | `tables` | `tables.rt` |
 //! | `reader` | `reader.rt` |
 //!
-//! The type of a group of rows is read by `typed.rt`. Whether the reader agrees with `decode` and `member` on the octets
-//! of rows and on others near them is tried by `row_types.rt` and `walks.rt`.
+//! The type of a group of rows is read by `typed.rt`. Whether the reader agrees with `decode` and `member` on the
+//! octets of rows and on others near them is tried by `row_types.rt` and `walks.rt`.
 #![tactic(auto)]
 
 mod alphabets;

@@ -71,7 +71,7 @@ impl Members {
         }
     }
 
-    /// The fault of the module that the value stands in.
+    /// The fault of the module that the value is in.
     fn faulty(&self, alloc: Global, asked: Asked) -> Result<String, AllocError> {
         let Asked { ty, value } = asked;
         let more = format!(in alloc; "v {ty} ::= {value}\n")?;

@@ -31,7 +31,7 @@ enum Form {
     Octets,
 }
 
-/// The types of the modules that stand above a row.
+/// The types of the modules above a row.
 #[derive(Drop)]
 pub struct RowTypes {
     schema: Option<Schema>,

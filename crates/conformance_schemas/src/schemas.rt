@@ -13,7 +13,7 @@ enum Asked {
     Build,
     /// From which length on what the text begins with makes a schema.
     Beginnings,
-    /// Whether so many modules make a schema, in each of which the text stands.
+    /// Whether so many modules make a schema, each of which has the text.
     Copies(u32),
     /// The type of this name in the texts' module `M`.
     TypeOf(String),

@@ -18,7 +18,8 @@ use std::alloc::{AllocError, Global};
 pub struct ByTable<'a>(pub &'a Table);
 
 impl Judges for ByTable<'_> {
-    /// Whether `walk` answers none exactly where `decode` answers a breach, and else the types that have the value.
+    /// Whether the table and the decoder agree on the octets: both refuse them, or the marks name just those types of
+    /// the table to which the decoded value belongs.
     fn agree(&self, alloc: Global, octets: &[u8]) -> Result<bool, AllocError> {
         let table = self.0;
         match (walk(table, octets), decode(alloc, table.declared(), octets)) {
@@ -35,7 +36,7 @@ impl Judges for ByTable<'_> {
     }
 }
 
-/// Whether the marks name those rules whose type has the value, and no rule that isn't there.
+/// Whether each rule is marked just if the value belongs to its type, and no mark is left after the last rule.
 fn agree_on_rules(alloc: Global, table: &Table, marks: Marks, value: &Value) -> bool
     requires fits { IsTrue (fits (declared_of table.now) (value_view value.now)) }
 {

@@ -1,5 +1,5 @@
-//! What is asked of the names of modules that texts write. Modules, and what their names mean, are made and dropped here
-//! alone: to drop a tree is proved once more in each crate that does it.
+//! What is asked of the names of modules that texts write. Modules, and what their names mean, are made and dropped
+//! here alone: to drop a tree is proved once more in each crate that does it.
 ghost use Rattle.std.specs.Prelude.{All};
 ghost use Rattle.guard_names.specs.NamesView.{modules_of};
 ghost use Rattle.guard_syntax.specs.ModuleViews.{module_view};

@@ -1,4 +1,4 @@
-//! `header`: the header at an offset, or why none stands there.
+//! `header`: the header at an offset, or why none is there.
 use conformance_rows::{Layer, not_read, octets_in, text_of, unknown};
 use guard_der::{Header, header};
 use guard_model::Class;

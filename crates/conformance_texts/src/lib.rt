@@ -1,5 +1,5 @@
 //! Answers to rows on texts: their tokens, their trees, what names mean, which tags types get and which integers sets
-//! have. Nothing here stands on a schema, so that this is proved beside it.
+//! have. Nothing here needs a schema, so that this is proved beside it.
 //!
 //! | folder of rows | what answers them |
 //! |---|---|

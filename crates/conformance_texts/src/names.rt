@@ -1,5 +1,5 @@
 //! `guard_names`: the order of the definitions in a list of modules, or the fault of their names; what a name means;
-//! and where a definition stands.
+//! and where a definition is.
 use crate::answers::{definition, ends_of_order, order};
 use crate::asking::{AsksNames, ask_names};
 use crate::large::large;

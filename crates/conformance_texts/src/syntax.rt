@@ -1,4 +1,4 @@
-//! `guard_syntax`: how many assignments a module has, where the parts of a set stand, or the module's fault.
+//! `guard_syntax`: how many assignments a module has, where the parts of a set are, or the module's fault.
 use conformance_rows::{Around, Layer, text_of};
 use guard_lexer::tokens;
 use guard_syntax::{ElementForm, Module, SetForm, parse};
@@ -31,7 +31,7 @@ impl Parser {
     }
 }
 
-/// Where the set of the first type's first constraint stands, the first intersection in it, and the set in parentheses
+/// Where the set of the first type's first constraint is, the first intersection in it, and the set in parentheses
 /// that this begins with.
 fn sites(alloc: Global, module: &Module) -> Result<String, AllocError> {
     let Some(cons) = module.assignments.first().and_then(|it| it.ty.cons.first()) else {

@@ -1,4 +1,4 @@
-//! `Tag::order`: how many of the tags above a row stand below its own, equal it and stand above it.
+//! `Tag::order`: how many of the tags above a row are less than its own, equal to it and greater.
 use conformance_notation::{read, tag_of};
 use conformance_rows::{Layer, not_read, text_of, unknown};
 use guard_model::Tag;
@@ -11,13 +11,13 @@ pub struct Tags {
     above: Vec<Tag>,
 }
 
-/// How many tags stand to one as they are listed here.
+/// How many tags compare to one as they are listed here.
 #[derive(Clone, Copy)]
 struct Counts {
     below: u32,
     equal: u32,
     above: u32,
-    /// Those that stand to it otherwise than it to them.
+    /// Those that compare to it otherwise than it to them.
     confused: u32,
 }
 

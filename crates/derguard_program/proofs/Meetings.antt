@@ -1,4 +1,4 @@
--- An answer is written, or a fault is told.
+-- An answer is written, or a fault is reported.
 use Rattle.std.proofs.Common.{ℕ, Result, Ok, Err, inl, inr}
 use Rattle.std.specs.Prelude.{IfOk, IfErr, List, string_bytes}
 use Rattle.derguard_program.specs.declared.answer.Answer.{Answer}

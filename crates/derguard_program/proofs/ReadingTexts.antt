@@ -6,7 +6,8 @@ use Rattle.guard_policy.proofs.EntriesRead.{left_is}
 use Rattle.derguard_program.specs.Files.{Told, after_read, after_reads, IsLater, HasText, HasNone}
 use Rattle.derguard_program.specs.Reading.{HaveTexts, FirstMissing}
 
--- With these texts, of the names in front of what is left: what holds of the names that are left, by the reads to come, holds of all by the first ones.
+-- With these texts, of the names in front of what is left: what holds of the names that are left, by the reads to come,
+-- holds of all by the first ones.
 pub record ReadSoFar (told now : Told) (beside : List ℕ) (all left done : List (List ℕ)) : Type 0 where
   pub have : (texts : List (List ℕ)) → HaveTexts now beside left texts → HaveTexts told beside all (done ++ texts)
   pub lack : (path : List ℕ) → FirstMissing now beside left path → FirstMissing told beside all path
@@ -31,7 +32,7 @@ missing_here told now beside all left done name none so_far = so_far.lack (besid
 
 -- ---- as the loop reads them
 
--- one more file is read, of the name at the place where the loop stands
+-- one more file is read, of the name at the place where the loop is
 pub read_next : (told now : Told) (beside : List ℕ) (listed : List (String Global)) (i : ℕ) (name : String Global) (path text : List ℕ) (done : List (List ℕ))
     → i < length listed → name ≡ get_or listed i name → path ≡ beside ++ string_bytes name → HasText now path text
     → ReadSoFar told now beside (map string_bytes listed) (map string_bytes (drop i listed)) done
@@ -41,7 +42,7 @@ read_next told now beside listed i name path text done lt is at has so_far =
     (subst (λ (p : List ℕ). HasText now p text) at has)
     (subst (λ (left : List (List ℕ)). ReadSoFar told now beside (map string_bytes listed) left done) (left_is string_bytes listed i name lt is) so_far)
 
--- the loop stands behind them all
+-- the loop is after them all
 pub read_whole : (told now : Told) (beside : List ℕ) (listed : List (String Global)) (i : ℕ) (done : List (List ℕ)) → length listed ≤ i
     → ReadSoFar told now beside (map string_bytes listed) (map string_bytes (drop i listed)) done → HaveTexts told beside (map string_bytes listed) done
 read_whole told now beside listed i done past so_far =

@@ -1,4 +1,4 @@
--- What comes of a stream under texts, said of the path at which they stand.
+-- What comes of a stream under texts, said of the path at which they are.
 use Rattle.std.proofs.Common.{◌≡◌, ◌⊎◌, ℕ, Bool, true, false, List, Option, Result, Ok, Err, inl, inr, refl, subst}
 use Rattle.guard_frames.specs.declared.totals.Totals.{Totals}
 use Rattle.guard_frames.specs.declared.texts.TextsFault.{TextsFault}
@@ -96,7 +96,7 @@ device_fault input out reports (texts.Schema f) wrote read = tt
 device_fault input out reports (texts.Policy f) wrote read = tt
 device_fault input out reports texts.OutOfMemory wrote read = tt
 
--- ---- standard error goes on behind the reports
+-- ---- standard error goes on after the reports
 
 -- what comes of the stream doesn't speak of its failure
 pub reports_alike : (told : Told) (path : List ℕ) (input : Input) (out : Device) (before after : Option (List ℕ)) (x y : Bool) (f : Fault)

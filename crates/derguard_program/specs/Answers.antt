@@ -1,4 +1,4 @@
--- What is answered to a request that reads no stream: what goes to standard output, and the status; or the fault that stands.
+-- What is answered to a request that reads no stream: what goes to standard output, and the status; or the fault.
 use Rattle.std.specs.Prelude.{◌≡◌, ◌⊎◌, ℕ, List, [], ◌∷◌, ◌++◌, codes, decimal, length, Ok, Err}
 use Rattle.hex.specs.Hex.{decode_of}
 use Rattle.hex.specs.declared.error.FromHexError.{FromHexError}
@@ -37,7 +37,8 @@ IsNoFirst f = SayNothing (first_module ∷ []) first_policy f ⊎ (f ≡ NoMemor
 -- ---- check
 
 abbrev pub counts_text : AbstractPolicy → List ℕ
-counts_text p = codes "ok: messages " ++ decimal (length p.messages) ++ codes ", rules " ++ decimal (length p.rules) ++ codes "\n"
+counts_text p =
+    codes "ok: messages " ++ decimal (length p.messages) ++ codes ", rules " ++ decimal (length p.rules) ++ codes "\n"
 
 abbrev pub IsChecked : Told → List ℕ → AbstractAnswer → Type 0
 IsChecked told path a = (p : AbstractPolicy) × IsPolicyAt told path p × (a.out ≡ counts_text p) × (a.status ≡ 0)
@@ -62,12 +63,14 @@ verdict_status no_rule = 1
 -- the text of the reason and a line feed
 abbrev pub IsVerdict : AbstractPolicy → AbstractRoute → List ℕ → AbstractAnswer → Type 0
 IsVerdict p route octets a =
-    (w : AbstractVerdict) × IsReason p route octets w × (a.out ≡ verdict_octets p route w ++ codes "\n") × (a.status ≡ verdict_status w)
+    (w : AbstractVerdict) × IsReason p route octets w × (a.out ≡ verdict_octets p route w ++ codes "\n")
+    × (a.status ≡ verdict_status w)
 
 -- of the octets that the digits write, under the policy at the path
 abbrev pub IsDecided : Told → List ℕ → AbstractRoute → List ℕ → AbstractAnswer → Type 0
 IsDecided told path route digits a =
-    (octets : List ℕ) × (p : AbstractPolicy) × (decode_of digits ≡ Ok octets) × IsPolicyAt told path p × IsVerdict p route octets a
+    (octets : List ℕ) × (p : AbstractPolicy) × (decode_of digits ≡ Ok octets) × IsPolicyAt told path p
+    × IsVerdict p route octets a
 
 -- ---- decide, explained
 

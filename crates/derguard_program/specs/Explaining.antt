@@ -1,4 +1,5 @@
--- What comes after the line of a fault where it is to be explained: the file, the line with a mark under the column, and what to do.
+-- What comes after the line of a fault where it is to be explained: the file, the line with a mark under the column,
+-- and what to do.
 use Rattle.std.specs.Prelude.{◌≡◌, ◌⊎◌, ◌-◌, ℕ, List, [], ◌++◌, codes, decimal, map, string_bytes, slice_get, unwrap_or, Ok, Err}
 use Rattle.std.specs.Option.{option_map_or}
 use Rattle.hex.specs.Hex.{decode_of}
@@ -64,17 +65,20 @@ abbrev pub IsExplained : Told → List ℕ → Fault → List ℕ → Type 0
 IsExplained told path (Schema f) note =
     (text : List ℕ) × (files : List (List ℕ)) × (modules : List (List ℕ)) × AreTextsOf told path text files modules
     × SayNothing modules text (Schema f) × (note ≡ explanation (sources path files modules) (Schema f))
-IsExplained told path (Policy f) note = IsNoPolicyAt told path (Policy f) × (note ≡ explanation (sources path [] []) (Policy f))
+IsExplained told path (Policy f) note =
+    IsNoPolicyAt told path (Policy f) × (note ≡ explanation (sources path [] []) (Policy f))
 IsExplained told path (CannotRead file) note =
     IsNoPolicyAt told path (CannotRead file) × (note ≡ explanation (sources path [] []) (CannotRead file))
 IsExplained told path BadHex note = IsNoPolicyAt told path BadHex × (note ≡ explanation (sources path [] []) BadHex)
 IsExplained told path (Run f) note = IsNoPolicyAt told path (Run f) × (note ≡ explanation (sources path [] []) (Run f))
-IsExplained told path NoMemory note = IsNoPolicyAt told path NoMemory × (note ≡ explanation (sources path [] []) NoMemory)
+IsExplained told path NoMemory note =
+    IsNoPolicyAt told path NoMemory × (note ≡ explanation (sources path [] []) NoMemory)
 
 -- The same of a message that isn't decided: digits that write no octets come before what is wrong with the policy.
 abbrev pub IsUndecidedExplained : Told → List ℕ → List ℕ → Fault → List ℕ → Type 0
 IsUndecidedExplained told path digits f note =
-    ((f ≡ BadHex) × ((e : FromHexError) × (decode_of digits ≡ Err e)) × (note ≡ explanation (sources path [] []) BadHex))
+    ((f ≡ BadHex) × ((e : FromHexError) × (decode_of digits ≡ Err e))
+    × (note ≡ explanation (sources path [] []) BadHex))
     ⊎ ((octets : List ℕ) × (decode_of digits ≡ Ok octets) × IsExplained told path f note)
     ⊎ ((f ≡ NoMemory) × (note ≡ []))
 
@@ -83,4 +87,5 @@ IsUndecidedExplained told path digits f note =
 -- a fault is reported with what comes after it, with its status
 abbrev pub TellsWith : Fault → List ℕ → Device → ℕ → Type 0
 TellsWith f note err result =
-    ((text : List ℕ) × IsText f text × TellsOctets (line_of text ++ note) (fault_status f) err result) ⊎ TellsNoMemory err result
+    ((text : List ℕ) × IsText f text × TellsOctets (line_of text ++ note) (fault_status f) err result)
+    ⊎ TellsNoMemory err result

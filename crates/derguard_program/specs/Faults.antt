@@ -1,4 +1,4 @@
--- The program's faults: the text and status of each, and which of them stand for those of the calls that it makes.
+-- The program's faults: the text and status of each, and which of them mean those of the calls that it makes.
 use Rattle.std.specs.Prelude.{◌≡◌, ℕ, List, ◌++◌, codes, string_bytes, MatchOption}
 use Rattle.guard_policy.specs.declared.fault.PolicyFault.{PolicyFault}
 use Rattle.guard_policy.specs.PolicyFaults as policy
@@ -16,7 +16,7 @@ fault_status (Policy f) = 2
 fault_status (Run f) = 3
 fault_status NoMemory = 3
 
--- What is told of it. A fault of a layer prints as itself, which tests show.
+-- What is reported of it. A fault of a layer prints as itself, which tests show.
 abbrev pub IsText : Fault → List ℕ → Type 0
 IsText BadHex text = text ≡ codes "bad hex"
 IsText (CannotRead file) text = text ≡ codes "cannot read " ++ string_bytes file
@@ -25,7 +25,7 @@ IsText (Policy f) text = Unit {0}
 IsText (Run f) text = Unit {0}
 IsText NoMemory text = text ≡ codes "no-memory"
 
--- Want of memory stands by its own name, and each other fault of a policy as that.
+-- Want of memory is the program's own, and each other fault of a policy stays one of the policy.
 abbrev pub StandsForPolicy : PolicyFault → Fault → Type 0
 StandsForPolicy p f = MatchOption (policy.named p) (f ≡ NoMemory) (λ _. f ≡ Policy p)
 

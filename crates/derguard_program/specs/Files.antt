@@ -1,8 +1,8 @@
 -- What reads of files find at a path.
 use Rattle.std.specs.Prelude.{◌≡◌, ℕ, zero, suc, List, Option, Some, None}
 
--- What each of the reads to come finds at a path, a text or nothing, where the files tell it; the next read is number 0. A file may change from one read to
--- another. Those of a disk tell nothing.
+-- What each of the reads to come finds at a path, a text or nothing, where that is known; the next read is number 0. A
+-- file may change from one read to another. Of those of a disk nothing is known.
 abbrev pub Told : Type 0
 Told = ℕ → List ℕ → Option (Option (List ℕ))
 
@@ -19,7 +19,7 @@ after_reads (suc n) told = after_reads n (after_read told)
 abbrev pub IsLater : Told → Told → Type 0
 IsLater told later = (reads : ℕ) × (later ≡ after_reads reads told)
 
--- it is what was told, or nothing was told of it
+-- it is what was known, or nothing was known of it
 abbrev pub IsAsTold : Option (Option (List ℕ)) → Option (List ℕ) → Type 0
 IsAsTold None found = Unit {0}
 IsAsTold (Some told) found = found ≡ told

@@ -22,7 +22,7 @@ abbrev pub places_in : Constraints → List Site
 places_in no_constraints = []
 places_in (constraint (at site element) cs) = site ∷ places_in cs
 
--- where the constraints on a whole value of the type stand, those of a referenced type before the added ones
+-- where the constraints on a whole value of the type are written, those of a referenced type before the added ones
 abbrev pub places_of : AbstractType → List Site
 places_of (type_of tags kind cs) = places_in cs
 
@@ -143,7 +143,8 @@ messages_lines rules (m ∷ ms) = message_lines rules m.name ++ messages_lines r
 -- what the remarks rest on
 abbrev pub last_line : List ℕ
 last_line =
-    codes "  Looked at: integers, sizes and the places of constraints. A rule without a remark may let nothing pass either.\n"
+    codes
+    "  Looked at: integers, sizes and the places of constraints. A rule without a remark may let nothing pass either.\n"
 
 abbrev pub listing : AbstractPolicy → List ℕ
 listing p = messages_lines (found_rules p) p.messages ++ last_line

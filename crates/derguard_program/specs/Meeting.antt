@@ -25,7 +25,7 @@ use Rattle.derguard_program.specs.Muxing.{GuardsLinks}
 use Rattle.derguard_program.specs.Shown.{IsShownAt}
 use Rattle.derguard_program.specs.Writing.{Writes, Tells, TellsLine, TellsNoMemory}
 
--- Such an answer is written, or such a fault is told; nothing is read.
+-- Such an answer is written, or such a fault is reported; nothing is read.
 abbrev pub Answers : (AbstractAnswer → Type 0) → (Fault → Type 0) → Input → Device → Device → ℕ → Type 0
 Answers IsAnswer IsFault input out err status =
     IsUnread input
@@ -33,7 +33,8 @@ Answers IsAnswer IsFault input out err status =
     ⊎ ((f : Fault) × IsFault f × IsUntouched out × Tells f err status))
 
 -- The same, where a fault is reported with what explains it.
-abbrev pub AnswersExplained : (AbstractAnswer → Type 0) → (Fault → List ℕ → Type 0) → Input → Device → Device → ℕ → Type 0
+abbrev pub AnswersExplained : (AbstractAnswer → Type 0) → (Fault → List ℕ → Type 0) → Input → Device → Device → ℕ
+    → Type 0
 AnswersExplained IsAnswer IsFault input out err status =
     IsUnread input
     × (((a : AbstractAnswer) × IsAnswer a × Writes a.out a.status out err status)
@@ -51,11 +52,14 @@ GuardsUnder p input out reports result =
 
 -- There is no policy at the path, and nothing is read, sent or reported.
 abbrev pub GuardsNone : Told → List ℕ → Fault → Input → Device → Device → Type 0
-GuardsNone told path f input out reports = IsNoPolicyAt told path f × IsUnread input × IsUntouched out × IsUntouched reports
+GuardsNone told path f input out reports =
+    IsNoPolicyAt told path f × IsUnread input × IsUntouched out × IsUntouched reports
 
--- What comes of a stream under the policy at the path, by the answer. Where there is none, nothing is read, sent or reported.
+-- What comes of a stream under the policy at the path, by the answer. Where there is none, nothing is read, sent or
+-- reported.
 abbrev pub GuardsAt : Told → List ℕ → Input → Device → Device → Result Totals Fault → Type 0
-GuardsAt told path input out reports (Ok totals) = (p : AbstractPolicy) × IsPolicyAt told path p × GuardsUnder p input out reports (Ok totals)
+GuardsAt told path input out reports (Ok totals) =
+    (p : AbstractPolicy) × IsPolicyAt told path p × GuardsUnder p input out reports (Ok totals)
 GuardsAt told path input out reports (Err (Run f)) =
     (p : AbstractPolicy) × IsPolicyAt told path p × (f ≡ OutOfMemory → ⊥) × GuardsUnder p input out reports (Err f)
 GuardsAt told path input out reports (Err BadHex) = ⊥
@@ -67,7 +71,8 @@ GuardsAt told path input out reports (Err NoMemory) = GuardsNone told path NoMem
 -- The run ended so only because a device failed, or the source was asked 2^40 times.
 abbrev pub IsDeviceFault : Fault → Input → Device → Device → Type 0
 IsDeviceFault (Run WriteFailed) input out reports = (out.failed ≡ true) ⊎ (reports.failed ≡ true)
-IsDeviceFault (Run ReadFailed) input out reports = (input.failed ≡ true) ⊎ ReadToLimit input.asked_before input.asked_after input.before input.after
+IsDeviceFault (Run ReadFailed) input out reports =
+    (input.failed ≡ true) ⊎ ReadToLimit input.asked_before input.asked_after input.before input.after
 IsDeviceFault (Run FrameTooLong) input out reports = Unit {0}
 IsDeviceFault (Run TornFrame) input out reports = Unit {0}
 IsDeviceFault (Run OutOfMemory) input out reports = Unit {0}
@@ -77,19 +82,22 @@ IsDeviceFault (Schema f) input out reports = Unit {0}
 IsDeviceFault (Policy f) input out reports = Unit {0}
 IsDeviceFault NoMemory input out reports = Unit {0}
 
--- The fault is told behind what standard error took so far; or that had failed, nothing more is told, and the status is 3.
+-- The fault is reported after what standard error took so far; or that had failed, nothing more is said, and the status
+-- is 3.
 abbrev pub TellsBehind : Option (List ℕ) → Fault → Device → ℕ → Type 0
 TellsBehind reported f err status =
     ((err.failed ≡ true) × (err.after ≡ reported) × (status ≡ 3)) ⊎ Tells f (record err { before = reported }) status
 
--- The stream is guarded to its end, with its reports on standard error, and the status is that of its totals; or there is a fault, which is told behind them.
+-- The stream is guarded to its end, with its reports on standard error, and the status is that of its totals; or there
+-- is a fault, which is reported after them.
 abbrev pub GuardsStream : Told → List ℕ → Input → Device → Device → ℕ → Type 0
 GuardsStream told path input out err status =
     ((totals : Totals) × GuardsAt told path input out err (Ok totals) × (status ≡ totals_status totals))
-    ⊎ ((f : Fault) × (reported : Option (List ℕ)) × GuardsAt told path input out (record err { after = reported }) (Err f)
+    ⊎ ((f : Fault) × (reported : Option (List ℕ))
+    × GuardsAt told path input out (record err { after = reported }) (Err f)
     × IsDeviceFault f input out err × TellsBehind reported f err status)
 
--- what is read, written and told, and the status, by the request
+-- what is read, written and reported, and the status, by the request
 abbrev pub Meets : Told → AbstractRequest → Input → Device → Device → ℕ → Type 0
 Meets told first = Answers IsFirst IsNoFirst
 Meets told (check path false) = Answers (IsChecked told path) (IsNoPolicyAt told path)
@@ -125,19 +133,22 @@ is_help code.OutOfMemory = false
 abbrev pub version_line : List ℕ
 version_line = codes "derguard " ++ version ++ codes "\n"
 
--- Help and the version go to standard output, with status 0, and what is wrong with the words is reported, with status 2. The text of help and of what is
--- wrong is that of the reader of words, which tests show.
+-- Help and the version go to standard output, with status 0, and what is wrong with the words is reported, with status
+-- 2. The text of help and of what is wrong is that of the reader of words, which tests show.
 abbrev pub ShowsKind : ErrorKind → Device → Device → ℕ → Type 0
 ShowsKind said out err status =
-    ((is_help said ≡ true) × ((text : List ℕ) × (said ≡ DisplayVersion → text ≡ version_line) × Writes text 0 out err status))
+    ((is_help said ≡ true)
+    × ((text : List ℕ) × (said ≡ DisplayVersion → text ≡ version_line) × Writes text 0 out err status))
     ⊎ ((is_help said ≡ false) × IsUntouched out × ((text : List ℕ) × TellsLine text 2 err status))
 
 -- One of these kinds is shown; or memory ran out, and that is reported.
 abbrev pub Shows : Kinds → Device → Device → ℕ → Type 0
 Shows kinds out err status =
-    ((said : ErrorKind) × IsAmong said kinds × ShowsKind said out err status) ⊎ (IsUntouched out × TellsNoMemory err status)
+    ((said : ErrorKind) × IsAmong said kinds × ShowsKind said out err status)
+    ⊎ (IsUntouched out × TellsNoMemory err status)
 
--- What comes of words after the program's name: the request that they ask for is met; or nothing is read, and help, or what is wrong with them, is shown.
+-- What comes of words after the program's name: the request that they ask for is met; or nothing is read, and help, or
+-- what is wrong with them, is shown.
 abbrev pub Programs : List Text → Told → Input → Device → Device → ℕ → Type 0
 Programs words told input out err status =
     ((request : AbstractRequest) × Asks words request × Meets told request input out err status)

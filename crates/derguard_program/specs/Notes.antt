@@ -1,4 +1,5 @@
--- What is said of a fault where it is to be explained: where it is, what is wrong and what to do. This is the table of all numbered faults of modules and policies.
+-- What is said of a fault where it is to be explained: where it is, what is wrong and what to do. This is the table of
+-- all numbered faults of modules and policies.
 use Rattle.std.specs.Prelude.{ℕ, List, Option, Some, None, codes}
 use Rattle.guard_lexer.specs.declared.fault.LexFault.{LexFault}
 use Rattle.guard_lexer.specs.declared.fault.LexFault.TheVariants as lex
@@ -40,10 +41,12 @@ abbrev pub lex_note : LexFault → AbstractNote
 lex_note (lex.BadCharacter site) =
     noted (At site) (codes "No token begins with this character, or a digit follows the number 0. Remove or mend it.")
 lex_note (lex.BadString site) =
-    noted (At site) (codes "The string that begins here has no end on its line, or a character that it may not have. Mend it.")
+    noted (At site)
+    (codes "The string that begins here has no end on its line, or a character that it may not have. Mend it.")
 lex_note (lex.OpenComment site) = noted (At site) (codes "The comment that begins here has no end. Close it with */.")
 lex_note (lex.BadHyphen site) =
-    noted (At site) (codes "A word can not end with a hyphen, and a comment begins with two. Remove the hyphen or write another.")
+    noted (At site)
+    (codes "A word can not end with a hyphen, and a comment begins with two. Remove the hyphen or write another.")
 lex_note (lex.NumberTooLarge site) =
     noted (At site) (codes "The number is above 2^128-1, the greatest that is read. Write a smaller one.")
 lex_note (lex.NotUtf8 text) = noted (Module text) (codes "The file is no text in UTF-8. Save it in that encoding.")
@@ -56,23 +59,28 @@ abbrev pub syntax_note : SyntaxFault → AbstractNote
 syntax_note (syntax.Unexpected site) =
     noted (At site) (codes "A module can not go on like this. Look at what is here and at what is missing before it.")
 syntax_note (syntax.Unsupported spelling site) =
-    noted (At site) (codes "This form of ASN.1 is not read by this guard. Write it in another form; docs/GRAMMAR.md has those.")
+    noted (At site)
+    (codes "This form of ASN.1 is not read by this guard. Write it in another form; docs/GRAMMAR.md has those.")
 syntax_note (syntax.TooDeep site) =
-    noted (At site) (codes "More than 128 types, values or sets are around this one. Give an inner one a name of its own.")
+    noted (At site)
+    (codes "More than 128 types, values or sets are around this one. Give an inner one a name of its own.")
 syntax_note syntax.OutOfMemory = noted Nowhere (codes "Memory ran out. Make more of it available.")
 
 -- a fault of names, N1 to N7
 abbrev pub name_note : NameFault → AbstractNote
 name_note (name.Duplicate site) =
-    noted (At site) (codes "The name is declared before, in this module or as the name of another. Rename one of the two.")
+    noted (At site)
+    (codes "The name is declared before, in this module or as the name of another. Rename one of the two.")
 name_note (name.Undefined site) =
-    noted (At site) (codes "The name means nothing in this module. Assign it here, or import it; look for a misspelling.")
+    noted (At site)
+    (codes "The name means nothing in this module. Assign it here, or import it; look for a misspelling.")
 name_note (name.NoModule site) =
     noted (At site) (codes "The policy lists no module of this name. Add its file to the policy, or mend the name.")
 name_note (name.NotExported site) =
     noted (At site) (codes "The module that it is imported from does not export this name. Add it to EXPORTS there.")
 name_note (name.ImportNotDefined site) =
-    noted (At site) (codes "The module that it is imported from does not assign this name. Mend the name or the module.")
+    noted (At site)
+    (codes "The module that it is imported from does not assign this name. Mend the name or the module.")
 name_note (name.Recursive site) =
     noted (At site) (codes "This definition uses itself, directly or through others. Break the circle.")
 name_note name.TooManyModules = noted ThePolicy (codes "The policy lists more than 64 modules. List fewer.")
@@ -97,7 +105,8 @@ tag_note (tag.DuplicateName site) =
 tag_note (tag.DuplicateNumber site) =
     noted (At site) (codes "Two items have this name or its number. Change one of them.")
 tag_note (tag.TooManyComponents site) =
-    noted (At site) (codes "The type has more than 64 components or alternatives. Put some of them into a type of their own.")
+    noted (At site)
+    (codes "The type has more than 64 components or alternatives. Put some of them into a type of their own.")
 tag_note (tag.TooDeep site) = noted (At site) (codes "More than 32 types are nested here. Make the nesting flatter.")
 tag_note (tag.SchemaTooLarge site) =
     noted (At site) (codes "With this one there are more than 100,000 types. Leave out what no message needs.")
@@ -108,7 +117,8 @@ tag_note tag.OutOfMemory = noted Nowhere (codes "Memory ran out. Make more of it
 -- a fault of a written value, V1 to V8
 abbrev pub value_note : ValueFault → AbstractNote
 value_note (value.WrongNotation site) =
-    noted (At site) (codes "A value of its type is not written like this, or the name stands for a value of another type.")
+    noted (At site)
+    (codes "A value of its type is not written like this, or the name stands for a value of another type.")
 value_note (value.UnknownName site) =
     noted (At site) (codes "Neither the type nor the module has this name. Mend it, or import the value.")
 value_note (value.MissingComponent site) =
@@ -122,7 +132,8 @@ value_note (value.BadCharacter site) =
 value_note (value.BadObjectId site) =
     noted (At site) (codes "No object identifier begins so. Write two arcs at least, the first of them 0, 1 or 2.")
 value_note (value.TooLarge site) =
-    noted (At site) (codes "The number, or the encoding of the value, is above the limits of this guard. Write a smaller one.")
+    noted (At site)
+    (codes "The number, or the encoding of the value, is above the limits of this guard. Write a smaller one.")
 value_note value.OutOfMemory = noted Nowhere (codes "Memory ran out. Make more of it available.")
 
 -- a fault of a constraint, C1 to C10
@@ -142,7 +153,8 @@ constraint_note (constraint.RepeatedComponent site) =
 constraint_note (constraint.TwoPresent site) =
     noted (At site) (codes "Only one alternative can be PRESENT. Remove the word at the others.")
 constraint_note (constraint.ContainedMismatch site) =
-    noted (At site) (codes "The type that is named here has another base than the constrained one. Name one of the same base.")
+    noted (At site)
+    (codes "The type that is named here has another base than the constrained one. Name one of the same base.")
 constraint_note (constraint.Value fault) = value_note fault
 constraint_note (constraint.SizeOnNamedBits site) =
     noted (At site) (codes "SIZE is not read on a BIT STRING with named bits. Remove the one or the others.")
@@ -155,21 +167,25 @@ schema_note (schema.Syntax fault) = syntax_note fault
 schema_note (schema.Name fault) = name_note fault
 schema_note (schema.Tag fault) = tag_note fault
 schema_note (schema.Clash site clash) =
-    noted (At site) (codes "Two parts in this type have one tag, so nobody could tell them apart. Give one of them another tag.")
+    noted (At site)
+    (codes "Two parts in this type have one tag, so nobody could tell them apart. Give one of them another tag.")
 schema_note (schema.Cons fault) = constraint_note fault
 schema_note (schema.Value fault) = value_note fault
 schema_note (schema.DefaultOutside site) =
     noted (At site) (codes "This value is outside its own type. Change the value, or the constraint.")
 schema_note (schema.TooLarge site) =
-    noted (At site) (codes "With this one there are more than 100,000 constraints and values. Leave out what no message needs.")
+    noted (At site)
+    (codes "With this one there are more than 100,000 constraints and values. Leave out what no message needs.")
 schema_note schema.OutOfMemory = noted Nowhere (codes "Memory ran out. Make more of it available.")
 
 -- a fault of the types of a message and its rules, B1 to B3
 abbrev pub table_note : TableFault → AbstractNote
 table_note (table.RuleTypeMismatch rule) =
-    noted ThePolicy (codes "The type of a rule has other tags or another base than its message. Derive it by constraints.")
+    noted ThePolicy
+    (codes "The type of a rule has other tags or another base than its message. Derive it by constraints.")
 table_note table.TooManyConditions =
-    noted ThePolicy (codes "The types of the message and its rules ask more than 256 things of one part. Split the message.")
+    noted ThePolicy
+    (codes "The types of the message and its rules ask more than 256 things of one part. Split the message.")
 table_note table.TooManyRules =
     noted ThePolicy (codes "The message has more than 255 rules. Join some of them by unions of types.")
 table_note table.OutOfMemory = noted Nowhere (codes "Memory ran out. Make more of it available.")
@@ -183,11 +199,13 @@ policy_note (policy.UnknownKey entry key) =
 policy_note (policy.MissingKey entry key) =
     noted ThePolicy (codes "The entry lacks this key, or something of another kind is there. Add or mend it.")
 policy_note (policy.BadName entry) =
-    noted ThePolicy (codes "A name has 1 to 63 letters, digits, hyphens, low lines and full stops. Mend that of the entry.")
+    noted ThePolicy
+    (codes "A name has 1 to 63 letters, digits, hyphens, low lines and full stops. Mend that of the entry.")
 policy_note (policy.DuplicateName entry) =
     noted ThePolicy (codes "An entry before this one has its name. Rename one of the two.")
 policy_note (policy.NoSuchType entry) =
-    noted ThePolicy (codes "No module of the name in the entry assigns its type. Mend the names, or list the file of the module.")
+    noted ThePolicy
+    (codes "No module of the name in the entry assigns its type. Mend the names, or list the file of the module.")
 policy_note (policy.NoSuchMessage entry) =
     noted ThePolicy (codes "The message of the rule is not declared. Mend the name, or declare the message.")
 policy_note (policy.BadEffect entry) =
@@ -198,9 +216,11 @@ policy_note policy.OutOfMemory = noted Nowhere (codes "Memory ran out. Make more
 -- any fault; nothing is said of a stream that failed and of want of memory
 abbrev pub note_of : Fault → Option AbstractNote
 note_of whole.BadHex =
-    Some (noted Nowhere (codes "A message is written by pairs of hexadecimal digits, 0 to 9 and a to f. Mend the digits."))
+    Some (noted Nowhere
+    (codes "A message is written by pairs of hexadecimal digits, 0 to 9 and a to f. Mend the digits."))
 note_of (whole.CannotRead file) =
-    Some (noted Nowhere (codes "Nothing can be read at this path. Module files are looked for in the folder of the policy."))
+    Some (noted Nowhere
+    (codes "Nothing can be read at this path. Module files are looked for in the folder of the policy."))
 note_of (whole.Schema fault) = Some (schema_note fault)
 note_of (whole.Policy fault) = Some (policy_note fault)
 note_of (whole.Run fault) = None

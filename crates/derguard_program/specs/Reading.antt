@@ -19,7 +19,8 @@ folder (o ∷ path) = if list_any (nat_eq 47) (o ∷ path) then o ∷ folder pat
 abbrev pub HaveTexts : Told → List ℕ → List (List ℕ) → List (List ℕ) → Type 0
 HaveTexts told beside [] texts = texts ≡ []
 HaveTexts told beside (name ∷ names) texts =
-    (text : List ℕ) × (others : List (List ℕ)) × HasText told (beside ++ name) text × HaveTexts (after_read told) beside names others × (texts ≡ text ∷ others)
+    (text : List ℕ) × (others : List (List ℕ)) × HasText told (beside ++ name) text
+    × HaveTexts (after_read told) beside names others × (texts ≡ text ∷ others)
 
 -- the path of the first of these names at which nothing can be read
 abbrev pub FirstMissing : Told → List ℕ → List (List ℕ) → List ℕ → Type 0
@@ -31,17 +32,22 @@ FirstMissing told beside (name ∷ names) path =
 -- the policy at the path has this text, and then the modules that it lists, beside it, have these
 abbrev pub AreTexts : Told → List ℕ → List ℕ → List (List ℕ) → Type 0
 AreTexts told path text modules =
-    HasText told path text × ((files : List (List ℕ)) × ListsFiles text files × HaveTexts (after_read told) (folder path) files modules)
+    HasText told path text
+    × ((files : List (List ℕ)) × ListsFiles text files × HaveTexts (after_read told) (folder path) files modules)
 
 -- nothing can be read at one of the modules that the policy at the path lists, and this is its path
 abbrev pub LacksModule : Told → List ℕ → List ℕ → Type 0
 LacksModule told path file =
-    (text : List ℕ) × (files : List (List ℕ)) × HasText told path text × ListsFiles text files × FirstMissing (after_read told) (folder path) files file
+    (text : List ℕ) × (files : List (List ℕ)) × HasText told path text × ListsFiles text files
+    × FirstMissing (after_read told) (folder path) files file
 
--- Why there are no such texts, the first of these: nothing can be read at the path; the text there lists no modules; nothing can be read at one of them.
+-- Why there are no such texts, the first of these: nothing can be read at the path; the text there lists no modules;
+-- nothing can be read at one of them.
 abbrev pub AreMissing : Told → List ℕ → Fault → Type 0
-AreMissing told path (CannotRead file) = (HasNone told path × (string_bytes file ≡ path)) ⊎ LacksModule told path (string_bytes file)
-AreMissing told path (Policy f) = (text : List ℕ) × HasText told path text × IsSomeAnd (policy.named f) (ListsNoFiles text)
+AreMissing told path (CannotRead file) =
+    (HasNone told path × (string_bytes file ≡ path)) ⊎ LacksModule told path (string_bytes file)
+AreMissing told path (Policy f) =
+    (text : List ℕ) × HasText told path text × IsSomeAnd (policy.named f) (ListsNoFiles text)
 AreMissing told path BadHex = ⊥
 AreMissing told path (Schema f) = ⊥
 AreMissing told path (Run f) = ⊥
@@ -49,7 +55,8 @@ AreMissing told path NoMemory = ⊥
 
 -- the texts of the policy at the path say it
 abbrev pub IsPolicyAt : Told → List ℕ → AbstractPolicy → Type 0
-IsPolicyAt told path p = (text : List ℕ) × (modules : List (List ℕ)) × AreTexts told path text modules × SayPolicy modules text p
+IsPolicyAt told path p =
+    (text : List ℕ) × (modules : List (List ℕ)) × AreTexts told path text modules × SayPolicy modules text p
 
 -- why these texts say no policy
 abbrev pub SayNothing : List (List ℕ) → List ℕ → Fault → Type 0

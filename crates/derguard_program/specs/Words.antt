@@ -1,4 +1,5 @@
--- Which words of the command line are which request, in the terms of `clap`: its definitions say what is found in words of a command, and what is wrong with them.
+-- Which words of the command line are which request, in the terms of `clap`: its definitions say what is found in words
+-- of a command, and what is wrong with them.
 use Rattle.std.specs.Prelude.{◌≡◌, Bool, true, false, List, [], ◌∷◌, Some, codes, bytes_eq}
 use Rattle.std.specs.Option.{option_map_or}
 use Rattle.clap.specs.Words.{App, Rule, Row, Shape, Text, first_of, fault_of, new_rule, subcommand_of}
@@ -38,7 +39,8 @@ check_shape = command_shape (codes "check") (place_rule (codes "policy") ∷ fla
 -- decide POLICY --from FROM --to TO --message MESSAGE HEX [--explain]
 abbrev pub decide_shape : Shape
 decide_shape = command_shape (codes "decide")
-    (place_rule (codes "policy") ∷ option_rule (codes "from") ∷ option_rule (codes "to") ∷ option_rule (codes "message") ∷ place_rule (codes "hex") ∷ flag_rule (codes "explain") ∷ [])
+    (place_rule (codes "policy") ∷ option_rule (codes "from") ∷ option_rule (codes "to") ∷ option_rule (codes "message")
+    ∷ place_rule (codes "hex") ∷ flag_rule (codes "explain") ∷ [])
 
 -- show POLICY --message MESSAGE HEX
 abbrev pub show_shape : Shape
@@ -72,11 +74,13 @@ IsCommand name rows first = ⊥
 IsCommand name rows (check path explain) =
     (name ≡ codes "check") × (first_of (codes "policy") rows ≡ Some path) × (explain ≡ flag_of (codes "explain") rows)
 IsCommand name rows (decide path route digits explain) =
-    (name ≡ codes "decide") × (first_of (codes "policy") rows ≡ Some path) × (first_of (codes "from") rows ≡ Some route.from)
-    × (first_of (codes "to") rows ≡ Some route.to) × (first_of (codes "message") rows ≡ Some route.message) × (first_of (codes "hex") rows ≡ Some digits)
+    (name ≡ codes "decide") × (first_of (codes "policy") rows ≡ Some path)
+    × (first_of (codes "from") rows ≡ Some route.from) × (first_of (codes "to") rows ≡ Some route.to)
+    × (first_of (codes "message") rows ≡ Some route.message) × (first_of (codes "hex") rows ≡ Some digits)
     × (explain ≡ flag_of (codes "explain") rows)
 IsCommand name rows (show path message digits) =
-    (name ≡ codes "show") × (first_of (codes "policy") rows ≡ Some path) × (first_of (codes "message") rows ≡ Some message)
+    (name ≡ codes "show") × (first_of (codes "policy") rows ≡ Some path)
+    × (first_of (codes "message") rows ≡ Some message)
     × (first_of (codes "hex") rows ≡ Some digits)
 IsCommand name rows (run path) = (name ≡ codes "run") × (first_of (codes "policy") rows ≡ Some path)
 IsCommand name rows (mux path) = (name ≡ codes "mux") × (first_of (codes "policy") rows ≡ Some path)
@@ -84,4 +88,6 @@ IsCommand name rows (mux path) = (name ≡ codes "mux") × (first_of (codes "pol
 -- Nothing is wrong with the words, and the command that is found in them asks for this.
 abbrev pub Asks : List Text → AbstractRequest → Type 0
 Asks words request =
-    (fault_of the_app words ≡ []) × ((name : Text) × (rows : List Row) × (subcommand_of the_app words ≡ Some (name, rows)) × IsCommand name rows request)
+    (fault_of the_app words ≡ [])
+    × ((name : Text) × (rows : List Row) × (subcommand_of the_app words ≡ Some (name, rows))
+    × IsCommand name rows request)

@@ -12,9 +12,10 @@ TookAll octets sink = Appends sink.before sink.after octets
 
 -- it took a part of them, and failed
 abbrev pub TookPart : List ℕ → Device → Type 0
-TookPart octets sink = (part : List ℕ) × IsProperPrefix part octets × Appends sink.before sink.after part × (sink.failed ≡ true)
+TookPart octets sink =
+    (part : List ℕ) × IsProperPrefix part octets × Appends sink.before sink.after part × (sink.failed ≡ true)
 
--- a text behind `derguard: `, and a line feed
+-- a text after `derguard: `, and a line feed
 abbrev pub line_of : List ℕ → List ℕ
 line_of text = codes "derguard: " ++ text ++ codes "\n"
 
@@ -25,25 +26,27 @@ TellsOctets octets status err result = (TookAll octets err × (result ≡ status
 abbrev pub TellsLine : List ℕ → ℕ → Device → ℕ → Type 0
 TellsLine text = TellsOctets (line_of text)
 
--- there was no memory to tell anything else
+-- there was no memory to say anything else
 abbrev pub TellsNoMemory : Device → ℕ → Type 0
 TellsNoMemory err result = TellsLine (codes "no-memory") 3 err result
 
--- what is told of a fault, and the status; or that there was no memory to tell it
+-- what is reported of a fault, and the status; or that there was no memory to say it
 abbrev pub IsFaultLine : Fault → List ℕ → ℕ → Type 0
 IsFaultLine f line status =
     ((text : List ℕ) × IsText f text × (line ≡ line_of text) × (status ≡ fault_status f))
     ⊎ ((line ≡ line_of (codes "no-memory")) × (status ≡ 3))
 
--- a text is told, with this status
+-- a text is reported, with this status
 abbrev pub TellsText : List ℕ → ℕ → Device → ℕ → Type 0
 TellsText text status err result = TellsLine text status err result ⊎ TellsNoMemory err result
 
--- a fault is told, with its status
+-- a fault is reported, with its status
 abbrev pub Tells : Fault → Device → ℕ → Type 0
-Tells f err result = ((text : List ℕ) × IsText f text × TellsLine text (fault_status f) err result) ⊎ TellsNoMemory err result
+Tells f err result =
+    ((text : List ℕ) × IsText f text × TellsLine text (fault_status f) err result) ⊎ TellsNoMemory err result
 
--- The octets go to standard output, and the status is this one; or it failed, which is told, and the status is 3.
+-- The octets go to standard output, and the status is this one; or it failed, which is reported, and the status is 3.
 abbrev pub Writes : List ℕ → ℕ → Device → Device → ℕ → Type 0
 Writes octets status out err result =
-    (TookAll octets out × IsUntouched err × (result ≡ status)) ⊎ (TookPart octets out × TellsLine (codes "F2 WriteFailed") 3 err result)
+    (TookAll octets out × IsUntouched err × (result ≡ status))
+    ⊎ (TookPart octets out × TellsLine (codes "F2 WriteFailed") 3 err result)

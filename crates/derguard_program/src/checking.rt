@@ -69,8 +69,8 @@ fn counts(alloc: Global, policy: &Policy) -> Result<Vec<u8>, AllocError>
 
 /// The policy at the path, over the modules that it lists.
 ///
-/// Faults are looked for in this order, and the first is answered: the policy's file, its top, the files of the modules in listed order, the modules, the
-/// policy over them. NoMemory may stand in place of any answer.
+/// Faults are looked for in this order, and the first is answered: the policy's file, its top, the files of the modules
+/// in listed order, the modules, the policy over them. NoMemory may come in place of any answer.
 pub fn load<F: Files>(alloc: Global, path: &str, files: &mut F) -> Result<Policy, Fault>
     ensures there { IfOk result (λ p. IsPolicyAt (F.told files.old) path.now (policy_view p)) }
     ensures none { IfErr result (IsNoPolicyAt (F.told files.old) path.now) }
@@ -96,7 +96,8 @@ pub fn load_explained<F: Files>(alloc: Global, path: &str, files: &mut F) -> Res
 pub fn said_explained(alloc: Global, path: &str, texts: &Texts) -> Result<Policy, Refusal>
     ensures there { IfOk result (λ p. SayPolicy (map (λ text. text.items) texts.now.modules.items) texts.now.policy.items (policy_view p)) }
     ensures none { IfErr result (λ r. (SayNothing (map (λ text. text.items) texts.now.modules.items) texts.now.policy.items r.fault
-        × (string_bytes r.note ≡ explanation (sources path.now (map string_bytes texts.now.files.items) (map (λ text. text.items) texts.now.modules.items)) r.fault))
+        × (string_bytes r.note ≡ explanation (sources path.now (map string_bytes texts.now.files.items)
+        (map (λ text. text.items) texts.now.modules.items)) r.fault))
         ⊎ ((r.fault ≡ NoMemory) × (string_bytes r.note ≡ []))) }
 {
     match said_by(alloc, texts) {

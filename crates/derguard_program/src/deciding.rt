@@ -25,7 +25,8 @@ use guard_report::verdict_text;
 use hex::FromHexError;
 use std::alloc::Global;
 
-/// The text of the verdict on the message, under the policy at its path; or why it isn't decided. Bad digits come before all that is wrong with the policy.
+/// The text of the verdict on the message, under the policy at its path; or why it isn't decided. Bad digits come
+/// before all that is wrong with the policy.
 pub fn decide<F: Files>(alloc: Global, message: &Message, files: &mut F) -> Result<Answer, Fault>
     ensures decided { IfOk result (λ a. IsDecided (F.told files.old) message.now.policy.now (message_route message.now) message.now.hex.now (answer_view a)) }
     ensures undecided { IfErr result (IsUndecided (F.told files.old) message.now.policy.now message.now.hex.now) }
@@ -81,7 +82,8 @@ fn decide_over(
     ensures decided { IfOk result (λ a. IsExplainedOver (sources message.now.policy.now (map string_bytes texts.now.files.items) (map (λ text. text.items) texts.now.modules.items))
         texts.now.policy.items (message_route message.now) octets.now (answer_view a)) }
     ensures undecided { IfErr result (λ r. (SayNothing (map (λ text. text.items) texts.now.modules.items) texts.now.policy.items r.fault
-        × (string_bytes r.note ≡ explanation (sources message.now.policy.now (map string_bytes texts.now.files.items) (map (λ text. text.items) texts.now.modules.items)) r.fault))
+        × (string_bytes r.note ≡ explanation (sources message.now.policy.now (map string_bytes texts.now.files.items)
+        (map (λ text. text.items) texts.now.modules.items)) r.fault))
         ⊎ ((r.fault ≡ NoMemory) × (string_bytes r.note ≡ []))) }
 {
     let policy = said_explained(alloc, message.policy, texts)?;

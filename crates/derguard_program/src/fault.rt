@@ -1,4 +1,4 @@
-//! Why a request isn't met. Each fault is told behind `derguard: `.
+//! Why a request isn't met. Each fault is reported after `derguard: `.
 ghost use Rattle.std.specs.Prelude.{◌≡◌, IfOk, string_bytes};
 ghost use Rattle.derguard_program.specs.Faults.{fault_status, IsText, StandsForPolicy, of_texts};
 ghost use Rattle.derguard_program.specs.declared.fault.Fault.TheVariants as fault;
@@ -9,7 +9,7 @@ use guard_policy::PolicyFault;
 use guard_schema::SchemaFault;
 use std::alloc::{AllocError, AllocFailed, Global};
 
-/// Why a request isn't met. NoMemory may stand in place of any answer, and no other variant stands for it.
+/// Why a request isn't met. NoMemory may come in place of any answer, and no other variant means it.
 #[derive(Debug, Drop)]
 pub enum Fault {
     /// The hexadecimal digits write no octets.
@@ -26,7 +26,8 @@ pub enum Fault {
 }
 
 impl Fault {
-    /// The status with which the program ends: 2 where digits, a file, modules or a policy are bad, 3 where a stream or a device failed or memory ran out.
+    /// The status with which the program ends: 2 where digits, a file, modules or a policy are bad, 3 where a stream or
+    /// a device failed or memory ran out.
     pub fn status(&self) -> u8
         ensures { result ≡ fault_status self.now }
     {
@@ -36,7 +37,7 @@ impl Fault {
         }
     }
 
-    /// What is told of it. A fault of a layer prints as itself.
+    /// What is reported of it. A fault of a layer prints as itself.
     pub fn text(&self, alloc: Global) -> Result<String, AllocError>
         ensures { IfOk result (λ text. IsText self.now (string_bytes text)) }
     {

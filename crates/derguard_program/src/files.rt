@@ -25,10 +25,11 @@ impl From<AllocError> for FilesFault {
 
 /// Files by their paths.
 pub trait Files {
-    // what each read to come finds at a path, where that is told: of a disk it isn't
+    // what each read to come finds at a path, where that is known: of a disk it isn't
     ghost told: { Self → Told };
 
-    /// The text that is at this path now. It may be another one at the next read. OutOfMemory may stand in place of any answer.
+    /// The text that is at this path now. It may be another one at the next read. OutOfMemory may come in place of any
+    /// answer.
     fn read(&mut self, alloc: Global, path: &str) -> Result<Vec<u8>, FilesFault>
         ensures text { IfOk result (λ text. HasText (told self.old) path.now text.items) }
         ensures nothing { IfErr result (λ f. f ≡ CannotRead → HasNone (told self.old) path.now) }

@@ -23,8 +23,8 @@ const POLICY: &str =
 
 /// The lines for the four messages, with status 0.
 ///
-/// It refuses with Schema or Policy where the texts that are built in have a fault, which the run without words shows that they haven't. NoMemory may
-/// stand in place of any answer.
+/// It refuses with Schema or Policy where the texts that are built in have a fault, which the run without words shows
+/// that they haven't. NoMemory may come in place of any answer.
 pub fn first_run(alloc: Global) -> Result<Answer, Fault>
     ensures first { IfOk result (λ a. IsFirst (answer_view a)) }
     ensures none { IfErr result IsNoFirst }

@@ -10,8 +10,9 @@ use crate::texts::Texts;
 use guard_frames::{Sink, Source, Totals, run_texts};
 use std::alloc::Global;
 
-/// Guards the stream under the policy at the path, with its reports on standard error, and answers the status: 0 where all frames passed, 1 where one
-/// didn't, 2 where there is no policy, 3 where the stream or a device failed. A fault is told behind the reports.
+/// Guards the stream under the policy at the path, with its reports on standard error, and answers the status: 0 where
+/// all frames passed, 1 where one didn't, 2 where there is no policy, 3 where the stream or a device failed. A fault is
+/// said after the reports.
 pub fn run<F: Files, S: Source, O: Sink, E: Sink>(
     alloc: Global,
     path: &str,
@@ -21,11 +22,12 @@ pub fn run<F: Files, S: Source, O: Sink, E: Sink>(
     err: &mut E,
 ) -> u8
     ensures { GuardsStream (F.told files.old) path.now (input_of (S.tells input.old) (S.tells input.new) (S.takes input.old) (S.takes input.new) (S.has_failed input.new))
-        (device (O.taken out.old) (O.taken out.new) (O.has_failed out.new)) (device (E.taken err.old) (E.taken err.new) (E.has_failed err.new)) result }
+        (device (O.taken out.old) (O.taken out.new) (O.has_failed out.new))
+        (device (E.taken err.old) (E.taken err.new) (E.has_failed err.new)) result }
 {
     match guard(alloc, path, files, input, out, err) {
         Ok(totals) => status_of(totals),
-        // Standard error took its last line in part: there is no place to tell anything.
+        // Standard error took its last line in part: there is no place to say anything.
         Err(_) if err.failed() => FAILED,
         Err(fault) => tell(alloc, &fault, err),
     }
@@ -41,9 +43,11 @@ fn guard<F: Files, S: Source, O: Sink, E: Sink>(
     reports: &mut E,
 ) -> Result<Totals, Fault>
     ensures guards { GuardsAt (F.told files.old) path.now (input_of (S.tells input.old) (S.tells input.new) (S.takes input.old) (S.takes input.new) (S.has_failed input.new))
-        (device (O.taken out.old) (O.taken out.new) (O.has_failed out.new)) (device (E.taken reports.old) (E.taken reports.new) (E.has_failed reports.new)) result }
+        (device (O.taken out.old) (O.taken out.new) (O.has_failed out.new))
+        (device (E.taken reports.old) (E.taken reports.new) (E.has_failed reports.new)) result }
     ensures devices { IfErr result (λ f. IsDeviceFault f (input_of (S.tells input.old) (S.tells input.new) (S.takes input.old) (S.takes input.new) (S.has_failed input.new))
-        (device (O.taken out.old) (O.taken out.new) (O.has_failed out.new)) (device (E.taken reports.old) (E.taken reports.new) (E.has_failed reports.new))) }
+        (device (O.taken out.old) (O.taken out.new) (O.has_failed out.new))
+        (device (E.taken reports.old) (E.taken reports.new) (E.has_failed reports.new))) }
 {
     let texts = Texts::read(alloc, path, files)?;
     let modules = texts.module_slices(alloc)?;

@@ -1,24 +1,28 @@
-//! The program over any files, source and sinks: decides messages by a policy, lets through a stream what the policy allows, and says why it stops the rest.
+//! The program over any files, source and sinks: decides messages by a policy, lets through a stream what the policy
+//! allows, and says why it stops the rest.
 //!
 //! | question | code | definition |
 //! |---|---|---|
-//! | Which words are which request? Is it one? Is a stream of records read in one way? | `words.rt`, `laws.rt` | `specs/Words.antt`; a request is a value of `Request` (`request.rt`, `specs/Requests.antt`) |
+//! | What is a request? | `request.rt` (`Request`) | `specs/Requests.antt` |
+//! | Which words are which request? Is it one? | `words.rt`, `laws.rt` | `specs/Words.antt` |
+//! | Is a stream of records read in one way? | `laws.rt` | `specs/Records.antt` |
 //! | What is it to meet a request? | `meeting.rt` (`program`, `meet`) | `specs/Meeting.antt` |
-//! | What is answered to `check` and `decide`, and which fault stands? | `checking.rt`, `deciding.rt`, `answer.rt` | `specs/Answers.antt` |
+//! | What is answered to `check` and `decide`? | `checking.rt`, `deciding.rt`, `answer.rt` | `specs/Answers.antt` |
 //! | What comes of many links in one stream of records? | `muxing.rt` | `specs/Muxing.antt` (`GuardsLinks`) |
-//! | What does one record do, and what is written of it? | `links.rt`, `sinks.rt` | `specs/Turns.antt` (`Happens`), `specs/inside/Doing.antt` |
-//! | What is a record, and how are its octets read? | `records.rt` | `specs/Records.antt`, `specs/inside/Headers.antt` |
+//! | What does one record do and write? | `links.rt`, `sinks.rt` | `specs/Turns.antt`, `specs/inside/Doing.antt` |
+//! | What is a record, and how is it read? | `records.rt` | `specs/Records.antt`, `specs/inside/Headers.antt` |
 //! | What goes out of a link, and how are its lines marked? | `passing.rt` | `specs/Passing.antt` |
 //! | What comes of a stream? | `guarding.rt` | `specs/Meeting.antt` (`GuardsStream`) |
 //! | Which texts does a policy at a path need? | `texts.rt`, `files.rt` | `specs/Reading.antt`, `specs/Files.antt` |
-//! | What is shown of a fault where it is to be explained, and of which texts? | `explaining.rt` | `specs/Explaining.antt` |
+//! | What is shown of a fault where it is to be explained? | `explaining.rt` | `specs/Explaining.antt` |
 //! | What is said of each numbered fault? | `notes.rt` | `specs/Notes.antt` |
 //! | What is listed of a policy that is accepted? | `listing.rt` | `specs/Listing.antt` |
 //! | What is shown of a message? | `values.rt` | `specs/Shown.antt` |
 //! | What is shown below a verdict where it is to be explained? | `reasons.rt` | `specs/Reasons.antt` |
 //! | How is a line shown with a mark under a column? | `marking.rt` | `specs/Marking.antt` |
-//! | What is told of a fault, and which status is it? | `fault.rt`, `outputs.rt` | `specs/Faults.antt`, `specs/Writing.antt` |
-//! | Which policy is built in, and what is printed for its messages? | `first_run.rt` | `specs/FirstRun.antt`, `specs/Printing.antt` |
+//! | Which line and status has a fault? | `fault.rt`, `outputs.rt` | `specs/Faults.antt`, `specs/Writing.antt` |
+//! | Which policy is built in? | `first_run.rt` | `specs/FirstRun.antt` |
+//! | What is printed for its messages? | `first_run.rt` | `specs/Printing.antt` |
 #![tactic(auto)]
 
 mod answer;

@@ -71,7 +71,8 @@ impl Links {
         ensures done { OnOk result ((path : List ℕ) (told : Told) → IsTaken path told self.old (piece link octets.now) told self.new
             (O.taken out.old, O.taken out.new) (E.taken err.old, E.taken err.new)) }
         ensures cut { IfErr result (λ s. (path : List ℕ) (told : Told) → IsCut s path (mux_of told self.old) (piece link octets.now)
-            (device (O.taken out.old) (O.taken out.new) (O.has_failed out.new)) (device (E.taken err.old) (E.taken err.new) (E.has_failed err.new))) }
+            (device (O.taken out.old) (O.taken out.new) (O.has_failed out.new))
+            (device (E.taken err.old) (E.taken err.new) (E.has_failed err.new))) }
     {
         let answer = feed_link(&mut self.gateway, alloc, link, octets);
         let is_reported = pass_on(&mut self.gateway, link, out, err)?;
@@ -86,7 +87,8 @@ impl Links {
         ensures done { OnOk result ((path : List ℕ) (told : Told) (out : Option (List ℕ)) →
             IsTaken path told self.old (end link) told self.new (out, out) (E.taken err.old, E.taken err.new)) }
         ensures cut { IfErr result (λ s. (path : List ℕ) (told : Told) (out : Option (List ℕ)) (failed : Bool) →
-            IsCut s path (mux_of told self.old) (end link) (device out out failed) (device (E.taken err.old) (E.taken err.new) (E.has_failed err.new))) }
+            IsCut s path (mux_of told self.old) (end link) (device out out failed)
+            (device (E.taken err.old) (E.taken err.new) (E.has_failed err.new))) }
     {
         let answer = end_link(&mut self.gateway, alloc, link);
         self.tell_answer(link, answer, err)
@@ -98,7 +100,8 @@ impl Links {
         ensures done { OnOk result ((path : List ℕ) (told : Told) →
             AreEnded path told self.old self.new (E.taken err.old, E.taken err.new)) }
         ensures cut { IfErr result (λ s. (s ≡ ErrorFailed) × ((path : List ℕ) (told : Told) (out : Option (List ℕ)) (failed : Bool) →
-            IsEndCut path told self.old (device out out failed) (device (E.taken err.old) (E.taken err.new) (E.has_failed err.new)))) }
+            IsEndCut path told self.old (device out out failed)
+            (device (E.taken err.old) (E.taken err.new) (E.has_failed err.new)))) }
     {
         for link in 0..LINKS {
             self.end_unless_ended(alloc, link, err)?;
@@ -119,7 +122,8 @@ impl Links {
             ⊎ (Is false link self.old × ((path : List ℕ) (told : Told) (out : Option (List ℕ)) →
             IsTaken path told self.old (end link) told self.new (out, out) (E.taken err.old, E.taken err.new)))) }
         ensures cut { IfErr result (λ s. (s ≡ ErrorFailed) × Is false link self.old
-            × ((path : List ℕ) (told : Told) (out : Option (List ℕ)) (failed : Bool) → WritesPart path (mux_of told self.old) (end link) []
+            × ((path : List ℕ) (told : Told) (out : Option (List ℕ)) (failed : Bool)
+            → WritesPart path (mux_of told self.old) (end link) []
             (device out out failed) (device (E.taken err.old) (E.taken err.new) (E.has_failed err.new)) BreaksErr)) }
     {
         let answer = end_link(&mut self.gateway, alloc, link);

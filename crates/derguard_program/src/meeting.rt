@@ -26,12 +26,13 @@ use clap::error::ErrorKind;
 use guard_frames::{Sink, Source};
 use std::alloc::{AllocError, Global};
 
-/// Does what the words ask for, the first of which is the program's name, and answers the status: 0 where all passed, the policy is accepted or help was
-/// asked for; 1 where something was denied; 2 for bad words, hexadecimal digits, a bad policy, bad modules or a file that can't be read; 3 where the stream or a
-/// device failed, or memory ran out. What is at fault is told on standard error, behind `derguard: `.
+/// Does what the words ask for, the first of which is the program's name, and answers the status: 0 where all passed,
+/// the policy is accepted or help was asked for; 1 where something was denied; 2 for bad words, hexadecimal digits, a
+/// bad policy, bad modules or a file that can't be read; 3 where the stream or a device failed, or memory ran out. What
+/// is at fault is reported on standard error, after `derguard: `.
 ///
-/// Faults are looked for in this order: the words, the hexadecimal digits, the policy's file and its top, the files of the modules in listed order, the
-/// modules, the policy, the stream.
+/// Faults are looked for in this order: the words, the hexadecimal digits, the policy's file and its top, the files of
+/// the modules in listed order, the modules, the policy, the stream.
 pub fn program<F: Files, S: Source, O: Sink, E: Sink>(
     alloc: Global,
     words: &[&str],
@@ -41,10 +42,12 @@ pub fn program<F: Files, S: Source, O: Sink, E: Sink>(
     err: &mut E,
 ) -> u8
     ensures words { 2 ≤ length words.now → Programs (map (λ w. w.now) words.now) (F.told files.old) (input_of (S.tells input.old) (S.tells input.new) (S.takes input.old) (S.takes input.new) (S.has_failed input.new))
-        (device (O.taken out.old) (O.taken out.new) (O.has_failed out.new)) (device (E.taken err.old) (E.taken err.new) (E.has_failed err.new)) result }
-    // Without words behind the program's name it decides the messages that are built in.
+        (device (O.taken out.old) (O.taken out.new) (O.has_failed out.new))
+        (device (E.taken err.old) (E.taken err.new) (E.has_failed err.new)) result }
+    // Without words after the program's name it decides the messages that are built in.
     ensures alone { length words.now ≤ 1 → Meets (F.told files.old) first (input_of (S.tells input.old) (S.tells input.new) (S.takes input.old) (S.takes input.new) (S.has_failed input.new))
-        (device (O.taken out.old) (O.taken out.new) (O.has_failed out.new)) (device (E.taken err.old) (E.taken err.new) (E.has_failed err.new)) result }
+        (device (O.taken out.old) (O.taken out.new) (O.has_failed out.new))
+        (device (E.taken err.old) (E.taken err.new) (E.has_failed err.new)) result }
 {
     if words.len() <= 1 {
         return meet(alloc, &Request::First, files, input, out, err);
@@ -65,7 +68,8 @@ pub fn meet<F: Files, S: Source, O: Sink, E: Sink>(
     err: &mut E,
 ) -> u8
     ensures { Meets (F.told files.old) (request_view request.now) (input_of (S.tells input.old) (S.tells input.new) (S.takes input.old) (S.takes input.new) (S.has_failed input.new))
-        (device (O.taken out.old) (O.taken out.new) (O.has_failed out.new)) (device (E.taken err.old) (E.taken err.new) (E.has_failed err.new)) result }
+        (device (O.taken out.old) (O.taken out.new) (O.has_failed out.new))
+        (device (E.taken err.old) (E.taken err.new) (E.has_failed err.new)) result }
 {
     match request {
         Request::First => give(alloc, first_run(alloc), out, err),
@@ -98,7 +102,7 @@ pub fn meet<F: Files, S: Source, O: Sink, E: Sink>(
     }
 }
 
-/// Writes the answer, or tells the fault.
+/// Writes the answer, or reports the fault.
 fn give<O: Sink, E: Sink>(
     alloc: Global,
     found: Result<Answer, Fault>,
@@ -115,7 +119,7 @@ fn give<O: Sink, E: Sink>(
     }
 }
 
-/// Writes the answer, or tells the fault with what explains it.
+/// Writes the answer, or reports the fault with what explains it.
 fn give_explained<O: Sink, E: Sink>(
     alloc: Global,
     found: Result<Answer, Refusal>,
@@ -125,7 +129,8 @@ fn give_explained<O: Sink, E: Sink>(
     ensures written { IfOk found (λ a. Writes a.out.items a.status (device (O.taken out.old) (O.taken out.new) (O.has_failed out.new))
         (device (E.taken err.old) (E.taken err.new) (E.has_failed err.new)) result) }
     ensures told { IfErr found (λ r. (O.taken out.new ≡ O.taken out.old)
-        × TellsWith r.fault (string_bytes r.note) (device (E.taken err.old) (E.taken err.new) (E.has_failed err.new)) result) }
+        × TellsWith r.fault (string_bytes r.note) (device (E.taken err.old) (E.taken err.new) (E.has_failed err.new))
+        result) }
 {
     match found {
         Ok(answer) => write(&answer.out, answer.status, out, err),
@@ -133,7 +138,8 @@ fn give_explained<O: Sink, E: Sink>(
     }
 }
 
-/// Shows what `clap` says of the words: help and the version on standard output, with status 0, and what is wrong with them on standard error, with status 2.
+/// Shows what `clap` says of the words: help and the version on standard output, with status 0, and what is wrong with
+/// them on standard error, with status 2.
 fn show<O: Sink, E: Sink>(alloc: Global, said: &Error, out: &mut O, err: &mut E) -> u8
     ensures shown { Shows (kind_of said.now ∷ []) (device (O.taken out.old) (O.taken out.new) (O.has_failed out.new))
         (device (E.taken err.old) (E.taken err.new) (E.has_failed err.new)) result }

@@ -29,7 +29,8 @@ pub fn mux<F: Files, S: Source, O: Sink, E: Sink>(
     err: &mut E,
 ) -> u8
     ensures { GuardsLinks (F.told files.old) path.now (input_of (S.tells input.old) (S.tells input.new) (S.takes input.old) (S.takes input.new) (S.has_failed input.new))
-        (device (O.taken out.old) (O.taken out.new) (O.has_failed out.new)) (device (E.taken err.old) (E.taken err.new) (E.has_failed err.new)) result }
+        (device (O.taken out.old) (O.taken out.new) (O.has_failed out.new))
+        (device (E.taken err.old) (E.taken err.new) (E.has_failed err.new)) result }
 {
     let policy = match load(alloc, path, files) {
         Ok(policy) => policy,
@@ -85,11 +86,15 @@ fn guard<F: Files, S: Source, O: Sink, E: Sink>(
     requires ready { IsReady links.old.gateway }
     requires first { links.old.status ≡ 0 }
     ensures done { OnOk result (Finishes path.now (mux_of (F.told files.old) links.old)
-        (input_of (S.tells input.old) (S.tells input.new) (S.takes input.old) (S.takes input.new) (S.has_failed input.new))
-        (device (O.taken out.old) (O.taken out.new) (O.has_failed out.new)) (device (E.taken err.old) (E.taken err.new) (E.has_failed err.new)) links.new.status) }
+        (input_of (S.tells input.old) (S.tells input.new) (S.takes input.old) (S.takes input.new)
+        (S.has_failed input.new))
+        (device (O.taken out.old) (O.taken out.new) (O.has_failed out.new))
+        (device (E.taken err.old) (E.taken err.new) (E.has_failed err.new)) links.new.status) }
     ensures stops { IfErr result (λ s. Stops s path.now (mux_of (F.told files.old) links.old)
-        (input_of (S.tells input.old) (S.tells input.new) (S.takes input.old) (S.takes input.new) (S.has_failed input.new))
-        (device (O.taken out.old) (O.taken out.new) (O.has_failed out.new)) (device (E.taken err.old) (E.taken err.new) (E.has_failed err.new))) }
+        (input_of (S.tells input.old) (S.tells input.new) (S.takes input.old) (S.takes input.new)
+        (S.has_failed input.new))
+        (device (O.taken out.old) (O.taken out.new) (O.has_failed out.new))
+        (device (E.taken err.old) (E.taken err.new) (E.has_failed err.new))) }
 {
     let mut reads = MOST_READS;
     for _ in 0..MOST_READS {
@@ -118,7 +123,8 @@ fn take_record<F: Files, O: Sink, E: Sink>(
     ensures done { OnOk result (IsTaken path.now (F.told files.old) links.old (record_of header room.now) (F.told files.new) links.new
         (O.taken out.old, O.taken out.new) (E.taken err.old, E.taken err.new)) }
     ensures cut { IfErr result (λ s. IsCut s path.now (mux_of (F.told files.old) links.old) (record_of header room.now)
-        (device (O.taken out.old) (O.taken out.new) (O.has_failed out.new)) (device (E.taken err.old) (E.taken err.new) (E.has_failed err.new))) }
+        (device (O.taken out.old) (O.taken out.new) (O.has_failed out.new))
+        (device (E.taken err.old) (E.taken err.new) (E.has_failed err.new))) }
 {
     match header {
         Header::Piece(link, size) => links.piece(alloc, link, &room[..size], out, err),

@@ -11,7 +11,7 @@ use crate::fault::Fault;
 use guard_frames::{Failed, Sink, put_all};
 use std::alloc::{AllocError, Global};
 
-/// What is told where there is no memory to say anything else.
+/// What is reported where there is no memory to say anything else.
 const NO_MEMORY: &[u8] = b"derguard: no-memory\n";
 
 const WRITE_FAILED: &[u8] = b"derguard: F2 WriteFailed\n";
@@ -23,7 +23,8 @@ const BAD_RECORD: &[u8] = b"derguard: bad record\n";
 /// The status where a stream or a device failed, or memory ran out.
 pub const FAILED: u8 = 3;
 
-/// Writes the octets to standard output, and answers the status. Where standard output fails, that is told, and the status is 3.
+/// Writes the octets to standard output, and answers the status. Where standard output fails, that is reported, and the
+/// status is 3.
 pub fn write<O: Sink, E: Sink>(octets: &[u8], status: u8, out: &mut O, err: &mut E) -> u8
     ensures { Writes octets.now status (device (O.taken out.old) (O.taken out.new) (O.has_failed out.new))
         (device (E.taken err.old) (E.taken err.new) (E.has_failed err.new)) result }
@@ -34,7 +35,8 @@ pub fn write<O: Sink, E: Sink>(octets: &[u8], status: u8, out: &mut O, err: &mut
     }
 }
 
-/// Tells a fault behind `derguard: `, and answers its status. Where standard error fails, nothing more is written, and the status is 3.
+/// Reports a fault after `derguard: `, and answers its status. Where standard error fails, nothing more is written, and
+/// the status is 3.
 pub fn tell<E: Sink>(alloc: Global, fault: &Fault, err: &mut E) -> u8
     ensures { Tells fault.now (device (E.taken err.old) (E.taken err.new) (E.has_failed err.new)) result }
 {
@@ -44,7 +46,8 @@ pub fn tell<E: Sink>(alloc: Global, fault: &Fault, err: &mut E) -> u8
     }
 }
 
-/// Tells a fault behind `derguard: `, and answers its status, or 3 where there was no memory to tell it. It fails where standard error does.
+/// Reports a fault after `derguard: `, and answers its status, or 3 where there was no memory to say it. It fails where
+/// standard error does.
 pub fn report<E: Sink>(alloc: Global, fault: &Fault, err: &mut E) -> Result<u8, Failed>
     ensures all { IfOk result (λ status. (line : List ℕ) × IsFaultLine fault.now line status
         × Appends (E.taken err.old) (E.taken err.new) line) }
@@ -84,7 +87,7 @@ fn fault_line(alloc: Global, fault: &Fault) -> Result<String, AllocError>
     line(alloc, &text)
 }
 
-/// Tells a text behind `derguard: `, with this status.
+/// Reports a text after `derguard: `, with this status.
 pub fn tell_text<E: Sink>(alloc: Global, text: &str, status: u8, err: &mut E) -> u8
     ensures { TellsText text.now status (device (E.taken err.old) (E.taken err.new) (E.has_failed err.new)) result }
 {

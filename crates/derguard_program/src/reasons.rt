@@ -110,7 +110,8 @@ fn value_of<'a>(
     octets: &[u8],
 ) -> Result<(&'a Ty, Value), OutOfMemory>
     ensures { IfOk result (λ p. (declared_type (policy_view policy.now) message.now ≡ Some (type_view p.0.now))
-        × IsTrue (fits (type_view p.0.now) (value_view p.1)) × (der (type_view p.0.now) (value_view p.1) ≡ Some octets.now)) }
+        × IsTrue (fits (type_view p.0.now) (value_view p.1))
+        × (der (type_view p.0.now) (value_view p.1) ≡ Some octets.now)) }
 {
     let Some(ty) = policy.declared(message) else {
         return Err(OutOfMemory);

@@ -80,10 +80,12 @@ pub fn pass_on<O: Sink, E: Sink>(
     err: &mut E,
 ) -> Result<bool, Stop>
     ensures done { IfOk result (λ any. (ends : Ends Kept) → slice_get (gateway_ends gateway.old) link ≡ Some ends →
-        ArePassed link ends gateway.old gateway.new (O.taken out.old, O.taken out.new) (E.taken err.old, E.taken err.new)
+        ArePassed link ends gateway.old gateway.new (O.taken out.old, O.taken out.new)
+        (E.taken err.old, E.taken err.new)
         × (any ≡ not (nat_eq (length (kept_octets ends.reports)) 0))) }
     ensures cut { IfErr result (λ s. (ends : Ends Kept) → slice_get (gateway_ends gateway.old) link ≡ Some ends → AreCut s link ends
-        (device (O.taken out.old) (O.taken out.new) (O.has_failed out.new)) (device (E.taken err.old) (E.taken err.new) (E.has_failed err.new))) }
+        (device (O.taken out.old) (O.taken out.new) (O.has_failed out.new))
+        (device (E.taken err.old) (E.taken err.new) (E.has_failed err.new))) }
 {
     let Some(ends) = gateway.ends_mut(link) else {
         return Ok(false);

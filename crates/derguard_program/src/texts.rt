@@ -21,7 +21,8 @@ pub struct Texts {
 impl Texts {
     /// Reads the policy at this path, and then each module that it lists, beside it.
     ///
-    /// It refuses with CannotRead by the path at which nothing can be read, and with Policy where the policy's text lists no modules (Q1 to Q3 of its top).
+    /// It refuses with CannotRead by the path at which nothing can be read, and with Policy where the policy's text
+    /// lists no modules (Q1 to Q3 of its top).
     pub fn read<F: Files>(alloc: Global, path: &str, files: &mut F) -> Result<Texts, Fault>
         ensures read { IfOk result (λ texts. AreTexts (F.told files.old) path.now texts.policy.items (map (λ text. text.items) texts.modules.items)) }
         ensures listed { IfOk result (λ texts. AreTextsOf (F.told files.old) path.now texts.policy.items (map string_bytes texts.files.items) (map (λ text. text.items) texts.modules.items)) }
@@ -84,7 +85,8 @@ fn read<F: Files>(alloc: Global, path: &str, files: &mut F) -> Result<Vec<u8>, F
     }
 }
 
-/// The path of a file of this name in the folder of the other path: that one up to and with its last `/`, and then the name.
+/// The path of a file of this name in the folder of the other path: that one up to and with its last `/`, and then the
+/// name.
 pub fn beside(alloc: Global, path: &str, name: &str) -> Result<String, AllocError>
     ensures { IfOk result (λ place. string_bytes place ≡ folder path.now ++ name.now) }
 {

@@ -18,7 +18,8 @@ use Rattle.guard_frames.proofs.Counting.{counted-append, numbers_on}
 use Rattle.guard_frames.proofs.Going.{all_going, frames_of-append, all_going_more, text_out_staying, frames_then_going, text_then_going}
 use Rattle.guard_frames.proofs.Appending.{sent_more, reported_more}
 
--- these octets are whole frames, decided in order, and this is what they add; n and m are the totals before and after them
+-- these octets are whole frames, decided in order, and this is what they add; n and m are the totals before and after
+-- them
 pub record Decided (d : Decision) (n m : Totals) (octets : List ℕ) (outcomes : List Outcome) (added : Added) : Type 0 where
   pub whole : octets ≡ concat (frames_of outcomes)
   pub each : All IsFrame (frames_of outcomes)

@@ -74,7 +74,8 @@ all_at end s f at =
 
 -- ---- how far the loop has come
 
--- Of the octets up to `end`, those up to `sent` are frames that were put; the others are frames that go and wait to be put.
+-- Of the octets up to `end`, those up to `sent` are frames that were put; the others are frames that go and wait to be
+-- put.
 pub record SoFar (d : Decision) (n m : Totals) (s : List ℕ) (sent end : ℕ) (added : Added) : Type 0 where
   pub ordered : sent ≤ end
   pub within : end ≤ length s

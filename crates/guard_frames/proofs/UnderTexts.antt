@@ -42,7 +42,8 @@ said_of_run modules text p said run_fault.WriteFailed = (p, said)
 said_of_run modules text p said run_fault.TornFrame = (p, said)
 said_of_run modules text p said run_fault.ReadFailed = (p, said)
 
--- under the policy that was loaded, and so under the one that the texts say: `p` is what they say, and `q` what was loaded
+-- under the policy that was loaded, and so under the one that the texts say: `p` is what they say, and `q` what was
+-- loaded
 pub same_under : (read : List ℕ) (Ended : Type 0) (added : Added) (p q : AbstractPolicy) → ◌≡◌ {A = Result AbstractPolicy TextsFault} (Ok p) (Ok q)
     → (result : Result Totals TextsFault) → RunsUnder q read Ended result added → RunsUnder p read Ended result added
 same_under read Ended added p q e result h = subst (λ (x : AbstractPolicy). RunsUnder x read Ended result added) (sym (same_Ok p q e)) h

@@ -37,7 +37,8 @@ pub record Reloads (g : AbstractGateway) (p : AbstractPolicy) (answer : Result (
   pub same : new ≡ record { policy = p; links = g.links }
   pub adds : added ≡ nothing
 
--- What an event does to a gateway, and what it adds to the sinks of its link. A piece is decided by the policy in force.
+-- What an event does to a gateway, and what it adds to the sinks of its link. A piece is decided by the policy in
+-- force.
 abbrev pub Step : AbstractGateway → AbstractEvent → Result (Unit {0}) StepFault → Added → AbstractGateway → Type 0
 Step g (piece i octets) answer added new =
     IsNoLink g i answer new added

@@ -33,7 +33,8 @@ event_view (Piece i octets) = piece i octets.now
 event_view (End i) = end i
 event_view (Reload p) = reload (policy_view p)
 
--- The sinks of link i took what was added, and one of them has failed where the answer says so. All others are the same.
+-- The sinks of link i took what was added, and one of them has failed where the answer says so. All others are the
+-- same.
 pub record TookAt {S : Type 0} (taken : S → Option (List ℕ)) (has_failed : S → Bool) (old : List (Ends S)) (i : ℕ)
     (answer : Result (Unit {0}) StepFault) (added : Added) (new : List (Ends S)) : Type 0 where
   pub old_ends : Ends S

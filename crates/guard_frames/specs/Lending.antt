@@ -14,4 +14,5 @@ pub record HasEnds {S : Type 0} (old : Gateway S) (i : ℕ) (lent : Ends S) (new
 
 module _ (S : RattleType) (g : MutBor (Gateway S.Denot)) (i : ℕ) where
   abbrev pub lends_ends : Option (MutBor (Ends S.Denot)) → Fml
-  lends_ends r = LendsSo (the_gateway.the_row S) (the_ends.the_row S) g r (λ n w. OnSome r (HasEnds g.now i w n)) (λ n. n ≡ g.now)
+  lends_ends r =
+      LendsSo (the_gateway.the_row S) (the_ends.the_row S) g r (λ n w. OnSome r (HasEnds g.now i w n)) (λ n. n ≡ g.now)

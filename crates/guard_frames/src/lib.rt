@@ -3,23 +3,34 @@
 //!
 //! | question | code | definition |
 //! |---|---|---|
-//! | What is a frame, and how is a stream cut into frames? | `cut.rt` (`first_cut`) | `specs/Frames.antt`, `specs/inside/Cut.antt` |
-//! | What is the header of a frame? | `body.rt`, `header.rt` | `specs/Bodies.antt`; a name: `specs/Names.antt` of `guard_policy` |
-//! | Who decides which bodies go, and what is reported of the others? | `decision.rt` (`Decide`) | `specs/Outcomes.antt` (`Decision`, `Goes`) |
-//! | What becomes of one frame, and which line is reported of one that stays? | `report.rt` (`judge`, `put_report`) | `specs/Guarding.antt` (`Adds`), `specs/inside/Judged.antt` |
-//! | What goes out of some octets that lie in memory, and what is reported of them? | `putting.rt` (`put_frames`) | `specs/Guarding.antt` (`text_out`, `AllAdd`, `BreaksOff`), `specs/inside/Putting.antt` |
+//! | What is a frame, and how is a stream cut into frames? | `cut.rt` | `specs/Frames.antt`, `specs/inside/Cut.antt` |
+//! | What is the header of a frame? | `body.rt`, `header.rt` | `specs/Bodies.antt` |
+//! | What is a name in a header? | `header.rt` | `specs/Names.antt` of `guard_policy` |
+//! | Which bodies go, and what is reported of the others? | `decision.rt` (`Decide`) | `specs/Outcomes.antt` |
+//! | What becomes of one frame? | `report.rt` (`judge`) | `specs/Guarding.antt` (`Adds`), `specs/inside/Judged.antt` |
+//! | What goes out of octets in memory? | `putting.rt` (`put_frames`) | `specs/Guarding.antt` (`text_out`) |
+//! | What is reported of them? | `putting.rt` | `specs/Guarding.antt` (`AllAdd`), `specs/inside/Putting.antt` |
 //! | How many frames were there? | `totals.rt` (`Totals`) | `specs/Totals.antt`, `specs/Guarding.antt` (`Counts`) |
-//! | What is read from and written to, and what does a failure leave? | `devices.rt` (`Sink`, `Source`) | the clauses of the traits, `specs/Prefix.antt` |
-//! | How are a file or pipe, or a list in memory, a source or a sink? | `through.rt` (`Through`), `kept.rt` (`Kept`) | |
-//! | What does a link hold, and how does the next piece complete it? | `link.rt` (`Link`), `filling.rt` | `specs/LinkView.antt`, `specs/Frames.antt` (`IsUnfinished`) |
-//! | What does a piece, or the end, do to a link? | `feeding.rt` (`Link::feed`), `link.rt` (`Link::end`) | `specs/Feeding.antt`, `specs/Added.antt` |
-//! | What does a whole run read and add, and what when a device fails? | `running.rt` (`decide_stream`) | `specs/Runs.antt`, `specs/Added.antt` |
-//! | How does a policy decide, and what comes of a stream under it? | `policies.rt`, `guarding.rt` (`run`) | `specs/OfPolicy.antt`, `specs/Runs.antt` |
-//! | What happens to many links under one policy, which may be replaced? | `gateway.rt` (`Gateway`, `Event`), `seats.rt` | `specs/GatewaySteps.antt`, `specs/GatewayView.antt`; a link: `specs/LinkSteps.antt` |
-//! | What does one of many links give in the end? | `laws.rt` (`law_own_stream`) | `specs/OwnStream.antt`, `specs/OwnPieces.antt`, `specs/InForce.antt` |
+//! | What is read from and written to? | `devices.rt` (`Sink`, `Source`) | the clauses of the traits |
+//! | What does a failure leave? | `devices.rt` | `specs/Prefix.antt`, `specs/Guarding.antt` (`BreaksOff`) |
+//! | How is a file or pipe a source or a sink? | `through.rt` (`Through`) | `specs/ThroughView.antt` |
+//! | How is a list in memory a sink? | `kept.rt` (`Kept`) | `specs/KeptView.antt` |
+//! | What does a link hold? | `link.rt` (`Link`) | `specs/LinkView.antt` |
+//! | How does the next piece complete it? | `filling.rt` | `specs/Frames.antt` (`IsUnfinished`) |
+//! | What does a piece do to a link? | `feeding.rt` (`Link::feed`) | `specs/Feeding.antt`, `specs/Added.antt` |
+//! | What does the end do to it? | `link.rt` (`Link::end`) | `specs/LinkView.antt` (`IsShut`) |
+//! | What does a whole run read and add? | `running.rt` (`decide_stream`) | `specs/Runs.antt`, `specs/Added.antt` |
+//! | How does a policy decide? | `policies.rt` | `specs/OfPolicy.antt` |
+//! | What comes of a stream under it? | `guarding.rt` (`run`) | `specs/Runs.antt` |
+//! | What are many links under one policy? | `gateway.rt` (`Gateway`) | `specs/GatewayView.antt` |
+//! | What happens to them? | `gateway.rt` (`Event`), `seats.rt` | `specs/GatewaySteps.antt`, `specs/LinkSteps.antt` |
+//! | What does one of many links give in the end? | `laws.rt` | `specs/OwnStream.antt`, `specs/OwnPieces.antt` |
+//! | Which policy decides each of its frames? | `laws.rt` | `specs/InForce.antt` |
 //! | Over which modules is a policy loaded? | `modules.rt` (`Modules`) | `specs/ModulesView.antt` |
-//! | What do texts say, and what comes of a stream under it? | `texts.rt` (`load_texts`, `run_texts`) | `specs/Texts.antt`, `specs/RunsTexts.antt` |
-//! | Does it matter how a stream was cut? Has each stream one reading? Which frames go out? | `laws.rt` | `specs/Frames.antt`, `specs/Guarding.antt` |
+//! | What do texts say? | `texts.rt` (`load_texts`) | `specs/Texts.antt` |
+//! | What comes of a stream under what they say? | `texts.rt` (`run_texts`) | `specs/RunsTexts.antt` |
+//! | Does it matter how a stream was cut? Has each stream one reading? | `laws.rt` | `specs/Frames.antt` |
+//! | Which frames go out? | `laws.rt` | `specs/Guarding.antt` |
 #![tactic(auto)]
 
 mod body;

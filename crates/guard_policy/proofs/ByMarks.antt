@@ -196,7 +196,8 @@ routed_first messages rules name m routed first =
       ap (λ (x : AbstractMessage). x.name) (same_Some _ _ (sym viewed ∙ named.1)) ∙ named.2,
     )
 
--- With the marks of the value that the octets encode, the message goes exactly where the declared type has it and the route's rules let it go.
+-- With the marks of the value that the octets encode, the message goes exactly where the declared type has it and the
+-- route's rules let it go.
 pub policy_goes : (policy : Policy) (route : AbstractRoute) (octets numbers : List ℕ) (m : KeptMessage) (marks : Marks)
     → ◌≡◌ {A = Option (AbstractType × List ℕ)} (Some (declared_of m.table, numbers)) (option_map (with_numbers (policy_view policy).rules route.message) (declared_type (policy_view policy) route.message))
     → IsFirst route.message policy.kept.messages.items m

@@ -1,4 +1,5 @@
--- A policy whose tables have no fault is consistent, and in a consistent policy the values of a message's declared type fit the types of its rules.
+-- A policy whose tables have no fault is consistent, and in a consistent policy the values of a message's declared type
+-- fit the types of its rules.
 use Rattle.std.proofs.Common.{◌≡◌, ℕ, suc, List, [], ◌∷◌, Bool, true, false, cond, Option, Some, None, All, option_map, refl, sym, ◌∙◌, subst}
 use Rattle.std.specs.Prelude.{IsTrue}
 use Rattle.std.specs.Str.{bytes_eq}

@@ -41,7 +41,7 @@ searched_on rules route v left ns n all is e so_far =
     sym (ap (λ (l : List ℕ). first_denying (heard route (rules_at rules l)) v) is ∙ first_at rules route v n ns
     ∙ ap (λ b. cond b (Some n) (first_denying (heard route (rules_at rules ns)) v)) e) ∙ so_far
 
--- what stands at a number
+-- what is at a number
 pub denies_there : (rules : List AbstractRule) (route : AbstractRoute) (v : AbstractValue) (n : ℕ) (r : AbstractRule) → slice_get rules n ≡ Some r → denies_at rules n route v ≡ (speaks_of route r && denies r v)
 denies_there rules route v n r is = ap (λ (o : Option AbstractRule). elim o [ Some x ↦ speaks_of route x && denies x v | None ↦ false ]) is
 

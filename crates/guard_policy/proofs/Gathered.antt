@@ -4,7 +4,7 @@ use Rattle.std.proofs.lemmas.List.{append-nil}
 use Rattle.toml.specs.Data.{Data, Items, no_items, item}
 use Rattle.guard_policy.specs.Documents.{with_first, items_as}
 
--- what is read of those that are left, behind what was read, is what is read of all
+-- what is read of those that are left, after what was read, is what is read of all
 abbrev pub Gathered : {A : Type 0} → (Data → Option A) → List A → Items → Option (List A) → Type 0
 Gathered kind done left all = option_map (λ more. done ++ more) (items_as kind left) ≡ all
 

@@ -1,4 +1,4 @@
--- What is kept of messages and rules stands for them.
+-- What is kept of messages and rules represents them.
 use Rattle.std.proofs.Common.{◌≡◌, ℕ, zero, suc, ◌+◌, ◌≤◌, List, [], ◌∷◌, take, drop, map, slice_get, Bool, true, false, cond, Option, Some, None, option_map, option_and_then, unwrap_or, string_bytes, count_by, All, refl, ap, sym, ◌∙◌, subst, arith}
 use Rattle.std.specs.Prelude.{bytes_eq, nat_lt, IsTrue}
 use Rattle.std.proofs.lemmas.Bool.Decides.{nat_tests}
@@ -72,7 +72,8 @@ none_before name i n (r ∷ rs) le =
       | false ↦ rest
     ]
 
--- the type of the rule of a number is at the place that counts the numbers of its message before it, where the first rule has number i
+-- the type of the rule of a number is at the place that counts the numbers of its message before it, where the first
+-- rule has number i
 type_there : (all : List AbstractRule) (i n : ℕ) (r : AbstractRule) (name : List ℕ) → slice_get all n ≡ Some r → bytes_eq r.message name ≡ true
     → slice_get (types_for name all) (count_by (λ k. nat_lt k (i + n)) (numbers_for name i all)) ≡ Some r.ty
 type_there [] i n r name there named = absurd cc
@@ -138,7 +139,7 @@ place_is r ty n numbers (Some p) is = ap table_place is
 place_is r (Own t) n numbers None is = refl
 place_is r (InTable message rule) n numbers None is = absurd is
 
--- what is kept of the rule of this number stands for it
+-- what is kept of the rule of this number represents it
 pub kept_one : (messages : List AbstractMessage) (all : List AbstractRule) (n : ℕ) (r : AbstractRule) (kept : KeptRule)
     → slice_get all n ≡ Some r → IsTypeOf (listing messages all r.message) n r kept.ty → IsSaid r kept
     → ((ms : List KeptMessage) → map tabled_view ms ≡ map (tabled all) messages → kept_rule_view ms kept ≡ r)

@@ -15,11 +15,11 @@ use Rattle.guard_policy.specs.declared.entry.Key.{Key}
 use Rattle.guard_policy.specs.inside.Answers.{first_unknown}
 use Rattle.guard_policy.specs.PolicyFaults.{is_key, lesser, least_unknown}
 
--- what comes behind a word isn't less
+-- what comes after a word isn't less
 not_less : (word other : List ℕ) → slice_cmp nat_cmp word other ≡ Less → is_lt (slice_cmp nat_cmp other word) ≡ false
 not_less word other e = ap is_lt (nat_list_cmp_total.antisymm other word ∙ ap ordering_reverse e)
 
--- the first unknown key comes behind a word, where all do
+-- the first unknown key comes after a word, where all do
 first_behind : (keys : List Key) (word : String Global) (es : List (String Global × Value)) (other : List ℕ) → AllByRecursion (λ y. string_cmp word y ≡ Less) (keys_of es)
     → first_unknown keys (members_view es) ≡ Some other → slice_cmp nat_cmp (string_bytes word) other ≡ Less
 first_behind keys word [] other below e = absurd cc

@@ -16,7 +16,7 @@ use Rattle.guard_policy.specs.Names.{is_meant}
 use Rattle.guard_policy.specs.inside.Listings.{AbstractListed, place_among, numbers_for, listing, listed_view, rules_at, heard}
 use Rattle.guard_policy.specs.Policies.{AbstractMessage, AbstractRule, AbstractRoute, declared_among}
 
--- ---- what stands at a place of a list
+-- ---- what is at a place of a list
 
 pub drop_get : {A : Type 0} (xs : List A) (i : ℕ) (y : A) (ys : List A) → drop i xs ≡ y ∷ ys → slice_get xs i ≡ Some y
 drop_get [] zero y ys e = absurd cc
@@ -91,7 +91,7 @@ heard_listed route rules numbers e = ap (λ (ns : List ℕ). heard route (rules_
 abbrev pub with_numbers : List AbstractRule → List ℕ → AbstractType → AbstractType × List ℕ
 with_numbers rules name t = (t, numbers_for name 0 rules)
 
--- what stands at a place, with numbers
+-- what is at a place, with numbers
 abbrev pub type_at : List AbstractMessage → AbstractListed → Option (AbstractType × List ℕ)
 type_at messages l = option_map (λ m. (m.ty, l.numbers)) (slice_get messages l.place)
 
@@ -158,7 +158,7 @@ lookup-push p (e ∷ es) k v =
       | false ↦ lookup-push p es k v
     ]
 
--- names are alike whichever stands first
+-- names are alike whichever comes first
 pub alike : (a b : List ℕ) → bytes_eq a b ≡ bytes_eq b a
 alike a b =
     (elim (bytes_eq a b) as (λ (x : Bool). bytes_eq a b ≡ x → x ≡ bytes_eq b a) [

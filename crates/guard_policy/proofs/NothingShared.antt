@@ -1,4 +1,4 @@
--- Where it is told that nothing meets what is asked, nothing does.
+-- Where the answer is that nothing meets what is asked, nothing does.
 use Rattle.std.proofs.Common.{◌≡◌, ℕ, zero, suc, ◌+◌, ℤ, Bool, true, false, not, ◌&&◌, ◌||◌, List, [], ◌∷◌, Option, Some, None, true≢false, refl, sym, ap, ◌∙◌, subst, arith}
 use Rattle.std.specs.Prelude.{pos, ◌≤ℤ◌}
 use Rattle.std.specs.List.{list_any, list_all}
@@ -218,7 +218,7 @@ barren_share_nothing declared t v barren member other =
     nothing_of_type declared (by_type declared ∷ by_type t ∷ []) v (member_fits declared v member)
     (ap (λ (b : Bool). b && (is_member t v && true)) member ∙ ap (λ (b : Bool). b && true) other) barren
 
--- ---- of integers all is told
+-- ---- of integers all is known
 
 none_of : {A : Type 0} (f g : A → Bool) (xs : List A) → ((x : A) → f x ≡ true → g x ≡ true → ⊥) → not (list_any (λ x. f x && (g x && true)) xs) ≡ true
 none_of f g [] apart = refl

@@ -48,8 +48,8 @@ lookup-inserted {K} {X} items (e ∷ es) k v q =
 
 -- ---- the names that were put in
 
--- What a look-up of this name finds, where the names of these rules were put in: the set of the rules that speak of it, or nothing where none of
--- them has the name.
+-- What a look-up of this name finds, where the names of these rules were put in: the set of the rules that speak of it,
+-- or nothing where none of them has the name.
 abbrev pub Finds : Side → List AbstractRule → List AbstractRule → List ℕ → Option Slots → Type 0
 Finds side rules taken name (Some slots) = slots ≡ slots_meant side name rules
 Finds side rules taken name None = list_any (λ r. bytes_eq name (given_by side r)) taken ≡ false

@@ -59,7 +59,7 @@ slot_out f rules i r slots lt is fails so_far =
 
 -- ---- which slots they have
 
--- what stands at a place, false where nothing does
+-- what is at a place, false where nothing is
 abbrev pub true_at : List Bool → ℕ → Bool
 true_at [] n = false
 true_at (b ∷ bs) zero = b
@@ -89,7 +89,7 @@ has_from k (true ∷ bs) (suc n) slot e =
     ∙ has_from (suc k) bs n slot (omega (arith, e))
 has_from k (false ∷ bs) (suc n) slot e = has_from (suc k) bs n slot (omega (arith, e))
 
--- They say of each slot from 1 on what stands at its place in the list, and haven't slot 0.
+-- They say of each slot from 1 on what is at its place in the list, and haven't slot 0.
 pub record Says (bs : List Bool) (m : Slots) : Type 0 where
   pub first : has m 0 ≡ false
   pub others : (n : ℕ) → has m (suc n) ≡ true_at bs n

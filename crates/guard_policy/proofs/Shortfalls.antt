@@ -97,7 +97,7 @@ taken : {A : Type 0} (b : Bool) (x y : A) → cond b (Some x) None ≡ Some y �
 taken true x y e = (refl, same_Some x y e)
 taken false x y e = absurd cc
 
--- what stands at a number, in front of the others
+-- what is at a number, in front of the others
 abbrev in_front : ℕ → Option AbstractRule → List NumberedRule → List NumberedRule
 in_front n o rest = elim o [ Some r ↦ record { number = n; rule = r } ∷ rest | None ↦ rest ]
 
@@ -122,7 +122,7 @@ past all route v found n (Some r) rest e g =
           (subst (λ (rs : List NumberedRule). Gathered all rs v found) (heard-there route n r rest q.0) g)
     ]
 
--- the rule stands at the number, speaks of the route and allows something
+-- the rule has the number, speaks of the route and allows something
 pub record Allowing (rules : List AbstractRule) (n : ℕ) (route : AbstractRoute) (r : AbstractRule) : Type 0 where
   pub stands : slice_get rules n ≡ Some r
   pub speaks : speaks_of route r ≡ true

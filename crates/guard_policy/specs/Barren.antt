@@ -83,7 +83,7 @@ all_have_number asked z = list_all (λ d. meets d (value.integer z)) asked
 abbrev pub have_no_number : List Demand → Bool
 have_no_number asked = not (list_any (all_have_number asked) (least_number ∷ starts_of asked))
 
--- ---- of sizes (51.5): which ones values may have, as far as SIZE tells; what stands after EXCEPT takes none away
+-- ---- of sizes (51.5): which ones values may have, as far as SIZE tells; what comes after EXCEPT takes none away
 
 abbrev mutual
   pub may_have_size : Constraint → ℤ → Bool
@@ -168,7 +168,8 @@ demands_within i (d ∷ ds) = demand_within i d ++ demands_within i ds
 -- ---- that nothing meets what is asked
 
 abbrev mutual
-  -- No value of this type's kind meets all: no integer, no size, or none in a component that isn't OPTIONAL. Of other kinds nothing is told.
+  -- No value of this type's kind meets all: no integer, no size, or none in a component that isn't OPTIONAL. Of other
+  -- kinds nothing is said.
   pub has_no_value : AbstractType → List Demand → Bool
   has_no_value (type_of tags kind cons) asked = kind_has_no_value kind asked
 
@@ -212,10 +213,13 @@ is_barren_rule p number = barren_as p (slice_get p.rules number)
 -- ---- laws
 
 abbrev pub BarrenShareNothing : Type 0
-BarrenShareNothing = (declared t : AbstractType) (v : AbstractValue) → IsTrue (is_barren declared t) → IsTrue (is_member declared v) → IsTrue (is_member t v) → ⊥
+BarrenShareNothing =
+    (declared t : AbstractType) (v : AbstractValue) → IsTrue (is_barren declared t) → IsTrue (is_member declared v)
+    → IsTrue (is_member t v) → ⊥
 
--- told of all integers: where no integer is a member of both
+-- said of all integers: where no integer is a member of both
 abbrev pub IntegersAreTold : Type 0
 IntegersAreTold = (tags : List Tag) (names : List NamedNumber) (cons : Constraints) (t : AbstractType)
-    → ((z : ℤ) → IsTrue (is_member (type_of tags (type.integer names) cons) (value.integer z)) → IsTrue (is_member t (value.integer z)) → ⊥)
+    → ((z : ℤ) → IsTrue (is_member (type_of tags (type.integer names) cons) (value.integer z))
+    → IsTrue (is_member t (value.integer z)) → ⊥)
     → IsTrue (is_barren (type_of tags (type.integer names) cons) t)

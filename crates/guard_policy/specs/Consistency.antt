@@ -11,7 +11,8 @@ abbrev pub types_for : List ℕ → List AbstractRule → List AbstractType
 types_for name [] = []
 types_for name (r ∷ rs) = if bytes_eq r.message name then r.ty ∷ types_for name rs else types_for name rs
 
--- The message's declared type and the types of its rules make a table: they have the same tags and base, and stay within the limits.
+-- The message's declared type and the types of its rules make a table: they have the same tags and base, and stay
+-- within the limits.
 abbrev pub MakesTable : List AbstractRule → AbstractMessage → Type 0
 MakesTable rules m = first_fault m.ty (types_for m.name rules) ≡ None
 

@@ -20,7 +20,8 @@ pub record NumberedRule : Type 0 where
   pub number : ℕ
   pub rule : AbstractRule
 
--- The rule speaks of this sender, receiver and message. A route's own sender or receiver `*` is no other's: only a rule for `*` speaks of it.
+-- The rule speaks of this sender, receiver and message. A route's own sender or receiver `*` is no other's: only a rule
+-- for `*` speaks of it.
 abbrev pub speaks_of : AbstractRoute → AbstractRule → Bool
 speaks_of route r = is_meant r.from route.from && is_meant r.to route.to && bytes_eq r.message route.message
 
@@ -85,13 +86,14 @@ by_rules rules v = elim (first_denying rules v) [ Some i ↦ denied_by i | None 
 abbrev pub judged : AbstractType → List NumberedRule → AbstractValue → AbstractVerdict
 judged t rules v = elim (violation t v) [ Some w ↦ outside_type w | None ↦ by_rules rules v ]
 
--- The reason where the message has this declared type: the octets break the encoding rules, or are the encoding of a value that is judged.
+-- The reason where the message has this declared type: the octets break the encoding rules, or are the encoding of a
+-- value that is judged.
 abbrev pub DeclaredReason : AbstractType → List NumberedRule → List ℕ → AbstractVerdict → Type 0
 DeclaredReason t rules octets w =
     ((b : AbstractBreach) × IsBreach t octets b × (w ≡ undecodable b))
     ⊎ ((v : AbstractValue) × IsTrue (fits t v) × (der t v ≡ Some octets) × (w ≡ judged t rules v))
 
--- The verdict is the first that stands.
+-- The verdict is the first that holds.
 abbrev pub IsReason : AbstractPolicy → AbstractRoute → List ℕ → AbstractVerdict → Type 0
 IsReason p route octets w =
     ((declared_type p route.message ≡ None) × (w ≡ unknown_message))

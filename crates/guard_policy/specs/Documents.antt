@@ -1,4 +1,4 @@
--- What stands in the text of a policy, as the crate `toml` reads it.
+-- What is in the text of a policy, as the crate `toml` reads it.
 use Rattle.std.specs.Prelude.{◌≡◌, ℕ, List, [], ◌∷◌, codes, Option, Some, None, option_map, option_and_then, unwrap_or, IsUtf8}
 use Rattle.toml.specs.Data.{Data, Items, no_items, item, Members, get_member, as_str, as_array, as_table}
 use Rattle.toml.specs.Parse.{parse_document}
@@ -52,7 +52,7 @@ optional_tables (Some d) = list_of as_table d
 abbrev pub tables_at : Key → Members → Option (List Members)
 tables_at key entry = optional_tables (get_member (key_text key) entry)
 
--- ---- what stands in a document without a fault at the top, or in an entry without a missing key
+-- ---- what is in a document without a fault at the top, or in an entry without a missing key
 
 abbrev pub text_of : Key → Members → List ℕ
 text_of key entry = unwrap_or (text_at key entry) []

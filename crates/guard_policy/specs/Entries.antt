@@ -8,7 +8,8 @@ use Rattle.guard_policy.specs.declared.policy.Effect.TheVariants.{Allow, Deny}
 use Rattle.guard_policy.specs.Policies.{AbstractMessage, AbstractRule, AbstractPolicy}
 use Rattle.guard_policy.specs.Documents.{text_of, messages_in, rules_in}
 
--- What a policy stands on: the names of the modules in the order of their texts, and the type of a name in the module of a name.
+-- What a policy is built on: the names of the modules in the order of their texts, and the type of a name in the module
+-- of a name.
 pub record AbstractTypes : Type 0 where
   pub modules : List (List ℕ)
   pub types : List ℕ → List ℕ → Option AbstractType
@@ -19,7 +20,8 @@ module_at modules zero = None
 module_at modules (suc text) = slice_get modules text
 
 abbrev pub effect_named : List ℕ → Option Effect
-effect_named word = if bytes_eq word (codes "allow") then Some Allow else if bytes_eq word (codes "deny") then Some Deny else None
+effect_named word =
+    if bytes_eq word (codes "allow") then Some Allow else if bytes_eq word (codes "deny") then Some Deny else None
 
 -- the type that an entry names, by its module and its own name
 abbrev pub type_in : AbstractTypes → Members → Option AbstractType
@@ -39,7 +41,8 @@ rule_of entry t effect = record {
 }
 
 abbrev pub rule_in : AbstractTypes → Members → Option AbstractRule
-rule_in s entry = option_and_then (λ t. option_map (rule_of entry t) (effect_named (text_of key.Effect entry))) (type_in s entry)
+rule_in s entry =
+    option_and_then (λ t. option_map (rule_of entry t) (effect_named (text_of key.Effect entry))) (type_in s entry)
 
 abbrev pub before_all : {A : Type 0} → Option A → List A → List A
 before_all None rest = rest

@@ -17,7 +17,7 @@ use Rattle.guard_policy.specs.PolicyFaults.{AbstractFault, first_of, unless, unk
 
 -- ---- keys
 
--- a key that isn't of the entry; then one of its keys at which no text stands
+-- a key that isn't of the entry; then one of its keys at which there is no text
 abbrev pub keys_fault : Entry → List Key → Members → Option AbstractFault
 keys_fault place keys entry = option_or (unknown_in place keys entry) (missing_in place keys entry)
 
@@ -36,7 +36,9 @@ message_fault s before number entry = first_of (
 
 -- the rule's own name and that of its message are names, and its sender and its receiver are names or `*`
 abbrev pub has_names : Members → Bool
-has_names entry = is_name (text_of Name entry) && is_party (text_of From entry) && is_party (text_of To entry) && is_name (text_of Message entry)
+has_names entry =
+    is_name (text_of Name entry) && is_party (text_of From entry) && is_party (text_of To entry)
+    && is_name (text_of Message entry)
 
 -- with the names of all messages
 abbrev pub rule_fault : AbstractTypes → List (List ℕ) → List (List ℕ) → ℕ → Members → Option AbstractFault
@@ -50,7 +52,8 @@ rule_fault s messages before number entry = first_of (
     ∷ [])
 
 -- of the first entry that has one
-abbrev pub entries_fault : (List (List ℕ) → ℕ → Members → Option AbstractFault) → List (List ℕ) → ℕ → List Members → Option AbstractFault
+abbrev pub entries_fault : (List (List ℕ) → ℕ → Members → Option AbstractFault) → List (List ℕ) → ℕ → List Members
+    → Option AbstractFault
 entries_fault fault before number [] = None
 entries_fault fault before number (entry ∷ others) =
     option_or (fault before number entry) (entries_fault fault (before ++ text_of Name entry ∷ []) (suc number) others)
@@ -60,7 +63,8 @@ entries_fault fault before number (entry ∷ others) =
 -- of the first message, from this number on, whose name is none
 abbrev pub messages_misnamed : ℕ → List AbstractMessage → Option AbstractFault
 messages_misnamed number [] = None
-messages_misnamed number (m ∷ ms) = option_or (unless (is_name m.name) (bad_name (place.Message number))) (messages_misnamed (suc number) ms)
+messages_misnamed number (m ∷ ms) =
+    option_or (unless (is_name m.name) (bad_name (place.Message number))) (messages_misnamed (suc number) ms)
 
 abbrev pub is_well_named : AbstractRule → Bool
 is_well_named r = is_name r.name && is_party r.from && is_party r.to && is_name r.message
@@ -68,7 +72,8 @@ is_well_named r = is_name r.name && is_party r.from && is_party r.to && is_name 
 -- of the first rule, from this number on, one of whose names is none
 abbrev pub rules_misnamed : ℕ → List AbstractRule → Option AbstractFault
 rules_misnamed number [] = None
-rules_misnamed number (r ∷ rs) = option_or (unless (is_well_named r) (bad_name (place.Rule number))) (rules_misnamed (suc number) rs)
+rules_misnamed number (r ∷ rs) =
+    option_or (unless (is_well_named r) (bad_name (place.Rule number))) (rules_misnamed (suc number) rs)
 
 abbrev pub misnamed : List AbstractMessage → List AbstractRule → Option AbstractFault
 misnamed messages rules = option_or (messages_misnamed 1 messages) (rules_misnamed 1 rules)
@@ -79,9 +84,11 @@ misnamed messages rules = option_or (messages_misnamed 1 messages) (rules_misnam
 abbrev pub tables_fault : List AbstractRule → ℕ → List AbstractMessage → Option AbstractFault
 tables_fault rules number [] = None
 tables_fault rules number (m ∷ ms) =
-    option_or (option_map (bad_table number) (first_fault m.ty (types_for m.name rules))) (tables_fault rules (suc number) ms)
+    option_or (option_map (bad_table number) (first_fault m.ty (types_for m.name rules)))
+    (tables_fault rules (suc number) ms)
 
--- Why messages and rules, of sound types, make no policy: a name that is none, or else the types of a message that make no table.
+-- Why messages and rules, of sound types, make no policy: a name that is none, or else the types of a message that make
+-- no table.
 abbrev pub parts_fault : List AbstractMessage → List AbstractRule → Option AbstractFault
 parts_fault messages rules = option_or (misnamed messages rules) (tables_fault rules 1 messages)
 

@@ -1,4 +1,4 @@
--- What is kept of messages and rules stands for: each type is in the table of its message.
+-- What kept messages and rules represent: each type is in the table of its message.
 use Rattle.std.specs.Prelude.{ℕ, List, [], option_and_then, unwrap_or, slice_get, string_bytes, Option, Some, None}
 use Rattle.guard_model.specs.AbstractType.{AbstractType, type_of, null, no_constraints}
 use Rattle.guard_model.specs.TypeView.{type_view}
@@ -14,7 +14,8 @@ kept_message_view m = record { name = string_bytes m.name; ty = declared_of m.ta
 
 -- The type of a rule; none where the place is none of a table.
 abbrev pub found_type : List KeptMessage → RuleType → Option AbstractType
-found_type messages (InTable message rule) = option_and_then (λ m. slice_get (rules_of m.table) rule) (slice_get messages message)
+found_type messages (InTable message rule) =
+    option_and_then (λ m. slice_get (rules_of m.table) rule) (slice_get messages message)
 found_type messages (Own ty) = Some (type_view ty)
 
 -- a type that isn't sound, in the place of one that isn't found

@@ -9,7 +9,8 @@ use Rattle.guard_policy.specs.PolicyFaults.{AbstractFault, toml, top_fault}
 
 -- The text is no document, and the fault is Q1; or it is one, and this is its first fault.
 abbrev pub IsFault : (Members → Option AbstractFault) → List ℕ → AbstractFault → Type 0
-IsFault fault_of text fault = (IsNoDocument text × (fault ≡ toml)) ⊎ ((top : Members) × IsDocument text top × (fault_of top ≡ Some fault))
+IsFault fault_of text fault =
+    (IsNoDocument text × (fault ≡ toml)) ⊎ ((top : Members) × IsDocument text top × (fault_of top ≡ Some fault))
 
 -- The files of modules that the text lists: only the top is looked at.
 abbrev pub ListsFiles : List ℕ → List (List ℕ) → Type 0

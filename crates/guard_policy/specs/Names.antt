@@ -12,7 +12,7 @@ is_name_octet c = is_ascii_alphanumeric c || nat_eq c 45 || nat_eq c 95 || nat_e
 abbrev pub is_name : List ℕ → Bool
 is_name octets = nat_le 1 (length octets) && nat_le (length octets) 63 && list_all is_name_octet octets
 
--- what stands in a rule for every sender, or for every receiver; it is no name
+-- what a rule says for every sender, or for every receiver; it is no name
 abbrev pub anyone : List ℕ
 anyone = codes "*"
 

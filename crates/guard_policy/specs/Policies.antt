@@ -35,7 +35,14 @@ abbrev pub message_view : Message → AbstractMessage
 message_view m = record { name = string_bytes m.name; ty = type_view m.ty }
 
 abbrev pub rule_view : Rule → AbstractRule
-rule_view r = record { name = string_bytes r.name; effect = r.effect; from = string_bytes r.from; to = string_bytes r.to; message = string_bytes r.message; ty = type_view r.ty }
+rule_view r = record {
+  name = string_bytes r.name;
+  effect = r.effect;
+  from = string_bytes r.from;
+  to = string_bytes r.to;
+  message = string_bytes r.message;
+  ty = type_view r.ty;
+}
 
 abbrev pub message_names : List AbstractMessage → List (List ℕ)
 message_names messages = map (λ m. m.name) messages

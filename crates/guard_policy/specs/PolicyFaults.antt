@@ -35,7 +35,7 @@ pub data AbstractFault : Type 0 where
   -- Q9, with the number of the message from 1
   bad_table : ℕ → TableFault → AbstractFault
 
--- the first that stands
+-- the first fault of a list, if any
 abbrev pub first_of : List (Option AbstractFault) → Option AbstractFault
 first_of [] = None
 first_of (fault ∷ faults) = option_or fault (first_of faults)
@@ -65,9 +65,10 @@ lesser word (Some other) = if is_lt (slice_cmp nat_cmp other word) then other el
 -- the least word that is none of the keys
 abbrev pub least_unknown : List Key → Members → Option (List ℕ)
 least_unknown keys no_members = None
-least_unknown keys (member word value others) = if is_key keys word then least_unknown keys others else Some (lesser word (least_unknown keys others))
+least_unknown keys (member word value others) =
+    if is_key keys word then least_unknown keys others else Some (lesser word (least_unknown keys others))
 
--- the first of the keys at which no text stands
+-- the first of the keys at which there is no text
 abbrev pub first_missing : List Key → Members → Option Key
 first_missing [] entry = None
 first_missing (key ∷ keys) entry = if is_some (text_at key entry) then first_missing keys entry else Some key
@@ -80,7 +81,8 @@ missing_in place keys entry = option_map (missing_key place) (first_missing keys
 
 -- ---- the top
 
--- a key that isn't of the top; then no list of texts at `modules`, or none of tables at `message` or `rule`, which may be missing
+-- a key that isn't of the top; then no list of texts at `modules`, or none of tables at `message` or `rule`, which may
+-- be missing
 abbrev pub top_fault : Members → Option AbstractFault
 top_fault top = first_of (
     unknown_in Top top_keys top

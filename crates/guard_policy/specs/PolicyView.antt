@@ -1,4 +1,4 @@
--- The policy that a policy of the code stands for.
+-- The policy that a policy of the code represents.
 pub use Rattle.guard_policy.specs.SaidView.{said_view}
 use Rattle.std.specs.Prelude.{map, string_bytes}
 use Rattle.guard_policy.specs.declared.policy.Policy.{Policy}

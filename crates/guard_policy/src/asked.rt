@@ -79,7 +79,8 @@ fn push_within_all<'a>(
     inner: &mut Vec<Demand<'a>>,
 ) -> Result<(), OutOfMemory>
     ensures { OnOk result (demands_view inner.new.items
-        ≡ demands_view inner.old.items ++ all_within place (kind_view kind.now) (constraints_of (map constraint_view constraints.now))) }
+        ≡ demands_view inner.old.items
+        ++ all_within place (kind_view kind.now) (constraints_of (map constraint_view constraints.now))) }
 {
     for constraint in constraints {
         push_within(constraint, place, kind, inner)?;
@@ -133,7 +134,8 @@ fn push_within_parts<'a>(
     inner: &mut Vec<Demand<'a>>,
 ) -> Result<(), OutOfMemory>
     ensures { OnOk result (demands_view inner.new.items
-        ≡ demands_view inner.old.items ++ parts_within place (kind_view kind.now) (parts_of (map part_view parts.now))) }
+        ≡ demands_view inner.old.items
+        ++ parts_within place (kind_view kind.now) (parts_of (map part_view parts.now))) }
 {
     for part in parts {
         push_within_part(place, kind, part, inner)?;
@@ -148,7 +150,8 @@ fn push_within_part<'a>(
     inner: &mut Vec<Demand<'a>>,
 ) -> Result<(), OutOfMemory>
     ensures { OnOk result (demands_view inner.new.items
-        ≡ demands_view inner.old.items ++ part_within place (kind_view kind.now) (part_view part.now).place (part_view part.now).within) }
+        ≡ demands_view inner.old.items
+        ++ part_within place (kind_view kind.now) (part_view part.now).place (part_view part.now).within) }
 {
     match &part.cons {
         Some(constraint) if usize::from(part.at) == place => {

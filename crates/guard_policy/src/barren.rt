@@ -20,12 +20,13 @@ impl Policy {
     ghost use Rattle.guard_policy.specs.Barren.{is_barren_rule};
     ghost use Rattle.guard_policy.specs.PolicyView.{policy_view};
 
-    /// Whether integers and sizes alone show that no value of the declared type of a rule's message is of the rule's type. The rule is given by
-    /// its number, from 0; a number that is no rule's isn't barren.
+    /// Whether integers and sizes alone show that no value of the declared type of a rule's message is of the rule's
+    /// type. The rule is given by its number, from 0; a number that is no rule's isn't barren.
     ///
-    /// Of an INTEGER each constraint is looked at, so there the answer is exact. Of strings and lists only SIZE is, and of SEQUENCE and SET each
-    /// component that isn't OPTIONAL, with what WITH COMPONENTS asks of it unless a union or an exception says so. Of other kinds, and of what
-    /// PRESENT and ABSENT say, nothing is told: the answer is false. Its one refusal is want of memory.
+    /// Of an INTEGER each constraint is looked at, so there the answer is exact. Of strings and lists only SIZE is, and
+    /// of SEQUENCE and SET each component that isn't OPTIONAL, with what WITH COMPONENTS asks of it unless a union or
+    /// an exception says so. Of other kinds, and of what PRESENT and ABSENT say, nothing is said: the answer is false.
+    /// Its one refusal is want of memory.
     pub fn is_barren(&self, alloc: Global, rule: usize) -> Result<bool, OutOfMemory>
         ensures { IfOk result (λ barren. barren ≡ is_barren_rule (policy_view self.now) rule) }
     {

@@ -1,4 +1,4 @@
-//! What stands in the document of a policy: its tables, and the texts at their keys.
+//! What is in the document of a policy: its tables, and the texts at their keys.
 ghost use Rattle.std.specs.Prelude.{◌≡◌, Some, option_map, IfOk, IfErr, IfSome};
 ghost use Rattle.toml.specs.View.{view, items_view, table_view};
 ghost use Rattle.toml.specs.Data.{as_str, as_table, get_member};

@@ -4,7 +4,7 @@ ghost use Rattle.guard_policy.specs.Documents.{key_text};
 
 use std::fmt;
 
-/// Where something stands in the text of a policy. It prints as `top`, `message 1` or `rule 1`.
+/// A place in the text of a policy. It prints as `top`, `message 1` or `rule 1`.
 #[derive(Clone, Copy, Debug, PartialEq, Eq)]
 pub enum Entry {
     Top,

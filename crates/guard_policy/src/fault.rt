@@ -8,9 +8,9 @@ use guard_tables::TableFault;
 use std::alloc::{AllocError, AllocFailed};
 use thiserror::Error;
 
-/// Why a text is no policy: its first fault, or want of memory in place of any other answer. Faults are looked for at the top, then in each
-/// message, in each rule, and in each message's table. In one entry an unknown key comes first, then a missing one, then a bad name, a
-/// name that another has, an effect, a message and a type that aren't there.
+/// Why a text is no policy: its first fault, or want of memory in place of any other answer. Faults are looked for at
+/// the top, then in each message, in each rule, and in each message's table. In one entry an unknown key comes first,
+/// then a missing one, then a bad name, a name that another has, an effect, a message and a type that aren't there.
 #[derive(Debug, Drop, Error)]
 pub enum PolicyFault {
     /// It is no document of TOML.
@@ -19,11 +19,11 @@ pub enum PolicyFault {
     /// The entry has this key, which says nothing; it is the first such one in the order of their octets.
     #[error("Q2 UnknownKey {0} {1}")]
     UnknownKey(Entry, String),
-    /// The entry lacks this key, or something of another kind stands there.
+    /// The entry lacks this key, or something of another kind is there.
     #[error("Q3 MissingKey {0} {1}")]
     MissingKey(Entry, Key),
-    /// A name in the entry hasn't 1 to 63 letters, digits, hyphens, low lines and full stops. The sender and the receiver of a rule may
-    /// each be `*` too.
+    /// A name in the entry hasn't 1 to 63 letters, digits, hyphens, low lines and full stops. The sender and the
+    /// receiver of a rule may each be `*` too.
     #[error("Q4 BadName {0}")]
     BadName(Entry),
     /// A message, or a rule, before it has the same name.

@@ -12,7 +12,7 @@ use std::alloc::{AllocError, Global};
 /// What the name of a message leads to.
 #[derive(Drop)]
 pub(crate) struct Listed {
-    /// Where the first message of this name stands.
+    /// The place of the first message of this name.
     pub place: usize,
     /// The numbers of the rules that speak of it.
     pub rules: Vec<usize>,

@@ -1,4 +1,5 @@
-//! Laws of verdicts and of barren rules, over the definitions alone. Each is carried by a function that does nothing when it runs.
+//! Laws of verdicts and of barren rules, over the definitions alone. Each is carried by a function that does nothing
+//! when it runs.
 ghost use Rattle.std.specs.Prelude.{◌↔◌, ◌≡◌};
 ghost use Rattle.guard_policy.specs.Barren.{BarrenShareNothing, IntegersAreTold};
 ghost use Rattle.guard_policy.specs.Decisions.{Goes, IsReason};

@@ -19,8 +19,8 @@ use toml::Table;
 impl Policy {
     /// The policy of a text, over the types of a schema.
     ///
-    /// A refusal names the first fault: Q1, then those of the top, of each message, of each rule, and of each message's table. OutOfMemory may
-    /// stand in place of any answer.
+    /// A refusal names the first fault: Q1, then those of the top, of each message, of each rule, and of each message's
+    /// table. OutOfMemory may come in place of any answer.
     pub fn load<S: Types>(alloc: Global, text: &[u8], schema: &S) -> Result<Policy, PolicyFault>
         // What is answered is what the text says,
         ensures loads { IfOk result (λ p. Loads text.now (S.types schema.now) (policy_view p)) }

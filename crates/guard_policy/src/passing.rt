@@ -1,4 +1,5 @@
-//! Whether a message goes: one pass over its octets, without memory. What it costs grows neither with rules nor with messages nor with names.
+//! Whether a message goes: one pass over its octets, without memory. What it costs grows neither with rules nor with
+//! messages nor with names.
 ghost use Rattle.std.specs.Prelude.{◌≡◌, ◌≢◌, ◌↔◌, IsTrue};
 ghost use Rattle.guard_tables.specs.Slots.{none};
 ghost use Rattle.guard_policy.specs.inside.Routing.{common};
@@ -14,8 +15,8 @@ impl Policy {
     ghost use Rattle.guard_policy.specs.PolicyView.{policy_view, route_view};
     ghost use Rattle.guard_policy.specs.Decisions.{Goes};
 
-    /// Whether a message goes on its route: its octets are the encoding of a value of its declared type that some rule of the route allows and
-    /// none denies. It takes no memory.
+    /// Whether a message goes on its route: its octets are the encoding of a value of its declared type that some rule
+    /// of the route allows and none denies. It takes no memory.
     pub fn passes(&self, route: &Route, octets: &[u8]) -> bool
         ensures { IsTrue result ↔ Goes (policy_view self.now) (route_view route.now) octets.now }
     {

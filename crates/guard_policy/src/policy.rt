@@ -69,8 +69,9 @@ pub struct Refused {
     pub modules: Vec<String>,
 }
 
-/// A policy over a schema: messages and rules in file order, and the names of the schema's modules. All types are sound, and those of a message
-/// and its rules make a table: no rule's type has other tags or another base than the declared type of its message.
+/// A policy over a schema: messages and rules in file order, and the names of the schema's modules. All types are
+/// sound, and those of a message and its rules make a table: no rule's type has other tags or another base than the
+/// declared type of its message.
 #[derive(Drop)]
 pub struct Policy {
     pub(crate) kept: Kept,
@@ -94,9 +95,9 @@ impl Policy {
 
     /// A policy of these messages and rules, over a schema whose modules have these names.
     ///
-    /// It refuses with BadName for the first message, and then for the first rule, a name of which is none; and then with Table, and the number
-    /// of the first message whose type and those of its rules make no table. OutOfMemory may stand in place of any answer. A refusal hands back
-    /// what was given.
+    /// It refuses with BadName for the first message, and then for the first rule, a name of which is none; and then
+    /// with Table, and the number of the first message whose type and those of its rules make no table. OutOfMemory may
+    /// come in place of any answer. A refusal hands back what was given.
     pub fn new(
         alloc: Global,
         messages: Vec<Message>,
@@ -127,8 +128,8 @@ impl Policy {
 
     /// A policy of messages and rules whose names were looked at.
     ///
-    /// It refuses with Table, and the number of the first message whose type and those of its rules make no table. OutOfMemory may stand in place
-    /// of any answer.
+    /// It refuses with Table, and the number of the first message whose type and those of its rules make no table.
+    /// OutOfMemory may come in place of any answer.
     pub(crate) fn of_named(
         alloc: Global,
         messages: &[SaidMessage],
@@ -267,7 +268,8 @@ impl Policy {
     }
 }
 
-/// What is kept of messages and rules, where all their names are names and the types of each message and its rules make a table.
+/// What is kept of messages and rules, where all their names are names and the types of each message and its rules make
+/// a table.
 fn named_and_tabled(
     alloc: Global,
     messages: &[Message],

@@ -7,7 +7,7 @@ ghost use Rattle.guard_policy.specs.Names.{is_name, is_name_octet, is_party, is_
 /// The most octets of a name.
 const LONGEST_NAME: usize = 63;
 
-/// What stands in a rule for every sender, or for every receiver.
+/// What a rule says for every sender, or for every receiver.
 pub(crate) const ANYONE: &str = "*";
 
 /// The sender, the receiver and the name of the message, as a frame gives them. They are taken as given.

@@ -1,4 +1,5 @@
-//! How a route leads to the rules of a message: by one look-up of the sender's name and one of the receiver's, however many rules there are.
+//! How a route leads to the rules of a message: by one look-up of the sender's name and one of the receiver's, however
+//! many rules there are.
 ghost use Rattle.std.specs.Prelude.{◌≡◌, ◌≢◌, ◌↔◌, ◌+◌, ◌<◌, ◌≤◌, length, IfOk, IsTrue};
 ghost use Rattle.guard_tables.specs.Slots.{none, only, added};
 ghost use Rattle.guard_policy.specs.PolicyView.{route_view};
@@ -20,7 +21,8 @@ pub(crate) enum Side {
     Receiver,
 }
 
-/// For each sender, or for each receiver, the rules of one message that speak of it. What rules with `*` add is in each set.
+/// For each sender, or for each receiver, the rules of one message that speak of it. What rules with `*` add is in each
+/// set.
 #[derive(Drop)]
 pub(crate) struct Parties {
     named: IndexMap<Vec<u8>, Slots>,

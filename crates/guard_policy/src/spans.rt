@@ -112,7 +112,7 @@ fn push_next(number: i128, found: &mut Vec<i128>) -> Result<(), OutOfMemory>
 
 // ---- integers
 
-/// Whether the constraint has the integer, whatever the kind of type is on which it stands.
+/// Whether the constraint has the integer, whatever kind of type it constrains.
 #[cycle(numbers)]
 pub(crate) fn has_number(constraint: &Cons, number: i128) -> bool
     ensures { result ≡ has_number (constraint_view constraint.now) number }

@@ -1,4 +1,4 @@
-//! What a policy stands on: the types of a schema and the names of its modules.
+//! What a policy is built on: the types of a schema and the names of its modules.
 ghost use Rattle.std.specs.Prelude.{◌≡◌, ◌≤◌, None, Some, map, option_map, length, string_bytes, IfOk, IfErr, IfSome, IsTrue};
 ghost use Rattle.guard_der.specs.Sound.{is_sound};
 ghost use Rattle.guard_model.specs.TypeView.{type_view};

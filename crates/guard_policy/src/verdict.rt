@@ -2,7 +2,7 @@
 use guard_der::Breach;
 use guard_eval::Violation;
 
-/// The first of these that stands. Rules are numbered from 0 in the order of the policy.
+/// The first of these that holds. Rules are numbered from 0 in the order of the policy.
 #[derive(Debug, Drop)]
 pub enum Verdict {
     /// Some allowing rule of the route has the value, and no denying one.

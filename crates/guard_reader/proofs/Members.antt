@@ -15,7 +15,8 @@ use Rattle.guard_der.specs.declared.breach.Code.TheVariants as code
 use Rattle.guard_der.specs.Breach.{AbstractBreach, one_with, below}
 use Rattle.guard_der.specs.Der.{is_left_out}
 use Rattle.guard_der.specs.Head.{Head, head_of}
-use Rattle.guard_der.specs.Reading.{fault, inside, follows, is_filled, fill, presence_at, all_absent, set_at, set_element_at, completed, not_sent, missing_at, field_before, element_at, part_at}
+use Rattle.guard_der.specs.Reading.{fault, inside, follows, is_filled, fill, presence_at, set_at, set_element_at, completed, not_sent, missing_at, field_before, element_at, part_at}
+use Rattle.guard_model.specs.Slots.{all_absent}
 use Rattle.guard_der.proofs.Components.ByTag.{with_tag}
 use Rattle.guard_der.proofs.Sets.OneElement.{place_free, place_unknown, place_descends, place_full, set_element_reads, set_element_bad, set_element_strays, set_element_fails, set_element_default}
 use Rattle.guard_tables.specs.declared.slots.Slots.{Slots}

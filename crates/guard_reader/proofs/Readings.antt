@@ -9,7 +9,8 @@ use Rattle.guard_der.specs.Breach.{AbstractBreach}
 use Rattle.guard_der.specs.Der.{contents_octets}
 use Rattle.guard_der.specs.Head.{Head}
 use Rattle.guard_der.specs.Reading as read
-use Rattle.guard_der.specs.Reading.{fields_at, items_at, set_at, part_at, all_absent, contents_at, element_at, end_at, fields_read, items_read}
+use Rattle.guard_der.specs.Reading.{fields_at, items_at, set_at, part_at, contents_at, element_at, end_at, fields_read, items_read}
+use Rattle.guard_model.specs.Slots.{all_absent}
 use Rattle.guard_tables.specs.declared.slots.Slots.{Slots}
 use Rattle.guard_tables.specs.Slots.{none}
 use Rattle.guard_tables.specs.Formulas.{Raise}

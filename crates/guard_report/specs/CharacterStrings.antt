@@ -10,8 +10,8 @@ use Rattle.guard_report.specs.Layouts.{in_braces}
 abbrev pub is_within : ℕ → ℕ → ℕ → Bool
 is_within first last code = nat_le first code && nat_le code last
 
--- Characters that nobody sees, or that change how others stand: controls, marks of direction and width, ends of lines
--- and paragraphs, tags.
+-- Characters that nobody sees, or that change where others appear: controls, marks of direction and width, ends of
+-- lines and paragraphs, tags.
 abbrev pub is_hidden : ℕ → Bool
 is_hidden code =
     is_within 0 31 code || is_within 127 159 code || nat_eq code 173 || nat_eq code 1564 || is_within 8203 8207 code
@@ -31,7 +31,8 @@ in_quotes characters = codes "\"" ++ flat_map as_quoted characters ++ codes "\""
 abbrev pub numbers_of : Option CharKind → ℕ → List ℕ
 numbers_of (Some Ia5) code = codes "{" ++ decimal (code / 16) ++ codes ", " ++ decimal (code % 16) ++ codes "}"
 numbers_of _ code =
-    codes "{0, " ++ decimal (code / 65536) ++ codes ", " ++ decimal (code / 256 % 256) ++ codes ", " ++ decimal (code % 256)
+    codes "{0, " ++ decimal (code / 65536) ++ codes ", " ++ decimal (code / 256 % 256)
+    ++ codes ", " ++ decimal (code % 256)
     ++ codes "}"
 
 -- a run of characters that are seen, or a hidden one

@@ -1,4 +1,4 @@
--- How what is in braces stands: on one line, or each part on a line of its own.
+-- How what is in braces is laid out: on one line, or each part on a line of its own.
 use Rattle.std.specs.Prelude.{ℕ, zero, suc, ◌+◌, ◌^◌, ◌-◌, Bool, true, false, List, [], ◌∷◌, ◌++◌, codes, min}
 use Rattle.guard_report.specs.declared.layout.Layout.{Layout}
 use Rattle.guard_report.specs.declared.layout.Layout.TheVariants.{Line, Lines}
@@ -16,14 +16,14 @@ spaces (suc level) = codes "  " ++ spaces level
 abbrev pub new_line : ℕ → List ℕ
 new_line level = codes "\n" ++ spaces level
 
--- what comes before a part: a comma after the part before it, and the place where it stands
+-- what comes before a part: a comma after the part before it, and the place where it begins
 abbrev pub before_part : Layout → Bool → List ℕ
 before_part Line true = []
 before_part Line false = codes ", "
 before_part (Lines level) true = new_line level
 before_part (Lines level) false = codes "," ++ new_line level
 
--- What comes after the last part. Where there is none, the braces stand together.
+-- What comes after the last part. Where there is none, nothing is between the braces.
 abbrev pub closing : Layout → Bool → List ℕ
 closing layout true = codes "}"
 closing Line false = codes "}"

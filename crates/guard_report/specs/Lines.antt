@@ -8,6 +8,7 @@ use Rattle.guard_report.specs.Text.{verdict_octets}
 abbrev pub route_text : AbstractRoute → List ℕ
 route_text route = route.from ++ codes ">" ++ route.to ++ codes " " ++ route.message
 
--- the frame's number, the route and the text of the verdict, parted by spaces, and a line feed
+-- the frame's number, the route and the text of the verdict, separated by spaces, and a line feed
 abbrev pub line_octets : AbstractPolicy → AbstractRoute → ℕ → AbstractVerdict → List ℕ
-line_octets p route number w = decimal number ++ codes " " ++ route_text route ++ codes " " ++ verdict_octets p route w ++ codes "\n"
+line_octets p route number w =
+    decimal number ++ codes " " ++ route_text route ++ codes " " ++ verdict_octets p route w ++ codes "\n"

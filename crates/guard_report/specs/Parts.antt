@@ -45,7 +45,8 @@ abbrev pub is_chosen : AbstractValue → Bool
 is_chosen (value.chosen i v) = true
 is_chosen _ = false
 
--- What stands before the part of this value to which the step leads: a component's name, or an alternative's with its colon.
+-- What is written before the part of this value to which the step leads: a component's name, or an alternative's with
+-- its colon.
 abbrev pub name_before : Option AbstractType → AbstractValue → Step → List ℕ
 name_before t v (Component i) = part_name t i ++ (if is_chosen v then codes ": " else codes " ")
 name_before t v (Element i) = []
@@ -55,6 +56,6 @@ named_from name t v [] = Some (name ++ value_octets Line t v)
 named_from name t v (step ∷ steps) =
     option_and_then (λ part. named_from (name_before t v step) (type_within t step) part steps) (value_within v step)
 
--- `qty 11`: how the part is written where it stands, on one line; an element, and the whole value, have no name
+-- `qty 11`: how the part is written at its place, on one line; an element, and the whole value, have no name
 abbrev pub named_part_octets : AbstractType → AbstractValue → List Step → Option (List ℕ)
 named_part_octets t v path = named_from [] (Some t) v path

@@ -61,8 +61,8 @@ element_with octets tag zero at = None
 element_with octets tag (suc others) at =
     if has_tag tag (header_there octets at) then at else element_with octets tag others (after_element octets at)
 
--- Where a component with this value begins. In a SET its tag says which of the elements is its (X.690 10.3), the first of
--- which begins at `next`. In a SEQUENCE `next` is where what is sent before it has ended.
+-- Where a component with this value begins. In a SET its tag says which of the elements is its (X.690 10.3), the first
+-- of which begins at `next`. In a SEQUENCE `next` is where what is sent before it has ended.
 abbrev pub component_place : List ℕ → Bool → Option OneComponent → AbstractValue → Option ℕ → Option ℕ
 component_place octets in_set None v next = None
 component_place octets in_set (Some c) v next =

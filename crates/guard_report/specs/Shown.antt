@@ -1,5 +1,5 @@
--- A message as its value is written, with a part on each line: the line on which a part begins ends with the place of the
--- part's encoding. And octets that encode no value, as far as they were read.
+-- A message as its value is written, with a part on each line: the line on which a part begins ends with the place of
+-- the part's encoding. And octets that encode no value, as far as they were read.
 use Rattle.std.specs.Prelude.{ℕ, zero, suc, ◌+◌, ◌-◌, ◌^◌, ◌%◌, Bool, true, false, List, [], ◌∷◌, ◌++◌, codes, decimal, min}
 use Rattle.std.specs.Prelude.{nat_eq, take, Option, Some, None, if◌then◌else◌}
 use Rattle.guard_model.specs.declared.site.Step.TheVariants.{Component}
@@ -47,7 +47,7 @@ is_on_one_line (value.octet_string octets) = true
 is_on_one_line (value.object_identifier arcs) = true
 is_on_one_line (value.characters characters) = true
 
--- What ends the last line of a value that begins there: its note where it is on one line, else that stands already.
+-- What ends the last line of a value that begins there: its note where it is on one line, else its note came before.
 abbrev pub last_end : (Option ℕ → List ℕ) → AbstractValue → Option ℕ → List ℕ
 last_end note v at = if is_on_one_line v then note at else []
 
@@ -59,12 +59,12 @@ pub record ShownPart : Type 0 where
 abbrev pub deeper : ℕ → ℕ
 deeper level = min (level + 1) (2 ^ 8 - 1)
 
--- the comma after the part before, what ends that line, and the place where the next part stands
+-- the comma after the part before, what ends that line, and the place where the next part begins
 abbrev pub before_line : ℕ → Bool → List ℕ → List ℕ
 before_line level true end = end ++ new_line level
 before_line level false end = codes "," ++ end ++ new_line level
 
--- What comes after the last part. Where there is none, the braces stand together.
+-- What comes after the last part. Where there is none, nothing is between the braces.
 abbrev pub closing_line : ℕ → Bool → List ℕ → List ℕ
 closing_line level true end = codes "}"
 closing_line level false end = end ++ new_line level ++ codes "}"
@@ -77,12 +77,14 @@ lines_from level is_first end (part ∷ parts) =
 
 -- ---- values
 
--- At this level of indentation; the value's encoding begins at `at`, and that of the part on whose line it begins at `line`:
--- an alternative stands on the line of its CHOICE. Of a line's place `note` says how it is written.
+-- At this level of indentation; the value's encoding begins at `at`, and that of the part on whose line it begins at
+-- `line`: an alternative is on the line of its CHOICE. Of a line's place `note` says how it is written.
 abbrev mutual
-  pub value_lines : (Option ℕ → List ℕ) → List ℕ → ℕ → Option ℕ → Option ℕ → Option AbstractType → AbstractValue → List ℕ
+  pub value_lines : (Option ℕ → List ℕ) → List ℕ → ℕ → Option ℕ → Option ℕ → Option AbstractType → AbstractValue
+      → List ℕ
   value_lines note octets level line at t (value.fields fs) =
-      codes "{" ++ lines_from level true (note line) (field_lines note octets (deeper level) (inside_value octets t at) t 0 fs)
+      codes "{"
+      ++ lines_from level true (note line) (field_lines note octets (deeper level) (inside_value octets t at) t 0 fs)
   value_lines note octets level line at t (value.items vs) =
       codes "{" ++ lines_from level true (note line)
       (element_lines note octets (deeper level) (inside_value octets t at) (element_type t) vs)
@@ -93,7 +95,8 @@ abbrev mutual
   value_lines note octets level line at t (value.integer z) = value_octets (Lines level) t (value.integer z)
   value_lines note octets level line at t (value.enumerated z) = value_octets (Lines level) t (value.enumerated z)
   value_lines note octets level line at t value.null = value_octets (Lines level) t value.null
-  value_lines note octets level line at t (value.bit_string os unused) = value_octets (Lines level) t (value.bit_string os unused)
+  value_lines note octets level line at t (value.bit_string os unused) =
+      value_octets (Lines level) t (value.bit_string os unused)
   value_lines note octets level line at t (value.octet_string os) = value_octets (Lines level) t (value.octet_string os)
   value_lines note octets level line at t (value.object_identifier arcs) =
       value_octets (Lines level) t (value.object_identifier arcs)
@@ -137,7 +140,8 @@ digit_lines i (octet ∷ octets) = line_feed_before i ++ two_digits octet ++ dig
 -- The octets before the breach as an hstring (X.680 12.12), and the breach as a verdict names it, in a comment.
 abbrev pub breach_shown : AbstractType → List ℕ → AbstractBreach → List ℕ
 breach_shown t octets b =
-    codes "'" ++ digit_lines 0 (take b.at octets) ++ codes "'H\n-- " ++ breach_name b.code ++ codes " at " ++ decimal b.at
+    codes "'" ++ digit_lines 0 (take b.at octets) ++ codes "'H\n-- " ++ breach_name b.code ++ codes " at "
+    ++ decimal b.at
     ++ codes " $" ++ steps_text (Some t) b.path
 
 -- ---- what is answered

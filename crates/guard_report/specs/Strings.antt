@@ -71,5 +71,6 @@ names_of_ones names i (suc b ∷ bits) = name_or_number (name_of names (pos i)) 
 abbrev pub bits_text : List NamedNumber → List ℕ → ℕ → List ℕ
 bits_text [] octets unused = bits_as_digits octets unused
 bits_text (n ∷ ns) octets unused =
-    if are_named (n ∷ ns) 0 (bits_of octets unused) then in_braces Line (names_of_ones (n ∷ ns) 0 (bits_of octets unused))
+    if are_named (n ∷ ns) 0 (bits_of octets unused)
+    then in_braces Line (names_of_ones (n ∷ ns) 0 (bits_of octets unused))
     else bits_as_digits octets unused

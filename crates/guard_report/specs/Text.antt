@@ -1,4 +1,4 @@
--- The text of a verdict, as it stands in a report.
+-- The text of a verdict, as a report has it.
 use Rattle.std.specs.Prelude.{ℕ, List, [], ◌∷◌, ◌++◌, codes, decimal, option_map, Option, Some, None}
 use Rattle.guard_model.specs.declared.site.Site.{Site}
 use Rattle.guard_model.specs.declared.site.Step.{Step}
@@ -13,14 +13,15 @@ use Rattle.guard_policy.specs.Verdicts.{AbstractVerdict, pass, unknown_message, 
 use Rattle.guard_model.specs.Components.{component_at, components_in}
 use Rattle.guard_der.specs.Names.{breach_name}
 
--- what has no name stands by its number
+-- what has no name is written by its number
 abbrev pub name_or_number : Option (List ℕ) → ℕ → List ℕ
 name_or_number (Some name) number = name
 name_or_number None number = decimal number
 
 -- the name of the module, then line and column
 abbrev pub site_text : AbstractPolicy → Site → List ℕ
-site_text p s = name_or_number (module_name p s.text) s.text ++ codes ":" ++ decimal s.line ++ codes ":" ++ decimal s.column
+site_text p s =
+    name_or_number (module_name p s.text) s.text ++ codes ":" ++ decimal s.line ++ codes ":" ++ decimal s.column
 
 -- the component or alternative at this place of the written list, from 0
 abbrev pub component_of : Option AbstractType → ℕ → Option OneComponent

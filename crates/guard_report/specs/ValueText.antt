@@ -1,5 +1,5 @@
 -- The text of a value in ASN.1 value notation (X.680), by its kind. The type says how items, bits, components and
--- alternatives are called; what the type doesn't know stands by its number.
+-- alternatives are called; what the type doesn't know is written by its number.
 use Rattle.std.specs.Prelude.{ℕ, suc, ℤ, Bool, true, false, List, [], ◌∷◌, ◌++◌, codes, decimal, option_map, Option}
 use Rattle.std.specs.Prelude.{Some, None}
 use Rattle.std.specs.Fmt.{signed_decimal}
@@ -86,7 +86,7 @@ abbrev mutual
   value_octets layout t (value.chosen i v) =
       part_name t i ++ codes ": " ++ value_octets layout (type_within t (Component i)) v
 
-  -- Each component that is there, with its name. The first of these stands at place i.
+  -- Each component that is there, with its name. The first of these is at place i.
   pub field_texts : Layout → Option AbstractType → ℕ → Fields → List (List ℕ)
   field_texts layout t i value.no_fields = []
   field_texts layout t i (value.present v fs) =

@@ -7,8 +7,8 @@ ghost use Rattle.guard_report.specs.inside.Listing.{end_of, end_of_list, opening
 use super::words::{add, add_number};
 use guard_model::{CharKind, OutOfMemory};
 
-/// Appends the string in quotes where each character can be seen, else the list of what is seen and of hidden characters
-/// by their numbers.
+/// Appends the string in quotes where each character can be seen, else the list of what is seen and of hidden
+/// characters by their numbers.
 pub(crate) fn add_characters(
     text: &mut Vec<u8>,
     kind: Option<CharKind>,
@@ -73,7 +73,7 @@ fn add_as_quoted(text: &mut Vec<u8>, character: char) -> Result<(), OutOfMemory>
 
 // ---- lists of characters
 
-/// What stands last in a list of characters so far.
+/// What comes last in a list of characters so far.
 #[derive(Clone, Copy)]
 enum Last {
     Nothing,
@@ -104,7 +104,7 @@ fn add_end(text: &mut Vec<u8>, last: Last) -> Result<(), OutOfMemory>
     }
 }
 
-/// Appends one more character to a list, and answers what stands last then.
+/// Appends one more character to a list, and answers what comes last then.
 fn add_listed(
     text: &mut Vec<u8>,
     kind: Option<CharKind>,
@@ -137,7 +137,7 @@ fn add_end_of(text: &mut Vec<u8>, last: Last) -> Result<(), OutOfMemory>
     }
 }
 
-/// Appends what stands before a character that is seen.
+/// Appends what comes before a character that is seen.
 fn add_opening(text: &mut Vec<u8>, last: Last) -> Result<(), OutOfMemory>
     ensures { OnOk result (text.new.items ≡ text.old.items ++ opening last) }
 {

@@ -1,16 +1,16 @@
-//! What stands in braces: each part at its place, with commas between.
+//! What is in braces: each part at its place, with commas between.
 ghost use Rattle.std.specs.Prelude.{◌≡◌, ◌++◌, OnOk};
 ghost use Rattle.guard_report.specs.Layouts.{inside, new_line, before_part, closing};
 
 use super::words::add;
 use guard_model::OutOfMemory;
 
-/// How the parts of what is in braces stand.
+/// How the parts of what is in braces are laid out.
 #[derive(Clone, Copy, Debug, PartialEq, Eq)]
 pub enum Layout {
     /// All on one line: `{qty 11, side buy}`.
     Line,
-    /// Each on a line of its own, one level further in than the whole, which stands at this level. A level is two
+    /// Each on a line of its own, one level further in than the whole, which is at this level. A level is two
     /// spaces.
     Lines(u8),
 }
@@ -27,7 +27,7 @@ impl Layout {
     }
 }
 
-/// Appends what comes before a part that stands so: a comma if it isn't the first one, and its place.
+/// Appends what comes before a part that is laid out so: a comma if it isn't the first one, and its place.
 pub(crate) fn add_before_part(
     text: &mut Vec<u8>,
     layout: Layout,
@@ -46,7 +46,7 @@ pub(crate) fn add_before_part(
     }
 }
 
-/// Appends the brace that closes the whole; `is_empty` where no part stands before it.
+/// Appends the brace that closes the whole; `is_empty` where no part is before it.
 pub(crate) fn add_closing(
     text: &mut Vec<u8>,
     layout: Layout,

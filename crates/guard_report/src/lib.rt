@@ -6,15 +6,15 @@
 //! | What is the text of a verdict, with its breach, site and rules? | `text.rt` (`verdict_text`) | `specs/Text.antt` |
 //! | What is the line of a frame's verdict? | `lines.rt` (`line`) | `specs/Lines.antt` |
 //! | How is a path written by the names of a type? | `path.rt` | `specs/Text.antt` |
-//! | What stands for a name that is missing? | `words.rt` | `specs/Text.antt` |
+//! | What is written for a name that is missing? | `words.rt` | `specs/Text.antt` |
 //! | How is a value written? | `values.rt` (`value_text`) | `specs/ValueText.antt` |
 //! | How are bits and octets written? | `strings.rt` | `specs/Strings.antt` |
 //! | How are characters written? | `characters.rt` | `specs/CharacterStrings.antt`, `specs/inside/Listing.antt` |
-//! | Where do the parts of what is in braces stand? | `layout.rt` | `specs/Layouts.antt` |
-//! | How is a message shown, with the places of its parts, or up to its breach? | `showing.rt` (`shown_text`), `noted.rt` | `specs/Shown.antt` |
+//! | Where are the parts of what is in braces? | `layout.rt` | `specs/Layouts.antt` |
+//! | How is a message shown with its parts' places, or its breach? | `showing.rt`, `noted.rt` | `specs/Shown.antt` |
 //! | Where do the encodings of a value's parts begin? | `places.rt`, `outermost.rt` | `specs/Places.antt` |
 //! | What holds of the texts for every value? | `laws.rt` | `specs/Shown.antt` |
-//! | Which part of a value does a path name? | `parts.rt` (`value_at`, `type_at`, `part_text`, `named_part_text`) | `specs/Parts.antt` |
+//! | Which part of a value does a path name? | `parts.rt` (`value_at`, `type_at`, `part_text`) | `specs/Parts.antt` |
 #![tactic(auto)]
 
 mod characters;

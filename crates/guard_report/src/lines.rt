@@ -10,8 +10,8 @@ use guard_model::OutOfMemory;
 use guard_policy::{Policy, Route, Verdict};
 use std::alloc::Global;
 
-/// The line of the verdict on the message of a frame, by the frame's number: its number, sender and receiver as `FROM>TO`, the
-/// message's name and the text of the verdict, and a line feed. Its one refusal
+/// The line of the verdict on the message of a frame, by the frame's number: its number, sender and receiver as
+/// `FROM>TO`, the message's name and the text of the verdict, and a line feed. Its one refusal
 /// is want of memory.
 pub fn line(
     alloc: Global,

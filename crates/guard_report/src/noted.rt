@@ -1,4 +1,5 @@
-//! A value in value notation, with a part on each line, and on the line on which a part begins the place of its encoding.
+//! A value in value notation, with a part on each line, and on the line on which a part begins the place of its
+//! encoding.
 ghost use Rattle.std.specs.Prelude.{◌≡◌, ◌++◌, true, OnOk, codes, option_map};
 ghost use Rattle.guard_model.specs.declared.site.Step.TheVariants.{Component};
 ghost use Rattle.guard_model.specs.TypeView.{type_view};
@@ -18,7 +19,7 @@ use super::words::{add, add_number};
 use guard_model::{OutOfMemory, Ty, Value};
 use std::alloc::Global;
 
-/// Where a value stands in the text, and where in the message.
+/// Where a value is in the text, and where in the message.
 #[derive(Clone, Copy)]
 pub struct Spot {
     /// Of indentation.
@@ -83,7 +84,8 @@ fn add_field_lines(
 ) -> Result<(), OutOfMemory>
     ensures { let t = option_map (λ ty. type_view ty.now) ty.entry in
         OnOk result (text.new.items ≡ text.old.items ++ (codes "{" ++ lines_from spot.level true (note spot.line)
-        (field_lines note octets.now (deeper spot.level) (inside_value octets.now t spot.at) t 0 (fields_view fields.now)))) }
+        (field_lines note octets.now (deeper spot.level) (inside_value octets.now t spot.at) t 0
+        (fields_view fields.now)))) }
 {
     add(text, b"{")?;
     let level = spot.level.saturating_add(1);
@@ -120,7 +122,8 @@ fn add_element_lines(
 ) -> Result<(), OutOfMemory>
     ensures { let t = option_map (λ ty. type_view ty.now) ty.entry in
         OnOk result (text.new.items ≡ text.old.items ++ (codes "{" ++ lines_from spot.level true (note spot.line)
-        (element_lines note octets.now (deeper spot.level) (inside_value octets.now t spot.at) (element_type t) (items_view items.now)))) }
+        (element_lines note octets.now (deeper spot.level) (inside_value octets.now t spot.at) (element_type t)
+        (items_view items.now)))) }
 {
     add(text, b"{")?;
     let level = spot.level.saturating_add(1);
@@ -157,7 +160,8 @@ fn add_part_lines(
 ) -> Result<(), OutOfMemory>
     ensures { let t = option_map (λ ty. type_view ty.now) ty.entry in
         OnOk result (text.new.items ≡ text.old.items ++ (part_name t place ++ mark.now
-        ++ value_lines note octets.now spot.level spot.line spot.at (type_within t (Component place)) (value_view value.now))) }
+        ++ value_lines note octets.now spot.level spot.line spot.at (type_within t (Component place))
+        (value_view value.now))) }
 {
     add_part_name(text, ty, place)?;
     add(text, mark)?;
@@ -231,7 +235,7 @@ fn add_before_line(
     add_new_line(text, level)
 }
 
-/// Appends the brace that closes the whole; `is_empty` where no part stands before it.
+/// Appends the brace that closes the whole; `is_empty` where no part is before it.
 fn add_closing_line(
     text: &mut Vec<u8>,
     level: u8,

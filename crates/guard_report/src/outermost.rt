@@ -33,7 +33,7 @@ fn outermost_alternative(alternatives: &[Comp], at: usize, value: &Value) -> Tag
     outermost(&alternatives[at].ty, value)
 }
 
-/// Stands where there is no encoding.
+/// What is answered where there is no encoding.
 fn no_tag() -> Tag
     ensures { result ≡ record { class = Universal; number = 0 } }
 {

@@ -77,8 +77,8 @@ pub fn part_text(
     Ok(Some(text))
 }
 
-/// The text of the part of a value of the type that the path names, on one line, after its name where it is a component or
-/// an alternative: `qty 11`. None where there is no such part. Its one refusal is want of memory.
+/// The text of the part of a value of the type that the path names, on one line, after its name where it is a component
+/// or an alternative: `qty 11`. None where there is no such part. Its one refusal is want of memory.
 pub fn named_part_text(
     alloc: Global,
     ty: &Ty,
@@ -104,7 +104,7 @@ pub fn named_part_text(
     Ok(Some(text))
 }
 
-/// Appends what stands before the part of this value to which the step leads.
+/// Appends what is written before the part of this value to which the step leads.
 fn add_name_before(
     text: &mut Vec<u8>,
     ty: Option<&Ty>,

@@ -59,8 +59,8 @@ pub fn inside_value(octets: &[u8], ty: Option<&Ty>, at: Option<usize>) -> Option
 
 // ---- components
 
-/// Where the encoding of the component with this value begins, `next` being where the SET's elements begin, or where what
-/// is sent before it in the SEQUENCE has ended.
+/// Where the encoding of the component with this value begins, `next` being where the SET's elements begin, or where
+/// what is sent before it in the SEQUENCE has ended.
 pub fn component_place(
     octets: &[u8],
     ty: Option<&Ty>,

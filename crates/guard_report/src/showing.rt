@@ -33,7 +33,7 @@ pub fn shown_text(alloc: Global, ty: &Ty, octets: &[u8]) -> Result<Shown, OutOfM
     // Where they encode a value of the type it is shown,
     ensures of_value { (v : AbstractValue) → IsTrue (fits (type_view ty.now) v) → der (type_view ty.now) v ≡ Some octets.now
         → IfOk result (λ shown. shown_view shown ≡ shown_value (value_shown (type_view ty.now) octets.now v)) }
-    // and where they have a breach, it and what stands before it.
+    // and where they have a breach, it and what comes before it.
     ensures of_breach { (b : AbstractBreach) → IsBreach (type_view ty.now) octets.now b
         → IfOk result (λ shown. shown_view shown ≡ shown_undecodable (breach_shown (type_view ty.now) octets.now b)) }
 {

@@ -1,4 +1,4 @@
-//! The text of a verdict, as it stands in a report.
+//! The text of a verdict, as a report has it.
 ghost use Rattle.std.specs.Prelude.{◌≡◌, ◌++◌, OnOk, IfOk, codes, map, option_map};
 ghost use Rattle.guard_policy.specs.PolicyView.{policy_view, route_view};
 ghost use Rattle.guard_eval.specs.Violations.{violation_view, shortfall_view};
@@ -63,7 +63,7 @@ fn add_breach(
     add_path(text, policy.declared(route.message), &breach.path)
 }
 
-/// Each rule with its first violation, parted by commas.
+/// Each rule with its first violation, separated by commas.
 fn add_shortfalls(
     text: &mut Vec<u8>,
     shortfalls: &[(usize, Violation)],

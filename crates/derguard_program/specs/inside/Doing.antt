@@ -140,7 +140,7 @@ pub record AreEnded (path : List ℕ) (told : Told) (old new : Links) (err : Oct
   pub reported : Appends err.0 err.1 (all_err ws)
   pub status : new.status ≡ max old.status (status_of ws)
 
--- Standard error failed in what is told of one of them.
+-- Standard error failed in what is said of one of them.
 pub record IsEndCut (path : List ℕ) (told : Told) (old : Links) (out err : Device) : Type 0 where
   pub before : List Record
   pub next : Record

@@ -18,7 +18,8 @@ NamesFile IsPath (Run f) = ⊥
 abbrev pub CannotBeRead : Told → List ℕ → Fault → Type 0
 CannotBeRead told path = NamesFile (λ file. HasNone told path × (file ≡ path))
 
--- nothing can be read at the first of these names in a folder at which that is so, and its path is named; or memory ran out
+-- nothing can be read at the first of these names in a folder at which that is so, and its path is named; or memory ran
+-- out
 abbrev pub CannotAllBeRead : Told → List ℕ → List (List ℕ) → Fault → Type 0
 CannotAllBeRead told beside names = NamesFile (FirstMissing told beside names)
 

@@ -132,7 +132,7 @@ closed_adds_nothing k (t ∷ ts) g after l there shut (next, step, steps) =
 
 -- ---- an open link
 
--- what steps add to link k, wherever it stands
+-- what steps add to link k, wherever it is
 abbrev Rests : ℕ → List Turn → Type 0
 Rests k ts = (g after : AbstractGateway) (l : AbstractLink) (place : ℕ) → slice_get g.links k ≡ Some l → l.closed ≡ false → IsUnfinished l.held → AreSteps g ts after →
     From (next_number l.totals) place l.held (pieces_of k g.policy (events_of ts)) (added_to k ts) (is_broken k ts)
@@ -191,7 +191,7 @@ at_end k ts next after l₁ n place held w b unfinished there shut steps none so
     from_is n place held [] nothing (joined w (added_to k ts)) false (cond b true (is_broken k ts)) (sym adds) (sym whole)
     (none_from n place held [] (inl alone))
 
--- what one step and those behind it add to link k
+-- what one step and those after it add to link k
 abbrev Onward : ℕ → AbstractEvent → Result (Unit {0}) StepFault → Added → List Turn → AbstractGateway → AbstractLink → ℕ → Type 0
 Onward k e answer w ts g l place =
     From (next_number l.totals) place l.held (pieces_of k g.policy (e ∷ events_of ts)) (cond (is_own k e) (joined w (added_to k ts)) (added_to k ts))

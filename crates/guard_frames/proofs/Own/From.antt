@@ -1,4 +1,4 @@
--- What a link gives from where it stands: it holds octets, and its next frame has a number.
+-- What a link gives from here on: it holds octets, and its next frame has a number.
 use Rattle.std.proofs.Common.{◌≡◌, ◌⊎◌, ℕ, ◌+◌, Bool, true, false, List, [], ◌++◌, refl, subst, length, arith}
 use Rattle.std.specs.List.{concat, All}
 use Rattle.guard_policy.specs.Policies.{AbstractPolicy}

@@ -1,4 +1,4 @@
--- What a link gives of one piece, and then of those behind it.
+-- What a link gives of one piece, and then of those after it.
 use Rattle.std.proofs.Common.{◌≡◌, ◌<◌, ℕ, ◌+◌, ◌^◌, Bool, true, false, List, [], ◌∷◌, ◌++◌, ◌∙◌, ap, sym, refl, subst, length, inl, inr, append_assoc, length-append, arith}
 use Rattle.std.specs.List.{concat, All}
 use Rattle.std.proofs.lemmas.List.{append-nil}
@@ -115,7 +115,7 @@ pub from_more : (n m : Totals) (place : ℕ) (held octets now : List ℕ) (p : A
 from_more n m place held octets now p xs v w false unfinished d g = all_more n m place held octets now p xs v w unfinished d g
 from_more n m place held octets now p xs v w true unfinished d g = part_more n m place held octets now p xs v w unfinished d g
 
--- up to a length that no frame may have; the later pieces lie behind it
+-- up to a length that no frame may have; the later pieces come after it
 pub too_long_from : (n m : Totals) (place : ℕ) (held octets : List ℕ) (p : AbstractPolicy) (xs : List OwnPiece) (v : Added) → IsUnfinished held →
     DecidesUntilTooLong (decision_of p) n (held ++ octets) m v → AllFrom (next_number n) place held (record { policy = p; octets = octets } ∷ xs) (joined v nothing)
 too_long_from n m place held octets p xs v unfinished d =
@@ -126,7 +126,7 @@ too_long_from n m place held octets p xs v unfinished d =
 none_more : (k : ℕ) → k + 0 ≡ k
 none_more k = omega arith
 
--- a frame behind others ends behind what was held before the piece
+-- a frame after others ends after what was held before the piece
 last_beyond : (held octets next more : List ℕ) (os : List Outcome) → IsUnfinished held → All IsFrame (frames_of os) → IsFrame next →
     held ++ octets ≡ concat (frames_of os) ++ (next ++ more) → length held < length (concat (frames_of os)) + length next
 last_beyond held octets next more [] unfinished each frame e = omega (arith, ends_beyond held octets next more unfinished frame e)
@@ -136,7 +136,7 @@ last_beyond held octets next more (o ∷ os) unfinished each frame e =
     ends_beyond held octets o.frame (fs ++ (next ++ more)) unfinished (All_first IsFrame o.frame (frames_of os) each) (e ∙ append_assoc o.frame fs (next ++ more)) in
     omega (arith, first, length-append o.frame fs)
 
--- up to a failure; the later pieces lie behind it
+-- up to a failure; the later pieces come after it
 pub part_from : (n place : ℕ) (held octets : List ℕ) (p : AbstractPolicy) (xs : List OwnPiece) (v : Added) → n < 2 ^ 64 → IsUnfinished held →
     BreaksOff (λ _. decision_of p) n (held ++ octets) v → PartFrom n place held (record { policy = p; octets = octets } ∷ xs) (joined v nothing)
 part_from n place held octets p xs v fits unfinished z =

@@ -35,7 +35,7 @@ in_force_here from x xs place (o ∷ os) rs le each most h =
     let h₁ : AreInForce from (x ∷ xs) (place + length o.frame + length (concat (frames_of os))) rs = subst (λ (k : ℕ). AreInForce from (x ∷ xs) k rs) e h in
     (inl (after, within, refl), in_force_here from x xs (place + length o.frame) os rs le₁ (All_rest IsFrame o.frame (frames_of os) each) most₁ h₁)
 
--- a frame that begins with held octets ends behind them
+-- a frame that begins with held octets ends after them
 pub ends_beyond : (held octets f more : List ℕ) → IsUnfinished held → IsFrame f → held ++ octets ≡ f ++ more → length held < length f
 ends_beyond held octets f more h frame e = elim (le_or_gt 4 (length held)) [
   | inl four ↦

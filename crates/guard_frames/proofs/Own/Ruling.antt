@@ -1,4 +1,4 @@
--- Frames that were decided under one policy, and others behind them.
+-- Frames that were decided under one policy, and others after them.
 use Rattle.std.proofs.Common.{◌≡◌, ◌<◌, ℕ, ◌+◌, ◌^◌, List, [], ◌∷◌, ◌++◌, ◌∙◌, ap, refl, subst, length, append_assoc, arith}
 use Rattle.std.specs.List.{concat}
 use Rattle.std.proofs.lemmas.List.Folds.{concat-append}

@@ -1,4 +1,4 @@
--- How the code's answers stand for those of the definitions.
+-- Which answers of the definitions the code's answers represent.
 use Rattle.std.specs.Prelude.{◌≡◌, ℕ, List, map, Option, Some, None, Result, Ok, Err, IfSome, String, if◌then◌else◌}
 use Rattle.std.specs.Borrow.{Bor}
 use Rattle.std.specs.BTreeMap.{BTreeMap}

@@ -8,4 +8,5 @@ use Rattle.guard_policy.specs.Decisions.{speaks_of}
 
 -- Each rule's type is sound, and has the value where the rule speaks of the route.
 abbrev pub AreApplicable : AbstractRoute → AbstractValue → List AbstractRule → Type 0
-AreApplicable route v rules = All (λ r. IsTrue (is_sound r.ty) × (IsTrue (speaks_of route r) → IsTrue (fits r.ty v))) rules
+AreApplicable route v rules =
+    All (λ r. IsTrue (is_sound r.ty) × (IsTrue (speaks_of route r) → IsTrue (fits r.ty v))) rules

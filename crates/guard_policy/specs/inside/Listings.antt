@@ -20,10 +20,12 @@ place_among name i (m ∷ ms) = if bytes_eq m.name name then Some i else place_a
 -- the numbers of the rules that speak of the message, where the first of the list has this number
 abbrev pub numbers_for : List ℕ → ℕ → List AbstractRule → List ℕ
 numbers_for name i [] = []
-numbers_for name i (r ∷ rs) = if bytes_eq r.message name then i ∷ numbers_for name (i + 1) rs else numbers_for name (i + 1) rs
+numbers_for name i (r ∷ rs) =
+    if bytes_eq r.message name then i ∷ numbers_for name (i + 1) rs else numbers_for name (i + 1) rs
 
 abbrev pub listing : List AbstractMessage → List AbstractRule → List ℕ → Option AbstractListed
-listing messages rules name = option_map (λ place. record { place = place; numbers = numbers_for name 0 rules }) (place_among name 0 messages)
+listing messages rules name =
+    option_map (λ place. record { place = place; numbers = numbers_for name 0 rules }) (place_among name 0 messages)
 
 -- ---- in the code
 
@@ -41,7 +43,10 @@ IsIndex messages rules index = (name : List ℕ) → found_in index name ≡ lis
 -- the rules of these numbers
 abbrev pub rules_at : List AbstractRule → List ℕ → List NumberedRule
 rules_at rules [] = []
-rules_at rules (n ∷ ns) = elim (slice_get rules n) [ Some r ↦ record { number = n; rule = r } ∷ rules_at rules ns | None ↦ rules_at rules ns ]
+rules_at rules (n ∷ ns) = elim (slice_get rules n) [
+  | Some r ↦ record { number = n; rule = r } ∷ rules_at rules ns
+  | None ↦ rules_at rules ns
+]
 
 -- those that speak of the route
 abbrev pub heard : AbstractRoute → List NumberedRule → List NumberedRule
@@ -54,4 +59,7 @@ denies_at rules n route v = elim (slice_get rules n) [ Some r ↦ speaks_of rout
 
 -- the rule of this number, where it speaks of the route and allows something
 abbrev pub allowing_at : List AbstractRule → ℕ → AbstractRoute → Option AbstractRule
-allowing_at rules n route = elim (slice_get rules n) [ Some r ↦ if speaks_of route r && is_allowing r then Some r else None | None ↦ None ]
+allowing_at rules n route = elim (slice_get rules n) [
+  | Some r ↦ if speaks_of route r && is_allowing r then Some r else None
+  | None ↦ None
+]

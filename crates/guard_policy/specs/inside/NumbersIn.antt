@@ -1,4 +1,4 @@
--- Which integers a constraint has, as the code looks for them: without the kind of type on which it stands.
+-- Which integers a constraint has, as the code looks for them: without the kind of type that it constrains.
 use Rattle.std.specs.Prelude.{ℤ, Bool, true, false, not, ◌&&◌, ◌||◌}
 use Rattle.guard_model.specs.AbstractType as type
 use Rattle.guard_model.specs.AbstractType.{AbstractType, Constraint, Constraints, Element, type_of, at, no_constraints, constraint}

@@ -1,5 +1,5 @@
--- Which rules of a message speak of a route, as sets of the slots that their types have in the message's table. The first rule has slot 1, since
--- slot 0 is that of the declared type.
+-- Which rules of a message speak of a route, as sets of the slots that their types have in the message's table. The
+-- first rule has slot 1, since slot 0 is that of the declared type.
 use Rattle.std.specs.Prelude.{◌≡◌, ℕ, suc, Bool, not, List, [], ◌∷◌, map, bytes_eq, string_bytes, unwrap_or, if◌then◌else◌}
 use Rattle.std.specs.Map.{lookup}
 use Rattle.guard_model.specs.AbstractValue.{AbstractValue}
@@ -74,7 +74,9 @@ pub record IsRouting (rules : List AbstractRule) (r : Routing) : Type 0 where
 abbrev pub speaking_slots : Routing → AbstractRoute → Slots
 speaking_slots r route = common (slots_for r.senders route.from) (slots_for r.receivers route.to)
 
--- Each type of its table but the declared one has the values that the type of the rule at its place has, and its routing leads to the rules.
+-- Each type of its table but the declared one has the values that the type of the rule at its place has, and its
+-- routing leads to the rules.
 pub record IsRouted (rules : List AbstractRule) (m : KeptMessage) : Type 0 where
-  pub types : (v : AbstractValue) (place : ℕ) → is_in (rules_of m.table) v place ≡ is_in (types_for (string_bytes m.name) rules) v place
+  pub types : (v : AbstractValue) (place : ℕ)
+      → is_in (rules_of m.table) v place ≡ is_in (types_for (string_bytes m.name) rules) v place
   pub routing : IsRouting (rules_named (string_bytes m.name) rules) m.routing

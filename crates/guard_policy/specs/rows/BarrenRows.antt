@@ -1,4 +1,5 @@
--- Worked examples of barren types, computed from the definitions. `n` is an INTEGER, `s` an OCTET STRING, `q` a SEQUENCE with one component.
+-- Worked examples of barren types, computed from the definitions. `n` is an INTEGER, `s` an OCTET STRING, `q` a
+-- SEQUENCE with one component.
 use Rattle.std.specs.Prelude.{◌≡◌, ℤ, ℕ, pos, Bool, true, false, [], ◌∷◌, None, refl}
 use Rattle.guard_model.specs.AbstractType as type
 use Rattle.guard_model.specs.AbstractType.{AbstractType, AbstractPresence, Constraint, Constraints, Element, type_of, no_components, component, at, no_constraints, constraint}
@@ -51,11 +52,17 @@ pub sizes_apart : is_barren (s (type.size (at here (between 1 5)))) (s (type.siz
 sizes_apart = refl
 
 -- what is said of a component by its type and by WITH COMPONENTS
-pub component_apart : is_barren (q type.mandatory (n (between 1 5)) no_constraints)
-    (q type.mandatory (n (between 1 5)) (alone (type.with_components true (type.part_within here 0 (at here (between 6 9)) None type.no_parts)))) ≡ true
+pub component_apart :
+    is_barren (q type.mandatory (n (between 1 5)) no_constraints)
+    (q type.mandatory (n (between 1 5))
+    (alone (type.with_components true (type.part_within here 0 (at here (between 6 9)) None type.no_parts))))
+    ≡ true
 component_apart = refl
 
 -- an OPTIONAL component may be left out
-pub component_left_out : is_barren (q type.optional (n (between 1 5)) no_constraints)
-    (q type.optional (n (between 1 5)) (alone (type.with_components true (type.part_within here 0 (at here (between 6 9)) None type.no_parts)))) ≡ false
+pub component_left_out :
+    is_barren (q type.optional (n (between 1 5)) no_constraints)
+    (q type.optional (n (between 1 5))
+    (alone (type.with_components true (type.part_within here 0 (at here (between 6 9)) None type.no_parts))))
+    ≡ false
 component_left_out = refl

@@ -51,7 +51,8 @@ one_longer = refl
 abbrev pub files : Items
 files = item (string (codes "orders.asn1")) no_items
 
-pub read : parse_document (codes "modules = [\"orders.asn1\"]\n") ≡ Some (member (codes "modules") (array files) no_members)
+pub read :
+    parse_document (codes "modules = [\"orders.asn1\"]\n") ≡ Some (member (codes "modules") (array files) no_members)
 unfolding toml_on_literals
 read = refl
 
@@ -72,19 +73,28 @@ no_files_are_lawful = refl
 pub modules_missing : top_fault no_members ≡ Some (missing_key Top key.Modules)
 modules_missing = refl
 
-pub modules_of_another_kind : top_fault (member (codes "modules") (string (codes "orders.asn1")) no_members) ≡ Some (missing_key Top key.Modules)
+pub modules_of_another_kind :
+    top_fault (member (codes "modules") (string (codes "orders.asn1")) no_members) ≡ Some (missing_key Top key.Modules)
 modules_of_another_kind = refl
 
-pub a_file_of_another_kind : top_fault (member (codes "modules") (array (item (boolean true) no_items)) no_members) ≡ Some (missing_key Top key.Modules)
+pub a_file_of_another_kind :
+    top_fault (member (codes "modules") (array (item (boolean true) no_items)) no_members)
+    ≡ Some (missing_key Top key.Modules)
 a_file_of_another_kind = refl
 
-pub one_message_that_is_no_list : top_fault (member (codes "message") (table no_members) (member (codes "modules") (array files) no_members)) ≡ Some (missing_key Top key.Message)
+pub one_message_that_is_no_list :
+    top_fault (member (codes "message") (table no_members) (member (codes "modules") (array files) no_members))
+    ≡ Some (missing_key Top key.Message)
 one_message_that_is_no_list = refl
 
 -- the least one, before what is missing
-pub unknown_keys : parse_document (codes "size = true\ncolour = true\n") ≡ Some (member (codes "colour") (boolean true) (member (codes "size") (boolean true) no_members))
+pub unknown_keys :
+    parse_document (codes "size = true\ncolour = true\n")
+    ≡ Some (member (codes "colour") (boolean true) (member (codes "size") (boolean true) no_members))
 unfolding toml_on_literals
 unknown_keys = refl
 
-pub least_unknown_key : top_fault (member (codes "colour") (boolean true) (member (codes "size") (boolean true) no_members)) ≡ Some (unknown_key Top (codes "colour"))
+pub least_unknown_key :
+    top_fault (member (codes "colour") (boolean true) (member (codes "size") (boolean true) no_members))
+    ≡ Some (unknown_key Top (codes "colour"))
 least_unknown_key = refl

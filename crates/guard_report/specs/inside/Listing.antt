@@ -1,4 +1,4 @@
--- A list of characters, one character after another: what each appends, by what stands last before it.
+-- A list of characters, one character after another: what each appends, by what comes last before it.
 use Rattle.std.specs.Prelude.{ℕ, true, false, List, [], ◌∷◌, ◌++◌, codes, flat_map, map, Option, if◌then◌else◌}
 use Rattle.guard_model.specs.declared.ty.CharKind.{CharKind}
 use Rattle.guard_report.specs.declared.characters.Last.{Last}

@@ -33,7 +33,14 @@ order =
     no_components))))
 
 abbrev pub rule_called : List ℕ → AbstractRule
-rule_called name = record { name = name; effect = Allow; from = codes "north"; to = codes "south"; message = codes "order"; ty = order }
+rule_called name = record {
+  name = name;
+  effect = Allow;
+  from = codes "north";
+  to = codes "south";
+  message = codes "order";
+  ty = order;
+}
 
 abbrev pub policy : AbstractPolicy
 policy = record {
@@ -60,38 +67,50 @@ without_rule = refl
 denied : verdict_octets policy route (denied_by 1) ≡ codes "denied-by wide"
 denied = refl
 
-breached : verdict_octets policy route (undecodable (record { code = BooleanContents; at = 5; path = Component 1 ∷ [] })) ≡ codes "undecodable BooleanContents at 5 $.urgent"
+breached :
+    verdict_octets policy route (undecodable (record { code = BooleanContents; at = 5; path = Component 1 ∷ [] }))
+    ≡ codes "undecodable BooleanContents at 5 $.urgent"
 unfolding digits
 breached = refl
 
-outside : verdict_octets policy route (outside_type (record { site = place 1 3 18; path = [] })) ≡ codes "outside-type First:3:18 $"
+outside :
+    verdict_octets policy route (outside_type (record { site = place 1 3 18; path = [] }))
+    ≡ codes "outside-type First:3:18 $"
 unfolding digits
 outside = refl
 
-two_rules : verdict_octets policy route (not_allowed ((0, record { site = place 2 8 45; path = Component 0 ∷ [] }) ∷ (1, record { site = place 2 9 44; path = Component 0 ∷ [] }) ∷ []))
+two_rules : verdict_octets policy route
+    (not_allowed
+    ((0, record { site = place 2 8 45; path = Component 0 ∷ [] })
+    ∷ (1, record { site = place 2 9 44; path = Component 0 ∷ [] }) ∷ []))
     ≡ codes "not-allowed small Orders:8:45 $.qty, wide Orders:9:44 $.qty"
 unfolding digits
 two_rules = refl
 
--- what has no name stands by its number
-nameless : verdict_octets policy route (not_allowed ((2, record { site = place 3 1 1; path = Component 3 ∷ Element 12 ∷ Component 0 ∷ [] }) ∷ []))
+-- what has no name is written by its number
+nameless : verdict_octets policy route
+    (not_allowed ((2, record { site = place 3 1 1; path = Component 3 ∷ Element 12 ∷ Component 0 ∷ [] }) ∷ []))
     ≡ codes "not-allowed 2 3:1:1 $.3[12].0"
 unfolding digits
 nameless = refl
 
 -- through elements, alternatives and components of a SET
-in_set : verdict_octets policy route (undecodable (record { code = SetOrder; at = 12; path = Component 2 ∷ Element 3 ∷ Component 0 ∷ Component 1 ∷ [] }))
+in_set : verdict_octets policy route
+    (undecodable (record { code = SetOrder; at = 12; path = Component 2 ∷ Element 3 ∷ Component 0 ∷ Component 1 ∷ [] }))
     ≡ codes "undecodable SetOrder at 12 $.lines[3].pair.right"
 unfolding digits
 in_set = refl
 
-in_items : verdict_octets policy route (outside_type (record { site = place 1 3 18; path = Component 2 ∷ Element 0 ∷ Component 1 ∷ Element 14 ∷ [] }))
+in_items : verdict_octets policy route
+    (outside_type (record { site = place 1 3 18; path = Component 2 ∷ Element 0 ∷ Component 1 ∷ Element 14 ∷ [] }))
     ≡ codes "outside-type First:3:18 $.lines[0].all[14]"
 unfolding digits
 in_items = refl
 
 -- NULL has no components
-under_nothing : verdict_octets policy route (outside_type (record { site = place 1 3 18; path = Component 2 ∷ Element 0 ∷ Component 1 ∷ Element 1 ∷ Component 4 ∷ [] }))
+under_nothing : verdict_octets policy route
+    (outside_type
+    (record { site = place 1 3 18; path = Component 2 ∷ Element 0 ∷ Component 1 ∷ Element 1 ∷ Component 4 ∷ [] }))
     ≡ codes "outside-type First:3:18 $.lines[0].all[1].4"
 unfolding digits
 under_nothing = refl

@@ -37,7 +37,8 @@ unfolding digits head_of tag_number length_at
 in_a_set = refl
 
 -- 300A 02010B 010101 ..: TRUE is FF
-in_the_contents : breach_shown order (48 ∷ 10 ∷ 2 ∷ 1 ∷ 11 ∷ 1 ∷ 1 ∷ 1 ∷ 49 ∷ 2 ∷ 48 ∷ 0 ∷ []) (record { code = BooleanContents; at = 5; path = Component 1 ∷ [] })
+in_the_contents : breach_shown order (48 ∷ 10 ∷ 2 ∷ 1 ∷ 11 ∷ 1 ∷ 1 ∷ 1 ∷ 49 ∷ 2 ∷ 48 ∷ 0 ∷ [])
+    (record { code = BooleanContents; at = 5; path = Component 1 ∷ [] })
     ≡ codes "'300A02010B'H\n-- BooleanContents at 5 $.urgent"
 unfolding digits
 in_the_contents = refl

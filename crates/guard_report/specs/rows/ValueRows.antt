@@ -19,7 +19,9 @@ use Rattle.guard_report.specs.rows.Rows.{order}
 -- an order with one line, which is the empty list of alternative `all`
 abbrev pub bought : AbstractValue
 bought =
-    fields (present (integer (pos 11)) (present (boolean true) (present (items (item (chosen 1 (items no_items)) no_items))
+    fields (present (integer (pos 11))
+    (present (boolean true)
+    (present (items (item (chosen 1 (items no_items)) no_items))
     no_fields)))
 
 on_one_line : value_octets Line (Some order) bought ≡ codes "{qty 11, urgent TRUE, lines {all: {}}}"
@@ -32,7 +34,8 @@ unfolding digits
 on_lines = refl
 
 -- a component that is left out, and one that the type doesn't have
-without_urgent : value_octets Line (Some order) (fields (present (integer (negsuc 4)) (absent (absent (present null no_fields)))))
+without_urgent : value_octets Line (Some order)
+    (fields (present (integer (negsuc 4)) (absent (absent (present null no_fields)))))
     ≡ codes "{qty -5, 3 NULL}"
 unfolding digits
 without_urgent = refl

@@ -1,7 +1,7 @@
 use Rattle.std.proofs.Common.{ℕ, ◌+◌, ◌*◌}
 use Rattle.conformance_texts.proofs.set_trees.Trees.+trees.Given as goal
 
--- a join stands above the trees of its depth
+-- a join counts more than the trees of its depth
 abbrev pub decreases-joined : goal.decreases-joined
 decreases-joined l = 2 * l.deepest + 1
 

@@ -18,6 +18,7 @@ use crate::names::name_text;
 use crate::progress::Progress;
 use crate::schema::Schema;
 use crate::texts::{check_count, modules};
+use crate::weight::octets_of;
 use guard_model::Value;
 use guard_names::{Id, Names, resolve};
 use guard_syntax::Module;
@@ -40,8 +41,9 @@ pub fn schema_of(alloc: Global, texts: &[&[u8]]) -> Result<Schema, SchemaFault>
 {
     check_count(texts)?;
     let modules = modules(alloc, texts)?;
+    let octets = octets_of(texts, &modules)?;
     let names = resolve(alloc, &modules)?;
-    let progress = all_built(alloc, &names)?;
+    let progress = all_built(alloc, &names, octets)?;
     Ok(with_names(alloc, &modules, progress)?)
 }
 

@@ -27,6 +27,7 @@ use crate::fault::SchemaFault;
 use crate::finishing::finished;
 use crate::progress::{Definition, Progress};
 use crate::readings::{check_sound, read_member};
+use crate::weight::Weights;
 use guard_model::{Site, Ty, Value};
 use guard_names::{Id, Names};
 use guard_syntax::{Assignment, ValueTree};
@@ -38,18 +39,21 @@ use std::alloc::Global;
 /// Constraints, values and contained types over all definitions.
 const MOST_HELD: usize = 100_000;
 
-/// What all definitions denote, in their order.
+/// What all definitions of texts of so many octets denote, in their order. Each is weighed before it is built.
 pub fn all_built<'m, 'a>(
     alloc: Global,
     names: &'m Names<'m, 'a>,
+    octets: u64,
 ) -> Result<Progress<'m, 'a>, SchemaFault>
     requires spelled { All IsSpelledModule (modules_of names.now) }
     ensures built { Answers built_in named result (BuildsAll (none_known (modules_of names.now) (order_of names.now)) (order_of names.now)) }
     ensures names { IfOk result (λ p. p.names.now ≡ names.now) }
 {
     let order = names.order();
+    let mut weights = Weights::with_room(alloc, order.len(), octets)?;
     let mut progress = Progress::with_room(alloc, names, order.len())?;
     for id in order {
+        weights.add(names, *id)?;
         let definition = built(alloc, &progress, *id)?;
         let more = progress.with(definition)?;
         progress = more;

@@ -7,10 +7,15 @@ ghost use Rattle.guard_schema.specs.Texts.{ReadsText, ReadsTexts, CountsTexts};
 ghost use Rattle.guard_syntax.specs.ModuleViews.{module_view};
 
 use crate::fault::SchemaFault;
+use guard_model::OutOfMemory;
 use guard_names::{MOST_MODULES, NameFault};
 use guard_syntax::Module;
 use guard_tagging::laws::law_spelled;
 use std::alloc::Global;
+
+/// The tokens of all texts together. A tree takes up to 130 octets for each, so all trees take less than 2 GB; a mebioctet
+/// of notation as people write it has some 150,000.
+const MOST_TOKENS: usize = 12_000_000;
 
 /// More than 64 texts are refused before any is read.
 pub fn check_count(texts: &[&[u8]]) -> Result<(), SchemaFault>
@@ -22,7 +27,8 @@ pub fn check_count(texts: &[&[u8]]) -> Result<(), SchemaFault>
     Ok(())
 }
 
-/// The modules of texts, each read whole before the next one.
+/// The modules of texts, each read whole before the next one. Too many tokens are want of memory, before a tree is made
+/// of them.
 pub fn modules<'a>(alloc: Global, texts: &[&'a [u8]]) -> Result<Vec<Module<'a>>, SchemaFault>
     requires { length texts.now ≤ 64 }
     ensures read { Answers (λ v. map module_view v.items) named result (ReadsTexts [] (map (λ t. t.now) texts.now)) }
@@ -30,21 +36,28 @@ pub fn modules<'a>(alloc: Global, texts: &[&'a [u8]]) -> Result<Vec<Module<'a>>,
     ensures named { IfOk result (λ v. All (λ m. IsUtf8 m.name) (map module_view v.items)) }
 {
     let mut modules = Vec::with_capacity(alloc, texts.len())?;
+    let mut room = MOST_TOKENS;
     for text in texts {
         let place = modules.len() as u32 + 1;
-        modules.push(module(alloc, place, text)?)?;
+        modules.push(module(alloc, place, text, &mut room)?)?;
     }
     Ok(modules)
 }
 
-/// The module of the text at this place, from 1. Its tokens are dropped before the next text is read: what stays is the
-/// tree, which borrows the text.
-fn module<'a>(alloc: Global, place: u32, text: &'a [u8]) -> Result<Module<'a>, SchemaFault>
+/// The module of the text at this place, from 1, where there is room for its tokens. They are dropped before the next text
+/// is read: what stays is the tree, which borrows the text.
+fn module<'a>(
+    alloc: Global,
+    place: u32,
+    text: &'a [u8],
+    room: &mut usize,
+) -> Result<Module<'a>, SchemaFault>
     ensures read { Answers module_view named result (ReadsText place text.now) }
     ensures spelled { IfOk result (λ m. IsSpelledModule (module_view m)) }
     ensures named { IfOk result (λ m. IsUtf8 (module_view m).name) }
 {
     let tokens = guard_lexer::tokens(alloc, place, text)?;
+    *room = room.checked_sub(tokens.len()).ok_or(OutOfMemory)?;
     law_spelled(text, &tokens);
     Ok(guard_syntax::parse(alloc, place, text, &tokens)?)
 }

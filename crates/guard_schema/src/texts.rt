@@ -7,15 +7,12 @@ ghost use Rattle.guard_schema.specs.Texts.{ReadsText, ReadsTexts, CountsTexts};
 ghost use Rattle.guard_syntax.specs.ModuleViews.{module_view};
 
 use crate::fault::SchemaFault;
+use crate::tree_room::{MOST_FOR_TREES, octets_of_tree};
 use guard_model::OutOfMemory;
 use guard_names::{MOST_MODULES, NameFault};
 use guard_syntax::Module;
 use guard_tagging::laws::law_spelled;
 use std::alloc::Global;
-
-/// The tokens of all texts together. A tree takes up to 130 octets for each, so all trees take less than 2 GB; a mebioctet
-/// of notation as people write it has some 150,000.
-const MOST_TOKENS: usize = 12_000_000;
 
 /// More than 64 texts are refused before any is read.
 pub fn check_count(texts: &[&[u8]]) -> Result<(), SchemaFault>
@@ -27,8 +24,7 @@ pub fn check_count(texts: &[&[u8]]) -> Result<(), SchemaFault>
     Ok(())
 }
 
-/// The modules of texts, each read whole before the next one. Too many tokens are want of memory, before a tree is made
-/// of them.
+/// The modules of texts, each read whole before the next one. What would take too much room as trees is want of memory.
 pub fn modules<'a>(alloc: Global, texts: &[&'a [u8]]) -> Result<Vec<Module<'a>>, SchemaFault>
     requires { length texts.now ≤ 64 }
     ensures read { Answers (λ v. map module_view v.items) named result (ReadsTexts [] (map (λ t. t.now) texts.now)) }
@@ -36,7 +32,7 @@ pub fn modules<'a>(alloc: Global, texts: &[&'a [u8]]) -> Result<Vec<Module<'a>>,
     ensures named { IfOk result (λ v. All (λ m. IsUtf8 m.name) (map module_view v.items)) }
 {
     let mut modules = Vec::with_capacity(alloc, texts.len())?;
-    let mut room = MOST_TOKENS;
+    let mut room = MOST_FOR_TREES;
     for text in texts {
         let place = modules.len() as u32 + 1;
         modules.push(module(alloc, place, text, &mut room)?)?;
@@ -44,8 +40,8 @@ pub fn modules<'a>(alloc: Global, texts: &[&'a [u8]]) -> Result<Vec<Module<'a>>,
     Ok(modules)
 }
 
-/// The module of the text at this place, from 1, where there is room for its tokens. They are dropped before the next text
-/// is read: what stays is the tree, which borrows the text.
+/// The module of the text at this place, from 1, where there is room for its tree. Its tokens are dropped before the
+/// next text is read: what stays is the tree, which borrows the text.
 fn module<'a>(
     alloc: Global,
     place: u32,
@@ -57,7 +53,9 @@ fn module<'a>(
     ensures named { IfOk result (λ m. IsUtf8 (module_view m).name) }
 {
     let tokens = guard_lexer::tokens(alloc, place, text)?;
-    *room = room.checked_sub(tokens.len()).ok_or(OutOfMemory)?;
+    *room = room
+        .checked_sub(octets_of_tree(&tokens))
+        .ok_or(OutOfMemory)?;
     law_spelled(text, &tokens);
     Ok(guard_syntax::parse(alloc, place, text, &tokens)?)
 }

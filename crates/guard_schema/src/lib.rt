@@ -13,6 +13,7 @@
 //! | By what are types found? | `index.rt` (`TypeIndex`), `build.rt` | `specs/Entries.antt`, `specs/Views.antt` |
 //! | How much may a schema hold? | `counting.rt` | `specs/Counting.antt` |
 //! | How much may a build copy, and what does a definition weigh? | `weight.rt`, `weighing.rt` | none: what is too much is want of memory |
+//! | How much may the trees of texts take? | `tree_room.rt` | none, likewise |
 //! | Is there one schema, or one fault? | `laws.rt` | `specs/OneAnswer.antt` |
 //! | Is each type of a schema what its tree says, with its constraints and defaults filled in? | `laws.rt` | `specs/EachType.antt`, `specs/Unfinished.antt` |
 //! | How does the code fill a type, component by component? | `finishing.rt` | `specs/inside/InTurn.antt` (private) |
@@ -32,6 +33,7 @@ mod progress;
 mod readings;
 mod schema;
 mod texts;
+mod tree_room;
 mod weighing;
 mod weight;
 

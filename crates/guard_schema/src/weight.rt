@@ -2,8 +2,8 @@
 //! counts the names, named numbers, constraints and octets before they are there. So a definition is weighed before it
 //! is built (`weighing.rt`), and texts of which too much would be copied are refused early, as want of memory.
 //!
-//! A weight is in octets of memory: no less than what it is said of takes, and at most about twice as much. All sums
-//! saturate. Types are weighed only where they are contained in constraints, since G11 counts others before they are
+//! A weight is in octets of memory: no less than what it is said of takes, and at most about twice as much, but for short
+//! strings in FROM, of which it may be ten times as much. All sums saturate. Types are weighed only where they are contained in constraints, since G11 counts others before they are
 //! copied.
 use crate::weighing::load_of;
 use guard_model::OutOfMemory;
@@ -19,7 +19,7 @@ const COPIED_PER_OCTET: u64 = 16;
 
 /// What may be looked through: the named numbers among which a name is looked for, the types that are compared, and the
 /// constraints of which each part of a value is to be a member.
-const MOST_COMPARED: u64 = 8_589_934_592;
+const MOST_COMPARED: u64 = 4_294_967_296;
 
 /// The octets of the longest text times those of the longest name of a module.
 const MOST_LOOKED_UP: u64 = 4_294_967_296;

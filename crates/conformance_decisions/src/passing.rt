@@ -1,4 +1,4 @@
-//! `Policy::passes` beside `Policy::verdict`.
+//! `Policy::passes` and `Policy::passes_as_given` beside `Policy::verdict`.
 use crate::verdicts::cut;
 use conformance_rows::{Compared, Judges, Subject, octets_in, text_of, texts_of};
 use guard_frames::load_texts;
@@ -11,15 +11,22 @@ use std::alloc::{AllocError, Global};
 struct Passing<'a> {
     policy: &'a Policy,
     route: Route<'a>,
+    /// Its names, each after its length.
+    names: &'a [u8],
+    /// Whether some rule gives it.
+    is_given: bool,
 }
 
 impl Judges for Passing<'_> {
-    /// Whether `passes` is true exactly where the verdict is to pass.
+    /// Whether `passes` is true exactly where the verdict is to pass, and `passes_as_given` where besides some rule
+    /// gives the route.
     fn agree(&self, alloc: Global, octets: &[u8]) -> Result<bool, AllocError> {
         match self.policy.verdict(alloc, &self.route, octets) {
             Ok(verdict) => {
                 let is_pass = matches!(verdict, Verdict::Pass);
-                Ok(self.policy.passes(&self.route, octets) == is_pass)
+                Ok(self.policy.passes(&self.route, octets) == is_pass
+                    && self.policy.passes_as_given(self.names, octets)
+                        == (is_pass && self.is_given))
             }
             Err(OutOfMemory) => Err(AllocError),
         }
@@ -99,7 +106,7 @@ fn try_route(
         to: to.as_bytes(),
         message: message.as_bytes(),
     };
-    compared.try_around(alloc, &Passing { policy, route }, &octets)?;
+    try_message(alloc, policy, route, &octets, compared)?;
     Ok(true)
 }
 
@@ -116,11 +123,53 @@ fn try_frames(
             break;
         };
         if let Some((route, octets)) = message_of(body) {
-            compared.try_around(alloc, &Passing { policy, route }, octets)?;
+            try_message(alloc, policy, route, octets, compared)?;
         }
         rest = next;
     }
     Ok(rest.len() < stream.len())
+}
+
+/// Tries a message on its route.
+fn try_message(
+    alloc: Global,
+    policy: &Policy,
+    route: Route,
+    octets: &[u8],
+    compared: &mut Compared,
+) -> Result<(), AllocError> {
+    let names = names_of(alloc, &route)?;
+    let passing = Passing {
+        policy,
+        route,
+        names: &names,
+        is_given: is_given(policy, &route),
+    };
+    compared.try_around(alloc, &passing, octets)
+}
+
+/// The names of a route, each after its length.
+fn names_of(alloc: Global, route: &Route) -> Result<Vec<u8>, AllocError> {
+    let mut names = Vec::new(alloc);
+    for name in [route.from, route.to, route.message] {
+        names.push(name.len().min(255) as u8)?;
+        names.extend_from_slice(name)?;
+    }
+    Ok(names)
+}
+
+/// Whether the names are names and some rule gives them.
+fn is_given(policy: &Policy, route: &Route) -> bool {
+    let mut is_given = false;
+    for number in 0..policy.rules() {
+        if let Some(rule) = policy.rule(number) {
+            is_given = is_given
+                || rule.from.as_bytes() == route.from
+                    && rule.to.as_bytes() == route.to
+                    && rule.message.as_bytes() == route.message;
+        }
+    }
+    is_given && route.is_plain()
 }
 
 /// The body of the first frame, and what comes after it.

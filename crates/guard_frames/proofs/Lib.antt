@@ -7,6 +7,7 @@ pub mod Reading
 pub mod Readings
 pub mod Splitting
 pub mod HeaderLaws
+pub mod AtOnce
 pub mod Reporting
 -- ---- frames that are decided one after another
 pub mod Going

@@ -2,6 +2,7 @@
 -- the message.
 use Rattle.std.specs.Prelude.{◌≡◌, ℕ, true, List, [], ◌∷◌, ◌++◌, length, take, drop, nat_lt, if◌then◌else◌, Option, Some, None}
 use Rattle.guard_policy.specs.Names.{is_name}
+use Rattle.guard_policy.specs.NamedRoutes.{with_length}
 use Rattle.guard_frames.specs.declared.body.Body.{Body}
 
 pub record AbstractBody : Type 0 where
@@ -40,7 +41,7 @@ body_in octets = do
 
 -- a name as a header has it: one octet of length, and its octets
 abbrev pub named : List ℕ → List ℕ
-named name = length name ∷ name
+named name = with_length name
 
 -- what is in the place of a name is one
 pub record HasNames (b : AbstractBody) : Type 0 where

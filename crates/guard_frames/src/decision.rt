@@ -1,7 +1,7 @@
 //! What decides which messages go.
 
 ghost use Rattle.std.specs.Prelude.{◌≡◌, ◌↔◌, IsTrue, IfOk};
-ghost use Rattle.guard_frames.specs.Bodies.{body_view, HasNames};
+ghost use Rattle.guard_frames.specs.Bodies.{AbstractBody, IsBody, body_view, HasNames};
 ghost use Rattle.guard_frames.specs.Outcomes.{Decision};
 
 use crate::body::Body;
@@ -12,6 +12,11 @@ use std::alloc::Global;
 pub trait Decide {
     /// which bodies go, and the report line of each other one
     ghost decides: { Self → Decision };
+
+    /// Whether the frame with this body goes, told before its header is read. A frame of which this is false may go.
+    /// It takes no memory.
+    fn goes_at_once(&self, body: &[u8]) -> bool
+        ensures { IsTrue result → (b : AbstractBody) × IsBody body.now b × (decides self.now).Goes b };
 
     /// Whether the frame with this body, whose header is good, goes. It takes no memory.
     fn goes(&self, body: &Body) -> bool

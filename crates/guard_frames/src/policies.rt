@@ -7,6 +7,7 @@ ghost use Rattle.guard_frames.specs.OfPolicy.{route_of, decision_of};
 
 use crate::body::Body;
 use crate::decision::Decide;
+use crate::header::cut_names;
 use guard_model::OutOfMemory;
 use guard_policy::{Policy, Route};
 use guard_report::line;
@@ -14,6 +15,13 @@ use std::alloc::Global;
 
 impl Decide for Policy {
     ghost decides = { λ policy. decision_of (policy_view policy) };
+
+    fn goes_at_once(&self, body: &[u8]) -> bool {
+        match cut_names(body) {
+            Some((names, message)) => self.passes_as_given(names, message),
+            None => false,
+        }
+    }
 
     fn goes(&self, body: &Body) -> bool {
         self.passes(&route_of(body), body.message)

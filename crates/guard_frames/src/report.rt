@@ -39,6 +39,9 @@ pub(crate) fn judge<D: Decide>(alloc: Global, policy: &D, number: u64, frame: &F
     requires { frame.now.body.now ≡ drop 4 frame.now.octets.now }
     ensures { IsJudged (D.decides policy.now) number frame.now.octets.now result }
 {
+    if policy.goes_at_once(frame.body) {
+        return Ruling::Goes;
+    }
     match read_body(frame.body) {
         Some(body) if policy.goes(&body) => Ruling::Goes,
         Some(body) => Ruling::Stays(report_of(alloc, policy, number, &body)),

@@ -15,6 +15,8 @@ pub mod RuleSlots
 pub mod PartyNames
 pub mod RulesNamed
 pub mod ByMarks
+pub mod GivenRoutes
+pub mod AsGiven
 -- ---- the text of a policy
 pub mod Gathered
 pub mod LeastKey

@@ -1,5 +1,5 @@
 -- Where the answer is that nothing meets what is asked, nothing does.
-use Rattle.std.proofs.Common.{◌≡◌, ℕ, zero, suc, ◌+◌, ℤ, Bool, true, false, not, ◌&&◌, ◌||◌, List, [], ◌∷◌, Option, Some, None, true≢false, refl, sym, ap, ◌∙◌, subst, arith}
+use Rattle.std.proofs.Common.{◌≡◌, ℕ, suc, ◌+◌, ℤ, Bool, true, false, not, ◌&&◌, ◌||◌, List, [], ◌∷◌, Some, true≢false, refl, sym, ap, ◌∙◌, subst, arith}
 use Rattle.std.specs.Prelude.{pos, ◌≤ℤ◌}
 use Rattle.std.specs.List.{list_any, list_all}
 use Rattle.std.proofs.lemmas.Bool.{and_parts}
@@ -14,9 +14,9 @@ use Rattle.guard_der.specs.Fits.{fits, fits_kind, fits_fields, may_be_absent}
 use Rattle.guard_eval.specs.Elements.{size_of}
 use Rattle.guard_eval.specs.Member.{is_member, all_hold, parts_are_members}
 use Rattle.guard_eval.specs.Presence.{field_at}
-use Rattle.guard_tables.specs.Demands.{Demand, by_type, meets}
+use Rattle.guard_tables.specs.Demands.{Demand, by_type}
 use Rattle.guard_policy.specs.Barren.{starts_of, least_number, all_have_number, have_no_number, demand_may_have_size, have_no_size, demands_within, has_no_value, kind_has_no_value, some_has_no_value, BarrenShareNothing, IntegersAreTold}
-use Rattle.guard_policy.proofs.Starts.{Last, last_of, low_bound, between_fits, same_demands}
+use Rattle.guard_policy.proofs.Starts.{last_of, low_bound, between_fits, same_demands}
 use Rattle.guard_policy.proofs.Sizes.{size_of_demands, kept_demands}
 use Rattle.guard_policy.proofs.Within.{met, demands_met}
 

@@ -1,5 +1,5 @@
 -- What is asked of a component is met where what is asked of the whole is.
-use Rattle.std.proofs.Common.{◌≡◌, ℕ, zero, suc, Bool, true, false, cond, not, ◌&&◌, List, [], ◌∷◌, ◌++◌, Option, Some, None, refl, sym, ap, ◌∙◌, subst}
+use Rattle.std.proofs.Common.{◌≡◌, ℕ, zero, suc, Bool, true, false, cond, not, ◌&&◌, List, [], ◌∷◌, ◌++◌, Some, refl, sym, ap, ◌∙◌, subst}
 use Rattle.std.specs.Prelude.{nat_eq}
 use Rattle.std.specs.Option.{is_none}
 use Rattle.std.specs.List.{list_all}
@@ -11,9 +11,8 @@ use Rattle.guard_model.specs.AbstractType.{AbstractType, AbstractKind, Component
 use Rattle.guard_model.specs.AbstractValue as value
 use Rattle.guard_model.specs.AbstractValue.{AbstractValue, Fields}
 use Rattle.guard_model.specs.Components.{components_in, component_at}
-use Rattle.guard_model.specs.TypeView.{OneComponent}
 use Rattle.guard_der.specs.Fits.{fits_kind}
-use Rattle.guard_eval.specs.Presence.{kind_at, field_at, part_at, if_there, is_there, is_placed, has_parts, first_intruder}
+use Rattle.guard_eval.specs.Presence.{kind_at, field_at, if_there, is_there, is_placed, first_intruder}
 use Rattle.guard_eval.specs.Member.{is_member, holds, holds_element, all_hold, parts_hold, parts_are_members, fields_are_members}
 use Rattle.guard_tables.specs.Demands.{Demand, by_type, by_constraint, meets}
 use Rattle.guard_policy.specs.Barren.{own_part, type_within, within, element_within, all_within, parts_within, demand_within, demands_within}

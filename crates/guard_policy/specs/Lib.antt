@@ -4,6 +4,7 @@ pub mod KeptView
 pub mod SaidView
 pub mod PolicyView
 pub mod Names
+pub mod NamedRoutes
 pub mod Consistency
 -- ---- verdicts
 pub mod Verdicts

@@ -4,6 +4,7 @@ pub mod Answers
 pub mod Asked
 pub mod Applicable
 pub mod Keeping
+pub mod Leads
 pub mod Routing
 pub mod Said
 pub mod NumbersIn

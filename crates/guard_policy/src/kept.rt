@@ -8,10 +8,12 @@ ghost use Rattle.guard_policy.specs.inside.Listings.{IsIndex, listed_view};
 ghost use Rattle.guard_policy.specs.SaidView.{said_view};
 ghost use Rattle.guard_policy.specs.inside.Said.{said_message_view};
 ghost use Rattle.guard_policy.specs.inside.Keeping.{IsTypeOf, IsSaid, ArePlaced, tabled_view, tabled};
+ghost use Rattle.guard_policy.specs.inside.Leads.{AreLeads};
 ghost use Rattle.guard_policy.specs.inside.Routing.{IsRouted};
 ghost use Rattle.guard_policy.specs.declared.kept.KeptMessage.{KeptMessage};
 
 use super::index::{Index, Listed};
+use super::leads::Leads;
 use super::policy::{Effect, SaidRule};
 use super::routing::Routing;
 use super::said::SaidMessage;
@@ -47,16 +49,18 @@ pub(crate) struct KeptRule {
     pub ty: RuleType,
 }
 
-/// Messages and rules in file order, and how a message's name leads to both.
+/// Messages and rules in file order, how a message's name leads to both, and what the routes that rules give lead to.
 #[derive(Drop)]
 pub(crate) struct Kept {
     pub messages: Vec<KeptMessage>,
     pub rules: Vec<KeptRule>,
     pub index: Index,
+    pub leads: Leads,
     pub ghost consistent: { IsConsistent (map kept_message_view messages.items) (map (kept_rule_view messages.items) rules.items) },
     pub ghost indexed: { IsIndex (map kept_message_view messages.items) (map (kept_rule_view messages.items) rules.items) index } by { Prim.hlevel props },
     pub ghost placed: { ArePlaced (map kept_message_view messages.items) rules.items } by { Prim.hlevel props },
     pub ghost routed: { All (IsRouted (map (kept_rule_view messages.items) rules.items)) messages.items } by { Prim.hlevel props },
+    pub ghost led: { AreLeads index messages.items (map (kept_rule_view messages.items) rules.items) leads } by { Prim.hlevel props },
 }
 
 /// A rule and its type.

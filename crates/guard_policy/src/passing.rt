@@ -14,6 +14,7 @@ impl Policy {
     ghost use Rattle.std.specs.Prelude.{IsTrue, ◌↔◌};
     ghost use Rattle.guard_policy.specs.PolicyView.{policy_view, route_view};
     ghost use Rattle.guard_policy.specs.Decisions.{Goes};
+    ghost use Rattle.guard_policy.specs.NamedRoutes.{GoesAsGiven};
 
     /// Whether a message goes on its route: its octets are the encoding of a value of its declared type that some rule
     /// of the route allows and none denies. It takes no memory.
@@ -26,6 +27,23 @@ impl Policy {
         match walk(&message.table, octets) {
             Some(marks) => marks.of_type()
                 && lets_go(&message.routing.rules(route), &marks.members),
+            None => false,
+        }
+    }
+
+    /// Whether a message goes on the route that these octets are: three names, each after one octet with its length, as
+    /// some rule gives them. False for octets that are no such route. It takes no memory, and looks up the route once.
+    pub fn passes_as_given(&self, names: &[u8], octets: &[u8]) -> bool
+        ensures { IsTrue result ↔ GoesAsGiven (policy_view self.now) names.now octets.now }
+    {
+        let Some(lead) = self.kept.leads.find(names) else {
+            return false;
+        };
+        let Some(message) = self.kept.messages.get(lead.place) else {
+            return false;
+        };
+        match walk(&message.table, octets) {
+            Some(found) => found.of_type() && lets_go(&lead.rules, &found.members),
             None => false,
         }
     }

@@ -12,6 +12,7 @@ ghost use Rattle.guard_policy.specs.inside.TypedRules.{messages_kept, rules_kept
 use super::decision::judge;
 use super::fault::PolicyFault;
 use super::kept::{Kept, KeptMessage, keep_rules};
+use super::leads::Leads;
 use super::names::check_names;
 use super::route::Route;
 use super::said::{SaidMessage, said_messages, said_rules};
@@ -295,11 +296,13 @@ fn tabled(alloc: Global, messages: &[SaidMessage], rules: &[SaidRule]) -> Result
     ensures messages { IfOk result (λ kept. messages_kept kept ≡ map said_message_view messages.now) }
     ensures rules { IfOk result (λ kept. rules_kept kept ≡ map said_view rules.now) }
 {
-    let kept = keep_messages(alloc, messages, rules)?;
-    let (index, rules) = keep_rules(alloc, messages, rules)?;
+    let with_tables = keep_messages(alloc, messages, rules)?;
+    let (index, without_types) = keep_rules(alloc, messages, rules)?;
+    let leads = Leads::of(alloc, &index, &with_tables, rules)?;
     Ok(Kept {
-        messages: kept,
-        rules,
+        messages: with_tables,
+        rules: without_types,
         index,
+        leads,
     })
 }

@@ -1,9 +1,8 @@
 -- Worked examples of barren types, computed from the definitions. `n` is an INTEGER, `s` an OCTET STRING, `q` a
 -- SEQUENCE with one component.
-use Rattle.std.specs.Prelude.{◌≡◌, ℤ, ℕ, pos, Bool, true, false, [], ◌∷◌, None, refl}
+use Rattle.std.specs.Prelude.{◌≡◌, ℕ, pos, true, false, [], None, refl}
 use Rattle.guard_model.specs.AbstractType as type
 use Rattle.guard_model.specs.AbstractType.{AbstractType, AbstractPresence, Constraint, Constraints, Element, type_of, no_components, component, at, no_constraints, constraint}
-use Rattle.guard_model.specs.AbstractValue as value
 use Rattle.guard_model.specs.declared.site.Site.{Site}
 use Rattle.guard_model.specs.declared.ty.Limit.TheVariants.{Free, At, Past}
 use Rattle.guard_policy.specs.Barren.{is_barren}

@@ -1,0 +1,106 @@
+//! What the routes that rules give lead to, by one look-up of the octets of their names.
+ghost use Rattle.std.specs.Prelude.{◌≡◌, ◌++◌, IfOk, OnOk, IsTrue, None, map, option_map, if◌then◌else◌};
+ghost use Rattle.guard_policy.specs.Names.{is_name, is_plain};
+ghost use Rattle.guard_policy.specs.NamedRoutes.{route_octets, with_length};
+ghost use Rattle.guard_policy.specs.PolicyView.{route_view};
+ghost use Rattle.guard_policy.specs.SaidView.{said_view};
+ghost use Rattle.guard_policy.specs.inside.Leads.{own_route, lead_of, found_lead, AreLeads};
+
+use super::index::Index;
+use super::kept::KeptMessage;
+use super::policy::SaidRule;
+use super::route::Route;
+use super::routing::RouteRules;
+use indexmap::IndexMap;
+use std::alloc::{AllocError, Global};
+
+/// What a route leads to.
+#[derive(Clone, Copy)]
+pub(crate) struct Lead {
+    /// The place of its message.
+    pub place: usize,
+    /// The rules that speak of it.
+    pub rules: RouteRules,
+}
+
+/// What each route leads to that some rule gives by three names and whose message is declared. A route is found by the
+/// octets of its names, each after its length.
+#[derive(Drop)]
+pub(crate) struct Leads {
+    routes: IndexMap<Vec<u8>, Lead>,
+}
+
+impl Leads {
+    /// What the routes of these rules lead to.
+    pub fn of(
+        alloc: Global,
+        index: &Index,
+        messages: &[KeptMessage],
+        rules: &[SaidRule],
+    ) -> Result<Leads, AllocError>
+        ensures { IfOk result (AreLeads index.now messages.now (map said_view rules.now)) }
+    {
+        let mut routes = IndexMap::new(alloc);
+        for rule in rules {
+            let route = own_route(rule);
+            if let Some(lead) = lead_of(index, messages, &route) {
+                routes.insert(route_octets(alloc, &route)?, lead)?;
+            }
+        }
+        Ok(Leads { routes })
+    }
+
+    /// What the route with these octets leads to.
+    pub fn find(&self, names: &[u8]) -> Option<&Lead>
+        ensures { option_map (λ lead. lead.now) result ≡ found_lead self.now names.now }
+    {
+        self.routes.get(names)
+    }
+}
+
+/// The route of a rule's own names.
+fn own_route<'a>(rule: &SaidRule<'a>) -> Route<'a>
+    ensures { route_view result ≡ own_route (said_view rule.now) }
+{
+    Route {
+        from: rule.from.as_bytes(),
+        to: rule.to.as_bytes(),
+        message: rule.message.as_bytes(),
+    }
+}
+
+/// What a route of three names leads to.
+fn lead_of(index: &Index, messages: &[KeptMessage], route: &Route) -> Option<Lead>
+    ensures { result ≡ (if is_plain (route_view route.now) then lead_of index.now messages.now (route_view route.now) else None) }
+{
+    if !route.is_plain() {
+        return None;
+    }
+    let listed = index.find(route.message)?;
+    let message = messages.get(listed.place)?;
+    Some(Lead {
+        place: listed.place,
+        rules: message.routing.rules(route),
+    })
+}
+
+/// The three names of a route, each after its length.
+fn route_octets(alloc: Global, route: &Route) -> Result<Vec<u8>, AllocError>
+    requires { IsTrue (is_plain (route_view route.now)) }
+    ensures { IfOk result (λ octets. octets.items ≡ route_octets (route_view route.now)) }
+{
+    let mut octets = Vec::new(alloc);
+    push_name(&mut octets, route.from)?;
+    push_name(&mut octets, route.to)?;
+    push_name(&mut octets, route.message)?;
+    Ok(octets)
+}
+
+/// Puts a name at the end, after its length.
+fn push_name(octets: &mut Vec<u8>, name: &[u8]) -> Result<(), AllocError>
+    requires { IsTrue (is_name name.now) }
+    ensures { OnOk result (octets.new.items ≡ octets.old.items ++ with_length name.now) }
+{
+    octets.push(name.len() as u8)?;
+    octets.extend_from_slice(name)
+}

@@ -24,9 +24,11 @@ impl Judges for Passing<'_> {
         match self.policy.verdict(alloc, &self.route, octets) {
             Ok(verdict) => {
                 let is_pass = matches!(verdict, Verdict::Pass);
-                Ok(self.policy.passes(&self.route, octets) == is_pass
-                    && self.policy.passes_as_given(self.names, octets)
-                        == (is_pass && self.is_given))
+                Ok(
+                    self.policy.passes(&self.route, octets) == is_pass
+                        && self.policy.passes_as_given(self.names, octets)
+                            == (is_pass && self.is_given),
+                )
             }
             Err(OutOfMemory) => Err(AllocError),
         }

@@ -23,8 +23,7 @@ body_goes p octets names message whole (route, given, goes) =
     let name = with_length route.message in
     let joined : octets ≡ from ++ (to ++ (name ++ message)) =
     whole ∙ ap (λ (front : List ℕ). front ++ message) given.octets
-    ∙ append_assoc from (to ++ name) message ∙ ap (λ (rest : List ℕ). from ++ rest) (append_assoc to name message) in
-    (
+    ∙ append_assoc from (to ++ name) message ∙ ap (λ (rest : List ℕ). from ++ rest) (append_assoc to name message) in (
       record { sender = route.from; receiver = route.to; name = route.message; message = message },
       record { joined = joined; names = record { sender = are.0; receiver = are.1; name = are.2 } },
       goes,

@@ -25,6 +25,9 @@ bad_header d n frame none = inr (inr (record { stays = refl; none = no_body fram
 body_there : (frame octets : List ℕ) (b : AbstractBody) → octets ≡ drop 4 frame → Some b ≡ body_in octets → IsBody (drop 4 frame) b
 body_there frame octets b same is = let there : IsBody octets b = body_takes octets b (sym is) in rw same at there
 
+pub goes_as_body : (d : Decision) (frame octets : List ℕ) (b : AbstractBody) → octets ≡ drop 4 frame → IsBody octets b → d.Goes b → Goes d frame
+goes_as_body d frame octets b same is go = record { body = b; is = rw same at is; decided = go }
+
 pub goes_by_body : (d : Decision) (frame octets : List ℕ) (b : AbstractBody) → octets ≡ drop 4 frame → Some b ≡ body_in octets → d.Goes b → Goes d frame
 goes_by_body d frame octets b same is go = record { body = b; is = body_there frame octets b same is; decided = go }
 

@@ -1,7 +1,6 @@
 //! What the routes that rules give lead to, by one look-up of the octets of their names.
-ghost use Rattle.std.specs.Prelude.{◌≡◌, ◌++◌, IfOk, OnOk, IsTrue, None, map, option_map, if◌then◌else◌};
-ghost use Rattle.guard_policy.specs.Names.{is_name, is_plain};
-ghost use Rattle.guard_policy.specs.NamedRoutes.{route_octets, with_length};
+ghost use Rattle.std.specs.Prelude.{◌≡◌, IfOk, None, map, option_map, if◌then◌else◌};
+ghost use Rattle.guard_policy.specs.Names.{is_plain};
 ghost use Rattle.guard_policy.specs.PolicyView.{route_view};
 ghost use Rattle.guard_policy.specs.SaidView.{said_view};
 ghost use Rattle.guard_policy.specs.inside.Leads.{own_route, lead_of, found_lead, AreLeads};
@@ -10,6 +9,7 @@ use super::index::Index;
 use super::kept::KeptMessage;
 use super::policy::SaidRule;
 use super::route::Route;
+use super::route_octets::{OctetsOf, RouteOctets};
 use super::routing::RouteRules;
 use indexmap::IndexMap;
 use std::alloc::{AllocError, Global};
@@ -27,7 +27,7 @@ pub(crate) struct Lead {
 /// octets of its names, each after its length.
 #[derive(Drop)]
 pub(crate) struct Leads {
-    routes: IndexMap<Vec<u8>, Lead>,
+    routes: IndexMap<RouteOctets, Lead>,
 }
 
 impl Leads {
@@ -44,7 +44,7 @@ impl Leads {
         for rule in rules {
             let route = own_route(rule);
             if let Some(lead) = lead_of(index, messages, &route) {
-                routes.insert(route_octets(alloc, &route)?, lead)?;
+                routes.insert(RouteOctets::of(alloc, &route)?, lead)?;
             }
         }
         Ok(Leads { routes })
@@ -54,7 +54,7 @@ impl Leads {
     pub fn find(&self, names: &[u8]) -> Option<&Lead>
         ensures { option_map (λ lead. lead.now) result ≡ found_lead self.now names.now }
     {
-        self.routes.get(names)
+        self.routes.get(OctetsOf { octets: names })
     }
 }
 
@@ -82,25 +82,4 @@ fn lead_of(index: &Index, messages: &[KeptMessage], route: &Route) -> Option<Lea
         place: listed.place,
         rules: message.routing.rules(route),
     })
-}
-
-/// The three names of a route, each after its length.
-fn route_octets(alloc: Global, route: &Route) -> Result<Vec<u8>, AllocError>
-    requires { IsTrue (is_plain (route_view route.now)) }
-    ensures { IfOk result (λ octets. octets.items ≡ route_octets (route_view route.now)) }
-{
-    let mut octets = Vec::new(alloc);
-    push_name(&mut octets, route.from)?;
-    push_name(&mut octets, route.to)?;
-    push_name(&mut octets, route.message)?;
-    Ok(octets)
-}
-
-/// Puts a name at the end, after its length.
-fn push_name(octets: &mut Vec<u8>, name: &[u8]) -> Result<(), AllocError>
-    requires { IsTrue (is_name name.now) }
-    ensures { OnOk result (octets.new.items ≡ octets.old.items ++ with_length name.now) }
-{
-    octets.push(name.len() as u8)?;
-    octets.extend_from_slice(name)
 }

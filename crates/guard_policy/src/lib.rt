@@ -10,7 +10,7 @@
 //! | Which verdicts are there? | `verdict.rt` | `specs/Verdicts.antt` |
 //! | When does a message go? | `passing.rt` (`passes`) | `specs/Decisions.antt` |
 //! | How does a route lead to its rules? | `routing.rt` | `specs/inside/Routing.antt` |
-//! | Which routes do rules give by names? | `leads.rt` | `specs/NamedRoutes.antt`, `specs/inside/Leads.antt` |
+//! | Which routes do rules give by names? | `leads.rt`, `route_octets.rt` | `specs/NamedRoutes.antt`, `specs/inside/Leads.antt` |
 //! | Which verdict is it? | `policy.rt` (`verdict`), `decision.rt` | `specs/Decisions.antt` |
 //! | What holds of every message? | `laws.rt` | `specs/Decisions.antt` |
 //! | Which octets are names? | `route.rt` (`is_name`, `Route::is_plain`) | `specs/Names.antt` |
@@ -41,6 +41,7 @@ mod names;
 mod passing;
 mod policy;
 mod route;
+mod route_octets;
 mod routing;
 mod rules;
 mod said;

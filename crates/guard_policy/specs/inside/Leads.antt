@@ -40,7 +40,7 @@ abbrev pub lead_of : Index → List KeptMessage → AbstractRoute → Option Lea
 lead_of index messages route = option_and_then (lead_there messages route) (found_in index route.message)
 
 abbrev pub found_lead : Leads → List ℕ → Option Lead
-found_lead leads names = lookup (λ key. bytes_eq names key.items) leads.routes.entries
+found_lead leads names = lookup (λ key. bytes_eq names key.octets.items) leads.routes.entries
 
 abbrev pub AreLeads : Index → List KeptMessage → List AbstractRule → Leads → Type 0
 AreLeads index messages rules leads =

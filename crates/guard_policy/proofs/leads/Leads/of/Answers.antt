@@ -7,7 +7,7 @@ use Rattle.guard_policy.specs.inside.Leads.{own_route, lead_of}
 use Rattle.guard_policy.proofs.EntriesRead.{taken_is}
 use Rattle.guard_policy.proofs.GivenRoutes.{left_out, put_in}
 use Rattle.guard_policy.proofs.leads.Leads.of.Goals as goal
-use Rattle.guard_policy.proofs.leads.Leads.of.Goals.{in-Some+in_ok-route_octets+in_ok-insert, in_default}
+use Rattle.guard_policy.proofs.leads.Leads.of.Goals.{in-Some+in_ok-of+in_ok-insert, in_default}
 
 pub loop-rule-preserved : goal.loop-rule-preserved
 loop-rule-preserved c = λ names.
@@ -20,9 +20,9 @@ loop-rule-preserved c = λ names.
     c.lead_of.ensures ∙ ap (λ (route : AbstractRoute). cond (is_plain route) (lead route) None) own in
     rw (taken_is said_view c.args.rules.now i c.rule-item.result c.loop-rule-test.true c.rule-item.is)
     (elim c.match-lead_of.branch [
-      | in-Some+in_ok-route_octets+in_ok-insert w ↦
+      | in-Some+in_ok-of+in_ok-insert w ↦
           rw w.routes-is
-          (put_in lead taken r (λ x. x.items) c.loop-rule.routes.entries w.insert.new.self.entries w.in_ok-route_octets.field-0 w.in-Some.lead
-          (sym found ∙ w.in-Some.is) w.in_ok-insert.ensures.entries (w.in_ok-route_octets.ensures ∙ ap route_octets own) c.loop-rule.invariant names)
+          (put_in lead taken r (λ x. x.octets.items) c.loop-rule.routes.entries w.insert.new.self.entries w.in_ok-of.field-0 w.in-Some.lead
+          (sym found ∙ w.in-Some.is) w.in_ok-insert.ensures.entries (w.in_ok-of.ensures ∙ ap route_octets own) c.loop-rule.invariant names)
       | in_default w ↦ rw w.routes-is (c.loop-rule.invariant names ∙ left_out lead taken r (sym found ∙ w.in_default.is) names)
     ])

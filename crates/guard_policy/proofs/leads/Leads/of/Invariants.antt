@@ -7,5 +7,5 @@ use Rattle.guard_policy.proofs.leads.Leads.of.Given as goal
 
 abbrev pub invariant-loop-rule : goal.invariant-loop-rule
 invariant-loop-rule l =
-    (names : List ℕ) → lookup (λ key. bytes_eq names key.items) l.routes.entries
+    (names : List ℕ) → lookup (λ key. bytes_eq names key.octets.items) l.routes.entries
     ≡ option_and_then (lead_of l.index l.messages) (given_route names (map said_view (take l.rule-index l.rules)))

@@ -1,0 +1,81 @@
+//! The octets of a route's names, by which it is found. They are hashed all at once; a list of octets would be hashed
+//! one after another.
+ghost use Rattle.std.specs.Prelude.{◌≡◌, ◌++◌, ◌∷◌, [], List, ℕ, IfOk, OnOk, IsTrue, bytes_eq};
+ghost use Rattle.std.specs.Cmp.Lexicographic.{nat_list_eq_equiv};
+ghost use Rattle.std.proofs.Common.{ap};
+ghost use Rattle.std.proofs.lemmas.Slice.Eq.{bytes_eq-Decides};
+ghost use Rattle.guard_policy.specs.Names.{is_name, is_plain};
+ghost use Rattle.guard_policy.specs.NamedRoutes.{route_octets, with_length};
+ghost use Rattle.guard_policy.specs.PolicyView.{route_view};
+
+use super::route::Route;
+use indexmap::Equivalent;
+use std::alloc::{AllocError, Global};
+use std::hash::{Hash, Hasher};
+
+/// The three names of a route, each after its length.
+#[derive(Drop, PartialEq, Eq)]
+pub(crate) struct RouteOctets {
+    octets: Vec<u8>,
+}
+
+/// Octets that may be those of a route.
+#[derive(Clone, Copy, PartialEq, Eq)]
+pub(crate) struct OctetsOf<'a> {
+    pub octets: &'a [u8],
+}
+
+impl RouteOctets {
+    /// Those of this route.
+    pub fn of(alloc: Global, route: &Route) -> Result<RouteOctets, AllocError>
+        requires { IsTrue (is_plain (route_view route.now)) }
+        ensures { IfOk result (λ names. names.octets.items ≡ route_octets (route_view route.now)) }
+    {
+        let mut octets = Vec::new(alloc);
+        push_name(&mut octets, route.from)?;
+        push_name(&mut octets, route.to)?;
+        push_name(&mut octets, route.message)?;
+        Ok(RouteOctets { octets })
+    }
+}
+
+impl Hash for RouteOctets {
+    ghost hash_input = { λ names. names.octets.items ∷ [] };
+
+    ghost respects_eq = { λ x y same. ap (λ (octets : List ℕ). octets ∷ []) ((bytes_eq-Decides x.octets.items y.octets.items).0 same) };
+
+    fn hash<H: Hasher>(&self, state: &mut H) {
+        state.write(&self.octets);
+    }
+}
+
+impl Hash for OctetsOf<'_> {
+    ghost hash_input = { λ names. names.octets.now ∷ [] };
+
+    ghost respects_eq = { λ x y same. ap (λ (octets : List ℕ). octets ∷ []) ((bytes_eq-Decides x.octets.now y.octets.now).0 same) };
+
+    fn hash<H: Hasher>(&self, state: &mut H) {
+        state.write(self.octets);
+    }
+}
+
+impl Equivalent<RouteOctets> for OctetsOf<'_> {
+    ghost equivalent = { λ names key. bytes_eq names.octets.now key.octets.items };
+
+    ghost respects_hash = { λ names key same. ap (λ (octets : List ℕ). octets ∷ []) ((bytes_eq-Decides names.octets.now key.octets.items).0 same) };
+
+    ghost respects_eq = { λ names x y. nat_list_eq_equiv.congr names.octets.now x.octets.items y.octets.items };
+
+    fn equivalent(&self, key: &RouteOctets) -> bool {
+        self.octets == key.octets.as_slice()
+    }
+}
+
+/// Puts a name at the end, after its length.
+fn push_name(octets: &mut Vec<u8>, name: &[u8]) -> Result<(), AllocError>
+    requires { IsTrue (is_name name.now) }
+    ensures { OnOk result (octets.new.items ≡ octets.old.items ++ with_length name.now) }
+{
+    octets.push(name.len() as u8)?;
+    octets.extend_from_slice(name)
+}

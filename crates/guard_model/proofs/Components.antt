@@ -1,7 +1,8 @@
 -- Components of the code, one after another and by their places.
 use Rattle.std.proofs.Common.{◌≡◌, ℕ, zero, suc, ◌+◌, ◌<◌, ◌≤◌, List, [], ◌∷◌, Option, Some, None, Bor, length, drop, get_or, map, option_map, slice_get, MatchOption, refl, sym, ap, ◌∙◌}
+use Rattle.std.specs.Arc.{arc_str_bytes}
 use Rattle.std.specs.List.{HoldsAt}
-use Rattle.std.specs.Prelude.{replicate, string_bytes}
+use Rattle.std.specs.Prelude.{replicate}
 use Rattle.std.proofs.lemmas.List.{at_drop_more, at_drop_all, length-map}
 use Rattle.std.proofs.lemmas.Option.{slice_get_past, slice_get_read}
 use Rattle.guard_model.specs.AbstractType.{Components, no_components, component}
@@ -25,7 +26,7 @@ abbrev pub left : List Comp → ℕ → Components
 left comps i = in_view (drop i comps)
 
 pub left_is : (comps : List Comp) (i : ℕ) (comp : Comp) → i < length comps → comp ≡ get_or comps i comp
-    → left comps i ≡ component (string_bytes (out-Comp comp).name) (type_view (out-Comp comp).ty) (presence_view (out-Comp comp).presence) (left comps (i + 1))
+    → left comps i ≡ component (arc_str_bytes (out-Comp comp).name) (type_view (out-Comp comp).ty) (presence_view (out-Comp comp).presence) (left comps (i + 1))
 left_is comps i comp lt is =
     at_drop_more in_view comps i comp lt
     ∙ ap (λ (c : Comp). in_view (c ∷ drop (i + 1) comps)) (sym is)

@@ -1,7 +1,7 @@
 -- One level of the abstract type of a type.
 use Rattle.std.proofs.Common.{◌≡◌, sym, ap, ◌∙◌, map}
+use Rattle.std.specs.Arc.{arc_str_bytes}
 use Rattle.std.specs.Global.{Vec, Box}
-use Rattle.std.specs.Prelude.{string_bytes}
 use Rattle.guard_model.specs.AbstractType as type
 use Rattle.guard_model.specs.AbstractType.{AbstractType, AbstractKind, Constraint, Element, type_of}
 use Rattle.guard_model.specs.TypeView.{OneComponent, OnePart, type_view, kind_view, component_view, constraint_view, presence_view, components_of, constraints_of, kind_step, rule_step, comp_step, cons_step, part_step, ty_step}
@@ -18,7 +18,7 @@ type_view_is ty = fold_out-Ty AbstractKind Element OneComponent Constraint OnePa
 
 -- a component, with its type's view still to be computed
 abbrev pub opened : Comp → OneComponent
-opened comp = record { name = string_bytes (out-Comp comp).name; ty = type_view (out-Comp comp).ty; presence = presence_view (out-Comp comp).presence }
+opened comp = record { name = arc_str_bytes (out-Comp comp).name; ty = type_view (out-Comp comp).ty; presence = presence_view (out-Comp comp).presence }
 
 pub component_view_is : (comp : Comp) → component_view comp ≡ opened comp
 component_view_is comp = fold_out-Comp AbstractKind Element OneComponent Constraint OnePart AbstractType kind_step rule_step comp_step cons_step part_step ty_step comp

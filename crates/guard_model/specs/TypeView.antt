@@ -1,4 +1,5 @@
 -- The abstract type of a type of the code.
+use Rattle.std.specs.Arc.{arc_value, arc_slice_items, arc_str_bytes}
 use Rattle.std.specs.Prelude.{ℕ, List, [], ◌∷◌, map, string_bytes, Option, Some, None}
 use Rattle.guard_model.specs.AbstractType as abstract
 use Rattle.guard_model.specs.AbstractType.{AbstractType, AbstractKind, AbstractPresence, Components, Constraint, Constraints, Element, NamedNumber, Parts}
@@ -35,7 +36,7 @@ abbrev pub presence_view : Presence → AbstractPresence
 presence_view presence.Mandatory = abstract.mandatory
 presence_view presence.Optional = abstract.optional
 presence_view presence.Pending = abstract.pending
-presence_view (presence.Default v) = abstract.default (value_view v)
+presence_view (presence.Default v) = abstract.default (value_view (arc_value v))
 
 abbrev pub components_of : List OneComponent → Components
 components_of [] = abstract.no_components
@@ -56,12 +57,12 @@ parts_of (p ∷ ps) = part_before p.site p.place p.within p.word (parts_of ps)
 -- one level of each; what is inside is abstract already
 abbrev pub kind_step : Kind-F AbstractKind Element OneComponent Constraint OnePart AbstractType → AbstractKind
 kind_step Kind-F.Bool = abstract.boolean
-kind_step (Kind-F.Int ns) = abstract.integer (map named_view ns.items)
-kind_step (Kind-F.Bits ns) = abstract.bit_string (map named_view ns.items)
+kind_step (Kind-F.Int ns) = abstract.integer (map named_view (arc_slice_items ns))
+kind_step (Kind-F.Bits ns) = abstract.bit_string (map named_view (arc_slice_items ns))
 kind_step Kind-F.Octets = abstract.octet_string
 kind_step Kind-F.Null = abstract.null
 kind_step Kind-F.Oid = abstract.object_identifier
-kind_step (Kind-F.Enumerated ns) = abstract.enumerated (map named_view ns.items)
+kind_step (Kind-F.Enumerated ns) = abstract.enumerated (map named_view (arc_slice_items ns))
 kind_step (Kind-F.Chars k) = abstract.characters k
 kind_step (Kind-F.Sequence cs) = abstract.sequence (components_of cs.items)
 kind_step (Kind-F.Set cs) = abstract.set (components_of cs.items)
@@ -70,11 +71,11 @@ kind_step (Kind-F.SequenceOf t) = abstract.sequence_of t.value
 kind_step (Kind-F.SetOf t) = abstract.set_of t.value
 
 abbrev pub rule_step : Rule-F AbstractKind Element OneComponent Constraint OnePart AbstractType → Element
-rule_step (Rule-F.One v) = abstract.single_value (value_view v)
+rule_step (Rule-F.One v) = abstract.single_value (value_view (arc_value v))
 rule_step (Rule-F.Inside t) = abstract.contained_subtype t.value
 rule_step (Rule-F.Range low high) = abstract.range low high
 rule_step (Rule-F.Size c) = abstract.size c.value
-rule_step (Rule-F.Alphabet ranges) = abstract.permitted_alphabet ranges.items
+rule_step (Rule-F.Alphabet ranges) = abstract.permitted_alphabet (arc_slice_items ranges)
 rule_step (Rule-F.Each c) = abstract.with_component c.value
 rule_step (Rule-F.Parts partial ps) = abstract.with_components partial (parts_of ps.items)
 rule_step (Rule-F.Any cs) = abstract.union (constraints_of cs.items)
@@ -83,7 +84,7 @@ rule_step (Rule-F.Minus a b) = abstract.except a.value b.value
 rule_step (Rule-F.Other c) = abstract.all_except c.value
 
 abbrev pub comp_step : Comp-F AbstractKind Element OneComponent Constraint OnePart AbstractType → OneComponent
-comp_step c = record { name = string_bytes c.name; ty = c.ty; presence = presence_view c.presence }
+comp_step c = record { name = arc_str_bytes c.name; ty = c.ty; presence = presence_view c.presence }
 
 abbrev pub cons_step : Cons-F AbstractKind Element OneComponent Constraint OnePart AbstractType → Constraint
 cons_step c = abstract.at c.site c.rule

@@ -1,10 +1,10 @@
 //! Copies of values and types. A copy means what its source means, and a call fails only where memory runs out.
 ghost use Rattle.std.specs.Prelude.{◌≡◌, map, IfOk};
-ghost use Rattle.guard_model.specs.TypeView.{type_view, kind_view, named_view, presence_view, component_view, constraint_view, element_view, part_view};
+ghost use Rattle.guard_model.specs.TypeView.{type_view, kind_view, presence_view, component_view, constraint_view, element_view, part_view};
 ghost use Rattle.guard_model.specs.ValueView.{value_view, field_view};
 
 use crate::memory::OutOfMemory;
-use crate::ty::{Comp, Cons, Kind, Named, Part, Presence, Rule, Ty};
+use crate::ty::{Comp, Cons, Kind, Part, Presence, Rule, Ty};
 use crate::value::{Bits, Value};
 use std::alloc::Global;
 
@@ -106,12 +106,12 @@ impl Kind {
     {
         match self {
             Kind::Bool => Ok(Kind::Bool),
-            Kind::Int(named) => Ok(Kind::Int(copy_of_named(alloc, named)?)),
-            Kind::Bits(named) => Ok(Kind::Bits(copy_of_named(alloc, named)?)),
+            Kind::Int(named) => Ok(Kind::Int(named.clone()?)),
+            Kind::Bits(named) => Ok(Kind::Bits(named.clone()?)),
             Kind::Octets => Ok(Kind::Octets),
             Kind::Null => Ok(Kind::Null),
             Kind::Oid => Ok(Kind::Oid),
-            Kind::Enumerated(items) => Ok(Kind::Enumerated(copy_of_named(alloc, items)?)),
+            Kind::Enumerated(items) => Ok(Kind::Enumerated(items.clone()?)),
             Kind::Chars(kind) => Ok(Kind::Chars(*kind)),
             Kind::Sequence(comps) => Ok(Kind::Sequence(copy_of_components(alloc, comps)?)),
             Kind::Set(comps) => Ok(Kind::Set(copy_of_components(alloc, comps)?)),
@@ -119,27 +119,6 @@ impl Kind {
             Kind::SequenceOf(ty) => Ok(Kind::SequenceOf(ty.boxed_copy(alloc)?)),
             Kind::SetOf(ty) => Ok(Kind::SetOf(ty.boxed_copy(alloc)?)),
         }
-    }
-}
-
-fn copy_of_named(alloc: Global, named: &[Named]) -> Result<Vec<Named>, OutOfMemory>
-    ensures { IfOk result (λ copy. map named_view copy.items ≡ map named_view named.now) }
-{
-    let mut copy = Vec::with_capacity(alloc, named.len())?;
-    for one in named {
-        copy.push(one.copy(alloc)?)?;
-    }
-    Ok(copy)
-}
-
-impl Named {
-    fn copy(&self, alloc: Global) -> Result<Named, OutOfMemory>
-        ensures { IfOk result (λ copy. named_view copy ≡ named_view self.now) }
-    {
-        Ok(Named {
-            name: String::from_str(alloc, &self.name)?,
-            number: self.number,
-        })
     }
 }
 
@@ -160,22 +139,22 @@ impl Comp {
         ensures { IfOk result (λ copy. component_view copy ≡ component_view self.now) }
     {
         Ok(Comp {
-            name: String::from_str(alloc, &self.name)?,
+            name: self.name.clone()?,
             ty: self.ty.copy(alloc)?,
-            presence: self.presence.copy(alloc)?,
+            presence: self.presence.share()?,
         })
     }
 }
 
 impl Presence {
-    fn copy(&self, alloc: Global) -> Result<Presence, OutOfMemory>
-        ensures { IfOk result (λ copy. presence_view copy ≡ presence_view self.now) }
+    fn share(&self) -> Result<Presence, OutOfMemory>
+        ensures { IfOk result (λ share. presence_view share ≡ presence_view self.now) }
     {
         match self {
             Presence::Mandatory => Ok(Presence::Mandatory),
             Presence::Optional => Ok(Presence::Optional),
             Presence::Pending => Ok(Presence::Pending),
-            Presence::Default(value) => Ok(Presence::Default(value.copy(alloc)?)),
+            Presence::Default(value) => Ok(Presence::Default(value.clone()?)),
         }
     }
 }
@@ -216,11 +195,11 @@ impl Rule {
         ensures { IfOk result (λ copy. element_view copy ≡ element_view self.now) }
     {
         match self {
-            Rule::One(value) => Ok(Rule::One(value.copy(alloc)?)),
+            Rule::One(value) => Ok(Rule::One(value.clone()?)),
             Rule::Inside(ty) => Ok(Rule::Inside(ty.boxed_copy(alloc)?)),
             Rule::Range(low, high) => Ok(Rule::Range(*low, *high)),
             Rule::Size(size) => Ok(Rule::Size(size.boxed_copy(alloc)?)),
-            Rule::Alphabet(ranges) => Ok(Rule::Alphabet(Vec::from_slice(alloc, ranges)?)),
+            Rule::Alphabet(ranges) => Ok(Rule::Alphabet(ranges.clone()?)),
             Rule::Each(inner) => Ok(Rule::Each(inner.boxed_copy(alloc)?)),
             Rule::Parts(partial, parts) => Ok(Rule::Parts(*partial, copy_of_parts(alloc, parts)?)),
             Rule::Any(constraints) => Ok(Rule::Any(copy_of_constraints(alloc, constraints)?)),

@@ -8,6 +8,7 @@ use crate::memory::OutOfMemory;
 use crate::tag::{Class, Tag};
 use crate::ty::{Comp, Kind, Ty};
 use std::alloc::Global;
+use std::sync::ArcSlice;
 
 impl Ty {
     /// INTEGER, of which a size is a value (51.5.3). It fails only where memory runs out.
@@ -21,7 +22,7 @@ impl Ty {
         })?;
         Ok(Ty {
             tags,
-            kind: Kind::Int(Vec::new(alloc)),
+            kind: Kind::Int(ArcSlice::from_vec(Vec::new(alloc))?),
             cons: Vec::new(alloc),
         })
     }

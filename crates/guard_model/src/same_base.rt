@@ -112,7 +112,7 @@ impl Comp {
     fn is_same(&self, other: &Comp) -> bool
         ensures { result ≡ same_component (component_view self.now) (component_view other.now) }
     {
-        self.name == other.name
+        self.name.as_str() == other.name.as_str()
             && self.ty.is_same(&other.ty)
             && self.presence.is_same(&other.presence)
     }

@@ -1,7 +1,9 @@
-//! Types with their tags and constraints, references followed.
+//! Types with their tags and constraints, references followed. Names, lists of named numbers, alphabets and values are
+//! shared between a type and its copies.
 use crate::site::Site;
 use crate::tag::Tag;
 use crate::value::Value;
+use std::sync::{Arc, ArcSlice, ArcStr};
 
 /// A type.
 #[derive(Debug, Drop)]
@@ -21,14 +23,14 @@ pub struct Ty {
 pub enum Kind {
     Bool,
     /// INTEGER with its named numbers.
-    Int(Vec<Named>),
+    Int(ArcSlice<Named>),
     /// BIT STRING with its named bits. Where there are some, a value has no trailing zero bit (X.680 22.7).
-    Bits(Vec<Named>),
+    Bits(ArcSlice<Named>),
     Octets,
     Null,
     Oid,
     /// ENUMERATED with its items in written order.
-    Enumerated(Vec<Named>),
+    Enumerated(ArcSlice<Named>),
     Chars(CharKind),
     Sequence(Vec<Comp>),
     Set(Vec<Comp>),
@@ -59,7 +61,7 @@ pub struct Named {
 #[derive(Debug, Drop)]
 #[cycle(types)]
 pub struct Comp {
-    pub name: String,
+    pub name: ArcStr,
     pub ty: Ty,
     pub presence: Presence,
 }
@@ -71,7 +73,7 @@ pub enum Presence {
     Optional,
     /// There is a default whose value is not known yet. This occurs only while a schema is built.
     Pending,
-    Default(Value),
+    Default(Arc<Value>),
 }
 
 /// A constraint, and where its first token is.
@@ -87,7 +89,7 @@ pub struct Cons {
 #[cycle(types)]
 pub enum Rule {
     /// This value alone (51.2).
-    One(Value),
+    One(Arc<Value>),
     /// The values of a contained subtype (51.3).
     Inside(Box<Ty>),
     /// The integers between two ends (51.4). A low end above the high one leaves none.
@@ -95,7 +97,7 @@ pub enum Rule {
     /// The values whose size this constraint on INTEGER (0..MAX) allows (51.5).
     Size(Box<Cons>),
     /// The strings whose characters' codes all lie in one of these ranges, both ends in (51.7).
-    Alphabet(Vec<(u32, u32)>),
+    Alphabet(ArcSlice<(u32, u32)>),
     /// WITH COMPONENT: the lists each of whose elements this constraint allows (51.8.4).
     Each(Box<Cons>),
     /// WITH COMPONENTS (51.8.5); true where it is partial, that is where it begins with `...`.

@@ -3,3 +3,4 @@ pub mod Texts
 pub mod LastOctets
 pub mod ObjectIdentifiers
 pub mod Laws
+pub mod Shortest

@@ -8,8 +8,11 @@ pub mod Der
 pub mod Encoding
 -- ---- which values and types have one
 pub mod Fits
+pub mod Shortest
 pub mod ProperConstraints
 pub mod Sound
+-- ---- sound types by their names
+pub mod NamedTypes
 -- ---- what is wrong with octets that are none
 pub mod Head
 pub mod Header

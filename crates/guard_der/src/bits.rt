@@ -1,5 +1,5 @@
-//! The end of a BIT STRING: how many bits are unused, what they are, and what the last bit is.
-ghost use Rattle.std.specs.Prelude.{◌≡◌, ◌^◌, ◌≤◌, map};
+//! The bits of a BIT STRING: how many there are, how many are unused, what these are, and what the last bit is.
+ghost use Rattle.std.specs.Prelude.{◌≡◌, ◌-◌, ◌*◌, ◌^◌, ◌≤◌, length, map, pos};
 ghost use Rattle.guard_model.specs.TypeView.{named_view};
 ghost use Rattle.guard_der.specs.Fits.{last_octet as last_of, has_proper_end, has_zero_end, has_no_trailing_zero, ends_as_named};
 
@@ -32,7 +32,7 @@ pub fn ends_as_named(names: &[Named], octets: &[u8], unused: u8) -> bool
 }
 
 /// The last bit is one, or there are no bits.
-fn has_no_trailing_zero(octets: &[u8], unused: u8) -> bool
+pub fn has_no_trailing_zero(octets: &[u8], unused: u8) -> bool
     requires { unused ≤ 7 }
     ensures { result ≡ has_no_trailing_zero octets.now unused }
 {
@@ -40,6 +40,14 @@ fn has_no_trailing_zero(octets: &[u8], unused: u8) -> bool
         [] => true,
         _ => last_octet(octets) / power_of_two(unused) % 2 == 1,
     }
+}
+
+/// How many bits there are, as SIZE counts them.
+pub fn count_bits(octets: &[u8], unused: u8) -> i128
+    ensures { result ≡ pos (8 * length octets.now - unused) }
+{
+    let all = 8 * (octets.len() as u128);
+    all.saturating_sub(u128::from(unused)) as i128
 }
 
 fn last_octet(octets: &[u8]) -> u8

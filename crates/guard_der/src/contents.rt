@@ -1,12 +1,12 @@
 //! Contents octets of the simple kinds (X.690 8.2 to 8.8, 8.19, 8.23): the value that they say, or what is wrong with
 //! them. Each reader is given the offset of the element, where its faults are named.
-ghost use Rattle.std.specs.Prelude.{◌≡◌, ◌+◌, ◌-◌, ◌<◌, ◌≤◌, ◌^◌, ◌∷◌, length, map, None, if◌then◌else◌};
+ghost use Rattle.std.specs.Prelude.{◌≡◌, map};
 ghost use Rattle.guard_model.specs.AbstractValue as abstract;
 ghost use Rattle.guard_model.specs.Answer.{Gives};
 ghost use Rattle.guard_model.specs.TypeView.{kind_view, named_view};
 ghost use Rattle.guard_model.specs.ValueView.{value_view};
-ghost use Rattle.guard_der.specs.Octets.{big_endian, turned, twos_complement as twos_read};
-ghost use Rattle.guard_der.specs.Simple.{boolean_fault, boolean_of, integer_fault, nine_equal, bits_fault, bits_of, null_fault, enumerated_fault, characters_fault, characters_of, simple_fault, simple_value};
+ghost use Rattle.guard_der.specs.Octets.{twos_complement as twos_read};
+ghost use Rattle.guard_der.specs.Simple.{boolean_fault, boolean_of, integer_fault, bits_fault, bits_of, null_fault, enumerated_fault, characters_fault, characters_of, simple_fault, simple_value};
 ghost use Rattle.guard_der.specs.Reading.{unless_fault};
 ghost use Rattle.guard_der.specs.Views.{breach_of};
 
@@ -15,6 +15,7 @@ use crate::breach::{Code, DecodeFault};
 use crate::characters::text_of;
 use crate::faults::fault_at;
 use crate::fitting::simple::is_item;
+use crate::integers::{fault_of_integer, twos_complement};
 use crate::object_id::object_identifier;
 use guard_model::{Bits, CharKind, Kind, Named, Value};
 use std::alloc::Global;
@@ -124,62 +125,4 @@ fn enumerated(items: &[Named], at: usize, octets: &[u8]) -> Result<Value, Decode
             }
         }
     }
-}
-
-/// The shortest two's complement, of at most sixteen octets (X.690 8.3).
-fn fault_of_integer(octets: &[u8]) -> Option<Code>
-    ensures { result ≡ integer_fault octets.now }
-{
-    if octets.is_empty() || has_nine_equal_bits(octets) {
-        Some(Code::IntegerContents)
-    } else if octets.len() > 16 {
-        Some(Code::IntegerTooLong)
-    } else {
-        None
-    }
-}
-
-/// A superfluous first octet: the first nine bits are equal (X.690 8.3.2).
-fn has_nine_equal_bits(octets: &[u8]) -> bool
-    ensures { result ≡ nine_equal octets.now }
-{
-    match octets {
-        [first, second, ..] => {
-            (*first == 0 && *second < 128) || (*first == 0xFF && *second >= 128)
-        }
-        _ => false,
-    }
-}
-
-#[tactic(auto, unfolding(crate::specs::Octets::twos_complement))]
-fn twos_complement(octets: &[u8]) -> i128
-    requires { integer_fault octets.now ≡ None }
-    ensures { result ≡ twos_read octets.now }
-{
-    let (first, others) = (octets[0], &octets[1..]);
-    if first < 128 {
-        number_behind(first, others, false) as i128
-    } else {
-        -1 - number_behind(255 - first, others, true) as i128
-    }
-}
-
-/// The number that octets spell, the highest first. The others are turned over, bit by bit, if `turn` says so.
-fn number_behind(first: u8, others: &[u8], turn: bool) -> u128
-    requires low { first < 128 }
-    requires short { length others.now ≤ 15 }
-    ensures value { result ≡ big_endian (first ∷ (if turn then turned others.now else others.now)) }
-    ensures bound { result < 2 ^ 127 }
-{
-    let mut number = u128::from(first);
-    for octet in others {
-        number = number * 256 + u128::from(turned_if(turn, *octet));
-    }
-    number
-}
-
-fn turned_if(turn: bool, octet: u8) -> u8
-    ensures { result ≡ (if turn then 255 - octet else octet) }
-{
-    if turn { 255 - octet } else { octet }
 }

@@ -22,12 +22,13 @@ use crate::breach::{Code, DecodeFault};
 use crate::contents::value_of_simple;
 use crate::decoding::set::{completed, place_of};
 use crate::faults::{end, fault_at, header_at_front, wrong_form};
-use crate::fitting::ascending::descends;
 use crate::forms::{is_constructed, is_form};
 use crate::head::Head;
+use crate::order::descends;
 use crate::presence::{is_left_out, not_sent};
-use crate::tags::{begins, begins_in, one_with};
+use crate::tags::{begins_in, one_with};
 use guard_model::{Comp, Kind, Presence, Step, Tag, Ty, Value, absent_fields, set_field};
+use guard_tagcheck::begins_with;
 use std::alloc::Global;
 
 /// The value of the type that the octets encode, all of them; or their breach.
@@ -250,7 +251,7 @@ fn component(
         return Ok((not_sent(alloc, presence, missing)?, 0));
     }
     let head = header_at_front(at, octets)?;
-    if !begins(ty, head.tag) {
+    if !begins_with(ty, head.tag) {
         let stray = fault_at(Code::UnexpectedTag, at);
         return Ok((not_sent(alloc, presence, stray)?, 0));
     }

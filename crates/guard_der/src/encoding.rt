@@ -16,6 +16,7 @@ mod parts;
 mod simple;
 pub(crate) mod values;
 
+pub use first_tag::outermost;
 use guard_model::{Kind, Tag, Ty, Value};
 use std::alloc::{AllocError, AllocFailed, Global};
 use thiserror::Error;

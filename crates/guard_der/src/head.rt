@@ -70,7 +70,7 @@ pub fn head_at_front(octets: &[u8]) -> Result<Head, Code>
         return Err(Code::Truncated);
     }
     let tag = Tag {
-        class: class_of_octet(*octet),
+        class: class_of(*octet),
         number,
     };
     Ok(Head {
@@ -81,7 +81,8 @@ pub fn head_at_front(octets: &[u8]) -> Result<Head, Code>
     })
 }
 
-fn class_of_octet(octet: u8) -> Class
+/// The class of a tag, by bits 8 and 7 of the first identifier octet (X.690 8.1.2.2).
+pub fn class_of(octet: u8) -> Class
     ensures { result ≡ class_of octet }
 {
     match octet {

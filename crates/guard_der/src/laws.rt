@@ -1,10 +1,13 @@
 //! Laws of the encoding, over the definitions alone. Each is carried by a function that does nothing when it runs.
-ghost use Rattle.std.specs.Prelude.{◌≡◌, ◌↔◌, ℕ, List, ◌++◌, Some, IsTrue, ◌⊎◌};
+ghost use Rattle.std.specs.Prelude.{◌≡◌, ◌↔◌, ◌<◌, ◌^◌, ℕ, ℤ, List, ◌++◌, length, Some, IsTrue, ◌⊎◌};
 ghost use Rattle.guard_model.specs.TypeView.{type_view};
 ghost use Rattle.guard_model.specs.ValueView.{value_view};
+ghost use Rattle.guard_model.specs.Limits.{fits_128_bits};
 ghost use Rattle.guard_model.specs.AbstractType.{AbstractType};
 ghost use Rattle.guard_model.specs.AbstractValue.{AbstractValue};
 ghost use Rattle.guard_tagcheck.specs.Distinct.{Distinct};
+ghost use Rattle.guard_der.specs.Octets.{signed_octets, base_128};
+ghost use Rattle.guard_der.specs.Shortest.{SpellInteger, SpellSubidentifier};
 ghost use Rattle.guard_der.specs.Der.{der};
 ghost use Rattle.guard_der.specs.Fits.{fits};
 ghost use Rattle.guard_der.specs.Sound.{is_sound, has_distinct_tags};
@@ -42,4 +45,18 @@ pub fn law_one_answer(ty: &Ty, octets: &[u8])
 /// differ that must (X.680 25.6, 27.3, 29.3).
 pub fn law_distinct_tags()
     ensures { (t : AbstractType) → IsTrue (has_distinct_tags t) ↔ Distinct t }
+{}
+
+/// The octets of an integer within signed 128 bits are the shortest list whose two's complement value it is: they spell
+/// it, and whatever else spells it is longer (X.690 8.3.2).
+pub fn law_shortest_integer()
+    ensures back { (z : ℤ) → IsTrue (fits_128_bits z) → SpellInteger z (signed_octets z) }
+    ensures shortest { (z : ℤ) (octets : List ℕ) → IsTrue (fits_128_bits z) → SpellInteger z octets → (octets ≡ signed_octets z) ⊎ (length (signed_octets z) < length octets) }
+{}
+
+/// The octets of a subidentifier below 2 ^ 128 are the shortest list whose value to the base 128 it is: they spell it,
+/// and whatever else spells it is longer (X.690 8.19.2).
+pub fn law_shortest_subidentifier()
+    ensures back { (n : ℕ) → n < 2 ^ 128 → SpellSubidentifier n (base_128 n) }
+    ensures shortest { (n : ℕ) (octets : List ℕ) → n < 2 ^ 128 → SpellSubidentifier n octets → (octets ≡ base_128 n) ⊎ (length (base_128 n) < length octets) }
 {}

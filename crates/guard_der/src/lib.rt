@@ -8,14 +8,17 @@
 //! | Which values does a type have, constraints aside? | `fitting.rt` (`fits`) | `specs/Fits.antt` |
 //! | Of which types do encodings tell the values? | `sound_types.rt` (`sound`) | `specs/Sound.antt` |
 //! | Which constraints may they have? | `sound_types.rt`, `sound_types/forms.rt` | `specs/ProperConstraints.antt` |
+//! | Which types do names have? | `named_types.rt` (`Types`) | `specs/NamedTypes.antt` |
 //! | Which value do octets encode, or what is wrong with them? | `decoding.rt` (`decode`) | `specs/Breach.antt` |
-//! | And those of simple kinds, and of a SET? | `contents.rt`, `decoding/set.rt` | `specs/Simple.antt`, `Breach.antt` |
+//! | And those of a simple kind? | `contents.rt`, `integers.rt`, `bits.rt`, `object_id.rt` | `specs/Simple.antt` |
+//! | And those of a SET? | `decoding/set.rt`, `tags.rt` | `specs/Breach.antt` |
+//! | Do the elements of a SET OF ascend? | `order.rt` (`descends`), `fitting/ascending.rt` | `specs/Fits.antt` |
 //! | Which header is at an offset? | `head.rt` (`header`) | `specs/Head.antt`, `specs/Header.antt` |
 //! | Which breaches are there, and what are they called? | `breach.rt` | `specs/Names.antt` |
 //! | What holds for every type, value and octets? | `laws.rt` | `specs/Der.antt`, `specs/Breach.antt` |
 #![tactic(auto)]
 
-mod bits;
+pub mod bits;
 mod breach;
 mod characters;
 mod contents;
@@ -26,8 +29,11 @@ mod faults;
 mod fitting;
 mod forms;
 mod head;
+pub mod integers;
 pub mod laws;
+pub mod named_types;
 mod object_id;
+pub mod order;
 mod presence;
 mod sound_types;
 mod tags;
@@ -35,7 +41,8 @@ mod tags;
 pub use breach::{Breach, Code, DecodeFault};
 pub use decoding::decode;
 pub use element::Header;
-pub use encoding::{EncodeFault, encode, encode_contents, encode_tagged};
+pub use encoding::{EncodeFault, encode, encode_contents, encode_tagged, outermost};
 pub use fitting::fits;
-pub use head::header;
+pub use head::{class_of, header};
 pub use sound_types::sound;
+pub use tags::follows;

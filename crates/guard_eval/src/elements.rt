@@ -1,10 +1,11 @@
 //! Sets of values by a number, a size or characters.
-ghost use Rattle.std.specs.Prelude.{◌≡◌, ◌*◌, ◌-◌, length, pos, chars, option_map};
+ghost use Rattle.std.specs.Prelude.{◌≡◌, length, pos, chars, option_map};
 ghost use Rattle.std.specs.List.{list_all};
 ghost use Rattle.guard_model.specs.ValueView.{value_view};
 ghost use Rattle.guard_eval.specs.Elements.{is_above, is_under, is_between, size_of, is_in_some, is_spelled_in};
 
-use guard_model::{Bits, Limit, Value};
+use guard_der::bits::count_bits;
+use guard_model::{Limit, Value};
 
 /// The value is an integer between the ends (X.680 51.4).
 pub fn is_between(low: &Limit, high: &Limit, value: &Value) -> bool
@@ -41,7 +42,7 @@ pub fn size_of(value: &Value) -> Option<i128>
     ensures { result ≡ option_map pos (size_of (value_view value.now)) }
 {
     match value {
-        Value::Bits(bits) => Some(count_bits(bits)),
+        Value::Bits(bits) => Some(count_bits(&bits.octets, bits.unused)),
         Value::Octets(octets) => Some(octets.len() as i128),
         Value::Chars(text) => Some(count_characters(text) as i128),
         Value::Items(items) => Some(items.len() as i128),
@@ -55,13 +56,6 @@ fn count_characters(text: &str) -> usize
     text.chars().count()
 }
 
-fn count_bits(bits: &Bits) -> i128
-    ensures { result ≡ pos (8 * length bits.now.octets.items - bits.now.unused) }
-{
-    let all = 8 * (bits.octets.len() as u128);
-    all.saturating_sub(u128::from(bits.unused)) as i128
-}
-
 /// The value is a string all of whose characters are in one of the ranges (X.680 51.7).
 pub fn is_spelled_in(ranges: &[(u32, u32)], value: &Value) -> bool
     ensures { result ≡ is_spelled_in ranges.now (value_view value.now) }
@@ -72,7 +66,8 @@ pub fn is_spelled_in(ranges: &[(u32, u32)], value: &Value) -> bool
     }
 }
 
-fn are_permitted(ranges: &[(u32, u32)], text: &str) -> bool
+/// All characters of the text are in one of the ranges.
+pub fn are_permitted(ranges: &[(u32, u32)], text: &str) -> bool
     ensures { result ≡ list_all (is_in_some ranges.now) (chars text.now) }
 {
     for character in text.chars() {
@@ -83,7 +78,8 @@ fn are_permitted(ranges: &[(u32, u32)], text: &str) -> bool
     true
 }
 
-fn is_in_some(ranges: &[(u32, u32)], code: u32) -> bool
+/// The code is in one of the ranges, both ends in.
+pub fn is_in_some(ranges: &[(u32, u32)], code: u32) -> bool
     ensures { result ≡ is_in_some ranges.now code }
 {
     for (first, last) in ranges {

@@ -18,5 +18,6 @@ mod presence;
 mod search;
 mod violation;
 
+pub use elements::{are_permitted, is_in_some};
 pub use members::{holds, holds_on_kind, member, proper_member};
 pub use violation::{Violation, first_violation};

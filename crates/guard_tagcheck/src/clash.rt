@@ -3,9 +3,9 @@ use guard_model::{Path, PathText, Step};
 use thiserror::Error;
 
 /// Two components of a SEQUENCE or SET, or alternatives of a CHOICE, that must differ in their tags and share one.
-/// It prints as the path and both positions: `$.0[0].2 0 1`.
+/// It prints as its name, the path and both positions: `Clash $.0[0].2 0 1`.
 #[derive(Debug, Drop, Error)]
-#[error("{way} {first} {second}", way = PathText(.path))]
+#[error("Clash {way} {first} {second}", way = PathText(.path))]
 pub struct Clash {
     /// The way from the type to the SEQUENCE, SET or CHOICE. A component or alternative is `Step::Component`, the type
     /// of an OF type's elements `Step::Element(0)`.

@@ -36,7 +36,7 @@ fn one_shares_tag(alternatives: &[Comp], b: &Ty) -> bool
 
 /// Whether an encoding of the type may begin with this tag. An untagged CHOICE has the tags of all its alternatives.
 #[cycle(beginning)]
-fn begins_with(ty: &Ty, tag: Tag) -> bool
+pub fn begins_with(ty: &Ty, tag: Tag) -> bool
     ensures { result ≡ begins_with (type_view ty.now) tag }
 {
     if let Some(first) = ty.tags.first() {
@@ -48,8 +48,9 @@ fn begins_with(ty: &Ty, tag: Tag) -> bool
     }
 }
 
+/// Whether an encoding of one of the alternatives may begin with this tag.
 #[cycle(beginning)]
-fn one_begins_with(alternatives: &[Comp], tag: Tag) -> bool
+pub fn one_begins_with(alternatives: &[Comp], tag: Tag) -> bool
     ensures { result ≡ one_begins_with (components_of (map component_view alternatives.now)) tag }
 {
     for alternative in alternatives {

@@ -1,6 +1,7 @@
 -- What an encoding is made of, seen from the code's types and values.
 use Rattle.std.proofs.Common.{◌≡◌, ℕ, suc, ◌+◌, ◌<◌, ◌≤◌, Bool, true, false, List, [], ◌∷◌, ◌++◌, length, drop, get_or, map, Option, Some, None, Ok, refl, sym, ap, ◌∙◌, append_assoc, add-one}
-use Rattle.std.specs.Prelude.{IsTrue, string_bytes}
+use Rattle.std.specs.Arc.{arc_str_bytes}
+use Rattle.std.specs.Prelude.{IsTrue}
 use Rattle.std.specs.Global.{Vec, Box}
 use Rattle.guard_model.specs.Answer.{Refuses}
 use Rattle.guard_model.specs.AbstractType.{AbstractType, AbstractPresence, Components, component}
@@ -97,12 +98,12 @@ others comps fs i = parts_of (left comps i) (fields_view (drop i fs))
 
 next_sent : (comps : List Comp) (fs : List (Option Value)) (i : ℕ) (comp : Comp) (f : Option Value) → i < length comps → i < length fs → comp ≡ get_or comps i comp → f ≡ get_or fs i f → others comps fs i ≡ (sent_of comp f >>= λ one. with_parts one (others comps fs (i + 1)))
 next_sent comps fs i comp f lt lf is is_f =
-    rw (left_is comps i comp lt is, fields_is fs i f lf is_f) (one_first (string_bytes (out-Comp comp).name) (type_view (out-Comp comp).ty) (presence_view (out-Comp comp).presence) (left comps (i + 1)) (field_view f) (map field_view (drop (i + 1) fs)))
+    rw (left_is comps i comp lt is, fields_is fs i f lf is_f) (one_first (arc_str_bytes (out-Comp comp).name) (type_view (out-Comp comp).ty) (presence_view (out-Comp comp).presence) (left comps (i + 1)) (field_view f) (map field_view (drop (i + 1) fs)))
 
 pub next_fits : (comps : List Comp) (fs : List (Option Value)) (i : ℕ) (comp : Comp) (f : Option Value) → i < length comps → i < length fs → comp ≡ get_or comps i comp → f ≡ get_or fs i f → IsTrue (fits_fields (left comps i) (fields_view (drop i fs)))
     → IsTrue (fits_field (presence_view (out-Comp comp).presence) (type_view (out-Comp comp).ty) (field_view f)) × IsTrue (fits_fields (left comps (i + 1)) (fields_view (drop (i + 1) fs)))
 next_fits comps fs i comp f lt lf is is_f h =
-    one_fits (string_bytes (out-Comp comp).name) (type_view (out-Comp comp).ty) (presence_view (out-Comp comp).presence) (left comps (i + 1)) (field_view f) (map field_view (drop (i + 1) fs)) (rw (left_is comps i comp lt is, fields_is fs i f lf is_f) at h)
+    one_fits (arc_str_bytes (out-Comp comp).name) (type_view (out-Comp comp).ty) (presence_view (out-Comp comp).presence) (left comps (i + 1)) (field_view f) (map field_view (drop (i + 1) fs)) (rw (left_is comps i comp lt is, fields_is fs i f lf is_f) at h)
 
 put_behind : (old new : List Part) (one rest : Option (List Part)) → or_too_long (with_parts old one) ≡ Ok new → with_parts new rest ≡ with_parts old (one >>= λ o. with_parts o rest)
 put_behind old new None rest h = absurd cc

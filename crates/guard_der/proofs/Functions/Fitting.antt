@@ -1,6 +1,7 @@
 -- The test of a value's components and elements, one after the other.
 use Rattle.std.proofs.Common.{◌≡◌, ℕ, suc, ◌+◌, ◌<◌, ◌≤◌, Bool, true, false, List, [], ◌∷◌, length, drop, get_or, map, Option, Some, None, refl, sym, ap, ◌∙◌, arith}
-use Rattle.std.specs.Prelude.{◌&&◌, string_bytes}
+use Rattle.std.specs.Arc.{arc_str_bytes}
+use Rattle.std.specs.Prelude.{◌&&◌}
 use Rattle.std.specs.Global.{Vec, Box}
 use Rattle.std.proofs.lemmas.Bool.{le-leb, lt-leb}
 use Rattle.std.proofs.lemmas.List.{drop_all, length-map}
@@ -38,7 +39,7 @@ fit_here comp f = fits_field (presence_view (out-Comp comp).presence) (type_view
 
 fit_next : (comps : List Comp) (fs : List (Option Value)) (i : ℕ) (comp : Comp) (f : Option Value) → i < length comps → i < length fs → comp ≡ get_or comps i comp → f ≡ get_or fs i f → fit_from comps fs i ≡ (fit_here comp f && fit_from comps fs (i + 1))
 fit_next comps fs i comp f lt lf is is_f =
-    rw (left_is comps i comp lt is, fields_is fs i f lf is_f) (one_fits (string_bytes (out-Comp comp).name) (type_view (out-Comp comp).ty) (presence_view (out-Comp comp).presence) (left comps (i + 1)) (field_view f) (map field_view (drop (i + 1) fs)))
+    rw (left_is comps i comp lt is, fields_is fs i f lf is_f) (one_fits (arc_str_bytes (out-Comp comp).name) (type_view (out-Comp comp).ty) (presence_view (out-Comp comp).presence) (left comps (i + 1)) (field_view f) (map field_view (drop (i + 1) fs)))
 
 pub fit_on : (comps : List Comp) (fs : List (Option Value)) (i : ℕ) (comp : Comp) (f : Option Value) (r w : Bool) → i < length comps → i < length fs → comp ≡ get_or comps i comp → f ≡ get_or fs i f → r ≡ fit_here comp f → r ≡ true → fit_from comps fs i ≡ w → fit_from comps fs (i + 1) ≡ w
 fit_on comps fs i comp f r w lt lf is is_f tested passed e = and_on (fit_here comp f) (fit_from comps fs (i + 1)) w (sym tested ∙ passed) (sym (fit_next comps fs i comp f lt lf is is_f) ∙ e)

@@ -33,11 +33,11 @@ few_digits a d ds some small =
           absurd (omega (arith, large, one, power, small))
     ]
 
-single : (n : ℕ) → n < 128 → base_128 n ≡ n ∷ []
+pub single : (n : ℕ) → n < 128 → base_128 n ≡ n ∷ []
 unfolding base_128
 single n low = cond-true (ltb n 128) _ _ (lt-ltb n 128 low)
 
-several : (n : ℕ) → 128 ≤ n → base_128 n ≡ marked (fewest 128 128 17 (n / 128)) ++ (n % 128) ∷ []
+pub several : (n : ℕ) → 128 ≤ n → base_128 n ≡ marked (fewest 128 128 17 (n / 128)) ++ (n % 128) ∷ []
 unfolding base_128
 several n high = cond-false (ltb n 128) _ _ (le-ltb n 128 high)
 

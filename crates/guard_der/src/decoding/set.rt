@@ -3,16 +3,15 @@ ghost use Rattle.std.specs.Prelude.{◌≡◌, ◌<◌, ◌≤◌, length, map, 
 ghost use Rattle.guard_model.specs.Answer.{Gives};
 ghost use Rattle.guard_model.specs.TypeView.{component_view, components_of};
 ghost use Rattle.guard_model.specs.ValueView.{fields_view};
-ghost use Rattle.guard_der.specs.Reading.{completed, follows as comes_after, placed_at};
+ghost use Rattle.guard_der.specs.Reading.{completed, placed_at};
 ghost use Rattle.guard_der.specs.Views.{breach_of};
 
 use crate::breach::{Code, DecodeFault};
 use crate::faults::fault_at;
 use crate::presence::not_sent;
-use crate::tags::one_with;
+use crate::tags::{follows, one_with};
 use guard_model::{Comp, Step, Tag, Value, set_field};
 use std::alloc::Global;
-use std::cmp::Ordering;
 
 /// The place of the component with this tag, which comes after those that were read and was not there among them.
 pub fn place_of(
@@ -37,16 +36,6 @@ pub fn place_of(
         return Err(fault_at(Code::UnexpectedTag, at));
     }
     Ok(place)
-}
-
-/// The tag comes after that of the element before, where there is one (X.690 10.3).
-fn follows(before: Option<Tag>, tag: Tag) -> bool
-    ensures { result ≡ comes_after before tag }
-{
-    match before {
-        None => true,
-        Some(before) => before.order(&tag) == Ordering::Less,
-    }
 }
 
 /// The components that were not sent: absent, or their default.

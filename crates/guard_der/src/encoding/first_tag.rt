@@ -7,7 +7,7 @@ ghost use Rattle.guard_der.specs.Der.{outermost, outermost_alternative};
 
 use guard_model::{Class, Comp, Kind, Tag, Ty, Value};
 
-/// Of an untagged CHOICE that of the chosen alternative.
+/// The outermost tag of a value's encoding; of an untagged CHOICE that of the chosen alternative.
 #[cycle(outermost)]
 pub fn outermost(ty: &Ty, value: &Value) -> Tag
     ensures { result ≡ outermost (type_view ty.now) (value_view value.now) }

@@ -1,12 +1,13 @@
 //! Whether the elements of a SET OF are in the order of their encodings.
-ghost use Rattle.std.specs.Prelude.{◌≡◌, IfOk, IsTrue, option_map, slice_index};
+ghost use Rattle.std.specs.Prelude.{◌≡◌, IfOk, IsTrue, option_map};
 ghost use Rattle.guard_model.specs.TypeView.{type_view};
 ghost use Rattle.guard_model.specs.ValueView.{value_view, items_view};
 ghost use Rattle.guard_der.specs.Der.{der, item_encodings};
-ghost use Rattle.guard_der.specs.Fits.{fits, every_fits, are_ascending, descends};
+ghost use Rattle.guard_der.specs.Fits.{fits, every_fits, are_ascending};
 
 use crate::encoding::EncodeFault;
 use crate::encoding::values::encoding;
+use crate::order::descends;
 use guard_model::{OutOfMemory, Ty, Value};
 use std::alloc::Global;
 
@@ -37,31 +38,5 @@ fn encoding_of(alloc: Global, ty: &Ty, value: &Value) -> Result<Option<Vec<u8>>,
         Ok(octets) => Ok(Some(octets)),
         Err(EncodeFault::TooLong) => Ok(None),
         Err(EncodeFault::OutOfMemory) => Err(OutOfMemory),
-    }
-}
-
-/// The first descends to the second, octet by octet, the shorter one padded with zero octets.
-pub fn descends(octets: &[u8], next: &[u8]) -> bool
-    ensures { result ≡ descends octets.now next.now }
-{
-    for (index, octet) in octets.iter().enumerate() {
-        let other = padded(next, index);
-        if other < *octet {
-            return true;
-        }
-        if *octet < other {
-            return false;
-        }
-    }
-    false
-}
-
-fn padded(octets: &[u8], index: usize) -> u8
-    ensures { result ≡ slice_index octets.now index }
-{
-    if index < octets.len() {
-        octets[index]
-    } else {
-        0
     }
 }

@@ -179,12 +179,12 @@ pub component-returns-in_err-not_sent-2-clause-given : goal.component-returns-in
 component-returns-in_err-not_sent-2-clause-given t c =
     let p = err_from_is_err_and c.from_residual-in_err-not_sent-2.result c.from_residual-in_err-not_sent-2.ensures.1 in
     rw (p.1, p.2) (stray_refused c.args.index (presence_view c.args.presence.now) (begins_with (type_view c.args.ty.now)) (element_at (type_view c.args.ty.now)) c.args.at c.args.octets.now (head_view c.in_ok-head.head)
-    (sym c.is_empty.ensures ∙ c.if-is_empty.false) c.in_ok-head.ensures (breach_of c.in_err-not_sent-2.field-0.0) (sym c.begins.ensures ∙ c.if-not-begins.true) (c.in_err-not_sent-2.ensures (fault code.UnexpectedTag c.args.at) c.fault_at-stray.ensures))
+    (sym c.is_empty.ensures ∙ c.if-is_empty.false) c.in_ok-head.ensures (breach_of c.in_err-not_sent-2.field-0.0) (sym c.begins_with.ensures ∙ c.if-not-begins_with.true) (c.in_err-not_sent-2.ensures (fault code.UnexpectedTag c.args.at) c.fault_at-stray.ensures))
 
-pub component-returns-then-not-begins-clause-given : goal.component-returns-then-not-begins-clause-given
-component-returns-then-not-begins-clause-given t c =
+pub component-returns-then-not-begins_with-clause-given : goal.component-returns-then-not-begins_with-clause-given
+component-returns-then-not-begins_with-clause-given t c =
     stray_ok c.args.index (presence_view c.args.presence.now) (begins_with (type_view c.args.ty.now)) (element_at (type_view c.args.ty.now)) c.args.at c.args.octets.now (head_view c.in_ok-head.head)
-    (sym c.is_empty.ensures ∙ c.if-is_empty.false) c.in_ok-head.ensures (field_view c.in_ok-not_sent-2.field-0) (sym c.begins.ensures ∙ c.if-not-begins.true) (c.in_ok-not_sent-2.ensures (fault code.UnexpectedTag c.args.at) c.fault_at-stray.ensures)
+    (sym c.is_empty.ensures ∙ c.if-is_empty.false) c.in_ok-head.ensures (field_view c.in_ok-not_sent-2.field-0) (sym c.begins_with.ensures ∙ c.if-not-begins_with.true) (c.in_ok-not_sent-2.ensures (fault code.UnexpectedTag c.args.at) c.fault_at-stray.ensures)
 
 pub component-sent-requires : goal.component-sent-requires
 component-sent-requires t c = (omega arith, (c.requires.proper, (c.requires.depth, (located_is c.args.at (head_of c.args.octets.now) (head_view c.in_ok-head.head) c.in_ok-head.ensures, c.requires.room))))
@@ -193,7 +193,7 @@ pub component-returns-in_err-value-clause-given : goal.component-returns-in_err-
 component-returns-in_err-value-clause-given t c =
     let p = err_from_is_err_and c.from_residual-in_err-value.result c.from_residual-in_err-value.ensures.1 in
     rw (p.1, p.2) (component_refused c.args.index (presence_view c.args.presence.now) (begins_with (type_view c.args.ty.now)) (element_at (type_view c.args.ty.now)) c.args.at c.args.octets.now (head_view c.in_ok-head.head)
-    (sym c.is_empty.ensures ∙ c.if-is_empty.false) c.in_ok-head.ensures (breach_of c.in_err-value.field-0.0) (sym c.begins.ensures ∙ c.if-not-begins.false) c.in_err-value.ensures)
+    (sym c.is_empty.ensures ∙ c.if-is_empty.false) c.in_ok-head.ensures (breach_of c.in_err-value.field-0.0) (sym c.begins_with.ensures ∙ c.if-not-begins_with.false) c.in_err-value.ensures)
 
 pub component-overflow_add-result : goal.component-overflow_add-result
 component-overflow_add-result t c = omega (arith, c.requires.room, head_room c.args.octets.now (head_view c.in_ok-head.head) (are_digits 256 c.args.octets.now (λ i _. omega (arith, c.type_inv.octets i))) (located_is c.args.at (head_of c.args.octets.now) (head_view c.in_ok-head.head) c.in_ok-head.ensures))
@@ -204,7 +204,7 @@ component-returns-clause-within t c = head_room c.args.octets.now (head_view c.i
 pub component-returns-clause-given : goal.component-returns-clause-given
 component-returns-clause-given t c =
     component_ok c.args.index (presence_view c.args.presence.now) (begins_with (type_view c.args.ty.now)) (element_at (type_view c.args.ty.now)) c.args.at c.args.octets.now (head_view c.in_ok-head.head)
-    (sym c.is_empty.ensures ∙ c.if-is_empty.false) c.in_ok-head.ensures (value_view c.in_ok-value.value) (sym c.begins.ensures ∙ c.if-not-begins.false) c.in_ok-value.ensures
+    (sym c.is_empty.ensures ∙ c.if-is_empty.false) c.in_ok-head.ensures (value_view c.in_ok-value.value) (sym c.begins_with.ensures ∙ c.if-not-begins_with.false) c.in_ok-value.ensures
 
 -- ---- a component that is sent
 

@@ -2,7 +2,7 @@ use Rattle.std.proofs.Common.{◌≡◌, ◌+◌, ◌-◌, ◌*◌, ◌^◌, ◌
 use Rattle.std.specs.Prelude.{if◌then◌else◌}
 use Rattle.guard_der.specs.Octets.{big_endian}
 use Rattle.guard_der.specs.Octets.{turned}
-use Rattle.guard_der.proofs.contents.number_behind.Given as goal
+use Rattle.guard_der.proofs.integers.number_behind.Given as goal
 
 abbrev pub invariant-loop-octet : goal.invariant-loop-octet
 invariant-loop-octet l = record {

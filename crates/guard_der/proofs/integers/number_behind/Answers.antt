@@ -1,7 +1,7 @@
 use Rattle.std.proofs.Common.{◌-◌, ◌<◌, ◌∙◌, get_or, arith}
 use Rattle.guard_der.proofs.Numbers.Widths.{room_now, room_kept}
 use Rattle.guard_der.proofs.Numbers.Integers.{turned_next, turned_room}
-use Rattle.guard_der.proofs.contents.number_behind.Goals as goal
+use Rattle.guard_der.proofs.integers.number_behind.Goals as goal
 
 pub overflow_mul-number : goal.overflow_mul-number
 overflow_mul-number c = omega (arith, room_now 256 (15 - c.loop-octet.octet-index) (14 - c.loop-octet.octet-index) c.loop-octet.number 170141183460469231731687303715884105728 (omega arith) (omega arith) c.loop-octet.invariant.bound)

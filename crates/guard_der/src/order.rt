@@ -1,0 +1,29 @@
+//! The order of the elements of a SET OF, by their encodings (X.690 11.6).
+ghost use Rattle.std.specs.Prelude.{◌≡◌, slice_index};
+ghost use Rattle.guard_der.specs.Fits.{descends};
+
+/// The first descends to the second, octet by octet, the shorter one padded with zero octets.
+pub fn descends(octets: &[u8], next: &[u8]) -> bool
+    ensures { result ≡ descends octets.now next.now }
+{
+    for (index, octet) in octets.iter().enumerate() {
+        let other = padded(next, index);
+        if other < *octet {
+            return true;
+        }
+        if *octet < other {
+            return false;
+        }
+    }
+    false
+}
+
+fn padded(octets: &[u8], index: usize) -> u8
+    ensures { result ≡ slice_index octets.now index }
+{
+    if index < octets.len() {
+        octets[index]
+    } else {
+        0
+    }
+}

@@ -1,7 +1,5 @@
 -- Lemmas, in reading order. What the checker asks for of a function is in folders with the names of src/.
 
--- ---- lists of ranges
-pub mod RangeLists
 -- ---- constraint trees
 pub mod Denoted
 -- ---- steps of the code

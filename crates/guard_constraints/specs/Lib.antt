@@ -1,7 +1,3 @@
--- ---- sets of integers
-pub mod Numbers
-pub mod Ranges
-pub mod IntSets
 -- ---- which elements may be where, and what they say
 pub mod Visible
 pub mod Applies

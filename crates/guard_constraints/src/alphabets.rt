@@ -20,6 +20,7 @@ use guard_syntax::{
 };
 use guard_values::{ValueFault, quoted};
 use std::alloc::{AllocError, Global};
+use std::sync::ArcSlice;
 
 /// The code of MIN.
 const LEAST_CODE: u32 = 0;
@@ -59,7 +60,7 @@ pub fn alphabet(alloc: Global, tree: &ConsTree, site: Site, ty: &Ty) -> Result<C
     let ranges = ranges_of(alloc, &items)?;
     Ok(Cons {
         site,
-        rule: Rule::Alphabet(ranges),
+        rule: Rule::Alphabet(ArcSlice::from_vec(ranges)?),
     })
 }
 

@@ -1,5 +1,5 @@
 //! Constraints: which constraint a tree of the notation denotes on its type (X.680 49 to 51), or the first fault; and
-//! the sets of integers that tables are made of.
+//! sets of integers, by the name of `guard_integers`.
 //!
 //! | question | file |
 //! |---|---|
@@ -13,21 +13,19 @@
 //! | what may WITH COMPONENTS list | `listed_parts.rt`, `specs/ListedParts.antt` |
 //! | what do names mean | `specs/Visible.antt`, by `Scope` of `guard_values`; contained types: `contained_types.rt` |
 //! | what does the code compute, step by step | `specs/inside/Reading.antt` |
-//! | which integers does a set hold | `int_set.rt`, `specs/IntSets.antt`; lists of ranges, their gaps and their common parts: `ranges.rt` |
+//! | which integers does a set hold | `IntSet` of `guard_integers` |
 #![tactic(auto)]
 
 mod alphabets;
 mod contained_types;
 mod fault;
-mod int_set;
 mod kinds;
 pub mod laws;
 mod listed_parts;
 mod range_ends;
-mod ranges;
 mod written;
 mod written_values;
 
 pub use fault::ConsFault;
-pub use int_set::IntSet;
+pub use guard_integers::IntSet;
 pub use written::constraint;

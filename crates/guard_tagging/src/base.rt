@@ -23,6 +23,7 @@ use crate::parts::check_list;
 use guard_model::{Kind, Ty};
 use guard_syntax::{Collection, ItemTree, NamedTree, PlainType};
 use std::alloc::Global;
+use std::sync::ArcSlice;
 
 /// A type that is written with words alone.
 #[tactic(auto, unfolding(crate::specs::inside::ReadBases::plain_type))]
@@ -51,7 +52,7 @@ pub fn integer_type(
 {
     let places = named_places(alloc, trees)?;
     let whole = numbered_whole(alloc, node, 2, &places, before)?;
-    let numbers = named_numbers(alloc, trees)?;
+    let numbers = ArcSlice::from_vec(named_numbers(alloc, trees)?)?;
     Ok(new_type(alloc, whole, Kind::Int(numbers))?)
 }
 
@@ -67,7 +68,7 @@ pub fn bits_type(
 {
     let places = named_places(alloc, trees)?;
     let whole = numbered_whole(alloc, node, 3, &places, before)?;
-    let bits = named_bits(alloc, trees)?;
+    let bits = ArcSlice::from_vec(named_bits(alloc, trees)?)?;
     Ok(new_type(alloc, whole, Kind::Bits(bits))?)
 }
 
@@ -83,7 +84,7 @@ pub fn enumerated_type(
 {
     let places = item_places(alloc, trees)?;
     let whole = numbered_whole(alloc, node, 10, &places, before)?;
-    let numbered = items(alloc, trees)?;
+    let numbered = ArcSlice::from_vec(items(alloc, trees)?)?;
     Ok(new_type(alloc, whole, Kind::Enumerated(numbered))?)
 }
 

@@ -72,7 +72,7 @@ pub fn component_places<'a>(
     for (index, comp) in comps.iter().enumerate() {
         places.push(Placed {
             site: sites[index],
-            name: comp.name.as_bytes(),
+            name: comp.name.as_str().as_bytes(),
             number: None,
         })?;
     }

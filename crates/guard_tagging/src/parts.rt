@@ -15,6 +15,7 @@ use crate::names::{component_places, first_repeated, name_text};
 use crate::taken::{check_taken, none_refused};
 use guard_model::{Class, Comp, Kind, MOST_COMPONENTS, Presence, Site, Tag, Ty};
 use std::alloc::{AllocError, Global};
+use std::sync::ArcStr;
 
 /// No components, with so many types before them.
 pub fn no_parts(alloc: Global, before: usize) -> Parts
@@ -69,7 +70,7 @@ pub fn with_component(
 fn comp_of(alloc: Global, name: &[u8], ty: Ty, presence: Presence) -> Result<Comp, AllocError>
     ensures { IfOk result (λ comp. model.component_view comp ≡ reading.named_component name.now (model.type_view ty) (model.presence_view presence)) }
 {
-    let name = name_text(alloc, name)?;
+    let name = ArcStr::from_string(name_text(alloc, name)?)?;
     Ok(Comp { name, ty, presence })
 }
 

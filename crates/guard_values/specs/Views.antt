@@ -1,8 +1,12 @@
 -- What the code's results and arguments mean.
 use Rattle.std.specs.Prelude.{ℕ, List, [], Option, Some, None, slice_get, IsTrue, IfSome}
 use Rattle.std.specs.Option.{option_map}
+use Rattle.std.specs.Arc.{arc_value}
 use Rattle.std.specs.Borrow.{Bor}
+use Rattle.std.specs.Global.{Global}
+use Rattle.std.specs.declared.sync.Arc.{Arc}
 use Rattle.guard_model.specs.AbstractType.{AbstractType}
+use Rattle.guard_model.specs.AbstractValue.{AbstractValue}
 use Rattle.guard_model.specs.TypeView.{type_view}
 use Rattle.guard_model.specs.ValueView.{value_view}
 use Rattle.guard_model.specs.declared.ty.Ty.{Ty}
@@ -27,8 +31,12 @@ abbrev pub named : ValueFault → Option ValueFault
 named fault.OutOfMemory = None
 named f = Some f
 
+-- the value that is shared
+abbrev pub shared_view : Arc Value Global → AbstractValue
+shared_view v = value_view (arc_value v)
+
 abbrev pub visible_view : VisibleValue → Governed
-visible_view v = record { ty = type_view v.ty.now; value = value_view v.value.now }
+visible_view v = record { ty = type_view v.ty.now; value = shared_view v.value.now }
 
 abbrev pub located_view : ℕ × Bor Ty → Located
 located_view x = record { place = x.0; ty = type_view x.1.now }
@@ -39,8 +47,8 @@ encoded_view e = record { octets = e.octets.items; value = value_view e.value }
 -- ---- what is known
 
 -- a value and its type, where both are known
-abbrev pub known_pair : Option Ty → Option (Option Value) → Option Governed
-known_pair (Some t) (Some (Some v)) = Some (record { ty = type_view t; value = value_view v })
+abbrev pub known_pair : Option Ty → Option (Option (Arc Value Global)) → Option Governed
+known_pair (Some t) (Some (Some v)) = Some (record { ty = type_view t; value = shared_view v })
 known_pair _ _ = None
 
 abbrev pub known_at : Known → ℕ → Option Governed

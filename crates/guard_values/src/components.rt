@@ -19,7 +19,7 @@ pub fn located<'a>(name: &[u8], comps: &'a [Comp]) -> Option<(usize, &'a Ty)>
     ensures within { IfSome result (λ x. x.0 < length comps.now) }
 {
     for index in 0..comps.len() {
-        if name == comps[index].name.as_bytes() {
+        if name == comps[index].name.as_str().as_bytes() {
             return Some((index, &comps[index].ty));
         }
     }

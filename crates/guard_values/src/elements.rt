@@ -55,8 +55,18 @@ pub fn encoded(alloc: Global, ty: &Ty, site: Site, value: Value) -> Result<Encod
     ensures encoding { IfOk result (λ e. der (type_view ty.now) (value_view e.value) ≡ Some e.octets.items) }
     ensures given { Gives (λ e. value_view e.value) named result (limited site (type_view ty.now) (value_view value)) }
 {
-    match encode(alloc, ty, &value) {
-        Ok(octets) => Ok(Encoded { octets, value }),
+    let octets = encoding(alloc, ty, site, &value)?;
+    Ok(Encoded { octets, value })
+}
+
+/// The encoding of the value at the site, of at most 1,048,576 octets.
+pub fn encoding(alloc: Global, ty: &Ty, site: Site, value: &Value) -> Result<Vec<u8>, ValueFault>
+    requires { IsTrue (fits (type_view ty.now) (value_view value.now)) }
+    ensures encoding { IfOk result (λ octets. der (type_view ty.now) (value_view value.now) ≡ Some octets.items) }
+    ensures given { Gives (λ octets. value_view value.now) named result (limited site (type_view ty.now) (value_view value.now)) }
+{
+    match encode(alloc, ty, value) {
+        Ok(octets) => Ok(octets),
         Err(EncodeFault::TooLong) => Err(ValueFault::TooLarge(site)),
         Err(EncodeFault::OutOfMemory) => Err(ValueFault::OutOfMemory),
     }

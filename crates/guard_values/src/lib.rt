@@ -2,7 +2,7 @@
 //!
 //! | question | code | definition |
 //! |---|---|---|
-//! | Which value does a tree denote, and why none? | `values.rt` (`value`), `fault.rt` | `specs/Denotes.antt`, `specs/Faults.antt`, `specs/FirstFault.antt` |
+//! | Which value does a tree denote, and why none? | `values.rt` (`value`, `shared_value`), `fault.rt` | `specs/Denotes.antt`, `specs/Faults.antt`, `specs/FirstFault.antt` |
 //! | What do visible names mean where something is written? | `scope.rt` (`Known`, `Scope`) | `specs/Views.antt` |
 //! | How are trees read by their types? | `written.rt` | `specs/inside/Reading.antt` |
 //! | What do names in braces say for a BIT STRING, and where do its values end? | `named_bits.rt` | `specs/NamedBits.antt` |
@@ -29,4 +29,4 @@ mod written;
 pub use fault::ValueFault;
 pub use scope::{Known, Scope, VisibleValue};
 pub use strings::quoted;
-pub use values::value;
+pub use values::{shared_value, value};

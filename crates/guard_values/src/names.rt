@@ -7,12 +7,13 @@ ghost use Rattle.guard_model.specs.Limits.{fits_128_bits};
 ghost use Rattle.guard_values.specs.Meanings as meanings;
 ghost use Rattle.guard_values.specs.Simple.{numbered_value};
 ghost use Rattle.guard_values.specs.inside.Reading.{read_reference, read_visible, answered};
-ghost use Rattle.guard_values.specs.Views.{named, visible_view, meaning_of};
+ghost use Rattle.guard_values.specs.Views.{named, shared_view, visible_view, meaning_of};
 
 use crate::fault::ValueFault;
 use crate::scope::{Scope, VisibleValue};
 use guard_model::{Kind, Named, Site, Ty, Value};
 use std::alloc::Global;
+use std::sync::Arc;
 
 /// The value of a name. A name of the type's own list comes before a visible one.
 pub fn reference(
@@ -26,7 +27,23 @@ pub fn reference(
 {
     match own_number(&ty.kind, name) {
         Some(number) => numbered(&ty.kind, site, number),
-        None => visible(alloc, ty, site, scope.meaning(name)),
+        None => visible_copy(alloc, ty, site, scope.meaning(name)),
+    }
+}
+
+/// The value of a name, as a share: that of a visible one is the one that is known, of which nothing is copied.
+pub fn shared_reference(
+    alloc: Global,
+    scope: Scope,
+    ty: &Ty,
+    site: Site,
+    name: &[u8],
+) -> Result<Arc<Value>, ValueFault>
+    ensures { Gives shared_view named result (read_reference (meaning_of scope.entry) (type_view ty.now) site name.now) }
+{
+    match own_number(&ty.kind, name) {
+        Some(number) => Ok(Arc::new(alloc, numbered(&ty.kind, site, number)?)?),
+        None => visible(ty, site, scope.meaning(name)),
     }
 }
 
@@ -72,14 +89,21 @@ fn is_in_range(number: i128) -> bool
     number >= i128::MIN
 }
 
-/// A visible value, where its type has the same base.
-fn visible(
+fn visible_copy(
     alloc: Global,
     ty: &Ty,
     site: Site,
-    visible: Option<VisibleValue>,
+    value: Option<VisibleValue>,
 ) -> Result<Value, ValueFault>
-    ensures { Gives value_view named result (read_visible site (type_view ty.now) (option_map visible_view visible.entry)) }
+    ensures { Gives value_view named result (read_visible site (type_view ty.now) (option_map visible_view value.entry)) }
+{
+    let shared = visible(ty, site, value)?;
+    Ok(shared.copy(alloc)?)
+}
+
+/// A visible value, where its type has the same base.
+fn visible(ty: &Ty, site: Site, visible: Option<VisibleValue>) -> Result<Arc<Value>, ValueFault>
+    ensures { Gives shared_view named result (read_visible site (type_view ty.now) (option_map visible_view visible.entry)) }
 {
     let Some(visible) = visible else {
         return Err(ValueFault::UnknownName(site));
@@ -87,5 +111,5 @@ fn visible(
     if !ty.same_base(visible.ty) {
         return Err(ValueFault::WrongNotation(site));
     }
-    Ok(visible.value.copy(alloc)?)
+    Ok(visible.value.clone()?)
 }

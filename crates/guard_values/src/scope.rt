@@ -7,13 +7,14 @@ ghost use Rattle.guard_values.specs.Views.{visible_view, home_name, known_at, ty
 
 use guard_model::{Ty, Value};
 use guard_names::{Id, Names};
+use std::sync::Arc;
 
 /// What is already built, by the places of definitions in the order: of a value its governor and the value, of a type
 /// the type alone.
 #[derive(Drop)]
 pub struct Known {
     pub types: Vec<Ty>,
-    pub values: Vec<Option<Value>>,
+    pub values: Vec<Option<Arc<Value>>>,
 }
 
 /// Where something is written: in which definition, among which names, and what is known of the definitions that these
@@ -29,7 +30,7 @@ pub struct Scope<'s, 'm, 'a> {
 #[derive(Clone, Copy)]
 pub struct VisibleValue<'s> {
     pub ty: &'s Ty,
-    pub value: &'s Value,
+    pub value: &'s Arc<Value>,
 }
 
 impl Known {

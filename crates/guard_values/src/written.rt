@@ -12,19 +12,20 @@ ghost use Rattle.guard_values.specs.Meanings.{AreFitting};
 ghost use Rattle.guard_values.specs.Arrangement.{AreEncodings, encoded_value};
 ghost use Rattle.guard_values.specs.inside.Reading as reading;
 ghost use Rattle.guard_values.specs.inside.Reading.{read_form, read_chosen, read_list, read_items, read_set_items, read_fields, read_entries, read_elements, entry_at, element_at, read_whole, read_sorted, read_first_fault};
-ghost use Rattle.guard_values.specs.Views.{named, encoded_view, meaning_of};
+ghost use Rattle.guard_values.specs.Views.{named, encoded_view, shared_view, meaning_of};
 
 use crate::arrangement::Encoded;
 use crate::components::{alternative, completed, place_of};
-use crate::elements::{encoded, listed, listed_set, object_identifier_fault};
+use crate::elements::{encoded, encoding, listed, listed_set, object_identifier_fault};
 use crate::fault::ValueFault;
 use crate::named_bits::value_of_names;
-use crate::names::reference;
+use crate::names::{reference, shared_reference};
 use crate::scope::Scope;
 use crate::simple::{arcs, boolean, integer, null, text};
 use guard_model::{Comp, Kind, Site, Ty, Value, absent_fields, set_field};
 use guard_syntax::{EntryTree, ValueForm, ValueTree};
 use std::alloc::Global;
+use std::sync::Arc;
 
 /// The value that the tree denotes under the type, with an encoding of at most 1,048,576 octets; or the first fault.
 pub fn value_within_limit(
@@ -32,14 +33,33 @@ pub fn value_within_limit(
     scope: Scope,
     tree: &ValueTree,
     ty: &Ty,
-) -> Result<Value, ValueFault>
+) -> Result<Arc<Value>, ValueFault>
     requires proper { IsTrue (is_proper (type_view ty.now)) }
     requires fitting { AreFitting (meaning_of scope) }
-    ensures { Gives value_view named result (read_whole (meaning_of scope.entry) (type_view ty.now) (trees.value_view tree.now)) }
+    ensures { Gives shared_view named result (read_whole (meaning_of scope.entry) (type_view ty.now) (trees.value_view tree.now)) }
 {
+    let value = shared_value(alloc, scope, tree, ty)?;
+    let _octets = encoding(alloc, ty, tree.site, &value)?;
+    Ok(value)
+}
+
+/// The value, its own encoding aside. A name gives a share of the value that it means.
+#[tactic(auto, unfolding(crate::specs::inside::Reading::read))]
+fn shared_value(
+    alloc: Global,
+    scope: Scope,
+    tree: &ValueTree,
+    ty: &Ty,
+) -> Result<Arc<Value>, ValueFault>
+    requires proper { IsTrue (is_proper (type_view ty.now)) }
+    requires fitting { AreFitting (meaning_of scope) }
+    ensures { Gives shared_view named result (read_sorted (meaning_of scope.entry) (type_view ty.now) (trees.value_view tree.now)) }
+{
+    if let ValueForm::Reference(name) = &tree.form {
+        return shared_reference(alloc, scope, ty, tree.site, name);
+    }
     let value = sorted_value(alloc, scope, tree, ty)?;
-    let encoded = encoded(alloc, ty, tree.site, value)?;
-    Ok(encoded.value)
+    Ok(Arc::new(alloc, value)?)
 }
 
 /// The value, its own encoding aside. What is at fault elsewhere comes before an element of a SET OF whose encoding is

@@ -1,6 +1,7 @@
 -- Names and numbers that a loop has seen.
 use Rattle.std.proofs.Common.{◌≡◌, ℕ, zero, suc, ◌+◌, ◌<◌, Bool, true, false, cond, not, ◌||◌, List, [], ◌∷◌, ◌++◌, map, length, get_or, take, drop, Option, Some, None, refl, sym, ap, ◌∙◌, add-one, arith, ◌⊎◌, inl, inr}
-use Rattle.std.specs.Prelude.{option_map, bytes_eq, string_bytes, ℤ, pos, negsuc}
+use Rattle.std.specs.Arc.{arc_str_bytes}
+use Rattle.std.specs.Prelude.{option_map, bytes_eq, ℤ, pos, negsuc}
 use Rattle.std.specs.List.{list_any}
 use Rattle.std.specs.Ordering.{is_eq, nat_cmp, bool_cmp, ordering_then, int_eq}
 use Rattle.std.specs.declared.cmp.Ordering.{Ordering}
@@ -186,7 +187,7 @@ one_place_more : (sites : List Site) (comps : List Comp) (i : ℕ) (d : Site) (e
     → length sites ≡ length comps
     → read_places (take (suc i) sites) (map component_view (take (suc i) comps))
     ≡ read_places (take i sites) (map component_view (take i comps))
-    ++ record { site = get_or sites i d; name = string_bytes (out-Comp (get_or comps i e)).name; number = None } ∷ []
+    ++ record { site = get_or sites i d; name = arc_str_bytes (out-Comp (get_or comps i e)).name; number = None } ∷ []
 one_place_more [] comps i d e lt same = absurd (omega (arith, lt))
 one_place_more (site ∷ sites) [] i d e lt same = absurd (omega (arith, same))
 one_place_more (site ∷ sites) (c ∷ comps) zero d e lt same =
@@ -199,11 +200,11 @@ pub one_place : (sites : List Site) (comps : List Comp) (i : ℕ) (d : Site) (x 
     → length sites ≡ length comps → x ≡ get_or comps i x
     → read_places (take (i + 1) sites) (map component_view (take (i + 1) comps))
     ≡ read_places (take i sites) (map component_view (take i comps))
-    ++ record { site = get_or sites i d; name = string_bytes (out-Comp x).name; number = None } ∷ []
+    ++ record { site = get_or sites i d; name = arc_str_bytes (out-Comp x).name; number = None } ∷ []
 one_place sites comps i d x lt same is =
     rw add-one (one_place_more sites comps i d x lt same)
     ∙ ap (λ (y : Comp). read_places (take i sites) (map component_view (take i comps))
-    ++ record { site = get_or sites i d; name = string_bytes (out-Comp y).name; number = None } ∷ []) (sym is)
+    ++ record { site = get_or sites i d; name = arc_str_bytes (out-Comp y).name; number = None } ∷ []) (sym is)
 
 -- ---- whether a number is new
 

@@ -1,6 +1,7 @@
 -- The fields for the components, as the code has them.
 use Rattle.std.proofs.Common.{◌≡◌, ℕ, suc, ◌+◌, ◌<◌, ◌≤◌, true, false, List, [], ◌∷◌, ◌++◌, length, take, drop, get_or, map, Option, Some, None, Result, Ok, Err, refl, sym, ap, ◌∙◌, add-one, arith}
-use Rattle.std.specs.Prelude.{set, is_some, string_bytes}
+use Rattle.std.specs.Arc.{arc_str_bytes}
+use Rattle.std.specs.Prelude.{set, is_some}
 use Rattle.std.proofs.Math.Seq.{drop-cons, take-suc}
 use Rattle.std.proofs.lemmas.List.{map_push, take_all, take_more_set, drop-set-lt, length-set}
 use Rattle.guard_model.specs.Answer.{◌>>=◌, Refuses}
@@ -76,9 +77,9 @@ one_settled comps i comp fields s at lt same is here =
     let within : i < length fields = omega (arith, lt, same) in
     let parts : drop i fields ≡ s ∷ drop (i + 1) fields = drop-cons fields i s within ∙ ap (λ (x : Option Value). x ∷ drop (suc i) fields) (sym here) ∙ ap (λ (k : ℕ). s ∷ drop k fields) (sym (add-one i)) in
     ap (λ (cs : Components). completed at cs (fields_view (drop i fields))) (left_is comps i comp lt is)
-    ∙ ap (λ (x : CodeFields). completed at (component (string_bytes (out-Comp comp).name) (type_view (out-Comp comp).ty) (presence_view (out-Comp comp).presence) (left comps (i + 1))) (fields_view x)) parts
-    ∙ ap (λ (fs : Fields). completed at (component (string_bytes (out-Comp comp).name) (type_view (out-Comp comp).ty) (presence_view (out-Comp comp).presence) (left comps (i + 1))) fs) (field_first s (drop (i + 1) fields))
-    ∙ completed_first (string_bytes (out-Comp comp).name) (type_view (out-Comp comp).ty) (presence_view (out-Comp comp).presence) (left comps (i + 1)) (field_view s) (fields_view (drop (i + 1) fields)) at
+    ∙ ap (λ (x : CodeFields). completed at (component (arc_str_bytes (out-Comp comp).name) (type_view (out-Comp comp).ty) (presence_view (out-Comp comp).presence) (left comps (i + 1))) (fields_view x)) parts
+    ∙ ap (λ (fs : Fields). completed at (component (arc_str_bytes (out-Comp comp).name) (type_view (out-Comp comp).ty) (presence_view (out-Comp comp).presence) (left comps (i + 1))) fs) (field_first s (drop (i + 1) fields))
+    ∙ completed_first (arc_str_bytes (out-Comp comp).name) (type_view (out-Comp comp).ty) (presence_view (out-Comp comp).presence) (left comps (i + 1)) (field_view s) (fields_view (drop (i + 1) fields)) at
 
 pub settles_on : (comps : List Comp) (i : ℕ) (comp : Comp) (fields after : CodeFields) (s f : Option Value) (at : Site) (total : Result Fields ValueFault)
     → i < length comps → length fields ≡ length comps → comp ≡ get_or comps i comp → s ≡ get_or fields i s

@@ -1,6 +1,7 @@
 -- Looking for a component by its name, one after another.
 use Rattle.std.proofs.Common.{◌≡◌, ℕ, ◌+◌, ◌<◌, ◌≤◌, Bool, true, false, List, Option, Some, None, length, get_or, option_map, refl, sym, ap, ◌∙◌, arith}
-use Rattle.std.specs.Prelude.{bytes_eq, string_bytes}
+use Rattle.std.specs.Arc.{arc_str_bytes}
+use Rattle.std.specs.Prelude.{bytes_eq}
 use Rattle.guard_model.specs.TypeView.{type_view}
 use Rattle.guard_model.specs.declared.ty.Comp.{Comp}
 use Rattle.guard_model.specs.declared.ty.Kind.TheViews.{out-Comp}
@@ -29,13 +30,13 @@ from_further : (i : ℕ) (found : Option Located) → option_map (from i) (optio
 from_further i None = refl
 from_further i (Some l) = ap (λ n. Some (record { place = n; ty = l.ty })) (omega arith)
 
-pub found_here : (name : List ℕ) (comps : List Comp) (i : ℕ) (comp : Comp) (total : Option Located) → i < length comps → comp ≡ get_or comps i comp → bytes_eq name (string_bytes (out-Comp comp).name) ≡ true
+pub found_here : (name : List ℕ) (comps : List Comp) (i : ℕ) (comp : Comp) (total : Option Located) → i < length comps → comp ≡ get_or comps i comp → bytes_eq name (arc_str_bytes (out-Comp comp).name) ≡ true
     → option_map (from i) (located name (left comps i)) ≡ total → Some (record { place = i; ty = type_view (out-Comp comp).ty }) ≡ total
 found_here name comps i comp total lt is same so_far =
     let here : located name (left comps i) ≡ Some (record { place = 0; ty = type_view (out-Comp comp).ty }) = ap (located name) (left_is comps i comp lt is) ∙ rw same refl in
     ap (λ n. Some (record { place = n; ty = type_view (out-Comp comp).ty })) (omega arith) ∙ sym (ap (option_map (from i)) here) ∙ so_far
 
-pub not_here : (name : List ℕ) (comps : List Comp) (i : ℕ) (comp : Comp) (total : Option Located) → i < length comps → comp ≡ get_or comps i comp → bytes_eq name (string_bytes (out-Comp comp).name) ≡ false
+pub not_here : (name : List ℕ) (comps : List Comp) (i : ℕ) (comp : Comp) (total : Option Located) → i < length comps → comp ≡ get_or comps i comp → bytes_eq name (arc_str_bytes (out-Comp comp).name) ≡ false
     → option_map (from i) (located name (left comps i)) ≡ total → option_map (from (i + 1)) (located name (left comps (i + 1))) ≡ total
 not_here name comps i comp total lt is other so_far =
     let here : located name (left comps i) ≡ option_map further (located name (left comps (i + 1))) = ap (located name) (left_is comps i comp lt is) ∙ rw other refl in

@@ -1,5 +1,7 @@
 -- What whole values come to, by the code's answers.
 use Rattle.std.proofs.Common.{◌≡◌, Option, Some, None, List, ℕ, false, true, ◌&&◌, Result, Ok, Err, ◌∙◌, IfOk, IfErr, IfSome, IsTrue}
+use Rattle.std.specs.Global.{Global}
+use Rattle.std.specs.declared.sync.Arc.{Arc}
 use Rattle.std.specs.Prelude.{nat_le}
 use Rattle.std.proofs.lemmas.Bool.{and_parts}
 use Rattle.guard_model.specs.Answer.{Gives, Refuses}
@@ -7,7 +9,6 @@ use Rattle.guard_model.proofs.Results.{bind_ok}
 use Rattle.guard_model.specs.declared.site.Site.{Site}
 use Rattle.guard_model.specs.AbstractType.{AbstractType}
 use Rattle.guard_model.specs.AbstractValue.{AbstractValue}
-use Rattle.guard_model.specs.ValueView.{value_view}
 use Rattle.guard_model.specs.declared.value.Value.{Value}
 use Rattle.guard_tagcheck.specs.Limits.{nesting}
 use Rattle.guard_der.specs.Fits.{fits}
@@ -20,7 +21,7 @@ use Rattle.guard_values.specs.Denotes.{Denotes}
 use Rattle.guard_values.specs.Faults.{IsFaultIn}
 use Rattle.guard_values.specs.FirstFault.{IsFirstFault}
 use Rattle.guard_values.specs.inside.Reading.{Read, element_at, site_of, read, read_sorted, read_whole}
-use Rattle.guard_values.specs.Views.{named}
+use Rattle.guard_values.specs.Views.{named, shared_view}
 use Rattle.guard_values.proofs.Denoted.ReadIsDenoted.{read_said}
 use Rattle.guard_values.proofs.Fitting.DenotedValuesFit.{says_fits}
 use Rattle.guard_values.proofs.FirstFaults.HoldAtTheirSites.{whole_first, whole_holds, sorted_ok, whole_denotes, whole_denotes_none}
@@ -46,19 +47,19 @@ sorted_fits m fit tree t v proper e = read_fits m fit tree t v proper (sorted_ok
 -- ---- what a call answers
 
 module _ (m : Meaning) (t : AbstractType) (tree : WrittenValue) where
-  pub gives_denoted : (answer : Result Value ValueFault) → Gives value_view named answer (read_whole m t tree) → IfOk answer (λ v. Denotes m t tree (value_view v))
-  gives_denoted (Ok v) h = whole_denotes m tree t (value_view v) h
+  pub gives_denoted : (answer : Result (Arc Value Global) ValueFault) → Gives shared_view named answer (read_whole m t tree) → IfOk answer (λ v. Denotes m t tree (shared_view v))
+  gives_denoted (Ok v) h = whole_denotes m tree t (shared_view v) h
   gives_denoted (Err e) h = tt
 
-  pub gives_fitting : AreFitting m → is_proper t ≡ true → (answer : Result Value ValueFault) → Gives value_view named answer (read_whole m t tree) → IfOk answer (λ v. IsTrue (fits t (value_view v)))
-  gives_fitting fit proper (Ok v) h = says_fits m fit tree t (value_view v) proper (whole_denotes m tree t (value_view v) h).0
+  pub gives_fitting : AreFitting m → is_proper t ≡ true → (answer : Result (Arc Value Global) ValueFault) → Gives shared_view named answer (read_whole m t tree) → IfOk answer (λ v. IsTrue (fits t (shared_view v)))
+  gives_fitting fit proper (Ok v) h = says_fits m fit tree t (shared_view v) proper (whole_denotes m tree t (shared_view v) h).0
   gives_fitting fit proper (Err e) h = tt
 
   faults_hold : (f : Option ValueFault) → Refuses f (read_whole m t tree) → IfSome f (λ g. IsFaultIn m t tree g)
   faults_hold None h = tt
   faults_hold (Some f) h = whole_holds m tree t f h
 
-  pub gives_fault : (answer : Result Value ValueFault) → Gives value_view named answer (read_whole m t tree) → IfErr answer (λ e. IfSome (named e) (λ f. IsFaultIn m t tree f))
+  pub gives_fault : (answer : Result (Arc Value Global) ValueFault) → Gives shared_view named answer (read_whole m t tree) → IfErr answer (λ e. IfSome (named e) (λ f. IsFaultIn m t tree f))
   gives_fault (Ok v) h = tt
   gives_fault (Err e) h = faults_hold (named e) h
 
@@ -66,7 +67,7 @@ module _ (m : Meaning) (t : AbstractType) (tree : WrittenValue) where
   faults_denote_none None h = tt
   faults_denote_none (Some f) h = whole_denotes_none m tree t f h
 
-  pub gives_none : (answer : Result Value ValueFault) → Gives value_view named answer (read_whole m t tree) → IfErr answer (λ e. IfSome (named e) (λ f. (v : AbstractValue) → Denotes m t tree v → ⊥))
+  pub gives_none : (answer : Result (Arc Value Global) ValueFault) → Gives shared_view named answer (read_whole m t tree) → IfErr answer (λ e. IfSome (named e) (λ f. (v : AbstractValue) → Denotes m t tree v → ⊥))
   gives_none (Ok v) h = tt
   gives_none (Err e) h = faults_denote_none (named e) h
 
@@ -74,6 +75,6 @@ module _ (m : Meaning) (t : AbstractType) (tree : WrittenValue) where
   first_faults None h = tt
   first_faults (Some f) h = whole_first m tree t f h
 
-  pub gives_first : (answer : Result Value ValueFault) → Gives value_view named answer (read_whole m t tree) → IfErr answer (λ e. IfSome (named e) (IsFirstFault m t tree))
+  pub gives_first : (answer : Result (Arc Value Global) ValueFault) → Gives shared_view named answer (read_whole m t tree) → IfErr answer (λ e. IfSome (named e) (IsFirstFault m t tree))
   gives_first (Ok v) h = tt
   gives_first (Err e) h = first_faults (named e) h

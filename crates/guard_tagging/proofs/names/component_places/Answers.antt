@@ -12,5 +12,6 @@ loop-index-preserved c =
       map_push place_view c.loop-index.places.items _,
       c.loop-index.invariant,
       c.as_bytes.ensures.value,
+      c.as_str.ensures.value,
     )
     (sym (one_place c.args.sites.now c.args.comps.now c.loop-index.index _ c.index-comps-index.result lt c.requires c.index-comps-index.is))

@@ -3,7 +3,7 @@ use Rattle.guard_syntax.specs.Views as trees
 use Rattle.guard_values.specs.Views.{visible_from}
 use Rattle.guard_values.proofs.Fitting.KnownValuesFit.{visible_fit}
 use Rattle.guard_values.proofs.OneAnswer.CodeAnswers.{sound_proper, gives_denoted, gives_fitting, gives_fault, gives_first, gives_none}
-use Rattle.guard_values.proofs.values.value.Goals as goal
+use Rattle.guard_values.proofs.values.shared_value.Goals as goal
 
 pub value_within_limit-requires-clause-proper : goal.value_within_limit-requires-clause-proper
 value_within_limit-requires-clause-proper c = sound_proper (type_view c.args.ty.now) c.requires.sound

@@ -8,8 +8,8 @@ pub mod Modules
 -- ---- definitions: what is filled into their types, and how each is built
 pub mod Filled
 pub mod Built
--- ---- what keeps a finished type from being sound
-pub mod Unsound
+-- ---- a finished type is sound
+pub mod Sound
 -- ---- each definition where all is built
 pub mod Throughout
 -- ---- the schema

@@ -14,8 +14,8 @@ use Rattle.guard_constraints.specs.Visible.{Visible}
 use Rattle.guard_schema.specs.Outcomes.{Is, Passes, Then}
 use Rattle.guard_schema.specs.Faults.{Tag, Clash, TooLarge, Outcome, IsNamed}
 use Rattle.guard_schema.specs.Known.{Built, Known, with_built, types_of, visible, IsWrittenUnder}
-use Rattle.guard_schema.specs.Readings.{IsSoundAt, ReadsMember}
-use Rattle.guard_schema.specs.Finishing.{Finishes, site_of_type}
+use Rattle.guard_schema.specs.Readings.{ReadsMember}
+use Rattle.guard_schema.specs.Finishing.{Finishes}
 use Rattle.guard_schema.specs.Counting.{held_by, all_held, most_held}
 
 -- G1 to G12: the tags, the parts and their numbering of a written type, under these surroundings and with so many types
@@ -47,13 +47,12 @@ Assigns names t (Some tree) = Then (ReadsMember names t tree) (λ v. Is (Some v)
 abbrev pub KeepsLimit : ℕ → Site → Built → Outcome (Unit {0}) → Type 0
 KeepsLimit before site b = Passes (nat_le (before + held_by b) most_held) (TooLarge site)
 
--- a definition of this finished type: that is sound, its value, and that it holds little enough
+-- a definition of this finished type: its value, and that it holds little enough
 abbrev pub HasValue : Known → Visible → WrittenAssignment → AbstractType → Outcome Built → Type 0
 HasValue k names a t =
-    Then (IsSoundAt (site_of_type a.ty) t) (λ _.
     Then (Assigns names t a.value) (λ v.
     Then (KeepsLimit (all_held k.built) a.site (record { ty = t; value = v })) (λ _.
-    Is (record { ty = t; value = v }))))
+    Is (record { ty = t; value = v })))
 
 -- A definition, where this is known: its tags and parts, whether tags tell the parts apart, constraints and defaults,
 -- its value, the limit.

@@ -5,12 +5,11 @@ use Rattle.guard_model.specs.AbstractType.{AbstractType}
 use Rattle.guard_names.specs.Declarations.{Definition, definitions}
 use Rattle.guard_tagging.specs.Types.{Surroundings, denoted}
 use Rattle.guard_schema.specs.Texts.{ReadsTexts}
-use Rattle.guard_schema.specs.Known.{Known, visible, IsWrittenUnder}
+use Rattle.guard_schema.specs.Known.{Known, IsSoundBuilt, visible, IsWrittenUnder}
 use Rattle.guard_schema.specs.Finishing.{Finishes}
 use Rattle.guard_schema.specs.Schemas.{AbstractSchema, schema_of}
 use Rattle.guard_schema.specs.Accepts.{OrdersNames, Accepts}
 use Rattle.guard_schema.specs.Unfinished.{unfinished}
-use Rattle.guard_schema.specs.OnlyLong.{IsSoundBuilt}
 
 -- The type is this definition's, where all of these are built.
 pub record IsFinished (whole : Known) (d : Definition) (t : AbstractType) : Type 0 where

@@ -1,9 +1,9 @@
 -- The constraints and defaults that are written in a type, filled into it (X.680 25.1, 26, 28, 49): what relates a
 -- written type and the bare type that its tags and parts make to the finished type. Kinds, tags and names of parts are
 -- the same before and after. Faults are looked for inside out in written order: for each component its type's
--- constraints, then its default; then the constraint before OF, or those after the type.
+-- constraints, then its default; then the constraint before OF, or of a type that is referred to its own constraints
+-- under the tags here; then those after the type.
 use Rattle.std.specs.Prelude.{◌≡◌, ℕ, suc, ◌+◌, List, [], ◌∷◌, Bool, true, false, Option, Some, None}
-use Rattle.guard_model.specs.declared.site.Site.{Site}
 use Rattle.guard_model.specs.AbstractType as type
 use Rattle.guard_model.specs.AbstractType.{AbstractType, AbstractKind, AbstractPresence, type_of}
 use Rattle.guard_model.specs.AbstractType.{Components, Constraint, Constraints}
@@ -20,7 +20,7 @@ use Rattle.guard_tagging.specs.Types.{structure_kind, of_kind, presence_of, part
 use Rattle.guard_constraints.specs.Visible.{Visible}
 use Rattle.guard_schema.specs.Outcomes.{Is, Then}
 use Rattle.guard_schema.specs.Faults.{Outcome}
-use Rattle.guard_schema.specs.Readings.{IsSoundAt, ReadsMember, ReadsConstraint}
+use Rattle.guard_schema.specs.Readings.{HasShortValues, ReadsMember, ReadsConstraint}
 
 -- ---- parts of types
 
@@ -45,9 +45,6 @@ constraint_before (choice others) = None
 constraint_before (of_type k c t) = c
 constraint_before (named_type site name) = None
 
-abbrev pub site_of_type : WrittenType → Site
-site_of_type (type_node site tags base cons) = site
-
 -- how many components the type has, where there is one
 abbrev pub count_of_meant : Option AbstractType → ℕ
 count_of_meant None = 0
@@ -66,43 +63,48 @@ module _ (names : Visible) where
   Adds [] t = Is t
   Adds (c ∷ cs) t = Then (AddsOne c t) (Adds cs)
 
-  -- those that are written at the type there
-  abbrev pub Constrains : Site → List WrittenConstraint → AbstractType → Outcome AbstractType → Type 0
-  Constrains site [] t = Is t
-  Constrains site (c ∷ cs) t = Then (IsSoundAt site t) (λ _. Adds (c ∷ cs) t)
-
   -- the one before OF: SIZE and a constraint is one of sizes (49.4, 51.5)
   abbrev pub Sizes : WrittenOfConstraint → AbstractType → Outcome AbstractType → Type 0
   Sizes c t =
       Then (ReadsConstraint names type_of_size c.constraint) (λ one.
       Is (with_constraint t (type.at c.site (type.size one))))
 
-  abbrev pub ConstrainsByOne : Site → WrittenOfConstraint → Bool → AbstractType → Outcome AbstractType → Type 0
-  ConstrainsByOne site c true t = Sizes c t
-  ConstrainsByOne site c false t = Then (IsSoundAt site t) (λ _. AddsOne c.constraint t)
+  abbrev pub ConstrainsByOne : WrittenOfConstraint → Bool → AbstractType → Outcome AbstractType → Type 0
+  ConstrainsByOne c true t = Sizes c t
+  ConstrainsByOne c false t = AddsOne c.constraint t
 
-  abbrev pub ConstrainsBefore : Site → Option WrittenOfConstraint → AbstractType → Outcome AbstractType → Type 0
-  ConstrainsBefore site None t = Is t
-  ConstrainsBefore site (Some c) t = ConstrainsByOne site c c.size t
+  abbrev pub ConstrainsElements : Option WrittenOfConstraint → AbstractType → Outcome AbstractType → Type 0
+  ConstrainsElements None t = Is t
+  ConstrainsElements (Some c) t = ConstrainsByOne c c.size t
+
+  -- The constraints before those that are written after the type: the one before OF, or those of the type that is
+  -- referred to, whose values are to be short enough under these tags too.
+  abbrev pub ConstrainsBefore : WrittenBase → AbstractType → Outcome AbstractType → Type 0
+  ConstrainsBefore (plain p) t = Is t
+  ConstrainsBefore (numbers ns) t = Is t
+  ConstrainsBefore (named_bits ns) t = Is t
+  ConstrainsBefore (enumerated items) t = Is t
+  ConstrainsBefore (structure k cs) t = Is t
+  ConstrainsBefore (choice others) t = Is t
+  ConstrainsBefore (of_type k c u) t = ConstrainsElements c t
+  ConstrainsBefore (named_type site name) t = Then (HasShortValues t) (λ _. Is t)
 
   -- ---- defaults
 
-  -- whether a component may be left out, of the type that is written there
-  abbrev pub FillsPresence : Site → AbstractType → WrittenPresence → Outcome AbstractPresence → Type 0
-  FillsPresence site t mandatory = Is type.mandatory
-  FillsPresence site t optional = Is type.optional
-  FillsPresence site t (default tree) =
-      Then (IsSoundAt site t) (λ _.
-      Then (ReadsMember names t tree) (λ v. Is (type.default v)))
+  -- whether a component of this type may be left out
+  abbrev pub FillsPresence : AbstractType → WrittenPresence → Outcome AbstractPresence → Type 0
+  FillsPresence t mandatory = Is type.mandatory
+  FillsPresence t optional = Is type.optional
+  FillsPresence t (default tree) = Then (ReadsMember names t tree) (λ v. Is (type.default v))
 
   -- A component or alternative of this name and this bare type: its type's constraints, then its default. `Finish` is
   -- what its written type makes of it.
-  abbrev pub FinishesComponent : Site → (AbstractType → Outcome AbstractType → Type 0) → WrittenPresence → List ℕ
+  abbrev pub FinishesComponent : (AbstractType → Outcome AbstractType → Type 0) → WrittenPresence → List ℕ
       → AbstractType
       → Outcome OneComponent → Type 0
-  FinishesComponent site Finish presence name bare =
+  FinishesComponent Finish presence name bare =
       Then (Finish bare) (λ u.
-      Then (FillsPresence site u presence) (λ p.
+      Then (FillsPresence u presence) (λ p.
       Is (record { name = name; ty = u; presence = p })))
 
   -- ---- how many components are written, with those that COMPONENTS OF puts in
@@ -133,7 +135,7 @@ module _ (names : Visible) where
     pub Finishes : WrittenType → AbstractType → Outcome AbstractType → Type 0
     Finishes (type_node site tags base cs) (type_of ts kind cons) =
         Then (FinishesKind base kind) (λ finished.
-        Then (ConstrainsBefore site (constraint_before base) (type_of ts finished cons)) (Constrains site cs))
+        Then (ConstrainsBefore base (type_of ts finished cons)) (Adds cs))
 
     -- its parts, where it is of the kind that is written
     pub FinishesKind : WrittenBase → AbstractKind → Outcome AbstractKind → Type 0
@@ -157,7 +159,7 @@ module _ (names : Visible) where
     Fills no_components bare answer = (bare ≡ type.no_components) × Is type.no_components answer
     Fills (component site name t presence cs) bare answer =
         (u : AbstractType) × (rest : Components) × (bare ≡ type.component name u (presence_of presence) rest)
-        × Then (FinishesComponent (site_of_type t) (Finishes t) presence name u) (λ one.
+        × Then (FinishesComponent (Finishes t) presence name u) (λ one.
         Then (Fills cs rest) (λ others. Is (put_before one others))) answer
     Fills (components_from site t cs) bare answer =
         (taken : Components) × (rest : Components) × (bare ≡ join taken rest) × (component_count taken ≡ count_put_in t)
@@ -185,5 +187,5 @@ module _ (names : Visible) where
     FillsOthers no_alternatives bare answer = (bare ≡ type.no_components) × Is type.no_components answer
     FillsOthers (alternative site name t others) bare answer =
         (u : AbstractType) × (rest : Components) × (bare ≡ type.component name u type.mandatory rest)
-        × Then (FinishesComponent (site_of_type t) (Finishes t) mandatory name u) (λ one.
+        × Then (FinishesComponent (Finishes t) mandatory name u) (λ one.
         Then (FillsOthers others rest) (λ parts. Is (put_before one parts))) answer

@@ -1,8 +1,10 @@
 -- What is known where a definition is built: what names mean there, of what is built before it.
-use Rattle.std.specs.Prelude.{ℕ, List, [], ◌∷◌, ◌++◌, map, Option, Some, None, slice_get}
+use Rattle.std.specs.Prelude.{ℕ, List, [], ◌∷◌, ◌++◌, map, Option, Some, None, IfSome, IsTrue, slice_get}
 use Rattle.std.specs.Option.{option_and_then}
 use Rattle.guard_model.specs.AbstractType.{AbstractType}
 use Rattle.guard_model.specs.AbstractValue.{AbstractValue}
+use Rattle.guard_der.specs.Fits.{fits}
+use Rattle.guard_der.specs.Sound.{is_sound}
 use Rattle.guard_syntax.specs.Trees.{WrittenModule}
 use Rattle.guard_names.specs.Declarations.{Definition}
 use Rattle.guard_tagging.specs.Types.{Surroundings}
@@ -15,6 +17,10 @@ use Rattle.guard_constraints.specs.Visible.{Visible}
 pub record Built : Type 0 where
   pub ty : AbstractType
   pub value : Option AbstractValue
+
+-- a sound type, and a value of it where one is assigned
+abbrev pub IsSoundBuilt : Built → Type 0
+IsSoundBuilt b = IsTrue (is_sound b.ty) × IfSome b.value (λ v. IsTrue (fits b.ty v))
 
 -- the modules, the order of their definitions, and what is built of the first ones in that order
 pub record Known : Type 0 where

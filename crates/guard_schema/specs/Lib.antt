@@ -12,7 +12,7 @@ pub mod Schemas
 pub mod Accepts
 pub mod OneAnswer
 pub mod Unfinished
-pub mod OnlyLong
+pub mod FinishedSound
 pub mod EachType
 -- what the values of the code mean
 pub mod Entries

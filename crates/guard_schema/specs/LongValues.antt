@@ -1,11 +1,11 @@
 -- Single values in constraints whose encodings are longer than may be. A constraint is lawful where it is written; a
 -- type that is referred to under more tags, or under another one, keeps its constraints, and the encodings of their
--- values get longer.
+-- values get longer. Its parts keep their tags.
 use Rattle.std.specs.Prelude.{Bool, not, ◌&&◌, Option, Some, None, if◌then◌else◌}
 use Rattle.std.specs.Option.{option_or}
 use Rattle.guard_model.specs.declared.site.Site.{Site}
 use Rattle.guard_model.specs.AbstractType as type
-use Rattle.guard_model.specs.AbstractType.{AbstractType, AbstractKind, Components, type_of}
+use Rattle.guard_model.specs.AbstractType.{AbstractType, type_of}
 use Rattle.guard_model.specs.AbstractType.{Constraint, Constraints, Element}
 use Rattle.guard_model.specs.AbstractValue.{AbstractValue}
 use Rattle.guard_der.specs.Der.{der}
@@ -42,26 +42,6 @@ abbrev mutual
   long_in_all t type.no_constraints = None
   long_in_all t (type.constraint c cs) = option_or (long_in t c) (long_in_all t cs)
 
--- where the first one is in a type, its parts before the whole
-abbrev mutual
-  pub first_long : AbstractType → Option Site
-  first_long (type_of tags kind cons) = option_or (long_inside kind) (long_in_all (type_of tags kind cons) cons)
-
-  pub long_inside : AbstractKind → Option Site
-  long_inside (type.sequence cs) = long_in_parts cs
-  long_inside (type.set cs) = long_in_parts cs
-  long_inside (type.choice cs) = long_in_parts cs
-  long_inside (type.sequence_of t) = first_long t
-  long_inside (type.set_of t) = first_long t
-  long_inside type.boolean = None
-  long_inside (type.integer ns) = None
-  long_inside (type.bit_string ns) = None
-  long_inside type.octet_string = None
-  long_inside type.null = None
-  long_inside type.object_identifier = None
-  long_inside (type.enumerated ns) = None
-  long_inside (type.characters c) = None
-
-  pub long_in_parts : Components → Option Site
-  long_in_parts type.no_components = None
-  long_in_parts (type.component name t presence cs) = option_or (first_long t) (long_in_parts cs)
+-- where the first one is in the type's own constraints
+abbrev pub first_long : AbstractType → Option Site
+first_long (type_of tags kind cons) = long_in_all (type_of tags kind cons) cons

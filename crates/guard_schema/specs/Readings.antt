@@ -1,9 +1,8 @@
 -- What a written value and a written constraint are, or their first fault.
-use Rattle.std.specs.Prelude.{Ok, Err, unwrap_or}
+use Rattle.std.specs.Prelude.{◌≡◌, Ok, Err, Some, None}
 use Rattle.guard_model.specs.declared.site.Site.{Site}
 use Rattle.guard_model.specs.AbstractType.{AbstractType, Constraint}
 use Rattle.guard_model.specs.AbstractValue.{AbstractValue}
-use Rattle.guard_der.specs.Sound.{is_sound}
 use Rattle.guard_eval.specs.Member.{is_member}
 use Rattle.guard_syntax.specs.Trees.{WrittenValue, value_node, WrittenConstraint}
 use Rattle.guard_values.specs.declared.fault.ValueFault.TheVariants as value_fault
@@ -18,10 +17,10 @@ use Rattle.guard_schema.specs.LongValues.{first_long}
 use Rattle.guard_schema.specs.Outcomes.{Is, Passes, Then}
 use Rattle.guard_schema.specs.Faults.{Value, Cons, DefaultOutside, Outcome, IsNamed}
 
--- V8: The type that is written there is sound. A single value can keep it from that, in a constraint of a type that is
--- referred to: the fault is where that value is.
-abbrev pub IsSoundAt : Site → AbstractType → Outcome (Unit {0}) → Type 0
-IsSoundAt site t = Passes (is_sound t) (Value (value_fault.TooLarge (unwrap_or (first_long t) site)))
+-- V8: the type's own constraints have no value whose encoding is longer than may be, or the first one is there
+abbrev pub HasShortValues : AbstractType → Outcome (Unit {0}) → Type 0
+HasShortValues t (Ok _) = first_long t ≡ None
+HasShortValues t (Err f) = (site : Site) × (first_long t ≡ Some site) × (f ≡ Value (value_fault.TooLarge site))
 
 -- the value that a tree denotes, or its first fault, where it denotes none
 abbrev pub ReadsValue : Visible → AbstractType → WrittenValue → Outcome AbstractValue → Type 0

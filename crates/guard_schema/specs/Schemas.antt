@@ -1,9 +1,10 @@
 -- Schemas as the definitions see them.
-use Rattle.std.specs.Prelude.{ℕ, zero, suc, Bool, ◌&&◌, List, [], ◌∷◌, map, Option, Some, None, option_map, bytes_eq}
-use Rattle.std.specs.Prelude.{slice_get, if◌then◌else◌}
+use Rattle.std.specs.Prelude.{ℕ, suc, Bool, ◌&&◌, List, [], ◌∷◌, map, Option, Some, None, option_map, bytes_eq}
+use Rattle.std.specs.Prelude.{if◌then◌else◌}
 use Rattle.std.specs.Option.{option_and_then}
 use Rattle.guard_model.specs.AbstractType.{AbstractType}
 use Rattle.guard_model.specs.AbstractValue.{AbstractValue}
+use Rattle.guard_der.specs.NamedTypes.{AbstractTypes, module_at}
 use Rattle.guard_names.specs.Declarations.{Definition, definitions}
 use Rattle.guard_names.specs.Places.{place_in}
 use Rattle.guard_schema.specs.Known.{Built, Known, built_at}
@@ -46,5 +47,8 @@ schema_of k = record {
 
 -- the name of the module at this place of the list of texts, from 1
 abbrev pub module_named : AbstractSchema → ℕ → Option (List ℕ)
-module_named s zero = None
-module_named s (suc text) = slice_get s.modules text
+module_named s text = module_at s.modules text
+
+-- what policies are loaded over
+abbrev pub named_types : AbstractSchema → AbstractTypes
+named_types s = record { modules = s.modules; types = s.types }

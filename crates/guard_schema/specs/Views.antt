@@ -1,6 +1,8 @@
 -- What the values of the code mean.
 use Rattle.std.specs.Prelude.{ℕ, List, map, string_bytes, Option, Some, None, option_map, option_and_then, slice_get}
 use Rattle.guard_model.specs.TypeView.{type_view, component_view}
+use Rattle.std.specs.Global.{Global}
+use Rattle.std.specs.declared.sync.Arc.{Arc}
 use Rattle.guard_model.specs.declared.value.Value.{Value}
 use Rattle.guard_syntax.specs.Trees.{WrittenOfConstraint}
 use Rattle.guard_syntax.specs.SetViews.{constraint_view}
@@ -39,7 +41,7 @@ before_view c = record { site = c.site; size = c.size; constraint = constraint_v
 -- ---- the schema: its types by the names of definitions
 
 abbrev pub entry_view : NamedDefinition → Entry
-entry_view n = record { home = n.home.items; name = n.name.items; place = n.place }
+entry_view n = record { home = n.home.now; name = n.name.now; place = n.place }
 
 -- what an index has under the two names
 abbrev pub found_in : TypeIndex → List ℕ → List ℕ → Option (Option ℕ)
@@ -49,12 +51,12 @@ found_in index home name = option_and_then (λ places. looked_up (λ key. key.it
 abbrev pub place_in : TypeIndex → List ℕ → List ℕ → Option ℕ
 place_in index home name = option_and_then (λ place. place) (found_in index home name)
 
-abbrev pub unvalued_at : List (Option Value) → Option ℕ → Option ℕ
+abbrev pub unvalued_at : List (Option (Arc Value Global)) → Option ℕ → Option ℕ
 unvalued_at values None = None
 unvalued_at values (Some place) = unvalued place (slice_get values place)
 
 -- the place of the definition of this number, where it assigns a type
-abbrev pub type_place : List ℕ → List (Option Value) → ℕ → Option ℕ
+abbrev pub type_place : List ℕ → List (Option (Arc Value Global)) → ℕ → Option ℕ
 type_place order values number = unvalued_at values (places.place_in order number)
 
 abbrev pub schema_view : Schema → AbstractSchema

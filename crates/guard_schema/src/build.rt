@@ -1,5 +1,5 @@
 //! What texts denote, as one answer, and the names by which a schema finds its types.
-ghost use Rattle.std.specs.Prelude.{◌≡◌, ◌++◌, All, map, slice_get, length, IfOk, IsUtf8, string_bytes};
+ghost use Rattle.std.specs.Prelude.{◌≡◌, ◌≤◌, ◌++◌, All, map, slice_get, length, IfOk, IsUtf8, string_bytes};
 ghost use Rattle.guard_names.specs.Declarations.{definitions, defined_in};
 ghost use Rattle.guard_names.specs.NamesView.{modules_of, order_of};
 ghost use Rattle.guard_syntax.specs.ModuleViews.{module_view};
@@ -18,19 +18,19 @@ use crate::names::name_text;
 use crate::progress::Progress;
 use crate::schema::Schema;
 use crate::texts::{check_count, modules};
-use crate::weight::octets_of;
 use guard_model::Value;
 use guard_names::{Id, Names, resolve};
 use guard_syntax::Module;
 use guard_values::Known;
 use std::alloc::{AllocError, Global};
+use std::sync::Arc;
 
 /// The names of a definition.
-#[derive(Drop)]
-pub struct NamedDefinition {
+#[derive(Clone, Copy)]
+pub struct NamedDefinition<'a> {
     /// The name of the module that assigns it.
-    pub home: Vec<u8>,
-    pub name: Vec<u8>,
+    pub home: &'a [u8],
+    pub name: &'a [u8],
     /// The place of its type, where it assigns one.
     pub place: Option<usize>,
 }
@@ -41,9 +41,8 @@ pub fn schema_of(alloc: Global, texts: &[&[u8]]) -> Result<Schema, SchemaFault>
 {
     check_count(texts)?;
     let modules = modules(alloc, texts)?;
-    let octets = octets_of(texts, &modules)?;
     let names = resolve(alloc, &modules)?;
-    let progress = all_built(alloc, &names, octets)?;
+    let progress = all_built(alloc, &names)?;
     Ok(with_names(alloc, &modules, progress)?)
 }
 
@@ -51,6 +50,7 @@ pub fn schema_of(alloc: Global, texts: &[&[u8]]) -> Result<Schema, SchemaFault>
 fn with_names(alloc: Global, modules: &[Module], progress: Progress) -> Result<Schema, AllocError>
     requires modules { modules_of progress.names.now ≡ map module_view modules.now }
     requires texts { All (λ m. IsUtf8 m.name) (map module_view modules.now) }
+    requires few { length (map module_view modules.now) ≤ 64 }
     ensures { IfOk result (λ s. schema_view s ≡ schemas.schema_of (known_view progress.entry)) }
 {
     let Progress { names, known, .. } = progress;
@@ -79,54 +79,46 @@ fn module_names(alloc: Global, modules: &[Module]) -> Result<Vec<String>, AllocE
 // ---- definitions
 
 /// The names of all definitions.
-fn definitions(
+fn definitions<'a>(
     alloc: Global,
     names: &Names,
-    values: &[Option<Value>],
-    modules: &[Module],
-) -> Result<Vec<NamedDefinition>, AllocError>
+    values: &[Option<Arc<Value>>],
+    modules: &[Module<'a>],
+) -> Result<Vec<NamedDefinition<'a>>, AllocError>
     ensures { IfOk result (λ v. map entry_view v.items ≡ entries_from (type_place (order_of names.now) values.now) 0 (definitions (map module_view modules.now))) }
 {
     let mut all = Vec::new(alloc);
     for module in modules {
-        all = with_module(alloc, names, values, module, all)?;
+        all = with_module(names, values, module, all)?;
     }
     Ok(all)
 }
 
 /// Those of a module after those before it.
-fn with_module(
-    alloc: Global,
+fn with_module<'a>(
     names: &Names,
-    values: &[Option<Value>],
-    tree: &Module,
-    before: Vec<NamedDefinition>,
-) -> Result<Vec<NamedDefinition>, AllocError>
-    ensures { IfOk result (λ v. map entry_view v.items ≡ map entry_view before.items ++ entries_from (type_place (order_of names.now) values.now) (length before.items) (defined_in (module_view tree.now))) }
+    values: &[Option<Arc<Value>>],
+    tree: &Module<'a>,
+    before: Vec<NamedDefinition<'a>>,
+) -> Result<Vec<NamedDefinition<'a>>, AllocError>
+    ensures { IfOk result (λ v. map entry_view v.items ≡ map entry_view before.entry.items ++ entries_from (type_place (order_of names.now) values.now) (length before.entry.items) (defined_in (module_view tree.now))) }
 {
     let mut all = before;
     for assignment in &tree.assignments {
         let place = place_of(names, values, all.len());
-        all.push(definition_named(alloc, tree.name, assignment.name, place)?)?;
+        all.push(definition_named(tree.name, assignment.name, place))?;
     }
     Ok(all)
 }
 
-fn definition_named(
-    alloc: Global,
-    home: &[u8],
-    name: &[u8],
-    place: Option<usize>,
-) -> Result<NamedDefinition, AllocError>
-    ensures { IfOk result (λ n. entry_view n ≡ record { home = home.now; name = name.now; place = place }) }
+fn definition_named<'a>(home: &'a [u8], name: &'a [u8], place: Option<usize>) -> NamedDefinition<'a>
+    ensures { entry_view result ≡ record { home = home.now; name = name.now; place = place } }
 {
-    let home = Vec::from_slice(alloc, home)?;
-    let name = Vec::from_slice(alloc, name)?;
-    Ok(NamedDefinition { home, name, place })
+    NamedDefinition { home, name, place }
 }
 
 /// The place of the type of the definition with this number, where it assigns one.
-fn place_of(names: &Names, values: &[Option<Value>], id: Id) -> Option<usize>
+fn place_of(names: &Names, values: &[Option<Arc<Value>>], id: Id) -> Option<usize>
     ensures { result ≡ type_place (order_of names.now) values.now id }
 {
     match names.place(id) {
@@ -136,7 +128,7 @@ fn place_of(names: &Names, values: &[Option<Value>], id: Id) -> Option<usize>
 }
 
 /// The place, where what is there has no value.
-fn unvalued(values: &[Option<Value>], place: usize) -> Option<usize>
+fn unvalued(values: &[Option<Arc<Value>>], place: usize) -> Option<usize>
     ensures { result ≡ entries.unvalued place (slice_get values.now place) }
 {
     match values.get(place) {

@@ -1,51 +1,42 @@
 //! The constraints that are written at a type, put after those that it has.
-ghost use Rattle.std.specs.Prelude.{◌≡◌, map, IsTrue, IfOk};
+ghost use Rattle.std.specs.Prelude.{◌≡◌, map, None, IsTrue, IfOk};
+ghost use Rattle.guard_der.specs.ProperConstraints.{takes_size};
 ghost use Rattle.guard_der.specs.Sound.{is_sound};
+ghost use Rattle.guard_model.specs.AbstractType as abstract;
 ghost use Rattle.guard_model.specs.AbstractType.{type_of};
+ghost use Rattle.guard_model.specs.Kinds.{kind_of};
 ghost use Rattle.guard_model.specs.TypeView.{type_view, kind_view, constraint_view, constraints_of};
 ghost use Rattle.guard_syntax.specs.SetViews as sets;
 ghost use Rattle.guard_syntax.specs.TypeViews as written;
 ghost use Rattle.guard_constraints.specs.Views.{visible_in};
 ghost use Rattle.guard_schema.specs.Faults.{named};
-ghost use Rattle.guard_schema.specs.Finishing.{with_constraint, AddsOne, Adds, Constrains, Sizes, ConstrainsBefore, ConstrainsByOne, constraint_before};
+ghost use Rattle.guard_schema.specs.Finishing.{with_constraint, AddsOne, Adds, Sizes, ConstrainsBefore, ConstrainsByOne};
+ghost use Rattle.guard_schema.specs.LongValues.{first_long};
+ghost use Rattle.guard_schema.specs.Readings.{HasShortValues};
 ghost use Rattle.guard_schema.specs.inside.InTurn.{ConstrainsWritten};
 ghost use Rattle.guard_schema.specs.inside.Pairs.{AreBuilt};
-ghost use Rattle.guard_schema.specs.Outcomes.{Answers};
+ghost use Rattle.guard_schema.specs.inside.Ready.{IsPart, IsWrittenPart};
+ghost use Rattle.guard_schema.specs.Outcomes.{Answers, Is, Then};
 ghost use Rattle.guard_schema.specs.Views.{before_view};
 
 use crate::fault::SchemaFault;
-use crate::readings::{check_sound, read_constraint};
+use crate::long_values::check_values;
+use crate::readings::read_constraint;
 use guard_model::{Cons, Kind, Rule, Site, Tag, Ty};
 use guard_syntax::{BaseTree, ConsTree, OfConsTree, TypeTree};
 use guard_values::Scope;
 use std::alloc::{AllocError, Global};
 
-/// The type that is written so, with the constraint before OF and those after it.
+/// The type that is written so, whose parts are finished, with its constraints: those that it has before those after it,
+/// and these.
 pub fn with_written(alloc: Global, scope: Scope, tree: &TypeTree, ty: Ty) -> Result<Ty, SchemaFault>
+    requires part { IsWrittenPart (written.type_view tree.now) (type_view ty) }
     requires known { AreBuilt scope.known.now }
-    ensures { Answers type_view named result (ConstrainsWritten (visible_in scope.entry) (written.type_view tree.now) (type_view ty)) }
+    ensures constrained { Answers type_view named result (ConstrainsWritten (visible_in scope.entry) (written.type_view tree.now) (type_view ty)) }
+    ensures sound { IfOk result (λ t. IsTrue (is_sound (type_view t))) }
 {
-    let before = constrained_before(alloc, scope, tree.site, &tree.base, ty)?;
-    constrained(alloc, scope, tree.site, &tree.cons, before)
-}
-
-/// The type that is written there, with the constraints after it.
-#[tactic(auto, unfolding(crate::specs::Finishing::Constrains))]
-fn constrained(
-    alloc: Global,
-    scope: Scope,
-    site: Site,
-    trees: &[ConsTree],
-    ty: Ty,
-) -> Result<Ty, SchemaFault>
-    requires known { AreBuilt scope.known.now }
-    ensures { Answers type_view named result (Constrains (visible_in scope.entry) site (map sets.constraint_view trees.now) (type_view ty)) }
-{
-    if trees.is_empty() {
-        return Ok(ty);
-    }
-    check_sound(alloc, site, &ty)?;
-    with_constraints(alloc, scope, trees, ty)
+    let before = constrained_before(alloc, scope, &tree.base, ty)?;
+    with_constraints(alloc, scope, &tree.cons, before)
 }
 
 /// The type with these constraints, each on the type with those before it.
@@ -57,7 +48,8 @@ fn with_constraints(
 ) -> Result<Ty, SchemaFault>
     requires sound { IsTrue (is_sound (type_view ty)) }
     requires known { AreBuilt scope.known.now }
-    ensures { Answers type_view named result (Adds (visible_in scope.entry) (map sets.constraint_view trees.now) (type_view ty)) }
+    ensures added { Answers type_view named result (Adds (visible_in scope.entry) (map sets.constraint_view trees.now) (type_view ty)) }
+    ensures sound { IfOk result (λ t. IsTrue (is_sound (type_view t))) }
 {
     let mut constrained = ty;
     for tree in trees {
@@ -97,52 +89,70 @@ pub fn type_made_of(tags: Vec<Tag>, kind: Kind, cons: Vec<Cons>) -> Ty
     Ty { tags, kind, cons }
 }
 
-// ---- before OF
+// ---- before those that are written after the type
 
-/// The type that is written there, with the constraint before OF where there is one.
+/// The type with the constraint before OF, where there is one. That of a type that is referred to is lawful here too.
 fn constrained_before(
     alloc: Global,
     scope: Scope,
-    site: Site,
     base: &BaseTree,
     ty: Ty,
 ) -> Result<Ty, SchemaFault>
+    requires part { IsPart (written.base_view base.now) (type_view ty) }
     requires known { AreBuilt scope.known.now }
-    ensures { Answers type_view named result (ConstrainsBefore (visible_in scope.entry) site (constraint_before (written.base_view base.now)) (type_view ty)) }
+    ensures constrained { Answers type_view named result (ConstrainsBefore (visible_in scope.entry) (written.base_view base.now) (type_view ty)) }
+    ensures sound { IfOk result (λ t. IsTrue (is_sound (type_view t))) }
 {
     match base {
-        BaseTree::Of(_, Some(before), _) => by_one(alloc, scope, site, before, ty),
+        BaseTree::Of(_, Some(before), _) => by_one(alloc, scope, before, ty),
+        BaseTree::Reference(_) => with_short_values(alloc, ty),
         _ => Ok(ty),
     }
 }
 
-fn by_one(
-    alloc: Global,
-    scope: Scope,
-    site: Site,
-    before: &OfConsTree,
-    ty: Ty,
-) -> Result<Ty, SchemaFault>
+/// The type, where the values in its constraints are short enough.
+fn with_short_values(alloc: Global, ty: Ty) -> Result<Ty, SchemaFault>
+    ensures passed { Answers type_view named result (Then (HasShortValues (type_view ty)) (λ _. Is (type_view ty))) }
+    ensures short { IfOk result (λ _. first_long (type_view ty) ≡ None) }
+{
+    check_values(alloc, &ty)?;
+    Ok(ty)
+}
+
+fn by_one(alloc: Global, scope: Scope, before: &OfConsTree, ty: Ty) -> Result<Ty, SchemaFault>
+    requires sound { IsTrue (is_sound (type_view ty)) }
+    requires sizes { IsTrue (takes_size (kind_of (type_view ty))) }
     requires known { AreBuilt scope.known.now }
-    ensures { Answers type_view named result (ConstrainsByOne (visible_in scope.entry) site (before_view before.now) before.now.size (type_view ty)) }
+    ensures constrained { Answers type_view named result (ConstrainsByOne (visible_in scope.entry) (before_view before.now) before.now.size (type_view ty)) }
+    ensures sound { IfOk result (λ t. IsTrue (is_sound (type_view t))) }
 {
     if before.size {
-        return sized(alloc, scope, before, ty);
+        sized(alloc, scope, before, ty)
+    } else {
+        with_constraint(alloc, scope, &before.cons, ty)
     }
-    check_sound(alloc, site, &ty)?;
-    with_constraint(alloc, scope, &before.cons, ty)
 }
 
 /// SIZE and a constraint before OF: it is one of sizes, that is on INTEGER.
 fn sized(alloc: Global, scope: Scope, before: &OfConsTree, ty: Ty) -> Result<Ty, SchemaFault>
+    requires sound { IsTrue (is_sound (type_view ty)) }
+    requires sizes { IsTrue (takes_size (kind_of (type_view ty))) }
     requires known { AreBuilt scope.known.now }
-    ensures { Answers type_view named result (Sizes (visible_in scope.entry) (before_view before.now) (type_view ty)) }
+    ensures constrained { Answers type_view named result (Sizes (visible_in scope.entry) (before_view before.now) (type_view ty)) }
+    ensures sound { IfOk result (λ t. IsTrue (is_sound (type_view t))) }
 {
     let number = Ty::integer(alloc)?;
-    let size = read_constraint(alloc, scope, &number, &before.cons)?;
-    let cons = Cons {
-        site: before.site,
-        rule: Rule::Size(Box::new(alloc, size)?),
-    };
+    let inner = read_constraint(alloc, scope, &number, &before.cons)?;
+    let cons = constraint_of_sizes(alloc, before.site, inner)?;
     Ok(with(ty, cons)?)
+}
+
+/// The constraint on sizes that is there.
+fn constraint_of_sizes(alloc: Global, site: Site, inner: Cons) -> Result<Cons, AllocError>
+    ensures { IfOk result (λ c. constraint_view c ≡ abstract.at site (abstract.size (constraint_view inner))) }
+{
+    Ok(Cons {
+        site,
+        rule: Rule::Size(Box::new(alloc, inner)?),
+    })
 }

@@ -9,12 +9,13 @@ ghost use Rattle.guard_schema.specs.Counting as counting;
 ghost use Rattle.guard_schema.specs.inside.Pairs.{built_view};
 
 use guard_model::{Comp, Cons, Kind, Part, Presence, Rule, Ty, Value};
+use std::sync::Arc;
 
 /// One more than may be held.
 const TOO_MUCH: usize = 100_001;
 
 /// What is held with a definition of this type and value, where so much is held before it.
-pub fn held_by(before: usize, ty: &Ty, value: &Option<Value>) -> usize
+pub fn held_by(before: usize, ty: &Ty, value: &Option<Arc<Value>>) -> usize
     ensures { result ≡ min (before + counting.held_by (built_view ty.now value.now)) 100001 }
 {
     let so_far = held(before, ty);

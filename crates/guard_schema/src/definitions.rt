@@ -3,7 +3,7 @@ ghost use Rattle.std.specs.Prelude.{All, true, ◌≡◌, ◌↔◌, ◌+◌, �
 ghost use Rattle.guard_der.specs.Fits.{fits};
 ghost use Rattle.guard_der.specs.Sound.{is_sound};
 ghost use Rattle.guard_model.specs.TypeView.{type_view};
-ghost use Rattle.guard_model.specs.ValueView.{value_view};
+ghost use Rattle.guard_values.specs.Views.{shared_view};
 ghost use Rattle.guard_names.specs.NamesView.{modules_of, order_of};
 ghost use Rattle.guard_syntax.specs.ModuleViews.{perhaps_value_view, assignment_view};
 ghost use Rattle.guard_tagcheck.specs.Limits.{is_within_limits};
@@ -15,6 +15,7 @@ ghost use Rattle.guard_tagging.specs.Skeletons.{AreMeanings};
 ghost use Rattle.guard_constraints.specs.Views.{visible_at, visible_in};
 ghost use Rattle.guard_schema.specs.Building.{BuildsNumber, BuildsAll, HasValue, TellsApart, Assigns, KeepsLimit};
 ghost use Rattle.guard_schema.specs.inside.InTurn.{TagsApart, CompletesInTurn};
+ghost use Rattle.guard_schema.specs.inside.Ready.{IsReady};
 ghost use Rattle.guard_schema.specs.Counting.{held_by, most_held};
 ghost use Rattle.guard_schema.specs.Faults.{named};
 ghost use Rattle.guard_schema.specs.Known.{none_known};
@@ -22,12 +23,11 @@ ghost use Rattle.guard_schema.specs.Outcomes.{Answers};
 ghost use Rattle.guard_schema.specs.inside.Pairs.{built_view, AreBuilt};
 ghost use Rattle.guard_schema.specs.Views.{built_in, definition_view, known_view};
 
-use crate::counting::{held_by, type_nodes};
+use crate::counting::held_by;
 use crate::fault::SchemaFault;
 use crate::finishing::finished;
 use crate::progress::{Definition, Progress};
-use crate::readings::{check_sound, read_member};
-use crate::weight::Weights;
+use crate::readings::read_member;
 use guard_model::{Site, Ty, Value};
 use guard_names::{Id, Names};
 use guard_syntax::{Assignment, ValueTree};
@@ -35,25 +35,23 @@ use guard_tagcheck::find_clash;
 use guard_tagging::{TaggedType, skeleton_after};
 use guard_values::Scope;
 use std::alloc::Global;
+use std::sync::Arc;
 
 /// Constraints, values and contained types over all definitions.
 const MOST_HELD: usize = 100_000;
 
-/// What all definitions of texts of so many octets denote, in their order. Each is weighed before it is built.
+/// What all definitions denote, in their order.
 pub fn all_built<'m, 'a>(
     alloc: Global,
     names: &'m Names<'m, 'a>,
-    octets: u64,
 ) -> Result<Progress<'m, 'a>, SchemaFault>
     requires spelled { All IsSpelledModule (modules_of names.now) }
     ensures built { Answers built_in named result (BuildsAll (none_known (modules_of names.now) (order_of names.now)) (order_of names.now)) }
     ensures names { IfOk result (λ p. p.names.now ≡ names.now) }
 {
     let order = names.order();
-    let mut weights = Weights::with_room(alloc, order.len(), octets)?;
     let mut progress = Progress::with_room(alloc, names, order.len())?;
     for id in order {
-        weights.add(names, *id)?;
         let definition = built(alloc, &progress, *id)?;
         let more = progress.with(definition)?;
         progress = more;
@@ -91,7 +89,7 @@ fn tagged_apart(
     requires spelled { All IsSpelledModule (modules_of progress.now.names.now) }
     requires flags { AreMeanings (modules_of progress.now.names.now) (order_of progress.now.names.now) (map type_view progress.now.known.types.items) (known_list (map type_view progress.now.known.types.items) progress.now.automatic.items) }
     ensures tagged { Answers (λ s. type_view s.ty) named result (TagsApart (known_view progress.now) id site) }
-    ensures counted { IfOk result (λ s. progress.now.nodes + tagging.nodes (type_view s.ty) ≤ tagging.most_nodes) }
+    ensures nodes { IfOk result (λ s. (s.nodes ≡ progress.now.nodes + tagging.nodes (type_view s.ty)) × (s.nodes ≤ tagging.most_nodes)) }
     ensures automatic { IfOk result (λ s. (s.is_automatic ≡ true) ↔ Automatic (modules_of progress.now.names.now) id) }
 {
     let tagged = skeleton_after(alloc, progress.names, &progress.done(), id)?;
@@ -99,8 +97,7 @@ fn tagged_apart(
     Ok(tagged)
 }
 
-/// The definition of this type, which has no constraints and defaults yet. The types that it is made of are counted in
-/// the finished one.
+/// The definition of this type, which has no constraints and defaults yet. The finished one is made of as many types.
 fn completed(
     alloc: Global,
     progress: &Progress,
@@ -108,7 +105,9 @@ fn completed(
     assignment: &Assignment,
     tagged: TaggedType,
 ) -> Result<Definition, SchemaFault>
-    requires counted { progress.now.nodes + tagging.nodes (type_view tagged.ty) ≤ tagging.most_nodes }
+    requires ready { IsReady (visible_at progress.now.names.now progress.now.known id) (assignment_view assignment.now).ty (type_view tagged.ty) }
+    requires nodes { tagged.nodes ≡ progress.now.nodes + tagging.nodes (type_view tagged.ty) }
+    requires few { tagged.nodes ≤ tagging.most_nodes }
     ensures built { Answers definition_view named result (CompletesInTurn (known_view progress.now) (visible_at progress.now.names.now progress.now.known id) (assignment_view assignment.now) (type_view tagged.ty)) }
     ensures sound { IfOk result (λ d. IsTrue (is_sound (definition_view d).ty)) }
     ensures fits { IfOk result (λ d. IfSome (definition_view d).value (λ v. IsTrue (fits (definition_view d).ty v))) }
@@ -119,7 +118,7 @@ fn completed(
     let TaggedType {
         ty: bare,
         is_automatic,
-        ..
+        nodes,
     } = tagged;
     let scope = Scope {
         names: progress.names,
@@ -128,7 +127,6 @@ fn completed(
     };
     let ty = finished(alloc, scope, &assignment.ty, bare)?;
     let found = valued(alloc, progress, scope, assignment, &ty)?;
-    let nodes = type_nodes(progress.nodes, &ty);
     let (value, held) = found;
     Ok(Definition {
         ty,
@@ -157,14 +155,13 @@ fn valued(
     scope: Scope,
     assignment: &Assignment,
     ty: &Ty,
-) -> Result<(Option<Value>, usize), SchemaFault>
+) -> Result<(Option<Arc<Value>>, usize), SchemaFault>
+    requires sound { IsTrue (is_sound (type_view ty.now)) }
     requires known { AreBuilt scope.known.now }
     ensures built { Answers (λ r. built_view ty.now r.0) named result (HasValue (known_view progress.now) (visible_in scope.entry) (assignment_view assignment.now) (type_view ty.now)) }
-    ensures sound { IfOk result (λ _. IsTrue (is_sound (type_view ty.now))) }
-    ensures fits { IfOk result (λ r. IfSome r.0 (λ v. IsTrue (fits (type_view ty.now) (value_view v)))) }
+    ensures fits { IfOk result (λ r. IfSome r.0 (λ v. IsTrue (fits (type_view ty.now) (shared_view v)))) }
     ensures held { IfOk result (λ r. (r.1 ≡ progress.now.held + held_by (built_view ty.now r.0)) × (r.1 ≤ most_held)) }
 {
-    check_sound(alloc, assignment.ty.site, ty)?;
     let value = assigned(alloc, scope, ty, &assignment.value)?;
     let held = within_limit(progress.held, assignment.site, ty, &value)?;
     Ok((value, held))
@@ -176,11 +173,11 @@ fn assigned(
     scope: Scope,
     ty: &Ty,
     value: &Option<ValueTree>,
-) -> Result<Option<Value>, SchemaFault>
+) -> Result<Option<Arc<Value>>, SchemaFault>
     requires sound { IsTrue (is_sound (type_view ty.now)) }
     requires known { AreBuilt scope.known.now }
-    ensures read { Answers (option_map value_view) named result (Assigns (visible_in scope.entry) (type_view ty.now) (perhaps_value_view value.now)) }
-    ensures fits { IfOk result (λ o. IfSome o (λ v. IsTrue (fits (type_view ty.now) (value_view v)))) }
+    ensures read { Answers (option_map shared_view) named result (Assigns (visible_in scope.entry) (type_view ty.now) (perhaps_value_view value.now)) }
+    ensures fits { IfOk result (λ o. IfSome o (λ v. IsTrue (fits (type_view ty.now) (shared_view v)))) }
 {
     match value {
         None => Ok(None),
@@ -194,7 +191,7 @@ fn within_limit(
     before: usize,
     site: Site,
     ty: &Ty,
-    value: &Option<Value>,
+    value: &Option<Arc<Value>>,
 ) -> Result<usize, SchemaFault>
     requires { before ≤ most_held }
     ensures limit { Answers (λ _. tt) named result (KeepsLimit before site (built_view ty.now value.now)) }

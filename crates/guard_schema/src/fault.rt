@@ -4,7 +4,7 @@ ghost use Rattle.guard_schema.specs.Faults.{named, Lex, Syntax, Name, Tag, Cons,
 
 use guard_constraints::ConsFault;
 use guard_lexer::LexFault;
-use guard_model::{OutOfMemory, Site};
+use guard_model::{OutOfMemory, PathText, Site};
 use guard_names::NameFault;
 use guard_syntax::SyntaxFault;
 use guard_tagcheck::Clash;
@@ -26,7 +26,7 @@ pub enum SchemaFault {
     #[error("{0}")]
     Tag(TagFault),
     /// Two components or alternatives that must differ in their tags share one, in the definition whose name is there.
-    #[error("S1 Clash {0} {1}")]
+    #[error("S1 Clash {0} {way} {first} {second}", way = PathText(&.1.path), first = .1.first, second = .1.second)]
     Clash(Site, Clash),
     #[error("{0}")]
     Cons(ConsFault),

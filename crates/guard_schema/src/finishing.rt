@@ -2,7 +2,9 @@
 //!
 //! The type is taken by value and handed back: nothing is copied. A list of components moves once into a list of its
 //! own length.
-ghost use Rattle.std.specs.Prelude.{◌≡◌, [], map, IfOk, option_map, string_bytes};
+ghost use Rattle.std.specs.Prelude.{◌≡◌, ◌≤◌, [], length, map, IfOk, IsTrue, option_map};
+ghost use Rattle.std.specs.Arc.{arc_str_bytes};
+ghost use Rattle.guard_der.specs.Sound.{is_sound};
 ghost use Rattle.guard_model.specs.Counts.{component_count};
 ghost use Rattle.guard_model.specs.TypeView as model;
 ghost use Rattle.guard_model.specs.TypeView.{type_view, kind_view, component_view, presence_view};
@@ -13,18 +15,20 @@ ghost use Rattle.guard_constraints.specs.Views.{visible_in};
 ghost use Rattle.guard_schema.specs.Faults.{named};
 ghost use Rattle.guard_schema.specs.Finishing as finishing;
 ghost use Rattle.guard_schema.specs.inside.InTurn as in_turn;
+ghost use Rattle.guard_schema.specs.inside.Ready as ready;
 ghost use Rattle.guard_schema.specs.inside.Pairs.{AreBuilt};
 ghost use Rattle.guard_schema.specs.Outcomes.{Answers, Is};
 ghost use Rattle.guard_schema.specs.Views.{filling_view};
 
 use crate::constraints::{type_made_of, with_written};
 use crate::fault::SchemaFault;
-use crate::readings::{check_sound, read_member};
-use guard_model::{Comp, Kind, Presence, Site, Ty};
+use crate::readings::read_member;
+use guard_model::{Comp, Kind, Presence, Ty};
 use guard_syntax::{AlternativeTree, BaseTree, CompForm, CompTree, PresenceTree, TypeTree};
 use guard_values::Scope;
 use std::alloc::{AllocError, AllocFailed, Global};
 use std::collections::VecDeque;
+use std::sync::ArcStr;
 
 /// A list of components: those that are finished, and those that are left.
 #[derive(Drop)]
@@ -37,7 +41,9 @@ pub struct Filling {
 #[cycle(finishing)]
 pub fn finished(alloc: Global, scope: Scope, tree: &TypeTree, bare: Ty) -> Result<Ty, SchemaFault>
     requires known { AreBuilt scope.known.now }
-    ensures { Answers type_view named result (in_turn.FinishesInTurn (visible_in scope.entry) (written.type_view tree.now) (type_view bare)) }
+    requires ready { ready.IsReady (visible_in scope) (written.type_view tree.now) (type_view bare) }
+    ensures finished { Answers type_view named result (in_turn.FinishesInTurn (visible_in scope.entry) (written.type_view tree.now) (type_view bare)) }
+    ensures sound { IfOk result (λ t. IsTrue (is_sound (type_view t))) }
 {
     let filled = with_parts(alloc, scope, &tree.base, bare)?;
     with_written(alloc, scope, tree, filled)
@@ -47,7 +53,9 @@ pub fn finished(alloc: Global, scope: Scope, tree: &TypeTree, bare: Ty) -> Resul
 #[cycle(finishing)]
 fn with_parts(alloc: Global, scope: Scope, base: &BaseTree, bare: Ty) -> Result<Ty, SchemaFault>
     requires known { AreBuilt scope.known.now }
-    ensures { Answers type_view named result (in_turn.PartsInTurn (visible_in scope.entry) (written.base_view base.now) (type_view bare)) }
+    requires ready { ready.IsReadyBase (visible_in scope) (written.base_view base.now) (type_view bare) }
+    ensures part { IfOk result (λ t. ready.IsPart (written.base_view base.now) (type_view t)) }
+    ensures filled { Answers type_view named result (in_turn.PartsInTurn (visible_in scope.entry) (written.base_view base.now) (type_view bare)) }
 {
     let Ty { tags, kind, cons } = bare;
     let inside = finished_kind(alloc, scope, base, kind)?;
@@ -62,6 +70,7 @@ fn finished_kind(
     kind: Kind,
 ) -> Result<Kind, SchemaFault>
     requires known { AreBuilt scope.known.now }
+    requires ready { ready.IsReadyKind (visible_in scope) (written.base_view base.now) (kind_view kind) }
     ensures { Answers kind_view named result (in_turn.KindInTurn (visible_in scope.entry) (written.base_view base.now) (kind_view kind)) }
 {
     match base {
@@ -76,12 +85,13 @@ fn finished_kind(
 #[cycle(finishing)]
 fn list(alloc: Global, scope: Scope, trees: &[CompTree], kind: Kind) -> Result<Kind, SchemaFault>
     requires known { AreBuilt scope.known.now }
+    requires ready { ready.IsReadyStructure (visible_in scope) (components_of (map written.component_view trees.now)) (kind_view kind) }
     ensures { Answers kind_view named result (in_turn.ListInTurn (in_turn.FillsInTurn (visible_in scope.entry) (components_of (map written.component_view trees.now))) (kind_view kind)) }
 {
     match kind {
         Kind::Sequence(bare) => Ok(Kind::Sequence(components(alloc, scope, trees, bare)?)),
         Kind::Set(bare) => Ok(Kind::Set(components(alloc, scope, trees, bare)?)),
-        kind => Ok(kind),
+        _ => unreachable!(),
     }
 }
 
@@ -93,11 +103,12 @@ fn choice(
     kind: Kind,
 ) -> Result<Kind, SchemaFault>
     requires known { AreBuilt scope.known.now }
+    requires ready { ready.IsReadyChoice (visible_in scope) (alternatives_of (map written.alternative_view trees.now)) (kind_view kind) }
     ensures { Answers kind_view named result (in_turn.ChoiceInTurn (in_turn.OthersInTurn (visible_in scope.entry) (alternatives_of (map written.alternative_view trees.now))) (kind_view kind)) }
 {
     match kind {
         Kind::Choice(bare) => Ok(Kind::Choice(alternatives(alloc, scope, trees, bare)?)),
-        kind => Ok(kind),
+        _ => unreachable!(),
     }
 }
 
@@ -105,12 +116,13 @@ fn choice(
 #[cycle(finishing)]
 fn elements(alloc: Global, scope: Scope, tree: &TypeTree, kind: Kind) -> Result<Kind, SchemaFault>
     requires known { AreBuilt scope.known.now }
+    requires ready { ready.IsReadyOf (visible_in scope) (written.type_view tree.now) (kind_view kind) }
     ensures { Answers kind_view named result (in_turn.ElementInTurn (in_turn.FinishesInTurn (visible_in scope.entry) (written.type_view tree.now)) (kind_view kind)) }
 {
     match kind {
         Kind::SequenceOf(bare) => Ok(Kind::SequenceOf(boxed(alloc, scope, tree, bare)?)),
         Kind::SetOf(bare) => Ok(Kind::SetOf(boxed(alloc, scope, tree, bare)?)),
-        kind => Ok(kind),
+        _ => unreachable!(),
     }
 }
 
@@ -122,6 +134,7 @@ fn boxed(
     bare: Box<Ty>,
 ) -> Result<Box<Ty>, SchemaFault>
     requires known { AreBuilt scope.known.now }
+    requires ready { ready.IsReady (visible_in scope) (written.type_view tree.now) (type_view bare.value) }
     ensures { Answers (λ b. type_view b.value) named result (in_turn.FinishesInTurn (visible_in scope.entry) (written.type_view tree.now) (type_view bare.value)) }
 {
     let element = finished(alloc, scope, tree, Box::into_inner(bare))?;
@@ -138,7 +151,8 @@ fn components(
     bare: Vec<Comp>,
 ) -> Result<Vec<Comp>, SchemaFault>
     requires known { AreBuilt scope.known.now }
-    ensures { Answers (λ v. map component_view v.items) named result (in_turn.FillsAll (in_turn.FillsInTurn (visible_in scope.entry) (components_of (map written.component_view trees.now))) (in_turn.listed (model.components_of (map component_view bare.items)))) }
+    requires ready { ready.AreReady (visible_in scope) (components_of (map written.component_view trees.now)) (model.components_of (map component_view bare.items)) }
+    ensures { Answers (λ v. map component_view v.items) named result (in_turn.FillsAll (in_turn.FillsInTurn (visible_in scope.entry) (components_of (map written.component_view trees.now))) (ready.listed (model.components_of (map component_view bare.items)))) }
 {
     let start = unfilled(alloc, bare)?;
     let filling = fill(alloc, scope, trees, start)?;
@@ -153,7 +167,8 @@ fn alternatives(
     bare: Vec<Comp>,
 ) -> Result<Vec<Comp>, SchemaFault>
     requires known { AreBuilt scope.known.now }
-    ensures { Answers (λ v. map component_view v.items) named result (in_turn.FillsAll (in_turn.OthersInTurn (visible_in scope.entry) (alternatives_of (map written.alternative_view trees.now))) (in_turn.listed (model.components_of (map component_view bare.items)))) }
+    requires ready { ready.OthersAreReady (visible_in scope) (alternatives_of (map written.alternative_view trees.now)) (model.components_of (map component_view bare.items)) }
+    ensures { Answers (λ v. map component_view v.items) named result (in_turn.FillsAll (in_turn.OthersInTurn (visible_in scope.entry) (alternatives_of (map written.alternative_view trees.now))) (ready.listed (model.components_of (map component_view bare.items)))) }
 {
     let start = unfilled(alloc, bare)?;
     let filling = fill_alternatives(alloc, scope, trees, start)?;
@@ -179,6 +194,7 @@ fn fill(
     filling: Filling,
 ) -> Result<Filling, SchemaFault>
     requires known { AreBuilt scope.known.now }
+    requires next { ready.AreNext (visible_in scope) (components_of (map written.component_view trees.now)) (filling_view filling).left }
     ensures { Answers filling_view named result (in_turn.FillsInTurn (visible_in scope.entry) (components_of (map written.component_view trees.now)) (filling_view filling)) }
 {
     let mut so_far = filling;
@@ -196,6 +212,7 @@ fn fill_entry(
     filling: Filling,
 ) -> Result<Filling, SchemaFault>
     requires known { AreBuilt scope.known.now }
+    requires next { ready.IsEntryNext (visible_in scope) (written.component_view tree.now).form (filling_view filling).left }
     ensures { Answers filling_view named result (in_turn.EntryInTurn (visible_in scope.entry) (written.component_view tree.now).form (filling_view filling)) }
 {
     match &tree.form {
@@ -213,6 +230,7 @@ fn fill_alternatives(
     filling: Filling,
 ) -> Result<Filling, SchemaFault>
     requires known { AreBuilt scope.known.now }
+    requires next { ready.OthersAreNext (visible_in scope) (alternatives_of (map written.alternative_view trees.now)) (filling_view filling).left }
     ensures { Answers filling_view named result (in_turn.OthersInTurn (visible_in scope.entry) (alternatives_of (map written.alternative_view trees.now)) (filling_view filling)) }
 {
     let mut so_far = filling;
@@ -230,6 +248,7 @@ fn fill_alternative(
     filling: Filling,
 ) -> Result<Filling, SchemaFault>
     requires known { AreBuilt scope.known.now }
+    requires next { ready.IsNext (visible_in scope) (written.alternative_view tree.now).ty (filling_view filling).left }
     ensures { Answers filling_view named result (in_turn.AlternativeInTurn (visible_in scope.entry) (written.alternative_view tree.now) (filling_view filling)) }
 {
     fill_next(alloc, scope, &tree.ty, &PresenceTree::Mandatory, filling)
@@ -245,12 +264,13 @@ fn fill_next(
     filling: Filling,
 ) -> Result<Filling, SchemaFault>
     requires known { AreBuilt scope.known.now }
-    ensures { Answers filling_view named result (in_turn.FillsNext (visible_in scope.entry) (finishing.site_of_type (written.type_view tree.now)) (in_turn.FinishesInTurn (visible_in scope.entry) (written.type_view tree.now)) (written.presence_view presence.now) (filling_view filling).done (filling_view filling).left) }
+    requires next { ready.IsNext (visible_in scope) (written.type_view tree.now) (filling_view filling).left }
+    ensures { Answers filling_view named result (in_turn.FillsNext (visible_in scope.entry) (in_turn.FinishesInTurn (visible_in scope.entry) (written.type_view tree.now)) (written.presence_view presence.now) (filling_view filling).done (filling_view filling).left) }
 {
     let mut filling = filling;
     match filling.left.pop_front() {
         Some(bare) => fill_one(alloc, scope, tree, presence, bare, filling),
-        None => Ok(filling),
+        None => unreachable!(),
     }
 }
 
@@ -265,7 +285,8 @@ fn fill_one(
     filling: Filling,
 ) -> Result<Filling, SchemaFault>
     requires known { AreBuilt scope.known.now }
-    ensures { Answers filling_view named result (in_turn.FillsOne (visible_in scope.entry) (finishing.site_of_type (written.type_view tree.now)) (in_turn.FinishesInTurn (visible_in scope.entry) (written.type_view tree.now)) (written.presence_view presence.now) (component_view bare) (filling_view filling)) }
+    requires ready { ready.IsReady (visible_in scope) (written.type_view tree.now) (component_view bare).ty }
+    ensures { Answers filling_view named result (in_turn.FillsOne (visible_in scope.entry) (in_turn.FinishesInTurn (visible_in scope.entry) (written.type_view tree.now)) (written.presence_view presence.now) (component_view bare) (filling_view filling)) }
 {
     let comp = finished_component(alloc, scope, tree, presence, bare)?;
     Ok(with_done(comp, filling)?)
@@ -290,47 +311,45 @@ fn finished_component(
     bare: Comp,
 ) -> Result<Comp, SchemaFault>
     requires known { AreBuilt scope.known.now }
-    ensures { Answers component_view named result (in_turn.OneInTurn (visible_in scope.entry) (finishing.site_of_type (written.type_view tree.now)) (in_turn.FinishesInTurn (visible_in scope.entry) (written.type_view tree.now)) (written.presence_view presence.now) (component_view bare)) }
+    requires ready { ready.IsReady (visible_in scope) (written.type_view tree.now) (component_view bare).ty }
+    ensures { Answers component_view named result (in_turn.OneInTurn (visible_in scope.entry) (in_turn.FinishesInTurn (visible_in scope.entry) (written.type_view tree.now)) (written.presence_view presence.now) (component_view bare)) }
 {
     let Comp { name, ty, .. } = bare;
     let filled = finished(alloc, scope, tree, ty)?;
-    with_presence(alloc, scope, tree.site, presence, name, filled)
+    with_presence(alloc, scope, presence, name, filled)
 }
 
-/// The component of this name and this type, which is written there.
+/// The component of this name and this type.
 fn with_presence(
     alloc: Global,
     scope: Scope,
-    site: Site,
     presence: &PresenceTree,
-    name: String,
+    name: ArcStr,
     ty: Ty,
 ) -> Result<Comp, SchemaFault>
+    requires sound { IsTrue (is_sound (type_view ty)) }
     requires known { AreBuilt scope.known.now }
-    ensures { Answers component_view named result (in_turn.WithPresence (visible_in scope.entry) site (written.presence_view presence.now) (string_bytes name) (type_view ty)) }
+    ensures { Answers component_view named result (in_turn.WithPresence (visible_in scope.entry) (written.presence_view presence.now) (arc_str_bytes name) (type_view ty)) }
 {
-    let presence = presence_of(alloc, scope, site, &ty, presence)?;
+    let presence = presence_of(alloc, scope, &ty, presence)?;
     Ok(Comp { name, ty, presence })
 }
 
-/// Whether a component may be left out, of the type that is written there.
+/// Whether a component of this type may be left out.
 fn presence_of(
     alloc: Global,
     scope: Scope,
-    site: Site,
     ty: &Ty,
     presence: &PresenceTree,
 ) -> Result<Presence, SchemaFault>
+    requires sound { IsTrue (is_sound (type_view ty.now)) }
     requires known { AreBuilt scope.known.now }
-    ensures { Answers presence_view named result (finishing.FillsPresence (visible_in scope.entry) site (type_view ty.now) (written.presence_view presence.now)) }
+    ensures { Answers presence_view named result (finishing.FillsPresence (visible_in scope.entry) (type_view ty.now) (written.presence_view presence.now)) }
 {
     match presence {
         PresenceTree::Mandatory => Ok(Presence::Mandatory),
         PresenceTree::Optional => Ok(Presence::Optional),
-        PresenceTree::Default(tree) => {
-            check_sound(alloc, site, ty)?;
-            Ok(Presence::Default(read_member(alloc, scope, ty, tree)?))
-        }
+        PresenceTree::Default(tree) => Ok(Presence::Default(read_member(alloc, scope, ty, tree)?)),
     }
 }
 
@@ -345,17 +364,19 @@ fn fill_from(
     filling: Filling,
 ) -> Result<Filling, SchemaFault>
     requires known { AreBuilt scope.known.now }
+    requires next { ready.ArePutInNext (visible_in scope) (written.base_view base.now) (filling_view filling).left }
     ensures { Answers filling_view named result (in_turn.FromBaseInTurn (visible_in scope.entry) (written.base_view base.now) (filling_view filling)) }
 {
     match base {
         BaseTree::Structure(_, trees) => fill(alloc, scope, trees, filling),
         BaseTree::Reference(name) => reference_taken_over(scope, name.name, filling),
-        _ => Ok(filling),
+        _ => unreachable!(),
     }
 }
 
 /// Those of the type of this name need nothing.
 fn reference_taken_over(scope: Scope, name: &[u8], filling: Filling) -> Result<Filling, SchemaFault>
+    requires enough { finishing.count_of_meant ((visible_in scope).types name.now) ≤ length filling.left.items }
     ensures { Answers filling_view named result (Is (in_turn.taken_over (finishing.count_of_meant ((visible_in scope.entry).types name.now)) (filling_view filling))) }
 {
     let count = put_in(scope.type_named(name));
@@ -380,6 +401,7 @@ fn part_count(ty: &Ty) -> usize
 
 /// So many of those that are left need nothing.
 fn taken_over(filling: Filling, count: usize) -> Result<Filling, AllocFailed<Comp>>
+    requires enough { count ≤ length filling.left.items }
     ensures { IfOk result (λ f. filling_view f ≡ in_turn.taken_over count (filling_view filling)) }
 {
     let mut so_far = filling;
@@ -389,13 +411,14 @@ fn taken_over(filling: Filling, count: usize) -> Result<Filling, AllocFailed<Com
     Ok(so_far)
 }
 
-/// The next one, where one is left.
+/// The next one needs nothing.
 fn one_taken_over(filling: Filling) -> Result<Filling, AllocFailed<Comp>>
+    requires enough { 1 ≤ length filling.left.items }
     ensures { IfOk result (λ f. filling_view f ≡ in_turn.taken_over 1 (filling_view filling)) }
 {
     let mut filling = filling;
     match filling.left.pop_front() {
         Some(comp) => with_done(comp, filling),
-        None => Ok(filling),
+        None => unreachable!(),
     }
 }

@@ -46,12 +46,12 @@ fn with_definition(
     ensures { IfOk result (λ after. (home name : List ℕ) → found_in after home name ≡ option_or (found_in before home name) (entry_if home name (entry_view definition.now))) }
 {
     let mut homes = before.homes;
-    let places = match homes.shift_remove(definition.home.as_slice()) {
+    let places = match homes.shift_remove(definition.home) {
         Some(places) => places,
         None => IndexMap::new(alloc),
     };
-    let places = with_place(alloc, places, &definition.name, definition.place)?;
-    homes.insert(Vec::from_slice(alloc, &definition.home)?, places)?;
+    let places = with_place(alloc, places, definition.name, definition.place)?;
+    homes.insert(Vec::from_slice(alloc, definition.home)?, places)?;
     Ok(TypeIndex { homes })
 }
 

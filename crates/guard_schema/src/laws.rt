@@ -2,8 +2,8 @@
 ghost use Rattle.std.specs.Prelude.{map};
 ghost use Rattle.guard_schema.specs.Accepts.{Denotes};
 ghost use Rattle.guard_schema.specs.EachType.{HaveTheirTypes};
+ghost use Rattle.guard_schema.specs.FinishedSound.{AreSound};
 ghost use Rattle.guard_schema.specs.OneAnswer.{IsDecided};
-ghost use Rattle.guard_schema.specs.OnlyLong.{OnlyLongInParts, OnlyLongValues};
 ghost use Rattle.guard_schema.specs.Unfinished.{IsBareAgain, IsTaggedAgain};
 
 use guard_constraints::laws::{law_one_constraint, law_one_fault};
@@ -28,10 +28,9 @@ pub fn law_unfinished()
     ensures schema { HaveTheirTypes }
 {}
 
-/// A type that is finished from what its tree denotes by its tags is sound, or a single value in one of its constraints
-/// is too long: the fault that a build names then (V8) is where the first of these values is. So it is with the type of
-/// a definition, and with each part of it before something is read under that.
-pub fn law_only_long_values()
-    ensures definitions { OnlyLongValues }
-    ensures parts { OnlyLongInParts }
+/// A type that is finished from what its tree denotes by its tags is sound. That the constraints of a type that is
+/// referred to are lawful under other tags too is looked for where it is referred to: a value that gets too long there is
+/// the only fault (V8) that they can have.
+pub fn law_finished_sound()
+    ensures { AreSound }
 {}

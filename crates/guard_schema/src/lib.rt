@@ -9,14 +9,12 @@
 //! | What does a definition denote, each in turn? | `definitions.rt` | `specs/Building.antt` |
 //! | Which constraints and defaults are filled into a type? | `finishing.rt`, `constraints.rt` | `specs/Finishing.antt` |
 //! | What are a written value and a written constraint? | `readings.rt` | `specs/Readings.antt` |
-//! | Which value keeps a type from being sound, and can anything else? | `long_values.rt`, `laws.rt` | `specs/LongValues.antt`, `specs/OnlyLong.antt` |
+//! | Which value is too long under the tags of a reference, and is a finished type sound? | `long_values.rt`, `laws.rt` | `specs/LongValues.antt`, `specs/FinishedSound.antt` |
 //! | By what are types found? | `index.rt` (`TypeIndex`), `build.rt` | `specs/Entries.antt`, `specs/Views.antt` |
 //! | How much may a schema hold? | `counting.rt` | `specs/Counting.antt` |
-//! | How much may a build copy, and what does a definition weigh? | `weight.rt`, `weighing.rt` | none: what is too much is want of memory |
-//! | How much may the trees of texts take? | `tree_room.rt` | none, likewise |
 //! | Is there one schema, or one fault? | `laws.rt` | `specs/OneAnswer.antt` |
 //! | Is each type of a schema what its tree says, with its constraints and defaults filled in? | `laws.rt` | `specs/EachType.antt`, `specs/Unfinished.antt` |
-//! | How does the code fill a type, component by component? | `finishing.rt` | `specs/inside/InTurn.antt` (private) |
+//! | How does the code fill a type, component by component, and what does it know of it before? | `finishing.rt` | `specs/inside/InTurn.antt`, `specs/inside/Ready.antt` (private) |
 #![tactic(auto)]
 
 mod build;
@@ -33,9 +31,6 @@ mod progress;
 mod readings;
 mod schema;
 mod texts;
-mod tree_room;
-mod weighing;
-mod weight;
 
 pub use fault::SchemaFault;
 pub use schema::Schema;

@@ -4,53 +4,30 @@ ghost use Rattle.std.specs.Prelude.{◌≡◌, IsTrue, IfOk, map};
 ghost use Rattle.guard_der.specs.Der.{der};
 ghost use Rattle.guard_der.specs.Fits.{fits};
 ghost use Rattle.guard_der.specs.ProperConstraints.{is_short};
-ghost use Rattle.guard_model.specs.TypeView.{type_view, kind_view, component_view, components_of, constraint_view, constraints_of};
+ghost use Rattle.guard_model.specs.TypeView.{type_view, constraint_view, constraints_of};
 ghost use Rattle.guard_model.specs.ValueView.{value_view};
+ghost use Rattle.guard_schema.specs.Faults.{named};
 ghost use Rattle.guard_schema.specs.LongValues as long_values;
+ghost use Rattle.guard_schema.specs.Outcomes.{Answers};
+ghost use Rattle.guard_schema.specs.Readings.{HasShortValues};
 
+use crate::fault::SchemaFault;
 use guard_der::{EncodeFault, encode, fits};
-use guard_model::{Comp, Cons, Kind, OutOfMemory, Rule, Site, Ty, Value};
+use guard_model::{Cons, OutOfMemory, Rule, Site, Ty, Value};
+use guard_values::ValueFault;
 use std::alloc::Global;
 
-/// Where the first one is in a type, its parts before the whole.
-#[cycle(first_long)]
-pub fn first_long(alloc: Global, ty: &Ty) -> Result<Option<Site>, OutOfMemory>
-    ensures { IfOk result (λ site. site ≡ long_values.first_long (type_view ty.now)) }
+/// The type's own constraints must have none: the fault (`ValueFault::TooLarge`) is where the first one is.
+pub fn check_values(alloc: Global, ty: &Ty) -> Result<(), SchemaFault>
+    ensures { Answers (λ u. u) named result (HasShortValues (type_view ty.now)) }
 {
-    match long_inside(alloc, &ty.kind)? {
-        Some(site) => Ok(Some(site)),
-        None => long_in_all(alloc, &ty.cons, ty),
+    match long_in_all(alloc, &ty.cons, ty)? {
+        None => Ok(()),
+        Some(site) => Err(SchemaFault::Value(ValueFault::TooLarge(site))),
     }
 }
 
-#[cycle(first_long)]
-fn long_inside(alloc: Global, kind: &Kind) -> Result<Option<Site>, OutOfMemory>
-    ensures { IfOk result (λ site. site ≡ long_values.long_inside (kind_view kind.now)) }
-{
-    match kind {
-        Kind::Sequence(comps) => long_in_parts(alloc, comps),
-        Kind::Set(comps) => long_in_parts(alloc, comps),
-        Kind::Choice(comps) => long_in_parts(alloc, comps),
-        Kind::SequenceOf(element) => first_long(alloc, element),
-        Kind::SetOf(element) => first_long(alloc, element),
-        _ => Ok(None),
-    }
-}
-
-#[cycle(first_long)]
-fn long_in_parts(alloc: Global, comps: &[Comp]) -> Result<Option<Site>, OutOfMemory>
-    ensures { IfOk result (λ site. site ≡ long_values.long_in_parts (components_of (map component_view comps.now))) }
-{
-    for comp in comps {
-        if let Some(site) = first_long(alloc, &comp.ty)? {
-            return Ok(Some(site));
-        }
-    }
-    Ok(None)
-}
-
-// ---- constraints on a type
-
+/// Where the first one is in constraints on the type.
 #[cycle(long_in)]
 fn long_in_all(alloc: Global, all: &[Cons], ty: &Ty) -> Result<Option<Site>, OutOfMemory>
     ensures { IfOk result (λ site. site ≡ long_values.long_in_all (type_view ty.now) (constraints_of (map constraint_view all.now))) }

@@ -14,6 +14,7 @@ use guard_names::Names;
 use guard_tagging::Done;
 use guard_values::Known;
 use std::alloc::{AllocError, Global};
+use std::sync::Arc;
 
 /// What is built of one definition.
 #[derive(Drop)]
@@ -21,7 +22,7 @@ pub struct Definition {
     /// Its type, or the governor of its value.
     pub ty: Ty,
     /// The value of a value assignment.
-    pub value: Option<Value>,
+    pub value: Option<Arc<Value>>,
     /// Whether its list of components or alternatives was tagged automatically, where it has one.
     pub is_automatic: bool,
     /// The types that it and the definitions before it are made of.

@@ -1,40 +1,25 @@
 //! What a written value and a written constraint are.
-ghost use Rattle.std.specs.Prelude.{◌≡◌, IsTrue, IfOk};
+ghost use Rattle.std.specs.Prelude.{IsTrue, IfOk};
 ghost use Rattle.guard_der.specs.Fits.{fits};
 ghost use Rattle.guard_der.specs.Sound.{is_sound, is_proper_constraint};
 ghost use Rattle.guard_model.specs.TypeView.{type_view, constraint_view};
-ghost use Rattle.guard_model.specs.ValueView.{value_view};
 ghost use Rattle.guard_syntax.specs.SetViews as sets;
 ghost use Rattle.guard_syntax.specs.Views as values;
+ghost use Rattle.guard_values.specs.Views.{shared_view};
 ghost use Rattle.guard_constraints.specs.Views.{visible_in};
 ghost use Rattle.guard_schema.specs.Faults.{named};
 ghost use Rattle.guard_schema.specs.inside.Pairs.{AreBuilt};
 ghost use Rattle.guard_schema.specs.Outcomes.{Answers};
-ghost use Rattle.guard_schema.specs.Readings.{IsSoundAt, ReadsValue, ReadsMember, ReadsConstraint};
+ghost use Rattle.guard_schema.specs.Readings.{ReadsValue, ReadsMember, ReadsConstraint};
 
 use crate::fault::SchemaFault;
-use crate::long_values::first_long;
 use guard_constraints::constraint;
-use guard_der::sound;
 use guard_eval::member;
-use guard_model::{Cons, Site, Ty, Value};
+use guard_model::{Cons, Ty, Value};
 use guard_syntax::{ConsTree, ValueTree};
-use guard_values::{Scope, ValueFault, value};
+use guard_values::{Scope, shared_value};
 use std::alloc::Global;
-
-/// The type that is written there must be sound. A single value in a constraint of a type that is referred to can keep
-/// it from that: under the tags before the reference its encoding may be longer than 1,048,576 octets
-/// (`ValueFault::TooLarge`, where that value is).
-pub fn check_sound(alloc: Global, site: Site, ty: &Ty) -> Result<(), SchemaFault>
-    ensures answers { Answers (λ u. u) named result (IsSoundAt site (type_view ty.now)) }
-    ensures sound { IfOk result (λ _. IsTrue (is_sound (type_view ty.now))) }
-{
-    if sound(alloc, ty)? {
-        return Ok(());
-    }
-    let long = first_long(alloc, ty)?;
-    Err(SchemaFault::Value(ValueFault::TooLarge(long.unwrap_or(site))))
-}
+use std::sync::Arc;
 
 /// The value that is written, a member of its type: of a DEFAULT, or of a value assignment.
 pub fn read_member(
@@ -42,11 +27,11 @@ pub fn read_member(
     scope: Scope,
     ty: &Ty,
     tree: &ValueTree,
-) -> Result<Value, SchemaFault>
+) -> Result<Arc<Value>, SchemaFault>
     requires sound { IsTrue (is_sound (type_view ty.now)) }
     requires known { AreBuilt scope.known.now }
-    ensures read { Answers value_view named result (ReadsMember (visible_in scope.entry) (type_view ty.now) (values.value_view tree.now)) }
-    ensures fits { IfOk result (λ v. IsTrue (fits (type_view ty.now) (value_view v))) }
+    ensures read { Answers shared_view named result (ReadsMember (visible_in scope.entry) (type_view ty.now) (values.value_view tree.now)) }
+    ensures fits { IfOk result (λ v. IsTrue (fits (type_view ty.now) (shared_view v))) }
 {
     let value = read_value(alloc, scope, ty, tree)?;
     if member(ty, &value) {
@@ -62,14 +47,14 @@ pub fn read_value(
     scope: Scope,
     ty: &Ty,
     tree: &ValueTree,
-) -> Result<Value, SchemaFault>
+) -> Result<Arc<Value>, SchemaFault>
     requires sound { IsTrue (is_sound (type_view ty.now)) }
     requires known { AreBuilt scope.known.now }
-    ensures read { Answers value_view named result (ReadsValue (visible_in scope.entry) (type_view ty.now) (values.value_view tree.now)) }
-    ensures fits { IfOk result (λ v. IsTrue (fits (type_view ty.now) (value_view v))) }
+    ensures read { Answers shared_view named result (ReadsValue (visible_in scope.entry) (type_view ty.now) (values.value_view tree.now)) }
+    ensures fits { IfOk result (λ v. IsTrue (fits (type_view ty.now) (shared_view v))) }
 {
     let Scope { names, known, id } = scope;
-    Ok(value(alloc, names, known, id, ty, tree)?)
+    Ok(shared_value(alloc, names, known, id, ty, tree)?)
 }
 
 /// The constraint that is written on a type.

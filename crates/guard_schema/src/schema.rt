@@ -1,5 +1,5 @@
 //! Schemas.
-ghost use Rattle.std.specs.Prelude.{◌≡◌, All, IsTrue, map, option_map, slice_get, string_bytes};
+ghost use Rattle.std.specs.Prelude.{◌≡◌, ◌≤◌, All, IsTrue, length, map, option_map, slice_get, string_bytes};
 ghost use Rattle.std.proofs.Props.{props};
 ghost use Rattle.guard_der.specs.Sound.{is_sound};
 ghost use Rattle.guard_model.specs.TypeView as model;
@@ -8,17 +8,19 @@ use crate::build::schema_of;
 use crate::fault::SchemaFault;
 use crate::index::TypeIndex;
 use crate::laws::law_one_schema;
+use guard_der::named_types::Types;
 use guard_model::Ty;
 use std::alloc::Global;
 
-/// What the texts of modules denote: the names of the modules, in the order of the texts, and the types by the names to
-/// which modules assign them. Each type is sound.
+/// What the texts of modules denote: the names of the modules, in the order of the texts, of which there are 64 at most,
+/// and the types by the names to which modules assign them. Each type is sound. Policies are loaded over it.
 #[derive(Drop)]
 pub struct Schema {
     pub(crate) modules: Vec<String>,
     pub(crate) index: TypeIndex,
     pub(crate) types: Vec<Ty>,
     pub ghost sound: { All (λ t. IsTrue (is_sound (model.type_view t))) types.items } by { Prim.hlevel props },
+    pub ghost few: { length (map string_bytes modules.items) ≤ 64 },
 }
 
 impl Schema {
@@ -72,6 +74,23 @@ impl Schema {
             return None;
         }
         name_at(&self.modules, text as usize - 1)
+    }
+}
+
+impl Types for Schema {
+    ghost use Rattle.guard_schema.specs.Schemas.{named_types};
+    ghost use Rattle.guard_schema.specs.Views.{schema_view};
+
+    ghost types = { λ schema. named_types (schema_view schema) };
+
+    ghost few = { λ schema. schema.few };
+
+    fn ty(&self, module_name: &str, name: &str) -> Option<&Ty> {
+        Schema::ty(self, module_name, name)
+    }
+
+    fn module(&self, text: u32) -> Option<&str> {
+        Schema::module(self, text)
     }
 }
 

@@ -7,8 +7,6 @@ ghost use Rattle.guard_schema.specs.Texts.{ReadsText, ReadsTexts, CountsTexts};
 ghost use Rattle.guard_syntax.specs.ModuleViews.{module_view};
 
 use crate::fault::SchemaFault;
-use crate::tree_room::{MOST_FOR_TREES, octets_of_tree};
-use guard_model::OutOfMemory;
 use guard_names::{MOST_MODULES, NameFault};
 use guard_syntax::Module;
 use guard_tagging::laws::law_spelled;
@@ -24,7 +22,7 @@ pub fn check_count(texts: &[&[u8]]) -> Result<(), SchemaFault>
     Ok(())
 }
 
-/// The modules of texts, each read whole before the next one. What would take too much room as trees is want of memory.
+/// The modules of texts, each read whole before the next one.
 pub fn modules<'a>(alloc: Global, texts: &[&'a [u8]]) -> Result<Vec<Module<'a>>, SchemaFault>
     requires { length texts.now ≤ 64 }
     ensures read { Answers (λ v. map module_view v.items) named result (ReadsTexts [] (map (λ t. t.now) texts.now)) }
@@ -32,30 +30,21 @@ pub fn modules<'a>(alloc: Global, texts: &[&'a [u8]]) -> Result<Vec<Module<'a>>,
     ensures named { IfOk result (λ v. All (λ m. IsUtf8 m.name) (map module_view v.items)) }
 {
     let mut modules = Vec::with_capacity(alloc, texts.len())?;
-    let mut room = MOST_FOR_TREES;
     for text in texts {
         let place = modules.len() as u32 + 1;
-        modules.push(module(alloc, place, text, &mut room)?)?;
+        modules.push(module(alloc, place, text)?)?;
     }
     Ok(modules)
 }
 
-/// The module of the text at this place, from 1, where there is room for its tree. Its tokens are dropped before the
-/// next text is read: what stays is the tree, which borrows the text.
-fn module<'a>(
-    alloc: Global,
-    place: u32,
-    text: &'a [u8],
-    room: &mut usize,
-) -> Result<Module<'a>, SchemaFault>
+/// The module of the text at this place, from 1. Its tokens are dropped before the next text is read: what stays is the
+/// tree, which borrows the text.
+fn module<'a>(alloc: Global, place: u32, text: &'a [u8]) -> Result<Module<'a>, SchemaFault>
     ensures read { Answers module_view named result (ReadsText place text.now) }
     ensures spelled { IfOk result (λ m. IsSpelledModule (module_view m)) }
     ensures named { IfOk result (λ m. IsUtf8 (module_view m).name) }
 {
     let tokens = guard_lexer::tokens(alloc, place, text)?;
-    *room = room
-        .checked_sub(octets_of_tree(&tokens))
-        .ok_or(OutOfMemory)?;
     law_spelled(text, &tokens);
     Ok(guard_syntax::parse(alloc, place, text, &tokens)?)
 }

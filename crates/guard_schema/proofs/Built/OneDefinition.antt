@@ -13,6 +13,8 @@ use Rattle.guard_tagcheck.specs.Limits.{is_within_limits}
 use Rattle.guard_eval.proofs.Soundness.{sound_within_limits}
 use Rattle.guard_model.specs.declared.ty.Ty.{Ty}
 use Rattle.guard_model.specs.declared.value.Value.{Value}
+use Rattle.std.specs.Global.{Global}
+use Rattle.std.specs.declared.sync.Arc.{Arc}
 use Rattle.guard_names.specs.Declarations.{Definition, definitions}
 use Rattle.guard_names.specs.NamesView.{modules_of, order_of}
 use Rattle.guard_tagging.specs.declared.fault.TagFault.{TagFault}
@@ -39,12 +41,12 @@ use Rattle.guard_schema.specs.Finishing.{Finishes}
 use Rattle.guard_schema.specs.inside.Pairs.{paired}
 use Rattle.guard_schema.specs.Views.{built_in, known_view, definition_view}
 use Rattle.guard_schema.proofs.Turns.Outcomes.{led}
-use Rattle.guard_schema.proofs.Filled.BareTypes.{bare_of}
+use Rattle.guard_schema.specs.inside.Ready.{IsReady}
 use Rattle.guard_schema.proofs.Filled.ByTrees.{type_filled}
-use Rattle.guard_schema.proofs.Built.Types.{types_agree}
+use Rattle.guard_schema.proofs.Sound.Ready.{ready, paired_sound}
 use Rattle.guard_schema.proofs.Built.Visible.{visible_same}
 
-pub types_same : (ts : List Ty) (vs : List (Option Value)) → length vs ≡ length ts
+pub types_same : (ts : List Ty) (vs : List (Option (Arc Value Global))) → length vs ≡ length ts
     → types_of (paired ts vs) ≡ map type_view ts
 types_same [] vs e = refl
 types_same (t ∷ ts) [] e = absurd (omega (arith, e))
@@ -81,27 +83,19 @@ tag_named (tag_fault.NumberTooLarge site) g e =
 
 -- what comes of its type, with its value
 module _ (k : Known) (names : Visible) (a : WrittenAssignment) (t : AbstractType) (v : Option AbstractValue)
-    (sound : IsTrue (is_sound t)) (read : Assigns names t a.value (Ok v)) where
+    (read : Assigns names t a.value (Ok v)) where
   pub limit_refuses : (before : ℕ) → before ≡ all_held k.built → (fault : Option AbstractFault)
       → RefusesBy fault (KeepsLimit before a.site (record { ty = t; value = v }))
       → RefusesBy fault (HasValue k names a t)
   limit_refuses before e None h = tt
-  limit_refuses before e (Some f) h = inl (
-    tt,
-    sound,
-    inl
-        (v, read, inr (f, subst (λ n. KeepsLimit n a.site (record { ty = t; value = v }) (Err f)) e h, refl)),
-  )
+  limit_refuses before e (Some f) h =
+      inl (v, read, inr (f, subst (λ n. KeepsLimit n a.site (record { ty = t; value = v }) (Err f)) e h, refl))
 
   pub limit_kept : (before : ℕ) → before ≡ all_held k.built
       → KeepsLimit before a.site (record { ty = t; value = v }) (Ok tt)
       → HasValue k names a t (Ok (record { ty = t; value = v }))
-  limit_kept before e h = inl (
-    tt,
-    sound,
-    inl
-        (v, read, inl (tt, subst (λ n. KeepsLimit n a.site (record { ty = t; value = v }) (Ok tt)) e h, refl)),
-  )
+  limit_kept before e h =
+      inl (v, read, inl (tt, subst (λ n. KeepsLimit n a.site (record { ty = t; value = v }) (Ok tt)) e h, refl))
 
 -- ---- its tags and parts
 
@@ -160,11 +154,6 @@ module _ (k : Known) (names : Visible) (a : WrittenAssignment) (bare : AbstractT
   value_refused t finished None h = tt
   value_refused t finished (Some f) h = inl (t, finished, h)
 
--- how many types there are with it
-pub nodes_counted : (count before finished bare : ℕ) → count ≡ min (before + finished) 100001 → finished ≤ bare
-    → before + bare ≤ 100000 → (count ≡ before + finished) × (count ≤ 100000)
-nodes_counted count before finished bare e less few = (omega (arith, e, less, few), omega (arith, e, less, few))
-
 -- ---- the whole of it
 
 module _ (p : Progress) (id : ℕ) (d : Definition)
@@ -192,12 +181,14 @@ module _ (p : Progress) (id : ℕ) (d : Definition)
 
   module _ (bare : AbstractType) (tagged : HasTags (known_view p) d (Ok bare))
       (apart : TellsApart d.assignment.site bare (Ok tt)) where
+    ready_so : IsReady (visible (known_view p) d.home.name) d.assignment.ty bare
+    ready_so = ready (known_view p) d tagged.0 tagged.1
+        (paired_sound p.known.types.items p.known.values.items p.sound p.fitting) bare tagged.2 apart
+
     finished_so : (answer : Outcome AbstractType)
         → FinishesInTurn (visible (known_view p) d.home.name) d.assignment.ty bare answer
         → Finishes (visible (known_view p) d.home.name) d.assignment.ty bare answer
-    finished_so = type_filled (visible (known_view p) d.home.name) d.assignment.ty bare
-        (bare_of (visible (known_view p) d.home.name) tagged.0 (types_agree (known_view p) d tagged.0 tagged.1)
-        (nodes_of_all (types_of (built_in p))) d.assignment.ty bare tagged.2)
+    finished_so = type_filled (visible (known_view p) d.home.name) d.assignment.ty bare ready_so.0
 
     completed_so : (answer : Outcome Built) → CompletesInTurn (known_view p)
         (visible (known_view p) d.home.name) d.assignment bare answer → BuildsNumber (known_view p) id answer
@@ -215,6 +206,12 @@ module _ (p : Progress) (id : ℕ) (d : Definition)
       )
   parts_there bare (inl (b, tagged, inr (f, clash, e))) = absurd cc
   parts_there bare (inr (f, tagged, e)) = absurd cc
+
+  -- so it is ready to be finished
+  pub tagged_ready : (bare : AbstractType) → TagsApart (known_view p) id d.assignment.site (Ok bare)
+      → IsReady (visible_at p.names.now p.known id) d.assignment.ty bare
+  tagged_ready bare h = let parts = parts_there bare h in subst (λ (m : Visible). IsReady m d.assignment.ty bare)
+      (sym here) (ready_so bare parts.0 parts.1)
 
   pub built_whole : (bare : AbstractType) → TagsApart (known_view p) id d.assignment.site (Ok bare)
       → (result : Result code.Definition SchemaFault)

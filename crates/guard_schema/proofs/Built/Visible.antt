@@ -10,14 +10,15 @@ use Rattle.guard_der.specs.Sound.{is_sound}
 use Rattle.guard_model.specs.AbstractValue.{AbstractValue}
 use Rattle.guard_model.specs.AbstractType.{AbstractType}
 use Rattle.guard_model.specs.TypeView.{type_view}
-use Rattle.guard_model.specs.ValueView.{value_view}
 use Rattle.guard_model.specs.declared.ty.Ty.{Ty}
 use Rattle.guard_model.specs.declared.value.Value.{Value}
+use Rattle.std.specs.Global.{Global}
+use Rattle.std.specs.declared.sync.Arc.{Arc}
 use Rattle.guard_names.specs.Declarations.{definitions}
 use Rattle.guard_names.specs.NamesView.{modules_of}
 use Rattle.guard_values.specs.Meanings.{Meaning}
 use Rattle.guard_values.specs.Views.{known_pair, known_definition, placed_type, home_name, place_from, visible_from}
-use Rattle.guard_values.specs.Views.{types_from, AreKnownFitting}
+use Rattle.guard_values.specs.Views.{types_from, shared_view, AreKnownFitting}
 use Rattle.guard_constraints.specs.Views.{visible_at, AreKnownSound}
 use Rattle.guard_schema.specs.declared.progress.Progress.{Progress}
 use Rattle.guard_schema.specs.Known.{Built, built_at, governed, governed_value, type_alone, visible, meant}
@@ -26,7 +27,8 @@ use Rattle.guard_schema.specs.Views.{built_in, known_view}
 
 -- ---- at one place
 
-value_there : (t : Ty) (v : Option Value) → governed_value (type_view t) (option_map value_view v) ≡ known_pair (Some t)
+value_there : (t : Ty) (v : Option (Arc Value Global)) → governed_value (type_view t) (option_map shared_view v)
+    ≡ known_pair (Some t)
     (Some v)
 value_there t None = refl
 value_there t (Some v) = refl
@@ -35,14 +37,14 @@ no_value : (t : Option Ty) → None ≡ known_pair t None
 no_value None = refl
 no_value (Some t) = refl
 
-pub governed_at : (ts : List Ty) (vs : List (Option Value)) (place : ℕ)
+pub governed_at : (ts : List Ty) (vs : List (Option (Arc Value Global))) (place : ℕ)
     → governed (slice_get (paired ts vs) place) ≡ known_pair (slice_get ts place) (slice_get vs place)
 governed_at [] vs place = refl
 governed_at (t ∷ ts) [] place = no_value (slice_get (t ∷ ts) place)
 governed_at (t ∷ ts) (v ∷ vs) zero = value_there t v
 governed_at (t ∷ ts) (v ∷ vs) (suc place) = governed_at ts vs place
 
-type_there : (ts : List Ty) (vs : List (Option Value)) (place : ℕ) → length vs ≡ length ts
+type_there : (ts : List Ty) (vs : List (Option (Arc Value Global))) (place : ℕ) → length vs ≡ length ts
     → type_alone (slice_get (paired ts vs) place) ≡ option_map type_view (slice_get ts place)
 type_there [] vs place e = refl
 type_there (t ∷ ts) [] place e = absurd (omega (arith, e))

@@ -11,6 +11,8 @@ use Rattle.guard_model.specs.AbstractType.{AbstractType}
 use Rattle.guard_model.specs.TypeView.{type_view}
 use Rattle.guard_model.specs.declared.ty.Ty.{Ty}
 use Rattle.guard_model.specs.declared.value.Value.{Value}
+use Rattle.std.specs.Global.{Global}
+use Rattle.std.specs.declared.sync.Arc.{Arc}
 use Rattle.guard_syntax.specs.ModuleViews.{module_view, assignment_view}
 use Rattle.guard_syntax.specs.Trees.{WrittenModule}
 use Rattle.guard_syntax.specs.declared.tree.Assignment.{Assignment}
@@ -90,7 +92,7 @@ module _ (place : ℕ → Option ℕ) where
 
 -- ---- types by their places
 
-abbrev taken : Option Ty → Option (Option Value) → Option AbstractType
+abbrev taken : Option Ty → Option (Option (Arc Value Global)) → Option AbstractType
 taken None v = None
 taken (Some t) None = None
 taken (Some t) (Some None) = Some (type_view t)
@@ -104,23 +106,23 @@ type_there : (t : Option Ty) → taken t (Some None) ≡ option_map type_view t
 type_there None = refl
 type_there (Some t) = refl
 
-value_there : (t : Option Ty) (v : Value) → taken t (Some (Some v)) ≡ None
+value_there : (t : Option Ty) (v : Arc Value Global) → taken t (Some (Some v)) ≡ None
 value_there None v = refl
 value_there (Some t) v = refl
 
-first_there : (t : Ty) (v : Option Value) → assigned_type (Some (built_view t v)) ≡ taken (Some t) (Some v)
+first_there : (t : Ty) (v : Option (Arc Value Global)) → assigned_type (Some (built_view t v)) ≡ taken (Some t) (Some v)
 first_there t None = refl
 first_there t (Some v) = refl
 
-at_place : (ts : List Ty) (vs : List (Option Value)) (p : ℕ)
+at_place : (ts : List Ty) (vs : List (Option (Arc Value Global))) (p : ℕ)
     → assigned_type (slice_get (paired ts vs) p) ≡ taken (slice_get ts p) (slice_get vs p)
 at_place [] vs p = refl
 at_place (t ∷ ts) [] p = sym (nothing_there (slice_get (t ∷ ts) p))
 at_place (t ∷ ts) (v ∷ vs) zero = first_there t v
 at_place (t ∷ ts) (v ∷ vs) (suc p) = at_place ts vs p
 
-module _ (order : List ℕ) (ts : List Ty) (vs : List (Option Value)) where
-  kept : (p : ℕ) (v : Option (Option Value)) → option_map type_view
+module _ (order : List ℕ) (ts : List Ty) (vs : List (Option (Arc Value Global))) where
+  kept : (p : ℕ) (v : Option (Option (Arc Value Global))) → option_map type_view
       (option_and_then (slice_get ts) (unvalued p v)) ≡ taken (slice_get ts p) v
   kept p None = sym (nothing_there (slice_get ts p))
   kept p (Some None) = sym (type_there (slice_get ts p))

@@ -13,7 +13,8 @@ use Rattle.guard_model.specs.TypeView.{type_view}
 use Rattle.guard_model.specs.declared.ty.Ty.{Ty}
 use Rattle.guard_schema.specs.Entries.{Entry, looked_up, first_named, entry_if, place_named}
 use Rattle.guard_schema.specs.Schemas.{AbstractSchema}
-use Rattle.guard_schema.specs.Views.{found_in, place_in}
+use Rattle.guard_schema.specs.Views.{entry_view, found_in, place_in}
+use Rattle.guard_schema.specs.declared.build.NamedDefinition.{NamedDefinition}
 use Rattle.guard_schema.specs.declared.index.TypeIndex.{TypeIndex}
 
 or_none : {X : Type 0} (o : Option X) → option_or o None ≡ o
@@ -142,7 +143,7 @@ one_named : (a b : Bool) (p : Option ℕ) → cond (a && b) (Some p) None ≡ co
 one_named true b p = refl
 one_named false b p = refl
 
-pub first_more : (home name : List ℕ) (es : List Entry) (e : Entry)
+first_more : (home name : List ℕ) (es : List Entry) (e : Entry)
     → first_named home name (es ++ e ∷ []) ≡ option_or (first_named home name es) (entry_if home name e)
 first_more home name [] e = one_named (bytes_eq home e.home) (bytes_eq name e.name) e.place
 first_more home name (d ∷ ds) e =
@@ -153,9 +154,17 @@ first_more home name (d ∷ ds) e =
       | false ↦ first_more home name ds e
     ]
 
-pub taken_is : {A B : Type 0} (f : A → B) (xs : List A) (i : ℕ) (x : A) → i < length xs → x ≡ get_or xs i x
-    → map f (take (i + 1) xs) ≡ map f (take i xs) ++ f x ∷ []
-taken_is f xs i x lt is = map_more f xs i x lt ∙ ap (λ y. map f (take i xs) ++ f y ∷ []) (sym is)
+-- as a loop reads definitions
+pub found_more : (definitions : List NamedDefinition) (i : ℕ) (d : NamedDefinition) → i < length definitions
+    → (home name : List ℕ) (before after : Option (Option ℕ))
+    → before ≡ first_named home name (map entry_view (take i definitions))
+    → after ≡ option_or before (entry_if home name (entry_view (get_or definitions i d)))
+    → after ≡ first_named home name (map entry_view (take (i + 1) definitions))
+found_more definitions i d lt home name before after so_far next =
+    let one = entry_view (get_or definitions i d) in
+    next ∙ ap (λ (o : Option (Option ℕ)). option_or o (entry_if home name one)) so_far
+    ∙ sym (first_more home name (map entry_view (take i definitions)) one)
+    ∙ ap (λ (es : List Entry). first_named home name es) (sym (map_more entry_view definitions i d lt))
 
 -- ---- what a schema finds by an index
 

@@ -4,9 +4,8 @@ use Rattle.std.proofs.Common.{◌≡◌, ℕ, List, [], ◌∷◌, ◌++◌, tak
 use Rattle.std.proofs.Common.{◌∙◌, append_assoc}
 use Rattle.std.proofs.lemmas.List.{append-nil}
 use Rattle.guard_model.proofs.Results.{same_Ok, same_Err}
-use Rattle.guard_model.specs.declared.site.Site.{Site}
 use Rattle.guard_model.specs.AbstractType as type
-use Rattle.guard_model.specs.AbstractType.{AbstractType, AbstractKind, Components, type_of}
+use Rattle.guard_model.specs.AbstractType.{AbstractType, AbstractKind, Components, Constraints, type_of}
 use Rattle.guard_model.specs.Counts.{component_count}
 use Rattle.guard_model.specs.TypeView.{OneComponent, components_of}
 use Rattle.guard_syntax.specs.declared.tree.Collection.{Collection}
@@ -19,15 +18,17 @@ use Rattle.guard_tagging.specs.Types.{structure_kind, of_kind, presence_of, join
 use Rattle.guard_constraints.specs.Visible.{Visible}
 use Rattle.guard_schema.specs.Outcomes.{Is, Then}
 use Rattle.guard_schema.specs.Faults.{AbstractFault, Outcome}
-use Rattle.guard_schema.specs.Finishing.{put_before, site_of_type, constraint_before, count_of_meant, ConstrainsBefore}
-use Rattle.guard_schema.specs.Finishing.{Constrains, FinishesComponent, FillsPresence, Finishes, FinishesKind, Fills}
-use Rattle.guard_schema.specs.Finishing.{FillsFrom, FillsFromBase, FillsOthers}
-use Rattle.guard_schema.specs.inside.InTurn.{Filling, listed, taken_over, FillsAll, FillsNext, ListInTurn, ElementInTurn}
+use Rattle.guard_schema.specs.Finishing.{put_before, count_of_meant, Adds, ConstrainsBefore, FinishesComponent}
+use Rattle.guard_schema.specs.Finishing.{FillsPresence, Finishes, FinishesKind, Fills, FillsFrom, FillsFromBase}
+use Rattle.guard_schema.specs.Finishing.{FillsOthers}
+use Rattle.guard_schema.specs.inside.InTurn.{Filling, taken_over, FillsAll, FillsNext, ListInTurn, ElementInTurn}
 use Rattle.guard_schema.specs.inside.InTurn.{FinishesInTurn, KindInTurn, FillsInTurn, FromInTurn, FromBaseInTurn}
 use Rattle.guard_schema.specs.inside.InTurn.{OthersInTurn}
 use Rattle.guard_schema.proofs.Turns.Outcomes.{flattened}
-use Rattle.guard_schema.proofs.Filled.BareTypes.{IsBare, IsBareKind, AreBare, IsTaken, IsTakenBase, AreBareOthers}
-use Rattle.guard_schema.proofs.Filled.BareTypes.{taken_counted}
+use Rattle.guard_schema.specs.inside.Ready.{listed, constraints_on, IsMadeUp, IsMadeUpBase, AreMadeUp, IsPutIn}
+use Rattle.guard_schema.specs.inside.Ready.{IsPutInBase}
+use Rattle.guard_schema.specs.inside.Ready.{AreMadeUpOthers}
+use Rattle.guard_schema.proofs.Filled.ReadyTypes.{taken_counted}
 
 -- a first step that leads to another one
 module _ {A B F : Type 0} (First Other : Result A F → Type 0) (Next : A → Result B F → Type 0)
@@ -38,14 +39,14 @@ module _ {A B F : Type 0} (First Other : Result A F → Type 0) (Next : A → Re
 
 -- ---- lists of components
 
-abbrev filling : List OneComponent → List OneComponent → Filling
+abbrev pub filling : List OneComponent → List OneComponent → Filling
 filling done left = record { done = done; left = left }
 
 components_listed : (cs : Components) → components_of (listed cs) ≡ cs
 components_listed type.no_components = refl
 components_listed (type.component name t presence cs) = ap (type.component name t presence) (components_listed cs)
 
-listed_join : (xs ys : Components) → listed (join xs ys) ≡ listed xs ++ listed ys
+pub listed_join : (xs ys : Components) → listed (join xs ys) ≡ listed xs ++ listed ys
 listed_join type.no_components ys = refl
 listed_join (type.component name t presence xs) ys =
     ap (λ zs. record { name = name; ty = t; presence = presence } ∷ zs) (listed_join xs ys)
@@ -69,11 +70,11 @@ moved_all cs done after =
 -- ---- from those that are left to those that are finished: what a list makes of its bare components, where others are
 -- left after them
 
-abbrev Filled : (Outcome Components → Type 0) → List OneComponent → List OneComponent → Outcome Filling → Type 0
+abbrev pub Filled : (Outcome Components → Type 0) → List OneComponent → List OneComponent → Outcome Filling → Type 0
 Filled Good done after (Ok f) = (parts : Components) × Good (Ok parts) × (f ≡ filling (done ++ listed parts) after)
 Filled Good done after (Err e) = Good (Err e)
 
-abbrev Fitting : (Filling → Outcome Filling → Type 0) → (Outcome Components → Type 0) → Components → Type 0
+abbrev pub Fitting : (Filling → Outcome Filling → Type 0) → (Outcome Components → Type 0) → Components → Type 0
 Fitting Fill Good bare = (done after : List OneComponent) (answer : Outcome Filling)
     → Fill (filling done (listed bare ++ after)) answer → Filled Good done after answer
 
@@ -129,38 +130,38 @@ element_filled collection.Set Finish Good bare go answer h =
 -- ---- types
 
 module _ (names : Visible) where
-  one_led : (site : Site) (Finish Good : AbstractType → Outcome AbstractType → Type 0) (presence : WrittenPresence)
+  one_led : (Finish Good : AbstractType → Outcome AbstractType → Type 0) (presence : WrittenPresence)
       (name : List ℕ) (bare : AbstractType) → ((r : Outcome AbstractType) → Finish bare r → Good bare r)
-      → (answer : Outcome OneComponent) → FinishesComponent names site Finish presence name bare answer
-      → FinishesComponent names site Good presence name bare answer
-  one_led site Finish Good presence name bare go answer h =
-      first_led (Finish bare) (Good bare) (λ u. Then (FillsPresence names site u presence)
+      → (answer : Outcome OneComponent) → FinishesComponent names Finish presence name bare answer
+      → FinishesComponent names Good presence name bare answer
+  one_led Finish Good presence name bare go answer h =
+      first_led (Finish bare) (Good bare) (λ u. Then (FillsPresence names u presence)
       (λ p. Is (record { name = name; ty = u; presence = p }))) go answer h
 
-  next_flat : (site : Site) (Finish : AbstractType → Outcome AbstractType → Type 0) (presence : WrittenPresence)
+  next_flat : (Finish : AbstractType → Outcome AbstractType → Type 0) (presence : WrittenPresence)
       (done left : List OneComponent) (c : OneComponent) (Rest : Filling → Outcome Filling → Type 0)
       (answer : Outcome Filling)
-      → Then (FillsNext names site Finish presence done (c ∷ left)) Rest answer
-      → Then (FinishesComponent names site Finish presence c.name c.ty)
+      → Then (FillsNext names Finish presence done (c ∷ left)) Rest answer
+      → Then (FinishesComponent names Finish presence c.name c.ty)
       (λ one. Rest (filling (done ++ one ∷ []) left)) answer
-  next_flat site Finish presence done left c Rest answer h =
-      flattened (FinishesComponent names site Finish presence c.name c.ty)
+  next_flat Finish presence done left c Rest answer h =
+      flattened (FinishesComponent names Finish presence c.name c.ty)
       (λ (one : OneComponent). filling (done ++ one ∷ []) left) Rest answer h
 
-  abbrev GoodNext : Site → (AbstractType → Outcome AbstractType → Type 0) → WrittenPresence → List ℕ → AbstractType
+  abbrev GoodNext : (AbstractType → Outcome AbstractType → Type 0) → WrittenPresence → List ℕ → AbstractType
       → (Outcome Components → Type 0) → Outcome Components → Type 0
-  GoodNext site Finish presence name u Good =
-      Then (FinishesComponent names site Finish presence name u)
+  GoodNext Finish presence name u Good =
+      Then (FinishesComponent names Finish presence name u)
       (λ one. Then Good (λ others. Is (put_before one others)))
 
   -- one component, and then the others
-  module _ (site : Site) (Finish Finish' : AbstractType → Outcome AbstractType → Type 0) (presence : WrittenPresence)
+  module _ (Finish Finish' : AbstractType → Outcome AbstractType → Type 0) (presence : WrittenPresence)
       (name : List ℕ) (u : AbstractType) (go : (r : Outcome AbstractType) → Finish u r → Finish' u r)
       (Rest : Filling → Outcome Filling → Type 0) (Good : Outcome Components → Type 0) (rest : Components)
       (fits : Fitting Rest Good rest) (done after : List OneComponent) where
-    then_rest : (one : OneComponent) → FinishesComponent names site Finish' presence name u (Ok one)
+    then_rest : (one : OneComponent) → FinishesComponent names Finish' presence name u (Ok one)
         → (answer : Outcome Filling) → Filled Good (done ++ one ∷ []) after answer
-        → Filled (GoodNext site Finish' presence name u Good) done after answer
+        → Filled (GoodNext Finish' presence name u Good) done after answer
     then_rest one h (Ok f) (parts, good, e) = (
       put_before one parts,
       inl (one, h, inl (parts, good, refl)),
@@ -170,20 +171,20 @@ module _ (names : Visible) where
     then_rest one h (Err f) good = inl (one, h, inr (f, good, refl))
 
     next_filled : (p : type.AbstractPresence) (answer : Outcome Filling)
-        → Then (FillsNext names site Finish presence done
+        → Then (FillsNext names Finish presence done
         (record { name = name; ty = u; presence = p } ∷ (listed rest ++ after))) Rest answer
-        → Filled (GoodNext site Finish' presence name u Good) done after answer
-    next_filled p answer h = by (next_flat site Finish presence done (listed rest ++ after)
+        → Filled (GoodNext Finish' presence name u Good) done after answer
+    next_filled p answer h = by (next_flat Finish presence done (listed rest ++ after)
         (record { name = name; ty = u; presence = p }) Rest answer h)
       where
-        by : Then (FinishesComponent names site Finish presence name u)
+        by : Then (FinishesComponent names Finish presence name u)
             (λ one. Rest (filling (done ++ one ∷ []) (listed rest ++ after))) answer
-            → Filled (GoodNext site Finish' presence name u Good) done after answer
-        by (inl (one, i, j)) = then_rest one (one_led site Finish Finish' presence name u go (Ok one) i) answer
+            → Filled (GoodNext Finish' presence name u Good) done after answer
+        by (inl (one, i, j)) = then_rest one (one_led Finish Finish' presence name u go (Ok one) i) answer
             (fits (done ++ one ∷ []) after answer j)
         by (inr (f, i, e)) =
-            subst (λ (r : Outcome Filling). Filled (GoodNext site Finish' presence name u Good) done after r) (sym e)
-            (inr (f, one_led site Finish Finish' presence name u go (Err f) i, refl))
+            subst (λ (r : Outcome Filling). Filled (GoodNext Finish' presence name u Good) done after r) (sym e)
+            (inr (f, one_led Finish Finish' presence name u go (Err f) i, refl))
 
   -- what a list says of its bare components, where more is said of these
   module _ (Good Better : Outcome Components → Type 0) (go : (r : Outcome Components) → Good r → Better r)
@@ -222,41 +223,42 @@ module _ (names : Visible) where
         (inr (f, from_fits done (listed rest ++ after) (Err f) i, refl))
 
   mutual
-    pub type_filled : (w : WrittenType) (bare : AbstractType) → IsBare names w bare → (answer : Outcome AbstractType)
+    pub type_filled : (w : WrittenType) (bare : AbstractType) → IsMadeUp names w bare → (answer : Outcome AbstractType)
         → FinishesInTurn names w bare answer → Finishes names w bare answer
     type_filled (type_node site tags base cs) (type_of ts kind cons) b answer h =
         first_led (KindInTurn names base kind) (FinishesKind names base kind)
-        (λ finished. Then (ConstrainsBefore names site (constraint_before base) (type_of ts finished cons))
-        (Constrains names site cs)) (kind_filled base kind b) answer h
+        (λ finished. Then (ConstrainsBefore names base (type_of ts finished cons)) (Adds names cs))
+        (kind_filled base kind cons b.1) answer h
 
-    kind_filled : (base : WrittenBase) (kind : AbstractKind) → IsBareKind names base kind
+    pub kind_filled : (base : WrittenBase) (kind : AbstractKind) (cons : Constraints)
+        → IsMadeUpBase names base kind cons
         → (answer : Outcome AbstractKind) → KindInTurn names base kind answer → FinishesKind names base kind answer
-    kind_filled (plain p) kind b answer h = h
-    kind_filled (numbers ns) kind b answer h = h
-    kind_filled (named_bits ns) kind b answer h = h
-    kind_filled (enumerated items) kind b answer h = h
-    kind_filled (structure k cs) kind (bare, e, are) answer h = (
+    kind_filled (plain p) kind cons b answer h = h
+    kind_filled (numbers ns) kind cons b answer h = h
+    kind_filled (named_bits ns) kind cons b answer h = h
+    kind_filled (enumerated items) kind cons b answer h = h
+    kind_filled (structure k cs) kind cons (none, (bare, e, few, are)) answer h = (
       bare,
       e,
       list_filled k (FillsInTurn names cs) (Fills names cs bare) bare (components_filled cs bare are) answer
           (subst (λ (x : AbstractKind). ListInTurn (FillsInTurn names cs) x answer) e h),
     )
-    kind_filled (choice others) kind (bare, e, are) answer h = (
+    kind_filled (choice others) kind cons (none, (bare, e, few, are)) answer h = (
       bare,
       e,
       wrapped (OthersInTurn names others) (FillsOthers names others bare) bare
           (others_filled others bare are) type.choice answer
           (subst (λ (x : AbstractKind). KindInTurn names (choice others) x answer) e h),
     )
-    kind_filled (of_type k c t) kind (bare, e, is) answer h = (
+    kind_filled (of_type k c t) kind cons (none, (bare, e, is)) answer h = (
       bare,
       e,
       element_filled k (FinishesInTurn names t) (Finishes names t) bare (type_filled t bare is) answer
           (subst (λ (x : AbstractKind). ElementInTurn (FinishesInTurn names t) x answer) e h),
     )
-    kind_filled (named_type site name) kind b answer h = h
+    kind_filled (named_type site name) kind cons b answer h = h
 
-    components_filled : (cs : WrittenComponents) (bare : Components) → AreBare names cs bare
+    pub components_filled : (cs : WrittenComponents) (bare : Components) → AreMadeUp names cs bare
         → Fitting (FillsInTurn names cs) (Fills names cs bare) bare
     components_filled no_components bare e done after answer h =
         subst (λ (r : Outcome Filling). Filled (Fills names no_components bare) done after r) (sym h) (
@@ -266,12 +268,12 @@ module _ (names : Visible) where
               ∙ ap (λ (d : List OneComponent). filling d after) (sym (append-nil done)),
         )
     components_filled (component site name t presence cs) bare (u, rest, e, is, are) done after answer h =
-        filled_led (GoodNext (site_of_type t) (Finishes names t) presence name u (Fills names cs rest))
+        filled_led (GoodNext (Finishes names t) presence name u (Fills names cs rest))
         (Fills names (component site name t presence cs) bare) (λ r good. (u, rest, e, good)) done after answer
-        (next_filled (site_of_type t) (FinishesInTurn names t) (Finishes names t) presence name u (type_filled t u is)
+        (next_filled (FinishesInTurn names t) (Finishes names t) presence name u (type_filled t u is)
         (FillsInTurn names cs) (Fills names cs rest) rest (components_filled cs rest are) done after
         (presence_of presence) answer
-        (subst (λ (b : Components). Then (FillsNext names (site_of_type t) (FinishesInTurn names t) presence done
+        (subst (λ (b : Components). Then (FillsNext names (FinishesInTurn names t) presence done
         (listed b ++ after)) (FillsInTurn names cs) answer) e h))
     components_filled (components_from site t cs) bare (taken, rest, e, from, are) done after answer h =
         filled_led (Then (FillsFrom names t taken)
@@ -286,11 +288,11 @@ module _ (names : Visible) where
         ∙ ap (λ (x : List OneComponent). x ++ after) (listed_join taken rest)
         ∙ append_assoc (listed taken) (listed rest) after) h))
 
-    from_filled : (t : WrittenType) (taken : Components) → IsTaken names t taken
+    pub from_filled : (t : WrittenType) (taken : Components) → IsPutIn names t taken
         → Fitting (FromInTurn names t) (FillsFrom names t taken) taken
     from_filled (type_node site tags base cs) taken h = from_base_filled base taken h
 
-    from_base_filled : (base : WrittenBase) (taken : Components) → IsTakenBase names base taken
+    pub from_base_filled : (base : WrittenBase) (taken : Components) → IsPutInBase names base taken
         → Fitting (FromBaseInTurn names base) (FillsFromBase names base taken) taken
     from_base_filled (plain p) taken h done after answer x = absurd h
     from_base_filled (numbers ns) taken h done after answer x = absurd h
@@ -307,7 +309,7 @@ module _ (names : Visible) where
               (ap count_of_meant is ∙ sym (ap component_count same)) ∙ moved_all taken done after,
         )
 
-    others_filled : (others : WrittenAlternatives) (bare : Components) → AreBareOthers names others bare
+    pub others_filled : (others : WrittenAlternatives) (bare : Components) → AreMadeUpOthers names others bare
         → Fitting (OthersInTurn names others) (FillsOthers names others bare) bare
     others_filled no_alternatives bare e done after answer h =
         subst (λ (r : Outcome Filling). Filled (FillsOthers names no_alternatives bare) done after r) (sym h) (
@@ -317,10 +319,10 @@ module _ (names : Visible) where
               ∙ ap (λ (d : List OneComponent). filling d after) (sym (append-nil done)),
         )
     others_filled (alternative site name t others) bare (u, rest, e, is, are) done after answer h =
-        filled_led (GoodNext (site_of_type t) (Finishes names t) mandatory name u (FillsOthers names others rest))
+        filled_led (GoodNext (Finishes names t) mandatory name u (FillsOthers names others rest))
         (FillsOthers names (alternative site name t others) bare) (λ r good. (u, rest, e, good)) done after answer
-        (next_filled (site_of_type t) (FinishesInTurn names t) (Finishes names t) mandatory name u (type_filled t u is)
+        (next_filled (FinishesInTurn names t) (Finishes names t) mandatory name u (type_filled t u is)
         (OthersInTurn names others) (FillsOthers names others rest) rest
         (others_filled others rest are) done after type.mandatory answer
-        (subst (λ (b : Components). Then (FillsNext names (site_of_type t) (FinishesInTurn names t) mandatory done
+        (subst (λ (b : Components). Then (FillsNext names (FinishesInTurn names t) mandatory done
         (listed b ++ after)) (OthersInTurn names others) answer) e h))

@@ -9,9 +9,11 @@ use Rattle.guard_model.specs.declared.ty.Kind.TheViews.{out-Ty}
 use Rattle.guard_model.proofs.TypeViews.{type_view_is}
 use Rattle.guard_model.specs.declared.ty.Ty.{Ty}
 use Rattle.guard_model.specs.declared.value.Value.{Value}
+use Rattle.std.specs.Global.{Global}
+use Rattle.std.specs.declared.sync.Arc.{Arc}
 use Rattle.guard_schema.specs.Counting.{all_held, held_by}
 use Rattle.guard_schema.specs.Finishing.{add, with_constraint}
-use Rattle.guard_schema.specs.inside.InTurn.{listed}
+use Rattle.guard_schema.specs.inside.Ready.{listed}
 use Rattle.guard_schema.specs.Known.{Built}
 use Rattle.guard_schema.specs.inside.Pairs.{built_view, paired}
 
@@ -32,7 +34,8 @@ pub listed_of : (cs : List OneComponent) → listed (components_of cs) ≡ cs
 listed_of [] = refl
 listed_of (c ∷ cs) = ap (λ others. c ∷ others) (listed_of cs)
 
-pub paired_more : (ts : List Ty) (vs : List (Option Value)) (t : Ty) (v : Option Value) → length vs ≡ length ts
+pub paired_more : (ts : List Ty) (vs : List (Option (Arc Value Global))) (t : Ty) (v : Option (Arc Value Global))
+    → length vs ≡ length ts
     → paired (ts ++ t ∷ []) (vs ++ v ∷ []) ≡ paired ts vs ++ built_view t v ∷ []
 paired_more [] [] t v e = refl
 paired_more [] (w ∷ vs) t v e = absurd (omega (arith, e))

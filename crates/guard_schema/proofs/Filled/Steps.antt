@@ -2,7 +2,7 @@
 use Rattle.std.proofs.Common.{◌≡◌, ℕ, List, [], map, length, Option, Some, None, Result, Ok, Err, inl, inr, refl, sym}
 use Rattle.std.proofs.Common.{ap, subst, ◌∙◌}
 use Rattle.std.specs.Global.{Box, Vec}
-use Rattle.std.specs.Prelude.{string_bytes}
+use Rattle.std.specs.Arc.{arc_str_bytes}
 use Rattle.guard_model.proofs.Components.{component_count_view}
 use Rattle.guard_model.proofs.Results.{same_Ok}
 use Rattle.guard_model.proofs.TypeViews.{type_view_is, component_view_is}
@@ -43,11 +43,13 @@ use Rattle.guard_constraints.specs.Visible.{Visible}
 use Rattle.guard_schema.specs.declared.fault.SchemaFault.{SchemaFault}
 use Rattle.guard_schema.specs.Outcomes.{RefusesBy, Answers}
 use Rattle.guard_schema.specs.Faults.{AbstractFault, Outcome, named}
-use Rattle.guard_schema.specs.Finishing.{constraint_before, site_of_type, ConstrainsBefore, Constrains}
-use Rattle.guard_schema.specs.inside.InTurn.{Filling, listed, ConstrainsWritten, FinishesInTurn, KindInTurn}
+use Rattle.guard_schema.specs.Finishing.{Adds, ConstrainsBefore}
+use Rattle.guard_schema.specs.LongValues.{long_in_all, first_long}
+use Rattle.guard_schema.specs.inside.InTurn.{Filling, ConstrainsWritten, FinishesInTurn, KindInTurn}
 use Rattle.guard_schema.specs.inside.InTurn.{ElementInTurn, PartsInTurn, OneInTurn, WithPresence, FillsAll, FillsOne}
 use Rattle.guard_schema.specs.inside.InTurn.{FromBaseInTurn, EntryInTurn, ListInTurn, ChoiceInTurn, FillsInTurn}
 use Rattle.guard_schema.specs.inside.InTurn.{OthersInTurn}
+use Rattle.guard_schema.specs.inside.Ready.{listed, IsReady, IsReadyBase, IsPart, IsWrittenPart}
 use Rattle.guard_schema.proofs.Filled.Lists.{listed_of}
 use Rattle.guard_schema.specs.declared.finishing.Filling as code
 use Rattle.guard_schema.specs.Views.{filling_view}
@@ -61,31 +63,44 @@ pub type_is : (tree : TypeTree) → written.type_view tree ≡ type_node (out-Ty
 type_is tree = fold_out-TypeTree WrittenBase WrittenComponentForm WrittenAlternative WrittenComponent WrittenType
     base_step component_form_step alternative_step component_step type_step tree
 
-pub site_is : (tree : TypeTree) → site_of_type (written.type_view tree) ≡ (out-TypeTree tree).site
-site_is tree = ap site_of_type (type_is tree)
-
 -- ---- the constraints of a type that is written so
 
 module _ (names : Visible) (tree : TypeTree) (t : AbstractType) where
   pub before_refused : (fault : Option AbstractFault)
-      → RefusesBy fault (ConstrainsBefore names (out-TypeTree tree).site
-      (constraint_before (written.base_view (out-TypeTree tree).base)) t)
+      → RefusesBy fault (ConstrainsBefore names (written.base_view (out-TypeTree tree).base) t)
       → RefusesBy fault (ConstrainsWritten names (written.type_view tree) t)
   before_refused None h = tt
   before_refused (Some f) h = subst (λ (w : WrittenType). ConstrainsWritten names w t (Err f)) (sym (type_is tree))
       (inr (f, h, refl))
 
-  pub then_after : (u : AbstractType) → ConstrainsBefore names (out-TypeTree tree).site
-      (constraint_before (written.base_view (out-TypeTree tree).base)) t (Ok u)
+  pub then_after : (u : AbstractType) → ConstrainsBefore names (written.base_view (out-TypeTree tree).base) t (Ok u)
       → (result : Result Ty SchemaFault) → Answers type_view named result
-      (Constrains names (out-TypeTree tree).site (map sets.constraint_view (out-TypeTree tree).cons.items) u)
+      (Adds names (map sets.constraint_view (out-TypeTree tree).cons.items) u)
       → Answers type_view named result (ConstrainsWritten names (written.type_view tree) t)
   then_after u h result k =
       subst (λ (w : WrittenType). Answers type_view named result (ConstrainsWritten names w t)) (sym (type_is tree))
-      (next_answers (ConstrainsBefore names (out-TypeTree tree).site
-      (constraint_before (written.base_view (out-TypeTree tree).base)) t)
-      (λ (v : AbstractType). Constrains names (out-TypeTree tree).site
-      (map sets.constraint_view (out-TypeTree tree).cons.items) v) type_view named u h result k)
+      (next_answers (ConstrainsBefore names (written.base_view (out-TypeTree tree).base) t)
+      (λ (v : AbstractType). Adds names (map sets.constraint_view (out-TypeTree tree).cons.items) v) type_view named u h
+      result k)
+
+  pub part_there : IsWrittenPart (written.type_view tree) t → IsPart (written.base_view (out-TypeTree tree).base) t
+  part_there h = subst (λ (w : WrittenType). IsWrittenPart w t) (type_is tree) h
+
+  pub part_written : IsPart (written.base_view (out-TypeTree tree).base) t → IsWrittenPart (written.type_view tree) t
+  part_written h = subst (λ (w : WrittenType). IsWrittenPart w t) (sym (type_is tree)) h
+
+  pub ready_there : IsReady names (written.type_view tree) t
+      → IsReadyBase names (written.base_view (out-TypeTree tree).base) t
+  ready_there h = subst (λ (w : WrittenType). IsReady names w t) (type_is tree) h
+
+-- the values in its own constraints
+pub constraints_there : (ty : Ty) (found expected : Option Site) → found ≡ long_in_all (type_view ty)
+    (constraints_of (map model.constraint_view (out-Ty ty).cons.items)) → found ≡ expected
+    → first_long (type_view ty) ≡ expected
+constraints_there ty found expected h e =
+    let all = constraints_of (map model.constraint_view (out-Ty ty).cons.items) in
+    ap first_long (type_view_is ty) ∙ ap (λ (t : AbstractType). long_in_all t all) (sym (type_view_is ty))
+    ∙ sym h ∙ e
 
 -- ---- its parts, and then its constraints
 
@@ -161,14 +176,14 @@ module _ (names : Visible) (base : WrittenBase) (bare : Ty) where
 
 -- ---- its components or alternatives
 
-structure_is : (k : Collection) (comps : Vec CompTree) → written.base_view (base_form.Structure k comps)
+pub structure_is : (k : Collection) (comps : Vec CompTree) → written.base_view (base_form.Structure k comps)
     ≡ trees.structure k (trees.components_of (map written.component_view comps.items))
 structure_is k comps =
     ap written.base_view (sym (rolls-Structure k comps))
     ∙ fold-roll-BaseTree WrittenBase WrittenComponentForm WrittenAlternative WrittenComponent WrittenType base_step
     component_form_step alternative_step component_step type_step (BaseTree-F.Structure k comps)
 
-choice_is : (others : Vec AlternativeTree) → written.base_view (base_form.Choice others)
+pub choice_is : (others : Vec AlternativeTree) → written.base_view (base_form.Choice others)
     ≡ trees.choice (trees.alternatives_of (map written.alternative_view others.items))
 choice_is others =
     ap written.base_view (sym (rolls-Choice others))
@@ -201,7 +216,7 @@ choice_finished names base others is inside same kind result h =
 
 -- ---- the type of its elements
 
-of_is : (k : Collection) (c : Option OfConsTree) (element : Box TypeTree)
+pub of_is : (k : Collection) (c : Option OfConsTree) (element : Box TypeTree)
     → written.base_view (base_form.Of k c element) ≡ of_type k (written.of_constraint_view c)
     (written.type_view element.value)
 of_is k c element =
@@ -263,39 +278,36 @@ module _ (Fill : Filling → Outcome Filling → Type 0) (bare : List OneCompone
 
 -- ---- a component
 
-pub one_refused : (names : Visible) (site : Site) (Finish : AbstractType → Outcome AbstractType → Type 0)
+pub one_refused : (names : Visible) (Finish : AbstractType → Outcome AbstractType → Type 0)
     (presence : WrittenPresence) (c : OneComponent) (f : Filling)
-    → (fault : Option AbstractFault) → RefusesBy fault (OneInTurn names site Finish presence c)
-    → RefusesBy fault (FillsOne names site Finish presence c f)
-one_refused names site Finish presence c f None h = tt
-one_refused names site Finish presence c f (Some g) h = inr (g, h, refl)
+    → (fault : Option AbstractFault) → RefusesBy fault (OneInTurn names Finish presence c)
+    → RefusesBy fault (FillsOne names Finish presence c f)
+one_refused names Finish presence c f None h = tt
+one_refused names Finish presence c f (Some g) h = inr (g, h, refl)
 
-module _ (names : Visible) (tree : TypeTree) (presence : WrittenPresence) (bare : Comp) where
+module _ (names : Visible) (w : WrittenType) (presence : WrittenPresence) (bare : Comp) where
+  pub component_ready : IsReady names w (component_view bare).ty → IsReady names w (type_view (out-Comp bare).ty)
+  component_ready h = subst (λ (c : OneComponent). IsReady names w c.ty) (component_view_is bare) h
+
   pub component_refused : (fault : Option AbstractFault)
-      → RefusesBy fault (FinishesInTurn names (written.type_view tree) (type_view (out-Comp bare).ty))
-      → RefusesBy fault (OneInTurn names (site_of_type (written.type_view tree))
-      (FinishesInTurn names (written.type_view tree)) presence (component_view bare))
+      → RefusesBy fault (FinishesInTurn names w (type_view (out-Comp bare).ty))
+      → RefusesBy fault (OneInTurn names (FinishesInTurn names w) presence (component_view bare))
   component_refused None h = tt
   component_refused (Some f) h =
-      subst (λ (c : OneComponent). OneInTurn names (site_of_type (written.type_view tree))
-      (FinishesInTurn names (written.type_view tree)) presence c (Err f)) (sym (component_view_is bare))
-      (inr (f, h, refl))
+      subst (λ (c : OneComponent). OneInTurn names (FinishesInTurn names w) presence c (Err f))
+      (sym (component_view_is bare)) (inr (f, h, refl))
 
-  pub component_finished : (u : AbstractType)
-      → FinishesInTurn names (written.type_view tree) (type_view (out-Comp bare).ty) (Ok u)
+  pub component_finished : (u : AbstractType) → FinishesInTurn names w (type_view (out-Comp bare).ty) (Ok u)
       → (result : Result Comp SchemaFault) → Answers component_view named result
-      (WithPresence names (out-TypeTree tree).site presence (string_bytes (out-Comp bare).name) u)
-      → Answers component_view named result (OneInTurn names (site_of_type (written.type_view tree))
-      (FinishesInTurn names (written.type_view tree)) presence (component_view bare))
+      (WithPresence names presence (arc_str_bytes (out-Comp bare).name) u)
+      → Answers component_view named result (OneInTurn names (FinishesInTurn names w) presence (component_view bare))
   component_finished u h result k =
       subst (λ (c : OneComponent). Answers component_view named result
-      (OneInTurn names (site_of_type (written.type_view tree))
-      (FinishesInTurn names (written.type_view tree)) presence c)) (sym (component_view_is bare))
-      (next_answers (FinishesInTurn names (written.type_view tree) (type_view (out-Comp bare).ty))
-      (λ (v : AbstractType). WithPresence names (site_of_type (written.type_view tree)) presence
-      (string_bytes (out-Comp bare).name) v) component_view named u h result
-      (subst (λ (s : Site). Answers component_view named result
-      (WithPresence names s presence (string_bytes (out-Comp bare).name) u)) (sym (site_is tree)) k))
+      (OneInTurn names (FinishesInTurn names w) presence c)) (sym (component_view_is bare))
+      (next_answers (FinishesInTurn names w (type_view (out-Comp bare).ty))
+      (λ (v : AbstractType). WithPresence names presence (arc_str_bytes (out-Comp bare).name) v) component_view named u
+      h
+      result k)
 
 -- ---- how many components a type has
 

@@ -20,16 +20,16 @@ use Rattle.guard_tagging.proofs.Definitions.Meanings.{same_surroundings}
 use Rattle.guard_constraints.specs.Visible.{Visible}
 use Rattle.guard_schema.specs.Faults.{Outcome}
 use Rattle.guard_schema.specs.Known.{Built, types_of, visible}
-use Rattle.guard_schema.specs.Finishing.{add, with_constraint, put_before, constraint_before, site_of_type}
-use Rattle.guard_schema.specs.Finishing.{count_of_meant, count_written, count_put_in, count_within, Adds, Constrains}
-use Rattle.guard_schema.specs.Finishing.{ConstrainsByOne, ConstrainsBefore, FillsPresence, FinishesComponent, Finishes}
-use Rattle.guard_schema.specs.Finishing.{FinishesKind, Fills, FillsFrom, FillsFromBase, FillsOthers}
+use Rattle.guard_schema.specs.Finishing.{add, with_constraint, put_before, constraint_before, count_of_meant}
+use Rattle.guard_schema.specs.Finishing.{count_written, count_put_in, count_within, Adds, ConstrainsByOne}
+use Rattle.guard_schema.specs.Finishing.{ConstrainsElements, ConstrainsBefore, FillsPresence, FinishesComponent}
+use Rattle.guard_schema.specs.Finishing.{Finishes, FinishesKind, Fills, FillsFrom, FillsFromBase, FillsOthers}
 use Rattle.guard_schema.specs.Building.{HasValue}
 use Rattle.guard_schema.specs.Unfinished.{without_last, without_written, without_before, first_ones, other_ones}
 use Rattle.guard_schema.specs.Unfinished.{with_first, without_default, with_parts, with_element, unfinished}
 use Rattle.guard_schema.specs.Unfinished.{unfinished_kind, unfinished_list, unfinished_from, unfinished_from_base}
 use Rattle.guard_schema.specs.Unfinished.{unfinished_others, IsBareAgain, IsTaggedAgain}
-use Rattle.guard_schema.proofs.Filled.BareTypes.{count_join}
+use Rattle.guard_schema.proofs.Filled.ReadyTypes.{count_join}
 
 -- ---- constraints
 
@@ -63,27 +63,32 @@ module _ (names : Visible) where
   adds_off (c ∷ cs) t u (inl (v, inr (f, h, e), k)) = absurd cc
   adds_off (c ∷ cs) t u (inr (f, h, e)) = absurd cc
 
-  constrains_off : (site : Site) (cs : List WrittenConstraint) (t u : AbstractType) → Constrains names site cs t (Ok u)
-      → with_others u (without_written cs) ≡ t
-  constrains_off site [] t u e = no_change u ∙ same_Ok u t e
-  constrains_off site (c ∷ cs) t u (inl (s, h, k)) = adds_off (c ∷ cs) t u k
-  constrains_off site (c ∷ cs) t u (inr (f, h, e)) = absurd cc
-
-  by_one_off : (site : Site) (c : WrittenOfConstraint) (size : Bool) (t u : AbstractType)
-      → ConstrainsByOne names site c size t (Ok u) → with_others u without_last ≡ t
-  by_one_off site c true t u (inl (one, h, e)) =
+  by_one_off : (c : WrittenOfConstraint) (size : Bool) (t u : AbstractType)
+      → ConstrainsByOne names c size t (Ok u) → with_others u without_last ≡ t
+  by_one_off c true t u (inl (one, h, e)) =
       ap (λ (w : AbstractType). with_others w without_last)
       (same_Ok u (with_constraint t (type.at c.site (type.size one))) e) ∙ one_off t (type.at c.site (type.size one))
-  by_one_off site c true t u (inr (f, h, e)) = absurd cc
-  by_one_off site c false t u (inl (s, h, inl (one, k, e))) =
+  by_one_off c true t u (inr (f, h, e)) = absurd cc
+  by_one_off c false t u (inl (one, k, e)) =
       ap (λ (w : AbstractType). with_others w without_last) (same_Ok u (with_constraint t one) e) ∙ one_off t one
-  by_one_off site c false t u (inl (s, h, inr (f, k, e))) = absurd cc
-  by_one_off site c false t u (inr (f, h, e)) = absurd cc
+  by_one_off c false t u (inr (f, k, e)) = absurd cc
 
-  before_off : (site : Site) (c : Option WrittenOfConstraint) (t u : AbstractType)
-      → ConstrainsBefore names site c t (Ok u) → with_others u (without_before c) ≡ t
-  before_off site None t u e = no_change u ∙ same_Ok u t e
-  before_off site (Some c) t u h = by_one_off site c c.size t u h
+  elements_off : (c : Option WrittenOfConstraint) (t u : AbstractType) → ConstrainsElements names c t (Ok u)
+      → with_others u (without_before c) ≡ t
+  elements_off None t u e = no_change u ∙ same_Ok u t e
+  elements_off (Some c) t u h = by_one_off c c.size t u h
+
+  before_off : (base : WrittenBase) (t u : AbstractType) → ConstrainsBefore names base t (Ok u)
+      → with_others u (without_before (constraint_before base)) ≡ t
+  before_off (plain p) t u e = no_change u ∙ same_Ok u t e
+  before_off (numbers ns) t u e = no_change u ∙ same_Ok u t e
+  before_off (named_bits ns) t u e = no_change u ∙ same_Ok u t e
+  before_off (enumerated items) t u e = no_change u ∙ same_Ok u t e
+  before_off (structure k cs) t u e = no_change u ∙ same_Ok u t e
+  before_off (choice others) t u e = no_change u ∙ same_Ok u t e
+  before_off (of_type k c w) t u h = elements_off c t u h
+  before_off (named_type site name) t u (inl (x, short, e)) = no_change u ∙ same_Ok u t e
+  before_off (named_type site name) t u (inr (f, short, e)) = absurd cc
 
 -- ---- components
 
@@ -101,17 +106,17 @@ others_joined (type.component name t presence xs) ys zero e = absurd (omega (ari
 others_joined (type.component name t presence xs) ys (suc n) e = others_joined xs ys n (omega (arith, e))
 
 module _ (names : Visible) where
-  presence_off : (site : Site) (t : AbstractType) (presence : WrittenPresence) (p : AbstractPresence)
-      → FillsPresence names site t presence (Ok p) → without_default presence p ≡ presence_of presence
-  presence_off site t mandatory p e = same_Ok p type.mandatory e
-  presence_off site t optional p e = same_Ok p type.optional e
-  presence_off site t (default tree) p h = refl
+  presence_off : (t : AbstractType) (presence : WrittenPresence) (p : AbstractPresence)
+      → FillsPresence names t presence (Ok p) → without_default presence p ≡ presence_of presence
+  presence_off t mandatory p e = same_Ok p type.mandatory e
+  presence_off t optional p e = same_Ok p type.optional e
+  presence_off t (default tree) p h = refl
 
   -- a finished component has its name, its type by its tree, and its default is the one that is written
-  module _ (site : Site) (Finish : AbstractType → Outcome AbstractType → Type 0) (change : AbstractType → AbstractType)
+  module _ (Finish : AbstractType → Outcome AbstractType → Type 0) (change : AbstractType → AbstractType)
       (presence : WrittenPresence) (name : List ℕ) (bare : AbstractType)
       (off : (u : AbstractType) → Finish bare (Ok u) → change u ≡ bare) where
-    component_off : (one : OneComponent) → FinishesComponent names site Finish presence name bare (Ok one)
+    component_off : (one : OneComponent) → FinishesComponent names Finish presence name bare (Ok one)
         → (one.name ≡ name) × (change one.ty ≡ bare) × (without_default presence one.presence ≡ presence_of presence)
     component_off one (inl (u, h, inl (p, k, e))) =
         let same : one ≡ record { name = name; ty = u; presence = p } =
@@ -120,7 +125,7 @@ module _ (names : Visible) where
           ap (λ (c : OneComponent). change c.ty) same
               ∙ off u h,
           ap (λ (c : OneComponent). without_default presence c.presence) same
-              ∙ presence_off site u presence p k,
+              ∙ presence_off u presence p k,
         )
     component_off one (inl (u, h, inr (f, k, e))) = absurd cc
     component_off one (inr (f, h, e)) = absurd cc
@@ -196,9 +201,9 @@ module _ (names : Visible) where
     type_off (type_node site tags base cs) (type_of ts kind cons) t (inl (k, h, inl (v, b, l))) =
         unfinished_is site tags base cs t
         ∙ ap (λ (w : AbstractType). with_kind (unfinished_kind names base)
-        (with_others w (without_before (constraint_before base)))) (constrains_off names site cs v t l)
+        (with_others w (without_before (constraint_before base)))) (adds_off names cs v t l)
         ∙ ap (with_kind (unfinished_kind names base))
-        (before_off names site (constraint_before base) (type_of ts k cons) v b)
+        (before_off names base (type_of ts k cons) v b)
         ∙ ap (λ (x : AbstractKind). type_of ts x cons) (kind_off base kind k h)
     type_off (type_node site tags base cs) (type_of ts kind cons) t (inl (k, h, inr (f, b, e))) = absurd cc
     type_off (type_node site tags base cs) (type_of ts kind cons) t (inr (f, h, e)) = absurd cc
@@ -229,7 +234,7 @@ module _ (names : Visible) where
     list_off (component site name t presence cs) bare parts (u, rest, is, inl (one, h, inl (others, k, e))) =
         ap (unfinished_list names (component site name t presence cs)) (same_Ok parts (put_before one others) e)
         ∙ first_off (without_default presence) (presence_of presence) (unfinished names t) name u one
-        (component_off names (site_of_type t) (Finishes names t) (unfinished names t) presence name u
+        (component_off names (Finishes names t) (unfinished names t) presence name u
         (type_off t u) one h) rest (unfinished_list names cs) others (list_off cs rest others k)
         ∙ sym is
     list_off (component site name t presence cs) bare parts (u, rest, is, inl (one, h, inr (f, k, e))) = absurd cc
@@ -268,7 +273,7 @@ module _ (names : Visible) where
     others_off (alternative site name t others) bare parts (u, rest, is, inl (one, h, inl (more, k, e))) =
         ap (unfinished_others names (alternative site name t others)) (same_Ok parts (put_before one more) e)
         ∙ first_off (λ presence. presence) type.mandatory (unfinished names t) name u one
-        (component_off names (site_of_type t) (Finishes names t) (unfinished names t) mandatory name u
+        (component_off names (Finishes names t) (unfinished names t) mandatory name u
         (type_off t u) one h) rest (unfinished_others names others) more (others_off others rest more k)
         ∙ sym is
     others_off (alternative site name t others) bare parts (u, rest, is, inl (one, h, inr (f, k, e))) = absurd cc
@@ -287,11 +292,10 @@ tagged_again k d surroundings b under (inl (bare, tagged, inl (u, apart, inl (t,
     (same_surroundings k.modules k.order (types_of k.built) d tagged.0 surroundings tagged.1 under)
   where
     type_built : HasValue k (visible k d.home.name) d.assignment t (Ok b) → b.ty ≡ t
-    type_built (inl (u, sound, inl (v, assigned, inl (w, keeps, e)))) =
+    type_built (inl (v, assigned, inl (w, keeps, e))) =
         ap (λ (c : Built). c.ty) (same_Ok b (record { ty = t; value = v }) e)
-    type_built (inl (u, sound, inl (v, assigned, inr (f, keeps, e)))) = absurd cc
-    type_built (inl (u, sound, inr (f, assigned, e))) = absurd cc
-    type_built (inr (f, sound, e)) = absurd cc
+    type_built (inl (v, assigned, inr (f, keeps, e))) = absurd cc
+    type_built (inr (f, assigned, e)) = absurd cc
 tagged_again k d surroundings b under (inl (bare, tagged, inl (u, apart, inr (f, finished, e)))) = absurd cc
 tagged_again k d surroundings b under (inl (bare, tagged, inr (f, apart, e))) = absurd cc
 tagged_again k d surroundings b under (inr (f, tagged, e)) = absurd cc

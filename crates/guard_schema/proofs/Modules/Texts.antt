@@ -1,11 +1,13 @@
 -- Texts one after another, as a loop reads them.
 use Rattle.std.proofs.Common.{◌≡◌, ℕ, suc, ◌+◌, ◌<◌, ◌≤◌, List, [], ◌∷◌, ◌++◌, map, length, get_or, Option, Some, None}
-use Rattle.std.proofs.Common.{Ok, Err, Bor, refl, ap, subst, inl, inr}
-use Rattle.std.proofs.lemmas.List.{get_or_default}
+use Rattle.std.proofs.Common.{Ok, Err, Bor, refl, ap, subst, inl, inr, arith}
+use Rattle.std.proofs.lemmas.Bool.{leb-true}
+use Rattle.std.proofs.lemmas.List.{get_or_default, length-append}
+use Rattle.guard_model.proofs.Results.{same_Ok}
 use Rattle.guard_syntax.specs.Trees.{WrittenModule}
 use Rattle.guard_schema.specs.Outcomes.{Is, Then, RefusesBy}
 use Rattle.guard_schema.specs.Faults.{AbstractFault, Outcome}
-use Rattle.guard_schema.specs.Texts.{ReadsText, ReadsTexts}
+use Rattle.guard_schema.specs.Texts.{ReadsText, ReadsTexts, CountsTexts}
 use Rattle.guard_schema.proofs.Turns.Loops as entries
 use Rattle.guard_schema.proofs.Turns.Outcomes.{flattened}
 
@@ -72,3 +74,20 @@ module _ (texts : List (Bor (List ℕ))) where
   text_read i before d lt so_far n e tree h after more =
       next_text_at i before d lt so_far after
       (inl (tree, subst (λ m. ReadsText m (get_or texts i d).now (Ok tree)) e h, ap Ok more))
+
+-- ---- each text is one module, after those before
+
+read_count : (before : List WrittenModule) (texts : List (List ℕ)) (modules : List WrittenModule)
+    → ReadsTexts before texts (Ok modules) → length modules ≡ length before + length texts
+read_count before [] modules e = rw (same_Ok modules before e) (omega arith)
+read_count before (text ∷ texts) modules (inl (tree, first, others)) =
+    let more = read_count (before ++ tree ∷ []) texts modules others in
+    omega (arith, more, length-append before (tree ∷ []))
+read_count before (text ∷ texts) modules (inr (fault, first, e)) = absurd cc
+
+pub few_modules : (texts : List (List ℕ)) → CountsTexts texts (Ok tt) → (modules : List WrittenModule)
+    → ReadsTexts [] texts (Ok modules) → length modules ≤ 64
+few_modules texts few modules read =
+    let count = read_count [] texts modules read in
+    let at_most = leb-true (length texts) 64 few in
+    omega (arith, count, at_most)

@@ -92,7 +92,8 @@ decided_under : (surroundings : Surroundings) (before : ℕ) (tree : WrittenType
     → IsDecided (HasTagsUnder surroundings before tree)
 decided_under surroundings before tree = record { one = λ a b h k. h.1 ∙ sym k.1; alone = alone; first = first }
   where
-    first : (f g : AbstractFault) → HasTagsUnder surroundings before tree (Err f) → HasTagsUnder surroundings before tree (Err g)
+    first : (f g : AbstractFault) → HasTagsUnder surroundings before tree (Err f)
+        → HasTagsUnder surroundings before tree (Err g)
         → SameFault f g
     first (Tag f) (Tag g) h k = inl (ap Tag (same_Some f g (sym h.1 ∙ k.1)))
     first (Tag f) _ h k = absurd k
@@ -147,8 +148,8 @@ module _ (one_value : OneValue) (one_constraint : OneConstraint) (one_cons_fault
   value_decided : (k : Known) (names : Visible) (a : WrittenAssignment) (t : AbstractType)
       → IsDecided (HasValue k names a t)
   value_decided k names a t =
-      then_decided _ _ (passes_decided _ _) (λ _. then_decided _ _ (assigned_decided names t a.value)
-      (λ v. then_decided _ _ (passes_decided _ _) (λ _. is_decided _)))
+      then_decided _ _ (assigned_decided names t a.value)
+      (λ v. then_decided _ _ (passes_decided _ _) (λ _. is_decided _))
 
   builds_decided : (k : Known) (d : Definition) → IsDecided (Builds k d)
   builds_decided k d =

@@ -15,6 +15,7 @@ use Rattle.guard_syntax.specs.Trees.{named_bits, enumerated, structure, choice, 
 use Rattle.guard_syntax.specs.Trees.{no_components, component, components_from, WrittenAlternatives, no_alternatives}
 use Rattle.guard_syntax.specs.Trees.{alternative}
 use Rattle.guard_values.specs.declared.fault.ValueFault.{ValueFault}
+use Rattle.guard_values.specs.declared.fault.ValueFault.TheVariants as value_fault
 use Rattle.guard_values.specs.Denotes as values
 use Rattle.guard_values.specs.FirstFault.{IsFirstFault}
 use Rattle.guard_values.specs.Meanings.{Meaning}
@@ -25,11 +26,11 @@ use Rattle.guard_constraints.specs.Denotes as constraints
 use Rattle.guard_constraints.specs.FirstFault.{IsFirstConstraintFault}
 use Rattle.guard_schema.specs.OneAnswer.{SameFault, IsDecided}
 use Rattle.guard_schema.specs.Faults.{AbstractFault, Value, Cons, Outcome}
-use Rattle.guard_schema.specs.Readings.{ReadsValue, ReadsMember, ReadsConstraint}
+use Rattle.guard_schema.specs.Readings.{HasShortValues, ReadsValue, ReadsMember, ReadsConstraint}
 use Rattle.guard_schema.specs.Outcomes.{Is, Then}
-use Rattle.guard_schema.specs.Finishing.{Adds, AddsOne, Constrains, ConstrainsByOne, ConstrainsBefore, FillsPresence}
-use Rattle.guard_schema.specs.Finishing.{FinishesComponent, constraint_before, site_of_type, with_constraint}
-use Rattle.guard_schema.specs.Finishing.{put_before, count_put_in, Finishes, FinishesKind, Fills, FillsFrom}
+use Rattle.guard_schema.specs.Finishing.{Adds, AddsOne, ConstrainsByOne, ConstrainsElements, ConstrainsBefore}
+use Rattle.guard_schema.specs.Finishing.{FillsPresence, FinishesComponent, with_constraint, put_before}
+use Rattle.guard_schema.specs.Finishing.{count_put_in, Finishes, FinishesKind, Fills, FillsFrom}
 use Rattle.guard_schema.specs.Finishing.{FillsFromBase, FillsOthers}
 use Rattle.guard_schema.proofs.Turns.Outcomes.{is_decided, passes_decided, then_decided, found_decided}
 
@@ -57,6 +58,18 @@ one_value_fault m t (value_node site form) f g (inl h) (inl k) = same_Some f g (
 one_value_fault m t (value_node site form) f g (inl h) (inr k) = absurd (some_none f (sym h ∙ k.0))
 one_value_fault m t (value_node site form) f g (inr h) (inl k) = absurd (some_none g (sym k ∙ h.0))
 one_value_fault m t (value_node site form) f g (inr h) (inr k) = h.1 ∙ sym k.1
+
+-- where the first value is that is too long
+short_decided : (t : AbstractType) → IsDecided (HasShortValues t)
+short_decided t = record {
+  one = λ x y h k. refl;
+  alone = λ x f h k. none_some k.0 (sym h ∙ k.1);
+  first = λ f g h k. inl (h.2 ∙ ap (λ (site : Site). Value (value_fault.TooLarge site))
+      (same_Some h.0 k.0 (sym h.1 ∙ k.1)) ∙ sym k.2);
+}
+  where
+    none_some : (site : Site) → None ≡ Some site → ⊥
+    none_some site e = cc
 
 module _ (one_value : OneValue) (one_constraint : OneConstraint) (one_cons_fault : OneConsFault) (names : Visible) where
   value_decided : (t : AbstractType) (tree : WrittenValue) → IsDecided (ReadsValue names t tree)
@@ -97,33 +110,34 @@ module _ (one_value : OneValue) (one_constraint : OneConstraint) (one_cons_fault
   adds_decided [] t = is_decided t
   adds_decided (c ∷ cs) t = then_decided _ _ (one_decided c t) (adds_decided cs)
 
-  constrains_decided : (site : Site) (cs : List WrittenConstraint) (t : AbstractType)
-      → IsDecided (Constrains names site cs t)
-  constrains_decided site [] t = is_decided t
-  constrains_decided site (c ∷ cs) t = then_decided _ _ (passes_decided _ _) (λ _. adds_decided (c ∷ cs) t)
+  by_one_decided : (c : WrittenOfConstraint) (size : _) (t : AbstractType) → IsDecided (ConstrainsByOne names c size t)
+  by_one_decided c true t = then_decided _ _ (constraint_decided _ c.constraint) (λ one. is_decided _)
+  by_one_decided c false t = one_decided c.constraint t
 
-  by_one_decided : (site : Site) (c : WrittenOfConstraint) (size : _) (t : AbstractType)
-      → IsDecided (ConstrainsByOne names site c size t)
-  by_one_decided site c true t = then_decided _ _ (constraint_decided _ c.constraint) (λ one. is_decided _)
-  by_one_decided site c false t = then_decided _ _ (passes_decided _ _) (λ _. one_decided c.constraint t)
+  elements_decided : (c : Option WrittenOfConstraint) (t : AbstractType) → IsDecided (ConstrainsElements names c t)
+  elements_decided None t = is_decided t
+  elements_decided (Some c) t = by_one_decided c c.size t
 
-  before_decided : (site : Site) (c : Option WrittenOfConstraint) (t : AbstractType)
-      → IsDecided (ConstrainsBefore names site c t)
-  before_decided site None t = is_decided t
-  before_decided site (Some c) t = by_one_decided site c c.size t
+  before_decided : (base : WrittenBase) (t : AbstractType) → IsDecided (ConstrainsBefore names base t)
+  before_decided (plain p) t = is_decided t
+  before_decided (numbers ns) t = is_decided t
+  before_decided (named_bits ns) t = is_decided t
+  before_decided (enumerated items) t = is_decided t
+  before_decided (structure k cs) t = is_decided t
+  before_decided (choice others) t = is_decided t
+  before_decided (of_type k c w) t = elements_decided c t
+  before_decided (named_type site name) t = then_decided _ _ (short_decided t) (λ _. is_decided t)
 
-  presence_decided : (site : Site) (t : AbstractType) (presence : WrittenPresence)
-      → IsDecided (FillsPresence names site t presence)
-  presence_decided site t mandatory = is_decided type.mandatory
-  presence_decided site t optional = is_decided type.optional
-  presence_decided site t (default tree) = then_decided _ _ (passes_decided _ _)
-      (λ _. then_decided _ _ (member_decided t tree) (λ v. is_decided (type.default v)))
+  presence_decided : (t : AbstractType) (presence : WrittenPresence) → IsDecided (FillsPresence names t presence)
+  presence_decided t mandatory = is_decided type.mandatory
+  presence_decided t optional = is_decided type.optional
+  presence_decided t (default tree) = then_decided _ _ (member_decided t tree) (λ v. is_decided (type.default v))
 
-  component_decided : (site : Site) (Finish : AbstractType → Outcome AbstractType → Type 0) (presence : WrittenPresence)
+  component_decided : (Finish : AbstractType → Outcome AbstractType → Type 0) (presence : WrittenPresence)
       (name : List ℕ) (bare : AbstractType) → IsDecided (Finish bare)
-      → IsDecided (FinishesComponent names site Finish presence name bare)
-  component_decided site Finish presence name bare finish =
-      then_decided _ _ finish (λ u. then_decided _ _ (presence_decided site u presence) (λ p. is_decided _))
+      → IsDecided (FinishesComponent names Finish presence name bare)
+  component_decided Finish presence name bare finish =
+      then_decided _ _ finish (λ u. then_decided _ _ (presence_decided u presence) (λ p. is_decided _))
 
 -- ---- the parts of a list, of which there is one division
 
@@ -242,9 +256,8 @@ module _ (one_value : OneValue) (one_constraint : OneConstraint) (one_cons_fault
     pub type_decided : (t : WrittenType) (bare : AbstractType) → IsDecided (Finishes names t bare)
     type_decided (type_node site tags base cs) (type_of ts kind cons) =
         then_decided _ _ (kind_decided base kind)
-        (λ k. then_decided _ _ (before_decided one_value one_constraint one_cons_fault names site
-        (constraint_before base) (type_of ts k cons))
-        (constrains_decided one_value one_constraint one_cons_fault names site cs))
+        (λ k. then_decided _ _ (before_decided one_value one_constraint one_cons_fault names base (type_of ts k cons))
+        (adds_decided one_value one_constraint one_cons_fault names cs))
 
     kind_decided : (base : WrittenBase) (kind : AbstractKind) → IsDecided (FinishesKind names base kind)
     kind_decided (plain p) kind = is_decided kind
@@ -273,9 +286,9 @@ module _ (one_value : OneValue) (one_constraint : OneConstraint) (one_cons_fault
         (is_decided type.no_components)
     fills_decided (component site name t presence cs) bare =
         first_decided bare name (presence_of presence)
-        (λ u rest. Then (FinishesComponent names (site_of_type t) (Finishes names t) presence name u)
+        (λ u rest. Then (FinishesComponent names (Finishes names t) presence name u)
         (λ one. Then (Fills names cs rest) (λ others. Is (put_before one others))))
-        (λ u rest. then_decided _ _ (component_decided one_value one_constraint one_cons_fault names (site_of_type t)
+        (λ u rest. then_decided _ _ (component_decided one_value one_constraint one_cons_fault names
         (Finishes names t) presence name u (type_decided t u))
         (λ one. then_decided _ _ (fills_decided cs rest) (λ others. is_decided (put_before one others))))
     fills_decided (components_from site t cs) bare =
@@ -310,8 +323,8 @@ module _ (one_value : OneValue) (one_constraint : OneConstraint) (one_cons_fault
         (is_decided type.no_components)
     others_decided (alternative site name t others) bare =
         first_decided bare name type.mandatory
-        (λ u rest. Then (FinishesComponent names (site_of_type t) (Finishes names t) mandatory name u)
+        (λ u rest. Then (FinishesComponent names (Finishes names t) mandatory name u)
         (λ one. Then (FillsOthers names others rest) (λ parts. Is (put_before one parts))))
-        (λ u rest. then_decided _ _ (component_decided one_value one_constraint one_cons_fault names (site_of_type t)
+        (λ u rest. then_decided _ _ (component_decided one_value one_constraint one_cons_fault names
         (Finishes names t) mandatory name u (type_decided t u))
         (λ one. then_decided _ _ (others_decided others rest) (λ parts. is_decided (put_before one parts))))

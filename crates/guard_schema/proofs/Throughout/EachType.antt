@@ -35,7 +35,7 @@ use Rattle.guard_schema.specs.declared.fault.SchemaFault.{SchemaFault}
 use Rattle.guard_schema.specs.declared.schema.Schema.{Schema}
 use Rattle.guard_schema.specs.EachType.{IsFinished, HasTypesOf, HaveTheirTypes}
 use Rattle.guard_schema.proofs.Filled.Unfinished.{bare_again}
-use Rattle.guard_schema.proofs.Unsound.Built.{whole_sound}
+use Rattle.guard_schema.proofs.Sound.Built.{whole_sound}
 use Rattle.guard_schema.proofs.Throughout.Values.{Grows}
 use Rattle.guard_schema.proofs.Throughout.Finished.{type_grown}
 use Rattle.guard_schema.proofs.Throughout.Tagged.{denoted_grown, at_front, found_more, known_more}
@@ -139,16 +139,15 @@ module _ (ms : List WrittenModule) (faultless : AreFaultless ms) (order : List �
 
   valued : (t : AbstractType) → HasValue then (visible then d.home.name) d.assignment t (Ok b)
       → (b.ty ≡ t) × (b.value ≡ None → d.assignment.value ≡ None) × (d.assignment.value ≡ None → b.value ≡ None)
-  valued t (inl (u, sound, inl (v, assigned, inl (w, keeps, e)))) =
+  valued t (inl (v, assigned, inl (w, keeps, e))) =
       let same : b ≡ record { ty = t; value = v } = same_Ok b (record { ty = t; value = v }) e in
       let value : b.value ≡ v = ap (λ (c : Built). c.value) same in (
         ap (λ (c : Built). c.ty) same,
         λ none. unassigned (visible then d.home.name) t d.assignment.value v assigned (sym value ∙ none),
         λ none. value ∙ no_value (visible then d.home.name) t d.assignment.value v assigned none,
       )
-  valued t (inl (u, sound, inl (v, assigned, inr (f, keeps, e)))) = absurd cc
-  valued t (inl (u, sound, inr (f, assigned, e))) = absurd cc
-  valued t (inr (f, sound, e)) = absurd cc
+  valued t (inl (v, assigned, inr (f, keeps, e))) = absurd cc
+  valued t (inr (f, assigned, e)) = absurd cc
 
   pub is_built : Builds then d (Ok b) → IsBuilt whole d b
   is_built (inl (bare, tagged, inl (u, apart, inl (t, finished, value)))) =

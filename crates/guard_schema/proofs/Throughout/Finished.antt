@@ -1,7 +1,6 @@
 -- What a tree makes of a bare type, it makes of it also where more names mean something.
 use Rattle.std.proofs.Common.{◌≡◌, ℕ, suc, ◌+◌, Bool, true, false, List, [], ◌∷◌, Option, Some, None, Ok, inl, inr}
 use Rattle.std.proofs.Common.{refl, sym, ap, ◌∙◌}
-use Rattle.guard_model.specs.declared.site.Site.{Site}
 use Rattle.guard_model.specs.AbstractType.{AbstractType, AbstractKind, AbstractPresence, Components, type_of}
 use Rattle.guard_model.specs.AbstractValue.{AbstractValue}
 use Rattle.guard_model.specs.Kinds.{type_of_size}
@@ -14,9 +13,9 @@ use Rattle.guard_syntax.specs.Trees.{alternative}
 use Rattle.guard_constraints.specs.Visible.{Visible}
 use Rattle.guard_schema.specs.Faults.{Outcome}
 use Rattle.guard_schema.specs.Readings.{ReadsMember}
-use Rattle.guard_schema.specs.Finishing.{constraint_before, site_of_type, count_of_meant, count_written, count_put_in}
-use Rattle.guard_schema.specs.Finishing.{count_within, AddsOne, Adds, Constrains, Sizes, ConstrainsByOne}
-use Rattle.guard_schema.specs.Finishing.{ConstrainsBefore, FillsPresence, FinishesComponent, Finishes, FinishesKind}
+use Rattle.guard_schema.specs.Finishing.{count_of_meant, count_written, count_put_in, count_within, AddsOne, Adds}
+use Rattle.guard_schema.specs.Finishing.{Sizes, ConstrainsByOne, ConstrainsElements, ConstrainsBefore, FillsPresence}
+use Rattle.guard_schema.specs.Finishing.{FinishesComponent, Finishes, FinishesKind}
 use Rattle.guard_schema.specs.Finishing.{Fills, FillsFrom, FillsFromBase, FillsOthers}
 use Rattle.guard_schema.proofs.Throughout.Values.{Grows, value_grown}
 use Rattle.guard_schema.proofs.Throughout.Constraints.{constraint_grown}
@@ -38,42 +37,44 @@ module _ (a b : Visible) (values : Grows a.values b.values) (types : Grows a.typ
   adds_grown (c ∷ cs) t u (inl (v, h, k)) = inl (v, one_grown c t v h, adds_grown cs v u k)
   adds_grown (c ∷ cs) t u (inr (f, h, e)) = absurd cc
 
-  constrains_grown : (site : Site) (cs : List WrittenConstraint) (t u : AbstractType) → Constrains a site cs t (Ok u)
-      → Constrains b site cs t (Ok u)
-  constrains_grown site [] t u h = h
-  constrains_grown site (c ∷ cs) t u (inl (x, sound, k)) = inl (x, sound, adds_grown (c ∷ cs) t u k)
-  constrains_grown site (c ∷ cs) t u (inr (f, sound, e)) = absurd cc
-
   sizes_grown : (c : WrittenOfConstraint) (t u : AbstractType) → Sizes a c t (Ok u) → Sizes b c t (Ok u)
   sizes_grown c t u (inl (one, h, e)) = inl (one, constraint_grown a b values types type_of_size c.constraint one h, e)
   sizes_grown c t u (inr (f, h, e)) = absurd cc
 
-  by_one_grown : (site : Site) (c : WrittenOfConstraint) (size : Bool) (t u : AbstractType)
-      → ConstrainsByOne a site c size t (Ok u) → ConstrainsByOne b site c size t (Ok u)
-  by_one_grown site c true t u h = sizes_grown c t u h
-  by_one_grown site c false t u (inl (x, sound, k)) = inl (x, sound, one_grown c.constraint t u k)
-  by_one_grown site c false t u (inr (f, sound, e)) = absurd cc
+  by_one_grown : (c : WrittenOfConstraint) (size : Bool) (t u : AbstractType)
+      → ConstrainsByOne a c size t (Ok u) → ConstrainsByOne b c size t (Ok u)
+  by_one_grown c true t u h = sizes_grown c t u h
+  by_one_grown c false t u h = one_grown c.constraint t u h
 
-  before_grown : (site : Site) (c : Option WrittenOfConstraint) (t u : AbstractType)
-      → ConstrainsBefore a site c t (Ok u) → ConstrainsBefore b site c t (Ok u)
-  before_grown site None t u h = h
-  before_grown site (Some c) t u h = by_one_grown site c c.size t u h
+  elements_grown : (c : Option WrittenOfConstraint) (t u : AbstractType) → ConstrainsElements a c t (Ok u)
+      → ConstrainsElements b c t (Ok u)
+  elements_grown None t u h = h
+  elements_grown (Some c) t u h = by_one_grown c c.size t u h
 
-  presence_grown : (site : Site) (t : AbstractType) (presence : WrittenPresence) (p : AbstractPresence)
-      → FillsPresence a site t presence (Ok p) → FillsPresence b site t presence (Ok p)
-  presence_grown site t mandatory p h = h
-  presence_grown site t optional p h = h
-  presence_grown site t (default tree) p (inl (x, sound, inl (v, h, e))) =
-      inl (x, sound, inl (v, member_grown t tree v h, e))
-  presence_grown site t (default tree) p (inl (x, sound, inr (f, h, e))) = absurd cc
-  presence_grown site t (default tree) p (inr (f, sound, e)) = absurd cc
+  before_grown : (base : WrittenBase) (t u : AbstractType) → ConstrainsBefore a base t (Ok u)
+      → ConstrainsBefore b base t (Ok u)
+  before_grown (plain p) t u h = h
+  before_grown (numbers ns) t u h = h
+  before_grown (named_bits ns) t u h = h
+  before_grown (enumerated items) t u h = h
+  before_grown (structure k cs) t u h = h
+  before_grown (choice others) t u h = h
+  before_grown (of_type k c w) t u h = elements_grown c t u h
+  before_grown (named_type site name) t u h = h
 
-  module _ (site : Site) (F G : AbstractType → Outcome AbstractType → Type 0) (presence : WrittenPresence)
+  presence_grown : (t : AbstractType) (presence : WrittenPresence) (p : AbstractPresence)
+      → FillsPresence a t presence (Ok p) → FillsPresence b t presence (Ok p)
+  presence_grown t mandatory p h = h
+  presence_grown t optional p h = h
+  presence_grown t (default tree) p (inl (v, h, e)) = inl (v, member_grown t tree v h, e)
+  presence_grown t (default tree) p (inr (f, h, e)) = absurd cc
+
+  module _ (F G : AbstractType → Outcome AbstractType → Type 0) (presence : WrittenPresence)
       (name : List ℕ) (bare : AbstractType)
       (to : (u : AbstractType) → F bare (Ok u) → G bare (Ok u)) where
-    component_grown : (one : OneComponent) → FinishesComponent a site F presence name bare (Ok one)
-        → FinishesComponent b site G presence name bare (Ok one)
-    component_grown one (inl (u, h, inl (p, k, e))) = inl (u, to u h, inl (p, presence_grown site u presence p k, e))
+    component_grown : (one : OneComponent) → FinishesComponent a F presence name bare (Ok one)
+        → FinishesComponent b G presence name bare (Ok one)
+    component_grown one (inl (u, h, inl (p, k, e))) = inl (u, to u h, inl (p, presence_grown u presence p k, e))
     component_grown one (inl (u, h, inr (f, k, e))) = absurd cc
     component_grown one (inr (f, h, e)) = absurd cc
 
@@ -118,8 +119,8 @@ module _ (a b : Visible) (values : Grows a.values b.values) (types : Grows a.typ
           kind_grown base kind k h,
           inl (
             v,
-            before_grown site (constraint_before base) (type_of ts k cons) v before,
-            constrains_grown site cs v t after,
+            before_grown base (type_of ts k cons) v before,
+            adds_grown cs v t after,
           ),
         )
     type_grown (type_node site tags base cs) (type_of ts kind cons) t (inl (k, h, inr (f, before, e))) = absurd cc
@@ -150,7 +151,7 @@ module _ (a b : Visible) (values : Grows a.values b.values) (types : Grows a.typ
       is,
       inl (
         one,
-        component_grown (site_of_type t) (Finishes a t) (Finishes b t) presence name u
+        component_grown (Finishes a t) (Finishes b t) presence name u
             (type_grown t u) one h,
         inl (others, fills_grown cs rest others k, e),
       ),
@@ -192,7 +193,7 @@ module _ (a b : Visible) (values : Grows a.values b.values) (types : Grows a.typ
       is,
       inl (
         one,
-        component_grown (site_of_type t) (Finishes a t) (Finishes b t) mandatory name u
+        component_grown (Finishes a t) (Finishes b t) mandatory name u
             (type_grown t u) one h,
         inl (more, others_grown others rest more k, e),
       ),

@@ -15,10 +15,10 @@ loop-assignment-preserved c =
     let number : c.len.result ≡ length c.loop-assignment.all.items =
     omega (arith, c.len.ensures, c.loop-assignment.all.ok.0) in
     next_definition place total c.args.tree.now c.loop-assignment.assignment-index c.loop-assignment.all.items
-    c.loop-assignment.invariant _ c.assignment-item.result c.in_ok-definition_named.field-0
+    c.loop-assignment.invariant _ c.assignment-item.result c.definition_named.result
     (rw c.deref-assignment-items.ensures.value at c.loop-assignment-test.true)
     (rw c.deref-assignment-items.ensures.value at c.assignment-item.is)
-    (rw (c.place_of-place.ensures, number) at c.in_ok-definition_named.ensures) c.in_ok-push.ensures.items
+    (rw (c.place_of-place.ensures, number) at c.definition_named.ensures) c.in_ok-push.ensures.items
 
 pub returns : goal.returns
 returns c =

@@ -1,4 +1,5 @@
-use Rattle.std.proofs.Common.{List, map, sym, ap, ◌∙◌}
+use Rattle.std.proofs.Common.{ℕ, ◌≤◌, List, length, map, sym, ap, subst, ◌∙◌}
+use Rattle.std.proofs.lemmas.List.{length-map}
 use Rattle.std.specs.Prelude.{string_bytes}
 use Rattle.guard_names.specs.NamesView.{order_of}
 use Rattle.guard_syntax.specs.ModuleViews.{module_view}
@@ -8,6 +9,13 @@ use Rattle.guard_schema.specs.Views.{entry_view, built_in}
 use Rattle.guard_schema.proofs.ByNames.Definitions.{schema_is}
 use Rattle.guard_schema.proofs.ByNames.Lookups.{by_index}
 use Rattle.guard_schema.proofs.build.with_names.Goals as goal
+
+pub invariant_of-result-clause-few : goal.invariant_of-result-clause-few
+invariant_of-result-clause-few c =
+    let names = c.in_ok-modules.ensures in
+    subst (λ (n : ℕ). n ≤ 64)
+    (sym (ap (λ (xs : List (List ℕ)). length xs) names
+    ∙ length-map (map module_view c.args.modules.now) (λ (m : WrittenModule). m.name))) c.requires.few
 
 pub returns : goal.returns
 returns c =

@@ -11,8 +11,8 @@ loop-tree-init c = record { so_far = λ answer h. h; sound = c.requires.sound }
 pub with_constraint-requires : goal.with_constraint-requires
 with_constraint-requires c = record { sound = c.loop-tree.invariant.sound; known = c.requires.known }
 
-pub returns-in_err-constrained : goal.returns-in_err-constrained
-returns-in_err-constrained c =
+pub returns-in_err-constrained-clause-added : goal.returns-in_err-constrained-clause-added
+returns-in_err-constrained-clause-added c =
     let p = err_from_is_err_and c.from_residual.result c.from_residual.ensures.1 in
     rw (p.1, p.2) (constraint_stops (visible_in c.args.scope) c.args.trees.now
     (type_view c.args.ty) c.loop-tree.tree-index
@@ -27,6 +27,7 @@ loop-tree-preserved c = record {
   sound = c.in_ok-constrained.ensures.sound;
 }
 
-pub returns : goal.returns
-returns c = no_constraint (visible_in c.args.scope) c.args.trees.now (type_view c.args.ty) c.loop-tree.tree-index
+pub returns-clause-added : goal.returns-clause-added
+returns-clause-added c = no_constraint (visible_in c.args.scope) c.args.trees.now (type_view c.args.ty)
+    c.loop-tree.tree-index
     (type_view c.loop-tree.constrained) c.loop-tree-test.false c.loop-tree.invariant.so_far

@@ -2,16 +2,20 @@ use Rattle.std.proofs.lemmas.Result.{err_from_is_err_and}
 use Rattle.guard_model.specs.TypeView.{type_view}
 use Rattle.guard_constraints.specs.Views.{visible_in}
 use Rattle.guard_schema.specs.Faults.{named}
-use Rattle.guard_schema.proofs.Filled.Steps.{before_refused, then_after}
+use Rattle.guard_schema.proofs.Filled.Steps.{before_refused, then_after, part_there}
 use Rattle.guard_schema.proofs.constraints.with_written.Goals as goal
 
-pub returns-in_err-before : goal.returns-in_err-before
-returns-in_err-before c =
+pub constrained_before-requires-clause-part : goal.constrained_before-requires-clause-part
+constrained_before-requires-clause-part c =
+    part_there (visible_in c.args.scope) c.args.tree.now (type_view c.args.ty) c.requires.part
+
+pub returns-in_err-before-clause-constrained : goal.returns-in_err-before-clause-constrained
+returns-in_err-before-clause-constrained c =
     let p = err_from_is_err_and c.from_residual.result c.from_residual.ensures.1 in
     rw (p.1, p.2) (before_refused (visible_in c.args.scope) c.args.tree.now (type_view c.args.ty)
-    (named c.in_err-before.field-0.0) c.in_err-before.ensures)
+    (named c.in_err-before.field-0.0) c.in_err-before.ensures.constrained)
 
-pub returns : goal.returns
-returns c = then_after (visible_in c.args.scope) c.args.tree.now (type_view c.args.ty)
-    (type_view c.in_ok-before.before) c.in_ok-before.ensures c.constrained.result
-    (rw c.deref.ensures.value at c.constrained.ensures)
+pub returns-clause-constrained : goal.returns-clause-constrained
+returns-clause-constrained c = then_after (visible_in c.args.scope) c.args.tree.now (type_view c.args.ty)
+    (type_view c.in_ok-before.before) c.in_ok-before.ensures.constrained c.with_constraints.result
+    (rw c.deref.ensures.value at c.with_constraints.ensures.added)

@@ -11,7 +11,7 @@ use Rattle.guard_tagging.proofs.Builds.{no_such}
 use Rattle.guard_schema.specs.declared.fault.SchemaFault.{SchemaFault}
 use Rattle.guard_schema.specs.declared.progress.Definition.{Definition}
 use Rattle.guard_schema.specs.Faults.{named}
-use Rattle.guard_schema.proofs.Built.OneDefinition.{built_refused, built_whole}
+use Rattle.guard_schema.proofs.Built.OneDefinition.{tagged_ready, built_refused, built_whole}
 use Rattle.guard_schema.proofs.definitions.built.Goals as goal
 
 -- an identifier in the order is that of a definition
@@ -23,6 +23,10 @@ unreachable-requires c =
     (order_below (length (definitions ms)) (Uses ms) (order_of n) n.ordered c.args.id
     (listed_there (order_of n) (length c.args.progress.now.known.types.items) c.args.id c.requires.next))
     c.in_default.ensures
+
+pub completed-requires-clause-ready : goal.completed-requires-clause-ready
+completed-requires-clause-ready c = tagged_ready c.args.progress.now c.args.id _ c.in-Some.ensures
+    (type_view c.in_ok-tagged.tagged.ty) c.in_ok-tagged.ensures.tagged
 
 pub returns-in_err-tagged-clause-built : goal.returns-in_err-tagged-clause-built
 returns-in_err-tagged-clause-built c =

@@ -1,4 +1,4 @@
-use Rattle.std.proofs.Common.{inl, refl, arith}
+use Rattle.std.proofs.Common.{inl, refl}
 use Rattle.std.proofs.lemmas.Result.{err_from_is_err_and}
 use Rattle.guard_model.specs.TypeView.{type_view}
 use Rattle.guard_schema.specs.Faults.{named}
@@ -39,13 +39,8 @@ returns-clause-tagged c = inl (
   inl (tt, c.in_ok-check_tags.ensures, refl),
 )
 
-pub returns-clause-counted : goal.returns-clause-counted
-returns-clause-counted c = omega (
-  arith,
-  c.in_ok-tagged.ensures.counted,
-  c.in_ok-tagged.ensures.few,
-  c.done.ensures.nodes,
-)
+pub returns-clause-nodes : goal.returns-clause-nodes
+returns-clause-nodes c = (rw c.done.ensures.nodes at c.in_ok-tagged.ensures.counted, c.in_ok-tagged.ensures.few)
 
 pub returns-clause-automatic : goal.returns-clause-automatic
 returns-clause-automatic c = c.in_ok-tagged.ensures.known

@@ -1,8 +1,8 @@
 use Rattle.std.proofs.Common.{option_map}
 use Rattle.std.proofs.lemmas.Result.{err_from_is_err_and}
 use Rattle.guard_model.specs.TypeView.{type_view}
-use Rattle.guard_model.specs.ValueView.{value_view}
 use Rattle.guard_syntax.specs.ModuleViews.{assignment_view}
+use Rattle.guard_values.specs.Views.{shared_view}
 use Rattle.guard_constraints.specs.Views.{visible_in}
 use Rattle.guard_schema.specs.Faults.{named}
 use Rattle.guard_schema.specs.Views.{known_view}
@@ -14,14 +14,14 @@ returns-in_err-held-clause-built c =
     let p = err_from_is_err_and c.from_residual-in_err-held.result c.from_residual-in_err-held.ensures.1 in
     let progress = c.args.progress.now in
     rw (p.1, p.2) (limit_refuses (known_view progress) (visible_in c.args.scope) (assignment_view c.args.assignment.now)
-    (type_view c.args.ty.now) (option_map value_view c.in_ok-value.value)
-    c.in_ok-check_sound.ensures.sound c.in_ok-value.ensures.read progress.held progress.holding
+    (type_view c.args.ty.now) (option_map shared_view c.in_ok-value.value)
+    c.in_ok-value.ensures.read progress.held progress.holding
     (named c.in_err-held.field-0.0) c.in_err-held.ensures.limit)
 
 pub returns-clause-built : goal.returns-clause-built
 returns-clause-built c =
     let progress = c.args.progress.now in
     limit_kept (known_view progress) (visible_in c.args.scope) (assignment_view c.args.assignment.now)
-    (type_view c.args.ty.now) (option_map value_view c.in_ok-value.value)
-    c.in_ok-check_sound.ensures.sound c.in_ok-value.ensures.read progress.held progress.holding
+    (type_view c.args.ty.now) (option_map shared_view c.in_ok-value.value)
+    c.in_ok-value.ensures.read progress.held progress.holding
     c.in_ok-held.ensures.limit

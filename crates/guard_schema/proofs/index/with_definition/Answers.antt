@@ -8,14 +8,14 @@ use Rattle.guard_schema.proofs.index.with_definition.Goals.{in-Some, in-None}
 pub returns : goal.returns
 returns c = λ home name.
     let d = c.args.definition.now in
-    renewed (λ key. key.items) (λ n places. looked_up (λ key. key.items) n places.entries) d.home.items
+    renewed (λ key. key.items) (λ n places. looked_up (λ key. key.items) n places.entries) d.home.now
     c.args.before.homes.entries c.shift_remove.new.self.entries c.insert.new.self.entries c.in_ok-from_slice.field-0
-    c.in_ok-places.places c.shift_remove.result (λ n. place_if n d.name.items d.place)
-    (rw c.as_slice.ensures.value at c.shift_remove.ensures.value)
-    (rw c.as_slice.ensures.value at c.shift_remove.ensures.entries) c.in_ok-insert.ensures.entries
-    (c.in_ok-from_slice.ensures.items ∙ c.deref-2.ensures.value)
-    (λ n. (rw c.deref.ensures.value at c.in_ok-places.ensures n)
-    ∙ ap (λ (o : Option (Option ℕ)). option_or o (place_if n d.name.items d.place))
+    c.in_ok-places.places c.shift_remove.result (λ n. place_if n d.name.now d.place)
+    c.shift_remove.ensures.value
+    c.shift_remove.ensures.entries c.in_ok-insert.ensures.entries
+    c.in_ok-from_slice.ensures.items
+    (λ n. c.in_ok-places.ensures n
+    ∙ ap (λ (o : Option (Option ℕ)). option_or o (place_if n d.name.now d.place))
     (elim c.match-shift_remove.branch [
       | in-Some w ↦ ap (λ places. looked_up (λ key. key.items) n places.entries) w.places-is
           ∙ ap (option_and_then (λ places. looked_up (λ key. key.items) n places.entries)) (sym w.in-Some.is)

@@ -10,7 +10,7 @@ returns-else-member-clause-read c =
       c.in_ok-value.ensures.read,
       inr (
         _,
-        (ap (λ s. DefaultOutside s) (sym (site_there c.args.tree.now)), sym c.member.ensures ∙ c.if-member.false),
+        (ap (λ s. DefaultOutside s) (sym (site_there c.args.tree.now)), rw c.deref.ensures at (sym c.member.ensures ∙ c.if-member.false)),
         refl,
       ),
     )

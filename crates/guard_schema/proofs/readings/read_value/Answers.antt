@@ -5,15 +5,15 @@ use Rattle.guard_constraints.specs.Views.{visible_in}
 use Rattle.guard_schema.proofs.Built.Readings.{value_refused}
 use Rattle.guard_schema.proofs.readings.read_value.Goals as goal
 
-pub value-requires-clause-fitting : goal.value-requires-clause-fitting
-value-requires-clause-fitting c = c.requires.known.1
+pub shared_value-requires-clause-fitting : goal.shared_value-requires-clause-fitting
+shared_value-requires-clause-fitting c = c.requires.known.1
 
-pub returns-in_err-value-clause-read : goal.returns-in_err-value-clause-read
-returns-in_err-value-clause-read c =
+pub returns-in_err-shared_value-clause-read : goal.returns-in_err-shared_value-clause-read
+returns-in_err-shared_value-clause-read c =
     let p = err_from_is_err_and c.from_residual.result c.from_residual.ensures.1 in
     rw p.1 (value_refused (visible_in c.args.scope) (type_view c.args.ty.now)
-    (values.value_view c.args.tree.now) c.in_err-value.field-0.0 p.0 p.2 c.in_err-value.ensures.first
-    c.in_err-value.ensures.none)
+    (values.value_view c.args.tree.now) c.in_err-shared_value.field-0.0 p.0 p.2 c.in_err-shared_value.ensures.first
+    c.in_err-shared_value.ensures.none)
 
 pub returns-clause-read : goal.returns-clause-read
-returns-clause-read c = c.in_ok-value.ensures.denoted
+returns-clause-read c = c.in_ok-shared_value.ensures.denoted

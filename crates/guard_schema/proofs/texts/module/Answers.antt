@@ -12,4 +12,4 @@ returns-in_err-tokens-clause-read c =
 pub returns-clause-named : goal.returns-clause-named
 returns-clause-named c = named_text c.args.text.now c.in_ok-tokens.tokens.items
     (module_view c.in_ok-parse.field-0) c.in_ok-tokens.ensures.spans
-    (rw c.deref-3.ensures.value at c.in_ok-parse.ensures.found)
+    (rw c.deref-2.ensures.value at c.in_ok-parse.ensures.found)

@@ -1,7 +1,8 @@
 -- The bare type that a written type has by its tags is made up of types that are written there, which have no
--- constraints yet, and of types that names mean, under other tags perhaps. Its tags and its lists keep the limits.
-use Rattle.std.proofs.Common.{◌≡◌, ◌⊎◌, inl, inr, ℕ, suc, ◌+◌, ◌≤◌, Bool, true, false, ◌&&◌, List, [], ◌∷◌, Option}
-use Rattle.std.proofs.Common.{Some, None, option_map, IsTrue, refl, sym, ap, subst, ◌∙◌, arith}
+-- constraints yet, and of types that names mean, under other tags perhaps. It has the kind that is written, its
+-- components are those that are written, and its tags and its lists keep the limits.
+use Rattle.std.proofs.Common.{◌≡◌, inl, inr, ℕ, suc, ◌+◌, ◌≤◌, Bool, true, false, ◌&&◌, List, [], ◌∷◌}
+use Rattle.std.proofs.Common.{Option, Some, None, option_map, IsTrue, refl, sym, ap, subst, ◌∙◌, ◌⊎◌, arith}
 use Rattle.std.specs.Prelude.{nat_le, nat_lt}
 use Rattle.std.proofs.lemmas.Bool.{and_parts, and_from}
 use Rattle.std.proofs.lemmas.Bool.Decides.{nat_tests}
@@ -26,7 +27,8 @@ use Rattle.guard_syntax.specs.Trees.{no_components, component, components_from, 
 use Rattle.guard_syntax.specs.Trees.{alternative}
 use Rattle.guard_tagging.specs.declared.fault.TagFault.{TagFault}
 use Rattle.guard_tagging.specs.Faults.{fault_where, nodes, nodes_within, nodes_put_in, universal_tag, implicit_choice}
-use Rattle.guard_tagging.specs.Faults.{tag_too_large, own_fault, taken_fault, duplicate_name, component_names}
+use Rattle.guard_tagging.specs.Faults.{tag_too_large, own_fault, taken_fault, is_kind_of, is_of_kind}
+use Rattle.guard_tagging.specs.Faults.{duplicate_name, component_names}
 use Rattle.guard_tagging.specs.Faults.{alternative_names, too_many, fault_in, fault_in_parts, fault_in_components}
 use Rattle.guard_tagging.specs.Faults.{fault_in_alternatives}
 use Rattle.guard_tagging.specs.Tagging.{is_explicit, is_untagged_choice, put_tag, tag_of, with_tags, automatic_tag}
@@ -37,82 +39,62 @@ use Rattle.guard_tagging.specs.Types.{is_automatic_list, is_automatic_choice, ta
 use Rattle.guard_tagging.specs.Types.{denoted_base, denoted_components, denoted_alternatives}
 use Rattle.guard_tagging.proofs.Lists.AutomaticTags.{tagged_count}
 use Rattle.guard_constraints.specs.Visible.{Visible}
-use Rattle.guard_schema.specs.Finishing.{count_put_in}
-use Rattle.guard_schema.proofs.Filled.BareTypes.{IsTaken, IsTakenBase, taken_counted, kind_put, kind_tagged}
-use Rattle.guard_schema.proofs.Filled.BareTypes.{parts_there, parts_in, neither, TakesRightly, IsListed, takes_rightly}
-use Rattle.guard_schema.proofs.Filled.BareTypes.{listed_so, is_taken}
+use Rattle.guard_schema.specs.Finishing.{count_written, count_put_in, count_within, count_of_meant}
+use Rattle.guard_schema.specs.inside.Ready.{constraints_on, has_tags, IsFresh, IsOfName, IsMadeUp, IsMadeUpBase}
+use Rattle.guard_schema.specs.inside.Ready.{AreMadeUp, IsPutIn, IsPutInBase, AreMadeUpOthers}
+use Rattle.guard_schema.proofs.Filled.TakenKinds.{kind_put, kind_tagged, parts_there, of_kind_there, parts_in}
+use Rattle.guard_schema.proofs.Filled.TakenKinds.{not_plain}
+use Rattle.guard_schema.proofs.Filled.TakenKinds.{not_numbers, not_bits, not_enumerated, not_choice, not_of, not_null}
+use Rattle.guard_schema.proofs.Filled.TakenKinds.{neither, TakesRightly, IsListed, takes_rightly, listed_so}
 
--- the type's own constraints
-abbrev pub constraints_on : AbstractType → Constraints
-constraints_on (type_of tags kind cons) = cons
+-- ---- how many components it has
 
--- its tags are there, and low
-abbrev pub has_tags : AbstractType → Bool
-has_tags (type_of tags kind cons) = is_tagged tags kind && are_low tags
-
--- no constraints yet, on a kind that is as it should be
-abbrev pub IsFresh : AbstractKind → Constraints → Type 0
-IsFresh kind cons = (cons ≡ type.no_constraints) × IsTrue (is_proper_kind kind)
+pub count_join : (xs ys : Components) → component_count (join xs ys) ≡ component_count xs + component_count ys
+count_join type.no_components ys = zero_more (component_count ys)
+  where
+    zero_more : (n : ℕ) → n ≡ 0 + n
+    zero_more n = omega arith
+count_join (type.component name t presence xs) ys =
+    one_more (component_count (join xs ys)) (component_count xs) (component_count ys) (count_join xs ys)
+  where
+    one_more : (a b c : ℕ) → a ≡ b + c → suc a ≡ suc b + c
+    one_more a b c e = omega (arith, e)
 
 module _ (names : Visible) where
-  -- of a type that a name means
-  abbrev pub IsOfName : List ℕ → AbstractKind → Constraints → Type 0
-  IsOfName name kind cons = (u : AbstractType) × (names.types name ≡ Some u) × (kind ≡ kind_of u)
-      × (cons ≡ constraints_on u)
+  mutual
+    pub counted : (cs : WrittenComponents) (bare : Components) → AreMadeUp names cs bare
+        → component_count bare ≡ count_written names cs
+    counted no_components bare e = ap component_count e
+    counted (component site name t presence cs) bare (u, rest, e, inside, others) =
+        ap component_count e ∙ ap suc (counted cs rest others)
+    counted (components_from site t cs) bare (taken, rest, e, from, others) =
+        ap component_count e ∙ count_join taken rest ∙ ap (λ n. n + component_count rest) (taken_counted t taken from)
+        ∙ ap (λ n. count_put_in names t + n) (counted cs rest others)
 
-  abbrev mutual
-    pub IsMadeUp : WrittenType → AbstractType → Type 0
-    IsMadeUp (type_node site tags base cs) t = IsTrue (has_tags t) × IsMadeUpBase base (kind_of t) (constraints_on t)
+    pub taken_counted : (t : WrittenType) (taken : Components) → IsPutIn names t taken
+        → component_count taken ≡ count_put_in names t
+    taken_counted (type_node site tags base cs) taken h = within_counted base taken h
 
-    pub IsMadeUpBase : WrittenBase → AbstractKind → Constraints → Type 0
-    IsMadeUpBase (plain p) kind cons = IsFresh kind cons
-    IsMadeUpBase (numbers ns) kind cons = IsFresh kind cons
-    IsMadeUpBase (named_bits ns) kind cons = IsFresh kind cons
-    IsMadeUpBase (enumerated items) kind cons = IsFresh kind cons
-    IsMadeUpBase (structure k cs) kind cons =
-        (cons ≡ type.no_constraints) × ((bare : Components) × (kind ≡ structure_kind k bare)
-        × IsTrue (nat_le (component_count bare) most_components) × AreMadeUp cs bare)
-    IsMadeUpBase (choice others) kind cons =
-        (cons ≡ type.no_constraints) × ((bare : Components) × (kind ≡ type.choice bare)
-        × IsTrue (nat_le (component_count bare) most_components) × AreMadeUpOthers others bare)
-    IsMadeUpBase (of_type k c t) kind cons = (cons ≡ type.no_constraints)
-        × ((bare : AbstractType) × (kind ≡ of_kind k bare) × IsMadeUp t bare)
-    IsMadeUpBase (named_type site name) kind cons = IsFresh kind cons ⊎ IsOfName name kind cons
+    within_counted : (base : WrittenBase) (taken : Components) → IsPutInBase names base taken
+        → component_count taken ≡ count_within names base
+    within_counted (structure k cs) taken h = counted cs taken h
+    within_counted (named_type site name) taken (t, e, is) = ap component_count is ∙ sym (ap count_of_meant e)
+    within_counted (plain p) taken h = absurd h
+    within_counted (numbers ns) taken h = absurd h
+    within_counted (named_bits ns) taken h = absurd h
+    within_counted (enumerated items) taken h = absurd h
+    within_counted (choice others) taken h = absurd h
+    within_counted (of_type k c t) taken h = absurd h
 
-    pub AreMadeUp : WrittenComponents → Components → Type 0
-    AreMadeUp no_components bare = bare ≡ type.no_components
-    AreMadeUp (component site name t presence cs) bare =
-        (u : AbstractType) × (rest : Components) × (bare ≡ type.component name u (presence_of presence) rest)
-        × IsMadeUp t u × AreMadeUp cs rest
-    AreMadeUp (components_from site t cs) bare =
-        (taken : Components) × (rest : Components) × (bare ≡ join taken rest)
-        × (component_count taken ≡ count_put_in names t) × IsPutIn t taken × AreMadeUp cs rest
+-- ---- the bare type under other tags
 
-    pub IsPutIn : WrittenType → Components → Type 0
-    IsPutIn (type_node site tags base cs) taken = IsPutInBase base taken
-
-    pub IsPutInBase : WrittenBase → Components → Type 0
-    IsPutInBase (plain p) taken = ⊥
-    IsPutInBase (numbers ns) taken = ⊥
-    IsPutInBase (named_bits ns) taken = ⊥
-    IsPutInBase (enumerated items) taken = ⊥
-    IsPutInBase (structure k cs) taken = AreMadeUp cs taken
-    IsPutInBase (choice others) taken = ⊥
-    IsPutInBase (of_type k c t) taken = ⊥
-    IsPutInBase (named_type site name) taken = (t : AbstractType) × (names.types name ≡ Some t) × (taken ≡ parts_of t)
-
-    pub AreMadeUpOthers : WrittenAlternatives → Components → Type 0
-    AreMadeUpOthers no_alternatives bare = bare ≡ type.no_components
-    AreMadeUpOthers (alternative site name t others) bare =
-        (u : AbstractType) × (rest : Components) × (bare ≡ type.component name u type.mandatory rest) × IsMadeUp t u
-        × AreMadeUpOthers others rest
-
+module _ (names : Visible) where
   retagged : (w : WrittenType) (t u : AbstractType) → kind_of u ≡ kind_of t → constraints_on u ≡ constraints_on t
-      → IsTrue (has_tags u) → IsMadeUp w t → IsMadeUp w u
+      → IsTrue (has_tags u) → IsMadeUp names w t → IsMadeUp names w u
   retagged (type_node site tags base cs) t u e f tagged (old, h) = (
     tagged,
-    subst (λ (k : AbstractKind). IsMadeUpBase base k (constraints_on u)) (sym e)
-        (subst (λ (c : Constraints). IsMadeUpBase base (kind_of t) c) (sym f) h),
+    subst (λ (k : AbstractKind). IsMadeUpBase names base k (constraints_on u)) (sym e)
+        (subst (λ (c : Constraints). IsMadeUpBase names base (kind_of t) c) (sym f) h),
   )
 
 -- ---- tags
@@ -268,6 +250,13 @@ module _ (names : Visible) (around : Surroundings)
       let b = neither (implicit_choice (denoted_base around base) tags) _ a.1 in
       (neither (tag_too_large tags) _ b.1).0
 
+  -- what COMPONENTS OF a name takes in
+  meant_taken : (k : Collection) (name : List ℕ) (m : Option Meaning) → around.meaning name ≡ m
+      → is_kind_of k (kind_of (meant m)) ≡ true
+      → (t : AbstractType) × (names.types name ≡ Some t) × (components_in (kind_of (meant m)) ≡ parts_of t)
+  meant_taken k name (Some m) e of = (m.ty, agree name ∙ ap (option_map (λ m. m.ty)) e, sym (parts_there m.ty))
+  meant_taken k name None e of = absurd (not_null k of)
+
   -- what is said of a type and its kind
   abbrev Base : WrittenBase → AbstractType → Type 0
   Base base t = IsTrue (has_tags t) × IsMadeUpBase names base (kind_of t) (constraints_on t)
@@ -350,45 +339,45 @@ module _ (names : Visible) (around : Surroundings)
           components_up k automatic (before + nodes (denoted around t)) cs n.1 r,
         )
     components_up k automatic before (components_from site t cs) h r =
-        let n = neither (fault_in around false before (before + nodes_within (denoted around t)) t) _ h in
-        let taken = is_taken names around agree k before (before + nodes_within (denoted around t)) t n.0 r.0 r.2 in (
+        let n = neither (fault_in around false before (before + nodes_within (denoted around t)) t) _ h in (
           parts_of (denoted around t),
           denoted_components around cs,
           refl,
-          taken_counted names t (parts_of (denoted around t)) taken,
-          put_in_up k before (before + nodes_within (denoted around t)) t n.0 r.2 taken,
+          put_in_up k before (before + nodes_within (denoted around t)) t n.0 r.0 r.2,
           components_up k automatic (before + nodes_put_in around k automatic t) cs n.1 r.3,
         )
 
     put_in_up : (k : Collection) (before count : ℕ) (t : WrittenType) → fault_in around false before count t ≡ None
-        → is_automatic around t ≡ false
-        → IsTaken names t (parts_of (denoted around t)) → IsPutIn names t (parts_of (denoted around t))
-    put_in_up k before count (type_node site tags base cons) h auto taken =
+        → is_of_kind k (denoted around t) ≡ true → is_automatic around t ≡ false
+        → IsPutIn names t (parts_of (denoted around t))
+    put_in_up k before count (type_node site tags base cons) h of auto =
         let n = neither (fault_in_parts around before base)
         (own_fault around false count (type_node site tags base cons)) h in
-        let same : parts_of (with_tags around.tag_default tags (denoted_base around base)) ≡ components_in
-        (kind_of (denoted_base around base)) =
-        parts_there (with_tags around.tag_default tags (denoted_base around base))
-        ∙ ap components_in (kind_tagged around.tag_default tags (denoted_base around base)) in
-        put_in_base_up k before base (parts_of (with_tags around.tag_default tags (denoted_base around base))) n.0
-        (listed_so around false count site tags base cons n.1) auto taken same
+        let same = kind_tagged around.tag_default tags (denoted_base around base) in
+        let kind : is_kind_of k (kind_of (denoted_base around base)) ≡ true =
+        ap (is_kind_of k) (sym same) ∙ sym (of_kind_there k
+        (with_tags around.tag_default tags (denoted_base around base))) ∙ of in
+        subst (λ (taken : Components). IsPutInBase names base taken)
+        (ap components_in (sym same) ∙ sym
+        (parts_there (with_tags around.tag_default tags (denoted_base around base))))
+        (put_in_base_up k before base n.0 (listed_so around false count site tags base cons n.1) kind auto)
 
-    put_in_base_up : (k : Collection) (before : ℕ) (base : WrittenBase) (parts : Components)
-        → fault_in_parts around before base ≡ None → IsListed around base
-        → is_automatic_base around base ≡ false → IsTakenBase names base parts
-        → parts ≡ components_in (kind_of (denoted_base around base)) → IsPutInBase names base parts
-    put_in_base_up k before (plain p) parts h l auto taken same = taken
-    put_in_base_up k before (numbers ns) parts h l auto taken same = taken
-    put_in_base_up k before (named_bits ns) parts h l auto taken same = taken
-    put_in_base_up k before (enumerated items) parts h l auto taken same = taken
-    put_in_base_up k before (structure j cs) parts h l auto taken same =
-        subst (λ (x : Components). AreMadeUp names cs x)
-        (sym (same ∙ parts_in j (tagged_where (is_automatic_list around.tag_default cs) (denoted_components around cs))
+    put_in_base_up : (k : Collection) (before : ℕ) (base : WrittenBase) → fault_in_parts around before base ≡ None
+        → IsListed around base → is_kind_of k (kind_of (denoted_base around base)) ≡ true
+        → is_automatic_base around base ≡ false
+        → IsPutInBase names base (components_in (kind_of (denoted_base around base)))
+    put_in_base_up k before (plain p) h l of auto = absurd (not_plain k p of)
+    put_in_base_up k before (numbers ns) h l of auto = absurd (not_numbers k _ of)
+    put_in_base_up k before (named_bits ns) h l of auto = absurd (not_bits k _ of)
+    put_in_base_up k before (enumerated items) h l of auto = absurd (not_enumerated k _ of)
+    put_in_base_up k before (structure j cs) h l of auto =
+        subst (λ (taken : Components). AreMadeUp names cs taken)
+        (sym (parts_in j (tagged_where (is_automatic_list around.tag_default cs) (denoted_components around cs))
         ∙ ap (λ (b : Bool). tagged_where b (denoted_components around cs)) auto))
         (components_up j (is_automatic_list around.tag_default cs) before cs h (takes_rightly around j cs l))
-    put_in_base_up k before (choice others) parts h l auto taken same = taken
-    put_in_base_up k before (of_type j c t) parts h l auto taken same = taken
-    put_in_base_up k before (named_type site name) parts h l auto taken same = taken
+    put_in_base_up k before (choice others) h l of auto = absurd (not_choice k _ of)
+    put_in_base_up k before (of_type j c t) h l of auto = absurd (not_of k j (denoted around t) of)
+    put_in_base_up k before (named_type site name) h l of auto = meant_taken k name (around.meaning name) refl of
 
     others_up : (automatic : Bool) (before : ℕ) (others : WrittenAlternatives)
         → fault_in_alternatives automatic around before others ≡ None

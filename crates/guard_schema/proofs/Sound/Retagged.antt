@@ -14,14 +14,13 @@ use Rattle.guard_der.specs.Fits.{fits}
 use Rattle.guard_der.specs.Sound.{is_proper, is_proper_presence, are_proper, is_proper_element, is_proper_constraint}
 use Rattle.guard_der.specs.Sound.{are_proper_constraints, are_proper_parts}
 use Rattle.guard_der.specs.ProperConstraints.{is_short}
-use Rattle.guard_schema.specs.LongValues.{is_long, site_where, long_in, long_there, long_in_all, first_long}
-use Rattle.guard_schema.specs.LongValues.{long_in_parts}
+use Rattle.guard_schema.specs.LongValues.{is_long, site_where, long_in, long_there, long_in_all}
 
-pub none_first : {A : Type 0} (a b : Option A) → option_or a b ≡ None → a ≡ None
+none_first : {A : Type 0} (a b : Option A) → option_or a b ≡ None → a ≡ None
 none_first None b h = refl
 none_first (Some x) b h = absurd cc
 
-pub none_then : {A : Type 0} (a b : Option A) → option_or a b ≡ None → b ≡ None
+none_then : {A : Type 0} (a b : Option A) → option_or a b ≡ None → b ≡ None
 none_then None b h = h
 none_then (Some x) b h = absurd cc
 
@@ -91,10 +90,3 @@ proper_join type.no_components ys h k = k
 proper_join (type.component name t presence xs) ys h k =
     let p = and_parts (is_proper t && is_proper_presence t presence) (are_proper xs) h in
     and_from (is_proper t && is_proper_presence t presence) (are_proper (join xs ys)) p.0 (proper_join xs ys p.1 k)
-
-pub none_joined : (xs ys : Components) → long_in_parts (join xs ys) ≡ None → (long_in_parts xs ≡ None)
-    × (long_in_parts ys ≡ None)
-none_joined type.no_components ys n = (refl, n)
-none_joined (type.component name t presence xs) ys n =
-    let rest = none_joined xs ys (none_then (first_long t) (long_in_parts (join xs ys)) n) in
-    (rw (none_first (first_long t) (long_in_parts (join xs ys)) n) rest.0, rest.1)

@@ -13,10 +13,9 @@ use Rattle.guard_names.specs.Declarations.{Definition}
 use Rattle.guard_values.specs.Meanings.{AreFitting}
 use Rattle.guard_constraints.specs.Visible.{Visible}
 use Rattle.guard_constraints.proofs.Denoted.WrittenValues.{denoted_fits}
-use Rattle.guard_schema.specs.Known.{Built, Known, with_built, none_known, visible}
+use Rattle.guard_schema.specs.Known.{Built, Known, IsSoundBuilt, with_built, none_known, visible}
 use Rattle.guard_schema.specs.Building.{Assigns, HasValue, Builds, BuildsAll}
-use Rattle.guard_schema.specs.OnlyLong.{IsSoundBuilt}
-use Rattle.guard_schema.proofs.Unsound.ByValues.{fitting}
+use Rattle.guard_schema.proofs.Sound.Ready.{fitting, are_sound}
 
 value_fits : (names : Visible) → AreFitting names.values → (t : AbstractType) → IsTrue (is_sound t)
     → (tree : Option WrittenValue) (v : Option AbstractValue) → Assigns names t tree (Ok v)
@@ -32,18 +31,19 @@ value_fits names fit t sound (Some tree) v (inl (w, inr (f, d, is), e)) = absurd
 value_fits names fit t sound (Some tree) v (inr (f, h, e)) = absurd cc
 
 module _ (k : Known) (d : Definition) (b : Built) (all : All IsSoundBuilt k.built) where
-  valued_sound : (t : AbstractType) → HasValue k (visible k d.home.name) d.assignment t (Ok b) → IsSoundBuilt b
-  valued_sound t (inl (u, sound, inl (v, assigned, inl (w, keeps, e)))) =
+  valued_sound : (t : AbstractType) → IsTrue (is_sound t) → HasValue k (visible k d.home.name) d.assignment t (Ok b)
+      → IsSoundBuilt b
+  valued_sound t sound (inl (v, assigned, inl (w, keeps, e))) =
       subst IsSoundBuilt (sym (same_Ok b (record { ty = t; value = v }) e)) (
         sound,
         value_fits (visible k d.home.name) (fitting k all d.home.name) t sound d.assignment.value v assigned,
       )
-  valued_sound t (inl (u, sound, inl (v, assigned, inr (f, keeps, e)))) = absurd cc
-  valued_sound t (inl (u, sound, inr (f, assigned, e))) = absurd cc
-  valued_sound t (inr (f, sound, e)) = absurd cc
+  valued_sound t sound (inl (v, assigned, inr (f, keeps, e))) = absurd cc
+  valued_sound t sound (inr (f, assigned, e)) = absurd cc
 
   one_sound : Builds k d (Ok b) → IsSoundBuilt b
-  one_sound (inl (bare, tagged, inl (u, apart, inl (t, finished, value)))) = valued_sound t value
+  one_sound (inl (bare, (surroundings, under, tagged), inl (u, apart, inl (t, finished, value)))) =
+      valued_sound t (are_sound k d surroundings bare t under all tagged apart finished) value
   one_sound (inl (bare, tagged, inl (u, apart, inr (f, finished, e)))) = absurd cc
   one_sound (inl (bare, tagged, inr (f, apart, e))) = absurd cc
   one_sound (inr (f, tagged, e)) = absurd cc

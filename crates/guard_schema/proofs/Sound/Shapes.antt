@@ -1,8 +1,8 @@
 -- What is left of a type without its constraints and its defaults: finishing changes nothing of it.
-use Rattle.std.proofs.Common.{◌≡◌, ℕ, suc, Bool, true, false, List, [], ◌∷◌, Option, Some, None, Ok, inl, inr, refl}
+use Rattle.std.proofs.Common.{◌≡◌, ℕ, suc, ◌+◌, Bool, true, false, List, [], ◌∷◌, Option, Some, None, Ok, inl, inr}
+use Rattle.std.proofs.Common.{refl}
 use Rattle.std.proofs.Common.{sym, ap, ◌∙◌}
 use Rattle.guard_model.proofs.Results.{same_Ok}
-use Rattle.guard_model.specs.declared.site.Site.{Site}
 use Rattle.guard_model.specs.AbstractType as type
 use Rattle.guard_model.specs.AbstractType.{AbstractType, AbstractKind, AbstractPresence, Components, Constraint}
 use Rattle.guard_model.specs.AbstractType.{type_of}
@@ -15,11 +15,12 @@ use Rattle.guard_syntax.specs.Trees.{default, WrittenType, type_node, WrittenBas
 use Rattle.guard_syntax.specs.Trees.{enumerated, structure, choice, of_type, named_type, WrittenComponents}
 use Rattle.guard_syntax.specs.Trees.{no_components, component, components_from, WrittenAlternatives, no_alternatives}
 use Rattle.guard_syntax.specs.Trees.{alternative}
+use Rattle.guard_tagging.specs.Faults.{nodes, nodes_inside, nodes_of_components}
 use Rattle.guard_tagging.specs.Types.{structure_kind, of_kind, presence_of, join}
 use Rattle.guard_constraints.specs.Visible.{Visible}
 use Rattle.guard_schema.specs.Faults.{Outcome}
-use Rattle.guard_schema.specs.Finishing.{with_constraint, put_before, constraint_before, site_of_type, Adds, Constrains}
-use Rattle.guard_schema.specs.Finishing.{ConstrainsByOne, ConstrainsBefore, FillsPresence, FinishesComponent, Finishes}
+use Rattle.guard_schema.specs.Finishing.{with_constraint, put_before, Adds, ConstrainsByOne, ConstrainsElements}
+use Rattle.guard_schema.specs.Finishing.{ConstrainsBefore, FillsPresence, FinishesComponent, Finishes}
 use Rattle.guard_schema.specs.Finishing.{FinishesKind, Fills, FillsFrom, FillsFromBase, FillsOthers}
 
 abbrev pub shape_of_presence : AbstractPresence → AbstractPresence
@@ -56,6 +57,32 @@ pub count_shape : (cs : Components) → component_count (shape_of_parts cs) ≡ 
 count_shape type.no_components = refl
 count_shape (type.component name t presence cs) = ap suc (count_shape cs)
 
+-- the types that it is made of
+mutual
+  nodes_shape : (t : AbstractType) → nodes (shape t) ≡ nodes t
+  nodes_shape (type_of tags kind cons) = ap suc (nodes_inside_shape kind)
+
+  nodes_inside_shape : (kind : AbstractKind) → nodes_inside (shape_of_kind kind) ≡ nodes_inside kind
+  nodes_inside_shape (type.sequence cs) = nodes_parts_shape cs
+  nodes_inside_shape (type.set cs) = nodes_parts_shape cs
+  nodes_inside_shape (type.choice cs) = nodes_parts_shape cs
+  nodes_inside_shape (type.sequence_of t) = nodes_shape t
+  nodes_inside_shape (type.set_of t) = nodes_shape t
+  nodes_inside_shape type.boolean = refl
+  nodes_inside_shape (type.integer ns) = refl
+  nodes_inside_shape (type.bit_string ns) = refl
+  nodes_inside_shape type.octet_string = refl
+  nodes_inside_shape type.null = refl
+  nodes_inside_shape type.object_identifier = refl
+  nodes_inside_shape (type.enumerated ns) = refl
+  nodes_inside_shape (type.characters k) = refl
+
+  nodes_parts_shape : (cs : Components) → nodes_of_components (shape_of_parts cs) ≡ nodes_of_components cs
+  nodes_parts_shape type.no_components = refl
+  nodes_parts_shape (type.component name t presence cs) =
+      ap (λ (n : ℕ). n + nodes_of_components (shape_of_parts cs)) (nodes_shape t)
+      ∙ ap (λ (n : ℕ). nodes t + n) (nodes_parts_shape cs)
+
 shape_join : (xs ys : Components) → shape_of_parts (join xs ys) ≡ join (shape_of_parts xs) (shape_of_parts ys)
 shape_join type.no_components ys = refl
 shape_join (type.component name t presence xs) ys =
@@ -83,42 +110,42 @@ module _ (names : Visible) where
   adds_shape (c ∷ cs) t u (inl (v, inr (f, h, e), k)) = absurd cc
   adds_shape (c ∷ cs) t u (inr (f, h, e)) = absurd cc
 
-  constrains_shape : (site : Site) (cs : List WrittenConstraint) (t u : AbstractType)
-      → Constrains names site cs t (Ok u) → shape u ≡ shape t
-  constrains_shape site [] t u e = ap shape (same_Ok u t e)
-  constrains_shape site (c ∷ cs) t u (inl (x, sound, k)) = adds_shape (c ∷ cs) t u k
-  constrains_shape site (c ∷ cs) t u (inr (f, sound, e)) = absurd cc
-
-  by_one_shape : (site : Site) (c : WrittenOfConstraint) (size : Bool) (t u : AbstractType)
-      → ConstrainsByOne names site c size t (Ok u) → shape u ≡ shape t
-  by_one_shape site c true t u (inl (one, h, e)) =
+  by_one_shape : (c : WrittenOfConstraint) (size : Bool) (t u : AbstractType)
+      → ConstrainsByOne names c size t (Ok u) → shape u ≡ shape t
+  by_one_shape c true t u (inl (one, h, e)) =
       ap shape (same_Ok u (with_constraint t (type.at c.site (type.size one))) e)
       ∙ shape_with t (type.at c.site (type.size one))
-  by_one_shape site c true t u (inr (f, h, e)) = absurd cc
-  by_one_shape site c false t u (inl (x, sound, inl (one, h, e))) =
-      ap shape (same_Ok u (with_constraint t one) e) ∙ shape_with t one
-  by_one_shape site c false t u (inl (x, sound, inr (f, h, e))) = absurd cc
-  by_one_shape site c false t u (inr (f, sound, e)) = absurd cc
+  by_one_shape c true t u (inr (f, h, e)) = absurd cc
+  by_one_shape c false t u (inl (one, h, e)) = ap shape (same_Ok u (with_constraint t one) e) ∙ shape_with t one
+  by_one_shape c false t u (inr (f, h, e)) = absurd cc
 
-  before_shape : (site : Site) (c : Option WrittenOfConstraint) (t u : AbstractType)
-      → ConstrainsBefore names site c t (Ok u) → shape u ≡ shape t
-  before_shape site None t u e = ap shape (same_Ok u t e)
-  before_shape site (Some c) t u h = by_one_shape site c c.size t u h
+  elements_shape : (c : Option WrittenOfConstraint) (t u : AbstractType) → ConstrainsElements names c t (Ok u)
+      → shape u ≡ shape t
+  elements_shape None t u e = ap shape (same_Ok u t e)
+  elements_shape (Some c) t u h = by_one_shape c c.size t u h
 
-  presence_shape : (site : Site) (t : AbstractType) (presence : WrittenPresence) (p : AbstractPresence)
-      → FillsPresence names site t presence (Ok p)
-      → shape_of_presence p ≡ shape_of_presence (presence_of presence)
-  presence_shape site t mandatory p e = ap shape_of_presence (same_Ok p type.mandatory e)
-  presence_shape site t optional p e = ap shape_of_presence (same_Ok p type.optional e)
-  presence_shape site t (default tree) p (inl (x, sound, inl (v, h, e))) =
-      ap shape_of_presence (same_Ok p (type.default v) e)
-  presence_shape site t (default tree) p (inl (x, sound, inr (f, h, e))) = absurd cc
-  presence_shape site t (default tree) p (inr (f, sound, e)) = absurd cc
+  before_shape : (base : WrittenBase) (t u : AbstractType) → ConstrainsBefore names base t (Ok u) → shape u ≡ shape t
+  before_shape (plain p) t u e = ap shape (same_Ok u t e)
+  before_shape (numbers ns) t u e = ap shape (same_Ok u t e)
+  before_shape (named_bits ns) t u e = ap shape (same_Ok u t e)
+  before_shape (enumerated items) t u e = ap shape (same_Ok u t e)
+  before_shape (structure k cs) t u e = ap shape (same_Ok u t e)
+  before_shape (choice others) t u e = ap shape (same_Ok u t e)
+  before_shape (of_type k c w) t u h = elements_shape c t u h
+  before_shape (named_type site name) t u (inl (x, short, e)) = ap shape (same_Ok u t e)
+  before_shape (named_type site name) t u (inr (f, short, e)) = absurd cc
 
-  module _ (site : Site) (Finish : AbstractType → Outcome AbstractType → Type 0) (presence : WrittenPresence)
+  presence_shape : (t : AbstractType) (presence : WrittenPresence) (p : AbstractPresence)
+      → FillsPresence names t presence (Ok p) → shape_of_presence p ≡ shape_of_presence (presence_of presence)
+  presence_shape t mandatory p e = ap shape_of_presence (same_Ok p type.mandatory e)
+  presence_shape t optional p e = ap shape_of_presence (same_Ok p type.optional e)
+  presence_shape t (default tree) p (inl (v, h, e)) = ap shape_of_presence (same_Ok p (type.default v) e)
+  presence_shape t (default tree) p (inr (f, h, e)) = absurd cc
+
+  module _ (Finish : AbstractType → Outcome AbstractType → Type 0) (presence : WrittenPresence)
       (name : List ℕ) (bare : AbstractType)
       (same : (u : AbstractType) → Finish bare (Ok u) → shape u ≡ shape bare) where
-    component_shape : (one : OneComponent) → FinishesComponent names site Finish presence name bare (Ok one)
+    component_shape : (one : OneComponent) → FinishesComponent names Finish presence name bare (Ok one)
         → (one.name ≡ name) × (shape one.ty ≡ shape bare)
         × (shape_of_presence one.presence ≡ shape_of_presence (presence_of presence))
     component_shape one (inl (u, h, inl (p, k, e))) =
@@ -127,7 +154,7 @@ module _ (names : Visible) where
           ap (λ (c : OneComponent). c.name) is,
           ap (λ (c : OneComponent). shape c.ty) is
               ∙ same u h,
-          ap (λ (c : OneComponent). shape_of_presence c.presence) is ∙ presence_shape site u presence p k,
+          ap (λ (c : OneComponent). shape_of_presence c.presence) is ∙ presence_shape u presence p k,
         )
     component_shape one (inl (u, h, inr (f, k, e))) = absurd cc
     component_shape one (inr (f, h, e)) = absurd cc
@@ -146,7 +173,7 @@ module _ (names : Visible) where
   mutual
     pub type_shape : (w : WrittenType) (bare t : AbstractType) → Finishes names w bare (Ok t) → shape t ≡ shape bare
     type_shape (type_node site tags base cs) (type_of ts kind cons) t (inl (k, h, inl (v, b, l))) =
-        constrains_shape site cs v t l ∙ before_shape site (constraint_before base) (type_of ts k cons) v b
+        adds_shape cs v t l ∙ before_shape base (type_of ts k cons) v b
         ∙ ap (λ (x : AbstractKind). type_of ts x type.no_constraints) (kind_shape base kind k h)
     type_shape (type_node site tags base cs) (type_of ts kind cons) t (inl (k, h, inr (f, b, e))) = absurd cc
     type_shape (type_node site tags base cs) (type_of ts kind cons) t (inr (f, h, e)) = absurd cc
@@ -179,7 +206,7 @@ module _ (names : Visible) where
     list_shape (component site name t presence cs) bare parts (u, rest, is, inl (one, h, inl (others, k, e))) =
         ap shape_of_parts (same_Ok parts (put_before one others) e)
         ∙ put_shape one name u (presence_of presence) others rest
-        (component_shape (site_of_type t) (Finishes names t) presence name u (type_shape t u) one h)
+        (component_shape (Finishes names t) presence name u (type_shape t u) one h)
         (list_shape cs rest others k)
         ∙ ap shape_of_parts (sym is)
     list_shape (component site name t presence cs) bare parts (u, rest, is, inl (one, h, inr (f, k, e))) = absurd cc
@@ -214,8 +241,13 @@ module _ (names : Visible) where
     others_shape (alternative site name t others) bare parts (u, rest, is, inl (one, h, inl (more, k, e))) =
         ap shape_of_parts (same_Ok parts (put_before one more) e)
         ∙ put_shape one name u type.mandatory more rest
-        (component_shape (site_of_type t) (Finishes names t) mandatory name u (type_shape t u) one h)
+        (component_shape (Finishes names t) mandatory name u (type_shape t u) one h)
         (others_shape others rest more k)
         ∙ ap shape_of_parts (sym is)
     others_shape (alternative site name t others) bare parts (u, rest, is, inl (one, h, inr (f, k, e))) = absurd cc
     others_shape (alternative site name t others) bare parts (u, rest, is, inr (f, h, e)) = absurd cc
+
+-- so as many types as before
+pub finished_nodes : (names : Visible) (w : WrittenType) (bare t : AbstractType) → Finishes names w bare (Ok t)
+    → nodes t ≡ nodes bare
+finished_nodes names w bare t h = sym (nodes_shape t) ∙ ap nodes (type_shape names w bare t h) ∙ nodes_shape bare

@@ -12,7 +12,7 @@ use Rattle.guard_tagcheck.specs.Distinct.{AbstractClash}
 use Rattle.guard_tagcheck.specs.Limits.{nesting, nesting_inside, deepest}
 use Rattle.guard_tagcheck.specs.Search.{share_tag, alternative_shares_tag, one_shares_tag, is_passed, partner, paired}
 use Rattle.guard_tagcheck.specs.Search.{first_pair, here, inside, first_clash, clash_of_kind, clash_inside}
-use Rattle.guard_schema.proofs.Unsound.Shapes.{shape_of_presence, shape, shape_of_kind, shape_of_parts}
+use Rattle.guard_schema.proofs.Sound.Shapes.{shape_of_presence, shape, shape_of_kind, shape_of_parts}
 
 -- ---- the tags with which an encoding may begin
 

@@ -1,0 +1,17 @@
+use Rattle.std.proofs.Common.{inl, refl}
+use Rattle.std.proofs.lemmas.Result.{err_from_is_err_and}
+use Rattle.guard_model.specs.TypeView.{type_view}
+use Rattle.guard_schema.specs.Faults.{named}
+use Rattle.guard_schema.specs.Outcomes.{Is}
+use Rattle.guard_schema.specs.Readings.{HasShortValues}
+use Rattle.guard_schema.proofs.Turns.Outcomes.{first_refuses}
+use Rattle.guard_schema.proofs.constraints.with_short_values.Goals as goal
+
+pub returns-in_err-check_values-clause-passed : goal.returns-in_err-check_values-clause-passed
+returns-in_err-check_values-clause-passed c =
+    let p = err_from_is_err_and c.from_residual.result c.from_residual.ensures.1 in
+    rw (p.1, p.2) (first_refuses (HasShortValues (type_view c.args.ty)) (λ _. Is (type_view c.args.ty))
+    (named c.in_err-check_values.field-0.0) c.in_err-check_values.ensures)
+
+pub returns-clause-passed : goal.returns-clause-passed
+returns-clause-passed c = inl (tt, c.in_ok-check_values.ensures, refl)

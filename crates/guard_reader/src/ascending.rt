@@ -6,7 +6,7 @@ ghost use Rattle.guard_reader.specs.inside.Ascending.{Ascend};
 ghost use Rattle.guard_reader.specs.inside.FrontViews.{outermost};
 
 use crate::layers::outermost;
-use crate::set_members::follows;
+use guard_der::follows;
 use guard_model::Tag;
 use guard_tables::Nodes;
 

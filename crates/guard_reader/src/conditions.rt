@@ -1,14 +1,15 @@
 //! Conditions, defaults and formulas: what few elements need.
 ghost use Rattle.std.specs.Prelude.{◌≡◌, map, option_map};
-ghost use Rattle.std.specs.List.{list_any};
+ghost use Rattle.guard_integers.specs.Integers.{holds};
 ghost use Rattle.guard_model.specs.Same.{same_numbers};
 ghost use Rattle.guard_tables.specs.Formulas.{raised, fails_where};
 ghost use Rattle.guard_tables.specs.NodeViews.{form_view, raise_view};
-ghost use Rattle.guard_tables.specs.Marking.{is_in, is_in_one, some_passes};
+ghost use Rattle.guard_tables.specs.Marking.{some_passes};
 ghost use Rattle.guard_tables.specs.Slots.{has};
 ghost use Rattle.guard_tables.specs.TableNodes.{is_default};
 
-use guard_tables::{Form, Raise, Range, Slots};
+use guard_integers::IntSet;
+use guard_tables::{Form, Raise, Slots};
 
 /// Whether contents are those of the default, where there is one.
 pub fn is_default(default: &Option<Vec<u8>>, inside: &[u8]) -> bool
@@ -26,24 +27,12 @@ pub fn are_same(octets: &[u8], others: &[u8]) -> bool
     octets == others
 }
 
-/// Whether a number lies in one of the ranges.
-pub fn is_in_one(ranges: &[Range], number: i128) -> bool
-    ensures { result ≡ list_any (is_in number) ranges.now }
-{
-    for range in ranges {
-        if range.low <= number && number <= range.high {
-            return true;
-        }
-    }
-    false
-}
-
-/// Whether there is a number, and it lies in one of the ranges.
-pub fn has_one(ranges: &[Range], number: Option<i128>) -> bool
-    ensures { result ≡ some_passes (is_in_one ranges.now) number }
+/// Whether there is a number, and it is one of the set.
+pub fn has_one(set: &IntSet, number: Option<i128>) -> bool
+    ensures { result ≡ some_passes (holds set.now) number }
 {
     match number {
-        Some(number) => is_in_one(ranges, number),
+        Some(number) => set.has(number),
         None => false,
     }
 }

@@ -1,14 +1,15 @@
 //! Which contents octets are lawful for a simple kind.
-ghost use Rattle.std.specs.Prelude.{◌≡◌, ◌∷◌, ◌-◌, ◌*◌, ◌+◌, ◌≤◌, ◌^◌, map, pos, true, [], if◌then◌else◌};
+ghost use Rattle.std.specs.Prelude.{◌≡◌, ◌∷◌, map, pos, [], if◌then◌else◌};
 ghost use Rattle.std.specs.Option.{is_none};
-ghost use Rattle.guard_der.specs.Fits.{is_item, last_octet as last_of, has_proper_end, has_zero_end, has_no_trailing_zero};
-ghost use Rattle.guard_der.specs.Simple.{simple_fault, boolean_fault, null_fault, bits_fault, enumerated_fault, object_id_fault, is_text};
+ghost use Rattle.guard_der.specs.Fits.{is_item};
+ghost use Rattle.guard_der.specs.Simple.{simple_fault, boolean_fault, integer_fault, null_fault, bits_fault, enumerated_fault, object_id_fault, is_text};
 ghost use Rattle.guard_tables.specs.NodeViews.{kind_view, unnamed};
 
 use crate::kind_alphabets::are_characters;
-use crate::numbers::{is_integer, twos_complement};
 use crate::object_id::is_object_identifier;
 use crate::texts::is_spelled_utf8;
+use guard_der::bits::{has_no_trailing_zero, has_proper_end, has_zero_end};
+use guard_der::integers::{fault_of_integer, twos_complement};
 use guard_model::CharKind;
 use guard_tables::SimpleKind;
 
@@ -37,6 +38,13 @@ fn is_boolean(inside: &[u8]) -> bool
         [octet] => *octet == 0 || *octet == 0xFF,
         _ => false,
     }
+}
+
+/// The shortest two's complement, of at most sixteen octets (X.690 8.3).
+fn is_integer(inside: &[u8]) -> bool
+    ensures { result ≡ is_none (integer_fault inside.now) }
+{
+    fault_of_integer(inside).is_none()
 }
 
 /// The number of an item (X.690 8.4).
@@ -78,58 +86,6 @@ fn are_bits(named: bool, octets: &[u8], unused: u8) -> bool
         return false;
     }
     !named || has_no_trailing_zero(octets, unused)
-}
-
-/// At most seven bits are unused, and without octets none (X.690 8.6.2).
-fn has_proper_end(octets: &[u8], unused: u8) -> bool
-    ensures result { result ≡ has_proper_end octets.now unused }
-    ensures few { result ≡ true → unused ≤ 7 }
-{
-    unused <= 7 && (unused == 0 || !octets.is_empty())
-}
-
-fn has_zero_end(octets: &[u8], unused: u8) -> bool
-    requires { unused ≤ 7 }
-    ensures { result ≡ has_zero_end octets.now unused }
-{
-    last_octet(octets) % power_of_two(unused) == 0
-}
-
-/// The last bit is one, or there are no bits.
-fn has_no_trailing_zero(octets: &[u8], unused: u8) -> bool
-    requires { unused ≤ 7 }
-    ensures { result ≡ has_no_trailing_zero octets.now unused }
-{
-    match octets {
-        [] => true,
-        _ => last_octet(octets) / power_of_two(unused) % 2 == 1,
-    }
-}
-
-fn last_octet(octets: &[u8]) -> u8
-    ensures { result ≡ last_of octets.now }
-{
-    if octets.is_empty() {
-        0
-    } else {
-        octets[octets.len() - 1]
-    }
-}
-
-fn power_of_two(exponent: u8) -> u8
-    requires { exponent ≤ 7 }
-    ensures { result ≡ 2 ^ exponent }
-{
-    match exponent {
-        0 => 1,
-        1 => 2,
-        2 => 4,
-        3 => 8,
-        4 => 16,
-        5 => 32,
-        6 => 64,
-        _ => 128,
-    }
 }
 
 /// UTF-8, or an octet of the kind's alphabet for each character (X.690 8.23).

@@ -1,11 +1,11 @@
 //! What is at the front of octets, seen from a node.
-ghost use Rattle.std.specs.Prelude.{◌≡◌, ◌<◌, ◌≤◌, true, vec_len, option_map, IfSome};
+ghost use Rattle.std.specs.Prelude.{◌≡◌, ◌<◌, ◌≤◌, true, length, vec_len, option_map, IfSome};
 ghost use Rattle.guard_model.specs.Tags.{same_tag};
 ghost use Rattle.guard_der.specs.Reading.{same_form};
 ghost use Rattle.guard_tables.specs.NodesView.{spots_in};
 ghost use Rattle.guard_tables.specs.Plan.{body_in, form_in, tags_in};
 ghost use Rattle.guard_tables.specs.TableNodes.{body_at, spot_at};
-ghost use Rattle.guard_reader.specs.Fronts.{all_inside, alone, begins, body_front, element_in, far_front, front, front_cut, head_front, innermost, parts_front, after_one};
+ghost use Rattle.guard_reader.specs.Fronts.{all_inside, alone, begins, body_front, element_in, far_front, front, front_cut, front_of, head_front, innermost, parts_front, after_one};
 ghost use Rattle.guard_reader.specs.Octets.{split};
 ghost use Rattle.guard_reader.specs.inside.FrontViews.{front_view};
 ghost use Rattle.guard_reader.specs.inside.NodeParts.{IsChoice};
@@ -13,7 +13,6 @@ ghost use Rattle.guard_reader.specs.inside.NodeParts.{IsChoice};
 use crate::header::split_after;
 use crate::high_tags::is_spelled;
 use crate::layers::{has_layers, has_two_tags, is_choice, outermost, tag_round};
-use crate::order::front_of;
 use guard_der::header;
 use guard_model::Tag;
 use guard_tables::{Kind, Nodes};
@@ -237,4 +236,12 @@ pub fn innermost<'a>(table: &Nodes, at: usize, octets: &'a [u8]) -> Option<&'a [
         };
     }
     innermost(table, first, octets)
+}
+
+/// Octets without those that are left after them.
+pub fn front_of<'a>(octets: &'a [u8], rest: &[u8]) -> &'a [u8]
+    requires { length rest.now ≤ length octets.now }
+    ensures { result.now ≡ front_of octets.now rest.now }
+{
+    &octets[..octets.len() - rest.len()]
 }

@@ -8,6 +8,7 @@ ghost use Rattle.guard_model.specs.Alphabets.{all_characters, is_character};
 
 use crate::alphabet::{all_in, are_all_in};
 use arrayvec::ArrayVec;
+use guard_eval::is_in_some;
 use guard_model::CharKind;
 
 /// How many ranges are looked at by lanes, at most.
@@ -86,17 +87,6 @@ fn are_singly_in(ranges: &[(u32, u32)], inside: &[u8]) -> bool
         }
     }
     true
-}
-
-pub fn is_in_some(ranges: &[(u32, u32)], code: u32) -> bool
-    ensures { result ≡ is_in_some ranges.now code }
-{
-    for (low, high) in ranges {
-        if *low <= code && code <= *high {
-            return true;
-        }
-    }
-    false
 }
 
 /// The ranges as far as octets can lie in them.

@@ -12,8 +12,6 @@
 //! | If not, which is next? | `set_members.rt` | `specs/inside/Members.antt`, `specs/inside/Ranks.antt` |
 //! | Which contents octets are lawful? | `contents.rt`, `object_id.rt` | of `guard_der` `specs/Simple.antt` |
 //! | What fails at their value? | `simple.rt` | `specs/Judging.antt` |
-//! | Which number do they spell? | `numbers.rt` | of `guard_der` `specs/Octets.antt` |
-//! | Do the elements of a SET OF ascend? | `order.rt` | of `guard_der` `specs/Fits.antt` |
 //! | What is asked of a value that has parts as a whole? | `whole.rt` | `specs/Judging.antt` |
 //! | Is it a default, and what do formulas say? | `conditions.rt` | of `guard_tables` `specs/Formulas.antt` |
 //! | Which types of a table have the value? | `table_walk.rt` (`walk`), `marks.rt` | `specs/Marking.antt` |
@@ -34,9 +32,7 @@ mod kind_alphabets;
 pub mod laws;
 mod layers;
 mod marks;
-mod numbers;
 mod object_id;
-mod order;
 mod plain;
 mod set_members;
 mod simple;

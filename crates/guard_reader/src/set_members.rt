@@ -1,11 +1,9 @@
 //! Components of a SET: which one is next, and which were read.
 ghost use Rattle.std.specs.Prelude.{◌≡◌, ◌+◌, ◌%◌, ◌<◌, ◌≤◌, ◌||◌, slice_index, ℕ, List, [], true, length, nat_eq, vec_len, IfSome, Some, option_map};
 ghost use Rattle.std.specs.Int.{bit_at};
-ghost use Rattle.guard_der.specs.Reading.{follows};
 ghost use Rattle.guard_tables.specs.NodesView.{spots_in};
 ghost use Rattle.guard_tables.specs.TableNodes.{parts_between};
 ghost use Rattle.guard_reader.specs.Judging.{absences_at, is_read, tag_after, tag_at};
-ghost use Rattle.guard_der.specs.Head.{class_of};
 ghost use Rattle.guard_reader.specs.Fronts.{after_one, elsewhere};
 ghost use Rattle.guard_reader.specs.Octets.{split};
 ghost use Rattle.std.specs.Option.{is_some};
@@ -17,10 +15,9 @@ ghost use Rattle.guard_reader.specs.inside.Ranks.{AreBelow, IsBelow, IsLow, rank
 use crate::element_fronts::{Front, front_at};
 use crate::header::split_after;
 use crate::walking::series::absent;
-use guard_der::header;
-use guard_model::{Class, Tag};
+use guard_der::{class_of, follows, header};
+use guard_model::Tag;
 use guard_tables::{Nodes, Slots};
-use std::cmp::Ordering;
 
 /// The tag of the element at the front, where it comes after the one before.
 pub fn next_tag(last: Option<Tag>, octets: &[u8]) -> Option<Tag>
@@ -83,18 +80,6 @@ fn is_whole(octets: &[u8]) -> bool
     split_after(octets).is_some()
 }
 
-#[inline(always)]
-fn class_of(octet: u8) -> Class
-    ensures { result ≡ class_of octet }
-{
-    match octet {
-        0..64 => Class::Universal,
-        64..128 => Class::Application,
-        128..192 => Class::Context,
-        _ => Class::Private,
-    }
-}
-
 fn tag_after(last: Option<Tag>, tag: Tag) -> Option<Tag>
     ensures { result ≡ tag_after last (Some tag) }
 {
@@ -102,15 +87,6 @@ fn tag_after(last: Option<Tag>, tag: Tag) -> Option<Tag>
         return Some(tag);
     }
     None
-}
-
-pub fn follows(last: Option<Tag>, tag: Tag) -> bool
-    ensures { result ≡ follows last tag }
-{
-    match last {
-        None => true,
-        Some(last) => last.order(&tag) == Ordering::Less,
-    }
 }
 
 /// The order of a first octet whatever its form: tags of one octet ascend with it (X.690 8.1.2).

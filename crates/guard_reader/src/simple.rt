@@ -1,11 +1,12 @@
 //! Kinds whose contents octets spell the value alone.
-ghost use Rattle.std.specs.Prelude.{◌≡◌, ◌*◌, ◌-◌, ℤ, List, pos, length, map, Some, None, [], true, if◌then◌else◌, IfSome};
+ghost use Rattle.std.specs.Prelude.{◌≡◌, ℤ, List, pos, length, map, Some, None, [], true, if◌then◌else◌, IfSome};
 ghost use Rattle.std.specs.List.{list_all};
 ghost use Rattle.std.specs.Option.{is_none};
 ghost use Rattle.std.specs.Str.{is_utf8, chars};
 ghost use Rattle.guard_der.specs.Simple.{simple_fault, simple_value, bits_fault, bits_of, is_text, characters_of};
 ghost use Rattle.guard_eval.specs.Elements.{size_of, is_in_some};
-ghost use Rattle.guard_tables.specs.Marking.{Facts, facts, number_in, characters_in, is_in_one, some_passes, test_passes, conditions_marked};
+ghost use Rattle.guard_integers.specs.Integers.{holds};
+ghost use Rattle.guard_tables.specs.Marking.{Facts, facts, number_in, characters_in, some_passes, test_passes, conditions_marked};
 ghost use Rattle.guard_tables.specs.NodeViews.{kind_view, condition_view, test_view};
 ghost use Rattle.guard_model.specs.AbstractType.{characters};
 ghost use Rattle.guard_tables.specs.declared.slots.Slots.{Slots};
@@ -16,13 +17,16 @@ ghost use Rattle.guard_reader.specs.inside.Answers.{Answers};
 ghost use Rattle.guard_reader.specs.inside.AtOnce.{PassesAtOnce};
 ghost use Rattle.guard_reader.specs.Judging.{contents_judged};
 
-use crate::conditions::{are_same, has_one, is_in_one};
+use crate::conditions::{are_same, has_one};
 use crate::contents::is_lawful;
-use crate::kind_alphabets::{are_octets_in, has_one_octet, has_ranges, is_in_some};
-use crate::numbers::twos_complement;
+use crate::kind_alphabets::{are_octets_in, has_one_octet, has_ranges};
 use crate::texts::count_utf8;
+use guard_der::bits::count_bits;
+use guard_der::integers::twos_complement;
+use guard_eval::are_permitted;
+use guard_integers::IntSet;
 use guard_model::CharKind;
-use guard_tables::{Cold, Condition, Conditions, Range, SimpleKind, Slots, Test};
+use guard_tables::{Cold, Condition, Conditions, SimpleKind, Slots, Test};
 
 /// Contents octets of a simple kind, and what is asked of the value.
 #[inline(never)]
@@ -67,7 +71,7 @@ fn passes_at_once(test: &Test, kind: CharKind, inside: &[u8]) -> bool
     ensures { result ≡ true → PassesAtOnce (test_view test.now) kind inside.now }
 {
     match test {
-        Test::Spelled(ranges) => lies_in(ranges, kind, inside),
+        Test::Spelled(alphabet) => lies_in(alphabet.ranges(), kind, inside),
         _ => false,
     }
 }
@@ -138,10 +142,10 @@ fn passes(test: &Test, kind: SimpleKind, items: &[i128], inside: &[u8]) -> bool
         (facts (simple_value (kind_view kind items.now) inside.now) (Some inside.now)) }
 {
     match test {
-        Test::Numbers(ranges) => has_one(ranges, number_of(kind, items, inside)),
-        Test::Sizes(ranges) => is_sized(ranges, kind, items, inside),
+        Test::Numbers(set) => has_one(set, number_of(kind, items, inside)),
+        Test::Sizes(set) => is_sized(set, kind, items, inside),
         Test::Stored(octets) => are_same(octets, inside),
-        Test::Spelled(ranges) => is_spelled(ranges, kind, items, inside),
+        Test::Spelled(alphabet) => is_spelled(alphabet.ranges(), kind, items, inside),
     }
 }
 
@@ -163,40 +167,33 @@ fn number_of(kind: SimpleKind, items: &[i128], inside: &[u8]) -> Option<i128>
     }
 }
 
-/// Whether the size in bits, octets or characters lies in one of the ranges (X.680 51.5); other kinds have none.
-fn is_sized(ranges: &[Range], kind: SimpleKind, items: &[i128], inside: &[u8]) -> bool
+/// Whether the size in bits, octets or characters is one of the set (X.680 51.5); other kinds have none.
+fn is_sized(set: &IntSet, kind: SimpleKind, items: &[i128], inside: &[u8]) -> bool
     requires { is_none (simple_fault (kind_view kind items.now) inside.now) ≡ true }
-    ensures { result ≡ some_passes (λ n. is_in_one ranges.now (pos n))
+    ensures { result ≡ some_passes (λ n. holds set.now (pos n))
         (size_of (simple_value (kind_view kind items.now) inside.now)) }
 {
     match kind {
         SimpleKind::Boolean => false,
         SimpleKind::Integer => false,
         SimpleKind::Enumerated => false,
-        SimpleKind::BitString => has_bits(ranges, inside),
-        SimpleKind::NamedBits => has_bits(ranges, inside),
-        SimpleKind::OctetString => is_in_one(ranges, inside.len() as i128),
+        SimpleKind::BitString => has_bits(set, inside),
+        SimpleKind::NamedBits => has_bits(set, inside),
+        SimpleKind::OctetString => set.has(inside.len() as i128),
         SimpleKind::Null => false,
         SimpleKind::ObjectIdentifier => false,
-        SimpleKind::Characters(kind) => is_in_one(ranges, count(kind, inside) as i128),
+        SimpleKind::Characters(kind) => set.has(count(kind, inside) as i128),
     }
 }
 
-/// Whether the count of bits does; the first octet is the count of those that are unused.
-fn has_bits(ranges: &[Range], inside: &[u8]) -> bool
-    ensures { result ≡ some_passes (λ n. is_in_one ranges.now (pos n)) (size_of (bits_of inside.now)) }
+/// Whether the count of bits is; the first octet is the count of those that are unused.
+fn has_bits(set: &IntSet, inside: &[u8]) -> bool
+    ensures { result ≡ some_passes (λ n. holds set.now (pos n)) (size_of (bits_of inside.now)) }
 {
     match inside {
-        [unused, octets @ ..] => is_in_one(ranges, count_bits(octets, *unused)),
-        [] => is_in_one(ranges, 0),
+        [unused, octets @ ..] => set.has(count_bits(octets, *unused)),
+        [] => set.has(0),
     }
-}
-
-fn count_bits(octets: &[u8], unused: u8) -> i128
-    ensures { result ≡ pos (8 * length octets.now - unused) }
-{
-    let all = 8 * (octets.len() as u128);
-    all.saturating_sub(u128::from(unused)) as i128
 }
 
 /// How many characters octets spell.
@@ -250,18 +247,7 @@ fn are_spelled_utf8(ranges: &[(u32, u32)], inside: &[u8]) -> bool
     ensures { result ≡ list_all (is_in_some ranges.now) (chars inside.now) }
 {
     match str::from_utf8(inside) {
-        Ok(text) => are_characters_in(ranges, text),
+        Ok(text) => are_permitted(ranges, text),
         Err(_) => false,
     }
-}
-
-fn are_characters_in(ranges: &[(u32, u32)], text: &str) -> bool
-    ensures { result ≡ list_all (is_in_some ranges.now) (chars text.now) }
-{
-    for character in text.chars() {
-        if !is_in_some(ranges, u32::from(character)) {
-            return false;
-        }
-    }
-    true
 }

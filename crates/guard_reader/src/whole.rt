@@ -1,15 +1,17 @@
 //! What is asked of a value that has parts as a whole: its size, and that it is one single value.
 ghost use Rattle.std.specs.Prelude.{◌≡◌, ◌<◌, pos, map, vec_len};
-ghost use Rattle.guard_tables.specs.Marking.{is_in_one, some_passes, test_passes, conditions_marked};
+ghost use Rattle.guard_integers.specs.Integers.{holds};
+ghost use Rattle.guard_tables.specs.Marking.{some_passes, test_passes, conditions_marked};
 ghost use Rattle.guard_tables.specs.NodesView.{spots_in};
 ghost use Rattle.guard_tables.specs.NodeViews.{condition_view, test_view};
 ghost use Rattle.guard_tables.specs.TableNodes.{body_at};
 ghost use Rattle.guard_reader.specs.Judging.{element_count, size_in, whole_facts};
 ghost use Rattle.guard_reader.specs.inside.NodeParts.{sight_at};
 
-use crate::conditions::{are_same, is_in_one};
+use crate::conditions::are_same;
 use crate::element_fronts::{element, front_at};
-use guard_tables::{Condition, Kind, Nodes, Range, Slots, Test};
+use guard_integers::IntSet;
+use guard_tables::{Condition, Kind, Nodes, Slots, Test};
 
 /// The size of a list whose octets are lawful; other kinds have none.
 pub fn size_of(table: &Nodes, at: usize, inside: &[u8]) -> Option<usize>
@@ -64,18 +66,18 @@ fn passes(test: &Test, size: Option<usize>, inside: &[u8]) -> bool
 {
     match test {
         Test::Numbers(_) => false,
-        Test::Sizes(ranges) => has_size(ranges, size),
+        Test::Sizes(set) => has_size(set, size),
         Test::Stored(octets) => are_same(octets, inside),
         Test::Spelled(_) => true,
     }
 }
 
-/// Whether there is a size, and it lies in one of the ranges.
-fn has_size(ranges: &[Range], size: Option<usize>) -> bool
-    ensures { result ≡ some_passes (λ n. is_in_one ranges.now (pos n)) size }
+/// Whether there is a size, and it is one of the set.
+fn has_size(set: &IntSet, size: Option<usize>) -> bool
+    ensures { result ≡ some_passes (λ n. holds set.now (pos n)) size }
 {
     match size {
-        Some(size) => is_in_one(ranges, size as i128),
+        Some(size) => set.has(size as i128),
         None => false,
     }
 }

@@ -38,10 +38,9 @@ pub mod LaidTypes
 -- ---- what loops gather
 pub mod Gathered
 -- ---- ranges of integers
-pub mod Pieces
 pub mod WholeSets
+pub mod JoinedRanges
 pub mod RuleViews
-pub mod ScalarLaws
 pub mod ItemTests
 -- ---- formulas from lists
 pub mod FormLists

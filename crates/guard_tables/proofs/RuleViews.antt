@@ -1,21 +1,22 @@
 -- One level of what an element of a constraint stands for.
-use Rattle.std.proofs.Common.{◌≡◌, ℕ, Bool, map, sym, ap, ◌∙◌}
-use Rattle.std.specs.Global.{Box, Vec}
+use Rattle.std.proofs.Common.{◌≡◌, sym, ap, ◌∙◌}
+use Rattle.std.specs.Arc.{arc_value}
+use Rattle.std.specs.Global.{Box, Global}
+use Rattle.std.specs.declared.sync.Arc.{Arc}
 use Rattle.guard_model.specs.AbstractType as type
 use Rattle.guard_model.specs.AbstractType.{AbstractType, AbstractKind, Constraint, Element}
-use Rattle.guard_model.specs.TypeView.{OneComponent, OnePart, type_view, constraint_view, element_view, part_view, parts_of, kind_step, rule_step, comp_step, cons_step, part_step, ty_step}
+use Rattle.guard_model.specs.TypeView.{OneComponent, OnePart, type_view, constraint_view, element_view, kind_step, rule_step, comp_step, cons_step, part_step, ty_step}
 use Rattle.guard_model.specs.ValueView.{value_view}
 use Rattle.guard_model.specs.declared.ty.Cons.{Cons}
 use Rattle.guard_model.specs.declared.ty.Kind.TheFolds.{fold-roll-Rule}
 use Rattle.guard_model.specs.declared.ty.Kind.TheOpen.{Rule-F}
 use Rattle.guard_model.specs.declared.ty.Limit.{Limit}
-use Rattle.guard_model.specs.declared.ty.Part.{Part}
-use Rattle.guard_model.specs.declared.ty.Rule.{Rule, One, Inside, Range, Size, Alphabet, Each, Parts, Minus, Other}
-use Rattle.guard_model.specs.declared.ty.Rule.TheVariants.{rolls-One, rolls-Inside, rolls-Range, rolls-Size, rolls-Alphabet, rolls-Each, rolls-Parts, rolls-Minus, rolls-Other}
+use Rattle.guard_model.specs.declared.ty.Rule.{Rule, One, Inside, Range, Minus, Other}
+use Rattle.guard_model.specs.declared.ty.Rule.TheVariants.{rolls-One, rolls-Inside, rolls-Range, rolls-Minus, rolls-Other}
 use Rattle.guard_model.specs.declared.ty.Ty.{Ty}
 use Rattle.guard_model.specs.declared.value.Value.{Value}
 
-pub view_one : (rule : Rule) (v : Value) → rule ≡ One v → element_view rule ≡ type.single_value (value_view v)
+pub view_one : (rule : Rule) (v : Arc Value Global) → rule ≡ One v → element_view rule ≡ type.single_value (value_view (arc_value v))
 view_one rule v is = ap element_view is ∙ ap element_view (sym (rolls-One v)) ∙ fold-roll-Rule AbstractKind Element OneComponent Constraint OnePart AbstractType kind_step rule_step comp_step cons_step part_step ty_step (Rule-F.One v)
 
 pub view_inside : (rule : Rule) (t : Box Ty) → rule ≡ Inside t → element_view rule ≡ type.contained_subtype (type_view t.value)
@@ -29,15 +30,3 @@ view_minus rule a b is = ap element_view is ∙ ap element_view (sym (rolls-Minu
 
 pub view_other : (rule : Rule) (a : Box Cons) → rule ≡ Other a → element_view rule ≡ type.all_except (constraint_view a.value)
 view_other rule a is = ap element_view is ∙ ap element_view (sym (rolls-Other a)) ∙ fold-roll-Rule AbstractKind Element OneComponent Constraint OnePart AbstractType kind_step rule_step comp_step cons_step part_step ty_step (Rule-F.Other a)
-
-pub view_size : (rule : Rule) (a : Box Cons) → rule ≡ Size a → element_view rule ≡ type.size (constraint_view a.value)
-view_size rule a is = ap element_view is ∙ ap element_view (sym (rolls-Size a)) ∙ fold-roll-Rule AbstractKind Element OneComponent Constraint OnePart AbstractType kind_step rule_step comp_step cons_step part_step ty_step (Rule-F.Size a)
-
-pub view_alphabet : (rule : Rule) (ranges : Vec (ℕ × ℕ)) → rule ≡ Alphabet ranges → element_view rule ≡ type.permitted_alphabet ranges.items
-view_alphabet rule ranges is = ap element_view is ∙ ap element_view (sym (rolls-Alphabet ranges)) ∙ fold-roll-Rule AbstractKind Element OneComponent Constraint OnePart AbstractType kind_step rule_step comp_step cons_step part_step ty_step (Rule-F.Alphabet ranges)
-
-pub view_each : (rule : Rule) (a : Box Cons) → rule ≡ Each a → element_view rule ≡ type.with_component (constraint_view a.value)
-view_each rule a is = ap element_view is ∙ ap element_view (sym (rolls-Each a)) ∙ fold-roll-Rule AbstractKind Element OneComponent Constraint OnePart AbstractType kind_step rule_step comp_step cons_step part_step ty_step (Rule-F.Each a)
-
-pub view_parts : (rule : Rule) (partial : Bool) (ps : Vec Part) → rule ≡ Parts partial ps → element_view rule ≡ type.with_components partial (parts_of (map part_view ps.items))
-view_parts rule partial ps is = ap element_view is ∙ ap element_view (sym (rolls-Parts partial ps)) ∙ fold-roll-Rule AbstractKind Element OneComponent Constraint OnePart AbstractType kind_step rule_step comp_step cons_step part_step ty_step (Rule-F.Parts partial ps)

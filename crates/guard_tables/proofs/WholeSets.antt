@@ -1,6 +1,9 @@
 -- The integers that a constraint allows as one set.
-use Rattle.std.proofs.Common.{◌≡◌, ℕ, ◌+◌, ◌<◌, ◌≤◌, Result, Ok, Err, IfOk, ℤ, Bool, true, false, not, ◌&&◌, ◌||◌, List, ◌∷◌, length, get_or, map, drop, refl, sym, ap, ◌∙◌}
+use Rattle.std.proofs.Common.{◌≡◌, ℕ, ◌+◌, ◌<◌, ◌≤◌, Result, Ok, Err, IfOk, ℤ, Bool, true, false, not, ◌&&◌, ◌||◌, List, [], ◌∷◌, ◌++◌, length, get_or, map, drop, refl, sym, ap, ◌∙◌}
 use Rattle.std.proofs.lemmas.List.{at_drop_more, at_drop_all}
+use Rattle.std.proofs.lemmas.List.Folds.{list_any-append}
+use Rattle.guard_integers.specs.Integers as integers
+use Rattle.guard_integers.specs.Integers.{Integers, some_holds}
 use Rattle.guard_model.specs.declared.tag.Tag.{Tag}
 use Rattle.guard_model.specs.declared.ty.Cons.{Cons}
 use Rattle.guard_model.specs.AbstractType as type
@@ -18,39 +21,25 @@ and_true : (a : Bool) → (a && true) ≡ a
 and_true true = refl
 and_true false = refl
 
-pub and_false : (a : Bool) → (a && false) ≡ false
+and_false : (a : Bool) → (a && false) ≡ false
 and_false true = refl
 and_false false = refl
 
-still : (l g f : Bool) → (l && f) ≡ l → ((l && not g) && f) ≡ (l && not g)
-still false g f within = refl
-still true true f within = refl
-still true false f within = within
-
-twice : (f s : Bool) → (f && not (f && not s)) ≡ (f && s)
-twice true true = refl
-twice true false = refl
-twice false s = refl
-
 -- ---- all of them
 
-common_of : (l f h rest total : Bool) → (l && f) ≡ l → (l && (h && rest)) ≡ total → ((l && not (f && not (f && h))) && rest) ≡ total
+common_of : (l f h rest total : Bool) → l ≡ (f && l) → (l && (h && rest)) ≡ total → ((l && (f && h)) && rest) ≡ total
 common_of false f h rest total within so_far = so_far
-common_of true true true rest total within so_far = so_far
-common_of true true false rest total within so_far = so_far
+common_of true true h rest total within so_far = so_far
 common_of true false h rest total within so_far = absurd cc
 
-pub all_more : (kind : AbstractKind) (z : ℤ) (cs : List Cons) (i : ℕ) (c : Cons) (l l2 g r f total : Bool) → i < length cs → c ≡ get_or cs i c
-    → l2 ≡ (l && not g) → g ≡ (f && not r) → r ≡ (f && holds (constraint_view c) kind (value.integer z)) → (l && f) ≡ l
+pub all_more : (kind : AbstractKind) (z : ℤ) (cs : List Cons) (i : ℕ) (c : Cons) (l l2 r f total : Bool) → i < length cs → c ≡ get_or cs i c
+    → l2 ≡ (l && r) → r ≡ (f && holds (constraint_view c) kind (value.integer z)) → l ≡ (f && l)
     → (l && all_hold (rest_of (drop i cs)) kind (value.integer z)) ≡ total → (l2 && all_hold (rest_of (drop (i + 1) cs)) kind (value.integer z)) ≡ total
-all_more kind z cs i c l l2 g r f total lt is left gone allowed within so_far =
+all_more kind z cs i c l l2 r f total lt is left allowed within so_far =
     let rest = all_hold (rest_of (drop (i + 1) cs)) kind (value.integer z) in
     let first = at_drop_more (λ (ds : List Cons). all_hold (rest_of ds) kind (value.integer z)) cs i c lt ∙ ap (λ (d : Cons). all_hold (rest_of (d ∷ drop (i + 1) cs)) kind (value.integer z)) (sym is) in
-    ap (λ (b : Bool). b && rest) left ∙ ap (λ (b : Bool). (l && not b) && rest) gone ∙ ap (λ (b : Bool). (l && not (f && not b)) && rest) allowed
+    ap (λ (b : Bool). b && rest) left ∙ ap (λ (b : Bool). (l && b) && rest) allowed
     ∙ common_of l f (holds (constraint_view c) kind (value.integer z)) rest total within (ap (λ (b : Bool). l && b) (sym first) ∙ so_far)
-
-pub within_more : (l l2 g f : Bool) → l2 ≡ (l && not g) → (l && f) ≡ l → (l2 && f) ≡ l2
-within_more l l2 g f left within = ap (λ (b : Bool). b && f) left ∙ still l g f within ∙ sym left
 
 pub all_done : (kind : AbstractKind) (z : ℤ) (cs : List Cons) (i : ℕ) (l total : Bool) → length cs ≤ i → (l && all_hold (rest_of (drop i cs)) kind (value.integer z)) ≡ total → l ≡ total
 all_done kind z cs i l total ends so_far =
@@ -58,43 +47,48 @@ all_done kind z cs i l total ends so_far =
 
 -- ---- one of them
 
-none_of : (l f h rest total : Bool) → (l && f) ≡ l → (l && not (h || rest)) ≡ total → ((l && not (f && h)) && not rest) ≡ total
-none_of false f h rest total within so_far = so_far
-none_of true true true rest total within so_far = so_far
-none_of true true false rest total within so_far = so_far
-none_of true false h rest total within so_far = absurd cc
+or_false : (a : Bool) → (a || false) ≡ a
+or_false true = refl
+or_false false = refl
 
-pub some_more : (kind : AbstractKind) (z : ℤ) (cs : List Cons) (i : ℕ) (c : Cons) (l l2 r f total : Bool) → i < length cs → c ≡ get_or cs i c
-    → l2 ≡ (l && not r) → r ≡ (f && holds (constraint_view c) kind (value.integer z)) → (l && f) ≡ l
-    → (l && not (some_hold (rest_of (drop i cs)) kind (value.integer z))) ≡ total → (l2 && not (some_hold (rest_of (drop (i + 1) cs)) kind (value.integer z))) ≡ total
-some_more kind z cs i c l l2 r f total lt is left allowed within so_far =
+pub one_set_more : (sets : List Integers) (set : Integers) (z : ℤ) → some_holds (sets ++ set ∷ []) z ≡ (some_holds sets z || integers.holds set z)
+one_set_more sets set z = list_any-append (λ s. integers.holds s z) sets (set ∷ []) ∙ ap (λ (b : Bool). some_holds sets z || b) (or_false (integers.holds set z))
+
+one_of : (a f h rest : Bool) → ((a || (f && h)) || (f && rest)) ≡ (a || (f && (h || rest)))
+one_of true f h rest = refl
+one_of false true h rest = refl
+one_of false false h rest = refl
+
+pub some_more : (kind : AbstractKind) (z : ℤ) (cs : List Cons) (i : ℕ) (c : Cons) (a a2 r f total : Bool) → i < length cs → c ≡ get_or cs i c
+    → a2 ≡ (a || r) → r ≡ (f && holds (constraint_view c) kind (value.integer z))
+    → (a || (f && some_hold (rest_of (drop i cs)) kind (value.integer z))) ≡ total → (a2 || (f && some_hold (rest_of (drop (i + 1) cs)) kind (value.integer z))) ≡ total
+some_more kind z cs i c a a2 r f total lt is added allowed so_far =
     let rest = some_hold (rest_of (drop (i + 1) cs)) kind (value.integer z) in
     let first = at_drop_more (λ (ds : List Cons). some_hold (rest_of ds) kind (value.integer z)) cs i c lt ∙ ap (λ (d : Cons). some_hold (rest_of (d ∷ drop (i + 1) cs)) kind (value.integer z)) (sym is) in
-    ap (λ (b : Bool). b && not rest) left ∙ ap (λ (b : Bool). (l && not b) && not rest) allowed
-    ∙ none_of l f (holds (constraint_view c) kind (value.integer z)) rest total within (ap (λ (b : Bool). l && not b) (sym first) ∙ so_far)
+    ap (λ (b : Bool). b || (f && rest)) added ∙ ap (λ (b : Bool). (a || b) || (f && rest)) allowed
+    ∙ one_of a f (holds (constraint_view c) kind (value.integer z)) rest ∙ ap (λ (b : Bool). a || (f && b)) (sym first) ∙ so_far
 
-pub some_done : (kind : AbstractKind) (z : ℤ) (cs : List Cons) (i : ℕ) (l f s made : Bool) → length cs ≤ i → (l && not (some_hold (rest_of (drop i cs)) kind (value.integer z))) ≡ (f && not s) → made ≡ (f && not l) → made ≡ (f && s)
-some_done kind z cs i l f s made ends so_far is =
-    let none = at_drop_all (λ (ds : List Cons). some_hold (rest_of ds) kind (value.integer z)) cs i ends in
-    let left : l ≡ (f && not s) = sym (and_true l) ∙ ap (λ (b : Bool). l && not b) (sym none) ∙ so_far in
-    is ∙ ap (λ (b : Bool). f && not b) left ∙ twice f s
+pub some_done : (kind : AbstractKind) (z : ℤ) (cs : List Cons) (i : ℕ) (a f total : Bool) → length cs ≤ i → (a || (f && some_hold (rest_of (drop i cs)) kind (value.integer z))) ≡ total → a ≡ total
+some_done kind z cs i a f total ends so_far =
+    sym (or_false a) ∙ ap (λ (b : Bool). a || b) (sym (and_false f))
+    ∙ ap (λ (b : Bool). a || (f && b)) (sym (at_drop_all (λ (ds : List Cons). some_hold (rest_of ds) kind (value.integer z)) cs i ends)) ∙ so_far
 
 -- ---- members of a type
 
-pub integers : (tags : List Tag) (kind : AbstractKind) (cons : Constraints) (z : ℤ) → is_member (type_of tags kind cons) (value.integer z) ≡ (is_integer kind && (fits_128_bits z && all_hold cons kind (value.integer z)))
-integers tags type.boolean cons z = refl
-integers tags (type.integer names) cons z = and_true (fits_128_bits z && all_hold cons (type.integer names) (value.integer z))
-integers tags (type.bit_string names) cons z = refl
-integers tags type.octet_string cons z = refl
-integers tags type.null cons z = refl
-integers tags type.object_identifier cons z = refl
-integers tags (type.enumerated items) cons z = refl
-integers tags (type.characters k) cons z = refl
-integers tags (type.sequence cs) cons z = refl
-integers tags (type.set cs) cons z = refl
-integers tags (type.choice cs) cons z = refl
-integers tags (type.sequence_of t) cons z = refl
-integers tags (type.set_of t) cons z = refl
+pub integers_of : (tags : List Tag) (kind : AbstractKind) (cons : Constraints) (z : ℤ) → is_member (type_of tags kind cons) (value.integer z) ≡ (is_integer kind && (fits_128_bits z && all_hold cons kind (value.integer z)))
+integers_of tags type.boolean cons z = refl
+integers_of tags (type.integer names) cons z = and_true (fits_128_bits z && all_hold cons (type.integer names) (value.integer z))
+integers_of tags (type.bit_string names) cons z = refl
+integers_of tags type.octet_string cons z = refl
+integers_of tags type.null cons z = refl
+integers_of tags type.object_identifier cons z = refl
+integers_of tags (type.enumerated items) cons z = refl
+integers_of tags (type.characters k) cons z = refl
+integers_of tags (type.sequence cs) cons z = refl
+integers_of tags (type.set cs) cons z = refl
+integers_of tags (type.choice cs) cons z = refl
+integers_of tags (type.sequence_of t) cons z = refl
+integers_of tags (type.set_of t) cons z = refl
 
 fits_twice : (f a : Bool) → (f && (f && a)) ≡ (f && a)
 fits_twice true a = refl
@@ -103,11 +97,11 @@ fits_twice false a = refl
 pub of_integer : (tags : List Tag) (kind : AbstractKind) (cons : Constraints) (z : ℤ) (made : Bool) → is_integer kind ≡ true → made ≡ (fits_128_bits z && all_hold cons kind (value.integer z)) → made ≡ (fits_128_bits z && is_member (type_of tags kind cons) (value.integer z))
 of_integer tags kind cons z made whole is =
     is ∙ sym (fits_twice (fits_128_bits z) (all_hold cons kind (value.integer z)))
-    ∙ ap (λ (b : Bool). fits_128_bits z && (b && (fits_128_bits z && all_hold cons kind (value.integer z)))) (sym whole) ∙ ap (λ (b : Bool). fits_128_bits z && b) (sym (integers tags kind cons z))
+    ∙ ap (λ (b : Bool). fits_128_bits z && (b && (fits_128_bits z && all_hold cons kind (value.integer z)))) (sym whole) ∙ ap (λ (b : Bool). fits_128_bits z && b) (sym (integers_of tags kind cons z))
 
 pub of_other : (tags : List Tag) (kind : AbstractKind) (cons : Constraints) (z : ℤ) → is_integer kind ≡ false → false ≡ (fits_128_bits z && is_member (type_of tags kind cons) (value.integer z))
 of_other tags kind cons z not_one =
-    sym (and_false (fits_128_bits z)) ∙ ap (λ (b : Bool). fits_128_bits z && (b && (fits_128_bits z && all_hold cons kind (value.integer z)))) (sym not_one) ∙ ap (λ (b : Bool). fits_128_bits z && b) (sym (integers tags kind cons z))
+    sym (and_false (fits_128_bits z)) ∙ ap (λ (b : Bool). fits_128_bits z && (b && (fits_128_bits z && all_hold cons kind (value.integer z)))) (sym not_one) ∙ ap (λ (b : Bool). fits_128_bits z && b) (sym (integers_of tags kind cons z))
 
 -- ---- EXCEPT and ALL EXCEPT
 

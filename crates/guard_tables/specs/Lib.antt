@@ -1,6 +1,7 @@
 -- ---- what is asked of a value at a node
 pub mod Nodes
 pub mod Conditions
+pub mod NumberSets
 -- ---- sets of slots, and what nodes stand for
 pub mod Slots
 pub mod Formulas
@@ -17,6 +18,7 @@ pub mod Forms
 pub mod Handed
 pub mod Lay
 -- ---- the nodes
+pub mod Alphabets
 pub mod NodeViews
 pub mod TableNodes
 pub mod NodesView

@@ -1,6 +1,6 @@
 -- What has failed once a value has passed a plan.
-use Rattle.std.specs.Prelude.{ℕ, zero, suc, ℤ, Bool, true, false, ◌&&◌, List, [], ◌∷◌, Option, Some, None, int_le}
-use Rattle.std.specs.List.{list_any, list_all}
+use Rattle.std.specs.Prelude.{ℕ, zero, suc, ℤ, Bool, true, false, List, [], ◌∷◌, Option, Some, None}
+use Rattle.std.specs.List.{list_all}
 use Rattle.guard_model.specs.AbstractType as type
 use Rattle.guard_model.specs.AbstractType.{AbstractType, AbstractKind, Components, type_of, no_components, component}
 use Rattle.guard_model.specs.AbstractValue as value
@@ -8,7 +8,6 @@ use Rattle.guard_model.specs.AbstractValue.{AbstractValue, Fields, Items}
 use Rattle.guard_model.specs.Same.{same_numbers}
 use Rattle.guard_der.specs.Der.{contents_octets}
 use Rattle.guard_eval.specs.Elements.{size_of}
-use Rattle.guard_tables.specs.declared.node.Range.{Range}
 use Rattle.guard_tables.specs.declared.slots.Slots.{Slots}
 use Rattle.guard_tables.specs.Slots.{none, added, has}
 use Rattle.guard_tables.specs.Formulas.{failed_unless, raised}
@@ -38,13 +37,6 @@ facts v contents = record { number = number_in v; size = size_of v; characters =
 
 abbrev pub facts_of : AbstractKind → AbstractValue → Facts
 facts_of kind v = facts v (contents_octets kind v)
-
--- both ends in
-abbrev pub is_in : ℤ → Range → Bool
-is_in z r = int_le r.low z && int_le z r.high
-
-abbrev pub is_in_one : List Range → ℤ → Bool
-is_in_one ranges z = list_any (is_in z) ranges
 
 -- What isn't there passes no test.
 abbrev pub some_passes : {A : Type 0} → (A → Bool) → Option A → Bool

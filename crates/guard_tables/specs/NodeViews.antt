@@ -1,5 +1,6 @@
 -- What a node of the code says, without where it lies in memory.
 use Rattle.std.specs.Prelude.{ℕ, ℤ, pos, ◌+◌, ◌*◌, Bool, true, not, List, [], ◌∷◌, map, nat_lt, Option, Some, None, if◌then◌else◌}
+use Rattle.guard_integers.specs.Integers.{holds}
 use Rattle.guard_model.specs.declared.tag.Tag.{Tag}
 use Rattle.guard_model.specs.Tags.{class_rank}
 use Rattle.guard_model.specs.AbstractType as type
@@ -20,7 +21,6 @@ use Rattle.guard_tables.specs.declared.slots.Slots.{Slots}
 use Rattle.guard_tables.specs.Slots.{none}
 use Rattle.guard_eval.specs.Elements.{is_in_some}
 use Rattle.guard_tables.specs.Formulas as formulas
-use Rattle.guard_tables.specs.Marking.{is_in_one}
 use Rattle.guard_tables.specs.Plan.{AbstractTest, numbers, sizes, stored, spelled, AbstractCondition}
 
 -- names don't count
@@ -40,10 +40,10 @@ kind_view kind.ObjectIdentifier items = type.object_identifier
 kind_view (kind.Characters k) items = type.characters k
 
 abbrev pub test_view : Test → AbstractTest
-test_view (test.Numbers ranges) = numbers (is_in_one ranges.items)
-test_view (test.Sizes ranges) = sizes (λ n. is_in_one ranges.items (pos n))
+test_view (test.Numbers set) = numbers (holds set)
+test_view (test.Sizes set) = sizes (λ n. holds set (pos n))
 test_view (test.Stored octets) = stored octets.items
-test_view (test.Spelled ranges) = spelled (is_in_some ranges.items)
+test_view (test.Spelled alphabet) = spelled (is_in_some alphabet)
 
 abbrev pub condition_view : Condition → AbstractCondition
 condition_view c = record { slots = c.slots; test = test_view c.test }

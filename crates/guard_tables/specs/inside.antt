@@ -2,9 +2,8 @@
 pub mod AskViews
 pub mod OnePart
 pub mod FormSteps
-pub mod Pieces
+pub mod JoinedRanges
 pub mod NumberSets
-pub mod Scalars
 pub mod Counting
 pub mod HandingDown
 pub mod Search

@@ -1,6 +1,8 @@
 //! The conditions of a node: what is asked there of the value itself.
 ghost use Rattle.std.specs.Prelude.{◌≡◌, ◌++◌, ℤ, true, false, ◌&&◌, ◌||◌, map, option_map, option_to_list, IsTrue, IfOk, OnOk};
 ghost use Rattle.std.specs.Ordering.{int_eq};
+ghost use Rattle.guard_integers.specs.Integers.{some_holds};
+ghost use Rattle.guard_model.specs.AbstractType as type;
 ghost use Rattle.guard_model.specs.AbstractValue as abstract;
 ghost use Rattle.guard_model.specs.Limits.{fits_128_bits};
 ghost use Rattle.guard_model.specs.TypeView.{kind_view, named_view, constraint_view};
@@ -8,21 +10,22 @@ ghost use Rattle.guard_model.specs.ValueView.{value_view};
 ghost use Rattle.guard_der.specs.Der.{contents_octets};
 ghost use Rattle.guard_der.specs.Fits.{fits_kind, is_item};
 ghost use Rattle.guard_eval.specs.Member.{holds};
-ghost use Rattle.guard_tables.specs.Apt.{Speaks, AllSpeak};
+ghost use Rattle.guard_tables.specs.Apt.{IsApt, Speaks, AllSpeak};
+ghost use Rattle.guard_tables.specs.Demands.{by_constraint};
 ghost use Rattle.guard_tables.specs.Lay.{truth_tests, scalar_tests, stored_test, tests_of, conditions_in, conditions_of};
-ghost use Rattle.guard_tables.specs.Marking.{is_in_one};
 ghost use Rattle.guard_tables.specs.NodeViews.{test_view, condition_view};
 ghost use Rattle.guard_tables.specs.Plan.{numbers};
 ghost use Rattle.guard_tables.specs.inside.AskViews.{atom_view, terms_view};
 
-use crate::asks::{Atom, Term};
+use crate::asks::{Atom, Demand, Term};
 use crate::conditions_list::Conditions;
 use crate::encoded::if_short;
-use crate::node::{Condition, Range, Test};
-use crate::scalars::{Scalar, has_scalar};
+use crate::node::{Condition, Test};
+use crate::sides::is_met;
 use crate::simple_tests::{no_value, number_test, size_test, spelling_test};
 use crate::slots::Slots;
 use guard_der::encode_contents;
+use guard_integers::IntSet;
 use guard_model::{Cons, Kind, Named, OutOfMemory, Value};
 use std::alloc::Global;
 
@@ -107,27 +110,36 @@ fn scalar_test(
     own: &Kind,
     constraint: &Cons,
 ) -> Result<Option<Test>, OutOfMemory>
+    requires { IsApt (kind_view kind.now) (by_constraint (kind_view own.now) (constraint_view constraint.now)) }
     ensures { IfOk result (λ t. option_to_list (option_map test_view t)
         ≡ scalar_tests (kind_view kind.now) (holds (constraint_view constraint.now) (kind_view own.now))) }
 {
     match kind {
-        Kind::Bool => truth_test(alloc, own, constraint),
+        Kind::Bool => truth_test(alloc, kind, own, constraint),
         Kind::Int(_) => Ok(Some(number_test(constraint, alloc)?)),
-        Kind::Enumerated(items) => Ok(Some(item_test(alloc, items, own, constraint)?)),
-        Kind::Null if has_scalar(constraint, own, Scalar::Null) => Ok(None),
+        Kind::Enumerated(items) => Ok(Some(item_test(alloc, kind, items, own, constraint)?)),
+        Kind::Null if is_met(Demand::Constraint(own, constraint), kind, &Value::Null) => Ok(None),
         Kind::Null => Ok(Some(no_value(alloc))),
         _ => Ok(None),
     }
 }
 
 /// None where both truth values pass.
-fn truth_test(alloc: Global, own: &Kind, constraint: &Cons) -> Result<Option<Test>, OutOfMemory>
+fn truth_test(
+    alloc: Global,
+    kind: &Kind,
+    own: &Kind,
+    constraint: &Cons,
+) -> Result<Option<Test>, OutOfMemory>
+    requires apt { IsApt (kind_view kind.now) (by_constraint (kind_view own.now) (constraint_view constraint.now)) }
+    requires kind { kind_view kind.now ≡ type.boolean }
     ensures { IfOk result (λ t. option_to_list (option_map test_view t)
         ≡ truth_tests (holds (constraint_view constraint.now) (kind_view own.now) (abstract.boolean true))
         (holds (constraint_view constraint.now) (kind_view own.now) (abstract.boolean false))) }
 {
-    let has_true = has_scalar(constraint, own, Scalar::Bool(true));
-    let has_false = has_scalar(constraint, own, Scalar::Bool(false));
+    let demand = Demand::Constraint(own, constraint);
+    let has_true = is_met(demand, kind, &Value::Bool(true));
+    let has_false = is_met(demand, kind, &Value::Bool(false));
     match (has_true, has_false) {
         (true, true) => Ok(None),
         (true, false) => Ok(Some(Test::Stored(Vec::from_slice(alloc, &[TRUE])?))),
@@ -139,34 +151,43 @@ fn truth_test(alloc: Global, own: &Kind, constraint: &Cons) -> Result<Option<Tes
 /// The number is that of an item which the constraint has.
 fn item_test(
     alloc: Global,
+    kind: &Kind,
     items: &[Named],
     own: &Kind,
     constraint: &Cons,
 ) -> Result<Test, OutOfMemory>
+    requires apt { IsApt (kind_view kind.now) (by_constraint (kind_view own.now) (constraint_view constraint.now)) }
+    requires kind { kind_view kind.now ≡ type.enumerated (map named_view items.now) }
     ensures { IfOk result (λ t. test_view t ≡ numbers (λ z. (fits_128_bits z && is_item z (map named_view items.now))
         && holds (constraint_view constraint.now) (kind_view own.now) (abstract.enumerated z))) }
 {
-    let mut ranges = Vec::new(alloc);
+    let mut sets = Vec::new(alloc);
     for item in items {
-        push_item(item.number, own, constraint, &mut ranges)?;
+        push_item(alloc, kind, item.number, own, constraint, &mut sets)?;
     }
-    Ok(Test::Numbers(ranges))
+    Ok(Test::Numbers(IntSet::union_of(alloc, &sets)?))
 }
 
+/// Its number, where the constraint has the item.
 fn push_item(
+    alloc: Global,
+    kind: &Kind,
     number: i128,
     own: &Kind,
     constraint: &Cons,
-    ranges: &mut Vec<Range>,
+    sets: &mut Vec<IntSet>,
 ) -> Result<(), OutOfMemory>
-    ensures { OnOk result ((z : ℤ) → is_in_one ranges.new.items z ≡ (is_in_one ranges.old.items z
+    requires apt { IsApt (kind_view kind.now) (by_constraint (kind_view own.now) (constraint_view constraint.now)) }
+    requires item { IsTrue (fits_kind (kind_view kind.now) (abstract.enumerated number)) }
+    ensures { OnOk result ((z : ℤ) → some_holds sets.new.items z ≡ (some_holds sets.old.items z
         || ((fits_128_bits z && int_eq z number) && holds (constraint_view constraint.now) (kind_view own.now) (abstract.enumerated z)))) }
 {
-    if has_scalar(constraint, own, Scalar::Enumerated(number)) {
-        ranges.push(Range {
-            low: number,
-            high: number,
-        })?;
+    if is_met(
+        Demand::Constraint(own, constraint),
+        kind,
+        &Value::Enumerated(number),
+    ) {
+        sets.push(IntSet::range(alloc, number, number)?)?;
     }
     Ok(())
 }

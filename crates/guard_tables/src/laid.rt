@@ -1,5 +1,7 @@
 //! Nodes beside those that aren't with them yet.
 ghost use Rattle.std.specs.Prelude.{length};
+ghost use Rattle.std.proofs.Props.{props};
+ghost use Rattle.guard_integers.specs.Integers.{integers_set};
 ghost use Rattle.guard_tables.specs.TableNodes.{IsNode, spots_of};
 
 use crate::drafts::Node;
@@ -10,7 +12,7 @@ use crate::node_list::Builder;
 pub(crate) struct Laid {
     pub builder: Builder,
     pub node: Node,
-    pub ghost stands: { IsNode node.hot node.cold (spots_of builder.hots.items builder.colds.items) (length builder.hots.items) },
+    pub ghost stands: { IsNode node.hot node.cold (spots_of builder.hots.items builder.colds.items) (length builder.hots.items) } by { Prim.hlevel (props, integers_set) },
 }
 
 /// Nodes, and the parts of a node, which aren't with them yet.

@@ -34,12 +34,12 @@
 //! | The same of a component's presence | `presence.rt` | `Lay.antt` |
 //! | Which numbers does a constraint have? | `number_sets.rt` | `NumberSets.antt` |
 //! | Which sizes and characters? | `simple_tests.rt` | `Lay.antt` |
-//! | And as one set of ranges? | `range_lists.rt` | `Pieces.antt` |
-//! | Which values of the other simple kinds? | `scalars.rt` | `Scalars.antt` |
+//! | How are permitted characters kept? | `alphabet.rt` | `Alphabets.antt` |
 //!
 //! The definitions are in `specs/`; what only private contracts cite is in `specs/inside/`.
 #![tactic(auto)]
 
+mod alphabet;
 mod asks;
 mod asks_at_node;
 mod assembly;
@@ -69,9 +69,7 @@ mod parts;
 mod plain;
 mod plain_interval;
 mod presence;
-mod range_lists;
 mod same_types;
-mod scalars;
 mod segments;
 mod sharing;
 mod sides;
@@ -80,10 +78,12 @@ mod slots;
 mod spreading;
 mod table;
 
+pub use alphabet::Alphabet;
 pub use conditions_list::Conditions;
 pub use fault::TableFault;
 pub use kept_types::KeptTypes;
-pub use node::{Cold, Condition, Form, Hot, Kind, Need, Raise, Range, SimpleKind, Test};
+pub use node::{Cold, Condition, Form, Hot, Kind, Need, Raise, SimpleKind, Test};
 pub use node_list::{Builder, Nodes};
+pub use number_sets::{numbers_of, numbers_of_type};
 pub use slots::Slots;
 pub use table::Table;

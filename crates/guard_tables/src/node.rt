@@ -1,6 +1,8 @@
 //! The nodes of a table: what every message reads of one, and what few do.
+use crate::alphabet::Alphabet;
 use crate::conditions_list::Conditions;
 use crate::slots::Slots;
+use guard_integers::IntSet;
 use guard_model::{CharKind, Tag};
 
 /// The kinds whose contents octets spell a value alone.
@@ -93,21 +95,14 @@ pub struct Condition {
 
 #[derive(Drop)]
 pub enum Test {
-    /// The number lies in one of these ranges.
-    Numbers(Vec<Range>),
-    /// The size does: bits, octets, characters or elements.
-    Sizes(Vec<Range>),
+    /// The number is one of these.
+    Numbers(IntSet),
+    /// The size is: bits, octets, characters or elements.
+    Sizes(IntSet),
     /// The contents octets are these.
     Stored(Vec<u8>),
-    /// Each character has a code in one of these ranges, both ends in.
-    Spelled(Vec<(u32, u32)>),
-}
-
-/// A range of integers, both ends in.
-#[derive(Clone, Copy, Debug)]
-pub struct Range {
-    pub low: i128,
-    pub high: i128,
+    /// Each character is one of these.
+    Spelled(Alphabet),
 }
 
 /// Slots that fail where the formula says so.

@@ -1,5 +1,7 @@
 //! Nodes that are put together one after the other, parts before wholes.
 ghost use Rattle.std.specs.Prelude.{◌≡◌, ◌<◌, ◌++◌, ◌∷◌, [], length, vec_len, IfOk};
+ghost use Rattle.std.proofs.Props.{props};
+ghost use Rattle.guard_integers.specs.Integers.{integers_set};
 ghost use Rattle.guard_tables.specs.TableNodes.{IsBuilt, IsNode, spots_of};
 
 use crate::node::{Cold, Hot};
@@ -12,7 +14,7 @@ pub struct Nodes {
     pub hots: Vec<Hot>,
     pub colds: Vec<Cold>,
     pub ghost some: { 0 < vec_len hots },
-    pub ghost built: { IsBuilt hots.items colds.items },
+    pub ghost built: { IsBuilt hots.items colds.items } by { Prim.hlevel (props, integers_set) },
 }
 
 /// Nodes to which others may be added.
@@ -20,7 +22,7 @@ pub struct Nodes {
 pub struct Builder {
     pub hots: Vec<Hot>,
     pub colds: Vec<Cold>,
-    pub ghost built: { IsBuilt hots.items colds.items },
+    pub ghost built: { IsBuilt hots.items colds.items } by { Prim.hlevel (props, integers_set) },
 }
 
 impl Builder {

@@ -7,23 +7,24 @@ ghost use Rattle.guard_model.specs.Same.{same};
 ghost use Rattle.guard_model.specs.ValueView.{value_view};
 ghost use Rattle.guard_eval.specs.Elements.{is_above, is_under, is_between};
 ghost use Rattle.guard_eval.specs.Member.{holds, holds_element, is_member, all_hold, some_hold};
-ghost use Rattle.guard_tables.specs.inside.NumberSets.{HasNumbers, begins, ends};
+ghost use Rattle.guard_tables.specs.NumberSets.{HasNumbers};
+ghost use Rattle.guard_tables.specs.inside.NumberSets.{begins, ends};
 
-use crate::node::Range;
-use crate::range_lists::{all_integers, complement, difference};
+use guard_integers::IntSet;
 use guard_model::{Cons, Limit, OutOfMemory, Rule, Ty, Value};
 use std::alloc::Global;
 
+/// The integers that the constraint allows. Its one refusal is want of memory.
 #[cycle(number_sets)]
-pub(crate) fn numbers_of(constraint: &Cons, alloc: Global) -> Result<Vec<Range>, OutOfMemory>
-    ensures { IfOk result (λ rs. HasNumbers rs.items (λ kind z. holds (constraint_view constraint.now) kind (abstract.integer z))) }
+pub fn numbers_of(constraint: &Cons, alloc: Global) -> Result<IntSet, OutOfMemory>
+    ensures { IfOk result (λ set. HasNumbers set (λ kind z. holds (constraint_view constraint.now) kind (abstract.integer z))) }
 {
     numbers_of_rule(&constraint.rule, alloc)
 }
 
 #[cycle(number_sets)]
-fn numbers_of_rule(rule: &Rule, alloc: Global) -> Result<Vec<Range>, OutOfMemory>
-    ensures { IfOk result (λ rs. HasNumbers rs.items (λ kind z. holds_element (element_view rule.now) kind (abstract.integer z))) }
+fn numbers_of_rule(rule: &Rule, alloc: Global) -> Result<IntSet, OutOfMemory>
+    ensures { IfOk result (λ set. HasNumbers set (λ kind z. holds_element (element_view rule.now) kind (abstract.integer z))) }
 {
     match rule {
         Rule::One(value) => number_alone(value, alloc),
@@ -32,84 +33,69 @@ fn numbers_of_rule(rule: &Rule, alloc: Global) -> Result<Vec<Range>, OutOfMemory
         Rule::Any(constraints) => numbers_of_some(constraints, alloc),
         Rule::Both(constraints) => numbers_of_all(constraints, alloc),
         Rule::Minus(kept, taken) => {
-            let ranges = numbers_of(kept, alloc)?;
-            let gone = numbers_of(taken, alloc)?;
-            difference(alloc, ranges, &gone)
+            let numbers = numbers_of(kept, alloc)?;
+            numbers.minus(alloc, &numbers_of(taken, alloc)?)
         }
-        Rule::Other(other) => {
-            let ranges = numbers_of(other, alloc)?;
-            complement(alloc, &ranges)
-        }
-        _ => Ok(Vec::new(alloc)),
+        Rule::Other(other) => numbers_of(other, alloc)?.complement(alloc),
+        _ => Ok(IntSet::none(alloc)),
     }
 }
 
 /// The integers that all of these allow.
 #[cycle(number_sets)]
-fn numbers_of_all(constraints: &[Cons], alloc: Global) -> Result<Vec<Range>, OutOfMemory>
-    ensures { IfOk result (λ rs. HasNumbers rs.items (λ kind z.
+fn numbers_of_all(constraints: &[Cons], alloc: Global) -> Result<IntSet, OutOfMemory>
+    ensures { IfOk result (λ set. HasNumbers set (λ kind z.
         all_hold (constraints_of (map constraint_view constraints.now)) kind (abstract.integer z))) }
 {
-    let mut left = all_integers(alloc)?;
+    let mut left = IntSet::all(alloc)?;
     for constraint in constraints {
-        let ranges = numbers_of(constraint, alloc)?;
-        let gone = complement(alloc, &ranges)?;
-        left = difference(alloc, left, &gone)?;
+        left = left.intersection(alloc, &numbers_of(constraint, alloc)?)?;
     }
     Ok(left)
 }
 
-/// The integers that one of these allows: all but those that none does.
+/// The integers that one of these allows.
 #[cycle(number_sets)]
-fn numbers_of_some(constraints: &[Cons], alloc: Global) -> Result<Vec<Range>, OutOfMemory>
-    ensures { IfOk result (λ rs. HasNumbers rs.items (λ kind z.
+fn numbers_of_some(constraints: &[Cons], alloc: Global) -> Result<IntSet, OutOfMemory>
+    ensures { IfOk result (λ set. HasNumbers set (λ kind z.
         some_hold (constraints_of (map constraint_view constraints.now)) kind (abstract.integer z))) }
 {
-    let mut left = all_integers(alloc)?;
+    let mut sets = Vec::new(alloc);
     for constraint in constraints {
-        let ranges = numbers_of(constraint, alloc)?;
-        left = difference(alloc, left, &ranges)?;
+        sets.push(numbers_of(constraint, alloc)?)?;
     }
-    complement(alloc, &left)
+    IntSet::union_of(alloc, &sets)
 }
 
-/// The members of a contained type, which has integers where it is an INTEGER.
+/// The integers that are members of the type: none where it is no INTEGER. Its one refusal is want of memory.
 #[cycle(number_sets)]
-fn numbers_of_type(ty: &Ty, alloc: Global) -> Result<Vec<Range>, OutOfMemory>
-    ensures { IfOk result (λ rs. HasNumbers rs.items (λ kind z. is_member (type_view ty.now) (abstract.integer z))) }
+pub fn numbers_of_type(ty: &Ty, alloc: Global) -> Result<IntSet, OutOfMemory>
+    ensures { IfOk result (λ set. HasNumbers set (λ kind z. is_member (type_view ty.now) (abstract.integer z))) }
 {
     if ty.kind.is_integer() {
         return numbers_of_all(&ty.cons, alloc);
     }
-    Ok(Vec::new(alloc))
+    Ok(IntSet::none(alloc))
 }
 
 /// A single value, where it is a number.
-fn number_alone(value: &Value, alloc: Global) -> Result<Vec<Range>, OutOfMemory>
-    ensures { IfOk result (λ rs. HasNumbers rs.items (λ kind z. same (value_view value.now) (abstract.integer z))) }
+fn number_alone(value: &Value, alloc: Global) -> Result<IntSet, OutOfMemory>
+    ensures { IfOk result (λ set. HasNumbers set (λ kind z. same (value_view value.now) (abstract.integer z))) }
 {
-    let mut ranges = Vec::new(alloc);
-    if let Value::Int(number) = value {
-        ranges.push(Range {
-            low: *number,
-            high: *number,
-        })?;
+    match value {
+        Value::Int(number) => IntSet::range(alloc, *number, *number),
+        _ => Ok(IntSet::none(alloc)),
     }
-    Ok(ranges)
 }
 
 /// A range: none where the low end is above the high one.
-fn numbers_between(low: Limit, high: Limit, alloc: Global) -> Result<Vec<Range>, OutOfMemory>
-    ensures { IfOk result (λ rs. HasNumbers rs.items (λ kind z. is_between low high (abstract.integer z))) }
+fn numbers_between(low: Limit, high: Limit, alloc: Global) -> Result<IntSet, OutOfMemory>
+    ensures { IfOk result (λ set. HasNumbers set (λ kind z. is_between low high (abstract.integer z))) }
 {
-    let mut ranges = Vec::new(alloc);
-    let (Some(low), Some(high)) = (lowest(low), highest(high)) else {
-        return Ok(ranges);
-    };
-    if low <= high {
-        ranges.push(Range { low, high })?;
+    match (lowest(low), highest(high)) {
+        (Some(low), Some(high)) => IntSet::range(alloc, low, high),
+        _ => Ok(IntSet::none(alloc)),
     }
-    Ok(ranges)
 }
 
 /// The least number that isn't below a limit.

@@ -1,16 +1,19 @@
 //! Numbers whose contents octets fail nothing at a node.
-ghost use Rattle.std.specs.Prelude.{◌≡◌, ◌≤ℤ◌, ◌⊎◌, ℕ, ℤ, List, None, true, map, IsTrue};
+ghost use Rattle.std.specs.Prelude.{◌≡◌, ◌≤ℤ◌, ◌⊎◌, ℕ, ℤ, List, None, true, map, int_lt, IsTrue};
+ghost use Rattle.guard_integers.specs.Integers.{holds};
 ghost use Rattle.guard_der.specs.Octets.{twos_complement};
 ghost use Rattle.guard_der.specs.Simple.{integer_fault};
-ghost use Rattle.guard_tables.specs.Marking.{is_in, is_in_one};
 ghost use Rattle.guard_tables.specs.NodeViews.{test_view, condition_view};
 ghost use Rattle.guard_tables.specs.Slots.{none};
 ghost use Rattle.guard_tables.specs.TableNodes.{Spot, spot_of, IsFree};
 ghost use Rattle.guard_tables.specs.inside.Intervals.{IsWithin, PassesTest, PassesAll, IsItemPassed, IsPassed};
 
-use crate::node::{Cold, Condition, Hot, Kind, Range, SimpleKind, Test};
-use crate::segments::is_in_one;
+use crate::node::{Cold, Condition, Hot, Kind, SimpleKind, Test};
 use crate::slots::Slots;
+use guard_integers::IntSet;
+
+/// Of a set with more runs of numbers only the first are looked at.
+const MOST_RUNS: usize = 1024;
 
 /// Numbers from the first to the second, both in; none where the second is below the first.
 #[derive(Clone, Copy)]
@@ -36,6 +39,12 @@ impl Interval {
         ensures { (z : ℤ) → IsWithin result z → ⊥ }
     {
         Interval { low: 1, high: 0 }
+    }
+
+    fn is_empty(self) -> bool
+        ensures { result ≡ int_lt self.high self.low }
+    {
+        self.high < self.low
     }
 
     fn width(self) -> i64 {
@@ -81,36 +90,71 @@ fn passed_of(passed: Interval, test: &Test) -> Interval
     ensures { (z : ℤ) → IsWithin result z → IsWithin passed z × PassesTest z (test_view test.now) }
 {
     match test {
-        Test::Numbers(ranges) => widest(passed, ranges),
+        Test::Numbers(set) => widest(passed, set),
         _ => Interval::empty(),
     }
 }
 
-/// Of what lies in one of the ranges too, the most.
-fn widest(passed: Interval, ranges: &[Range]) -> Interval
-    ensures { (z : ℤ) → IsWithin result z → IsWithin passed z × (is_in_one ranges.now z ≡ true) }
+/// Of what the set holds too, the most that lies together.
+fn widest(passed: Interval, set: &IntSet) -> Interval
+    ensures { (z : ℤ) → IsWithin result z → IsWithin passed z × (holds set.now z ≡ true) }
 {
     let mut best = Interval::empty();
-    for range in ranges {
-        let common = common(passed, range);
-        if common.width() > best.width() {
-            best = common;
+    let mut left = passed;
+    for _ in 0..MOST_RUNS {
+        if left.is_empty() {
+            return best;
         }
+        let run = first_run(left, set);
+        best = wider(best, if_held(run, set));
+        left = rest_after(left, run);
     }
     best
 }
 
-fn common(passed: Interval, range: &Range) -> Interval
-    ensures { (z : ℤ) → IsWithin result z → IsWithin passed z × (is_in z range.now ≡ true) }
+/// The first of these numbers, as long as the set holds all of them, or none.
+fn first_run(numbers: Interval, set: &IntSet) -> Interval
+    requires { numbers.low ≤ℤ numbers.high }
+    ensures { (z : ℤ) → IsWithin result z → IsWithin numbers z × (holds set.now z ≡ holds set.now result.low) }
 {
-    let low = range.low.max(i128::from(passed.low));
-    let high = range.high.min(i128::from(passed.high));
-    if low > high {
-        return Interval::empty();
-    }
+    let last = set.alike_to(i128::from(numbers.low));
     Interval {
-        low: low as i32,
-        high: high as i32,
+        low: numbers.low,
+        high: last.min(i128::from(numbers.high)) as i32,
+    }
+}
+
+/// None of them where the set doesn't hold the first.
+fn if_held(run: Interval, set: &IntSet) -> Interval
+    ensures { (z : ℤ) → IsWithin result z → IsWithin run z × (holds set.now run.low ≡ true) }
+{
+    if set.has(i128::from(run.low)) {
+        run
+    } else {
+        Interval::empty()
+    }
+}
+
+fn wider(first: Interval, second: Interval) -> Interval
+    ensures { (z : ℤ) → IsWithin result z → IsWithin first z ⊎ IsWithin second z }
+{
+    if second.width() > first.width() {
+        second
+    } else {
+        first
+    }
+}
+
+/// Those that come after a run of them.
+fn rest_after(numbers: Interval, run: Interval) -> Interval
+    ensures { (z : ℤ) → IsWithin result z → IsWithin numbers z }
+{
+    match run.high.checked_add(1) {
+        Some(next) => Interval {
+            low: next.max(numbers.low),
+            high: numbers.high,
+        },
+        None => Interval::empty(),
     }
 }
 
@@ -171,7 +215,7 @@ fn passes(test: &Test, number: i128) -> bool
     ensures { result ≡ true → PassesTest number (test_view test.now) }
 {
     match test {
-        Test::Numbers(ranges) => is_in_one(ranges, number),
+        Test::Numbers(set) => set.has(number),
         _ => false,
     }
 }

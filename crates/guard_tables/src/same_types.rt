@@ -87,7 +87,7 @@ fn are_same_components(comps: &[Comp], others: &[Comp]) -> bool
 fn is_same_component(one: &Comp, two: &Comp) -> bool
     ensures { result ≡ same_component (component_view one.now) (component_view two.now) }
 {
-    one.name == two.name
+    one.name.as_str() == two.name.as_str()
         && are_same_types(&one.ty, &two.ty)
         && is_same_presence(&one.presence, &two.presence)
 }

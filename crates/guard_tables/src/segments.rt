@@ -1,14 +1,13 @@
 //! Segments of the numbers, in each of which the same conditions fail. That they are in order, and one for each number,
 //! makes the search quick and nothing more: each is tested when it is made, and again when it is found.
 ghost use Rattle.std.specs.Prelude.{◌≡◌, ◌≤ℤ◌, ℕ, ℤ, Some, true, map, slice_get, IfOk, IfSome, OnOk};
-ghost use Rattle.std.specs.List.{list_any};
 ghost use Rattle.std.specs.Option.{is_some};
-ghost use Rattle.guard_tables.specs.Marking.{Facts, is_in, is_in_one, test_passes, is_on_number, are_on_numbers};
+ghost use Rattle.guard_tables.specs.Marking.{Facts, test_passes, is_on_number, are_on_numbers};
 ghost use Rattle.guard_tables.specs.Formulas.{failed_unless};
 ghost use Rattle.guard_tables.specs.NodeViews.{test_view, condition_view};
 ghost use Rattle.guard_tables.specs.Segments.{Fails, IsSegment, AreSegments, IsFound, FailsAlike};
 
-use crate::node::{Condition, Range, Test};
+use crate::node::{Condition, Test};
 use crate::slots::Slots;
 use guard_model::OutOfMemory;
 use std::alloc::Global;
@@ -16,7 +15,7 @@ use std::alloc::Global;
 /// Where there are fewer conditions they are tested one by one.
 const FEWEST_CONDITIONS: usize = 4;
 
-/// Where there would be more segments there are none, since each is tested with each range.
+/// Where there would be more segments there are none, since each is tested with each condition.
 const MOST_SEGMENTS: usize = 1024;
 
 /// The numbers from the first to the last, both in, and the slots that fail for each of them.
@@ -50,7 +49,7 @@ fn passes(test: &Test, number: i128) -> Option<bool>
     ensures passed { IfSome result (λ passed. (f : Facts) → f.number ≡ Some number → test_passes (test_view test.now) f ≡ passed) }
 {
     match test {
-        Test::Numbers(ranges) => Some(is_in_one(ranges, number)),
+        Test::Numbers(set) => Some(set.has(number)),
         Test::Sizes(_) => None,
         Test::Stored(_) => None,
         Test::Spelled(_) => None,
@@ -63,18 +62,6 @@ fn add_unless(passed: bool, slots: &Slots, failed: &mut Slots)
     if !passed {
         failed.add(slots);
     }
-}
-
-/// Whether a number lies in one of the ranges.
-pub(crate) fn is_in_one(ranges: &[Range], number: i128) -> bool
-    ensures { result ≡ list_any (is_in number) ranges.now }
-{
-    for range in ranges {
-        if range.low <= number && number <= range.high {
-            return true;
-        }
-    }
-    false
 }
 
 // ---- by segments
@@ -168,27 +155,9 @@ fn is_steady(test: &Test, first: i128, last: i128) -> bool
         → test_passes (test_view test.now) f ≡ test_passes (test_view test.now) g }
 {
     match test {
-        Test::Numbers(ranges) => are_ranges_steady(ranges, first, last),
+        Test::Numbers(set) => last <= set.alike_to(first),
         _ => false,
     }
-}
-
-fn are_ranges_steady(ranges: &[Range], first: i128, last: i128) -> bool
-    ensures { result ≡ true → (z : ℤ) → first ≤ℤ z → z ≤ℤ last → is_in_one ranges.now z ≡ is_in_one ranges.now first }
-{
-    for range in ranges {
-        if !is_range_steady(range, first, last) {
-            return false;
-        }
-    }
-    true
-}
-
-/// Whether all of the numbers lie in the range, or none does.
-fn is_range_steady(range: &Range, first: i128, last: i128) -> bool
-    ensures { result ≡ true → (z : ℤ) → first ≤ℤ z → z ≤ℤ last → is_in z range.now ≡ is_in first range.now }
-{
-    last < range.low || range.high < first || (range.low <= first && last <= range.high)
 }
 
 // ---- where they start
@@ -210,17 +179,15 @@ fn starts_of(alloc: Global, conditions: &[Condition]) -> Result<Vec<i128>, OutOf
     Ok(starts)
 }
 
-/// Each range begins one, and the number after it another, as long as there is room.
+/// Each number at which the set begins or ends is one, as long as there is room.
 fn add_starts(test: &Test, starts: &mut Vec<i128>) -> Result<(), OutOfMemory> {
-    let Test::Numbers(ranges) = test else {
+    let Test::Numbers(set) = test else {
         return Ok(());
     };
-    for range in ranges {
-        if starts.len() > MOST_SEGMENTS {
-            return Ok(());
-        }
-        starts.push(range.low)?;
-        starts.push(range.high.saturating_add(1))?;
+    let mut last = set.alike_to(i128::MIN);
+    while last < i128::MAX && starts.len() <= MOST_SEGMENTS {
+        starts.push(last + 1)?;
+        last = set.alike_to(last + 1);
     }
     Ok(())
 }

@@ -101,7 +101,7 @@ fn failed_by(ty: &Ty, value: &Value, asks: &[Ask<'_>], present: Slots) -> Slots
 }
 
 /// The demand is one that may be made of values of this kind.
-fn is_met(demand: Demand<'_>, kind: &Kind, value: &Value) -> bool
+pub(crate) fn is_met(demand: Demand<'_>, kind: &Kind, value: &Value) -> bool
     requires apt { IsApt (kind_view kind.now) (demand_view demand) }
     requires fits { IsTrue (fits_kind (kind_view kind.now) (value_view value.now)) }
     ensures { result ≡ meets (demand_view demand.entry) (value_view value.now) }

@@ -11,8 +11,10 @@ ghost use Rattle.guard_tables.specs.Lay.{no_value};
 ghost use Rattle.guard_tables.specs.Plan.{numbers, sizes, spelled};
 ghost use Rattle.guard_tables.specs.NodeViews.{test_view};
 
+use crate::alphabet::Alphabet;
 use crate::node::Test;
 use crate::number_sets::numbers_of;
+use guard_integers::IntSet;
 use guard_model::{Cons, OutOfMemory};
 use std::alloc::Global;
 
@@ -21,8 +23,7 @@ pub(crate) fn number_test(constraint: &Cons, alloc: Global) -> Result<Test, OutO
     ensures { IfOk result (λ t. (kind : AbstractKind) → test_view t
         ≡ numbers (λ z. fits_128_bits z && holds (constraint_view constraint.now) kind (abstract.integer z))) }
 {
-    let ranges = numbers_of(constraint, alloc)?;
-    Ok(Test::Numbers(ranges))
+    Ok(Test::Numbers(numbers_of(constraint, alloc)?))
 }
 
 /// The size is one of the numbers that the constraint has.
@@ -30,20 +31,19 @@ pub(crate) fn size_test(constraint: &Cons, alloc: Global) -> Result<Test, OutOfM
     ensures { IfOk result (λ t. test_view t ≡ sizes (λ n. fits_128_bits (pos n)
         && holds (constraint_view constraint.now) (type.integer []) (abstract.integer (pos n)))) }
 {
-    let ranges = numbers_of(constraint, alloc)?;
-    Ok(Test::Sizes(ranges))
+    Ok(Test::Sizes(numbers_of(constraint, alloc)?))
 }
 
 /// Each character lies in one of these ranges.
 pub(crate) fn spelling_test(ranges: &[(u32, u32)], alloc: Global) -> Result<Test, OutOfMemory>
     ensures { IfOk result (λ t. test_view t ≡ spelled (is_in_some ranges.now)) }
 {
-    Ok(Test::Spelled(Vec::from_slice(alloc, ranges)?))
+    Ok(Test::Spelled(Alphabet::of(alloc, ranges)?))
 }
 
 /// No value passes.
 pub(crate) fn no_value(alloc: Global) -> Test
     ensures { test_view result ≡ no_value }
 {
-    Test::Numbers(Vec::new(alloc))
+    Test::Numbers(IntSet::none(alloc))
 }

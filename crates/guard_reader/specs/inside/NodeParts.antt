@@ -5,7 +5,6 @@ use Rattle.guard_tables.specs.declared.node.Hot.{Hot}
 use Rattle.guard_tables.specs.declared.node.Kind.{Kind}
 use Rattle.guard_tables.specs.declared.node.Kind.TheVariants as kind
 use Rattle.guard_tables.specs.declared.node_list.Nodes.{Nodes}
-use Rattle.guard_tables.specs.NodesView.{spots_in}
 use Rattle.guard_tables.specs.TableNodes.{Spot, spot_at}
 use Rattle.guard_reader.specs.Fronts.{front}
 use Rattle.guard_reader.specs.Judging.{Pass, Sight, inside_judged}

@@ -5,10 +5,10 @@ ghost use Rattle.guard_reader.specs.Judging.{elements, ordered};
 ghost use Rattle.guard_reader.specs.inside.Answers.{Answers};
 ghost use Rattle.guard_reader.specs.inside.NodeParts.{pass_at, sight_at};
 
-use crate::element_fronts::{element, front_at};
-use crate::order::{descends, front_of};
+use crate::element_fronts::{element, front_at, front_of};
 use crate::plain::{after_one_plain, after_plain};
 use crate::walking::within_tag;
+use guard_der::order::descends;
 use guard_tables::{Kind, Nodes, Slots};
 
 /// Elements of a node, all of the octets: one plain number needs no call.

@@ -1,4 +1,4 @@
-use Rattle.std.proofs.Common.{◌≡◌, ◌∙◌, ◌+◌, ◌-◌, ◌<◌, ◌≤◌, Bool, true, false, eqb, vec_len, ap, sym, subst, refl, arith, drop, Some, None, Option, ℕ, get_or, ◌∷◌, [], add-one, map, List}
+use Rattle.std.proofs.Common.{◌≡◌, ◌∙◌, ◌+◌, ◌-◌, ◌<◌, ◌≤◌, Bool, true, false, vec_len, ap, sym, subst, refl, arith, drop, Some, None, Option, ℕ, get_or, ◌∷◌, [], add-one, map, List}
 use Rattle.std.specs.Prelude.{◌||◌, nat_eq}
 use Rattle.std.proofs.lemmas.List.{take_rest}
 use Rattle.std.proofs.lemmas.Bool.{cond-true, cond-false, ne_eqb}
@@ -18,7 +18,7 @@ use Rattle.guard_reader.specs.inside.NodeParts.{has_layers, pass_at, sight_at}
 use Rattle.guard_reader.specs.inside.Ranks.{AreBelow}
 use Rattle.guard_reader.proofs.Elements.{bind_some, bind_none}
 use Rattle.guard_reader.proofs.FrontSteps.{front_within}
-use Rattle.guard_reader.proofs.NodeTags.{identifier_is, is_at, kind_of_choice, near_front, octet_elsewhere, octet_turned}
+use Rattle.guard_reader.proofs.NodeTags.{identifier_is, is_at, kind_of_choice}
 use Rattle.guard_reader.proofs.Ranks.{near_cut}
 use Rattle.guard_reader.proofs.Passes.{element_here, last_element, no_element, none_left, none_ordered, not_ordered, one_element, one_ordered}
 use Rattle.guard_reader.proofs.AscendingSets.{set_of_parts}

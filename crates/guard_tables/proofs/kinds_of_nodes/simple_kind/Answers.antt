@@ -1,5 +1,7 @@
 use Rattle.std.proofs.Common.{◌≡◌, List, [], ◌∷◌, map, refl, sym, ap, ◌∙◌}
-use Rattle.std.specs.Global.{Vec}
+use Rattle.std.specs.Arc.{arc_slice_items}
+use Rattle.std.specs.Global.{Global}
+use Rattle.std.specs.declared.sync.ArcSlice.{ArcSlice}
 use Rattle.guard_model.specs.AbstractType.{AbstractType, AbstractKind, Constraint, Element, NamedNumber, enumerated}
 use Rattle.guard_model.specs.TypeView.{OneComponent, OnePart, named_view, kind_view, kind_step, rule_step, comp_step, cons_step, part_step, ty_step}
 use Rattle.guard_model.specs.declared.ty.Kind.{Enumerated}
@@ -16,11 +18,11 @@ nameless_items : (items : List NamedNumber) → map unnamed (map (λ n. n.number
 nameless_items [] = refl
 nameless_items (i ∷ items) = ap (λ (rest : List NamedNumber). unnamed i.number ∷ rest) (nameless_items items)
 
-view_enumerated : (ns : Vec Named) → kind_view (Enumerated ns) ≡ enumerated (map named_view ns.items)
+view_enumerated : (ns : ArcSlice Named Global) → kind_view (Enumerated ns) ≡ enumerated (map named_view (arc_slice_items ns))
 view_enumerated ns = ap kind_view (sym (rolls-Enumerated ns)) ∙ fold-roll-Kind AbstractKind Element OneComponent Constraint OnePart AbstractType kind_step rule_step comp_step cons_step part_step ty_step (Kind-F.Enumerated ns)
 
 same_items : (kind : AbstractKind) (items : List NamedNumber) → kind ≡ enumerated items → enumerated (map unnamed (item_numbers kind)) ≡ nameless kind
 same_items kind items e = rw e (ap enumerated (nameless_items items))
 
 pub returns-in-Enumerated : goal.returns-in-Enumerated
-returns-in-Enumerated c = same_items (kind_view c.args.kind.now) (map named_view c.in-Enumerated.field-0.items) (ap kind_view c.in-Enumerated.is ∙ view_enumerated c.in-Enumerated.field-0)
+returns-in-Enumerated c = same_items (kind_view c.args.kind.now) (map named_view (arc_slice_items c.in-Enumerated.field-0)) (ap kind_view c.in-Enumerated.is ∙ view_enumerated c.in-Enumerated.field-0)

@@ -1,7 +1,10 @@
 use Rattle.std.proofs.Common.{ℤ, ◌≡◌, true}
-use Rattle.guard_tables.specs.Marking.{is_in_one}
+use Rattle.guard_integers.specs.Integers.{holds}
 use Rattle.guard_tables.specs.inside.Intervals.{IsWithin}
 use Rattle.guard_tables.proofs.plain_interval.widest.Given as goal
 
-abbrev pub invariant-loop-range : goal.invariant-loop-range
-invariant-loop-range l = (z : ℤ) → IsWithin l.best z → IsWithin l.passed z × (is_in_one l.ranges z ≡ true)
+abbrev pub invariant-loop : goal.invariant-loop
+invariant-loop l = record {
+  best : (z : ℤ) → IsWithin l.best z → IsWithin l.fn.passed z × (holds l.set z ≡ true);
+  left : (z : ℤ) → IsWithin l.left z → IsWithin l.fn.passed z;
+}

@@ -5,4 +5,4 @@ use Rattle.guard_tables.specs.Plan.{sizes}
 use Rattle.guard_tables.proofs.simple_tests.size_test.Goals as goal
 
 pub returns : goal.returns
-returns c = ap sizes (fun_ext (λ n. c.in_ok-ranges.ensures (type.integer []) (pos n)))
+returns c = ap sizes (fun_ext (λ n. c.in_ok-numbers_of.ensures (type.integer []) (pos n)))

@@ -1,8 +1,6 @@
 -- The rules that a loop looks at apply to the value.
-use Rattle.std.proofs.Common.{◌≡◌, ℕ, ◌<◌, List, [], ◌∷◌, length, get_or, slice_get, map, Bool, true, false, ◌&&◌, cond, Some, ap, sym, ◌∙◌, subst}
+use Rattle.std.proofs.Common.{◌≡◌, ℕ, List, [], ◌∷◌, slice_get, Bool, true, false, ◌&&◌, cond, Some, ap, sym, ◌∙◌, subst}
 use Rattle.std.specs.Prelude.{IsTrue}
-use Rattle.std.proofs.Math.ListN.{get_or-map}
-use Rattle.std.proofs.lemmas.List.{length-map}
 use Rattle.std.proofs.lemmas.List.Elements.{All-get_or, recursion_from_All, All-from_recursion}
 use Rattle.std.proofs.lemmas.Slice.Eq.{bytes_eq-Decides}
 use Rattle.std.specs.Str.{bytes_eq}
@@ -11,9 +9,8 @@ use Rattle.guard_model.specs.AbstractType.{AbstractType}
 use Rattle.guard_model.specs.AbstractValue.{AbstractValue}
 use Rattle.guard_der.specs.Fits.{fits}
 use Rattle.guard_der.specs.Sound.{is_sound}
-use Rattle.guard_policy.specs.declared.policy.Rule.{Rule}
 use Rattle.guard_policy.specs.Consistency.{IsConsistent}
-use Rattle.guard_policy.specs.Policies.{AbstractMessage, AbstractRule, AbstractRoute, rule_view, declared_among}
+use Rattle.guard_policy.specs.Policies.{AbstractMessage, AbstractRule, AbstractRoute, declared_among}
 use Rattle.guard_policy.specs.inside.Applicable.{AreApplicable}
 use Rattle.guard_policy.specs.Decisions.{speaks_of}
 use Rattle.guard_policy.specs.Names.{is_meant}
@@ -23,13 +20,6 @@ use Rattle.std.proofs.lemmas.Option.{same_Some, slice_get_within, get_or_from_sl
 -- what holds of a rule that applies
 abbrev pub Applies : AbstractRoute → AbstractValue → AbstractRule → Type 0
 Applies route v r = IsTrue (is_sound r.ty) × (IsTrue (speaks_of route r) → IsTrue (fits r.ty v))
-
--- a rule of these, at its place in the list of the code
-pub applicable_at : (route : AbstractRoute) (v : AbstractValue) (rules : List Rule) (i : ℕ) (r : Rule)
-    → i < length rules → r ≡ get_or rules i r → AreApplicable route v (map rule_view rules) → Applies route v (rule_view r)
-applicable_at route v rules i r lt is applicable =
-    subst (Applies route v) (get_or-map rule_view rules i r ∙ ap rule_view (sym is))
-    (All-get_or (Applies route v) (map rule_view rules) i (rule_view r) (rw (length-map rules rule_view) lt) applicable)
 
 -- the rule of a number
 pub applicable_number : (route : AbstractRoute) (v : AbstractValue) (rules : List AbstractRule) (n : ℕ) (r : AbstractRule)

@@ -1,32 +1,31 @@
--- A message goes on a route that some rule gives exactly where what the route leads to lets it go.
-use Rattle.std.proofs.Common.{◌≡◌, ℕ, List, map, slice_get, ◌↔◌, Option, Some, None, option_map, option_and_then, refl, ap, sym, ◌∙◌, subst}
+-- What the octets of a route's names lead to decides of a message on the route.
+use Rattle.std.proofs.Common.{◌≡◌, ℕ, List, [], ◌∷◌, map, slice_get, Bool, true, false, ◌||◌, ◌↔◌, Option, Some, None, option_map, option_and_then, string_bytes, refl, ap, sym, ◌∙◌}
 use Rattle.std.specs.Prelude.{IsTrue}
+use Rattle.std.specs.List.{list_any, AllByRecursion}
+use Rattle.std.proofs.lemmas.List.Elements.{recursion_from_All}
 use Rattle.std.proofs.lemmas.Option.{same_Some, slice_get-map}
 use Rattle.guard_model.specs.AbstractType.{AbstractType}
-use Rattle.guard_model.specs.AbstractValue.{AbstractValue}
-use Rattle.guard_der.specs.Der.{der}
-use Rattle.guard_der.specs.Fits.{fits}
-use Rattle.guard_reader.specs.declared.marks.Marks.{Marks}
-use Rattle.guard_reader.specs.Marking.{HasMarks}
-use Rattle.guard_tables.specs.Slots.{none}
-use Rattle.guard_tables.specs.TableView.{declared_of, table_types}
+use Rattle.guard_tables.specs.TableView.{declared_of}
 use Rattle.guard_policy.specs.declared.index.Index.{Index}
 use Rattle.guard_policy.specs.declared.kept.KeptMessage.{KeptMessage}
+use Rattle.guard_policy.specs.declared.kept.KeptRule.{KeptRule}
 use Rattle.guard_policy.specs.declared.leads.Lead.{Lead}
 use Rattle.guard_policy.specs.declared.policy.Policy.{Policy}
 use Rattle.guard_policy.specs.Decisions.{Goes}
-use Rattle.guard_policy.specs.KeptView.{kept_message_view}
-use Rattle.guard_policy.specs.NamedRoutes.{GoesAsGiven}
+use Rattle.guard_policy.specs.KeptView.{kept_message_view, kept_rule_view}
+use Rattle.guard_policy.specs.NamedRoutes.{gives, IsGiven}
 use Rattle.guard_policy.specs.PolicyView.{policy_view}
-use Rattle.guard_policy.specs.Policies.{AbstractMessage, AbstractRule, AbstractRoute, declared_type}
-use Rattle.guard_policy.specs.declared.routing.RouteRules.{RouteRules}
+use Rattle.guard_policy.specs.Policies.{AbstractMessage, AbstractRoute, declared_type}
 use Rattle.guard_policy.specs.inside.Keeping.{IsFirst}
-use Rattle.guard_policy.specs.inside.Leads.{given_route, route_rules, lead_there, lead_of, found_lead}
+use Rattle.guard_policy.specs.inside.Leads.{given_route, lead_there, lead_of, found_lead}
 use Rattle.guard_policy.specs.inside.Listings.{AbstractListed, found_in, listing, place_among, numbers_for}
-use Rattle.guard_policy.specs.inside.TypedRules.{rules_kept}
-use Rattle.guard_policy.proofs.ByMarks.{LetsGo, policy_goes}
-use Rattle.guard_policy.proofs.GivenRoutes.{is_given, given_is}
-use Rattle.guard_policy.proofs.Listed.{with_numbers, declared_listed, listed_type, declared_pair}
+use Rattle.guard_policy.specs.inside.Passing.{IsAnswer}
+use Rattle.guard_policy.specs.inside.Routing.{route_rules}
+use Rattle.guard_policy.specs.inside.KeptRules.{rules_kept}
+use Rattle.guard_policy.proofs.ByMarks.{goes_exactly}
+use Rattle.guard_policy.proofs.GivenRoutes.{is_given, given_is, gives_own}
+use Rattle.guard_policy.proofs.Keeping.{first_named}
+use Rattle.guard_policy.proofs.Listed.{with_numbers, listed_parts, listed_type}
 
 -- ---- what a route leads to
 
@@ -82,48 +81,44 @@ led_by policy names lead found =
 
 -- ---- where it leads to nothing
 
--- a declared message is listed
-listed_there : (policy : Policy) (name : List ℕ) (t : AbstractType) (o : Option AbstractListed) → declared_type (policy_view policy) name ≡ Some t
-    → listing (policy_view policy).messages (policy_view policy).rules name ≡ o
-    → (l : AbstractListed) × (m : AbstractMessage) × (o ≡ Some l) × (slice_get (policy_view policy).messages l.place ≡ Some m)
-listed_there policy name t None declared is =
-    let p = policy_view policy in
-    let none = declared_listed p.messages p.rules name in
-    absurd (let no = rw (declared, is) at none in cc)
-listed_there policy name t (Some l) declared is = there (slice_get (policy_view policy).messages l.place) refl
-  where
-    there : (x : Option AbstractMessage) → slice_get (policy_view policy).messages l.place ≡ x
-        → (k : AbstractListed) × (m : AbstractMessage) × (◌≡◌ {A = Option AbstractListed} (Some l) (Some k)) × (slice_get (policy_view policy).messages k.place ≡ Some m)
-    there (Some m) at = (l, m, refl, at)
-    there None at = absurd (let no = rw declared at (listed_type (policy_view policy).messages (policy_view policy).rules name l None is at) in cc)
+module _ (policy : Policy) (names : List ℕ) where
+  -- the message of a rule is in its place
+  rule_led : (route : AbstractRoute) (rules : List KeptRule) → AllByRecursion (λ r. place_among (string_bytes r.message) 0 (policy_view policy).messages ≡ Some r.ty.message) rules
+      → list_any (gives route) (map (kept_rule_view policy.kept.messages.items) rules) ≡ true
+      → (place : ℕ) × (place_among route.message 0 (policy_view policy).messages ≡ Some place)
+  rule_led route [] placed given = absurd cc
+  rule_led route (r ∷ rs) placed given =
+      (elim (gives route (kept_rule_view policy.kept.messages.items r)) as (λ (b : Bool). gives route (kept_rule_view policy.kept.messages.items r) ≡ b
+      → (b || list_any (gives route) (map (kept_rule_view policy.kept.messages.items) rs)) ≡ true → (place : ℕ) × (place_among route.message 0 (policy_view policy).messages ≡ Some place)) [
+        | true ↦ λ here e. (
+          r.ty.message,
+          ap (λ (x : AbstractRoute). place_among x.message 0 (policy_view policy).messages) (sym (gives_own route (kept_rule_view policy.kept.messages.items r) here)) ∙ placed.0,
+        )
+        | false ↦ λ other e. rule_led route rs placed.1 e
+      ]) refl given
 
--- it is in its table
-table_there : (messages : List KeptMessage) (route : AbstractRoute) (l : AbstractListed) (m : AbstractMessage)
-    → slice_get (map kept_message_view messages) l.place ≡ Some m → lead_there messages route l ≡ None → ⊥
-table_there messages route l m at none = by (slice_get messages l.place) refl
-  where
-    by : (o : Option KeptMessage) → slice_get messages l.place ≡ o → ⊥
-    by None is = let no = sym at ∙ slice_get-map kept_message_view messages l.place ∙ ap (option_map kept_message_view) is in cc
-    by (Some k) is = let no = rw is at none in cc
-
-pub leads_nowhere : (policy : Policy) (names octets : List ℕ) → found_lead policy.kept.leads names ≡ None → GoesAsGiven (policy_view policy) names octets → ⊥
-leads_nowhere policy names octets nothing (route, given, goes) =
-    let p = policy_view policy in
-    let is : given_route names p.rules ≡ Some route = given_is names p.rules route given in
-    let none = rw is at (sym (policy.kept.led names) ∙ nothing) in
-    let there = listed_there policy route.message goes.0 (listing p.messages p.rules route.message) goes.2 refl in
-    let found : found_in policy.kept.index route.message ≡ Some there.0 = policy.kept.indexed route.message ∙ there.2 in
-    table_there policy.kept.messages.items route there.0 there.1 there.3 (rw found at none)
+  -- a route that a rule gives leads to something
+  pub leads_on : found_lead policy.kept.leads names ≡ None → (route : AbstractRoute) → IsGiven (policy_view policy).rules names route → ⊥
+  leads_on nothing route given =
+      let p = policy_view policy in
+      let messages = policy.kept.messages.items in
+      let at = rule_led route policy.kept.rules.items
+      (recursion_from_All (λ r. place_among (string_bytes r.message) 0 p.messages ≡ Some r.ty.message) policy.kept.rules.items policy.kept.placed) given.given in
+      let named = first_named p.messages p.messages 0 at.0 route.message refl at.1 in
+      let is : found_in policy.kept.index route.message ≡ Some (record { place = at.0; numbers = numbers_for route.message 0 p.rules }) =
+      policy.kept.indexed route.message ∙ ap (option_map {U = AbstractListed} (λ place. record { place = place; numbers = numbers_for route.message 0 p.rules })) at.1 in
+      let none : lead_of policy.kept.index messages route ≡ None =
+      ap (option_and_then (lead_of policy.kept.index messages)) (sym (given_is names p.rules route given)) ∙ sym (policy.kept.led names) ∙ nothing in
+      no_message at.0 named.0 (slice_get messages at.0)
+      (sym (ap (λ o. option_and_then (lead_there messages route) o) is) ∙ none)
+      (sym (slice_get-map kept_message_view messages at.0) ∙ named.1)
+    where
+      no_message : (place : ℕ) (m : AbstractMessage) (o : Option KeptMessage)
+          → option_map {U = Lead} (λ k. record { place = place; rules = route_rules k.routing route }) o ≡ None → option_map kept_message_view o ≡ Some m → ⊥
+      no_message place m None none some = absurd cc
+      no_message place m (Some k) none some = absurd cc
 
 -- ---- where it leads to a message
-
-place_of : (o : Option ℕ) (numbers : List ℕ) (l : AbstractListed)
-    → option_map {U = AbstractListed} (λ place. record { place = place; numbers = numbers }) o ≡ Some l → o ≡ Some l.place
-place_of None numbers l e = absurd cc
-place_of (Some i) numbers l e = ap (option_map (λ (x : AbstractListed). x.place)) e
-
-place_in : (name : List ℕ) (messages : List AbstractMessage) (rules : List AbstractRule) (l : AbstractListed) → listing messages rules name ≡ Some l → place_among name 0 messages ≡ Some l.place
-place_in name messages rules l e = place_of (place_among name 0 messages) (numbers_for name 0 rules) l e
 
 module _ (policy : Policy) (names : List ℕ) (lead : Lead) (found : found_lead policy.kept.leads names ≡ Some lead) where
   abbrev led : LedBy policy names lead
@@ -158,33 +153,14 @@ module _ (policy : Policy) (names : List ℕ) (lead : Lead) (found : found_lead 
     first : IsFirst route.message policy.kept.messages.items m
     first = record {
       place = place;
-      first = place_in route.message (policy_view policy).messages (policy_view policy).rules led.leads.listed listed;
+      first = (listed_parts (policy_view policy).messages (policy_view policy).rules route.message led.leads.listed listed).0;
       there = at;
     }
 
-    -- the route is the one that the octets are
-    on_route : (octets : List ℕ) → GoesAsGiven (policy_view policy) names octets → Goes (policy_view policy) route octets
-    on_route octets (other, given, goes) =
-        subst (λ (x : AbstractRoute). Goes (policy_view policy) x octets) (same_Some _ _ (sym (given_is names (policy_view policy).rules other given) ∙ led.given)) goes
-
-    -- what goes is the encoding of a value of the message's type
-    pub encoded_there : {X : Type 0} (octets : List ℕ) → ((v : AbstractValue) → IsTrue (fits (declared_of m.table) v) → der (declared_of m.table) v ≡ Some octets → X)
-        → GoesAsGiven (policy_view policy) names octets → X
-    encoded_there octets only given =
-        let goes = on_route octets given in
-        let declared = declared_pair (policy_view policy).rules route.message (declared_type (policy_view policy) route.message) (declared_of m.table) led.leads.listed.numbers typed in
-        let is : goes.0 ≡ declared_of m.table = same_Some _ _ (sym goes.2 ∙ declared.0) in
-        only goes.1 (subst (λ (t : AbstractType). IsTrue (fits t goes.1)) is goes.3) (subst (λ (t : AbstractType). der t goes.1 ≡ Some octets) is goes.4)
-
-    pub goes_exactly : (octets : List ℕ) (marks : Marks)
-        → ((v : AbstractValue) × IsTrue (fits (declared_of m.table) v) × (der (declared_of m.table) v ≡ Some octets) × HasMarks marks (table_types m.table) v)
-        → LetsGo lead.rules.allowing lead.rules.denying marks.members ↔ GoesAsGiven (policy_view policy) names octets
-    goes_exactly octets marks walked =
-        let exactly = policy_goes policy route octets led.leads.listed.numbers m marks typed first walked in (
-          λ lets. (
-            route,
-            is_given names (policy_view policy).rules route led.given,
-            exactly.0 (subst (λ (x : RouteRules). LetsGo x.allowing x.denying marks.members) rules lets),
-          ),
-          λ given. subst (λ (x : RouteRules). LetsGo x.allowing x.denying marks.members) (sym rules) (exactly.1 (on_route octets given)),
-        )
+    pub given_goes : (octets : List ℕ) (answer : Bool) → IsAnswer m.table lead.rules octets answer
+        → (x : AbstractRoute) × IsGiven (policy_view policy).rules names x × (IsTrue answer ↔ Goes (policy_view policy) x octets)
+    given_goes octets answer is = (
+      route,
+      is_given names (policy_view policy).rules route led.given,
+      goes_exactly policy route octets led.leads.listed.numbers m typed first lead.rules answer rules is,
+    )

@@ -1,5 +1,5 @@
 -- What the marks of a table say by a route's rules is what the rules say of the value.
-use Rattle.std.proofs.Common.{◌≡◌, ◌≢◌, ℕ, zero, suc, ◌+◌, List, [], ◌∷◌, map, slice_get, Bool, true, false, ◌&&◌, ◌||◌, not, cond, ◌↔◌, Option, Some, option_map, string_bytes, All, refl, ap, sym, ◌∙◌, subst}
+use Rattle.std.proofs.Common.{◌≡◌, ◌≢◌, ℕ, zero, suc, ◌+◌, List, [], ◌∷◌, map, slice_get, Bool, true, false, ◌&&◌, ◌||◌, not, cond, ◌↔◌, Option, Some, option_map, string_bytes, All, refl, ap, sym, ◌∙◌, subst, inl, inr}
 use Rattle.std.specs.Prelude.{IsTrue, bytes_eq}
 use Rattle.std.proofs.lemmas.Bool.{false≢true}
 use Rattle.std.specs.List.{list_any, list_all}
@@ -30,8 +30,9 @@ use Rattle.guard_policy.specs.Names.{is_meant}
 use Rattle.guard_policy.specs.PolicyView.{policy_view}
 use Rattle.guard_policy.specs.Policies.{AbstractPolicy, AbstractMessage, AbstractRule, AbstractRoute, declared_type, declared_among}
 use Rattle.guard_policy.specs.inside.Keeping.{IsFirst}
-use Rattle.guard_policy.specs.inside.Routing.{rules_named, slots_where, has_effect, common, speaking_slots, slots_for, IsRouting, IsRouted}
-use Rattle.guard_policy.specs.inside.TypedRules.{messages_kept, rules_kept}
+use Rattle.guard_policy.specs.inside.Passing.{LetsGo, AreMarks, EncodeNothing, IsAnswer}
+use Rattle.guard_policy.specs.inside.Routing.{rules_named, slots_where, has_effect, common, speaking_slots, slots_for, route_rules as rules_on, IsRouting, IsRouted}
+use Rattle.guard_policy.specs.inside.KeptRules.{messages_kept, rules_kept}
 use Rattle.guard_policy.proofs.Applicable.{declared_sound}
 use Rattle.guard_policy.proofs.Keeping.{first_named}
 use Rattle.guard_policy.proofs.Listed.{speaks_not, with_numbers, declared_pair}
@@ -119,10 +120,6 @@ is_false false e = refl
 
 -- ---- the message goes
 
--- the declared type has the value, some allowing rule is among those that have it, and no denying one
-abbrev pub LetsGo : Slots → Slots → Slots → Type 0
-LetsGo allowing denying members = IsTrue (has members 0) × (common allowing members ≢ none) × (common denying members ≡ none)
-
 module _ (p : Kept) (policy : AbstractPolicy) (route : AbstractRoute) (octets : List ℕ) (m : KeptMessage) (marks : Marks) (v : AbstractValue)
     (same_messages : policy.messages ≡ messages_kept p) (same_rules : policy.rules ≡ rules_kept p) (declared : declared_type policy route.message ≡ Some (declared_of m.table))
     (routed : IsRouted (rules_kept p) m) (name : string_bytes m.name ≡ route.message)
@@ -157,7 +154,7 @@ module _ (p : Kept) (policy : AbstractPolicy) (route : AbstractRoute) (octets : 
       (ap (λ (ms : List AbstractMessage). declared_among ms route.message) (sym same_messages) ∙ declared)
 
   abbrev Lets : Type 0
-  Lets = LetsGo (common (speaking_slots m.routing route) m.routing.allowing) (common (speaking_slots m.routing route) m.routing.denying) marks.members
+  Lets = LetsGo (rules_on m.routing route) marks.members
 
   goes : Lets → Goes policy route octets
   goes (of_type, some, none_denies) = (
@@ -196,38 +193,33 @@ routed_first messages rules name m routed first =
       ap (λ (x : AbstractMessage). x.name) (same_Some _ _ (sym viewed ∙ named.1)) ∙ named.2,
     )
 
--- With the marks of the value that the octets encode, the message goes exactly where the declared type has it and the
--- route's rules let it go.
-pub policy_goes : (policy : Policy) (route : AbstractRoute) (octets numbers : List ℕ) (m : KeptMessage) (marks : Marks)
-    → ◌≡◌ {A = Option (AbstractType × List ℕ)} (Some (declared_of m.table, numbers)) (option_map (with_numbers (policy_view policy).rules route.message) (declared_type (policy_view policy) route.message))
-    → IsFirst route.message policy.kept.messages.items m
-    → ((v : AbstractValue) × IsTrue (fits (declared_of m.table) v) × (der (declared_of m.table) v ≡ Some octets) × HasMarks marks (table_types m.table) v)
-    → LetsGo (common (speaking_slots m.routing route) m.routing.allowing) (common (speaking_slots m.routing route) m.routing.denying) marks.members ↔ Goes (policy_view policy) route octets
-policy_goes policy route octets numbers m marks listed first (v, fitting, encoded, has_marks) =
-    let p = policy_view policy in
-    let found = declared_pair p.rules route.message (declared_type p route.message) (declared_of m.table) numbers listed in
-    let routed = routed_first policy.kept.messages.items (rules_kept policy.kept) route.message m policy.kept.routed first in (
-      goes policy.kept p route octets m marks v refl refl found.0 routed.0 routed.1 fitting encoded has_marks,
-      only policy.kept p route octets m marks v refl refl found.0 routed.0 routed.1 fitting encoded has_marks,
-    )
+module _ (policy : Policy) (route : AbstractRoute) (octets numbers : List ℕ) (m : KeptMessage)
+    (listed : ◌≡◌ {A = Option (AbstractType × List ℕ)} (Some (declared_of m.table, numbers))
+    (option_map (with_numbers (policy_view policy).rules route.message) (declared_type (policy_view policy) route.message)))
+    (first : IsFirst route.message policy.kept.messages.items m) where
+  declares : declared_type (policy_view policy) route.message ≡ Some (declared_of m.table)
+  declares = (declared_pair (policy_view policy).rules route.message (declared_type (policy_view policy) route.message) (declared_of m.table) numbers listed).0
 
--- where the declared type has the value
-pub lets_exactly : (goes : Type 0) (rules : RouteRules) (allowing denying members : Slots) (result : Bool)
-    → (LetsGo allowing denying members ↔ goes) → rules.allowing ≡ allowing → rules.denying ≡ denying → has members 0 ≡ true
-    → (IsTrue result ↔ ((common rules.allowing members ≢ none) × (common rules.denying members ≡ none))) → IsTrue result ↔ goes
-lets_exactly goes rules allowing denying members result exactly allows denies of_type lets = (
-  λ is.
-      let l = lets.0 is in
-      exactly.0 (of_type, subst (λ (m : Slots). common m members ≢ none) allows l.0, subst (λ (m : Slots). common m members ≡ none) denies l.1),
-  λ g.
-      let x = exactly.1 g in
-      lets.1 (subst (λ (m : Slots). common m members ≢ none) (sym allows) x.1, subst (λ (m : Slots). common m members ≡ none) (sym denies) x.2),
-)
+  -- With the marks of the value that the octets encode, the message goes exactly where the declared type has it and the
+  -- route's rules let it go.
+  by_marks : (marks : Marks) → AreMarks m.table octets marks → LetsGo (rules_on m.routing route) marks.members ↔ Goes (policy_view policy) route octets
+  by_marks marks (v, fitting, encoded, has_marks) =
+      let routed = routed_first policy.kept.messages.items (rules_kept policy.kept) route.message m policy.kept.routed first in (
+        goes policy.kept (policy_view policy) route octets m marks v refl refl declares routed.0 routed.1 fitting encoded has_marks,
+        only policy.kept (policy_view policy) route octets m marks v refl refl declares routed.0 routed.1 fitting encoded has_marks,
+      )
 
--- where it hasn't
-pub stays_exactly : (goes : Type 0) (allowing denying members : Slots) (result : Bool)
-    → (LetsGo allowing denying members ↔ goes) → has members 0 ≡ false → result ≡ false → IsTrue result ↔ goes
-stays_exactly goes allowing denying members result exactly outside is = (
-  λ lets. absurd (false≢true (sym is ∙ lets)),
-  λ g. absurd (false≢true (sym outside ∙ (exactly.1 g).0)),
-)
+  -- what goes is the encoding of a value of the message's type
+  encoded : Goes (policy_view policy) route octets → EncodeNothing m.table octets → ⊥
+  encoded g nothing =
+      let is : g.0 ≡ declared_of m.table = same_Some _ _ (sym g.2 ∙ declares) in
+      nothing g.1 (subst (λ (t : AbstractType). IsTrue (fits t g.1)) is g.3) (subst (λ (t : AbstractType). der t g.1 ≡ Some octets) is g.4)
+
+  pub goes_exactly : (rules : RouteRules) (answer : Bool) → rules ≡ rules_on m.routing route → IsAnswer m.table rules octets answer
+      → IsTrue answer ↔ Goes (policy_view policy) route octets
+  goes_exactly rules answer are (inl (marks, walked, exactly)) =
+      let goes = by_marks marks walked in (
+        λ is. goes.0 (subst (λ (r : RouteRules). LetsGo r marks.members) are (exactly.0 is)),
+        λ g. exactly.1 (subst (λ (r : RouteRules). LetsGo r marks.members) (sym are) (goes.1 g)),
+      )
+  goes_exactly rules answer are (inr (nothing, is)) = (λ e. absurd (false≢true (sym is ∙ e)), λ g. absurd (encoded g nothing))

@@ -24,7 +24,8 @@ use Rattle.std.specs.Option.{option_or}
 use Rattle.toml.specs.Data.{Members}
 use Rattle.guard_policy.specs.declared.entry.Key.TheVariants.{Name, Effect as EffectKey}
 use Rattle.guard_policy.specs.Documents.{text_of}
-use Rattle.guard_policy.specs.Entries.{AbstractTypes, before_all, those_there, message_in, rule_in, rule_of, type_in, effect_named}
+use Rattle.guard_der.specs.NamedTypes.{AbstractTypes}
+use Rattle.guard_policy.specs.Entries.{before_all, those_there, message_in, rule_in, rule_of, type_in, effect_named}
 use Rattle.guard_policy.specs.EntryFaults.{entries_fault, tables_fault}
 use Rattle.guard_policy.specs.Consistency.{types_for}
 use Rattle.guard_policy.specs.Policies.{AbstractMessage, AbstractRule}

@@ -11,8 +11,8 @@ use Rattle.indexmap.specs.IndexMap.{insert_entry}
 use Rattle.guard_policy.specs.declared.leads.Lead.{Lead}
 use Rattle.guard_policy.specs.NamedRoutes.{with_length, route_octets, gives, IsGiven}
 use Rattle.guard_policy.specs.Names.{is_plain}
-use Rattle.guard_policy.specs.Policies.{AbstractRule, AbstractRoute}
-use Rattle.guard_policy.specs.inside.Leads.{own_route, given_route}
+use Rattle.guard_policy.specs.Policies.{AbstractRule, AbstractRoute, own_route}
+use Rattle.guard_policy.specs.inside.Leads.{given_route}
 use Rattle.guard_policy.proofs.PartyNames.{lookup-inserted}
 
 -- ---- the octets of a route are no other's
@@ -51,7 +51,7 @@ same a = (bytes_eq-Decides a a).1 refl
 own_given : (r : AbstractRule) → gives (own_route r) r ≡ true
 own_given r = rw (same r.from, same r.to, same r.message) refl
 
-gives_own : (route : AbstractRoute) (r : AbstractRule) → gives route r ≡ true → own_route r ≡ route
+pub gives_own : (route : AbstractRoute) (r : AbstractRule) → gives route r ≡ true → own_route r ≡ route
 gives_own route r e =
     let all = both_true (bytes_eq r.from route.from && bytes_eq r.to route.to) (bytes_eq r.message route.message) e in
     let parties = both_true (bytes_eq r.from route.from) (bytes_eq r.to route.to) all.0 in

@@ -1,6 +1,7 @@
 -- What is kept of messages and rules represents them.
-use Rattle.std.proofs.Common.{◌≡◌, ℕ, zero, suc, ◌+◌, ◌≤◌, List, [], ◌∷◌, drop, map, slice_get, Bool, true, false, cond, Option, Some, None, option_map, option_and_then, unwrap_or, string_bytes, count_by, All, refl, ap, sym, ◌∙◌, subst, arith}
+use Rattle.std.proofs.Common.{◌≡◌, ℕ, zero, suc, ◌+◌, ◌≤◌, List, [], ◌∷◌, drop, map, slice_get, Bool, true, false, ◌||◌, cond, Option, Some, None, option_map, option_and_then, unwrap_or, string_bytes, count_by, All, refl, ap, sym, ◌∙◌, subst, arith}
 use Rattle.std.specs.Prelude.{bytes_eq, nat_lt, IsTrue}
+use Rattle.std.specs.List.{list_any}
 use Rattle.std.proofs.lemmas.Bool.Decides.{nat_tests}
 use Rattle.std.specs.Borrow.{Bor}
 use Rattle.std.proofs.lemmas.List.Elements.{All-get_or}
@@ -13,14 +14,13 @@ use Rattle.guard_tables.specs.TableView.{rules_of}
 use Rattle.guard_policy.specs.declared.index.Listed.{Listed}
 use Rattle.guard_policy.specs.declared.kept.KeptMessage.{KeptMessage}
 use Rattle.guard_policy.specs.declared.kept.KeptRule.{KeptRule}
-use Rattle.guard_policy.specs.declared.kept.RuleType.{RuleType}
-use Rattle.guard_policy.specs.declared.kept.RuleType.TheVariants.{InTable, Own}
+use Rattle.guard_policy.specs.declared.kept.TypePlace.{TypePlace}
 use Rattle.guard_policy.specs.Consistency.{types_for}
-use Rattle.guard_policy.specs.KeptView.{kept_message_view, kept_rule_view, found_type, table_place, no_type}
+use Rattle.guard_policy.specs.KeptView.{kept_message_view, kept_rule_view, found_type, no_type}
 use Rattle.guard_policy.specs.inside.Listings.{AbstractListed, place_among, numbers_for, listing, listed_view}
-use Rattle.guard_policy.specs.Policies.{AbstractMessage, AbstractRule}
-use Rattle.guard_policy.specs.inside.Keeping.{Tabled, tabled_view, tabled, IsTypeOf, IsSaid}
-use Rattle.guard_policy.proofs.Listed.{drop_get, drop_rest}
+use Rattle.guard_policy.specs.Policies.{AbstractMessage, AbstractRule, message_names}
+use Rattle.guard_policy.specs.inside.Keeping.{Tabled, tabled_view, tabled, type_place, IsSaid, AreDeclared}
+use Rattle.guard_policy.proofs.Listed.{drop_get, drop_rest, alike, listed_parts, unlisted}
 
 -- ---- messages
 
@@ -107,26 +107,23 @@ rest_of [] = []
 rest_of (t ∷ ts) = ts
 
 -- the type of a rule is found where it is kept
-type_found : (messages : List AbstractMessage) (all : List AbstractRule) (n : ℕ) (r : AbstractRule) (ty : RuleType) (ms : List KeptMessage)
-    → slice_get all n ≡ Some r → map tabled_view ms ≡ map (tabled all) messages
-    → (place : Option ℕ) → place_among r.message 0 messages ≡ place → IsTypeOf (option_map (λ p. record { place = p; numbers = numbers_for r.message 0 all }) place) n r ty
-    → (found_type ms ty ≡ Some r.ty) × (table_place ty ≡ place)
+type_found : (messages : List AbstractMessage) (all : List AbstractRule) (n : ℕ) (r : AbstractRule) (l : AbstractListed) (ms : List KeptMessage)
+    → slice_get all n ≡ Some r → map tabled_view ms ≡ map (tabled all) messages → listing messages all r.message ≡ Some l
+    → found_type ms (type_place l n) ≡ Some r.ty
 unfolding rest_of
-type_found messages all n r (Own t) ms there tables None none is = (ap Some is, refl)
-type_found messages all n r (InTable message rule) ms there tables None none is = absurd is
-type_found messages all n r ty ms there tables (Some place) first is =
-    let message = first_named messages messages 0 place r.message refl first in
-    let kept = tabled_there ms place (tabled all message.0) (ap (λ (ts : List Tabled). slice_get ts place) tables ∙ slice_get-map (tabled all) messages place ∙ ap (option_map (tabled all)) message.1) in
+type_found messages all n r l ms there tables is =
+    let parts = listed_parts messages all r.message l is in
+    let message = first_named messages messages 0 l.place r.message refl parts.0 in
+    let kept = tabled_there ms l.place (tabled all message.0) (ap (λ (ts : List Tabled). slice_get ts l.place) tables ∙ slice_get-map (tabled all) messages l.place ∙ ap (option_map (tabled all)) message.1) in
     let types : rules_of kept.0.table ≡ types_for r.message all = ap (λ (t : Tabled). rest_of t.types) kept.2 ∙ ap (λ (name : List ℕ). types_for name all) message.2 in
-    let count = count_by (λ k. nat_lt k n) (numbers_for r.message 0 all) in
+    let count = count_by (λ k. nat_lt k n) l.numbers in
     let from_first : 0 + n ≡ n = omega arith in
     let there_from_first : slice_get (types_for r.message all) count ≡ Some r.ty =
-    subst (λ (m : ℕ). slice_get (types_for r.message all) (count_by (λ k. nat_lt k m) (numbers_for r.message 0 all)) ≡ Some r.ty) from_first
-    (type_there all 0 n r r.message there ((bytes_eq-Decides r.message r.message).1 refl)) in (
-      ap (found_type ms) is ∙ ap (λ (o : Option KeptMessage). option_and_then (λ (m : KeptMessage). slice_get (rules_of m.table) count) o) kept.1
-          ∙ ap (λ (ts : List AbstractType). slice_get ts count) types ∙ there_from_first,
-      ap table_place is,
-    )
+    subst (λ (ns : List ℕ). slice_get (types_for r.message all) (count_by (λ k. nat_lt k n) ns) ≡ Some r.ty) (sym parts.1)
+    (subst (λ (m : ℕ). slice_get (types_for r.message all) (count_by (λ k. nat_lt k m) (numbers_for r.message 0 all)) ≡ Some r.ty) from_first
+    (type_there all 0 n r r.message there ((bytes_eq-Decides r.message r.message).1 refl))) in
+    ap (λ (o : Option KeptMessage). option_and_then (λ (m : KeptMessage). slice_get (rules_of m.table) count) o) kept.1
+    ∙ ap (λ (ts : List AbstractType). slice_get ts count) types ∙ there_from_first
 
 as_said : (ms : List KeptMessage) (kept : KeptRule) (r : AbstractRule) → IsSaid r kept → found_type ms kept.ty ≡ Some r.ty → kept_rule_view ms kept ≡ r
 as_said ms kept r said found =
@@ -134,20 +131,36 @@ as_said ms kept r said found =
     let name = said.name in let effect = said.effect in let from = said.from in let to = said.to in let message = said.message in
     rw (name, effect, from, to, message, ty) refl
 
-place_is : (r : AbstractRule) (ty : RuleType) (n : ℕ) (numbers : List ℕ) (place : Option ℕ) → IsTypeOf (option_map (λ p. record { place = p; numbers = numbers }) place) n r ty → table_place ty ≡ place
-place_is r ty n numbers (Some p) is = ap table_place is
-place_is r (Own t) n numbers None is = refl
-place_is r (InTable message rule) n numbers None is = absurd is
-
 -- what is kept of the rule of this number represents it
-pub kept_one : (messages : List AbstractMessage) (all : List AbstractRule) (n : ℕ) (r : AbstractRule) (kept : KeptRule)
-    → slice_get all n ≡ Some r → IsTypeOf (listing messages all r.message) n r kept.ty → IsSaid r kept
+pub kept_one : (messages : List AbstractMessage) (all : List AbstractRule) (n : ℕ) (r : AbstractRule) (l : AbstractListed) (kept : KeptRule)
+    → slice_get all n ≡ Some r → listing messages all r.message ≡ Some l → kept.ty ≡ type_place l n → IsSaid r kept
     → ((ms : List KeptMessage) → map tabled_view ms ≡ map (tabled all) messages → kept_rule_view ms kept ≡ r)
-    × (table_place kept.ty ≡ place_among (string_bytes kept.message) 0 messages)
-kept_one messages all n r kept there is said = (
-  λ ms tables. as_said ms kept r said (type_found messages all n r kept.ty ms there tables (place_among r.message 0 messages) refl is).0,
-  place_is r kept.ty n (numbers_for r.message 0 all) (place_among r.message 0 messages) is ∙ ap (λ (name : List ℕ). place_among name 0 messages) (sym said.message),
+    × (place_among (string_bytes kept.message) 0 messages ≡ Some kept.ty.message)
+kept_one messages all n r l kept there listed is said = (
+  λ ms tables. as_said ms kept r said (ap (found_type ms) is ∙ type_found messages all n r l ms there tables listed),
+  ap (λ (name : List ℕ). place_among name 0 messages) said.message ∙ (listed_parts messages all r.message l listed).0
+      ∙ ap (λ (at : TypePlace). Some at.message) (sym is),
 )
+
+-- ---- a rule's message is listed, where it is declared
+
+has_place : (messages : List AbstractMessage) (name : List ℕ) (i : ℕ) → list_any (bytes_eq name) (message_names messages) ≡ true → place_among name i messages ≡ None → ⊥
+has_place [] name i there none = absurd cc
+has_place (m ∷ ms) name i there none =
+    (elim (bytes_eq m.name name) as (λ (b : Bool). bytes_eq m.name name ≡ b → cond b (Some i) (place_among name (i + 1) ms) ≡ None → ⊥) [
+      | true ↦ λ same e. absurd cc
+      | false ↦ λ other e.
+          has_place ms name (i + 1)
+          (ap (λ (b : Bool). b || list_any (bytes_eq name) (message_names ms)) (sym (alike name m.name ∙ other)) ∙ there) e
+    ]) refl none
+
+pub is_listed : (messages : List AbstractMessage) (rules : List AbstractRule) (n : ℕ) (r : AbstractRule) → slice_get rules n ≡ Some r
+    → AreDeclared messages rules → listing messages rules r.message ≡ None → ⊥
+is_listed messages rules n r there declared none =
+    let declares = λ (x : AbstractRule). IsTrue (list_any (bytes_eq x.message) (message_names messages)) in
+    has_place messages r.message 0
+    (subst declares (get_or_from_slice_get rules n r r there) (All-get_or declares rules n r (slice_get_within rules n r there) declared))
+    (unlisted messages rules r.message none)
 
 -- ---- the place of a message, as it is found by its name
 

@@ -1,6 +1,5 @@
 -- ---- the rules that are asked
 pub mod Consistent
-pub mod Misnamed
 pub mod Keeping
 pub mod Applicable
 pub mod Listed
@@ -24,9 +23,8 @@ pub mod EntriesRead
 pub mod NamesSeen
 -- ---- what a listing tells
 pub mod Starts
-pub mod Sizes
+pub mod SizesOfValues
 pub mod Within
-pub mod NumbersIn
 pub mod NothingShared
 pub mod ModuleNames
 pub mod Loading

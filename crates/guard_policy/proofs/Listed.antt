@@ -6,7 +6,7 @@ use Rattle.std.specs.Map.{lookup}
 use Rattle.std.specs.Option.{option_or}
 use Rattle.std.specs.Slice.{IsItemAt}
 use Rattle.std.proofs.Math.Seq.{drop-cons}
-use Rattle.std.proofs.lemmas.Option.{slice_get_past, slice_get_read, slice_get-map, some_pair_parts}
+use Rattle.std.proofs.lemmas.Option.{same_Some, slice_get_past, slice_get_read, slice_get-map, some_pair_parts}
 use Rattle.std.proofs.lemmas.Slice.Eq.{bytes_eq-Decides}
 use Rattle.indexmap.specs.IndexMap.{insert_entry}
 use Rattle.guard_model.specs.AbstractType.{AbstractType}
@@ -84,6 +84,26 @@ heard_all route rules = heard_from route rules rules 0 refl
 
 pub heard_listed : (route : AbstractRoute) (rules : List AbstractRule) (numbers : List ℕ) → numbers ≡ numbers_for route.message 0 rules → heard route (rules_at rules numbers) ≡ speaking route 0 rules
 heard_listed route rules numbers e = ap (λ (ns : List ℕ). heard route (rules_at rules ns)) e ∙ heard_all route rules
+
+-- ---- what a name leads to
+
+-- where it leads to something
+pub listed_parts : (messages : List AbstractMessage) (rules : List AbstractRule) (name : List ℕ) (l : AbstractListed) → listing messages rules name ≡ Some l
+    → (place_among name 0 messages ≡ Some l.place) × (l.numbers ≡ numbers_for name 0 rules)
+listed_parts messages rules name l e = parts (place_among name 0 messages) e
+  where
+    parts : (o : Option ℕ) → option_map {U = AbstractListed} (λ place. record { place = place; numbers = numbers_for name 0 rules }) o ≡ Some l
+        → (o ≡ Some l.place) × (l.numbers ≡ numbers_for name 0 rules)
+    parts None is = absurd cc
+    parts (Some i) is = (ap (option_map (λ (x : AbstractListed). x.place)) is, ap (λ (x : AbstractListed). x.numbers) (sym (same_Some _ _ is)))
+
+-- where it leads to nothing
+pub unlisted : (messages : List AbstractMessage) (rules : List AbstractRule) (name : List ℕ) → listing messages rules name ≡ None → place_among name 0 messages ≡ None
+unlisted messages rules name e = parts (place_among name 0 messages) e
+  where
+    parts : (o : Option ℕ) → option_map {U = AbstractListed} (λ place. record { place = place; numbers = numbers_for name 0 rules }) o ≡ None → o ≡ None
+    parts None is = refl
+    parts (Some i) is = absurd cc
 
 -- ---- what is declared is what the index leads to
 

@@ -6,7 +6,8 @@ use Rattle.std.proofs.lemmas.Option.{same_Some}
 use Rattle.toml.specs.Data.{Members}
 use Rattle.guard_policy.specs.declared.entry.Key.TheVariants.{Message, Rule}
 use Rattle.guard_policy.specs.Documents.{IsDocument, IsNoDocument, tables_at, messages_in, rules_in}
-use Rattle.guard_policy.specs.Entries.{AbstractTypes, message_in, rule_in, those_there, policy_in}
+use Rattle.guard_der.specs.NamedTypes.{AbstractTypes}
+use Rattle.guard_policy.specs.Entries.{message_in, rule_in, those_there, policy_in}
 use Rattle.guard_policy.specs.EntryFaults.{message_fault, rule_fault, entries_fault, tables_fault, document_fault}
 use Rattle.guard_policy.specs.Loads.{Loads, IsRefused}
 use Rattle.guard_policy.specs.Policies.{AbstractPolicy, AbstractMessage, AbstractRule, message_names}

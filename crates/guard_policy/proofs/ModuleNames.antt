@@ -1,7 +1,7 @@
 -- The names of modules, copied one after the other.
 use Rattle.std.proofs.Common.{◌≡◌, ℕ, zero, suc, ◌+◌, List, [], ◌∷◌, ◌++◌, take, slice_get, Some, None, refl, ap, sym, ◌∙◌, add-one}
 use Rattle.std.proofs.lemmas.Option.{same_Some}
-use Rattle.guard_policy.specs.Entries.{module_at}
+use Rattle.guard_der.specs.NamedTypes.{module_at}
 
 take_some : (xs : List (List ℕ)) (n : ℕ) (x : List ℕ) → slice_get xs n ≡ Some x → take (suc n) xs ≡ take n xs ++ x ∷ []
 take_some [] n x e = absurd cc

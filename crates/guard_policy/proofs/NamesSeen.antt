@@ -9,7 +9,8 @@ use Rattle.toml.specs.Data.{Members}
 use Rattle.guard_policy.specs.declared.entry.Entry.TheVariants as place
 use Rattle.guard_policy.specs.declared.entry.Key.TheVariants.{Name, Effect, Message}
 use Rattle.guard_policy.specs.Documents.{text_of}
-use Rattle.guard_policy.specs.Entries.{AbstractTypes, effect_named, type_in}
+use Rattle.guard_der.specs.NamedTypes.{AbstractTypes}
+use Rattle.guard_policy.specs.Entries.{effect_named, type_in}
 use Rattle.guard_policy.specs.EntryFaults.{keys_fault, has_names, message_fault, rule_fault}
 use Rattle.guard_policy.specs.Names.{is_name}
 use Rattle.guard_policy.specs.PolicyFaults.{AbstractFault, first_of, unless, message_keys, rule_keys, bad_name, duplicate_name, no_such_type, no_such_message, bad_effect}

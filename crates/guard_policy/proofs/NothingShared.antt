@@ -1,9 +1,11 @@
 -- Where the answer is that nothing meets what is asked, nothing does.
-use Rattle.std.proofs.Common.{◌≡◌, ℕ, suc, ◌+◌, ℤ, Bool, true, false, not, ◌&&◌, ◌||◌, List, [], ◌∷◌, Some, true≢false, refl, sym, ap, ◌∙◌, subst, arith}
-use Rattle.std.specs.Prelude.{pos, ◌≤ℤ◌}
+use Rattle.std.proofs.Common.{◌↔◌, ◌≡◌, ℕ, suc, ◌+◌, ℤ, Bool, true, false, not, ◌&&◌, ◌||◌, List, [], ◌∷◌, Some, true≢false, refl, sym, ap, ◌∙◌, subst, arith}
+use Rattle.std.specs.Prelude.{pos, negsuc, ◌^◌, ◌-◌, IsTrue, int_le, ◌≤ℤ◌, ◌<ℤ◌, ◌+ℤ◌}
+use Rattle.guard_integers.specs.Integers.{Integers, holds, only_fitting}
 use Rattle.std.specs.List.{list_any, list_all}
 use Rattle.std.proofs.lemmas.Bool.{and_parts}
-use Rattle.std.proofs.lemmas.Int.{ints}
+use Rattle.std.proofs.lemmas.Bool.Decides.{nat_tests}
+use Rattle.std.proofs.lemmas.Int.{ints, by_lt_z}
 use Rattle.guard_model.specs.AbstractType as type
 use Rattle.guard_model.specs.AbstractType.{AbstractType, AbstractKind, AbstractPresence, Components, NamedNumber, type_of, no_components, component}
 use Rattle.guard_model.specs.AbstractValue as value
@@ -15,29 +17,37 @@ use Rattle.guard_eval.specs.Elements.{size_of}
 use Rattle.guard_eval.specs.Member.{is_member, all_hold, parts_are_members}
 use Rattle.guard_eval.specs.Presence.{field_at}
 use Rattle.guard_tables.specs.Demands.{Demand, by_type}
-use Rattle.guard_policy.specs.Barren.{starts_of, least_number, all_have_number, have_no_number, demand_may_have_size, have_no_size, demands_within, has_no_value, kind_has_no_value, some_has_no_value, BarrenShareNothing, IntegersAreTold}
-use Rattle.guard_policy.proofs.Starts.{last_of, low_bound, between_fits, same_demands}
-use Rattle.guard_policy.proofs.Sizes.{size_of_demands, kept_demands}
+use Rattle.guard_policy.specs.Barren.{starts_of, least_number, all_have_number, have_no_number, demand_may_have_size, is_size, have_no_size, demands_within, has_no_value, kind_has_no_value, some_has_no_value, BarrenShareNothing, IntegersAreTold}
+use Rattle.guard_policy.proofs.Starts.{last_of, low_bound, high_bound, next_fits, same_demands}
+use Rattle.guard_policy.proofs.SizesOfValues.{size_of_demands, kept_demands}
 use Rattle.guard_policy.proofs.Within.{met, demands_met}
 
 not_both : (b : Bool) → not b ≡ true → b ≡ true → ⊥
 not_both true n e = true≢false (sym n)
 not_both false n e = true≢false (sym e)
 
-no_number : (asked : List Demand) (z : ℤ) → fits_128_bits z ≡ true → met asked (value.integer z) ≡ true → have_no_number asked ≡ true → ⊥
-no_number asked z z_fits all none =
-    let least = low_bound z z_fits in
-    let l = last_of z least_number (starts_of asked) least in
-    let p_fits = between_fits least_number l.last z l.above l.below refl z_fits in
-    not_both (list_any (all_have_number asked) (least_number ∷ starts_of asked)) none
-    (l.among (all_have_number asked) (same_demands l.last z l.below p_fits z_fits asked l.reaches ∙ all))
+both_true : (a b : Bool) → a ≡ true → b ≡ true → (a && b) ≡ true
+both_true a b e f = ap (λ (x : Bool). x && b) e ∙ f
 
-no_size : (asked : List Demand) (v : AbstractValue) (n : ℕ) → size_of v ≡ Some n → met asked v ≡ true → have_no_size asked ≡ true → ⊥
-no_size asked v n sized all none =
+pub no_number : (asked : List Demand) (z : ℤ) → fits_128_bits z ≡ true → all_have_number asked z ≡ true → have_no_number asked ≡ true → ⊥
+no_number asked z z_fits all none =
+    let l = last_of z least_number (starts_of asked) refl (low_bound z z_fits) in
+    not_both (list_any (λ x. fits_128_bits x && all_have_number asked x) (least_number ∷ starts_of asked)) none
+    (l.among (λ x. fits_128_bits x && all_have_number asked x)
+    (both_true (fits_128_bits l.last) (all_have_number asked l.last) l.fits (same_demands l.last z l.below l.fits z_fits asked l.reaches ∙ all)))
+
+pub no_size : (asked : List Demand) (n : ℕ) → list_all (demand_may_have_size (pos n)) asked ≡ true → have_no_size asked ≡ true → ⊥
+no_size asked n all none =
     let least : pos 0 ≤ℤ pos n = omega (arith, ints) in
-    let l = last_of (pos n) (pos 0) (starts_of asked) least in
-    not_both (list_any (λ z. list_all (demand_may_have_size z) asked) (pos 0 ∷ starts_of asked)) none
-    (l.among (λ z. list_all (demand_may_have_size z) asked) (kept_demands l.last (pos n) l.below l.above asked l.reaches (size_of_demands v n sized asked all)))
+    let l = last_of (pos n) (pos 0) (starts_of asked) refl least in
+    let above = l.above in
+    let sized : is_size l.last ≡ true = both_true (fits_128_bits l.last) (int_le (pos 0) l.last) l.fits (grind (arith, ints, nat_tests, above)) in
+    not_both (list_any (λ z. is_size z && list_all (demand_may_have_size z) asked) (pos 0 ∷ starts_of asked)) none
+    (l.among (λ z. is_size z && list_all (demand_may_have_size z) asked)
+    (both_true (is_size l.last) (list_all (demand_may_have_size l.last) asked) sized (kept_demands l.last (pos n) l.below l.fits asked l.reaches all)))
+
+no_sized : (asked : List Demand) (v : AbstractValue) (n : ℕ) → size_of v ≡ Some n → met asked v ≡ true → have_no_size asked ≡ true → ⊥
+no_sized asked v n sized all none = no_size asked n (size_of_demands v n sized asked all) none
 
 -- ---- values that fit
 
@@ -181,11 +191,11 @@ mutual
   nothing_of_kind (type.integer names) asked (value.fields fs) f all none = absurd cc
   nothing_of_kind (type.integer names) asked (value.items vs) f all none = absurd cc
   nothing_of_kind (type.integer names) asked (value.chosen i v) f all none = absurd cc
-  nothing_of_kind (type.bit_string names) asked v f all none = let s = bits_sized names v f in no_size asked v s.0 s.1 all none
-  nothing_of_kind type.octet_string asked v f all none = let s = octets_sized v f in no_size asked v s.0 s.1 all none
-  nothing_of_kind (type.characters k) asked v f all none = let s = characters_sized k v f in no_size asked v s.0 s.1 all none
-  nothing_of_kind (type.sequence_of t) asked v f all none = let s = items_sized t v f in no_size asked v s.0 s.1 all none
-  nothing_of_kind (type.set_of t) asked v f all none = let s = set_sized t v f in no_size asked v s.0 s.1 all none
+  nothing_of_kind (type.bit_string names) asked v f all none = let s = bits_sized names v f in no_sized asked v s.0 s.1 all none
+  nothing_of_kind type.octet_string asked v f all none = let s = octets_sized v f in no_sized asked v s.0 s.1 all none
+  nothing_of_kind (type.characters k) asked v f all none = let s = characters_sized k v f in no_sized asked v s.0 s.1 all none
+  nothing_of_kind (type.sequence_of t) asked v f all none = let s = items_sized t v f in no_sized asked v s.0 s.1 all none
+  nothing_of_kind (type.set_of t) asked v f all none = let s = set_sized t v f in no_sized asked v s.0 s.1 all none
   nothing_of_kind (type.sequence cs) asked v f all none =
       let p = fielded cs v f in
       nothing_in_some 0 cs asked p.0 p.0 (subst (λ (x : AbstractValue). fits_kind (type.sequence cs) x ≡ true) p.1 f) (from_first p.0) (subst (λ (x : AbstractValue). met asked x ≡ true) p.1 all) none
@@ -220,16 +230,94 @@ barren_share_nothing declared t v barren member other =
 
 -- ---- of integers all is known
 
-none_of : {A : Type 0} (f g : A → Bool) (xs : List A) → ((x : A) → f x ≡ true → g x ≡ true → ⊥) → not (list_any (λ x. f x && (g x && true)) xs) ≡ true
-none_of f g [] apart = refl
-none_of {A} f g (x ∷ xs) apart = ap not (ap (λ (b : Bool). b || list_any (λ y. f y && (g y && true)) xs) (neither (f x) (g x) (apart x))) ∙ none_of f g xs apart
-  where
-    neither : (a b : Bool) → (a ≡ true → b ≡ true → ⊥) → (a && (b && true)) ≡ false
-    neither true true h = absurd (h refl refl)
-    neither true false h = refl
-    neither false b h = refl
+-- what has no integer has none where it may begin
+pub none_at : (f : ℤ → Bool) (xs : List ℤ) → ((x : ℤ) → f x ≡ false) → not (list_any f xs) ≡ true
+none_at f [] none = refl
+none_at f (x ∷ xs) none = ap not (ap (λ (b : Bool). b || list_any f xs) (none x)) ∙ none_at f xs none
 
 pub integers_are_told : IntegersAreTold
 integers_are_told tags names cons t apart =
     let declared = type_of tags (type.integer names) cons in
-    none_of (λ z. is_member declared (value.integer z)) (λ z. is_member t (value.integer z)) (least_number ∷ starts_of (by_type declared ∷ by_type t ∷ [])) apart
+    let asked = by_type declared ∷ by_type t ∷ [] in
+    none_at (λ z. fits_128_bits z && all_have_number asked z) (least_number ∷ starts_of asked)
+    (λ z. neither (fits_128_bits z) (is_member declared (value.integer z)) (is_member t (value.integer z)) (apart z))
+  where
+    neither : (s a b : Bool) → (a ≡ true → b ≡ true → ⊥) → (s && (a && (b && true))) ≡ false
+    neither true true true h = absurd (h refl refl)
+    neither true true false h = refl
+    neither true false b h = refl
+    neither false a b h = refl
+
+-- ---- a set of what meets all that is asked
+
+-- it is empty exactly where the definition says that nothing does
+told_by : (f : ℤ → Bool) (told : Bool) (set : Integers) (empty : Bool) → IsTrue empty ↔ ((z : ℤ) → holds set z ≡ false) → ((z : ℤ) → holds set z ≡ f z)
+    → (((z : ℤ) → f z ≡ false) → told ≡ true) → ((z : ℤ) → f z ≡ true → told ≡ true → ⊥) → empty ≡ told
+told_by f told set true tests same if_none if_some = sym (if_none (λ z. sym (same z) ∙ tests.0 refl z))
+told_by f told set false tests same if_none if_some =
+    (elim told as (λ (b : Bool). told ≡ b → false ≡ b) [
+      | false ↦ λ none. refl
+      | true ↦ λ none. absurd (true≢false (sym (tests.1 (λ z. same z ∙ is_not (f z) (λ some. if_some z some none)))))
+    ]) refl
+  where
+    is_not : (b : Bool) → (b ≡ true → ⊥) → b ≡ false
+    is_not true h = absurd (h refl)
+    is_not false h = refl
+
+pub numbers_told : (asked : List Demand) (set : Integers) (empty : Bool) → IsTrue empty ↔ ((z : ℤ) → holds set z ≡ false)
+    → ((z : ℤ) → holds set z ≡ (fits_128_bits z && all_have_number asked z)) → empty ≡ have_no_number asked
+numbers_told asked set empty tests same =
+    told_by (λ z. fits_128_bits z && all_have_number asked z) (have_no_number asked) set empty tests same
+    (none_at (λ z. fits_128_bits z && all_have_number asked z) (least_number ∷ starts_of asked))
+    (λ z some. let both = and_parts (fits_128_bits z) (all_have_number asked z) some in no_number asked z both.0 both.1)
+
+pub sizes_told : (asked : List Demand) (set : Integers) (empty : Bool) → IsTrue empty ↔ ((z : ℤ) → holds set z ≡ false)
+    → ((z : ℤ) → holds set z ≡ (is_size z && list_all (demand_may_have_size z) asked)) → empty ≡ have_no_size asked
+sizes_told asked set empty tests same =
+    told_by (λ z. is_size z && list_all (demand_may_have_size z) asked) (have_no_size asked) set empty tests same
+    (none_at (λ z. is_size z && list_all (demand_may_have_size z) asked) (pos 0 ∷ starts_of asked)) some_size
+  where
+    below : (a b : Bool) → ((a && false) && b) ≡ false
+    below true b = refl
+    below false b = refl
+
+    some_size : (z : ℤ) → (is_size z && list_all (demand_may_have_size z) asked) ≡ true → have_no_size asked ≡ true → ⊥
+    some_size (pos n) some = no_size asked n (and_parts (is_size (pos n)) (list_all (demand_may_have_size (pos n)) asked) some).1
+    some_size (negsuc n) some = absurd (true≢false (sym some ∙ below (fits_128_bits (negsuc n)) (list_all (demand_may_have_size (negsuc n)) asked)))
+
+pub whole : (b : Bool) → (b && true) ≡ b
+whole true = refl
+whole false = refl
+
+-- a set is empty where it hasn't the least integer, and is alike up to the greatest
+alike_to_end : (set : Integers) (last : ℤ) → holds set least_number ≡ false → ((z : ℤ) → least_number ≤ℤ z → z ≤ℤ last → holds set z ≡ holds set least_number)
+    → pos (2 ^ 127 - 1) ≤ℤ last → (z : ℤ) → holds set z ≡ false
+alike_to_end set last first alike all z =
+    (elim (fits_128_bits z) as (λ (b : Bool). fits_128_bits z ≡ b → holds set z ≡ false) [
+      | true ↦ λ fits. let high = high_bound z fits in alike z (low_bound z fits) (omega (arith, ints, all, high)) ∙ first
+      | false ↦ λ past. only_fitting set z ∙ ap (λ (b : Bool). b && holds set z) past
+    ]) refl
+
+-- where it is alike up to a lesser one, it has the next
+unlike_next : (set : Integers) (last : ℤ) → last <ℤ pos (2 ^ 127 - 1) → least_number ≤ℤ last
+    → (fits_128_bits (last +ℤ pos 1) ≡ true → holds set (last +ℤ pos 1) ≡ not (holds set least_number))
+    → ((z : ℤ) → holds set z ≡ false) → ⊥
+unlike_next set last less above next none =
+    true≢false (ap not (sym (none least_number)) ∙ sym (next (next_fits last less above)) ∙ none (last +ℤ pos 1))
+
+le_true : (a b : ℤ) → int_le a b ≡ true → a ≤ℤ b
+le_true a b e = by_lt_z {P = a ≤ℤ b} b a (λ less. absurd (let no : int_le a b ≡ false = grind (arith, ints, nat_tests, less) in true≢false (sym e ∙ no))) (λ done. done)
+
+true_le : (a b : ℤ) → a ≤ℤ b → int_le a b ≡ true
+true_le a b le = grind (arith, ints, nat_tests, le)
+
+-- so that shows whether it is empty
+pub empty_exactly : (set : Integers) (last : ℤ) (ends : Bool) → holds set least_number ≡ false
+    → ((z : ℤ) → least_number ≤ℤ z → z ≤ℤ last → holds set z ≡ holds set least_number) → least_number ≤ℤ last
+    → (fits_128_bits (last +ℤ pos 1) ≡ true → holds set (last +ℤ pos 1) ≡ not (holds set least_number))
+    → ends ≡ int_le (pos (2 ^ 127 - 1)) last → IsTrue ends ↔ ((z : ℤ) → holds set z ≡ false)
+empty_exactly set last ends first alike above next tests = (
+  λ is. alike_to_end set last first alike (le_true (pos (2 ^ 127 - 1)) last (sym tests ∙ is)),
+  λ none. by_lt_z {P = ends ≡ true} last (pos (2 ^ 127 - 1)) (λ less. absurd (unlike_next set last less above next none))
+      (λ done. tests ∙ true_le (pos (2 ^ 127 - 1)) last done),
+)

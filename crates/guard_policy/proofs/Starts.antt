@@ -1,6 +1,6 @@
 -- A set of integers has a number only if it has one where it may begin.
-use Rattle.std.proofs.Common.{◌≡◌, ℤ, Bool, true, false, cond, not, ◌&&◌, ◌||◌, List, [], ◌∷◌, ◌++◌, refl, sym, ap, subst, ◌∙◌, arith}
-use Rattle.std.specs.Prelude.{⊤, pos, negsuc, ◌≤ℤ◌, ◌+ℤ◌}
+use Rattle.std.proofs.Common.{◌≡◌, ℕ, zero, suc, ℤ, Bool, true, false, true≢false, not, ◌&&◌, ◌||◌, List, [], ◌∷◌, ◌++◌, refl, sym, ap, ◌∙◌, arith}
+use Rattle.std.specs.Prelude.{⊤, ◌^◌, ◌-◌, pos, negsuc, ◌≤ℤ◌, ◌<ℤ◌, ◌+ℤ◌}
 use Rattle.std.specs.Ordering.{int_eq}
 use Rattle.std.specs.List.{list_any}
 use Rattle.std.proofs.lemmas.Int.{ints, by_lt_z}
@@ -17,13 +17,13 @@ use Rattle.guard_model.specs.declared.ty.Limit.TheVariants.{Free, At, Past}
 use Rattle.guard_eval.specs.Elements.{is_above, is_under}
 use Rattle.guard_eval.specs.Member.{is_member, holds, holds_element, all_hold, some_hold}
 use Rattle.guard_tables.specs.Demands.{Demand, by_type, by_constraint, meets}
-use Rattle.guard_tables.proofs.WholeSets.{integers}
-use Rattle.guard_policy.specs.Barren.{least_number, start, low_starts, high_starts, value_starts, starts, element_starts, type_starts, all_starts, demand_starts, starts_of, all_have_number}
+use Rattle.guard_tables.proofs.WholeSets.{integers_of}
+use Rattle.guard_policy.specs.Barren.{least_number, low_starts, high_starts, value_starts, starts, element_starts, type_starts, all_starts, demand_starts, starts_of, all_have_number}
 
--- each of these that isn't above z isn't above p
+-- each of these numbers of this profile that isn't above z isn't above p
 abbrev pub Reaches : ℤ → ℤ → List ℤ → Type 0
 Reaches p z [] = ⊤
-Reaches p z (s ∷ ss) = (s ≤ℤ z → s ≤ℤ p) × Reaches p z ss
+Reaches p z (s ∷ ss) = (fits_128_bits s ≡ true → s ≤ℤ z → s ≤ℤ p) × Reaches p z ss
 
 pub reaches_both : (p z : ℤ) (xs ys : List ℤ) → Reaches p z (xs ++ ys) → Reaches p z xs × Reaches p z ys
 reaches_both p z [] ys r = (tt, r)
@@ -32,6 +32,7 @@ reaches_both p z (x ∷ xs) ys r = let rest = reaches_both p z xs ys r.1 in ((r.
 -- the last of these up to z, or this one if none of them is later
 pub record Last (z first : ℤ) (ss : List ℤ) : Type 0 where
   pub last : ℤ
+  pub fits : fits_128_bits last ≡ true
   pub below : last ≤ℤ z
   pub above : first ≤ℤ last
   pub reaches : Reaches last z ss
@@ -45,47 +46,59 @@ skip : (a b c : Bool) → (a || c) ≡ true → (a || (b || c)) ≡ true
 skip true b c e = refl
 skip false b c e = or_true b c e
 
-pub last_of : (z first : ℤ) (ss : List ℤ) → first ≤ℤ z → Last z first ss
-last_of z first [] le = record { last = first; below = le; above = omega (arith, ints); reaches = tt; among = λ f e. ap (λ (b : Bool). b || false) e }
-last_of z first (s ∷ ss) le =
-    by_lt_z {P = Last z first (s ∷ ss)} z s
-    (λ gt.
-    let l = last_of z first ss le in
-    record {
-      last = l.last;
-      below = l.below;
-      above = l.above;
-      reaches = (λ here. absurd (omega (arith, ints, gt, here)), l.reaches);
-      among = λ f e. skip (f first) (f s) (list_any f ss) (l.among f e);
-    })
-    (λ here.
-    by_lt_z {P = Last z first (s ∷ ss)} first s
-    (λ gt.
-    let l = last_of z s ss here in
-    let a = l.above in
-    record {
-      last = l.last;
-      below = l.below;
-      above = omega (arith, ints, gt, a);
-      reaches = (λ _. a, l.reaches);
-      among = λ f e. or_true (f first) (f s || list_any f ss) (l.among f e);
-    })
-    (λ less.
-    let l = last_of z first ss le in
-    let a = l.above in
-    record {
-      last = l.last;
-      below = l.below;
-      above = a;
-      reaches = (λ _. omega (arith, ints, less, a), l.reaches);
-      among = λ f e. skip (f first) (f s) (list_any f ss) (l.among f e);
-    }))
+-- one that is left out, since it isn't of this profile, or is past z or before the last one
+leave_out : (z first s : ℤ) (ss : List ℤ) (l : Last z first ss) → (fits_128_bits s ≡ true → s ≤ℤ z → s ≤ℤ l.last) → Last z first (s ∷ ss)
+leave_out z first s ss l passed = record {
+  last = l.last;
+  fits = l.fits;
+  below = l.below;
+  above = l.above;
+  reaches = (passed, l.reaches);
+  among = λ f e. skip (f first) (f s) (list_any f ss) (l.among f e);
+}
+
+pub last_of : (z first : ℤ) (ss : List ℤ) → fits_128_bits first ≡ true → first ≤ℤ z → Last z first ss
+last_of z first [] first_fits le =
+    record { last = first; fits = first_fits; below = le; above = omega (arith, ints); reaches = tt; among = λ f e. ap (λ (b : Bool). b || false) e }
+last_of z first (s ∷ ss) first_fits le =
+    (elim (fits_128_bits s) as (λ (b : Bool). fits_128_bits s ≡ b → Last z first (s ∷ ss)) [
+      | false ↦ λ past. leave_out z first s ss (last_of z first ss first_fits le) (λ fits. absurd (true≢false (sym fits ∙ past)))
+      | true ↦ λ s_fits.
+          by_lt_z {P = Last z first (s ∷ ss)} z s
+          (λ gt. leave_out z first s ss (last_of z first ss first_fits le) (λ _ here. absurd (omega (arith, ints, gt, here))))
+          (λ here.
+          by_lt_z {P = Last z first (s ∷ ss)} first s
+          (λ gt.
+          let l = last_of z s ss s_fits here in
+          let a = l.above in
+          record {
+            last = l.last;
+            fits = l.fits;
+            below = l.below;
+            above = omega (arith, ints, gt, a);
+            reaches = (λ _ _. a, l.reaches);
+            among = λ f e. or_true (f first) (f s || list_any f ss) (l.among f e);
+          })
+          (λ less.
+          let l = last_of z first ss first_fits le in
+          let a = l.above in
+          leave_out z first s ss l (λ _ _. omega (arith, ints, less, a))))
+    ]) refl
 
 -- ---- numbers of this profile
 
 pub low_bound : (z : ℤ) → fits_128_bits z ≡ true → least_number ≤ℤ z
 low_bound (pos n) h = omega (arith, ints)
 low_bound (negsuc n) h = grind (arith, ints, nat_tests)
+
+pub high_bound : (z : ℤ) → fits_128_bits z ≡ true → z ≤ℤ pos (2 ^ 127 - 1)
+high_bound (pos n) h = grind (arith, ints, nat_tests)
+high_bound (negsuc n) h = omega (arith, ints)
+
+pub next_fits : (z : ℤ) → z <ℤ pos (2 ^ 127 - 1) → least_number ≤ℤ z → fits_128_bits (z +ℤ pos 1) ≡ true
+next_fits (pos n) less above = grind (arith, ints, nat_tests, less)
+next_fits (negsuc zero) less above = refl
+next_fits (negsuc (suc n)) less above = grind (arith, ints, nat_tests, above)
 
 pub between_fits : (p s z : ℤ) → p ≤ℤ s → s ≤ℤ z → fits_128_bits p ≡ true → fits_128_bits z ≡ true → fits_128_bits s ≡ true
 between_fits p (pos n) (pos m) a b pf zf = grind (arith, ints, nat_tests)
@@ -107,22 +120,18 @@ eq_same n p z to from =
 -- ---- no start lies between p and z, so each set has both of them or none
 
 module _ (p z : ℤ) (le : p ≤ℤ z) (p_fits : fits_128_bits p ≡ true) (z_fits : fits_128_bits z ≡ true) where
-  started : (s : ℤ) → Reaches p z (start s) → s ≤ℤ z → s ≤ℤ p
-  started s r here =
+  started : (s : ℤ) (ss : List ℤ) → Reaches p z (s ∷ ss) → s ≤ℤ z → s ≤ℤ p
+  started s ss r here =
       by_lt_z {P = s ≤ℤ p} p s
-      (λ gt.
-      let fits = between_fits p s z (omega (arith, ints, gt)) here p_fits z_fits in
-      let reached = subst (λ (b : Bool). Reaches p z (cond b (s ∷ []) [])) fits r in
-      reached.0 here)
+      (λ gt. r.0 (between_fits p s z (omega (arith, ints, gt)) here p_fits z_fits) here)
       (λ done. done)
 
   same_alone : (n : ℤ) → Reaches p z (value_starts (value.integer n)) → int_eq n p ≡ int_eq n z
   same_alone n r =
-      let both = reaches_both p z (start n) (start (n +ℤ pos 1)) r in
       by_lt_z z n (λ past. eq_same n p z (λ e. absurd (omega (arith, ints, past, le, e))) (λ e. absurd (omega (arith, ints, past, e))))
-      (λ here. let reached = started n both.0 here in
+      (λ here. let reached = started n ((n +ℤ pos 1) ∷ []) r here in
       by_lt_z z (n +ℤ pos 1) (λ last. eq_same n p z (λ e. omega (arith, ints, last, here)) (λ e. omega (arith, ints, last, reached, le)))
-      (λ more. let passed = started (n +ℤ pos 1) both.1 more in eq_same n p z (λ e. absurd (omega (arith, ints, passed, e))) (λ e. absurd (omega (arith, ints, more, e)))))
+      (λ more. let passed = started (n +ℤ pos 1) [] r.1 more in eq_same n p z (λ e. absurd (omega (arith, ints, passed, e))) (λ e. absurd (omega (arith, ints, more, e)))))
 
   same_value : (w : AbstractValue) → Reaches p z (value_starts w) → same w (value.integer p) ≡ same w (value.integer z)
   same_value (value.boolean b) r = refl
@@ -139,15 +148,15 @@ module _ (p z : ℤ) (le : p ≤ℤ z) (p_fits : fits_128_bits p ≡ true) (z_fi
 
   same_above : (low : Limit) → Reaches p z (low_starts low) → is_above low p ≡ is_above low z
   same_above Free r = refl
-  same_above (At n) r = by_lt_z z n (λ past. grind (arith, ints, past, le)) (λ here. let reached = started n r here in grind (arith, ints, here, reached))
+  same_above (At n) r = by_lt_z z n (λ past. grind (arith, ints, past, le)) (λ here. let reached = started n [] r here in grind (arith, ints, here, reached))
   same_above (Past n) r =
-      by_lt_z z (n +ℤ pos 1) (λ past. grind (arith, ints, past, le)) (λ here. let reached = started (n +ℤ pos 1) r here in grind (arith, ints, here, reached))
+      by_lt_z z (n +ℤ pos 1) (λ past. grind (arith, ints, past, le)) (λ here. let reached = started (n +ℤ pos 1) [] r here in grind (arith, ints, here, reached))
 
   same_under : (high : Limit) → Reaches p z (high_starts high) → is_under high p ≡ is_under high z
   same_under Free r = refl
   same_under (At n) r =
-      by_lt_z z (n +ℤ pos 1) (λ past. grind (arith, ints, past, le)) (λ here. let reached = started (n +ℤ pos 1) r here in grind (arith, ints, here, reached))
-  same_under (Past n) r = by_lt_z z n (λ past. grind (arith, ints, past, le)) (λ here. let reached = started n r here in grind (arith, ints, here, reached))
+      by_lt_z z (n +ℤ pos 1) (λ past. grind (arith, ints, past, le)) (λ here. let reached = started (n +ℤ pos 1) [] r here in grind (arith, ints, here, reached))
+  same_under (Past n) r = by_lt_z z n (λ past. grind (arith, ints, past, le)) (λ here. let reached = started n [] r here in grind (arith, ints, here, reached))
 
   mutual
     pub same_holds : (c : Constraint) (kind : AbstractKind) → Reaches p z (starts c) → holds c kind (value.integer p) ≡ holds c kind (value.integer z)
@@ -173,10 +182,10 @@ module _ (p z : ℤ) (le : p ≤ℤ z) (p_fits : fits_128_bits p ≡ true) (z_fi
 
     pub same_member : (t : AbstractType) → Reaches p z (type_starts t) → is_member t (value.integer p) ≡ is_member t (value.integer z)
     same_member (type_of tags kind cons) r =
-        integers tags kind cons p
+        integers_of tags kind cons p
         ∙ ap (λ (b : Bool). is_integer kind && (b && all_hold cons kind (value.integer p))) (p_fits ∙ sym z_fits)
         ∙ ap (λ (b : Bool). is_integer kind && (fits_128_bits z && b)) (same_all cons kind r)
-        ∙ sym (integers tags kind cons z)
+        ∙ sym (integers_of tags kind cons z)
 
     same_all : (cs : Constraints) (kind : AbstractKind) → Reaches p z (all_starts cs) → all_hold cs kind (value.integer p) ≡ all_hold cs kind (value.integer z)
     same_all no_constraints kind r = refl

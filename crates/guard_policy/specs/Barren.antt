@@ -1,5 +1,5 @@
 -- Rules that no value of their message's declared type is under, as far as integers and sizes tell.
-use Rattle.std.specs.Prelude.{ℕ, suc, ◌^◌, ◌-◌, nat_eq, ℤ, pos, negsuc, ◌+ℤ◌, Bool, true, false, not, ◌&&◌, ◌||◌, List, [], ◌∷◌, ◌++◌, slice_get, Option, Some, None, IsTrue, if◌then◌else◌}
+use Rattle.std.specs.Prelude.{ℕ, suc, ◌^◌, ◌-◌, nat_eq, int_le, ℤ, pos, negsuc, ◌+ℤ◌, Bool, true, false, not, ◌&&◌, ◌||◌, List, [], ◌∷◌, ◌++◌, slice_get, Option, Some, None, IsTrue, if◌then◌else◌}
 use Rattle.std.specs.List.{list_any, list_all}
 use Rattle.guard_model.specs.AbstractType as type
 use Rattle.guard_model.specs.AbstractType.{AbstractType, AbstractKind, Components, Constraint, Constraints, Element, NamedNumber, Parts, type_of, no_components, component, at, no_constraints, constraint}
@@ -19,23 +19,20 @@ use Rattle.guard_policy.specs.Policies.{AbstractPolicy, AbstractRule, declared_t
 
 -- ---- where sets of integers may begin: such a set has a number only if it has one of these, or the least of all
 
-abbrev pub start : ℤ → List ℤ
-start z = if fits_128_bits z then z ∷ [] else []
-
 -- 51.4: of the integers from one end on, and of those past the other
 abbrev pub low_starts : Limit → List ℤ
 low_starts Free = []
-low_starts (At low) = start low
-low_starts (Past low) = start (low +ℤ pos 1)
+low_starts (At low) = low ∷ []
+low_starts (Past low) = (low +ℤ pos 1) ∷ []
 
 abbrev pub high_starts : Limit → List ℤ
 high_starts Free = []
-high_starts (At high) = start (high +ℤ pos 1)
-high_starts (Past high) = start high
+high_starts (At high) = (high +ℤ pos 1) ∷ []
+high_starts (Past high) = high ∷ []
 
 -- 51.2: of an integer alone, and of those past it
 abbrev pub value_starts : AbstractValue → List ℤ
-value_starts (value.integer z) = start z ++ start (z +ℤ pos 1)
+value_starts (value.integer z) = z ∷ (z +ℤ pos 1) ∷ []
 value_starts _ = []
 
 abbrev mutual
@@ -79,9 +76,10 @@ least_number = negsuc (2 ^ 127 - 1)
 abbrev pub all_have_number : List Demand → ℤ → Bool
 all_have_number asked z = list_all (λ d. meets d (value.integer z)) asked
 
--- no integer meets all that is asked
+-- no integer of this profile meets all that is asked
 abbrev pub have_no_number : List Demand → Bool
-have_no_number asked = not (list_any (all_have_number asked) (least_number ∷ starts_of asked))
+have_no_number asked =
+    not (list_any (λ z. fits_128_bits z && all_have_number asked z) (least_number ∷ starts_of asked))
 
 -- ---- of sizes (51.5): which ones values may have, as far as SIZE tells; what comes after EXCEPT takes none away
 
@@ -117,9 +115,13 @@ abbrev pub demand_may_have_size : ℤ → Demand → Bool
 demand_may_have_size z (by_type t) = type_may_have_size t z
 demand_may_have_size z (by_constraint kind c) = may_have_size c z
 
+abbrev pub is_size : ℤ → Bool
+is_size z = fits_128_bits z && int_le (pos 0) z
+
 -- no size is one that all may have
 abbrev pub have_no_size : List Demand → Bool
-have_no_size asked = not (list_any (λ z. list_all (demand_may_have_size z) asked) (pos 0 ∷ starts_of asked))
+have_no_size asked =
+    not (list_any (λ z. is_size z && list_all (demand_may_have_size z) asked) (pos 0 ∷ starts_of asked))
 
 -- ---- what is asked of the component at a place, as far as no union and no exception says it (51.8.5)
 

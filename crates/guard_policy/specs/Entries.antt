@@ -1,23 +1,13 @@
 -- The policy that the entries of a document say.
-use Rattle.std.specs.Prelude.{ℕ, zero, suc, slice_get, List, [], ◌∷◌, map, codes, bytes_eq, Option, Some, None, option_map, option_and_then, if◌then◌else◌}
+use Rattle.std.specs.Prelude.{ℕ, List, [], ◌∷◌, map, codes, bytes_eq, Option, Some, None, option_map, option_and_then, if◌then◌else◌}
 use Rattle.toml.specs.Data.{Members}
 use Rattle.guard_model.specs.AbstractType.{AbstractType}
+use Rattle.guard_der.specs.NamedTypes.{AbstractTypes}
 use Rattle.guard_policy.specs.declared.entry.Key.TheVariants as key
 use Rattle.guard_policy.specs.declared.policy.Effect.{Effect}
 use Rattle.guard_policy.specs.declared.policy.Effect.TheVariants.{Allow, Deny}
 use Rattle.guard_policy.specs.Policies.{AbstractMessage, AbstractRule, AbstractPolicy}
 use Rattle.guard_policy.specs.Documents.{text_of, messages_in, rules_in}
-
--- What a policy is built on: the names of the modules in the order of their texts, and the type of a name in the module
--- of a name.
-pub record AbstractTypes : Type 0 where
-  pub modules : List (List ℕ)
-  pub types : List ℕ → List ℕ → Option AbstractType
-
--- the name of the module at this place of the list of texts, from 1
-abbrev pub module_at : List (List ℕ) → ℕ → Option (List ℕ)
-module_at modules zero = None
-module_at modules (suc text) = slice_get modules text
 
 abbrev pub effect_named : List ℕ → Option Effect
 effect_named word =

@@ -9,7 +9,8 @@ use Rattle.guard_policy.specs.declared.entry.Entry.TheVariants as place
 use Rattle.guard_policy.specs.declared.entry.Key.{Key}
 use Rattle.guard_policy.specs.declared.entry.Key.TheVariants.{Name, Effect, From, To, Message}
 use Rattle.guard_policy.specs.Documents.{text_of, messages_in, rules_in}
-use Rattle.guard_policy.specs.Entries.{AbstractTypes, effect_named, type_in, policy_in}
+use Rattle.guard_der.specs.NamedTypes.{AbstractTypes}
+use Rattle.guard_policy.specs.Entries.{effect_named, type_in, policy_in}
 use Rattle.guard_policy.specs.Names.{is_name, is_party}
 use Rattle.guard_policy.specs.Consistency.{types_for}
 use Rattle.guard_policy.specs.Policies.{AbstractMessage, AbstractRule, message_names}
@@ -58,26 +59,6 @@ entries_fault fault before number [] = None
 entries_fault fault before number (entry ∷ others) =
     option_or (fault before number entry) (entries_fault fault (before ++ text_of Name entry ∷ []) (suc number) others)
 
--- ---- the names of messages and rules that no text gave
-
--- of the first message, from this number on, whose name is none
-abbrev pub messages_misnamed : ℕ → List AbstractMessage → Option AbstractFault
-messages_misnamed number [] = None
-messages_misnamed number (m ∷ ms) =
-    option_or (unless (is_name m.name) (bad_name (place.Message number))) (messages_misnamed (suc number) ms)
-
-abbrev pub is_well_named : AbstractRule → Bool
-is_well_named r = is_name r.name && is_party r.from && is_party r.to && is_name r.message
-
--- of the first rule, from this number on, one of whose names is none
-abbrev pub rules_misnamed : ℕ → List AbstractRule → Option AbstractFault
-rules_misnamed number [] = None
-rules_misnamed number (r ∷ rs) =
-    option_or (unless (is_well_named r) (bad_name (place.Rule number))) (rules_misnamed (suc number) rs)
-
-abbrev pub misnamed : List AbstractMessage → List AbstractRule → Option AbstractFault
-misnamed messages rules = option_or (messages_misnamed 1 messages) (rules_misnamed 1 rules)
-
 -- ---- tables
 
 -- of the first message whose types make no table
@@ -86,11 +67,6 @@ tables_fault rules number [] = None
 tables_fault rules number (m ∷ ms) =
     option_or (option_map (bad_table number) (first_fault m.ty (types_for m.name rules)))
     (tables_fault rules (suc number) ms)
-
--- Why messages and rules, of sound types, make no policy: a name that is none, or else the types of a message that make
--- no table.
-abbrev pub parts_fault : List AbstractMessage → List AbstractRule → Option AbstractFault
-parts_fault messages rules = option_or (misnamed messages rules) (tables_fault rules 1 messages)
 
 -- ---- all of it
 

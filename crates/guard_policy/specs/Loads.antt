@@ -2,7 +2,8 @@
 use Rattle.std.specs.Prelude.{◌≡◌, ℕ, List, Some, None, Option, ◌⊎◌}
 use Rattle.toml.specs.Data.{Members}
 use Rattle.guard_policy.specs.Documents.{IsDocument, IsNoDocument, files_in}
-use Rattle.guard_policy.specs.Entries.{AbstractTypes, policy_in}
+use Rattle.guard_der.specs.NamedTypes.{AbstractTypes}
+use Rattle.guard_policy.specs.Entries.{policy_in}
 use Rattle.guard_policy.specs.EntryFaults.{document_fault}
 use Rattle.guard_policy.specs.Policies.{AbstractPolicy}
 use Rattle.guard_policy.specs.PolicyFaults.{AbstractFault, toml, top_fault}

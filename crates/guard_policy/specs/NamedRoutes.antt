@@ -2,8 +2,7 @@
 use Rattle.std.specs.Prelude.{◌≡◌, ℕ, Bool, ◌&&◌, List, ◌∷◌, ◌++◌, length, bytes_eq, IsTrue}
 use Rattle.std.specs.List.{list_any}
 use Rattle.guard_policy.specs.Names.{is_plain}
-use Rattle.guard_policy.specs.Policies.{AbstractPolicy, AbstractRule, AbstractRoute}
-use Rattle.guard_policy.specs.Decisions.{Goes}
+use Rattle.guard_policy.specs.Policies.{AbstractRule, AbstractRoute}
 
 -- a name after its length
 abbrev pub with_length : List ℕ → List ℕ
@@ -22,7 +21,3 @@ pub record IsGiven (rules : List AbstractRule) (names : List ℕ) (route : Abstr
   pub octets : names ≡ route_octets route
   pub plain : IsTrue (is_plain route)
   pub given : IsTrue (list_any (gives route) rules)
-
--- The message goes on the route that these octets are and that some rule gives.
-abbrev pub GoesAsGiven : AbstractPolicy → List ℕ → List ℕ → Type 0
-GoesAsGiven p names octets = (route : AbstractRoute) × IsGiven p.rules names route × Goes p route octets

@@ -1,11 +1,8 @@
 -- Policies as the definitions see them.
-use Rattle.std.specs.Prelude.{ℕ, ◌-◌, nat_eq, List, [], ◌∷◌, map, option_map, slice_get, string_bytes, Option, Some, None, if◌then◌else◌}
+use Rattle.std.specs.Prelude.{ℕ, ◌-◌, nat_eq, List, [], ◌∷◌, map, option_map, slice_get, Option, Some, None, if◌then◌else◌}
 use Rattle.std.specs.Str.{bytes_eq}
 use Rattle.guard_model.specs.AbstractType.{AbstractType}
-use Rattle.guard_model.specs.TypeView.{type_view}
 use Rattle.guard_policy.specs.declared.policy.Effect.{Effect}
-use Rattle.guard_policy.specs.declared.policy.Message.{Message}
-use Rattle.guard_policy.specs.declared.policy.Rule.{Rule}
 
 pub record AbstractMessage : Type 0 where
   pub name : List ℕ
@@ -31,18 +28,9 @@ pub record AbstractRoute : Type 0 where
   pub to : List ℕ
   pub message : List ℕ
 
-abbrev pub message_view : Message → AbstractMessage
-message_view m = record { name = string_bytes m.name; ty = type_view m.ty }
-
-abbrev pub rule_view : Rule → AbstractRule
-rule_view r = record {
-  name = string_bytes r.name;
-  effect = r.effect;
-  from = string_bytes r.from;
-  to = string_bytes r.to;
-  message = string_bytes r.message;
-  ty = type_view r.ty;
-}
+-- the route of a rule's own names
+abbrev pub own_route : AbstractRule → AbstractRoute
+own_route r = record { from = r.from; to = r.to; message = r.message }
 
 abbrev pub message_names : List AbstractMessage → List (List ℕ)
 message_names messages = map (λ m. m.name) messages
@@ -61,10 +49,6 @@ declared_type p name = declared_among p.messages name
 -- the name of a message by its place, from 0
 abbrev pub message_name_of : AbstractPolicy → ℕ → Option (List ℕ)
 message_name_of p i = option_map (λ m. m.name) (slice_get p.messages i)
-
--- the declared type of a message by its place, from 0
-abbrev pub message_type_of : AbstractPolicy → ℕ → Option AbstractType
-message_type_of p i = option_map (λ m. m.ty) (slice_get p.messages i)
 
 -- the name of a rule by its number, from 0
 abbrev pub rule_name_of : AbstractPolicy → ℕ → Option (List ℕ)

@@ -5,8 +5,7 @@ pub mod Asked
 pub mod Applicable
 pub mod Keeping
 pub mod Leads
+pub mod Passing
 pub mod Routing
 pub mod Said
-pub mod NumbersIn
-pub mod Speaking
-pub mod TypedRules
+pub mod KeptRules

@@ -1,9 +1,11 @@
 //! What types and constraints ask of values, and of the components of values.
 ghost use Rattle.std.specs.Prelude.{◌≡◌, ◌++◌, map, option_map, OnOk, IfOk};
 ghost use Rattle.guard_model.specs.Components.{components_in, component_at};
-ghost use Rattle.guard_model.specs.TypeView.{type_view, kind_view, component_view, constraint_view, element_view, constraints_of, part_view, parts_of};
+ghost use Rattle.guard_model.specs.TypeView.{type_view, kind_view, component_view, constraint_view, element_view};
+ghost use Rattle.guard_model.specs.TypeView.{constraints_of, part_view, parts_of};
 ghost use Rattle.guard_eval.specs.Presence.{kind_at};
-ghost use Rattle.guard_policy.specs.Barren.{own_part, type_within, within, element_within, all_within, parts_within, demand_within, demands_within};
+ghost use Rattle.guard_policy.specs.Barren.{own_part, type_within, within, element_within, all_within, parts_within};
+ghost use Rattle.guard_policy.specs.Barren.{demand_within, demands_within};
 ghost use Rattle.guard_policy.specs.inside.Asked.{demand_view, demands_view, part_within};
 
 use guard_model::{Comp, Cons, Kind, OutOfMemory, Part, Rule, Ty};
@@ -36,7 +38,8 @@ fn push_within_demand<'a>(
     demand: Demand<'a>,
     inner: &mut Vec<Demand<'a>>,
 ) -> Result<(), OutOfMemory>
-    ensures { OnOk result (demands_view inner.new.items ≡ demands_view inner.old.items ++ demand_within place (demand_view demand.entry)) }
+    ensures { OnOk result (demands_view inner.new.items
+        ≡ demands_view inner.old.items ++ demand_within place (demand_view demand.entry)) }
 {
     match demand {
         Demand::Type(ty) => push_within_type(ty, place, inner),
@@ -50,7 +53,8 @@ fn push_within_type<'a>(
     place: usize,
     inner: &mut Vec<Demand<'a>>,
 ) -> Result<(), OutOfMemory>
-    ensures { OnOk result (demands_view inner.new.items ≡ demands_view inner.old.items ++ type_within place (type_view ty.now)) }
+    ensures { OnOk result (demands_view inner.new.items
+        ≡ demands_view inner.old.items ++ type_within place (type_view ty.now)) }
 {
     push_part(place, &ty.kind, inner)?;
     push_within_all(&ty.cons, place, &ty.kind, inner)

@@ -1,19 +1,21 @@
 //! Rules that no value of their message's declared type is under, as far as integers and sizes tell.
-ghost use Rattle.std.specs.Prelude.{◌≡◌, ◌++◌, map, OnOk, IfOk};
-ghost use Rattle.std.specs.List.{list_any, list_all};
+ghost use Rattle.std.specs.Prelude.{◌≡◌, ◌&&◌, ◌↔◌, ◌^◌, ◌-◌, ℤ, pos, int_le, false, map, IfOk, IsTrue};
+ghost use Rattle.guard_integers.specs.Integers.{holds};
 ghost use Rattle.guard_model.specs.AbstractValue as abstract_value;
+ghost use Rattle.guard_model.specs.Limits.{fits_128_bits};
 ghost use Rattle.guard_model.specs.TypeView.{type_view, kind_view, component_view, components_of, presence_view};
 ghost use Rattle.guard_der.specs.Fits.{may_be_absent};
-ghost use Rattle.guard_policy.specs.Barren.{demand_starts, starts_of, all_have_number, have_no_number, demand_may_have_size, have_no_size, kind_has_no_value, some_has_no_value, is_barren};
+ghost use Rattle.guard_policy.specs.Barren.{have_no_number, demand_may_have_size, have_no_size, kind_has_no_value};
+ghost use Rattle.guard_policy.specs.Barren.{some_has_no_value, is_barren};
 ghost use Rattle.guard_policy.specs.inside.Asked.{demand_view, demands_view};
 ghost use Rattle.guard_tables.specs.Demands.{meets};
 
 use super::asked::{Demand, demands_within};
 use super::policy::Policy;
-use super::spans::{
-    all_may_have_size, has_number, may_have_size, push_all_starts, push_starts, type_has_number,
-};
+use super::sizes::{sizes_of, sizes_of_all};
+use guard_integers::IntSet;
 use guard_model::{Comp, Kind, OutOfMemory, Presence, Ty};
+use guard_tables::{numbers_of, numbers_of_type};
 use std::alloc::Global;
 
 impl Policy {
@@ -75,7 +77,8 @@ fn some_has_no_value(
     components: &[Comp],
     demands: &[Demand],
 ) -> Result<bool, OutOfMemory>
-    ensures { IfOk result (λ none. none ≡ some_has_no_value 0 (components_of (map component_view components.now)) (demands_view demands.now)) }
+    ensures { IfOk result (λ none. none ≡ some_has_no_value 0 (components_of (map component_view components.now))
+        (demands_view demands.now)) }
 {
     for (place, component) in components.iter().enumerate() {
         if !may_be_absent(&component.presence) {
@@ -103,98 +106,56 @@ fn may_be_absent(presence: &Presence) -> bool
 fn have_no_number(alloc: Global, demands: &[Demand]) -> Result<bool, OutOfMemory>
     ensures { IfOk result (λ none. none ≡ have_no_number (demands_view demands.now)) }
 {
-    let mut starts = Vec::new(alloc);
-    starts.push(i128::MIN)?;
-    push_starts_of(demands, &mut starts)?;
-    Ok(!some_is_number(demands, &starts))
+    let mut left = IntSet::all(alloc)?;
+    for demand in demands {
+        left = left.intersection(alloc, &numbers_met(alloc, *demand)?)?;
+    }
+    Ok(is_empty(&left))
+}
+
+/// The integers that meet it.
+fn numbers_met(alloc: Global, demand: Demand) -> Result<IntSet, OutOfMemory>
+    ensures { IfOk result (λ set. (z : ℤ)
+        → holds set z ≡ (fits_128_bits z && meets (demand_view demand.entry) (abstract_value.integer z))) }
+{
+    match demand {
+        Demand::Type(ty) => numbers_of_type(ty, alloc),
+        Demand::Constraint(_, constraint) => numbers_of(constraint, alloc),
+    }
 }
 
 /// Whether no size is one that all may have.
 fn have_no_size(alloc: Global, demands: &[Demand]) -> Result<bool, OutOfMemory>
     ensures { IfOk result (λ none. none ≡ have_no_size (demands_view demands.now)) }
 {
-    let mut starts = Vec::new(alloc);
-    starts.push(0)?;
-    push_starts_of(demands, &mut starts)?;
-    Ok(!some_is_size(demands, &starts))
-}
-
-fn some_is_number(demands: &[Demand], starts: &[i128]) -> bool
-    ensures { result ≡ list_any (all_have_number (demands_view demands.now)) starts.now }
-{
-    for start in starts {
-        if all_have_number(demands, *start) {
-            return true;
-        }
-    }
-    false
-}
-
-fn some_is_size(demands: &[Demand], sizes: &[i128]) -> bool
-    ensures { result ≡ list_any (λ z. list_all (demand_may_have_size z) (demands_view demands.now)) sizes.now }
-{
-    for size in sizes {
-        if all_may_be_of_size(demands, *size) {
-            return true;
-        }
-    }
-    false
-}
-
-fn push_starts_of(demands: &[Demand], starts: &mut Vec<i128>) -> Result<(), OutOfMemory>
-    ensures { OnOk result (starts.new.items ≡ starts.old.items ++ starts_of (demands_view demands.now)) }
-{
+    let mut left = IntSet::range(alloc, 0, i128::MAX)?;
     for demand in demands {
-        push_demand_starts(*demand, starts)?;
+        left = left.intersection(alloc, &sizes_met(alloc, *demand)?)?;
     }
-    Ok(())
+    Ok(is_empty(&left))
 }
 
-fn push_demand_starts(demand: Demand, starts: &mut Vec<i128>) -> Result<(), OutOfMemory>
-    ensures { OnOk result (starts.new.items ≡ starts.old.items ++ demand_starts (demand_view demand.entry)) }
+/// The sizes that values which meet it may have.
+fn sizes_met(alloc: Global, demand: Demand) -> Result<IntSet, OutOfMemory>
+    ensures { IfOk result (λ set. (z : ℤ)
+        → holds set z ≡ (fits_128_bits z && demand_may_have_size z (demand_view demand.entry))) }
 {
     match demand {
-        Demand::Type(ty) => push_all_starts(&ty.cons, starts),
-        Demand::Constraint(_, constraint) => push_starts(constraint, starts),
+        Demand::Type(ty) => sizes_of_all(alloc, &ty.cons),
+        Demand::Constraint(_, constraint) => sizes_of(alloc, constraint),
     }
 }
 
-fn all_have_number(demands: &[Demand], number: i128) -> bool
-    ensures { result ≡ all_have_number (demands_view demands.now) number }
+/// Whether the set has no integer.
+fn is_empty(set: &IntSet) -> bool
+    ensures { IsTrue result ↔ ((z : ℤ) → holds set.now z ≡ false) }
 {
-    for demand in demands {
-        if !demand_has_number(*demand, number) {
-            return false;
-        }
-    }
-    true
+    !set.has(i128::MIN) && reaches_all(set.alike_to(i128::MIN))
 }
 
-fn demand_has_number(demand: Demand, number: i128) -> bool
-    ensures { result ≡ meets (demand_view demand.entry) (abstract_value.integer number) }
+/// Whether no integer is above this one.
+fn reaches_all(number: i128) -> bool
+    ensures { result ≡ int_le (pos (2 ^ 127 - 1)) number }
 {
-    match demand {
-        Demand::Type(ty) => type_has_number(ty, number),
-        Demand::Constraint(_, constraint) => has_number(constraint, number),
-    }
-}
-
-fn all_may_be_of_size(demands: &[Demand], size: i128) -> bool
-    ensures { result ≡ list_all (demand_may_have_size size) (demands_view demands.now) }
-{
-    for demand in demands {
-        if !demand_may_have_size(size, *demand) {
-            return false;
-        }
-    }
-    true
-}
-
-fn demand_may_have_size(size: i128, demand: Demand) -> bool
-    ensures { result ≡ demand_may_have_size size (demand_view demand.entry) }
-{
-    match demand {
-        Demand::Type(ty) => all_may_have_size(&ty.cons, size),
-        Demand::Constraint(_, constraint) => may_have_size(constraint, size),
-    }
+    i128::MAX <= number
 }

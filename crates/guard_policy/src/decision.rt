@@ -7,15 +7,14 @@ ghost use Rattle.guard_der.specs.Sound.{is_sound};
 ghost use Rattle.guard_policy.specs.PolicyView.{route_view};
 ghost use Rattle.guard_policy.specs.Verdicts.{verdict_view};
 ghost use Rattle.guard_policy.specs.inside.Applicable.{AreApplicable};
-ghost use Rattle.guard_policy.specs.inside.Speaking.{kept_speaks_of};
-ghost use Rattle.guard_policy.specs.inside.TypedRules.{rules_kept, typed_rule_view};
-ghost use Rattle.guard_policy.specs.Decisions.{is_allow, denies, first_denying, by_allowing, judged};
-ghost use Rattle.guard_policy.specs.Names.{is_meant};
+ghost use Rattle.guard_policy.specs.inside.KeptRules.{rules_kept};
+ghost use Rattle.guard_policy.specs.Decisions.{is_allowing, speaks_of, denies, first_denying, by_allowing, judged};
+ghost use Rattle.guard_policy.specs.SaidView.{said_view};
 ghost use Rattle.guard_policy.specs.inside.Listings.{rules_at, heard, denies_at, allowing_at};
 
-use super::kept::{Kept, KeptRule, TypedRule};
-use super::policy::Effect;
-use super::route::{Route, is_anyone};
+use super::kept::Kept;
+use super::policy::{Effect, SaidRule};
+use super::route::Route;
 use super::verdict::Verdict;
 use guard_eval::{first_violation, member};
 use guard_model::{OutOfMemory, Ty, Value};
@@ -33,7 +32,9 @@ pub fn judge(
     requires type_sound { IsTrue (is_sound (type_view ty.now)) }
     requires value_fits { IsTrue (fits (type_view ty.now) (value_view value.now)) }
     requires rules_applicable { AreApplicable (route_view route.now) (value_view value.now) (rules_kept kept.now) }
-    ensures { IfOk result (λ w. verdict_view w ≡ judged (type_view ty.now) (heard (route_view route.now) (rules_at (rules_kept kept.now) numbers.now)) (value_view value.now)) }
+    ensures { IfOk result (λ w. verdict_view w
+        ≡ judged (type_view ty.now) (heard (route_view route.now) (rules_at (rules_kept kept.now) numbers.now))
+        (value_view value.now)) }
 {
     if let Some(violation) = first_violation(ty, value) {
         return Ok(Verdict::OutsideType(violation));
@@ -47,7 +48,8 @@ pub fn judge(
 /// The number of the first of these rules that speaks of the route and denies the value.
 fn first_denying_rule(kept: &Kept, numbers: &[usize], route: &Route, value: &Value) -> Option<usize>
     requires { AreApplicable (route_view route.now) (value_view value.now) (rules_kept kept.now) }
-    ensures { result ≡ first_denying (heard (route_view route.now) (rules_at (rules_kept kept.now) numbers.now)) (value_view value.now) }
+    ensures { result ≡ first_denying (heard (route_view route.now) (rules_at (rules_kept kept.now) numbers.now))
+        (value_view value.now) }
 {
     for number in numbers {
         if denies_at(kept, *number, route, value) {
@@ -66,7 +68,9 @@ fn judge_by_allowing(
     value: &Value,
 ) -> Result<Verdict, OutOfMemory>
     requires { AreApplicable (route_view route.now) (value_view value.now) (rules_kept kept.now) }
-    ensures { IfOk result (λ w. verdict_view w ≡ by_allowing (heard (route_view route.now) (rules_at (rules_kept kept.now) numbers.now)) (value_view value.now)) }
+    ensures { IfOk result (λ w. verdict_view w
+        ≡ by_allowing (heard (route_view route.now) (rules_at (rules_kept kept.now) numbers.now))
+        (value_view value.now)) }
 {
     let mut shortfalls = Vec::new(alloc);
     for number in numbers {
@@ -90,48 +94,32 @@ fn denies_at(kept: &Kept, number: usize, route: &Route, value: &Value) -> bool
     ensures { result ≡ denies_at (rules_kept kept.now) number (route_view route.now) (value_view value.now) }
 {
     match kept.rule(number) {
-        Some(rule) => speaks_of(route, rule.said) && rule_denies(&rule, value),
+        Some(rule) => rule.speaks_of(route) && rule_denies(&rule, value),
         None => false,
     }
 }
 
 /// The rule of this number, where it speaks of the route and allows something.
-fn allowing_at<'a>(kept: &'a Kept, number: usize, route: &Route) -> Option<TypedRule<'a>>
-    ensures { option_map typed_rule_view result ≡ allowing_at (rules_kept kept.now) number (route_view route.now) }
+fn allowing_at<'a>(kept: &'a Kept, number: usize, route: &Route) -> Option<SaidRule<'a>>
+    ensures { option_map said_view result ≡ allowing_at (rules_kept kept.now) number (route_view route.now) }
 {
     match kept.rule(number) {
-        Some(rule) if may_allow(route, rule.said) => Some(rule),
+        Some(rule) if may_allow(route, &rule) => Some(rule),
         _ => None,
     }
 }
 
-fn rule_denies(rule: &TypedRule, value: &Value) -> bool
+fn rule_denies(rule: &SaidRule, value: &Value) -> bool
     requires sound { IsTrue (is_sound (type_view rule.now.ty.now)) }
     requires fits { IsTrue (fits (type_view rule.now.ty.now) (value_view value.now)) }
-    ensures { result ≡ denies (typed_rule_view rule.now) (value_view value.now) }
+    ensures { result ≡ denies (said_view rule.now) (value_view value.now) }
 {
-    rule.said.effect == Effect::Deny && member(rule.ty, value)
+    rule.effect == Effect::Deny && member(rule.ty, value)
 }
 
 /// The rule is an allowing one of the route.
-fn may_allow(route: &Route, rule: &KeptRule) -> bool
-    ensures { result ≡ kept_speaks_of (route_view route.now) rule.now && is_allow rule.now.effect }
+fn may_allow(route: &Route, rule: &SaidRule) -> bool
+    ensures { result ≡ speaks_of (route_view route.now) (said_view rule.now) && is_allowing (said_view rule.now) }
 {
-    speaks_of(route, rule) && rule.effect == Effect::Allow
-}
-
-/// The rule speaks of this sender, receiver and message.
-fn speaks_of(route: &Route, rule: &KeptRule) -> bool
-    ensures { result ≡ kept_speaks_of (route_view route.now) rule.now }
-{
-    is_meant(&rule.from, route.from)
-        && is_meant(&rule.to, route.to)
-        && rule.message.as_bytes() == route.message
-}
-
-/// Whether what a rule gives for its sender or its receiver is this name, or `*`.
-pub(crate) fn is_meant(given: &str, name: &[u8]) -> bool
-    ensures { result ≡ is_meant given.now name.now }
-{
-    given.as_bytes() == name || is_anyone(given)
+    rule.speaks_of(route) && rule.effect == Effect::Allow
 }

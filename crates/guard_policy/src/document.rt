@@ -2,7 +2,8 @@
 ghost use Rattle.std.specs.Prelude.{◌≡◌, Some, option_map, IfOk, IfErr, IfSome};
 ghost use Rattle.toml.specs.View.{view, items_view, table_view};
 ghost use Rattle.toml.specs.Data.{as_str, as_table, get_member};
-ghost use Rattle.guard_policy.specs.Documents.{key_text, text_of, IsDocument, IsNoDocument, items_as, text_at, texts_at, tables_at};
+ghost use Rattle.guard_policy.specs.Documents.{key_text, text_of, IsDocument, IsNoDocument, items_as, text_at};
+ghost use Rattle.guard_policy.specs.Documents.{texts_at, tables_at};
 ghost use Rattle.guard_policy.specs.EntryFaults.{keys_fault};
 ghost use Rattle.guard_policy.specs.PolicyFaults.{named, toml as no_toml, is_key, unknown_in, missing_in, top_fault};
 ghost use Rattle.guard_policy.specs.inside.Answers.{tables_view, texts_view, Meets};
@@ -38,9 +39,12 @@ pub(crate) fn document(alloc: Global, text: &[u8]) -> Result<Table, PolicyFault>
 /// What the top lists: the files of modules, and the tables of messages and rules.
 pub(crate) fn top_of<'a>(alloc: Global, top: &'a Table) -> Result<Top<'a>, PolicyFault>
     ensures met { Meets (top_fault (table_view top.now)) result }
-    ensures files { IfOk result (λ found. texts_at Key.Modules (table_view top.now) ≡ Some (texts_view found.files.items)) }
-    ensures messages { IfOk result (λ found. tables_at Key.Message (table_view top.now) ≡ Some (tables_view found.messages.items)) }
-    ensures rules { IfOk result (λ found. tables_at Key.Rule (table_view top.now) ≡ Some (tables_view found.rules.items)) }
+    ensures files { IfOk result (λ found. texts_at Key.Modules (table_view top.now)
+        ≡ Some (texts_view found.files.items)) }
+    ensures messages { IfOk result (λ found. tables_at Key.Message (table_view top.now)
+        ≡ Some (tables_view found.messages.items)) }
+    ensures rules { IfOk result (λ found. tables_at Key.Rule (table_view top.now)
+        ≡ Some (tables_view found.rules.items)) }
 {
     check_keys(alloc, Entry::Top, &TOP_KEYS, top)?;
     let Some(files) = texts_at(alloc, top, Key::Modules)? else {
@@ -132,7 +136,8 @@ fn texts_at<'a>(
     table: &'a Table,
     key: Key,
 ) -> Result<Option<Vec<&'a str>>, AllocError>
-    ensures { IfOk result (λ found. option_map (λ texts. texts_view texts.items) found ≡ texts_at key (table_view table.now)) }
+    ensures { IfOk result (λ found. option_map (λ texts. texts_view texts.items) found
+        ≡ texts_at key (table_view table.now)) }
 {
     let Some(value) = value_at(table, key) else {
         return Ok(None);
@@ -144,7 +149,8 @@ fn texts_at<'a>(
 }
 
 fn texts_in<'a>(alloc: Global, items: &'a [Value]) -> Result<Option<Vec<&'a str>>, AllocError>
-    ensures { IfOk result (λ found. option_map (λ texts. texts_view texts.items) found ≡ items_as as_str (items_view items.now)) }
+    ensures { IfOk result (λ found. option_map (λ texts. texts_view texts.items) found
+        ≡ items_as as_str (items_view items.now)) }
 {
     let mut texts = Vec::with_capacity(alloc, items.len())?;
     for item in items {
@@ -162,7 +168,8 @@ fn tables_at<'a>(
     table: &'a Table,
     key: Key,
 ) -> Result<Option<Vec<&'a Table>>, AllocError>
-    ensures { IfOk result (λ found. option_map (λ tables. tables_view tables.items) found ≡ tables_at key (table_view table.now)) }
+    ensures { IfOk result (λ found. option_map (λ tables. tables_view tables.items) found
+        ≡ tables_at key (table_view table.now)) }
 {
     let Some(value) = value_at(table, key) else {
         return Ok(Some(Vec::new(alloc)));
@@ -174,7 +181,8 @@ fn tables_at<'a>(
 }
 
 fn tables_in<'a>(alloc: Global, items: &'a [Value]) -> Result<Option<Vec<&'a Table>>, AllocError>
-    ensures { IfOk result (λ found. option_map (λ tables. tables_view tables.items) found ≡ items_as as_table (items_view items.now)) }
+    ensures { IfOk result (λ found. option_map (λ tables. tables_view tables.items) found
+        ≡ items_as as_table (items_view items.now)) }
 {
     let mut tables = Vec::with_capacity(alloc, items.len())?;
     for item in items {

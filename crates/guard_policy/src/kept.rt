@@ -7,7 +7,7 @@ ghost use Rattle.guard_policy.specs.KeptView.{kept_message_view, kept_rule_view,
 ghost use Rattle.guard_policy.specs.inside.Listings.{IsIndex, listed_view};
 ghost use Rattle.guard_policy.specs.SaidView.{said_view};
 ghost use Rattle.guard_policy.specs.inside.Said.{said_message_view};
-ghost use Rattle.guard_policy.specs.inside.Keeping.{IsTypeOf, IsSaid, ArePlaced, tabled_view, tabled};
+ghost use Rattle.guard_policy.specs.inside.Keeping.{type_place, IsSaid, ArePlaced, AreDeclared, tabled_view, tabled};
 ghost use Rattle.guard_policy.specs.inside.Leads.{AreLeads};
 ghost use Rattle.guard_policy.specs.inside.Routing.{IsRouted};
 ghost use Rattle.guard_policy.specs.declared.kept.KeptMessage.{KeptMessage};
@@ -29,13 +29,11 @@ pub(crate) struct KeptMessage {
     pub routing: Routing,
 }
 
-/// Where the type of a rule is.
-#[derive(Drop)]
-pub(crate) enum RuleType {
-    /// In the table of the message at this place, at this place among its rules.
-    InTable { message: usize, rule: usize },
-    /// Here, where no message has the name that the rule gives.
-    Own(Ty),
+/// Where the type of a rule is: in the table of the message at a place, at a place among its rules.
+#[derive(Clone, Copy)]
+pub(crate) struct TypePlace {
+    pub message: usize,
+    pub rule: usize,
 }
 
 /// A rule without its type.
@@ -46,7 +44,7 @@ pub(crate) struct KeptRule {
     pub from: String,
     pub to: String,
     pub message: String,
-    pub ty: RuleType,
+    pub ty: TypePlace,
 }
 
 /// Messages and rules in file order, how a message's name leads to both, and what the routes that rules give lead to.
@@ -56,41 +54,42 @@ pub(crate) struct Kept {
     pub rules: Vec<KeptRule>,
     pub index: Index,
     pub leads: Leads,
-    pub ghost consistent: { IsConsistent (map kept_message_view messages.items) (map (kept_rule_view messages.items) rules.items) },
-    pub ghost indexed: { IsIndex (map kept_message_view messages.items) (map (kept_rule_view messages.items) rules.items) index } by { Prim.hlevel props },
+    pub ghost consistent: { IsConsistent (map kept_message_view messages.items)
+        (map (kept_rule_view messages.items) rules.items) },
+    pub ghost indexed: { IsIndex (map kept_message_view messages.items)
+        (map (kept_rule_view messages.items) rules.items) index } by { Prim.hlevel props },
     pub ghost placed: { ArePlaced (map kept_message_view messages.items) rules.items } by { Prim.hlevel props },
-    pub ghost routed: { All (IsRouted (map (kept_rule_view messages.items) rules.items)) messages.items } by { Prim.hlevel props },
-    pub ghost led: { AreLeads index messages.items (map (kept_rule_view messages.items) rules.items) leads } by { Prim.hlevel props },
-}
-
-/// A rule and its type.
-#[derive(Clone, Copy)]
-pub(crate) struct TypedRule<'a> {
-    pub said: &'a KeptRule,
-    pub ty: &'a Ty,
+    pub ghost routed: { All (IsRouted (map
+        (kept_rule_view messages.items) rules.items)) messages.items } by { Prim.hlevel props },
+    pub ghost led: { AreLeads index messages.items
+        (map (kept_rule_view messages.items) rules.items) leads } by { Prim.hlevel props },
 }
 
 impl Kept {
-    ghost use Rattle.guard_policy.specs.inside.TypedRules.{rules_kept, typed_rule_view};
+    ghost use Rattle.guard_policy.specs.inside.KeptRules.{rules_kept};
 
     /// The rule of this number.
-    pub fn rule(&self, number: usize) -> Option<TypedRule<'_>>
-        ensures { option_map typed_rule_view result ≡ slice_get (rules_kept self.now) number }
+    pub fn rule(&self, number: usize) -> Option<SaidRule<'_>>
+        ensures { option_map said_view result ≡ slice_get (rules_kept self.now) number }
     {
-        let said = self.rules.get(number)?;
-        match self.type_of(&said.ty) {
-            Some(ty) => Some(TypedRule { said, ty }),
-            None => unreachable!(),
-        }
+        let rule = self.rules.get(number)?;
+        let Some(ty) = self.type_at(rule.ty) else {
+            unreachable!();
+        };
+        Some(SaidRule {
+            name: &rule.name,
+            effect: rule.effect,
+            from: &rule.from,
+            to: &rule.to,
+            message: &rule.message,
+            ty,
+        })
     }
 
-    fn type_of<'a>(&'a self, ty: &'a RuleType) -> Option<&'a Ty>
-        ensures { option_map (λ ty. type_view ty.now) result ≡ found_type self.now.messages.items ty.now }
+    fn type_at(&self, place: TypePlace) -> Option<&Ty>
+        ensures { option_map (λ ty. type_view ty.now) result ≡ found_type self.now.messages.items place }
     {
-        match ty {
-            RuleType::InTable { message, rule } => self.messages.get(*message)?.table.rule(*rule),
-            RuleType::Own(ty) => Some(ty),
-        }
+        self.messages.get(place.message)?.table.rule(place.rule)
     }
 }
 
@@ -100,7 +99,9 @@ pub(crate) fn keep_rules(
     messages: &[SaidMessage],
     rules: &[SaidRule],
 ) -> Result<(Index, Vec<KeptRule>), OutOfMemory>
-    ensures index { IfOk result (λ kept. IsIndex (map said_message_view messages.now) (map said_view rules.now) kept.0) }
+    requires declared { AreDeclared (map said_message_view messages.now) (map said_view rules.now) }
+    ensures index { IfOk result (λ kept. IsIndex (map said_message_view messages.now)
+        (map said_view rules.now) kept.0) }
     // With the tables of the messages they are the rules.
     ensures rules { IfOk result (λ kept. (with_tables : List KeptMessage) →
         map tabled_view with_tables ≡ map (tabled (map said_view rules.now)) (map said_message_view messages.now) →
@@ -110,28 +111,22 @@ pub(crate) fn keep_rules(
     let index = Index::of(alloc, messages, rules)?;
     let mut kept = Vec::with_capacity(alloc, rules.len())?;
     for (number, rule) in rules.iter().enumerate() {
-        let listed = index.find(rule.message.as_bytes());
-        let ty = type_of(alloc, listed, number, rule)?;
+        let Some(listed) = index.find(rule.message.as_bytes()) else {
+            unreachable!();
+        };
+        let ty = type_place(listed, number);
         kept.push(without_type(alloc, rule, ty)?)?;
     }
     Ok((index, kept))
 }
 
 /// Where the type of the rule of this number is kept; its message is listed so.
-fn type_of(
-    alloc: Global,
-    listed: Option<&Listed>,
-    number: usize,
-    rule: &SaidRule,
-) -> Result<RuleType, OutOfMemory>
-    ensures { IfOk result (λ ty. IsTypeOf (option_map (λ l. listed_view l.now) listed.entry) number (said_view rule.now) ty) }
+fn type_place(listed: &Listed, number: usize) -> TypePlace
+    ensures { result ≡ type_place (listed_view listed.now) number }
 {
-    match listed {
-        Some(listed) => Ok(RuleType::InTable {
-            message: listed.place,
-            rule: count_before(&listed.rules, number),
-        }),
-        None => Ok(RuleType::Own(rule.ty.copy(alloc)?)),
+    TypePlace {
+        message: listed.place,
+        rule: count_before(&listed.rules, number),
     }
 }
 
@@ -143,7 +138,7 @@ fn count_before(numbers: &[usize], number: usize) -> usize
 }
 
 /// The rule, its type being there.
-fn without_type(alloc: Global, rule: &SaidRule, ty: RuleType) -> Result<KeptRule, AllocError>
+fn without_type(alloc: Global, rule: &SaidRule, ty: TypePlace) -> Result<KeptRule, AllocError>
     ensures { IfOk result (λ kept. IsSaid (said_view rule.now) kept × (kept.ty ≡ ty)) }
 {
     let name = String::from_str(alloc, rule.name)?;

@@ -15,7 +15,8 @@ pub fn law_one_reason(policy: &Policy, route: &Route, octets: &[u8])
     ensures some { (w : AbstractVerdict) × IsReason (policy_view policy.now) (route_view route.now) octets.now w }
     ensures one { (v w : AbstractVerdict) → IsReason (policy_view policy.now) (route_view route.now) octets.now v
         → IsReason (policy_view policy.now) (route_view route.now) octets.now w → v ≡ w }
-    ensures passes { IsReason (policy_view policy.now) (route_view route.now) octets.now pass ↔ Goes (policy_view policy.now) (route_view route.now) octets.now }
+    ensures passes { IsReason (policy_view policy.now) (route_view route.now) octets.now pass
+        ↔ Goes (policy_view policy.now) (route_view route.now) octets.now }
 {
     let Some(ty) = policy.declared(route.message) else {
         return;

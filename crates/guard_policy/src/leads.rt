@@ -3,7 +3,7 @@ ghost use Rattle.std.specs.Prelude.{◌≡◌, IfOk, None, map, option_map, if�
 ghost use Rattle.guard_policy.specs.Names.{is_plain};
 ghost use Rattle.guard_policy.specs.PolicyView.{route_view};
 ghost use Rattle.guard_policy.specs.SaidView.{said_view};
-ghost use Rattle.guard_policy.specs.inside.Leads.{own_route, lead_of, found_lead, AreLeads};
+ghost use Rattle.guard_policy.specs.inside.Leads.{lead_of, found_lead, AreLeads};
 
 use super::index::Index;
 use super::kept::KeptMessage;
@@ -42,7 +42,7 @@ impl Leads {
     {
         let mut routes = IndexMap::new(alloc);
         for rule in rules {
-            let route = own_route(rule);
+            let route = rule.route();
             if let Some(lead) = lead_of(index, messages, &route) {
                 routes.insert(RouteOctets::of(alloc, &route)?, lead)?;
             }
@@ -58,20 +58,10 @@ impl Leads {
     }
 }
 
-/// The route of a rule's own names.
-fn own_route<'a>(rule: &SaidRule<'a>) -> Route<'a>
-    ensures { route_view result ≡ own_route (said_view rule.now) }
-{
-    Route {
-        from: rule.from.as_bytes(),
-        to: rule.to.as_bytes(),
-        message: rule.message.as_bytes(),
-    }
-}
-
 /// What a route of three names leads to.
 fn lead_of(index: &Index, messages: &[KeptMessage], route: &Route) -> Option<Lead>
-    ensures { result ≡ (if is_plain (route_view route.now) then lead_of index.now messages.now (route_view route.now) else None) }
+    ensures { result ≡ (if is_plain (route_view route.now)
+        then lead_of index.now messages.now (route_view route.now) else None) }
 {
     if !route.is_plain() {
         return None;

@@ -7,18 +7,20 @@
 //! | What is kept of them? | `kept.rt`, `tables.rt` | `specs/KeptView.antt`, `specs/inside/Keeping.antt` |
 //! | What does the name of a message lead to? | `index.rt` | `specs/inside/Listings.antt` |
 //! | Who sends what to whom? | `route.rt` | `specs/Policies.antt`, `specs/PolicyView.antt` |
+//! | Which rules speak of a route? | `speaking.rt` | `specs/Decisions.antt` |
 //! | Which verdicts are there? | `verdict.rt` | `specs/Verdicts.antt` |
 //! | When does a message go? | `passing.rt` (`passes`) | `specs/Decisions.antt` |
 //! | How does a route lead to its rules? | `routing.rt` | `specs/inside/Routing.antt` |
-//! | Which routes do rules give by names? | `leads.rt`, `route_octets.rt` | `specs/NamedRoutes.antt`, `specs/inside/Leads.antt` |
+//! | Which routes do rules give by names? | `leads.rt`, `route_octets.rt` | `specs/NamedRoutes.antt` |
 //! | Which verdict is it? | `policy.rt` (`verdict`), `decision.rt` | `specs/Decisions.antt` |
+//! | Do a rule's type and the declared one share no value? | `barren.rt`, `asked.rt`, `sizes.rt` | `specs/Barren.antt` |
 //! | What holds of every message? | `laws.rt` | `specs/Decisions.antt` |
 //! | Which octets are names? | `route.rt` (`is_name`, `Route::is_plain`) | `specs/Names.antt` |
 //! | What may a rule give for its sender and receiver? | `route.rt` (`is_party`) | `specs/Names.antt` |
 //! | What is in the text of a policy? | `document.rt`, `entry.rt` | `specs/Documents.antt` |
 //! | What may be wrong with it? | `fault.rt` | `specs/PolicyFaults.antt` |
 //! | Which files of modules does it list? | `files.rt` (`module_files`) | `specs/Loads.antt` |
-//! | What is a policy built on? | `types.rt` (`Types`) | `specs/Entries.antt` |
+//! | What is a policy built on? | `types.rt`, `guard_der::named_types` | `specs/Entries.antt` |
 //! | Which policy does the text say? | `load.rt` (`Policy::load`) | `specs/Loads.antt` |
 //! | Why is a text none? | `messages.rt`, `rules.rt`, `tables.rt` | `specs/Entries.antt`, `specs/EntryFaults.antt` |
 //! | What is borrowed while a text is read? | `said.rt`, `seen.rt` | `specs/inside/Said.antt` |
@@ -37,7 +39,6 @@ pub mod laws;
 mod leads;
 mod load;
 mod messages;
-mod names;
 mod passing;
 mod policy;
 mod route;
@@ -46,7 +47,8 @@ mod routing;
 mod rules;
 mod said;
 mod seen;
-mod spans;
+mod sizes;
+mod speaking;
 mod tables;
 mod types;
 mod verdict;
@@ -54,7 +56,7 @@ mod verdict;
 pub use entry::{Entry, Key};
 pub use fault::PolicyFault;
 pub use files::module_files;
-pub use policy::{Effect, Message, Policy, Refused, Rule, SaidRule};
-pub use route::{Route, is_name};
-pub use types::Types;
+pub use guard_der::named_types::Types;
+pub use policy::{Effect, Policy, SaidRule};
+pub use route::{Route, is_anyone, is_name};
 pub use verdict::Verdict;

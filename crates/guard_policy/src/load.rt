@@ -12,7 +12,8 @@ use super::fault::PolicyFault;
 use super::messages::messages_of;
 use super::policy::Policy;
 use super::rules::rules_of;
-use super::types::{Types, module_names};
+use super::types::module_names;
+use guard_der::named_types::Types;
 use std::alloc::Global;
 use toml::Table;
 
@@ -25,7 +26,8 @@ impl Policy {
         // What is answered is what the text says,
         ensures loads { IfOk result (λ p. Loads text.now (S.types schema.now) (policy_view p)) }
         // and what it says is answered.
-        ensures only { (p : AbstractPolicy) → Loads text.now (S.types schema.now) p → IfOk result (λ q. policy_view q ≡ p) }
+        ensures only { (p : AbstractPolicy) → Loads text.now (S.types schema.now) p
+            → IfOk result (λ q. policy_view q ≡ p) }
         // A refusal names the first fault.
         ensures refused { IfErr result (λ f. IfSome (named f) (IsRefused text.now (S.types schema.now))) }
     {
@@ -40,9 +42,12 @@ fn policy_of<'a, S: Types>(
     top: &'a Table,
     schema: &'a S,
 ) -> Result<Policy, PolicyFault>
-    ensures loads { (text : List ℕ) → IsDocument text (table_view top.now) → IfOk result (λ p. Loads text (S.types schema.now) (policy_view p)) }
-    ensures only { (text : List ℕ) (p : AbstractPolicy) → IsDocument text (table_view top.now) → Loads text (S.types schema.now) p → IfOk result (λ q. policy_view q ≡ p) }
-    ensures refused { (text : List ℕ) → IsDocument text (table_view top.now) → IfErr result (λ f. IfSome (named f) (IsRefused text (S.types schema.now))) }
+    ensures loads { (text : List ℕ) → IsDocument text (table_view top.now)
+        → IfOk result (λ p. Loads text (S.types schema.now) (policy_view p)) }
+    ensures only { (text : List ℕ) (p : AbstractPolicy) → IsDocument text (table_view top.now)
+        → Loads text (S.types schema.now) p → IfOk result (λ q. policy_view q ≡ p) }
+    ensures refused { (text : List ℕ) → IsDocument text (table_view top.now)
+        → IfErr result (λ f. IfSome (named f) (IsRefused text (S.types schema.now))) }
 {
     let listed = top_of(alloc, top)?;
     let messages = messages_of(alloc, schema, &listed.messages)?;

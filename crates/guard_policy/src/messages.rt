@@ -14,7 +14,8 @@ use super::fault::PolicyFault;
 use super::route::is_name;
 use super::said::SaidMessage;
 use super::seen::has_name;
-use super::types::{Types, type_named};
+use super::types::type_named;
+use guard_der::named_types::Types;
 use indexmap::IndexSet;
 use std::alloc::Global;
 use toml::Table;
@@ -28,7 +29,8 @@ pub(crate) fn messages_of<'a, S: Types>(
     tables: &[&'a Table],
 ) -> Result<Vec<SaidMessage<'a>>, PolicyFault>
     ensures met { Meets (entries_fault (message_fault (S.types schema.now)) [] 1 (tables_view tables.now)) result }
-    ensures made { IfOk result (λ ms. map said_message_view ms.items ≡ those_there (map (message_in (S.types schema.now)) (tables_view tables.now))) }
+    ensures made { IfOk result (λ ms. map said_message_view ms.items
+        ≡ those_there (map (message_in (S.types schema.now)) (tables_view tables.now))) }
     ensures sound { IfOk result (λ ms. All (λ m. IsTrue (is_sound m.ty)) (map said_message_view ms.items)) }
 {
     let mut names = IndexSet::new(alloc);
@@ -49,8 +51,10 @@ fn message_of<'a, S: Types>(
     number: usize,
     table: &'a Table,
 ) -> Result<SaidMessage<'a>, PolicyFault>
-    ensures met { Meets (message_fault (S.types schema.now) (names_in before.now) number (table_view table.now)) result }
-    ensures made { IfOk result (λ m. message_in (S.types schema.now) (table_view table.now) ≡ Some (said_message_view m)) }
+    ensures met { Meets (message_fault (S.types schema.now) (names_in before.now) number
+        (table_view table.now)) result }
+    ensures made { IfOk result (λ m. message_in (S.types schema.now) (table_view table.now)
+        ≡ Some (said_message_view m)) }
     ensures sound { IfOk result (λ m. IsTrue (is_sound (type_view m.ty.now))) }
 {
     let entry = Entry::Message(number);

@@ -2,8 +2,10 @@
 //! messages nor with names.
 ghost use Rattle.std.specs.Prelude.{◌≡◌, ◌≢◌, ◌↔◌, IsTrue};
 ghost use Rattle.guard_tables.specs.Slots.{none};
+ghost use Rattle.guard_policy.specs.inside.Passing.{IsAnswer};
 ghost use Rattle.guard_policy.specs.inside.Routing.{common};
 
+use super::kept::KeptMessage;
 use super::policy::Policy;
 use super::route::Route;
 use super::routing::{RouteRules, meets};
@@ -11,10 +13,11 @@ use guard_reader::walk;
 use guard_tables::Slots;
 
 impl Policy {
-    ghost use Rattle.std.specs.Prelude.{IsTrue, ◌↔◌};
+    ghost use Rattle.std.specs.Prelude.{◌≡◌, ◌↔◌, IsTrue, IfSome, None};
     ghost use Rattle.guard_policy.specs.PolicyView.{policy_view, route_view};
+    ghost use Rattle.guard_policy.specs.Policies.{AbstractRoute};
     ghost use Rattle.guard_policy.specs.Decisions.{Goes};
-    ghost use Rattle.guard_policy.specs.NamedRoutes.{GoesAsGiven};
+    ghost use Rattle.guard_policy.specs.NamedRoutes.{IsGiven};
 
     /// Whether a message goes on its route: its octets are the encoding of a value of its declared type that some rule
     /// of the route allows and none denies. It takes no memory.
@@ -24,34 +27,42 @@ impl Policy {
         let Some((message, _)) = self.found(route.message) else {
             return false;
         };
-        match walk(&message.table, octets) {
-            Some(marks) => marks.of_type()
-                && lets_go(&message.routing.rules(route), &marks.members),
-            None => false,
-        }
+        goes_by(message, &message.routing.rules(route), octets)
     }
 
     /// Whether a message goes on the route that these octets are: three names, each after one octet with its length, as
-    /// some rule gives them. False for octets that are no such route. It takes no memory, and looks up the route once.
-    pub fn passes_as_given(&self, names: &[u8], octets: &[u8]) -> bool
-        ensures { IsTrue result ↔ GoesAsGiven (policy_view self.now) names.now octets.now }
+    /// some rule gives them. None for octets that are no such route. It takes no memory, and costs one look-up and one
+    /// pass over the octets at most.
+    pub fn passes_as_given(&self, names: &[u8], octets: &[u8]) -> Option<bool>
+        // Where some rule gives the route, whether the message goes on it;
+        ensures given { IfSome result (λ goes. (route : AbstractRoute)
+            × IsGiven (policy_view self.now).rules names.now route
+            × (IsTrue goes ↔ Goes (policy_view self.now) route octets.now)) }
+        // and none only where no rule gives it.
+        ensures other { result ≡ None → (route : AbstractRoute) → IsGiven (policy_view self.now).rules names.now route
+            → ⊥ }
     {
-        let Some(lead) = self.kept.leads.find(names) else {
-            return false;
-        };
-        let Some(message) = self.kept.messages.get(lead.place) else {
-            return false;
-        };
-        match walk(&message.table, octets) {
-            Some(found) => found.of_type() && lets_go(&lead.rules, &found.members),
-            None => false,
-        }
+        let lead = self.kept.leads.find(names)?;
+        let message = self.kept.messages.get(lead.place)?;
+        Some(goes_by(message, &lead.rules, octets))
+    }
+}
+
+/// Whether the octets are the encoding of a value of the message's declared type that some of these rules allows and
+/// none denies.
+fn goes_by(message: &KeptMessage, rules: &RouteRules, octets: &[u8]) -> bool
+    ensures { IsAnswer message.now.table rules.now octets.now result }
+{
+    match walk(&message.table, octets) {
+        Some(marks) => marks.of_type() && lets_go(rules, &marks.members),
+        None => false,
     }
 }
 
 /// Whether some allowing rule and no denying one is among those that have the value.
 fn lets_go(rules: &RouteRules, members: &Slots) -> bool
-    ensures { IsTrue result ↔ ((common rules.now.allowing members.now ≢ none) × (common rules.now.denying members.now ≡ none)) }
+    ensures { IsTrue result ↔ ((common rules.now.allowing members.now ≢ none)
+        × (common rules.now.denying members.now ≡ none)) }
 {
     meets(&rules.allowing, members) && !meets(&rules.denying, members)
 }

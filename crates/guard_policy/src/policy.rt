@@ -1,21 +1,20 @@
 //! The messages and rules of a policy.
-ghost use Rattle.std.specs.Prelude.{◌≡◌, All, IsTrue, IfOk, None, map, option_map};
+ghost use Rattle.std.specs.Prelude.{◌≡◌, All, IsTrue, IfOk, map, option_map};
 ghost use Rattle.guard_model.specs.TypeView.{type_view};
 ghost use Rattle.guard_der.specs.Sound.{is_sound};
 ghost use Rattle.guard_policy.specs.inside.Answers.{Meets};
-ghost use Rattle.guard_policy.specs.EntryFaults.{tables_fault, parts_fault};
-ghost use Rattle.guard_policy.specs.Policies.{message_view, rule_view};
+ghost use Rattle.guard_policy.specs.inside.Keeping.{AreDeclared};
+ghost use Rattle.guard_policy.specs.EntryFaults.{tables_fault};
 ghost use Rattle.guard_policy.specs.SaidView.{said_view};
 ghost use Rattle.guard_policy.specs.inside.Said.{said_message_view};
-ghost use Rattle.guard_policy.specs.inside.TypedRules.{messages_kept, rules_kept};
+ghost use Rattle.guard_policy.specs.inside.KeptRules.{messages_kept, rules_kept};
 
 use super::decision::judge;
 use super::fault::PolicyFault;
 use super::kept::{Kept, KeptMessage, keep_rules};
 use super::leads::Leads;
-use super::names::check_names;
 use super::route::Route;
-use super::said::{SaidMessage, said_messages, said_rules};
+use super::said::SaidMessage;
 use super::tables::keep_messages;
 use super::verdict::Verdict;
 use guard_der::DecodeFault;
@@ -29,27 +28,6 @@ pub enum Effect {
     Deny,
 }
 
-/// A message that may be sent, and its declared type.
-#[derive(Drop)]
-pub struct Message {
-    pub name: String,
-    pub ty: Ty,
-}
-
-/// What is said of one message on one route.
-#[derive(Drop)]
-pub struct Rule {
-    pub name: String,
-    pub effect: Effect,
-    /// The sender's name, or `*` for every sender.
-    pub from: String,
-    /// The receiver's name, or `*` for every receiver.
-    pub to: String,
-    pub message: String,
-    /// The subtype whose values the rule allows or denies.
-    pub ty: Ty,
-}
-
 /// A rule of a policy, as it says it.
 #[derive(Clone, Copy)]
 pub struct SaidRule<'a> {
@@ -59,15 +37,6 @@ pub struct SaidRule<'a> {
     pub to: &'a str,
     pub message: &'a str,
     pub ty: &'a Ty,
-}
-
-/// What was given for a policy, and why there is none.
-#[derive(Drop)]
-pub struct Refused {
-    pub fault: PolicyFault,
-    pub messages: Vec<Message>,
-    pub rules: Vec<Rule>,
-    pub modules: Vec<String>,
 }
 
 /// A policy over a schema: messages and rules in file order, and the names of the schema's modules. All types are
@@ -80,54 +49,20 @@ pub struct Policy {
 }
 
 impl Policy {
-    ghost use Rattle.std.specs.Prelude.{string_bytes, length, All, IsTrue, IfOk, IfErr, IfSome, None, Some, List, ℕ};
+    ghost use Rattle.std.specs.Prelude.{string_bytes, length, All, IsTrue, IfOk, IfSome, List, ℕ};
     ghost use Rattle.guard_model.specs.AbstractType.{AbstractType};
     ghost use Rattle.guard_der.specs.Sound.{is_sound};
     ghost use Rattle.guard_policy.specs.inside.Answers.{Meets};
-    ghost use Rattle.guard_policy.specs.EntryFaults.{tables_fault, parts_fault};
-    ghost use Rattle.guard_policy.specs.PolicyFaults.{named};
+    ghost use Rattle.guard_policy.specs.EntryFaults.{tables_fault};
     ghost use Rattle.std.specs.Prelude.{slice_get};
     ghost use Rattle.guard_policy.specs.PolicyView.{policy_view};
     ghost use Rattle.guard_policy.specs.SaidView.{said_view};
-    ghost use Rattle.guard_policy.specs.Policies.{declared_type, message_name_of, message_type_of, rule_name_of, module_name};
+    ghost use Rattle.guard_policy.specs.Policies.{declared_type, message_name_of, rule_name_of, module_name};
     ghost use Rattle.guard_policy.specs.inside.Listings.{numbers_for};
-    ghost use Rattle.guard_policy.specs.inside.Keeping.{IsFirst};
+    ghost use Rattle.guard_policy.specs.inside.Keeping.{AreDeclared, IsFirst};
     ghost use Rattle.guard_tables.specs.TableView.{declared_of};
 
-    /// A policy of these messages and rules, over a schema whose modules have these names.
-    ///
-    /// It refuses with BadName for the first message, and then for the first rule, a name of which is none; and then
-    /// with Table, and the number of the first message whose type and those of its rules make no table. OutOfMemory may
-    /// come in place of any answer. A refusal hands back what was given.
-    pub fn new(
-        alloc: Global,
-        messages: Vec<Message>,
-        rules: Vec<Rule>,
-        modules: Vec<String>,
-    ) -> Result<Policy, Refused>
-        requires messages_sound { All (λ m. IsTrue (is_sound m.ty)) (map message_view messages.items) }
-        requires rules_sound { All (λ r. IsTrue (is_sound r.ty)) (map rule_view rules.items) }
-        ensures made { IfOk result (λ p. policy_view p ≡ record {
-          messages = map message_view messages.items;
-          rules = map rule_view rules.items;
-          modules = map string_bytes modules.items;
-        }) }
-        ensures faultless { IfOk result (λ p. parts_fault (map message_view messages.items) (map rule_view rules.items) ≡ None) }
-        ensures refused { IfErr result (λ r. IfSome (named r.fault) (λ f. parts_fault (map message_view messages.items) (map rule_view rules.items) ≡ Some f)) }
-        ensures back { IfErr result (λ r. (r.messages ≡ messages) × (r.rules ≡ rules) × (r.modules ≡ modules)) }
-    {
-        match named_and_tabled(alloc, &messages, &rules) {
-            Ok(kept) => Ok(Policy { kept, modules }),
-            Err(fault) => Err(Refused {
-                fault,
-                messages,
-                rules,
-                modules,
-            }),
-        }
-    }
-
-    /// A policy of messages and rules whose names were looked at.
+    /// A policy of messages and rules, where the message that each rule speaks of is among them.
     ///
     /// It refuses with Table, and the number of the first message whose type and those of its rules make no table.
     /// OutOfMemory may come in place of any answer.
@@ -139,6 +74,7 @@ impl Policy {
     ) -> Result<Policy, PolicyFault>
         requires messages_sound { All (λ m. IsTrue (is_sound m.ty)) (map said_message_view messages.now) }
         requires rules_sound { All (λ r. IsTrue (is_sound r.ty)) (map said_view rules.now) }
+        requires declared { AreDeclared (map said_message_view messages.now) (map said_view rules.now) }
         ensures made { IfOk result (λ p. policy_view p ≡ record {
           messages = map said_message_view messages.now;
           rules = map said_view rules.now;
@@ -171,27 +107,11 @@ impl Policy {
         Some(self.kept.messages.get(message)?.name.as_str())
     }
 
-    /// The declared type of a message by its place, from 0.
-    pub fn message_type(&self, message: usize) -> Option<&Ty>
-        ensures { option_map (λ ty. type_view ty.now) result ≡ message_type_of (policy_view self.now) message }
-    {
-        let message = self.kept.messages.get(message)?;
-        Some(message.table.declared())
-    }
-
     /// A rule by its number, from 0.
     pub fn rule(&self, number: usize) -> Option<SaidRule<'_>>
         ensures { option_map said_view result ≡ slice_get (policy_view self.now).rules number }
     {
-        let rule = self.kept.rule(number)?;
-        Some(SaidRule {
-            name: &rule.said.name,
-            effect: rule.said.effect,
-            from: &rule.said.from,
-            to: &rule.said.to,
-            message: &rule.said.message,
-            ty: rule.ty,
-        })
+        self.kept.rule(number)
     }
 
     /// The name of a rule by its number, from 0.
@@ -211,7 +131,9 @@ impl Policy {
 
     /// The declared type of the message of this name, and the numbers of the rules that speak of it.
     fn listed(&self, message: &[u8]) -> Option<(&Ty, &[usize])>
-        ensures { option_map {U = AbstractType × List ℕ} (λ p. (type_view p.0.now, p.1.now)) result ≡ option_map {U = AbstractType × List ℕ} (λ t. (t, numbers_for message.now 0 (policy_view self.now).rules)) (declared_type (policy_view self.now) message.now) }
+        ensures { option_map {U = AbstractType × List ℕ} (λ p. (type_view p.0.now, p.1.now)) result
+            ≡ option_map {U = AbstractType × List ℕ} (λ t. (t, numbers_for message.now 0 (policy_view self.now).rules))
+            (declared_type (policy_view self.now) message.now) }
     {
         let (message, numbers) = self.found(message)?;
         Some((message.table.declared(), numbers))
@@ -219,7 +141,9 @@ impl Policy {
 
     /// The message of this name, and the numbers of the rules that speak of it.
     pub(crate) fn found(&self, message: &[u8]) -> Option<(&KeptMessage, &[usize])>
-        ensures listed { option_map {U = AbstractType × List ℕ} (λ p. (declared_of p.0.now.table, p.1.now)) result ≡ option_map {U = AbstractType × List ℕ} (λ t. (t, numbers_for message.now 0 (policy_view self.now).rules)) (declared_type (policy_view self.now) message.now) }
+        ensures listed { option_map {U = AbstractType × List ℕ} (λ p. (declared_of p.0.now.table, p.1.now)) result
+            ≡ option_map {U = AbstractType × List ℕ} (λ t. (t, numbers_for message.now 0 (policy_view self.now).rules))
+            (declared_type (policy_view self.now) message.now) }
         ensures first { IfSome result (λ p. IsFirst message.now self.now.kept.messages.items p.0.now) }
     {
         let listed = self.kept.index.find(message)?;
@@ -252,11 +176,14 @@ impl Policy {
         octets: &[u8],
     ) -> Result<Verdict, OutOfMemory>
         // The answer is a reason,
-        ensures reason { IfOk result (λ w. IsReason (policy_view self.now) (route_view route.now) octets.now (verdict_view w)) }
+        ensures reason { IfOk result (λ w. IsReason (policy_view self.now) (route_view route.now) octets.now
+            (verdict_view w)) }
         // and the only one.
-        ensures only { (w : AbstractVerdict) → IsReason (policy_view self.now) (route_view route.now) octets.now w → IfOk result (λ x. verdict_view x ≡ w) }
+        ensures only { (w : AbstractVerdict) → IsReason (policy_view self.now) (route_view route.now) octets.now w
+            → IfOk result (λ x. verdict_view x ≡ w) }
         // It is to pass exactly where the message goes.
-        ensures passes { IfOk result (λ w. (verdict_view w ≡ pass) ↔ Goes (policy_view self.now) (route_view route.now) octets.now) }
+        ensures passes { IfOk result (λ w. (verdict_view w ≡ pass)
+            ↔ Goes (policy_view self.now) (route_view route.now) octets.now) }
     {
         let Some((ty, numbers)) = self.listed(route.message) else {
             return Ok(Verdict::UnknownMessage);
@@ -269,29 +196,11 @@ impl Policy {
     }
 }
 
-/// What is kept of messages and rules, where all their names are names and the types of each message and its rules make
-/// a table.
-fn named_and_tabled(
-    alloc: Global,
-    messages: &[Message],
-    rules: &[Rule],
-) -> Result<Kept, PolicyFault>
-    requires messages_sound { All (λ m. IsTrue (is_sound m.ty)) (map message_view messages.now) }
-    requires rules_sound { All (λ r. IsTrue (is_sound r.ty)) (map rule_view rules.now) }
-    ensures met { Meets (parts_fault (map message_view messages.now) (map rule_view rules.now)) result }
-    ensures messages { IfOk result (λ kept. messages_kept kept ≡ map message_view messages.now) }
-    ensures rules { IfOk result (λ kept. rules_kept kept ≡ map rule_view rules.now) }
-{
-    let messages = said_messages(alloc, messages)?;
-    let rules = said_rules(alloc, rules)?;
-    check_names(&messages, &rules)?;
-    tabled(alloc, &messages, &rules)
-}
-
 /// What is kept of messages and rules, where the types of each message and its rules make a table.
 fn tabled(alloc: Global, messages: &[SaidMessage], rules: &[SaidRule]) -> Result<Kept, PolicyFault>
     requires messages_sound { All (λ m. IsTrue (is_sound m.ty)) (map said_message_view messages.now) }
     requires rules_sound { All (λ r. IsTrue (is_sound r.ty)) (map said_view rules.now) }
+    requires declared { AreDeclared (map said_message_view messages.now) (map said_view rules.now) }
     ensures met { Meets (tables_fault (map said_view rules.now) 1 (map said_message_view messages.now)) result }
     ensures messages { IfOk result (λ kept. messages_kept kept ≡ map said_message_view messages.now) }
     ensures rules { IfOk result (λ kept. rules_kept kept ≡ map said_view rules.now) }

@@ -42,7 +42,7 @@ pub(crate) fn is_party(text: &str) -> bool
 }
 
 /// Whether the text is `*`, which is every sender, or every receiver, in a rule.
-pub(crate) fn is_anyone(text: &str) -> bool
+pub fn is_anyone(text: &str) -> bool
     ensures { result ≡ bytes_eq text.now anyone }
 {
     text == ANYONE

@@ -42,7 +42,8 @@ impl RouteOctets {
 impl Hash for RouteOctets {
     ghost hash_input = { λ names. names.octets.items ∷ [] };
 
-    ghost respects_eq = { λ x y same. ap (λ (octets : List ℕ). octets ∷ []) ((bytes_eq-Decides x.octets.items y.octets.items).0 same) };
+    ghost respects_eq = { λ x y same. ap (λ (octets : List ℕ). octets ∷ [])
+        ((bytes_eq-Decides x.octets.items y.octets.items).0 same) };
 
     fn hash<H: Hasher>(&self, state: &mut H) {
         state.write(&self.octets);
@@ -52,7 +53,8 @@ impl Hash for RouteOctets {
 impl Hash for OctetsOf<'_> {
     ghost hash_input = { λ names. names.octets.now ∷ [] };
 
-    ghost respects_eq = { λ x y same. ap (λ (octets : List ℕ). octets ∷ []) ((bytes_eq-Decides x.octets.now y.octets.now).0 same) };
+    ghost respects_eq = { λ x y same. ap (λ (octets : List ℕ). octets ∷ [])
+        ((bytes_eq-Decides x.octets.now y.octets.now).0 same) };
 
     fn hash<H: Hasher>(&self, state: &mut H) {
         state.write(self.octets);
@@ -62,7 +64,8 @@ impl Hash for OctetsOf<'_> {
 impl Equivalent<RouteOctets> for OctetsOf<'_> {
     ghost equivalent = { λ names key. bytes_eq names.octets.now key.octets.items };
 
-    ghost respects_hash = { λ names key same. ap (λ (octets : List ℕ). octets ∷ []) ((bytes_eq-Decides names.octets.now key.octets.items).0 same) };
+    ghost respects_hash = { λ names key same. ap (λ (octets : List ℕ). octets ∷ [])
+        ((bytes_eq-Decides names.octets.now key.octets.items).0 same) };
 
     ghost respects_eq = { λ names x y. nat_list_eq_equiv.congr names.octets.now x.octets.items y.octets.items };
 

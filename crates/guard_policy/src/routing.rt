@@ -4,12 +4,13 @@ ghost use Rattle.std.specs.Prelude.{◌≡◌, ◌≢◌, ◌↔◌, ◌+◌, �
 ghost use Rattle.guard_tables.specs.Slots.{none, only, added};
 ghost use Rattle.guard_policy.specs.PolicyView.{route_view};
 ghost use Rattle.guard_policy.specs.SaidView.{said_view};
-ghost use Rattle.guard_policy.specs.inside.Routing.{slots_where, slots_meant, slots_for, given_by, has_effect, common, speaking_slots, AreParties, IsRouting};
+ghost use Rattle.guard_policy.specs.inside.Routing.{slots_where, slots_meant, slots_for, given_by, has_effect, common};
+ghost use Rattle.guard_policy.specs.inside.Routing.{route_rules, AreParties, IsRouting};
 ghost use Rattle.guard_policy.specs.inside.Said.{rules_view};
 
-use super::decision::is_meant;
 use super::policy::{Effect, SaidRule};
 use super::route::{ANYONE, Route};
+use super::speaking::is_meant;
 use guard_tables::Slots;
 use indexmap::IndexMap;
 use std::alloc::{AllocError, Global};
@@ -93,8 +94,7 @@ impl Routing {
 
     /// The rules that speak of the route.
     pub fn rules(&self, route: &Route) -> RouteRules
-        ensures allowing { result.allowing ≡ common (speaking_slots self.now (route_view route.now)) self.now.allowing }
-        ensures denying { result.denying ≡ common (speaking_slots self.now (route_view route.now)) self.now.denying }
+        ensures { result ≡ route_rules self.now (route_view route.now) }
     {
         let of_sender = self.senders.rules(route.from);
         let speaking = common(&of_sender, &self.receivers.rules(route.to));

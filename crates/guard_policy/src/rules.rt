@@ -1,5 +1,6 @@
 //! The rules of a policy's text.
-ghost use Rattle.std.specs.Prelude.{◌≡◌, [], None, Some, All, map, IfOk, IsTrue};
+ghost use Rattle.std.specs.Prelude.{◌≡◌, [], None, Some, All, map, bytes_eq, IfOk, IsTrue};
+ghost use Rattle.std.specs.List.{list_any};
 ghost use Rattle.guard_der.specs.Sound.{is_sound};
 ghost use Rattle.guard_model.specs.TypeView.{type_view};
 ghost use Rattle.toml.specs.View.{table_view};
@@ -8,6 +9,7 @@ ghost use Rattle.guard_policy.specs.Entries.{rule_in, rule_of as rule_said, effe
 ghost use Rattle.guard_policy.specs.EntryFaults.{rule_fault, entries_fault, has_names};
 ghost use Rattle.guard_policy.specs.Policies.{message_names};
 ghost use Rattle.guard_policy.specs.SaidView.{said_view};
+ghost use Rattle.guard_policy.specs.inside.Keeping.{AreDeclared};
 ghost use Rattle.guard_policy.specs.inside.Said.{said_message_view, names_in};
 
 use super::document::{check_entry, text_of};
@@ -17,7 +19,8 @@ use super::policy::{Effect, SaidRule};
 use super::route::{is_name, is_party};
 use super::said::SaidMessage;
 use super::seen::{has_name, names_of};
-use super::types::{Types, type_named};
+use super::types::type_named;
+use guard_der::named_types::Types;
 use guard_model::Ty;
 use indexmap::IndexSet;
 use std::alloc::Global;
@@ -40,9 +43,12 @@ pub(crate) fn rules_of<'a, S: Types>(
     messages: &[SaidMessage],
     tables: &[&'a Table],
 ) -> Result<Vec<SaidRule<'a>>, PolicyFault>
-    ensures met { Meets (entries_fault (rule_fault (S.types schema.now) (message_names (map said_message_view messages.now))) [] 1 (tables_view tables.now)) result }
-    ensures made { IfOk result (λ rs. map said_view rs.items ≡ those_there (map (rule_in (S.types schema.now)) (tables_view tables.now))) }
+    ensures met { Meets (entries_fault (rule_fault (S.types schema.now)
+        (message_names (map said_message_view messages.now))) [] 1 (tables_view tables.now)) result }
+    ensures made { IfOk result (λ rs. map said_view rs.items
+        ≡ those_there (map (rule_in (S.types schema.now)) (tables_view tables.now))) }
     ensures sound { IfOk result (λ rs. All (λ r. IsTrue (is_sound r.ty)) (map said_view rs.items)) }
+    ensures declared { IfOk result (λ rs. AreDeclared (map said_message_view messages.now) (map said_view rs.items)) }
 {
     let declared = names_of(alloc, messages)?;
     let mut names = IndexSet::new(alloc);
@@ -64,9 +70,11 @@ fn rule_of<'a, S: Types>(
     number: usize,
     table: &'a Table,
 ) -> Result<SaidRule<'a>, PolicyFault>
-    ensures met { Meets (rule_fault (S.types schema.now) (names_in declared.now) (names_in before.now) number (table_view table.now)) result }
+    ensures met { Meets (rule_fault (S.types schema.now) (names_in declared.now) (names_in before.now) number
+        (table_view table.now)) result }
     ensures made { IfOk result (λ r. rule_in (S.types schema.now) (table_view table.now) ≡ Some (said_view r)) }
     ensures sound { IfOk result (λ r. IsTrue (is_sound (type_view r.ty.now))) }
+    ensures declared { IfOk result (λ r. IsTrue (list_any (bytes_eq r.message.now) (names_in declared.now))) }
 {
     let entry = Entry::Rule(number);
     check_entry(alloc, entry, &RULE_KEYS, table)?;

@@ -31,7 +31,8 @@ pub(crate) fn keep_messages(
     requires messages_sound { All (λ m. IsTrue (is_sound m.ty)) (map said_message_view messages.now) }
     requires rules_sound { All (λ r. IsTrue (is_sound r.ty)) (map said_view rules.now) }
     ensures met { Meets (tables_fault (map said_view rules.now) 1 (map said_message_view messages.now)) result }
-    ensures kept { IfOk result (λ kept. map tabled_view kept.items ≡ map (tabled (map said_view rules.now)) (map said_message_view messages.now)) }
+    ensures kept { IfOk result (λ kept. map tabled_view kept.items
+        ≡ map (tabled (map said_view rules.now)) (map said_message_view messages.now)) }
     ensures routed { IfOk result (λ kept. All (IsRouted (map said_view rules.now)) kept.items) }
 {
     let mut kept = Vec::with_capacity(alloc, messages.len())?;
@@ -51,8 +52,11 @@ fn keep_message(
 ) -> Result<KeptMessage, PolicyFault>
     requires message_sound { IsTrue (is_sound (type_view message.now.ty.now)) }
     requires rules_sound { All (λ r. IsTrue (is_sound r.ty)) (map said_view rules.now) }
-    ensures met { Meets (option_map (bad_table number) (first_fault (type_view message.now.ty.now) (types_for (message.now.name.now) (map said_view rules.now)))) result }
-    ensures kept { IfOk result (λ kept. tabled_view kept ≡ tabled (map said_view rules.now) (said_message_view message.now)) }
+    ensures met { Meets (option_map (bad_table number)
+        (first_fault (type_view message.now.ty.now)
+        (types_for (message.now.name.now) (map said_view rules.now)))) result }
+    ensures kept { IfOk result (λ kept. tabled_view kept
+        ≡ tabled (map said_view rules.now) (said_message_view message.now)) }
     ensures routed { IfOk result (IsRouted (map said_view rules.now)) }
 {
     let types = types_for(alloc, message.name, rules)?;
@@ -70,8 +74,10 @@ fn keep_table(
     table: Table,
     rules: &[SaidRule],
 ) -> Result<KeptMessage, AllocError>
-    requires types { table_types table ≡ type_view message.now.ty.now ∷ types_for (message.now.name.now) (map said_view rules.now) }
-    ensures kept { IfOk result (λ kept. tabled_view kept ≡ tabled (map said_view rules.now) (said_message_view message.now)) }
+    requires types { table_types table ≡ type_view message.now.ty.now ∷ types_for (message.now.name.now)
+        (map said_view rules.now) }
+    ensures kept { IfOk result (λ kept. tabled_view kept
+        ≡ tabled (map said_view rules.now) (said_message_view message.now)) }
     ensures routed { IfOk result (IsRouted (map said_view rules.now)) }
 {
     let named = rules_named(alloc, message.name, rules)?;

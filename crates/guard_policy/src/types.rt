@@ -1,38 +1,22 @@
 //! What a policy is built on: the types of a schema and the names of its modules.
-ghost use Rattle.std.specs.Prelude.{◌≡◌, ◌≤◌, None, Some, map, option_map, length, string_bytes, IfOk, IfErr, IfSome, IsTrue};
+ghost use Rattle.std.specs.Prelude.{◌≡◌, None, Some, map, option_map, string_bytes, IfOk, IfErr, IfSome, IsTrue};
 ghost use Rattle.guard_der.specs.Sound.{is_sound};
 ghost use Rattle.guard_model.specs.TypeView.{type_view};
 ghost use Rattle.toml.specs.View.{table_view};
-ghost use Rattle.guard_policy.specs.Entries.{AbstractTypes, module_at, type_in};
+ghost use Rattle.guard_der.specs.NamedTypes.{AbstractTypes, module_at};
+ghost use Rattle.guard_policy.specs.Entries.{type_in};
 ghost use Rattle.guard_policy.specs.PolicyFaults.{named, no_such_type};
 
 use super::document::text_of;
 use super::entry::{Entry, Key};
 use super::fault::PolicyFault;
+use guard_der::named_types::Types;
 use guard_model::Ty;
 use std::alloc::{AllocError, Global};
 use toml::Table;
 
 /// How many modules there may be.
 const MOST_MODULES: u32 = 64;
-
-/// Types by the names of their modules and their own, and modules by the places of their texts.
-pub trait Types {
-    // what it says of names
-    ghost types: { Self → AbstractTypes };
-
-    // it has 64 modules at most
-    ghost few: { (s : Self) → length (types s).modules ≤ 64 };
-
-    /// The type of this name in the module of this name. It is sound.
-    fn ty(&self, module_name: &str, name: &str) -> Option<&Ty>
-        ensures sound { IfSome result (λ ty. IsTrue (is_sound (type_view ty.now))) }
-        ensures named { option_map (λ ty. type_view ty.now) result ≡ (types self.now).types module_name.now name.now };
-
-    /// The name of the module at this place of the list of texts, from 1.
-    fn module(&self, text: u32) -> Option<&str>
-        ensures { option_map (λ name. name.now) result ≡ module_at (types self.now).modules text };
-}
 
 /// The type that the entry names.
 pub(crate) fn type_named<'a, S: Types>(
@@ -42,7 +26,8 @@ pub(crate) fn type_named<'a, S: Types>(
 ) -> Result<&'a Ty, PolicyFault>
     ensures found { IfOk result (λ ty. type_in (S.types schema.now) (table_view table.now) ≡ Some (type_view ty.now)) }
     ensures sound { IfOk result (λ ty. IsTrue (is_sound (type_view ty.now))) }
-    ensures missing { IfErr result (λ f. IfSome (named f) (λ fault. (type_in (S.types schema.now) (table_view table.now) ≡ None) × (fault ≡ no_such_type entry))) }
+    ensures missing { IfErr result (λ f. IfSome (named f)
+        (λ fault. (type_in (S.types schema.now) (table_view table.now) ≡ None) × (fault ≡ no_such_type entry))) }
 {
     match schema.ty(text_of(table, Key::Module), text_of(table, Key::TypeName)) {
         Some(ty) => Ok(ty),

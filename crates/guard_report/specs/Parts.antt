@@ -1,6 +1,5 @@
 -- The part of a value that a path names, and the type of that part.
-use Rattle.std.specs.Prelude.{ℕ, zero, suc, Bool, true, false, List, [], ◌∷◌, ◌++◌, codes, Option, Some, None}
-use Rattle.std.specs.Prelude.{option_and_then, option_map, if◌then◌else◌}
+use Rattle.std.specs.Prelude.{ℕ, zero, suc, List, [], ◌∷◌, Option, Some, None, option_and_then, option_map}
 use Rattle.guard_model.specs.declared.site.Step.{Step}
 use Rattle.guard_model.specs.declared.site.Step.TheVariants.{Component, Element}
 use Rattle.guard_model.specs.AbstractType.{AbstractType}
@@ -9,7 +8,7 @@ use Rattle.guard_model.specs.AbstractValue.{AbstractValue, Items}
 use Rattle.guard_eval.specs.Presence.{part_at}
 use Rattle.guard_report.specs.declared.layout.Layout.TheVariants.{Line}
 use Rattle.guard_report.specs.Text.{type_within}
-use Rattle.guard_report.specs.ValueText.{part_name, value_octets}
+use Rattle.guard_report.specs.ValueText.{value_octets}
 
 abbrev pub item_at : ℕ → Items → Option AbstractValue
 item_at i value.no_items = None
@@ -38,24 +37,3 @@ type_at (step ∷ steps) t = type_at steps (type_within t step)
 -- how the part is written, on one line
 abbrev pub part_octets : AbstractType → AbstractValue → List Step → Option (List ℕ)
 part_octets t v path = option_map (value_octets Line (type_at path (Some t))) (value_at path v)
-
--- ---- with its name
-
-abbrev pub is_chosen : AbstractValue → Bool
-is_chosen (value.chosen i v) = true
-is_chosen _ = false
-
--- What is written before the part of this value to which the step leads: a component's name, or an alternative's with
--- its colon.
-abbrev pub name_before : Option AbstractType → AbstractValue → Step → List ℕ
-name_before t v (Component i) = part_name t i ++ (if is_chosen v then codes ": " else codes " ")
-name_before t v (Element i) = []
-
-abbrev pub named_from : List ℕ → Option AbstractType → AbstractValue → List Step → Option (List ℕ)
-named_from name t v [] = Some (name ++ value_octets Line t v)
-named_from name t v (step ∷ steps) =
-    option_and_then (λ part. named_from (name_before t v step) (type_within t step) part steps) (value_within v step)
-
--- `qty 11`: how the part is written at its place, on one line; an element, and the whole value, have no name
-abbrev pub named_part_octets : AbstractType → AbstractValue → List Step → Option (List ℕ)
-named_part_octets t v path = named_from [] (Some t) v path

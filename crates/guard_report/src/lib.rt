@@ -7,12 +7,12 @@
 //! | What is the line of a frame's verdict? | `lines.rt` (`line`) | `specs/Lines.antt` |
 //! | How is a path written by the names of a type? | `path.rt` | `specs/Text.antt` |
 //! | What is written for a name that is missing? | `words.rt` | `specs/Text.antt` |
-//! | How is a value written? | `values.rt` (`value_text`) | `specs/ValueText.antt` |
+//! | How is a value written? | `values.rt` | `specs/ValueText.antt` |
 //! | How are bits and octets written? | `strings.rt` | `specs/Strings.antt` |
 //! | How are characters written? | `characters.rt` | `specs/CharacterStrings.antt`, `specs/inside/Listing.antt` |
 //! | Where are the parts of what is in braces? | `layout.rt` | `specs/Layouts.antt` |
 //! | How is a message shown with its parts' places, or its breach? | `showing.rt`, `noted.rt` | `specs/Shown.antt` |
-//! | Where do the encodings of a value's parts begin? | `places.rt`, `outermost.rt` | `specs/Places.antt` |
+//! | Where do the encodings of a value's parts begin? | `places.rt` | `specs/Places.antt` |
 //! | What holds of the texts for every value? | `laws.rt` | `specs/Shown.antt` |
 //! | Which part of a value does a path name? | `parts.rt` (`value_at`, `type_at`, `part_text`) | `specs/Parts.antt` |
 #![tactic(auto)]
@@ -22,7 +22,6 @@ pub mod laws;
 mod layout;
 mod lines;
 mod noted;
-mod outermost;
 mod parts;
 mod path;
 mod places;
@@ -34,7 +33,6 @@ mod words;
 
 pub use layout::Layout;
 pub use lines::line;
-pub use parts::{named_part_text, part_text, type_at, value_at};
+pub use parts::{part_text, type_at, value_at};
 pub use showing::{Shown, shown_text};
 pub use text::verdict_text;
-pub use values::value_text;

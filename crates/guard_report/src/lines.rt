@@ -20,7 +20,8 @@ pub fn line(
     verdict: &Verdict,
     policy: &Policy,
 ) -> Result<Vec<u8>, OutOfMemory>
-    ensures { IfOk result (λ line. line.items ≡ line_octets (policy_view policy.now) (route_view route.now) number (verdict_view verdict.now)) }
+    ensures { IfOk result (λ line. line.items
+        ≡ line_octets (policy_view policy.now) (route_view route.now) number (verdict_view verdict.now)) }
 {
     let text = verdict_text(alloc, verdict, route, policy)?;
     let mut line = Vec::new(alloc);

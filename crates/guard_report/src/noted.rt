@@ -7,7 +7,8 @@ ghost use Rattle.guard_model.specs.ValueView.{value_view, fields_view, items_vie
 ghost use Rattle.guard_report.specs.Text.{type_within, element_type};
 ghost use Rattle.guard_report.specs.ValueText.{part_name};
 ghost use Rattle.guard_report.specs.Places.{inside_value};
-ghost use Rattle.guard_report.specs.Shown.{note, is_on_one_line, none_there, is_no_item, last_end, deeper, before_line, closing_line};
+ghost use Rattle.guard_report.specs.Shown.{note, is_on_one_line, none_there, is_no_item, last_end, deeper, before_line};
+ghost use Rattle.guard_report.specs.Shown.{closing_line};
 ghost use Rattle.guard_report.specs.Shown.{lines_from, value_lines, field_lines, element_lines};
 ghost use Rattle.guard_report.specs.inside.LineEnds.{end_text};
 

@@ -1,15 +1,13 @@
 //! The part of a value that a path names.
-ghost use Rattle.std.specs.Prelude.{◌≡◌, ◌++◌, IfOk, OnOk, Some, option_map};
+ghost use Rattle.std.specs.Prelude.{◌≡◌, IfOk, Some, option_map};
 ghost use Rattle.guard_model.specs.TypeView.{type_view};
 ghost use Rattle.guard_model.specs.ValueView.{value_view, fields_view, items_view};
 ghost use Rattle.guard_eval.specs.Presence.{field_at};
 ghost use Rattle.guard_report.specs.Parts.{value_at, value_within, item_at, type_at, part_octets};
-ghost use Rattle.guard_report.specs.Parts.{is_chosen, name_before, named_part_octets};
 
 use super::layout::Layout;
 use super::path::type_within;
-use super::values::{add_part_name, add_value};
-use super::words::add;
+use super::values::add_value;
 use guard_model::{OutOfMemory, Step, Ty, Value};
 use std::alloc::Global;
 
@@ -75,61 +73,4 @@ pub fn part_text(
     let mut text = Vec::new(alloc);
     add_value(alloc, &mut text, Layout::Line, type_at(ty, path), part)?;
     Ok(Some(text))
-}
-
-/// The text of the part of a value of the type that the path names, on one line, after its name where it is a component
-/// or an alternative: `qty 11`. None where there is no such part. Its one refusal is want of memory.
-pub fn named_part_text(
-    alloc: Global,
-    ty: &Ty,
-    value: &Value,
-    path: &[Step],
-) -> Result<Option<Vec<u8>>, OutOfMemory>
-    ensures { IfOk result (λ text.
-        option_map (λ t. t.items) text ≡ named_part_octets (type_view ty.now) (value_view value.now) path.now) }
-{
-    let mut text = Vec::new(alloc);
-    let mut round = value;
-    let mut known = Some(ty);
-    for step in path {
-        let Some(part) = value_within(round, *step) else {
-            return Ok(None);
-        };
-        text.clear();
-        add_name_before(&mut text, known, round, *step)?;
-        known = type_within(known, *step);
-        round = part;
-    }
-    add_value(alloc, &mut text, Layout::Line, known, round)?;
-    Ok(Some(text))
-}
-
-/// Appends what is written before the part of this value to which the step leads.
-fn add_name_before(
-    text: &mut Vec<u8>,
-    ty: Option<&Ty>,
-    value: &Value,
-    step: Step,
-) -> Result<(), OutOfMemory>
-    ensures { OnOk result (text.new.items
-        ≡ text.old.items ++ name_before (option_map (λ ty. type_view ty.now) ty.entry) (value_view value.now) step) }
-{
-    let Step::Component(place) = step else {
-        return Ok(());
-    };
-    add_part_name(text, ty, usize::from(place))?;
-    if is_chosen(value) {
-        add(text, b": ")
-    } else {
-        add(text, b" ")
-    }
-}
-
-fn is_chosen(value: &Value) -> bool
-    ensures { result ≡ is_chosen (value_view value.now) }
-{
-    match value {
-        Value::Chosen(_, _) => true,
-        _ => false,
-    }
 }

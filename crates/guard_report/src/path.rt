@@ -9,7 +9,8 @@ use guard_model::{Comp, Kind, OutOfMemory, Step, Ty};
 
 /// Appends `$` and the steps, from a value of the type, if one is known.
 pub fn add_path(text: &mut Vec<u8>, ty: Option<&Ty>, path: &[Step]) -> Result<(), OutOfMemory>
-    ensures { OnOk result (text.new.items ≡ text.old.items ++ (codes "$" ++ steps_text (option_map (λ ty. type_view ty.now) ty.entry) path.now)) }
+    ensures { OnOk result (text.new.items
+        ≡ text.old.items ++ (codes "$" ++ steps_text (option_map (λ ty. type_view ty.now) ty.entry) path.now)) }
 {
     add(text, b"$")?;
     let mut inner = ty;
@@ -21,7 +22,8 @@ pub fn add_path(text: &mut Vec<u8>, ty: Option<&Ty>, path: &[Step]) -> Result<()
 }
 
 fn add_step(text: &mut Vec<u8>, ty: Option<&Ty>, step: Step) -> Result<(), OutOfMemory>
-    ensures { OnOk result (text.new.items ≡ text.old.items ++ step_text (option_map (λ ty. type_view ty.now) ty.entry) step) }
+    ensures { OnOk result (text.new.items
+        ≡ text.old.items ++ step_text (option_map (λ ty. type_view ty.now) ty.entry) step) }
 {
     match step {
         Step::Component(place) => {
@@ -39,7 +41,8 @@ fn add_step(text: &mut Vec<u8>, ty: Option<&Ty>, step: Step) -> Result<(), OutOf
 
 /// The type one step further in, if one is known.
 pub fn type_within(ty: Option<&Ty>, step: Step) -> Option<&Ty>
-    ensures { option_map (λ ty. type_view ty.now) result ≡ type_within (option_map (λ ty. type_view ty.now) ty.entry) step }
+    ensures { option_map (λ ty. type_view ty.now) result
+        ≡ type_within (option_map (λ ty. type_view ty.now) ty.entry) step }
 {
     match step {
         Step::Component(place) => part_type(ty, usize::from(place)),
@@ -49,14 +52,16 @@ pub fn type_within(ty: Option<&Ty>, step: Step) -> Option<&Ty>
 
 /// The type of the component or alternative at this place of the written list, from 0.
 pub fn part_type(ty: Option<&Ty>, place: usize) -> Option<&Ty>
-    ensures { option_map (λ ty. type_view ty.now) result ≡ type_within (option_map (λ ty. type_view ty.now) ty.entry) (Component place) }
+    ensures { option_map (λ ty. type_view ty.now) result
+        ≡ type_within (option_map (λ ty. type_view ty.now) ty.entry) (Component place) }
 {
     Some(&component_at(ty, place)?.ty)
 }
 
 /// The component or alternative at this place of the written list, from 0.
 pub fn component_at(ty: Option<&Ty>, place: usize) -> Option<&Comp>
-    ensures { option_map (λ comp. component_view comp.now) result ≡ component_of (option_map (λ ty. type_view ty.now) ty.entry) place }
+    ensures { option_map (λ comp. component_view comp.now) result
+        ≡ component_of (option_map (λ ty. type_view ty.now) ty.entry) place }
 {
     match &ty?.kind {
         Kind::Sequence(comps) => comps.get(place),

@@ -7,9 +7,8 @@ ghost use Rattle.guard_report.specs.Places.{header_there, inside_element, after_
 ghost use Rattle.guard_report.specs.Places.{is_set, has_tag, element_with, component_place, next_place};
 ghost use Rattle.guard_report.specs.Text.{component_of};
 
-use super::outermost::outermost;
 use super::path::component_at;
-use guard_der::{Header, header};
+use guard_der::{Header, header, outermost};
 use guard_model::{Kind, MOST_COMPONENTS, Presence, Tag, Ty, Value};
 
 /// The header of the element that begins there.

@@ -8,7 +8,8 @@ ghost use Rattle.guard_der.specs.Der.{der};
 ghost use Rattle.guard_der.specs.Fits.{fits};
 ghost use Rattle.guard_der.specs.Sound.{is_sound};
 ghost use Rattle.guard_der.specs.Views.{breach_view};
-ghost use Rattle.guard_report.specs.Shown.{shown_value, shown_undecodable, shown_view, value_shown, breach_shown, digit_lines};
+ghost use Rattle.guard_report.specs.Shown.{shown_value, shown_undecodable, shown_view, value_shown, breach_shown};
+ghost use Rattle.guard_report.specs.Shown.{digit_lines};
 
 use super::noted::{Spot, add_last_end, add_value_lines};
 use super::path::add_path;
@@ -31,7 +32,8 @@ pub enum Shown {
 pub fn shown_text(alloc: Global, ty: &Ty, octets: &[u8]) -> Result<Shown, OutOfMemory>
     requires { IsTrue (is_sound (type_view ty.now)) }
     // Where they encode a value of the type it is shown,
-    ensures of_value { (v : AbstractValue) → IsTrue (fits (type_view ty.now) v) → der (type_view ty.now) v ≡ Some octets.now
+    ensures of_value { (v : AbstractValue) → IsTrue (fits (type_view ty.now) v)
+        → der (type_view ty.now) v ≡ Some octets.now
         → IfOk result (λ shown. shown_view shown ≡ shown_value (value_shown (type_view ty.now) octets.now v)) }
     // and where they have a breach, it and what comes before it.
     ensures of_breach { (b : AbstractBreach) → IsBreach (type_view ty.now) octets.now b

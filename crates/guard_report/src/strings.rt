@@ -1,7 +1,8 @@
 //! Strings of octets and bits.
 ghost use Rattle.std.specs.Prelude.{◌≡◌, ◌++◌, ◌<◌, OnOk, IfOk, map, option_map};
 ghost use Rattle.guard_model.specs.TypeView.{named_view};
-ghost use Rattle.guard_report.specs.Strings.{digit, two_digits, hexadecimal, eight_bits, bits_of, binary, bits_as_digits};
+ghost use Rattle.guard_report.specs.Strings.{digit, two_digits, hexadecimal, eight_bits, bits_of, binary};
+ghost use Rattle.guard_report.specs.Strings.{bits_as_digits};
 ghost use Rattle.guard_report.specs.Strings.{name_of, are_named, names_of_ones, bits_text};
 ghost use Rattle.guard_report.specs.Layouts.{in_braces};
 ghost use Rattle.guard_report.specs.declared.layout.Layout.TheVariants.{Line};

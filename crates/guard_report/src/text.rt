@@ -4,7 +4,8 @@ ghost use Rattle.guard_policy.specs.PolicyView.{policy_view, route_view};
 ghost use Rattle.guard_eval.specs.Violations.{violation_view, shortfall_view};
 ghost use Rattle.guard_policy.specs.Verdicts.{verdict_view};
 ghost use Rattle.guard_der.specs.Views.{breach_view};
-ghost use Rattle.guard_report.specs.Text.{verdict_octets, breach_text, violation_text, site_text, rule_text, shortfall_text, shortfalls_text};
+ghost use Rattle.guard_report.specs.Text.{verdict_octets, breach_text, violation_text, site_text, rule_text};
+ghost use Rattle.guard_report.specs.Text.{shortfall_text, shortfalls_text};
 
 use super::path::add_path;
 use super::words::{add, add_name, add_number};
@@ -21,7 +22,8 @@ pub fn verdict_text(
     route: &Route,
     policy: &Policy,
 ) -> Result<Vec<u8>, OutOfMemory>
-    ensures { IfOk result (λ text. text.items ≡ verdict_octets (policy_view policy.now) (route_view route.now) (verdict_view verdict.now)) }
+    ensures { IfOk result (λ text. text.items
+        ≡ verdict_octets (policy_view policy.now) (route_view route.now) (verdict_view verdict.now)) }
 {
     let mut text = Vec::new(alloc);
     match verdict {
@@ -54,7 +56,8 @@ fn add_breach(
     route: &Route,
     policy: &Policy,
 ) -> Result<(), OutOfMemory>
-    ensures { OnOk result (text.new.items ≡ text.old.items ++ breach_text (policy_view policy.now) (route_view route.now) (breach_view breach.now)) }
+    ensures { OnOk result (text.new.items
+        ≡ text.old.items ++ breach_text (policy_view policy.now) (route_view route.now) (breach_view breach.now)) }
 {
     add(text, breach.code.name().as_bytes())?;
     add(text, b" at ")?;
@@ -70,7 +73,9 @@ fn add_shortfalls(
     route: &Route,
     policy: &Policy,
 ) -> Result<(), OutOfMemory>
-    ensures { OnOk result (text.new.items ≡ text.old.items ++ shortfalls_text (policy_view policy.now) (route_view route.now) (map shortfall_view shortfalls.now)) }
+    ensures { OnOk result (text.new.items
+        ≡ text.old.items ++ shortfalls_text (policy_view policy.now) (route_view route.now)
+        (map shortfall_view shortfalls.now)) }
 {
     let [first, rest @ ..] = shortfalls else {
         return Ok(());
@@ -89,7 +94,9 @@ fn add_shortfall(
     route: &Route,
     policy: &Policy,
 ) -> Result<(), OutOfMemory>
-    ensures { OnOk result (text.new.items ≡ text.old.items ++ shortfall_text (policy_view policy.now) (route_view route.now) (shortfall_view shortfall.now)) }
+    ensures { OnOk result (text.new.items
+        ≡ text.old.items ++ shortfall_text (policy_view policy.now) (route_view route.now)
+        (shortfall_view shortfall.now)) }
 {
     let (rule, violation) = shortfall;
     add_rule(text, *rule, policy)?;
@@ -109,7 +116,9 @@ fn add_violation(
     route: &Route,
     policy: &Policy,
 ) -> Result<(), OutOfMemory>
-    ensures { OnOk result (text.new.items ≡ text.old.items ++ violation_text (policy_view policy.now) (route_view route.now) (violation_view violation.now)) }
+    ensures { OnOk result (text.new.items
+        ≡ text.old.items ++ violation_text (policy_view policy.now) (route_view route.now)
+        (violation_view violation.now)) }
 {
     add_site(text, violation.site, policy)?;
     add(text, b" ")?;

@@ -1,5 +1,5 @@
 //! The text of a value in ASN.1 value notation.
-ghost use Rattle.std.specs.Prelude.{◌≡◌, ◌++◌, OnOk, IfOk, Some, decimal, map, option_map};
+ghost use Rattle.std.specs.Prelude.{◌≡◌, ◌++◌, OnOk, decimal, map, option_map};
 ghost use Rattle.std.specs.Fmt.{signed_decimal};
 ghost use Rattle.guard_model.specs.declared.site.Step.TheVariants.{Component};
 ghost use Rattle.guard_model.specs.TypeView.{type_view, named_view};
@@ -19,22 +19,6 @@ use super::words::{add, add_name, add_number};
 use guard_model::{CharKind, Kind, Named, OutOfMemory, Ty, Value};
 use itoa::Buffer;
 use std::alloc::Global;
-
-/// The text of a value in the value notation of ASN.1, with the names that the type has for its parts. Its one refusal
-/// is want of memory.
-pub fn value_text(
-    alloc: Global,
-    ty: &Ty,
-    value: &Value,
-    layout: Layout,
-) -> Result<Vec<u8>, OutOfMemory>
-    ensures { IfOk result (λ text.
-        text.items ≡ value_octets layout (Some (type_view ty.now)) (value_view value.now)) }
-{
-    let mut text = Vec::new(alloc);
-    add_value(alloc, &mut text, layout, Some(ty), value)?;
-    Ok(text)
-}
 
 /// Appends the value, whose type may be known.
 #[cycle(values)]

@@ -23,7 +23,8 @@ pub fn add_number(text: &mut Vec<u8>, number: u64) -> Result<(), OutOfMemory>
 
 /// Appends the name, or the number where there is none.
 pub fn add_name(text: &mut Vec<u8>, name: Option<&str>, number: u64) -> Result<(), OutOfMemory>
-    ensures { OnOk result (text.new.items ≡ text.old.items ++ name_or_number (option_map (λ name. name.now) name.entry) number) }
+    ensures { OnOk result (text.new.items
+        ≡ text.old.items ++ name_or_number (option_map (λ name. name.now) name.entry) number) }
 {
     match name {
         Some(name) => add(text, name.as_bytes()),

@@ -21,7 +21,7 @@ use Rattle.guard_schema.specs.Accepts.{Accepts}
 use Rattle.guard_schema.specs.Building.{Builds, BuildsAll}
 use Rattle.guard_schema.specs.EachType.{HaveTheirTypes}
 use Rattle.guard_schema.specs.Known.{Built, Known, none_known, with_built, types_of, built_at, visible, IsWrittenUnder}
-use Rattle.guard_schema.specs.OnlyLong.{IsSoundBuilt}
+use Rattle.guard_schema.specs.Known.{IsSoundBuilt}
 use Rattle.guard_schema.specs.Schemas.{AbstractSchema, number_assigned, type_unless, assigned_type, schema_of}
 use Rattle.guard_schema.specs.Texts.{ReadsTexts}
 use Rattle.guard_schema.specs.Unfinished.{IsTaggedAgain}

@@ -1,16 +1,15 @@
 -- How what a policy keeps comes of messages and rules.
-use Rattle.std.specs.Prelude.{◌≡◌, ℕ, List, ◌∷◌, All, map, string_bytes, nat_lt, count_by, slice_get, Option, Some, None}
+use Rattle.std.specs.Prelude.{◌≡◌, ℕ, List, ◌∷◌, All, map, string_bytes, bytes_eq, nat_lt, count_by, slice_get, Some, IsTrue}
+use Rattle.std.specs.List.{list_any}
 use Rattle.guard_model.specs.AbstractType.{AbstractType}
 use Rattle.guard_tables.specs.TableView.{table_types}
 use Rattle.guard_policy.specs.declared.kept.KeptMessage.{KeptMessage}
 use Rattle.guard_policy.specs.declared.kept.KeptRule.{KeptRule}
-use Rattle.guard_model.specs.TypeView.{type_view}
-use Rattle.guard_policy.specs.declared.kept.RuleType.{RuleType}
-use Rattle.guard_policy.specs.declared.kept.RuleType.TheVariants.{InTable, Own}
+use Rattle.guard_policy.specs.declared.kept.TypePlace.{TypePlace}
 use Rattle.guard_policy.specs.Consistency.{types_for}
-use Rattle.guard_policy.specs.KeptView.{kept_message_view, table_place}
+use Rattle.guard_policy.specs.KeptView.{kept_message_view}
 use Rattle.guard_policy.specs.inside.Listings.{AbstractListed, place_among}
-use Rattle.guard_policy.specs.Policies.{AbstractMessage, AbstractRule}
+use Rattle.guard_policy.specs.Policies.{AbstractMessage, AbstractRule, message_names}
 
 -- a name, and the types of a table
 pub record Tabled : Type 0 where
@@ -24,15 +23,17 @@ tabled_view m = record { name = string_bytes m.name; types = table_types m.table
 abbrev pub tabled : List AbstractRule → AbstractMessage → Tabled
 tabled rules m = record { name = m.name; types = m.ty ∷ types_for m.name rules }
 
--- The type of each rule is in the table of the first message of its name, where there is one.
-abbrev pub ArePlaced : List AbstractMessage → List KeptRule → Type 0
-ArePlaced messages rules = All (λ r. table_place r.ty ≡ place_among (string_bytes r.message) 0 messages) rules
+-- the message that each rule speaks of is among these
+abbrev pub AreDeclared : List AbstractMessage → List AbstractRule → Type 0
+AreDeclared messages rules = All (λ r. IsTrue (list_any (bytes_eq r.message) (message_names messages))) rules
 
--- What is kept of the type of the rule of this number, where its message is listed so or isn't there.
-abbrev pub IsTypeOf : Option AbstractListed → ℕ → AbstractRule → RuleType → Type 0
-IsTypeOf (Some l) number r kept = kept ≡ InTable l.place (count_by (λ n. nat_lt n number) l.numbers)
-IsTypeOf None number r (Own ty) = type_view ty ≡ r.ty
-IsTypeOf None number r (InTable message rule) = ⊥
+-- The type of each rule is in the table of the first message of the name that it gives.
+abbrev pub ArePlaced : List AbstractMessage → List KeptRule → Type 0
+ArePlaced messages rules = All (λ r. place_among (string_bytes r.message) 0 messages ≡ Some r.ty.message) rules
+
+-- where the type of the rule of this number is, whose message is listed so
+abbrev pub type_place : AbstractListed → ℕ → TypePlace
+type_place l number = record { message = l.place; rule = count_by (λ n. nat_lt n number) l.numbers }
 
 -- the rule but for its type
 pub record IsSaid (r : AbstractRule) (kept : KeptRule) : Type 0 where

@@ -5,17 +5,11 @@ use Rattle.guard_policy.specs.declared.index.Index.{Index}
 use Rattle.guard_policy.specs.declared.kept.KeptMessage.{KeptMessage}
 use Rattle.guard_policy.specs.declared.leads.Lead.{Lead}
 use Rattle.guard_policy.specs.declared.leads.Leads.{Leads}
-use Rattle.guard_policy.specs.declared.routing.RouteRules.{RouteRules}
-use Rattle.guard_policy.specs.declared.routing.Routing.{Routing}
 use Rattle.guard_policy.specs.NamedRoutes.{route_octets}
 use Rattle.guard_policy.specs.Names.{is_plain}
-use Rattle.guard_policy.specs.Policies.{AbstractRule, AbstractRoute}
+use Rattle.guard_policy.specs.Policies.{AbstractRule, AbstractRoute, own_route}
 use Rattle.guard_policy.specs.inside.Listings.{AbstractListed, found_in}
-use Rattle.guard_policy.specs.inside.Routing.{common, speaking_slots}
-
--- the route of a rule's own names
-abbrev pub own_route : AbstractRule → AbstractRoute
-own_route r = record { from = r.from; to = r.to; message = r.message }
+use Rattle.guard_policy.specs.inside.Routing.{route_rules}
 
 -- the route of the first of these rules whose own names are names, with these octets
 abbrev pub given_route : List ℕ → List AbstractRule → Option AbstractRoute
@@ -23,13 +17,6 @@ given_route names [] = None
 given_route names (r ∷ rs) =
     if is_plain (own_route r) && bytes_eq names (route_octets (own_route r)) then Some (own_route r)
     else given_route names rs
-
--- the rules that speak of a route, by their effects
-abbrev pub route_rules : Routing → AbstractRoute → RouteRules
-route_rules r route = record {
-  allowing = common (speaking_slots r route) r.allowing;
-  denying = common (speaking_slots r route) r.denying;
-}
 
 abbrev pub lead_there : List KeptMessage → AbstractRoute → AbstractListed → Option Lead
 lead_there messages route l =

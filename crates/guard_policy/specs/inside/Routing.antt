@@ -11,6 +11,7 @@ use Rattle.guard_policy.specs.declared.kept.KeptMessage.{KeptMessage}
 use Rattle.guard_policy.specs.declared.policy.Effect.{Effect}
 use Rattle.guard_policy.specs.declared.policy.Effect.TheVariants.{Allow, Deny}
 use Rattle.guard_policy.specs.declared.routing.Parties.{Parties}
+use Rattle.guard_policy.specs.declared.routing.RouteRules.{RouteRules}
 use Rattle.guard_policy.specs.declared.routing.Routing.{Routing}
 use Rattle.guard_policy.specs.declared.routing.Side.{Side}
 use Rattle.guard_policy.specs.declared.routing.Side.TheVariants.{Sender, Receiver}
@@ -73,6 +74,13 @@ pub record IsRouting (rules : List AbstractRule) (r : Routing) : Type 0 where
 -- the rules that speak of the sender and of the receiver
 abbrev pub speaking_slots : Routing → AbstractRoute → Slots
 speaking_slots r route = common (slots_for r.senders route.from) (slots_for r.receivers route.to)
+
+-- those of them by their effects
+abbrev pub route_rules : Routing → AbstractRoute → RouteRules
+route_rules r route = record {
+  allowing = common (speaking_slots r route) r.allowing;
+  denying = common (speaking_slots r route) r.denying;
+}
 
 -- Each type of its table but the declared one has the values that the type of the rule at its place has, and its
 -- routing leads to the rules.

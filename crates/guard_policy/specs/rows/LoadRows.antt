@@ -10,7 +10,8 @@ use Rattle.guard_tables.specs.declared.fault.TableFault.TheVariants.{RuleTypeMis
 use Rattle.guard_policy.specs.declared.entry.Entry.TheVariants.{Message as message_entry, Rule as rule_entry}
 use Rattle.guard_policy.specs.declared.entry.Key.TheVariants as key
 use Rattle.guard_policy.specs.declared.policy.Effect.TheVariants.{Allow}
-use Rattle.guard_policy.specs.Entries.{AbstractTypes, policy_in}
+use Rattle.guard_der.specs.NamedTypes.{AbstractTypes}
+use Rattle.guard_policy.specs.Entries.{policy_in}
 use Rattle.guard_policy.specs.EntryFaults.{document_fault}
 use Rattle.guard_policy.specs.PolicyFaults.{unknown_key, missing_key, bad_name, duplicate_name, no_such_type, no_such_message, bad_effect, bad_table}
 

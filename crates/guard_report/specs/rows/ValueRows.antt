@@ -13,7 +13,7 @@ use Rattle.guard_report.specs.declared.layout.Layout.TheVariants.{Line, Lines}
 use Rattle.guard_report.specs.Strings.{bits_text}
 use Rattle.guard_report.specs.CharacterStrings.{characters_text}
 use Rattle.guard_report.specs.ValueText.{value_octets}
-use Rattle.guard_report.specs.Parts.{value_at, part_octets, named_part_octets}
+use Rattle.guard_report.specs.Parts.{value_at, part_octets}
 use Rattle.guard_report.specs.rows.Rows.{order}
 
 -- an order with one line, which is the empty list of alternative `all`
@@ -113,15 +113,3 @@ other_alternative = refl
 
 second_line : value_at (Component 2 ∷ Element 1 ∷ []) bought ≡ None
 second_line = refl
-
-named_quantity : named_part_octets order bought (Component 0 ∷ []) ≡ Some (codes "qty 11")
-unfolding digits
-named_quantity = refl
-
-named_alternative : named_part_octets order bought (Component 2 ∷ Element 0 ∷ Component 1 ∷ []) ≡ Some (codes "all: {}")
-unfolding digits
-named_alternative = refl
-
-unnamed_line : named_part_octets order bought (Component 2 ∷ Element 0 ∷ []) ≡ Some (codes "all: {}")
-unfolding digits
-unnamed_line = refl

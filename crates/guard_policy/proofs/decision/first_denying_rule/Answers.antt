@@ -1,6 +1,6 @@
 use Rattle.std.proofs.Common.{◌≡◌, ◌+◌, ◌∷◌, ◌∙◌, get_or, drop, drop-cons, add-one, sym}
 use Rattle.guard_model.specs.ValueView.{value_view}
-use Rattle.guard_policy.specs.inside.TypedRules.{rules_kept}
+use Rattle.guard_policy.specs.inside.KeptRules.{rules_kept}
 use Rattle.guard_policy.specs.PolicyView.{route_view}
 use Rattle.guard_policy.proofs.Denials.{found_first, searched_on}
 use Rattle.guard_policy.proofs.decision.first_denying_rule.Goals as goal

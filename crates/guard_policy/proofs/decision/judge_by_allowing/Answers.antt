@@ -2,7 +2,8 @@ use Rattle.std.proofs.Common.{◌+◌, sym, map, drop, get_or}
 use Rattle.std.proofs.lemmas.List.{map_push}
 use Rattle.guard_model.specs.ValueView.{value_view}
 use Rattle.guard_eval.specs.Violations.{violation_view, shortfall_view}
-use Rattle.guard_policy.specs.inside.TypedRules.{rules_kept, typed_rule_view}
+use Rattle.guard_policy.specs.inside.KeptRules.{rules_kept}
+use Rattle.guard_policy.specs.SaidView.{said_view}
 use Rattle.guard_policy.specs.PolicyView.{route_view}
 use Rattle.guard_policy.specs.inside.Listings.{rules_at, heard}
 use Rattle.guard_policy.proofs.Applicable.{applicable_number}
@@ -15,15 +16,15 @@ pub first_violation-requires-clause-sound : goal.first_violation-requires-clause
 first_violation-requires-clause-sound c =
     let rules = rules_kept c.args.kept.now in
     let n = get_or c.args.numbers.now c.loop-number.number-index 0 in
-    let a = is_allowing_there rules n (route_view c.args.route.now) (typed_rule_view c.in-Some.rule) (sym c.in-Some.ensures) in
-    (applicable_number (route_view c.args.route.now) (value_view c.args.value.now) rules n (typed_rule_view c.in-Some.rule) a.stands c.requires).0
+    let a = is_allowing_there rules n (route_view c.args.route.now) (said_view c.in-Some.rule) (sym c.in-Some.ensures) in
+    (applicable_number (route_view c.args.route.now) (value_view c.args.value.now) rules n (said_view c.in-Some.rule) a.stands c.requires).0
 
 pub first_violation-requires-clause-fits : goal.first_violation-requires-clause-fits
 first_violation-requires-clause-fits c =
     let rules = rules_kept c.args.kept.now in
     let n = get_or c.args.numbers.now c.loop-number.number-index 0 in
-    let a = is_allowing_there rules n (route_view c.args.route.now) (typed_rule_view c.in-Some.rule) (sym c.in-Some.ensures) in
-    (applicable_number (route_view c.args.route.now) (value_view c.args.value.now) rules n (typed_rule_view c.in-Some.rule) a.stands c.requires).1 a.speaks
+    let a = is_allowing_there rules n (route_view c.args.route.now) (said_view c.in-Some.rule) (sym c.in-Some.ensures) in
+    (applicable_number (route_view c.args.route.now) (value_view c.args.value.now) rules n (said_view c.in-Some.rule) a.stands c.requires).1 a.speaks
 
 pub loop-number-preserved : goal.loop-number-preserved
 loop-number-preserved c =
@@ -36,11 +37,11 @@ loop-number-preserved c =
     let begins = front_is c.args.numbers.now i 0 c.loop-number-test.true in
     elim c.match-allowing_at.branch [
       | in-Some+in-Some-first_violation+in_ok-push-in-Some-first_violation w ↦
-          let a = is_allowing_there rules n route (typed_rule_view w.in-Some.rule) (sym w.in-Some.ensures) in
+          let a = is_allowing_there rules n route (said_view w.in-Some.rule) (sym w.in-Some.ensures) in
           rw (w.shortfalls-is, w.in_ok-push-in-Some-first_violation.ensures.items, map_push shortfall_view c.loop-number.shortfalls.items)
           (goes_on_with all rules route v (map shortfall_view c.loop-number.shortfalls.items) (drop i c.args.numbers.now) (drop (i + 1) c.args.numbers.now) n
-          (typed_rule_view w.in-Some.rule) (violation_view w.in-Some-first_violation.violation) begins a
-          ((applicable_number route v rules n (typed_rule_view w.in-Some.rule) a.stands c.requires).1 a.speaks)
+          (said_view w.in-Some.rule) (violation_view w.in-Some-first_violation.violation) begins a
+          ((applicable_number route v rules n (said_view w.in-Some.rule) a.stands c.requires).1 a.speaks)
           (sym w.in-Some-first_violation.ensures.first) c.loop-number.invariant)
       | in_default w ↦
           rw w.shortfalls-is

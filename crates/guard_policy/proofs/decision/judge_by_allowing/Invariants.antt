@@ -1,6 +1,6 @@
 use Rattle.std.proofs.Common.{map, drop}
 use Rattle.guard_model.specs.ValueView.{value_view}
-use Rattle.guard_policy.specs.inside.TypedRules.{rules_kept}
+use Rattle.guard_policy.specs.inside.KeptRules.{rules_kept}
 use Rattle.guard_policy.specs.PolicyView.{route_view}
 use Rattle.guard_policy.specs.inside.Listings.{rules_at, heard}
 use Rattle.guard_policy.proofs.Shortfalls.{Gathered}

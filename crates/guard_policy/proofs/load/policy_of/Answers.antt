@@ -8,6 +8,10 @@ use Rattle.guard_policy.specs.inside.Said.{said_message_view}
 use Rattle.guard_policy.proofs.Loading.{loaded, loaded_only, load_refused, refused_rules, refused_messages, refused_top}
 use Rattle.guard_policy.proofs.load.policy_of.Goals as goal
 
+pub of_named-requires-clause-declared : goal.of_named-requires-clause-declared
+of_named-requires-clause-declared g c =
+    rw (c.deref-4.ensures.value, c.deref-5.ensures.value) (rw c.deref-2.ensures.value at c.in_ok-rules.ensures.declared)
+
 pub returns-in_err-listed-clause-refused : goal.returns-in_err-listed-clause-refused
 returns-in_err-listed-clause-refused g c = λ text document.
     let p = err_from_is_err_and c.from_residual.result c.from_residual.ensures.1 in

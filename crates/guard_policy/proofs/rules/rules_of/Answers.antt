@@ -1,5 +1,6 @@
 use Rattle.std.proofs.Common.{◌≡◌, ◌+◌, ◌∙◌, map, drop, sym, subst, List, Option, Some}
-use Rattle.std.specs.Prelude.{IsTrue, IfSome}
+use Rattle.std.specs.Prelude.{bytes_eq, IsTrue, IfSome}
+use Rattle.std.specs.List.{list_any}
 use Rattle.std.proofs.lemmas.List.{map_push}
 use Rattle.std.proofs.lemmas.List.Elements.{All-push}
 use Rattle.std.proofs.lemmas.Result.{err_from_is_err_and}
@@ -39,6 +40,9 @@ loop-index-preserved g c =
           (λ q. c.in_ok-insert.ensures.updates.0 (record { ref_ptr = (0, 0); now = q })) c.loop-index.invariant.seen);
       sound = rw (c.in_ok-push.ensures.items, map_push said_view c.loop-index.rules.items)
           (All-push (λ (x : AbstractRule). IsTrue (is_sound x.ty)) made r c.loop-index.invariant.sound c.in_ok-rule.ensures.sound);
+      declared = rw (c.in_ok-push.ensures.items, map_push said_view c.loop-index.rules.items)
+          (All-push (λ (x : AbstractRule). IsTrue (list_any (bytes_eq x.message) names)) made r c.loop-index.invariant.declared
+          (sym (c.in_ok-declared.ensures r.message) ∙ c.in_ok-rule.ensures.declared));
     }
 
 pub returns-in_err-rule-clause-met : goal.returns-in_err-rule-clause-met

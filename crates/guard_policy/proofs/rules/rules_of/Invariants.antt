@@ -6,6 +6,7 @@ use Rattle.guard_policy.specs.Entries.{rule_in}
 use Rattle.guard_policy.specs.EntryFaults.{rule_fault}
 use Rattle.guard_policy.specs.Policies.{message_names}
 use Rattle.guard_policy.specs.SaidView.{said_view}
+use Rattle.guard_policy.specs.inside.Keeping.{AreDeclared}
 use Rattle.guard_policy.specs.inside.Said.{HaveSame, names_in, said_message_view}
 use Rattle.guard_policy.proofs.EntriesRead.{Read}
 use Rattle.guard_policy.proofs.rules.rules_of.Given as goal
@@ -16,4 +17,5 @@ invariant-loop-index g l = record {
       (tables_view (drop l.index l.tables)) (l.index + 1) (map said_view l.rules.items);
   seen : HaveSame (names_in l.names) (map (λ r. r.name) (map said_view l.rules.items));
   sound : All (λ r. IsTrue (is_sound r.ty)) (map said_view l.rules.items);
+  declared : AreDeclared (map said_message_view l.messages) (map said_view l.rules.items);
 }

@@ -1,9 +1,9 @@
 use Rattle.std.proofs.Common.{◌≡◌, cond, None, ap, sym, ◌∙◌, map, take}
 use Rattle.guard_policy.specs.NamedRoutes.{route_octets}
 use Rattle.guard_policy.specs.Names.{is_plain}
-use Rattle.guard_policy.specs.Policies.{AbstractRoute}
+use Rattle.guard_policy.specs.Policies.{AbstractRoute, own_route}
 use Rattle.guard_policy.specs.SaidView.{said_view}
-use Rattle.guard_policy.specs.inside.Leads.{own_route, lead_of}
+use Rattle.guard_policy.specs.inside.Leads.{lead_of}
 use Rattle.guard_policy.proofs.EntriesRead.{taken_is}
 use Rattle.guard_policy.proofs.GivenRoutes.{left_out, put_in}
 use Rattle.guard_policy.proofs.leads.Leads.of.Goals as goal
@@ -15,7 +15,7 @@ loop-rule-preserved c = λ names.
     let i = c.loop-rule.rule-index in
     let r = said_view c.rule-item.result in
     let taken = map said_view (take i c.args.rules.now) in
-    let own = c.own_route-route.ensures in
+    let own = c.route-route.ensures in
     let found : c.lead_of.result ≡ cond (is_plain (own_route r)) (lead (own_route r)) None =
     c.lead_of.ensures ∙ ap (λ (route : AbstractRoute). cond (is_plain route) (lead route) None) own in
     rw (taken_is said_view c.args.rules.now i c.rule-item.result c.loop-rule-test.true c.rule-item.is)

@@ -1,0 +1,35 @@
+-- Whether a message's octets go under the rules of a route.
+use Rattle.std.specs.Prelude.{◌≡◌, ◌≢◌, ◌⊎◌, ◌↔◌, ℕ, Bool, false, List, Some, IsTrue}
+use Rattle.guard_model.specs.AbstractValue.{AbstractValue}
+use Rattle.guard_der.specs.Der.{der}
+use Rattle.guard_der.specs.Fits.{fits}
+use Rattle.guard_reader.specs.declared.marks.Marks.{Marks}
+use Rattle.guard_reader.specs.Marking.{HasMarks}
+use Rattle.guard_tables.specs.declared.slots.Slots.{Slots}
+use Rattle.guard_tables.specs.declared.table.Table.{Table}
+use Rattle.guard_tables.specs.Slots.{none, has}
+use Rattle.guard_tables.specs.TableView.{declared_of, table_types}
+use Rattle.guard_policy.specs.declared.routing.RouteRules.{RouteRules}
+use Rattle.guard_policy.specs.inside.Routing.{common}
+
+-- Of a value that the types in these slots have: the declared type has it, some allowing rule has and no denying one.
+abbrev pub LetsGo : RouteRules → Slots → Type 0
+LetsGo rules members =
+    IsTrue (has members 0) × (common rules.allowing members ≢ none) × (common rules.denying members ≡ none)
+
+-- the octets are the encoding of a value of the declared type, which has these marks
+abbrev pub AreMarks : Table → List ℕ → Marks → Type 0
+AreMarks table octets marks =
+    (v : AbstractValue) × IsTrue (fits (declared_of table) v) × (der (declared_of table) v ≡ Some octets)
+    × HasMarks marks (table_types table) v
+
+-- the octets are the encoding of no value of the declared type
+abbrev pub EncodeNothing : Table → List ℕ → Type 0
+EncodeNothing table octets =
+    (v : AbstractValue) → IsTrue (fits (declared_of table) v) → der (declared_of table) v ≡ Some octets → ⊥
+
+-- the answer whether the octets go under these rules
+abbrev pub IsAnswer : Table → RouteRules → List ℕ → Bool → Type 0
+IsAnswer table rules octets answer =
+    ((marks : Marks) × AreMarks table octets marks × (IsTrue answer ↔ LetsGo rules marks.members))
+    ⊎ (EncodeNothing table octets × (answer ≡ false))

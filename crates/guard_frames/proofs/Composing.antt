@@ -1,5 +1,5 @@
 -- Feeding a stream after some of its frames were decided.
-use Rattle.std.proofs.Common.{◌≡◌, ℕ, List, ◌++◌, ◌∙◌, ap, sym, subst, length, append_assoc, length-append, arith}
+use Rattle.std.proofs.Common.{◌≡◌, ℕ, List, ◌++◌, ◌∙◌, ap, sym, refl, subst, length, append_assoc, length-append, arith}
 use Rattle.std.specs.Prelude.{Result, Ok, Err}
 use Rattle.std.specs.List.{concat, All}
 use Rattle.std.proofs.lemmas.List.Elements.{All-append}
@@ -11,9 +11,12 @@ use Rattle.guard_frames.specs.Outcomes.{Decision, Outcome, frames_of}
 use Rattle.guard_frames.specs.Added.{Added, joined}
 use Rattle.guard_frames.specs.Guarding.{text_out, AllAdd, InPart, BreaksOff}
 use Rattle.guard_frames.specs.Feeding.{Decides, Takes}
-use Rattle.guard_frames.specs.LinkView.{AbstractLink}
+use Rattle.guard_frames.specs.LinkView.{AbstractLink, IsShut}
 use Rattle.guard_frames.specs.declared.link.LinkFault.{LinkFault}
-use Rattle.guard_frames.specs.declared.link.LinkFault.TheVariants.{FrameTooLong, WriteFailed, Closed, TornFrame}
+use Rattle.guard_frames.specs.declared.link.LinkFault.TheVariants as link
+use Rattle.guard_frames.specs.declared.link.Closing.{Closing}
+use Rattle.guard_frames.specs.declared.link.Closing.TheVariants.{FrameTooLong, WriteFailed, TornFrame}
+use Rattle.guard_frames.specs.inside.Closing.{link_fault, Puts}
 use Rattle.guard_frames.proofs.Counting.{later_later, counted-append}
 use Rattle.guard_frames.proofs.Going.{frames_of-append, text_out-append}
 use Rattle.guard_frames.proofs.Progress.{AllAdd-append, number_after}
@@ -72,13 +75,31 @@ breaks_on d n m s held piece a b x z =
       reports = ap (λ t. a.reports ++ t) z.reports ∙ sym (append_assoc a.reports z.lines z.part.reports);
     }
 
--- a link that holds the rest of what it was fed takes one more piece
-pub takes_on : (d : Decision) (n m : Totals) (s held piece : List ℕ) (new : AbstractLink) (result : Result (Unit {0}) LinkFault) (a b : Added) →
-    Decides d n s held m a → Takes d m (held ++ piece) new result b → Takes d n (s ++ piece) new result (joined a b)
-takes_on d n m s held piece new (Ok done) a b x y = (decides_on d n m new.totals s held piece new.held a b x y.0, y.1, y.2)
-takes_on d n m s held piece new (Err FrameTooLong) a b x y =
-    let z = y.0 in
-    (record { rest = z.rest; decided = decides_on d n m new.totals s held piece z.rest a b x z.decided; too_long = z.too_long }, y.1)
-takes_on d n m s held piece new (Err WriteFailed) a b x y = (breaks_on d n m s held piece a b x y.0, y.1)
-takes_on d n m s held piece new (Err Closed) a b x y = absurd y
-takes_on d n m s held piece new (Err TornFrame) a b x y = absurd y
+-- one more piece is taken where the rest of what came before is held
+pub puts_on : (d : Decision) (n m k : Totals) (s held piece rest : List ℕ) (result : Result (Unit {0}) Closing) (a b : Added) →
+    Decides d n s held m a → Puts d m (held ++ piece) rest k result b → Puts d n (s ++ piece) rest k result (joined a b)
+puts_on d n m k s held piece rest (Ok done) a b x y = (decides_on d n m k s held piece rest a b x y.0, y.1)
+puts_on d n m k s held piece rest (Err FrameTooLong) a b x y =
+    record { rest = y.rest; decided = decides_on d n m k s held piece y.rest a b x y.decided; too_long = y.too_long }
+puts_on d n m k s held piece rest (Err WriteFailed) a b x y = breaks_on d n m s held piece a b x y
+puts_on d n m k s held piece rest (Err TornFrame) a b x y = absurd y
+
+-- ---- what goes wrong closes the link
+
+-- whatever was held
+pub puts_closed : (d : Decision) (n m : Totals) (s held rest : List ℕ) (closing : Closing) (a : Added) →
+    Puts d n s held m (Err closing) a → Puts d n s rest m (Err closing) a
+puts_closed d n m s held rest FrameTooLong a h = h
+puts_closed d n m s held rest WriteFailed a h = h
+puts_closed d n m s held rest TornFrame a h = absurd h
+
+pub takes_closed : (d : Decision) (n : Totals) (s : List ℕ) (new : AbstractLink) (closing : Closing) (a : Added) →
+    Puts d n s new.held new.totals (Err closing) a → IsShut new → Takes d n s new (Err (link_fault closing)) a
+takes_closed d n s new FrameTooLong a h shut = (h, shut)
+takes_closed d n s new WriteFailed a h shut = (h, shut)
+takes_closed d n s new TornFrame a h shut = absurd h
+
+pub told_write_failed : (closing : Closing) → ◌≡◌ {A = Result (Unit {0}) LinkFault} (Err (link_fault closing)) (Err link.WriteFailed) → closing ≡ WriteFailed
+told_write_failed FrameTooLong e = absurd cc
+told_write_failed WriteFailed e = refl
+told_write_failed TornFrame e = absurd cc

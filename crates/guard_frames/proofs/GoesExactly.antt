@@ -4,10 +4,7 @@ use Rattle.std.proofs.lemmas.Bool.{false≢true}
 use Rattle.guard_frames.specs.Bodies.{AbstractBody, IsBody}
 use Rattle.guard_frames.specs.Outcomes.{Decision, Goes, Outcome}
 use Rattle.guard_frames.specs.Guarding.{Adds}
-use Rattle.guard_frames.proofs.HeaderLaws.{same_Some, body_again}
-
-one_body : (octets : List ℕ) (b c : AbstractBody) → IsBody octets b → IsBody octets c → b ≡ c
-one_body octets b c h k = same_Some b c (sym (body_again octets b h) ∙ body_again octets c k)
+use Rattle.guard_frames.proofs.HeaderLaws.{one_body}
 
 -- a frame that stays, and whose body is decided to stay
 stays_exactly : (d : Decision) (o : Outcome) (b : AbstractBody) → o.goes ≡ false → IsBody (drop 4 o.frame) b → (d.Goes b → ⊥) →

@@ -1,6 +1,6 @@
 -- A frame that came in several pieces.
-use Rattle.std.proofs.Common.{◌≡◌, ◌<◌, ◌≤◌, ℕ, ◌+◌, List, [], ◌∷◌, ◌++◌, ◌∙◌, ap, sym, refl, subst, take, drop, length, false, inl, inr, append_assoc, length-append, length-drop, arith}
-use Rattle.std.specs.Prelude.{Result, Ok, Err}
+use Rattle.std.proofs.Common.{◌≡◌, ◌<◌, ◌≤◌, ℕ, ◌+◌, List, [], ◌∷◌, ◌++◌, ◌∙◌, ap, sym, refl, subst, take, drop, length, inl, inr, append_assoc, length-append, length-drop, arith}
+use Rattle.std.specs.Prelude.{Result, Err}
 use Rattle.std.specs.List.{concat}
 use Rattle.std.proofs.lemmas.List.{take-append-drop, take_all}
 use Rattle.guard_frames.specs.Frames.{stated_length, IsFrame, IsUnfinished, IsTooLong, ConsistsOf}
@@ -10,16 +10,16 @@ use Rattle.guard_frames.specs.declared.cut.Rest.{Rest}
 use Rattle.guard_frames.specs.declared.cut.Rest.TheVariants.{Unfinished, TooLong}
 use Rattle.guard_frames.specs.declared.putting.Whole.{Whole}
 use Rattle.guard_frames.specs.declared.totals.Totals.{Totals}
-use Rattle.guard_frames.specs.Totals.{no_frames, next_number}
+use Rattle.guard_frames.specs.Totals.{no_frames}
 use Rattle.guard_frames.specs.Outcomes.{Decision, frames_of}
 use Rattle.guard_frames.specs.Added.{Added, nothing, joined}
 use Rattle.guard_frames.specs.Guarding.{BreaksOff}
-use Rattle.guard_frames.specs.Feeding.{Decides, DecidesUntilTooLong, Takes}
-use Rattle.guard_frames.specs.LinkView.{AbstractLink}
-use Rattle.guard_frames.specs.declared.link.LinkFault.{LinkFault}
-use Rattle.guard_frames.specs.declared.link.LinkFault.TheVariants.{FrameTooLong, WriteFailed}
-use Rattle.guard_frames.specs.Runs.{RunsAll}
-use Rattle.guard_frames.proofs.Composing.{takes_on}
+use Rattle.guard_frames.specs.Feeding.{Decides, DecidesUntilTooLong}
+use Rattle.guard_frames.specs.declared.link.Closing.{Closing}
+use Rattle.guard_frames.specs.declared.link.Closing.TheVariants.{FrameTooLong, WriteFailed, TornFrame}
+use Rattle.guard_frames.specs.inside.Closing.{run_fault, Puts}
+use Rattle.guard_frames.specs.Runs.{RunsAll, Runs, IsFoundTooLong}
+use Rattle.guard_frames.proofs.Composing.{puts_on}
 use Rattle.guard_frames.proofs.Elements.{All_none, All_first}
 use Rattle.guard_frames.proofs.Progress.{le_or_gt}
 use Rattle.guard_frames.proofs.Reading.{is_empty_list}
@@ -120,16 +120,16 @@ nothing_left now rest (f ∷ fs) x less no_more =
     let most : length now ≤ stated_length now + 4 = no_more (omega (arith, size, frame.header)) (omega (arith, same, frame.allowed)) in
     is_empty_list rest (omega (arith, size, same, most, frame.exact))
 
--- where a frame of them was put, the link takes what is left of the piece
-pub takes_left : (d : Decision) (n : Totals) (w : Whole) (h p now : List ℕ) (used : ℕ) (new : AbstractLink) (result : Result (Unit {0}) LinkFault) (a b : Added) →
+-- where a frame of them was put, what is left of the piece is put
+pub puts_left : (d : Decision) (n m : Totals) (w : Whole) (h p now rest : List ℕ) (used : ℕ) (result : Result (Unit {0}) Closing) (a b : Added) →
     now ≡ h ++ take used p → (4 ≤ length now → stated_length now ≤ 1048576 → length now ≤ stated_length now + 4) → ArePut d n now w a → 0 < w.end →
-    Takes d w.totals (drop used p) new result b → Takes d n (h ++ p) new result (joined a b)
-takes_left d n w h p now used new result a b e no_more x some y =
+    Puts d w.totals (drop used p) rest m result b → Puts d n (h ++ p) rest m result (joined a b)
+puts_left d n m w h p now rest used result a b e no_more x some y =
     let less : length (drop w.end now) < length now = omega (arith, length-drop w.end now, x.within, some) in
     let none : drop w.end now ≡ [] = nothing_left now (drop w.end now) (frames_of x.decided.outcomes) x.decided.split less no_more in
     let decided : Decides d n now [] w.totals a = subst (λ (r : List ℕ). Decides d n now r w.totals a) none x.decided in
-    subst (λ (s : List ℕ). Takes d n s new result (joined a b)) (sym (held_splits h p now used e))
-    (takes_on d n w.totals now [] (drop used p) new result a b decided y)
+    subst (λ (s : List ℕ). Puts d n s rest m result (joined a b)) (sym (held_splits h p now used e))
+    (puts_on d n w.totals m now [] (drop used p) rest result a b decided y)
 
 -- ---- a run, from its first piece on
 
@@ -148,18 +148,15 @@ begins_empty d n = record {
 pub runs_all : (d : Decision) (read rest : List ℕ) (m : Totals) (a : Added) (Last : List ℕ → Type 0) → Decides d no_frames read rest m a → Last rest → RunsAll d read a Last
 runs_all d read rest m a Last x last = record { outcomes = x.outcomes; rest = rest; split = x.split; out = x.out; reports = x.reports; last = last }
 
--- what it takes, at each answer
-pub took_ok : (d : Decision) (n : Totals) (s : List ℕ) (new : AbstractLink) (result : Result (Unit {0}) LinkFault) (a : Added) (x : Unit {0}) →
-    result ≡ Ok x → Takes d n s new result a → Decides d n s new.held new.totals a × IsUnfinished new.held × (new.closed ≡ false)
-took_ok d n s new result a x is h = subst (λ (e : Result (Unit {0}) LinkFault). Takes d n s new e a) is h
-
-pub took_too_long : (d : Decision) (n : Totals) (s : List ℕ) (new : AbstractLink) (result : Result (Unit {0}) LinkFault) (a : Added) →
-    result ≡ Err FrameTooLong → Takes d n s new result a → DecidesUntilTooLong d n s new.totals a
-took_too_long d n s new result a is h = (subst (λ (e : Result (Unit {0}) LinkFault). Takes d n s new e a) is h).0
-
-pub took_failed : (d : Decision) (n : Totals) (s : List ℕ) (new : AbstractLink) (result : Result (Unit {0}) LinkFault) (a : Added) →
-    result ≡ Err WriteFailed → Takes d n s new result a → BreaksOff (λ _. d) (next_number n) s a
-took_failed d n s new result a is h = (subst (λ (e : Result (Unit {0}) LinkFault). Takes d n s new e a) is h).0
+-- what a run comes to where its link is closed; the rest is short where it begins with a length that no frame may have
+pub runs_closed : (d : Decision) (m : Totals) (read held : List ℕ) (closing : Closing) (a : Added) (Ended : Type 0) →
+    ((rest : List ℕ) (frames : List (List ℕ)) → ConsistsOf read frames rest → IsTooLong rest → length rest < 4 + 65536) →
+    Puts d no_frames read held m (Err closing) a → Runs d read Ended (Err (run_fault closing)) a
+runs_closed d m read held FrameTooLong a Ended soon h =
+    runs_all d read h.rest m a IsFoundTooLong h.decided
+    (record { too_long = h.too_long; at_once = soon h.rest (frames_of h.decided.outcomes) h.decided.split h.too_long })
+runs_closed d m read held WriteFailed a Ended soon h = h
+runs_closed d m read held TornFrame a Ended soon h = absurd h
 
 -- ---- a length that no frame may have is found as soon as it is there
 

@@ -7,7 +7,7 @@ pub mod Reading
 pub mod Readings
 pub mod Splitting
 pub mod HeaderLaws
-pub mod AtOnce
+pub mod BodyDecisions
 pub mod Reporting
 -- ---- frames that are decided one after another
 pub mod Going
@@ -21,6 +21,5 @@ pub mod Own
 -- ---- laws
 pub mod GoesExactly
 -- ---- texts
-pub mod FewModules
 pub mod OnePolicy
 pub mod UnderTexts

@@ -9,16 +9,15 @@ use Rattle.guard_schema.specs.declared.fault.SchemaFault.TheVariants as schema_f
 use Rattle.guard_schema.specs.Accepts as schema_text
 use Rattle.guard_schema.specs.Accepts.{Accepts}
 use Rattle.guard_schema.specs.Faults as schema
-use Rattle.guard_schema.specs.Schemas.{AbstractSchema}
+use Rattle.guard_schema.specs.Schemas.{AbstractSchema, named_types}
 use Rattle.guard_policy.specs.declared.fault.PolicyFault.{PolicyFault}
 use Rattle.guard_policy.specs.declared.fault.PolicyFault.TheVariants as policy_fault
-use Rattle.guard_policy.specs.Entries.{AbstractTypes}
+use Rattle.guard_der.specs.NamedTypes.{AbstractTypes}
 use Rattle.guard_policy.specs.EntryFaults.{document_fault}
 use Rattle.guard_policy.specs.Loads as policy_text
 use Rattle.guard_policy.specs.Loads.{Loads}
 use Rattle.guard_policy.specs.Policies.{AbstractPolicy}
 use Rattle.guard_policy.specs.PolicyFaults as policy
-use Rattle.guard_frames.specs.ModulesView.{types_of}
 use Rattle.guard_frames.specs.Texts.{SayNone, named, of_schema, of_policy}
 
 -- ---- faults of the modules
@@ -61,7 +60,7 @@ no_fault text s p f (top, document, none, is) (inr (other, again, fault)) =
     both_ways (document_fault s top) f none (ap (document_fault s) same ∙ fault)
 
 pub policy_refused : (modules : List (List ℕ)) (text : List ℕ) (s : AbstractSchema) → Accepts modules s → (f : PolicyFault)
-    → IfSome (policy.named f) (policy_text.IsRefused text (types_of s)) → SayNone modules text (of_policy f)
+    → IfSome (policy.named f) (policy_text.IsRefused text (named_types s)) → SayNone modules text (of_policy f)
 policy_refused modules text s accepted policy_fault.OutOfMemory h = tt
 policy_refused modules text s accepted policy_fault.Toml h = (s, accepted, h)
 policy_refused modules text s accepted (policy_fault.UnknownKey place key) h = (s, accepted, h)
@@ -91,5 +90,5 @@ policy_there text s p said (policy_fault.Table number fault) h = absurd (no_faul
 
 -- over a schema that the modules denote: `s` is what was built, and `t` what they denote
 pub policy_said : (modules : List (List ℕ)) (text : List ℕ) (s t : AbstractSchema) (p : AbstractPolicy) → ◌≡◌ {A = Result AbstractSchema schema.AbstractFault} (Ok t) (Ok s)
-    → Loads text (types_of t) p → Loads text (types_of s) p
-policy_said modules text s t p e said = subst (λ (x : AbstractSchema). Loads text (types_of x) p) (same_Ok t s e) said
+    → Loads text (named_types t) p → Loads text (named_types s) p
+policy_said modules text s t p e said = subst (λ (x : AbstractSchema). Loads text (named_types x) p) (same_Ok t s e) said

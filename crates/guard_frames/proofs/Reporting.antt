@@ -1,35 +1,36 @@
 -- What becomes of a frame, by its body.
-use Rattle.std.proofs.Common.{◌≡◌, ◌⊎◌, ℕ, List, ◌++◌, ◌∙◌, sym, refl, inl, inr, drop}
-use Rattle.std.specs.Prelude.{Some, None, codes, decimal}
+use Rattle.std.proofs.Common.{◌≡◌, ◌⊎◌, ◌↔◌, ℕ, Bool, false, List, ◌++◌, ◌∙◌, sym, refl, subst, inl, inr, drop}
+use Rattle.std.specs.Prelude.{IsTrue, Some, None, codes, decimal}
+use Rattle.std.proofs.lemmas.Bool.{false≢true}
 use Rattle.guard_frames.specs.Bodies.{AbstractBody, IsBody, HasNames, body_in}
-use Rattle.guard_frames.specs.Outcomes.{Decision, Goes, staying}
+use Rattle.guard_frames.specs.Outcomes.{Decision, BodyGoes, Goes, staying}
 use Rattle.guard_frames.specs.Guarding.{Adds}
 use Rattle.guard_frames.specs.inside.Judged.{IsReportOf, report_line}
 use Rattle.guard_frames.specs.declared.report.Report.{Report}
 use Rattle.guard_frames.specs.declared.report.Report.TheVariants.{BadHeader, NoMemory, Line}
-use Rattle.guard_frames.proofs.HeaderLaws.{none_is_not, body_takes, body_again}
+use Rattle.guard_frames.proofs.HeaderLaws.{body_takes, no_body}
 
 -- ---- the header
-
-no_body : (frame : List ℕ) → None ≡ body_in (drop 4 frame) → (b : AbstractBody) → IsBody (drop 4 frame) b → ⊥
-no_body frame none b h = none_is_not b (none ∙ body_again (drop 4 frame) b h)
 
 pub names_are : (octets : List ℕ) (b : AbstractBody) → Some b ≡ body_in octets → HasNames b
 names_are octets b is = (body_takes octets b (sym is)).names
 
 pub bad_header : (d : Decision) (n : ℕ) (frame : List ℕ) → None ≡ body_in (drop 4 frame) → Adds d n (staying frame) (decimal n ++ codes " bad-header\n")
-bad_header d n frame none = inr (inr (record { stays = refl; none = no_body frame none; text = refl }))
+bad_header d n frame none = inr (inr (record { stays = refl; none = no_body (drop 4 frame) none; text = refl }))
 
 -- ---- what is decided of the body becomes of the frame
 
 body_there : (frame octets : List ℕ) (b : AbstractBody) → octets ≡ drop 4 frame → Some b ≡ body_in octets → IsBody (drop 4 frame) b
 body_there frame octets b same is = let there : IsBody octets b = body_takes octets b (sym is) in rw same at there
 
-pub goes_as_body : (d : Decision) (frame octets : List ℕ) (b : AbstractBody) → octets ≡ drop 4 frame → IsBody octets b → d.Goes b → Goes d frame
-goes_as_body d frame octets b same is go = record { body = b; is = rw same at is; decided = go }
+pub goes_as_body : (d : Decision) (frame octets : List ℕ) → octets ≡ drop 4 frame → BodyGoes d octets → Goes d frame
+goes_as_body d frame octets same go = subst (BodyGoes d) same go
 
-pub goes_by_body : (d : Decision) (frame octets : List ℕ) (b : AbstractBody) → octets ≡ drop 4 frame → Some b ≡ body_in octets → d.Goes b → Goes d frame
-goes_by_body d frame octets b same is go = record { body = b; is = body_there frame octets b same is; decided = go }
+-- a body that is there and doesn't go is decided to stay
+pub stays_there : (d : Decision) (octets : List ℕ) (b : AbstractBody) (goes : Bool) → (IsTrue goes ↔ BodyGoes d octets) → goes ≡ false →
+    Some b ≡ body_in octets → d.Goes b → ⊥
+stays_there d octets b goes exact stays is go =
+    false≢true (sym stays ∙ exact.1 (record { body = b; is = body_takes octets b (sym is); decided = go }))
 
 reported : (d : Decision) (n : ℕ) (b : AbstractBody) (report : Report) → IsReportOf d n b report
     → d.Reports n b (report_line n report) ⊎ (report_line n report ≡ decimal n ++ codes " no-memory\n")

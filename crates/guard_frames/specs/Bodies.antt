@@ -1,6 +1,6 @@
 -- The body of a frame: the names of the sender, the receiver and the message, each after one octet of length, and then
 -- the message.
-use Rattle.std.specs.Prelude.{◌≡◌, ℕ, true, List, [], ◌∷◌, ◌++◌, length, take, drop, nat_lt, if◌then◌else◌, Option, Some, None}
+use Rattle.std.specs.Prelude.{◌≡◌, ℕ, Bool, ◌&&◌, true, List, [], ◌∷◌, ◌++◌, length, take, drop, nat_lt, if◌then◌else◌, Option, Some, None}
 use Rattle.guard_policy.specs.Names.{is_name}
 use Rattle.guard_policy.specs.NamedRoutes.{with_length}
 use Rattle.guard_frames.specs.declared.body.Body.{Body}
@@ -14,16 +14,14 @@ pub record AbstractBody : Type 0 where
 abbrev pub body_view : Body → AbstractBody
 body_view b = record { sender = b.sender.now; receiver = b.receiver.now; name = b.name.now; message = b.message.now }
 
--- so many octets that are a name, and what follows them
-abbrev pub name_of_length : ℕ → List ℕ → Option (List ℕ × List ℕ)
-name_of_length n octets =
-    if nat_lt (length octets) n then None
-    else (if is_name (take n octets) then Some (take n octets, drop n octets) else None)
+-- so many octets, and what follows them
+abbrev pub part_of_length : ℕ → List ℕ → Option (List ℕ × List ℕ)
+part_of_length n octets = if nat_lt (length octets) n then None else Some (take n octets, drop n octets)
 
--- the name after its length at the front, and what follows it
-unfoldable pub name_first : List ℕ → Option (List ℕ × List ℕ)
-name_first [] = None
-name_first (n ∷ octets) = name_of_length n octets
+-- as many octets as the first one says, and what follows them
+unfoldable pub part_first : List ℕ → Option (List ℕ × List ℕ)
+part_first [] = None
+part_first (n ∷ octets) = part_of_length n octets
 
 -- what comes of the first answer, where there is one
 infixl 10 ◌>>=◌
@@ -31,19 +29,29 @@ abbrev pub ◌>>=◌ : {A B : Type 0} → Option A → (A → Option B) → Opti
 None >>= f = None
 (Some x) >>= f = f x
 
+-- what is in the places of three names, each after its length, and what follows it
+unfoldable pub parts_in : List ℕ → Option AbstractBody
+parts_in octets = do
+  sender ← part_first octets
+  receiver ← part_first sender.1
+  name ← part_first receiver.1
+  Some (record { sender = sender.0; receiver = receiver.0; name = name.0; message = name.1 })
+
+-- what is in the place of a name is one
+abbrev pub has_names : AbstractBody → Bool
+has_names b = is_name b.sender && is_name b.receiver && is_name b.name
+
 -- the body that the octets are; none where the three names aren't there
 unfoldable pub body_in : List ℕ → Option AbstractBody
 body_in octets = do
-  sender ← name_first octets
-  receiver ← name_first sender.1
-  name ← name_first receiver.1
-  Some (record { sender = sender.0; receiver = receiver.0; name = name.0; message = name.1 })
+  b ← parts_in octets
+  if has_names b then Some b else None
 
 -- a name as a header has it: one octet of length, and its octets
 abbrev pub named : List ℕ → List ℕ
 named name = with_length name
 
--- what is in the place of a name is one
+-- the same, name by name
 pub record HasNames (b : AbstractBody) : Type 0 where
   pub sender : is_name b.sender ≡ true
   pub receiver : is_name b.receiver ≡ true

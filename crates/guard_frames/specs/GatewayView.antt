@@ -2,7 +2,7 @@
 use Rattle.std.specs.Prelude.{◌≡◌, ◌⊎◌, ℕ, List, Option, Some, None, Result, map, slice_get, slice_set, Bool, true, Err}
 use Rattle.guard_policy.specs.PolicyView.{policy_view}
 use Rattle.guard_frames.specs.LinkView.{AbstractLink, link_view}
-use Rattle.guard_frames.specs.declared.link.LinkFault.TheVariants.{WriteFailed}
+use Rattle.guard_frames.specs.declared.link.LinkFault.TheVariants.{WriteFailed, Closed}
 use Rattle.guard_frames.specs.declared.seats.Seat.{Seat}
 use Rattle.guard_frames.specs.declared.seats.Ends.{Ends}
 use Rattle.guard_frames.specs.declared.gateway.StepFault.{StepFault}
@@ -33,8 +33,8 @@ event_view (Piece i octets) = piece i octets.now
 event_view (End i) = end i
 event_view (Reload p) = reload (policy_view p)
 
--- The sinks of link i took what was added, and one of them has failed where the answer says so. All others are the
--- same.
+-- The sinks of link i took what was added, and one of them has failed where the answer says so. Where it says that the
+-- link is closed they are as they were. All others are the same.
 pub record TookAt {S : Type 0} (taken : S → Option (List ℕ)) (has_failed : S → Bool) (old : List (Ends S)) (i : ℕ)
     (answer : Result (Unit {0}) StepFault) (added : Added) (new : List (Ends S)) : Type 0 where
   pub old_ends : Ends S
@@ -43,6 +43,7 @@ pub record TookAt {S : Type 0} (taken : S → Option (List ℕ)) (has_failed : S
   pub took : BothAppend (taken old_ends.out, taken new_ends.out) (taken old_ends.reports, taken new_ends.reports) added
   pub failed : answer ≡ Err (Link WriteFailed) →
       (has_failed new_ends.out ≡ true) ⊎ (has_failed new_ends.reports ≡ true)
+  pub shut : answer ≡ Err (Link Closed) → new_ends ≡ old_ends
   pub others : new ≡ slice_set old i new_ends
 
 -- a piece is for the sinks of its link, where there is one; no other event touches sinks

@@ -11,6 +11,7 @@ pub mod Guarding
 pub mod ThroughView
 pub mod KeptView
 pub mod LinkView
+pub mod FaultTexts
 pub mod Feeding
 pub mod Runs
 -- ---- under a policy
@@ -25,7 +26,6 @@ pub mod OwnStream
 pub mod GatewayView
 pub mod Lending
 -- ---- under the policy that texts say
-pub mod ModulesView
 pub mod Texts
 pub mod RunsTexts
 -- ---- what no public contract reaches

@@ -7,11 +7,15 @@ pub record Decision : Type 1 where
   pub Goes : AbstractBody → Type 0
   pub Reports : ℕ → AbstractBody → List ℕ → Type 0
 
--- a frame goes where its body is three names and a message, and is decided to go
-pub record Goes (d : Decision) (frame : List ℕ) : Type 0 where
+-- octets go where they are three names and a message, and this body is decided to go
+pub record BodyGoes (d : Decision) (octets : List ℕ) : Type 0 where
   pub body : AbstractBody
-  pub is : IsBody (drop 4 frame) body
+  pub is : IsBody octets body
   pub decided : d.Goes body
+
+-- a frame goes where what follows its four octets of length goes
+abbrev pub Goes : Decision → List ℕ → Type 0
+Goes d frame = BodyGoes d (drop 4 frame)
 
 -- a frame, and whether it goes out
 pub record Outcome : Type 0 where

@@ -15,20 +15,28 @@ pub record OwnPiece : Type 0 where
   pub policy : AbstractPolicy
   pub octets : List ℕ
 
--- the pieces of link k up to its first end, where p is in force at first
-abbrev pub pieces_of : ℕ → AbstractPolicy → List AbstractEvent → List OwnPiece
+-- whether this answer is a fault of the event's link
+abbrev pub is_fault : Result (Unit {0}) StepFault → Bool
+is_fault (Ok done) = false
+is_fault (Err NoSuchLink) = false
+is_fault (Err (Link fault)) = true
+
+-- The pieces of link k, where p is in force at first: up to the link's first end, or up to and with the piece that was
+-- answered with a fault of the link.
+abbrev pub pieces_of : ℕ → AbstractPolicy → List Turn → List OwnPiece
 pieces_of k p [] = []
-pieces_of k p (piece i octets ∷ events) =
-    if nat_eq i k then record { policy = p; octets = octets } ∷ pieces_of k p events else pieces_of k p events
-pieces_of k p (end i ∷ events) = if nat_eq i k then [] else pieces_of k p events
-pieces_of k p (reload q ∷ events) = pieces_of k q events
+pieces_of k p (t ∷ turns) = elim t.event [
+  | piece i octets ↦
+      if nat_eq i k
+      then record { policy = p; octets = octets } ∷ (if is_fault t.answer then [] else pieces_of k p turns)
+      else pieces_of k p turns
+  | end i ↦ if nat_eq i k then [] else pieces_of k p turns
+  | reload q ↦ pieces_of k q turns
+]
 
 -- its own stream
 abbrev pub own_stream : List OwnPiece → List ℕ
 own_stream pieces = concat (map (λ x. x.octets) pieces)
-
-abbrev pub events_of : List Turn → List AbstractEvent
-events_of turns = map (λ t. t.event) turns
 
 -- whether this is an event of link k
 abbrev pub is_own : ℕ → AbstractEvent → Bool

@@ -2,7 +2,7 @@
 use Rattle.std.specs.Prelude.{ℕ, List, Option, Some, None, IsSomeAnd}
 use Rattle.guard_schema.specs.declared.fault.SchemaFault.{SchemaFault}
 use Rattle.guard_schema.specs.declared.fault.SchemaFault.TheVariants as schema_fault
-use Rattle.guard_schema.specs.Schemas.{AbstractSchema}
+use Rattle.guard_schema.specs.Schemas.{AbstractSchema, named_types}
 use Rattle.guard_schema.specs.Faults as schema
 use Rattle.guard_schema.specs.Accepts as schema_text
 use Rattle.guard_schema.specs.Accepts.{Accepts}
@@ -16,18 +16,17 @@ use Rattle.guard_frames.specs.declared.running.RunFault.{RunFault}
 use Rattle.guard_frames.specs.declared.running.RunFault.TheVariants as run_fault
 use Rattle.guard_frames.specs.declared.texts.TextsFault.{TextsFault}
 use Rattle.guard_frames.specs.declared.texts.TextsFault.TheVariants.{Schema, Policy, Run, OutOfMemory}
-use Rattle.guard_frames.specs.ModulesView.{types_of}
 
 -- The texts of modules denote a schema, and over it the other text says this policy.
 abbrev pub SayPolicy : List (List ℕ) → List ℕ → AbstractPolicy → Type 0
-SayPolicy modules text p = (s : AbstractSchema) × Accepts modules s × Loads text (types_of s) p
+SayPolicy modules text p = (s : AbstractSchema) × Accepts modules s × Loads text (named_types s) p
 
 -- Why they say none: the first fault of the modules; or, where they have none, that of the policy's text over them.
 -- Want of memory says nothing of them.
 abbrev pub SayNone : List (List ℕ) → List ℕ → TextsFault → Type 0
 SayNone modules text (Schema f) = IsSomeAnd (schema.named f) (schema_text.IsRefused modules)
 SayNone modules text (Policy f) =
-    (s : AbstractSchema) × Accepts modules s × IsSomeAnd (policy.named f) (policy_text.IsRefused text (types_of s))
+    (s : AbstractSchema) × Accepts modules s × IsSomeAnd (policy.named f) (policy_text.IsRefused text (named_types s))
 SayNone modules text (Run f) = ⊥
 SayNone modules text OutOfMemory = Unit {0}
 

@@ -1,8 +1,8 @@
 //! What decides which messages go.
 
 ghost use Rattle.std.specs.Prelude.{◌≡◌, ◌↔◌, IsTrue, IfOk};
-ghost use Rattle.guard_frames.specs.Bodies.{AbstractBody, IsBody, body_view, HasNames};
-ghost use Rattle.guard_frames.specs.Outcomes.{Decision};
+ghost use Rattle.guard_frames.specs.Bodies.{body_view, HasNames};
+ghost use Rattle.guard_frames.specs.Outcomes.{Decision, BodyGoes};
 
 use crate::body::Body;
 use guard_model::OutOfMemory;
@@ -13,18 +13,13 @@ pub trait Decide {
     /// which bodies go, and the report line of each other one
     ghost decides: { Self → Decision };
 
-    /// Whether the frame with this body goes, told before its header is read. A frame of which this is false may go.
-    /// It takes no memory.
-    fn goes_at_once(&self, body: &[u8]) -> bool
-        ensures { IsTrue result → (b : AbstractBody) × IsBody body.now b × (decides self.now).Goes b };
+    /// Whether a frame goes, by all of it that follows its four octets of length: they are three names and a message,
+    /// and this body is decided to go. It takes no memory.
+    fn goes(&self, body: &[u8]) -> bool
+        ensures { IsTrue result ↔ BodyGoes (decides self.now) body.now };
 
-    /// Whether the frame with this body, whose header is good, goes. It takes no memory.
-    fn goes(&self, body: &Body) -> bool
-        requires { HasNames (body_view body.now) }
-        ensures { IsTrue result ↔ (decides self.now).Goes (body_view body.now) };
-
-    /// The report line of the frame of this number, with its line feed; the frame stays. Its one refusal is want of
-    /// memory.
+    /// The report line of the frame of this number, with its line feed, where its header is good and the frame stays.
+    /// Its one refusal is want of memory.
     fn line(&self, alloc: Global, number: u64, body: &Body) -> Result<Vec<u8>, OutOfMemory>
         requires names { HasNames (body_view body.now) }
         requires stays { (decides self.now).Goes (body_view body.now) → ⊥ }

@@ -1,6 +1,6 @@
 //! What a link reads from and writes to.
 
-ghost use Rattle.std.specs.Prelude.{◌≡◌, ◌<◌, ◌≤◌, ℕ, List, Bool, true, Option, length, take, IfOk, OnOk, OnErr, IsErr};
+ghost use Rattle.std.specs.Prelude.{◌≡◌, ◌<◌, ◌≤◌, ◌++◌, ℕ, List, Bool, true, Option, length, take, IfOk, OnOk, OnErr, IsErr};
 ghost use Rattle.std.specs.Io.KnownBytes.{Appends, Consumes, IsAtEnd};
 ghost use Rattle.guard_frames.specs.Prefix.{IsProperPrefix};
 ghost use Rattle.guard_frames.specs.Totals.{WentUpBy};
@@ -74,5 +74,17 @@ pub fn put_all<S: Sink>(sink: &mut S, octets: &[u8]) -> Result<(), Failed>
         let more = sink.put(&octets[sent..])?;
         sent += more;
     }
+    Ok(())
+}
+
+/// Puts the first octets and then the second.
+pub fn put_both<S: Sink>(sink: &mut S, first: &[u8], second: &[u8]) -> Result<(), Failed>
+    ensures all { OnOk result (Appends (S.taken sink.old) (S.taken sink.new) (first.now ++ second.now)) }
+    ensures part { OnErr result ((part : List ℕ) × IsProperPrefix part (first.now ++ second.now)
+        × Appends (S.taken sink.old) (S.taken sink.new) part) }
+    ensures failed { OnErr result (S.has_failed sink.new ≡ true) }
+{
+    put_all(sink, first)?;
+    put_all(sink, second)?;
     Ok(())
 }

@@ -1,26 +1,28 @@
 //! Feeds pieces to a link.
 
-ghost use Rattle.std.specs.Prelude.{◌≡◌, ◌⊎◌, true, false, [], IsErrOf};
+ghost use Rattle.std.specs.Prelude.{◌≡◌, ◌≤◌, ◌++◌, ◌⊎◌, true, [], vec_capacity, IsErrOf};
 ghost use Rattle.guard_frames.specs.Frames.{IsUnfinished};
 ghost use Rattle.guard_frames.specs.Added.{Added, BothAppend};
-ghost use Rattle.guard_frames.specs.Feeding.{Takes};
-ghost use Rattle.guard_frames.specs.LinkView.{link_view};
-ghost use Rattle.guard_frames.specs.declared.link.LinkFault.TheVariants.{WriteFailed};
+ghost use Rattle.guard_frames.specs.inside.Closing.{Puts};
+ghost use Rattle.guard_frames.specs.declared.link.Closing.TheVariants.{WriteFailed};
 
 use crate::cut::Rest;
 use crate::decision::Decide;
 use crate::devices::Sink;
 use crate::filling::complete;
-use crate::link::{Link, LinkFault};
+use crate::link::{Closing, Link, LinkFault, close};
 use crate::putting::put_frames;
+use crate::totals::Totals;
 use std::alloc::Global;
 
 impl Link {
-    ghost use Rattle.std.specs.Prelude.{◌≡◌, ◌⊎◌, true, false, ◌++◌, Err, IsErrOf};
-    ghost use Rattle.guard_frames.specs.LinkView.{link_view};
+    ghost use Rattle.std.specs.Prelude.{◌≡◌, ◌⊎◌, true, false, ◌++◌, Err, IsErrOf, OnOk, OnErr};
+    ghost use Rattle.guard_frames.specs.LinkView.{link_view, IsShut};
     ghost use Rattle.guard_frames.specs.Added.{Added, BothAppend};
     ghost use Rattle.guard_frames.specs.Feeding.{Takes};
+    ghost use Rattle.guard_frames.specs.inside.Closing.{Puts};
     ghost use Rattle.guard_frames.specs.declared.link.LinkFault.TheVariants.{Closed, WriteFailed};
+    ghost use Rattle.guard_frames.specs.declared.link.Closing.TheVariants as closing;
 
     /// Feeds it one more piece of its stream. A frame that an earlier piece began is put together in what it holds; one
     /// that lies whole in the piece is put from where it lies.
@@ -44,85 +46,115 @@ impl Link {
         if self.closed {
             return Err(LinkFault::Closed);
         }
-        if self.held.is_empty() {
-            return feed_rest(self, alloc, policy, piece, out, reports);
-        }
-        let used = complete(&mut self.held, piece);
-        let whole = match put_frames(
-            alloc,
-            policy,
-            self.held.as_slice(),
-            self.totals,
-            out,
-            reports,
-        ) {
-            Ok(whole) => whole,
-            Err(_) => {
-                self.held.clear();
-                self.closed = true;
-                return Err(LinkFault::WriteFailed);
+        Ok(self.take(alloc, policy, piece, out, reports)?)
+    }
+
+    /// Takes the next piece of the stream of an open link. What goes wrong closes it.
+    pub(crate) fn take<D: Decide, O: Sink, R: Sink>(
+        &mut self,
+        alloc: Global,
+        policy: &D,
+        piece: &[u8],
+        out: &mut O,
+        reports: &mut R,
+    ) -> Result<(), Closing>
+        requires open { self.old.closed ≡ false }
+        ensures puts { (added : Added)
+            × Puts (D.decides policy.now) self.old.totals (self.old.held.items ++ piece.now) self.new.held.items
+            self.new.totals result added
+            × BothAppend (O.taken out.old, O.taken out.new) (R.taken reports.old, R.taken reports.new) added }
+        ensures open { OnOk result (self.new.closed ≡ false) }
+        ensures closes { OnErr result (IsShut (link_view self.new)) }
+        ensures failed { IsErrOf result closing.WriteFailed →
+            (O.has_failed out.new ≡ true) ⊎ (R.has_failed reports.new ≡ true) }
+    {
+        let (held, totals) = (&mut self.held, &mut self.totals);
+        match put_piece(held, totals, alloc, policy, piece, out, reports) {
+            Ok(()) => Ok(()),
+            Err(closing) => {
+                close(&mut self.held, &mut self.closed);
+                Err(closing)
             }
-        };
-        self.totals = whole.totals;
-        if let Rest::TooLong = whole.rest {
-            self.held.clear();
-            self.closed = true;
-            return Err(LinkFault::FrameTooLong);
         }
-        if whole.end == 0 {
-            return Ok(());
-        }
-        self.held.clear();
-        feed_rest(self, alloc, policy, &piece[used..], out, reports)
     }
 }
 
-/// Feeds an open link that holds nothing.
-fn feed_rest<D: Decide, O: Sink, R: Sink>(
-    link: &mut Link,
+/// Puts the frames that end in the piece, and holds what is left of it.
+fn put_piece<D: Decide, O: Sink, R: Sink>(
+    held: &mut Vec<u8>,
+    totals: &mut Totals,
     alloc: Global,
     policy: &D,
     piece: &[u8],
     out: &mut O,
     reports: &mut R,
-) -> Result<(), LinkFault>
-    requires nothing { link.old.held.items ≡ [] }
-    requires open { link.old.closed ≡ false }
-    ensures takes { (added : Added)
-        × Takes (D.decides policy.now) link.old.totals piece.now (link_view link.new) result added
+) -> Result<(), Closing>
+    requires room { 1048580 ≤ vec_capacity held.old }
+    requires unfinished { IsUnfinished held.old.items }
+    ensures room { 1048580 ≤ vec_capacity held.new }
+    ensures puts { (added : Added)
+        × Puts (D.decides policy.now) totals.old (held.old.items ++ piece.now) held.new.items totals.new result added
         × BothAppend (O.taken out.old, O.taken out.new) (R.taken reports.old, R.taken reports.new) added }
     ensures failed { IsErrOf result WriteFailed → (O.has_failed out.new ≡ true) ⊎ (R.has_failed reports.new ≡ true) }
 {
-    let whole = match put_frames(alloc, policy, piece, link.totals, out, reports) {
-        Ok(whole) => whole,
-        Err(_) => {
-            link.closed = true;
-            return Err(LinkFault::WriteFailed);
-        }
+    if held.is_empty() {
+        return put_rest(held, totals, alloc, policy, piece, out, reports);
+    }
+    let used = complete(held, piece);
+    let Ok(whole) = put_frames(alloc, policy, held.as_slice(), *totals, out, reports) else {
+        return Err(Closing::WriteFailed);
     };
-    link.totals = whole.totals;
+    *totals = whole.totals;
+    if let Rest::TooLong = whole.rest {
+        return Err(Closing::FrameTooLong);
+    }
+    if whole.end == 0 {
+        return Ok(());
+    }
+    held.clear();
+    put_rest(held, totals, alloc, policy, &piece[used..], out, reports)
+}
+
+/// The same where nothing is held.
+fn put_rest<D: Decide, O: Sink, R: Sink>(
+    held: &mut Vec<u8>,
+    totals: &mut Totals,
+    alloc: Global,
+    policy: &D,
+    piece: &[u8],
+    out: &mut O,
+    reports: &mut R,
+) -> Result<(), Closing>
+    requires room { 1048580 ≤ vec_capacity held.old }
+    requires nothing { held.old.items ≡ [] }
+    ensures room { 1048580 ≤ vec_capacity held.new }
+    ensures puts { (added : Added)
+        × Puts (D.decides policy.now) totals.old piece.now held.new.items totals.new result added
+        × BothAppend (O.taken out.old, O.taken out.new) (R.taken reports.old, R.taken reports.new) added }
+    ensures failed { IsErrOf result WriteFailed → (O.has_failed out.new ≡ true) ⊎ (R.has_failed reports.new ≡ true) }
+{
+    let Ok(whole) = put_frames(alloc, policy, piece, *totals, out, reports) else {
+        return Err(Closing::WriteFailed);
+    };
+    *totals = whole.totals;
     match whole.rest {
-        Rest::TooLong => {
-            link.closed = true;
-            Err(LinkFault::FrameTooLong)
-        }
+        Rest::TooLong => Err(Closing::FrameTooLong),
         Rest::Unfinished => {
-            hold(link, &piece[whole.end..]);
+            hold(held, &piece[whole.end..]);
             Ok(())
         }
     }
 }
 
 /// Holds the octets of an unfinished frame.
-fn hold(link: &mut Link, rest: &[u8])
-    requires nothing { link.old.held.items ≡ [] }
-    requires open { link.old.closed ≡ false }
+fn hold(held: &mut Vec<u8>, rest: &[u8])
+    requires room { 1048580 ≤ vec_capacity held.old }
+    requires nothing { held.old.items ≡ [] }
     requires unfinished { IsUnfinished rest.now }
-    ensures held { link.new.held.items ≡ rest.now }
-    ensures totals { link.new.totals ≡ link.old.totals }
-    ensures closed { link.new.closed ≡ link.old.closed }
+    ensures held { held.new.items ≡ rest.now }
+    ensures room { 1048580 ≤ vec_capacity held.new }
 {
-    match link.held.extend_from_slice(rest) {
+    match held.extend_from_slice(rest) {
         Ok(()) => {}
         Err(_) => unreachable!(),
     }

@@ -13,6 +13,7 @@ use crate::link::LinkFault;
 use crate::seats::{Ends, Seat, end_at, feed_at, new_links, seated};
 use guard_policy::Policy;
 use std::alloc::Global;
+use std::fmt;
 use thiserror::Error;
 
 /// Why an event was refused, or ended a link.
@@ -43,10 +44,17 @@ pub struct Gateway<S> {
 }
 
 /// What was given for a gateway, where there was no memory for it.
-#[derive(Drop)]
+#[derive(Drop, Error)]
+#[error("OutOfMemory")]
 pub struct NoRoom<S> {
     pub policy: Policy,
     pub ends: Vec<Ends<S>>,
+}
+
+impl<S> fmt::Debug for NoRoom<S> {
+    fn fmt<W: fmt::Write>(&self, f: &mut fmt::Formatter<W>) -> fmt::Result {
+        f.write_str("NoRoom")
+    }
 }
 
 impl<S: Drop> Gateway<S> {

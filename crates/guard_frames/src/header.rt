@@ -1,7 +1,7 @@
 //! Reads the header of a frame.
 
-ghost use Rattle.std.specs.Prelude.{◌≡◌, ◌≤◌, ◌++◌, length, option_map, IfSome};
-ghost use Rattle.guard_frames.specs.Bodies.{body_view, name_first, body_in};
+ghost use Rattle.std.specs.Prelude.{◌≡◌, option_map};
+ghost use Rattle.guard_frames.specs.Bodies.{body_view, part_first, parts_in, has_names, body_in};
 
 use crate::body::Body;
 use guard_policy::is_name;
@@ -11,9 +11,18 @@ use guard_policy::is_name;
 pub fn read_body(octets: &[u8]) -> Option<Body>
     ensures { option_map body_view result ≡ body_in octets.now }
 {
-    let (sender, rest) = first_name(octets)?;
-    let (receiver, rest) = first_name(rest)?;
-    let (name, message) = first_name(rest)?;
+    let body = cut_body(octets)?;
+    if has_names(&body) { Some(body) } else { None }
+}
+
+/// What is in the places of three names, and what follows it, whether or not they are names.
+#[tactic(auto, unfolding(crate::specs::Bodies::parts_in))]
+pub fn cut_body(octets: &[u8]) -> Option<Body>
+    ensures { option_map body_view result ≡ parts_in octets.now }
+{
+    let (sender, rest) = first_part(octets)?;
+    let (receiver, rest) = first_part(rest)?;
+    let (name, message) = first_part(rest)?;
     Some(Body {
         sender,
         receiver,
@@ -22,17 +31,17 @@ pub fn read_body(octets: &[u8]) -> Option<Body>
     })
 }
 
-/// The octets of three names with their lengths, and what follows them, whether or not they are names.
-pub fn cut_names(octets: &[u8]) -> Option<(&[u8], &[u8])>
-    ensures { IfSome result (λ parts. octets.now ≡ parts.0.now ++ parts.1.now) }
+/// Whether what is in the place of each name is one.
+pub fn has_names(body: &Body) -> bool
+    ensures { result ≡ has_names (body_view body.now) }
 {
-    let rest = after_first(after_first(after_first(octets)?)?)?;
-    Some(octets.split_at(octets.len() - rest.len()))
+    is_name(body.sender) && is_name(body.receiver) && is_name(body.name)
 }
 
-/// What follows so many octets as the first one says.
-fn after_first(octets: &[u8]) -> Option<&[u8]>
-    ensures { IfSome result (λ rest. length rest.now ≤ length octets.now) }
+/// As many octets as the first one says, and what follows them.
+#[tactic(auto, unfolding(crate::specs::Bodies::part_first))]
+fn first_part(octets: &[u8]) -> Option<(&[u8], &[u8])>
+    ensures { option_map (λ found. (found.0.now, found.1.now)) result ≡ part_first octets.now }
 {
     let [length, rest @ ..] = octets else {
         return None;
@@ -41,25 +50,5 @@ fn after_first(octets: &[u8]) -> Option<&[u8]>
     if rest.len() < length {
         return None;
     }
-    Some(&rest[length..])
-}
-
-/// The name after its length at the front, and what follows it.
-#[tactic(auto, unfolding(crate::specs::Bodies::name_first))]
-fn first_name(octets: &[u8]) -> Option<(&[u8], &[u8])>
-    ensures { option_map (λ found. (found.0.now, found.1.now)) result ≡ name_first octets.now }
-{
-    let [length, rest @ ..] = octets else {
-        return None;
-    };
-    let length = usize::from(*length);
-    if rest.len() < length {
-        return None;
-    }
-    let (name, others) = rest.split_at(length);
-    if is_name(name) {
-        Some((name, others))
-    } else {
-        None
-    }
+    Some(rest.split_at(length))
 }

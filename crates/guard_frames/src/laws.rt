@@ -8,7 +8,7 @@ ghost use Rattle.guard_frames.specs.Guarding.{Adds};
 ghost use Rattle.guard_frames.specs.LinkView.{new_link};
 ghost use Rattle.guard_frames.specs.Gateways.{AbstractGateway};
 ghost use Rattle.guard_frames.specs.GatewaySteps.{Turn, AreSteps};
-ghost use Rattle.guard_frames.specs.OwnPieces.{OwnPiece, own_stream, pieces_of, events_of, added_to, is_broken};
+ghost use Rattle.guard_frames.specs.OwnPieces.{OwnPiece, own_stream, pieces_of, added_to, is_broken};
 ghost use Rattle.guard_frames.specs.InForce.{Ruled, frames_ruled, policies_of, AreInForce};
 ghost use Rattle.guard_frames.specs.OwnStream.{Gives};
 
@@ -41,12 +41,12 @@ pub fn law_one_header()
 {}
 
 /// Whatever else happens in a gateway, what its steps add to the sinks of a new link is what that link's own stream
-/// gives: each frame decided, numbered and reported by the policy in force as its last octet came, up to a failure of a
-/// sink of the link.
+/// gives, which is its pieces up to its first end or up to and with the one that was answered with a fault: each frame
+/// decided, numbered and reported by the policy in force as its last octet came, up to a failure of a sink of the link.
 pub fn law_own_stream()
     ensures { (k : ℕ) (turns : List Turn) (before after : AbstractGateway) →
         slice_get before.links k ≡ Some new_link → AreSteps before turns after →
-        Gives (pieces_of k before.policy (events_of turns)) (added_to k turns) (is_broken k turns) }
+        Gives (pieces_of k before.policy turns) (added_to k turns) (is_broken k turns) }
 {}
 
 /// A stream in pieces has one reading as frames and a rest, and each of the frames is under one policy.

@@ -17,8 +17,9 @@
 //! | How is a list in memory a sink? | `kept.rt` (`Kept`) | `specs/KeptView.antt` |
 //! | What does a link hold? | `link.rt` (`Link`) | `specs/LinkView.antt` |
 //! | How does the next piece complete it? | `filling.rt` | `specs/Frames.antt` (`IsUnfinished`) |
-//! | What does a piece do to a link? | `feeding.rt` (`Link::feed`) | `specs/Feeding.antt`, `specs/Added.antt` |
+//! | What does a piece do to a link? | `feeding.rt` (`Link::feed`) | `specs/Feeding.antt`, `inside/Closing.antt` |
 //! | What does the end do to it? | `link.rt` (`Link::end`) | `specs/LinkView.antt` (`IsShut`) |
+//! | How does a link's fault print? | `link.rt` (`LinkFault::text`) | `specs/FaultTexts.antt` |
 //! | What does a whole run read and add? | `running.rt` (`decide_stream`) | `specs/Runs.antt`, `specs/Added.antt` |
 //! | How does a policy decide? | `policies.rt` | `specs/OfPolicy.antt` |
 //! | What comes of a stream under it? | `guarding.rt` (`run`) | `specs/Runs.antt` |
@@ -26,7 +27,6 @@
 //! | What happens to them? | `gateway.rt` (`Event`), `seats.rt` | `specs/GatewaySteps.antt`, `specs/LinkSteps.antt` |
 //! | What does one of many links give in the end? | `laws.rt` | `specs/OwnStream.antt`, `specs/OwnPieces.antt` |
 //! | Which policy decides each of its frames? | `laws.rt` | `specs/InForce.antt` |
-//! | Over which modules is a policy loaded? | `modules.rt` (`Modules`) | `specs/ModulesView.antt` |
 //! | What do texts say? | `texts.rt` (`load_texts`) | `specs/Texts.antt` |
 //! | What comes of a stream under what they say? | `texts.rt` (`run_texts`) | `specs/RunsTexts.antt` |
 //! | Does it matter how a stream was cut? Has each stream one reading? | `laws.rt` | `specs/Frames.antt` |
@@ -45,7 +45,6 @@ mod header;
 mod kept;
 pub mod laws;
 mod link;
-mod modules;
 mod policies;
 mod putting;
 mod report;
@@ -57,12 +56,11 @@ mod totals;
 
 pub use body::Body;
 pub use decision::Decide;
-pub use devices::{Failed, Sink, Source, put_all};
+pub use devices::{Failed, Sink, Source, put_all, put_both};
 pub use gateway::{Event, Gateway, NoRoom, StepFault};
 pub use guarding::run;
 pub use kept::Kept;
 pub use link::{Link, LinkFault};
-pub use modules::Modules;
 pub use running::{RunFault, decide_stream};
 pub use seats::Ends;
 pub use texts::{TextsFault, load_texts, run_texts};

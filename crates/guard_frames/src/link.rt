@@ -12,15 +12,51 @@ use thiserror::Error;
 
 /// Why a link takes no more.
 #[derive(Clone, Copy, Debug, PartialEq, Eq, Error)]
+#[error("{}", self.text())]
 pub enum LinkFault {
-    #[error("F1 FrameTooLong")]
     FrameTooLong,
-    #[error("F2 WriteFailed")]
     WriteFailed,
-    #[error("F3 Closed")]
     Closed,
-    #[error("F4 TornFrame")]
     TornFrame,
+}
+
+impl LinkFault {
+    ghost use Rattle.std.specs.Prelude.{◌≡◌};
+    ghost use Rattle.guard_frames.specs.FaultTexts.{fault_text};
+
+    /// Its number and its name, as it prints.
+    pub fn text(&self) -> &'static str
+        ensures { result.now ≡ fault_text self.now }
+    {
+        match self {
+            LinkFault::FrameTooLong => "F1 FrameTooLong",
+            LinkFault::WriteFailed => "F2 WriteFailed",
+            LinkFault::Closed => "F3 Closed",
+            LinkFault::TornFrame => "F4 TornFrame",
+        }
+    }
+}
+
+/// What closes an open link.
+#[derive(Clone, Copy, Debug, PartialEq, Eq)]
+pub(crate) enum Closing {
+    FrameTooLong,
+    WriteFailed,
+    TornFrame,
+}
+
+impl From<Closing> for LinkFault {
+    ghost use Rattle.guard_frames.specs.inside.Closing.{link_fault};
+
+    ghost from_gives = { λ c f. f ≡ link_fault c };
+
+    fn from(closing: Closing) -> LinkFault {
+        match closing {
+            Closing::FrameTooLong => LinkFault::FrameTooLong,
+            Closing::WriteFailed => LinkFault::WriteFailed,
+            Closing::TornFrame => LinkFault::TornFrame,
+        }
+    }
 }
 
 /// Cuts one stream into frames. It holds the octets of the frame that has begun and isn't whole yet, and nothing once
@@ -36,9 +72,10 @@ pub struct Link {
 }
 
 impl Link {
-    ghost use Rattle.std.specs.Prelude.{◌≡◌, ◌<◌, [], true, false, length, IfOk, Ok, Err};
+    ghost use Rattle.std.specs.Prelude.{◌≡◌, ◌<◌, [], true, false, length, IfOk, IfErr, OnOk, Ok, Err};
     ghost use Rattle.guard_frames.specs.LinkView.{link_view, new_link, IsShut};
     ghost use Rattle.guard_frames.specs.declared.link.LinkFault.TheVariants.{Closed, TornFrame};
+    ghost use Rattle.guard_frames.specs.declared.link.Closing.TheVariants as closing;
 
     /// An open link that holds nothing; its frames are numbered from 1.
     pub fn new(alloc: Global) -> Result<Link, OutOfMemory>
@@ -64,13 +101,33 @@ impl Link {
         if self.closed {
             return Err(LinkFault::Closed);
         }
+        Ok(self.finish()?)
+    }
+
+    /// The end of the stream of an open link.
+    pub(crate) fn finish(&mut self) -> Result<(), Closing>
+        requires { self.old.closed ≡ false }
+        ensures torn { IfErr result (λ c. (c ≡ closing.TornFrame) × (0 < length self.old.held.items)) }
+        ensures whole { OnOk result (self.old.held.items ≡ []) }
+        ensures closes { IsShut (link_view self.new) }
+        ensures totals { self.new.totals ≡ self.old.totals }
+    {
         let is_torn = !self.held.is_empty();
-        self.held.clear();
-        self.closed = true;
+        close(&mut self.held, &mut self.closed);
         if is_torn {
-            Err(LinkFault::TornFrame)
+            Err(Closing::TornFrame)
         } else {
             Ok(())
         }
     }
+}
+
+/// What a link that takes no more holds, and is.
+pub(crate) fn close(held: &mut Vec<u8>, closed: &mut bool)
+    ensures empty { held.new.items ≡ [] }
+    ensures room { vec_capacity held.new ≡ vec_capacity held.old }
+    ensures closed { closed.new ≡ true }
+{
+    held.clear();
+    *closed = true;
 }

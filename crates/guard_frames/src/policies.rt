@@ -7,7 +7,7 @@ ghost use Rattle.guard_frames.specs.OfPolicy.{route_of, decision_of};
 
 use crate::body::Body;
 use crate::decision::Decide;
-use crate::header::cut_names;
+use crate::header::{cut_body, has_names};
 use guard_model::OutOfMemory;
 use guard_policy::{Policy, Route};
 use guard_report::line;
@@ -16,15 +16,16 @@ use std::alloc::Global;
 impl Decide for Policy {
     ghost decides = { λ policy. decision_of (policy_view policy) };
 
-    fn goes_at_once(&self, body: &[u8]) -> bool {
-        match cut_names(body) {
-            Some((names, message)) => self.passes_as_given(names, message),
+    fn goes(&self, octets: &[u8]) -> bool {
+        let Some(body) = cut_body(octets) else {
+            return false;
+        };
+        let names = &octets[..octets.len() - body.message.len()];
+        match self.passes_as_given(names, body.message) {
+            Some(goes) => goes,
+            None if has_names(&body) => self.passes(&route_of(&body), body.message),
             None => false,
         }
-    }
-
-    fn goes(&self, body: &Body) -> bool {
-        self.passes(&route_of(body), body.message)
     }
 
     fn line(&self, alloc: Global, number: u64, body: &Body) -> Result<Vec<u8>, OutOfMemory> {

@@ -9,7 +9,7 @@ ghost use Rattle.guard_frames.specs.Bodies.{body_view, HasNames};
 use crate::body::Body;
 use crate::cut::Frame;
 use crate::decision::Decide;
-use crate::devices::{Failed, Sink, put_all};
+use crate::devices::{Failed, Sink, put_all, put_both};
 use crate::header::read_body;
 use itoa::Buffer;
 use std::alloc::Global;
@@ -39,11 +39,10 @@ pub(crate) fn judge<D: Decide>(alloc: Global, policy: &D, number: u64, frame: &F
     requires { frame.now.body.now ≡ drop 4 frame.now.octets.now }
     ensures { IsJudged (D.decides policy.now) number frame.now.octets.now result }
 {
-    if policy.goes_at_once(frame.body) {
+    if policy.goes(frame.body) {
         return Ruling::Goes;
     }
     match read_body(frame.body) {
-        Some(body) if policy.goes(&body) => Ruling::Goes,
         Some(body) => Ruling::Stays(report_of(alloc, policy, number, &body)),
         None => Ruling::Stays(Report::BadHeader),
     }
@@ -84,16 +83,4 @@ fn put_numbered<S: Sink>(sink: &mut S, number: u64, octets: &[u8]) -> Result<(),
 {
     let mut buffer = Buffer::new();
     put_both(sink, buffer.format(number).as_bytes(), octets)
-}
-
-/// Puts the first octets and then the second.
-fn put_both<S: Sink>(sink: &mut S, first: &[u8], second: &[u8]) -> Result<(), Failed>
-    ensures all { OnOk result (Appends (S.taken sink.old) (S.taken sink.new) (first.now ++ second.now)) }
-    ensures part { OnErr result ((part : List ℕ) × IsProperPrefix part (first.now ++ second.now)
-        × Appends (S.taken sink.old) (S.taken sink.new) part) }
-    ensures failed { OnErr result (S.has_failed sink.new ≡ true) }
-{
-    put_all(sink, first)?;
-    put_all(sink, second)?;
-    Ok(())
 }

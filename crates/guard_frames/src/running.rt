@@ -5,11 +5,12 @@ ghost use Rattle.std.specs.Io.KnownBytes.{Consumes, IsAtEnd};
 ghost use Rattle.guard_frames.specs.Added.{Moves};
 ghost use Rattle.guard_frames.specs.Totals.{WentUpBy};
 ghost use Rattle.guard_frames.specs.Runs.{Runs, ReadToLimit};
+ghost use Rattle.guard_frames.specs.inside.Closing.{run_fault};
 ghost use Rattle.guard_frames.specs.declared.running.RunFault.TheVariants.{WriteFailed, ReadFailed, OutOfMemory as NoMemory};
 
 use crate::decision::Decide;
 use crate::devices::{Failed, Sink, Source};
-use crate::link::{Link, LinkFault};
+use crate::link::{Closing, Link, LinkFault};
 use crate::totals::Totals;
 use guard_model::OutOfMemory;
 use std::alloc::Global;
@@ -18,16 +19,28 @@ use thiserror::Error;
 /// Why a run ended before its stream's end.
 #[derive(Clone, Copy, Debug, PartialEq, Eq, Error)]
 pub enum RunFault {
-    #[error("F1 FrameTooLong")]
+    #[error("{}", LinkFault::FrameTooLong.text())]
     FrameTooLong,
-    #[error("F2 WriteFailed")]
+    #[error("{}", LinkFault::WriteFailed.text())]
     WriteFailed,
-    #[error("F4 TornFrame")]
+    #[error("{}", LinkFault::TornFrame.text())]
     TornFrame,
     #[error("F5 ReadFailed")]
     ReadFailed,
     #[error("OutOfMemory")]
     OutOfMemory,
+}
+
+impl From<Closing> for RunFault {
+    ghost from_gives = { λ c f. f ≡ run_fault c };
+
+    fn from(closing: Closing) -> RunFault {
+        match closing {
+            Closing::FrameTooLong => RunFault::FrameTooLong,
+            Closing::WriteFailed => RunFault::WriteFailed,
+            Closing::TornFrame => RunFault::TornFrame,
+        }
+    }
 }
 
 /// Room for a piece. (A caller that sees 65,536 zeros as a list runs the checker out of memory.)
@@ -87,18 +100,10 @@ pub fn decide_stream<S: Source, D: Decide, O: Sink, R: Sink>(
             return Err(RunFault::ReadFailed);
         };
         if count == 0 {
-            if link.held.is_empty() {
-                return Ok(link.totals);
-            }
-            return Err(RunFault::TornFrame);
+            link.finish()?;
+            return Ok(link.totals);
         }
-        match link.feed(alloc, policy, &buffer[..count], out, reports) {
-            Ok(()) => {}
-            Err(LinkFault::FrameTooLong) => return Err(RunFault::FrameTooLong),
-            Err(LinkFault::WriteFailed) => return Err(RunFault::WriteFailed),
-            Err(LinkFault::Closed) => unreachable!(),
-            Err(LinkFault::TornFrame) => unreachable!(),
-        }
+        link.take(alloc, policy, &buffer[..count], out, reports)?;
     }
     Err(RunFault::ReadFailed)
 }

@@ -14,11 +14,10 @@ ghost use Rattle.guard_frames.specs.declared.texts.TextsFault.TheVariants.{Run};
 
 use crate::devices::{Sink, Source};
 use crate::guarding::run;
-use crate::modules::Modules;
 use crate::running::RunFault;
 use crate::totals::Totals;
 use guard_policy::{Policy, PolicyFault};
-use guard_schema::SchemaFault;
+use guard_schema::{Schema, SchemaFault};
 use std::alloc::Global;
 use thiserror::Error;
 
@@ -85,8 +84,8 @@ pub fn load_texts(alloc: Global, modules: &[&[u8]], text: &[u8]) -> Result<Polic
     // A refusal says why they say none.
     ensures refused { IfErr result (SayNone (map (λ t. t.now) modules.now) text.now) }
 {
-    let types = Modules::build(alloc, modules)?;
-    Ok(Policy::load(alloc, text, &types)?)
+    let schema = Schema::build(alloc, modules)?;
+    Ok(Policy::load(alloc, text, &schema)?)
 }
 
 /// Guards one stream under the policy that a text says over the modules of other texts, as `run` does. Nothing is read

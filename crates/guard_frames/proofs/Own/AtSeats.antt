@@ -7,6 +7,8 @@ use Rattle.guard_frames.specs.Outcomes.{Decision}
 use Rattle.guard_frames.specs.Feeding.{Takes}
 use Rattle.guard_frames.specs.Added.{Added, nothing, BothAppend}
 use Rattle.guard_frames.specs.declared.link.LinkFault.{LinkFault}
+use Rattle.guard_frames.specs.declared.seats.Ends.{Ends}
+use Rattle.guard_frames.specs.declared.totals.Totals.{Totals}
 use Rattle.guard_frames.specs.declared.link.LinkFault.TheVariants.{Closed, TornFrame}
 use Rattle.guard_frames.proofs.Appending.{Appends_none}
 use Rattle.guard_frames.proofs.Own.Chains.{which}
@@ -29,6 +31,24 @@ fed_of d l octets told l₁ o o₁ r r₁ opened shut = elim (which l.closed) [
       let t = opened is in
       (t.0, inr (is, t.1), t.2)
 ]
+
+-- an open link doesn't answer that it is closed
+not_open : (d : Decision) (n : Totals) (s : List ℕ) (told : Result (Unit {0}) LinkFault) (l₁ : AbstractLink) (added : Added) →
+    Takes d n s l₁ told added → told ≡ Err Closed → ⊥
+not_open d n s told l₁ added h e = subst (λ (r : Result (Unit {0}) LinkFault). Takes d n s l₁ r added) e h
+
+-- what holds of a closed link holds where it answers so
+pub told_shut : {A : Type 0} (d : Decision) (l : AbstractLink) (octets : List ℕ) (told : Result (Unit {0}) LinkFault) (l₁ : AbstractLink) (Took : Added → Type 0) →
+    (l.closed ≡ false → (added : Added) × Takes d l.totals (l.held ++ octets) l₁ told added × Took added) →
+    (l.closed ≡ true → A) → told ≡ Err Closed → A
+told_shut d l octets told l₁ Took opened shut e = elim (which l.closed) [
+  | inl is ↦ shut is
+  | inr is ↦ let t = opened is in absurd (not_open d l.totals (l.held ++ octets) told l₁ t.0 t.1 e)
+]
+
+-- two sinks that stay are the same pair
+pub same_ends : {S : Type 0} (a b c d : S) → a ≡ c → b ≡ d → ◌≡◌ {A = Ends S} (record { out = a; reports = b }) (record { out = c; reports = d })
+same_ends a b c d e e₁ = rw (e, e₁) refl
 
 pub ended_of : (l : AbstractLink) (told : Result (Unit {0}) LinkFault) (l₁ : AbstractLink) →
     (l.closed ≡ false → 0 < length l.held → told ≡ Err TornFrame) → (l.closed ≡ false → l.held ≡ [] → told ≡ Ok tt) →

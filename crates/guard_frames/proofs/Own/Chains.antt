@@ -17,7 +17,7 @@ use Rattle.guard_frames.specs.LinkSteps.{Fed, Ended, Refuses}
 use Rattle.guard_frames.specs.Gateways.{AbstractGateway, AbstractEvent, step_answer}
 use Rattle.guard_frames.specs.Gateways.AbstractEvent.{piece, end, reload}
 use Rattle.guard_frames.specs.GatewaySteps.{Step, Turn, AreSteps}
-use Rattle.guard_frames.specs.OwnPieces.{OwnPiece, pieces_of, events_of, is_own, added_to, is_failure, is_broken}
+use Rattle.guard_frames.specs.OwnPieces.{OwnPiece, pieces_of, is_fault, is_own, added_to, is_failure, is_broken}
 use Rattle.guard_frames.specs.OwnStream.{Gives}
 use Rattle.guard_frames.proofs.Own.From.{From, none_from, from_new}
 use Rattle.guard_frames.proofs.Own.Joining.{from_more, too_long_from, part_from}
@@ -135,41 +135,39 @@ closed_adds_nothing k (t ∷ ts) g after l there shut (next, step, steps) =
 -- what steps add to link k, wherever it is
 abbrev Rests : ℕ → List Turn → Type 0
 Rests k ts = (g after : AbstractGateway) (l : AbstractLink) (place : ℕ) → slice_get g.links k ≡ Some l → l.closed ≡ false → IsUnfinished l.held → AreSteps g ts after →
-    From (next_number l.totals) place l.held (pieces_of k g.policy (events_of ts)) (added_to k ts) (is_broken k ts)
+    From (next_number l.totals) place l.held (pieces_of k g.policy ts) (added_to k ts) (is_broken k ts)
 
 from_is : (n place : ℕ) (held : List ℕ) (xs : List OwnPiece) (v w : Added) (b c : Bool) → v ≡ w → b ≡ c → From n place held xs v b → From n place held xs w c
 from_is n place held xs v w b c e e₁ h = subst (λ (x : Added). From n place held xs x c) e (subst (λ (x : Bool). From n place held xs v x) e₁ h)
 
 rests_under : (k : ℕ) (ts : List Turn) → Rests k ts → (g next after : AbstractGateway) (l : AbstractLink) (place : ℕ) → next.policy ≡ g.policy →
     slice_get next.links k ≡ Some l → l.closed ≡ false → IsUnfinished l.held → AreSteps next ts after →
-    From (next_number l.totals) place l.held (pieces_of k g.policy (events_of ts)) (added_to k ts) (is_broken k ts)
+    From (next_number l.totals) place l.held (pieces_of k g.policy ts) (added_to k ts) (is_broken k ts)
 rests_under k ts rests g next after l place e there opened unfinished steps =
-    subst (λ (p : AbstractPolicy). From (next_number l.totals) place l.held (pieces_of k p (events_of ts)) (added_to k ts) (is_broken k ts)) e
+    subst (λ (p : AbstractPolicy). From (next_number l.totals) place l.held (pieces_of k p ts) (added_to k ts) (is_broken k ts)) e
     (rests next after l place there opened unfinished steps)
 
 -- a piece of link k
 at_piece : (k : ℕ) (octets : List ℕ) (ts : List Turn) → Rests k ts → (g next after : AbstractGateway) (l l₁ : AbstractLink) (told : Result (Unit {0}) LinkFault) (w : Added) (place : ℕ) →
     IsUnfinished l.held → next.policy ≡ g.policy → slice_get next.links k ≡ Some l₁ → AreSteps next ts after →
     Takes (decision_of g.policy) l.totals (l.held ++ octets) l₁ told w →
-    From (next_number l.totals) place l.held (record { policy = g.policy; octets = octets } ∷ pieces_of k g.policy (events_of ts)) (joined w (added_to k ts))
+    From (next_number l.totals) place l.held (record { policy = g.policy; octets = octets } ∷ cond (is_fault (step_answer told)) [] (pieces_of k g.policy ts)) (joined w (added_to k ts))
     (cond (is_failure (step_answer told)) true (is_broken k ts))
 at_piece k octets ts rests g next after l l₁ (Ok done) w place unfinished same there steps h =
-    from_more l.totals l₁.totals place l.held octets l₁.held g.policy (pieces_of k g.policy (events_of ts)) w (added_to k ts) (is_broken k ts) unfinished h.0
+    from_more l.totals l₁.totals place l.held octets l₁.held g.policy (pieces_of k g.policy ts) w (added_to k ts) (is_broken k ts) unfinished h.0
     (rests_under k ts rests g next after l₁ (place + length (concat (frames_of h.0.outcomes))) same there h.2 h.1 steps)
 at_piece k octets ts rests g next after l l₁ (Err FrameTooLong) w place unfinished same there steps h =
     let x : OwnPiece = record { policy = g.policy; octets = octets } in
-    let xs : List OwnPiece = pieces_of k g.policy (events_of ts) in
     let silent = closed_adds_nothing k ts next after l₁ there h.1.closed steps in
-    from_is (next_number l.totals) place l.held (x ∷ xs) (joined w nothing) (joined w (added_to k ts)) false (is_broken k ts)
+    from_is (next_number l.totals) place l.held (x ∷ []) (joined w nothing) (joined w (added_to k ts)) false (is_broken k ts)
     (ap (joined w) (sym silent.adds)) (sym silent.sound)
-    (too_long_from l.totals l₁.totals place l.held octets g.policy xs w unfinished h.0)
+    (too_long_from l.totals l₁.totals place l.held octets g.policy [] w unfinished h.0)
 at_piece k octets ts rests g next after l l₁ (Err WriteFailed) w place unfinished same there steps h =
     let x : OwnPiece = record { policy = g.policy; octets = octets } in
-    let xs : List OwnPiece = pieces_of k g.policy (events_of ts) in
     let silent = closed_adds_nothing k ts next after l₁ there h.1.closed steps in
-    from_is (next_number l.totals) place l.held (x ∷ xs) (joined w nothing) (joined w (added_to k ts)) true true
+    from_is (next_number l.totals) place l.held (x ∷ []) (joined w nothing) (joined w (added_to k ts)) true true
     (ap (joined w) (sym silent.adds)) refl
-    (part_from (next_number l.totals) place l.held octets g.policy xs w (omega arith) unfinished h.0)
+    (part_from (next_number l.totals) place l.held octets g.policy [] w (omega arith) unfinished h.0)
 at_piece k octets ts rests g next after l l₁ (Err Closed) w place unfinished same there steps h = absurd h
 at_piece k octets ts rests g next after l l₁ (Err TornFrame) w place unfinished same there steps h = absurd h
 
@@ -194,7 +192,7 @@ at_end k ts next after l₁ n place held w b unfinished there shut steps none so
 -- what one step and those after it add to link k
 abbrev Onward : ℕ → AbstractEvent → Result (Unit {0}) StepFault → Added → List Turn → AbstractGateway → AbstractLink → ℕ → Type 0
 Onward k e answer w ts g l place =
-    From (next_number l.totals) place l.held (pieces_of k g.policy (e ∷ events_of ts)) (cond (is_own k e) (joined w (added_to k ts)) (added_to k ts))
+    From (next_number l.totals) place l.held (pieces_of k g.policy (record { event = e; answer = answer; added = w } ∷ ts)) (cond (is_own k e) (joined w (added_to k ts)) (added_to k ts))
     (cond (is_own k e) (cond (is_failure answer) true (is_broken k ts)) (is_broken k ts))
 
 step_more : (k : ℕ) (e : AbstractEvent) (answer : Result (Unit {0}) StepFault) (w : Added) (ts : List Turn) → Rests k ts →
@@ -243,7 +241,7 @@ step_more k (end i) answer w ts rests g next after l place there opened unfinish
 step_more k (reload p) answer w ts rests g next after l place there opened unfinished step steps =
     let policy : next.policy ≡ p = ap (λ (x : AbstractGateway). x.policy) step.same in
     let there₁ : slice_get next.links k ≡ Some l = ap (λ (x : AbstractGateway). slice_get x.links k) step.same ∙ there in
-    subst (λ (q : AbstractPolicy). From (next_number l.totals) place l.held (pieces_of k q (events_of ts)) (added_to k ts) (is_broken k ts)) policy
+    subst (λ (q : AbstractPolicy). From (next_number l.totals) place l.held (pieces_of k q ts) (added_to k ts) (is_broken k ts)) policy
     (rests next after l place there₁ opened unfinished steps)
 
 rests : (k : ℕ) (ts : List Turn) → Rests k ts
@@ -253,9 +251,9 @@ rests k (t ∷ ts) g after l place there opened unfinished (next, step, steps) =
     step_more k t.event t.answer t.added ts (rests k ts) g next after l place there opened unfinished step steps
 
 pub own_stream_gives : (k : ℕ) (turns : List Turn) (before after : AbstractGateway) → slice_get before.links k ≡ Some new_link → AreSteps before turns after →
-    Gives (pieces_of k before.policy (events_of turns)) (added_to k turns) (is_broken k turns)
+    Gives (pieces_of k before.policy turns) (added_to k turns) (is_broken k turns)
 own_stream_gives k turns before after there steps =
     let empty : IsUnfinished [] = record { allowed = λ h. absurd (omega (arith, h)); short = λ h. absurd (omega (arith, h)) } in
     let first : next_number new_link.totals ≡ 1 = refl in
-    from_new (pieces_of k before.policy (events_of turns)) (added_to k turns) (is_broken k turns)
+    from_new (pieces_of k before.policy turns) (added_to k turns) (is_broken k turns)
     (rests k turns before after new_link 0 there refl empty steps)

@@ -53,6 +53,13 @@ told_failed (Err WriteFailed) e = refl
 told_failed (Err Closed) e = absurd cc
 told_failed (Err TornFrame) e = absurd cc
 
+told_closed : (told : Result (Unit {0}) LinkFault) → step_answer told ≡ Err (Link Closed) → told ≡ Err Closed
+told_closed (Ok done) e = absurd cc
+told_closed (Err FrameTooLong) e = absurd cc
+told_closed (Err WriteFailed) e = absurd cc
+told_closed (Err Closed) e = refl
+told_closed (Err TornFrame) e = absurd cc
+
 pub piece_steps : {S : Type 0} (taken : S → Option (List ℕ)) (has_failed : S → Bool) (p : AbstractPolicy) (old new : List (Seat S)) (i : ℕ) (octets : List ℕ) (answer : Result (Unit {0}) StepFault) →
     IsFedAt (decision_of p) taken has_failed old i octets answer new → StepsSeats taken has_failed p old (piece i octets) answer p new
 piece_steps {S} taken has_failed p old new i octets answer (inl h) = (
@@ -83,6 +90,7 @@ piece_steps {S} taken has_failed p old new i octets answer (inr h) = (
     there = mapped_some (λ (x : Seat S). x.ends) old i h.old_seat h.there;
     took = h.does.took;
     failed = λ e. h.does.failed (told_failed h.link_answer (sym h.answered ∙ e));
+    shut = λ e. h.does.shut (told_closed h.link_answer (sym h.answered ∙ e));
     others = ap (λ (x : List (Seat S)). ends_of x) h.others ∙ map_set (λ (x : Seat S). x.ends) old i h.new_seat;
   }),
 )

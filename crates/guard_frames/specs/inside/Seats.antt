@@ -6,18 +6,19 @@ use Rattle.guard_frames.specs.Outcomes.{Decision}
 use Rattle.guard_frames.specs.Added.{Added, BothAppend}
 use Rattle.guard_frames.specs.Gateways.{step_answer}
 use Rattle.guard_frames.specs.declared.link.LinkFault.{LinkFault}
-use Rattle.guard_frames.specs.declared.link.LinkFault.TheVariants.{WriteFailed}
+use Rattle.guard_frames.specs.declared.link.LinkFault.TheVariants.{WriteFailed, Closed}
 use Rattle.guard_frames.specs.declared.gateway.StepFault.{StepFault}
 use Rattle.guard_frames.specs.declared.gateway.StepFault.TheVariants.{NoSuchLink}
 use Rattle.guard_frames.specs.declared.seats.Seat.{Seat}
 
--- A piece did this to a link, and its sinks took what it added.
+-- A piece did this to a link, and its sinks took what it added. Those of a closed one are as they were.
 pub record IsFed {S : Type 0} (d : Decision) (taken : S → Option (List ℕ)) (has_failed : S → Bool) (old : Seat S)
     (octets : List ℕ) (answer : Result (Unit {0}) LinkFault) (new : Seat S) : Type 0 where
   pub added : Added
   pub does : Fed d (link_view old.link) octets answer (link_view new.link) added
   pub took : BothAppend (taken old.ends.out, taken new.ends.out) (taken old.ends.reports, taken new.ends.reports) added
   pub failed : answer ≡ Err WriteFailed → (has_failed new.ends.out ≡ true) ⊎ (has_failed new.ends.reports ≡ true)
+  pub shut : answer ≡ Err Closed → new.ends ≡ old.ends
 
 -- There is no seat of this number.
 pub record IsNoSeat {S : Type 0} (old : List (Seat S)) (at : ℕ) (answer : Result (Unit {0}) StepFault)

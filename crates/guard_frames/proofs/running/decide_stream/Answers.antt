@@ -1,17 +1,17 @@
-use Rattle.std.proofs.Common.{◌≡◌, ◌+◌, ◌<◌, ◌≤◌, ◌^◌, ℕ, [], ◌++◌, ◌∙◌, ap, inr, refl, subst, take, length, length-take, rules, arith}
-use Rattle.std.specs.Prelude.{Err}
-use Rattle.guard_frames.specs.declared.link.LinkFault.TheVariants.{FrameTooLong, WriteFailed}
+use Rattle.std.proofs.Common.{◌≡◌, ◌<◌, ◌≤◌, ◌^◌, ℕ, [], ◌++◌, ◌∙◌, ap, inr, refl, subst, take, length, length-take, arith}
+use Rattle.std.specs.Prelude.{Ok, Err}
+use Rattle.std.proofs.lemmas.Result.{err_from_is_err_and}
 use Rattle.guard_frames.specs.Totals.{no_frames, WentUpBy}
 use Rattle.guard_frames.specs.Outcomes.{frames_of}
 use Rattle.guard_frames.specs.Added.{nothing, joined}
 use Rattle.guard_frames.specs.Frames.{IsUnfinished}
-use Rattle.guard_frames.specs.LinkView.{AbstractLink, link_view}
-use Rattle.guard_frames.specs.Runs.{CameInPieces, IsTorn, IsFoundTooLong}
+use Rattle.guard_frames.specs.LinkView.{AbstractLink}
+use Rattle.guard_frames.specs.Runs.{CameInPieces, IsTorn}
 use Rattle.guard_frames.proofs.Appending.{both_none, both_joined}
-use Rattle.guard_frames.proofs.Composing.{takes_on}
+use Rattle.guard_frames.proofs.Composing.{puts_on}
 use Rattle.guard_frames.proofs.Counting.{counts}
-use Rattle.guard_frames.proofs.Reading.{Consumes_none, Consumes_trans, Consumes_zero, is_empty_list, no_pieces, one_more_piece}
-use Rattle.guard_frames.proofs.Holding.{empty_unfinished, begins_empty, runs_all, took_ok, took_too_long, took_failed, found_soon}
+use Rattle.guard_frames.proofs.Reading.{Consumes_none, Consumes_trans, Consumes_zero, no_pieces, one_more_piece}
+use Rattle.guard_frames.proofs.Holding.{empty_unfinished, begins_empty, runs_all, runs_closed, found_soon}
 use Rattle.guard_frames.proofs.running.decide_stream.Goals as goal
 
 pub loop-init : goal.loop-init
@@ -33,11 +33,10 @@ loop-init g c =
       );
     }
 
-pub returns-then-is_empty-clause-runs : goal.returns-then-is_empty-clause-runs
-returns-then-is_empty-clause-runs g c =
+pub returns-then-count-eq0-clause-runs : goal.returns-then-count-eq0-clause-runs
+returns-then-count-eq0-clause-runs g c =
     let h = c.loop.invariant.so_far in
     let zero : c.in-Ok-read_piece.count ≡ 0 = omega arith in
-    let none : length c.loop.link.held.items ≡ 0 = search rules in
     record {
       read = h.0;
       added = h.1;
@@ -51,73 +50,59 @@ returns-then-is_empty-clause-runs g c =
             split = h.4.split;
             out = h.4.out;
             reports = h.4.reports;
-            last = is_empty_list c.loop.link.held.items none;
+            last = c.in_ok-finish.ensures.whole;
           };
-          counts = counts h.4.outcomes c.loop.link.totals h.4.totals;
+          counts = rw c.finish.ensures.totals (counts h.4.outcomes c.loop.link.totals h.4.totals);
         },
         c.in-Ok-read_piece.ensures.end zero,
       );
     }
 
-pub returns-then-count-eq0-clause-runs : goal.returns-then-count-eq0-clause-runs
-returns-then-count-eq0-clause-runs g c =
+pub returns-in_err-finish-clause-runs : goal.returns-in_err-finish-clause-runs
+returns-in_err-finish-clause-runs g c =
+    let e = err_from_is_err_and c.from_residual.result c.from_residual.ensures.1 in
     let h = c.loop.invariant.so_far in
+    let torn = c.in_err-finish.ensures.torn in
     let zero : c.in-Ok-read_piece.count ≡ 0 = omega arith in
-    record {
+    rw (e.1, e.2, torn.0)
+    (record {
       read = h.0;
       added = h.1;
       given = Consumes_zero _ _ _ h.0 c.in-Ok-read_piece.count c.read_piece.new.buffer.items zero h.2 c.in-Ok-read_piece.ensures.given;
       taken = h.3;
       holds = (
-        runs_all _ h.0 c.loop.link.held.items c.loop.link.totals h.1 IsTorn h.4 (record { some = search rules; unfinished = h.5 }),
+        runs_all _ h.0 c.loop.link.held.items c.loop.link.totals h.1 IsTorn h.4 (record { some = torn.1; unfinished = h.5 }),
         c.in-Ok-read_piece.ensures.end zero,
       );
-    }
+    })
 
-pub returns-in-Err-FrameTooLong-clause-runs : goal.returns-in-Err-FrameTooLong-clause-runs
-returns-in-Err-FrameTooLong-clause-runs g c =
+pub returns-in_err-take-clause-runs : goal.returns-in_err-take-clause-runs
+returns-in_err-take-clause-runs g c =
+    let e = err_from_is_err_and c.from_residual-in_err-take.result c.from_residual-in_err-take.ensures.1 in
     let h = c.loop.invariant.so_far in
     let p = take c.in-Ok-read_piece.count c.deref.result.now in
-    let fed = c.feed.ensures.open c.loop.invariant.open_still in
-    let takes = takes_on _ no_frames c.loop.link.totals h.0 c.loop.link.held.items p (link_view c.feed.new.self) c.feed.result h.1 fed.0 h.4 fed.1 in
-    let is : c.feed.result ≡ Err FrameTooLong = cc in
-    let x = took_too_long _ no_frames (h.0 ++ p) (link_view c.feed.new.self) c.feed.result (joined h.1 fed.0) is takes in
+    let fed = c.in_err-take.ensures.puts in
+    let puts = puts_on _ no_frames c.loop.link.totals c.take.new.self.totals h.0 c.loop.link.held.items p c.take.new.self.held.items (Err c.in_err-take.field-0.0) h.1 fed.0 h.4 fed.1 in
     let given = rw (← c.deref.ensures.value) at c.in-Ok-read_piece.ensures.given in
     let size : length c.deref.result.now ≡ 65536 = ap length c.deref.ensures.value ∙ c.in-Ok-read_piece.ensures.room ∙ c.loop.invariant.room in
     let most : length p ≤ 65536 = omega (arith, length-take c.in-Ok-read_piece.count c.deref.result.now, size) in
-    let soon : length x.rest < 4 + length p = found_soon h.0 c.loop.link.held.items p x.rest (frames_of h.4.outcomes) (frames_of x.decided.outcomes)
-    h.4.split h.5 x.decided.split x.too_long in
-    record {
+    rw (e.1, e.2)
+    (record {
       read = h.0 ++ p;
       added = joined h.1 fed.0;
       given = Consumes_trans _ _ _ h.0 p h.2 given;
       taken = both_joined _ _ _ _ _ _ h.1 fed.0 h.3 fed.2;
-      holds = runs_all _ (h.0 ++ p) x.rest _ (joined h.1 fed.0) IsFoundTooLong x.decided (record { too_long = x.too_long; at_once = omega (arith, soon, most) });
-    }
-
-pub returns-in-Err-WriteFailed-clause-runs : goal.returns-in-Err-WriteFailed-clause-runs
-returns-in-Err-WriteFailed-clause-runs g c =
-    let h = c.loop.invariant.so_far in
-    let p = take c.in-Ok-read_piece.count c.deref.result.now in
-    let fed = c.feed.ensures.open c.loop.invariant.open_still in
-    let takes = takes_on _ no_frames c.loop.link.totals h.0 c.loop.link.held.items p (link_view c.feed.new.self) c.feed.result h.1 fed.0 h.4 fed.1 in
-    let is : c.feed.result ≡ Err WriteFailed = cc in
-    let given = rw (← c.deref.ensures.value) at c.in-Ok-read_piece.ensures.given in
-    record {
-      read = h.0 ++ p;
-      added = joined h.1 fed.0;
-      given = Consumes_trans _ _ _ h.0 p h.2 given;
-      taken = both_joined _ _ _ _ _ _ h.1 fed.0 h.3 fed.2;
-      holds = took_failed _ no_frames (h.0 ++ p) (link_view c.feed.new.self) c.feed.result (joined h.1 fed.0) is takes;
-    }
+      holds = runs_closed _ c.take.new.self.totals (h.0 ++ p) c.take.new.self.held.items c.in_err-take.field-0.0 (joined h.1 fed.0) _
+          (λ rest frames split long. let soon = found_soon h.0 c.loop.link.held.items p rest (frames_of h.4.outcomes) frames h.4.split h.5 split long in omega (arith, soon, most))
+          puts;
+    })
 
 pub loop-preserved : goal.loop-preserved
 loop-preserved g c =
     let h = c.loop.invariant.so_far in
     let p = take c.in-Ok-read_piece.count c.deref.result.now in
-    let fed = c.feed.ensures.open c.loop.invariant.open_still in
-    let takes = takes_on _ no_frames c.loop.link.totals h.0 c.loop.link.held.items p (link_view c.feed.new.self) c.feed.result h.1 fed.0 h.4 fed.1 in
-    let x = took_ok _ no_frames (h.0 ++ p) (link_view c.feed.new.self) c.feed.result (joined h.1 fed.0) _ c.in-Ok-feed.is takes in
+    let fed = c.in_ok-take.ensures.puts in
+    let x = puts_on _ no_frames c.loop.link.totals c.take.new.self.totals h.0 c.loop.link.held.items p c.take.new.self.held.items (Ok tt) h.1 fed.0 h.4 fed.1 in
     let given = rw (← c.deref.ensures.value) at c.in-Ok-read_piece.ensures.given in
     let size : length c.deref.result.now ≡ 65536 = ap length c.deref.ensures.value ∙ c.in-Ok-read_piece.ensures.room ∙ c.loop.invariant.room in
     let long = length-take c.in-Ok-read_piece.count c.deref.result.now in
@@ -125,7 +110,7 @@ loop-preserved g c =
     let most : length p ≤ 65536 = omega (arith, long, size) in
     record {
       room = c.in-Ok-read_piece.ensures.room ∙ c.loop.invariant.room;
-      open_still = x.2;
+      open_still = c.in_ok-take.ensures.open;
       asked = omega (arith, c.loop.invariant.asked, c.in-Ok-read_piece.ensures.counted);
       so_far = (
         h.0 ++ p,

@@ -1,7 +1,7 @@
 use Rattle.std.proofs.Common.{◌++◌}
 use Rattle.guard_frames.proofs.Appending.{Appends_trans, Prefix_first, Prefix_second}
 use Rattle.guard_frames.proofs.Steps.{on_err_of}
-use Rattle.guard_frames.proofs.report.put_both.Goals as goal
+use Rattle.guard_frames.proofs.devices.put_both.Goals as goal
 
 pub returns-in_err-put_all-clause-part : goal.returns-in_err-put_all-clause-part
 returns-in_err-put_all-clause-part g c =

@@ -14,7 +14,7 @@ use Rattle.clap.specs.Kinds.{Kinds, or_else}
 use Rattle.clap.specs.Simple.{App, Shape, argument_words, built, built_leaf, entered, filled, help_rule, help_shape, inherited, label_of, marked_built, names_of, rows_at, subcommand_of, with_index, with_leaf_noted}
 use Rattle.clap.specs.declared.error.kind.ErrorKind.TheVariants as kind
 use Rattle.derguard_program.specs.Requests.{AbstractRequest, first, check, decide, show, run, mux}
-use Rattle.derguard_program.specs.Words.{Asks, IsCommand, check_shape, decide_shape, flag_of, flag_rule, mux_shape, option_rule, place_rule, run_shape, show_shape, the_app}
+use Rattle.derguard_program.specs.Words.{AreFound, IsCommand, check_shape, decide_shape, flag_of, flag_rule, mux_shape, option_rule, place_rule, run_shape, show_shape, the_app}
 use Rattle.derguard_program.proofs.Filled.{AllFill, Filled, Fills, IsFilled, both_none, finished_filled, flag_fills, help_fills, set_fills, some_kind, walk_filled}
 
 -- ---- a walk in which nothing is wrong stops at no word help
@@ -293,7 +293,7 @@ command_there : (b : Bool) (others : Kinds)
 command_there true others e = refl
 command_there false others e = absurd (some_kind _ _ e)
 
-pub asked : (words : List Text) → fault_of the_app words ≡ [] → (request : AbstractRequest) × Asks words request
+pub asked : (words : List Text) → fault_of the_app words ≡ [] → (request : AbstractRequest) × AreFound words request
 asked words e =
     let given = argument_words the_app words in
     let stop = (walk ready.top.rules (names_of ready) nothing_held given).stopped in
@@ -364,17 +364,22 @@ module _ (rows : List Row) where
 
 -- ---- the answer
 
+-- a command is found in words in which nothing is wrong
+pub command_found : (words : List Text) (found : Option (Text × List Row)) → fault_of the_app words ≡ [] → found ≡ subcommand_of the_app words
+    → (name : Text) × (rows : List Row) × (found ≡ Some (name, rows))
+command_found words found none is = let one = asked words none in (one.1.1.0, one.1.1.1, is ∙ one.1.1.2)
+
 -- what is answered by the values of the command that is found in the words is what they ask for
 pub answered : (words : List Text) (found : Option (Text × List Row)) (answer : AbstractRequest) → fault_of the_app words ≡ [] → found ≡ subcommand_of the_app words
     → ((name : Text) (rows : List Row) (request : AbstractRequest) → found ≡ Some (name, rows) → IsCommand name rows request → answer ≡ request)
-    → Asks words answer
+    → AreFound words answer
 answered words found answer none is given =
     let one = asked words none in
     let same = given one.1.1.0 one.1.1.1 one.0 (is ∙ one.1.1.2) one.1.1.3 in
-    subst (Asks words) (sym same) one.1
+    subst (AreFound words) (sym same) one.1
 
 -- words ask for one request
-pub asks_one : (words : List Text) (r s : AbstractRequest) → Asks words r → Asks words s → r ≡ s
+pub asks_one : (words : List Text) (r s : AbstractRequest) → AreFound words r → AreFound words s → r ≡ s
 asks_one words r s h g =
     let found = same_value _ _ (sym h.1.2 ∙ g.1.2) in
     let as_named : IsCommand h.1.0 g.1.1 r = subst (λ (rows : List Row). IsCommand h.1.0 rows r) (ap (λ (p : Text × List Row). p.1) found) h.1.3 in

@@ -10,6 +10,8 @@ pub mod Refusals
 pub mod Streams
 pub mod Meetings
 pub mod VerdictsFound
+pub mod FoundValues
+pub mod ExplainedFaults
 pub mod MarkingLaws
 pub mod NamedParts
 pub mod Adding

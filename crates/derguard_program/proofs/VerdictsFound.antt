@@ -6,19 +6,13 @@ use Rattle.derguard_program.specs.Answers.{AbstractAnswer, IsVerdict, IsDecided}
 use Rattle.derguard_program.specs.Files.{Told}
 use Rattle.derguard_program.specs.Reading.{IsPolicyAt}
 
-abbrev route : List ℕ → List ℕ → List ℕ → AbstractRoute
-route from to message = record { from = from; to = to; message = message }
-
 module _ (told : Told) (path digits : List ℕ) (p : AbstractPolicy) (a : AbstractAnswer) where
-  pub decided : (from to message octets : List ℕ) (from₁ to₁ message₁ octets₁ : List ℕ) → from₁ ≡ from → to₁ ≡ to → message₁ ≡ message → octets₁ ≡ octets
-      → decode_of digits ≡ Ok octets → IsPolicyAt told path p → IsVerdict p (route from₁ to₁ message₁) octets₁ a → IsDecided told path (route from to message) digits a
-  decided from to message octets from₁ to₁ message₁ octets₁ e f g h decoded at is = (
+  pub decided : (route route₁ : AbstractRoute) (octets octets₁ : List ℕ) → route₁ ≡ route → octets₁ ≡ octets
+      → decode_of digits ≡ Ok octets → IsPolicyAt told path p → IsVerdict p route₁ octets₁ a → IsDecided told path route digits a
+  decided route route₁ octets octets₁ e f decoded at is = (
     octets,
     p,
     decoded,
     at,
-    subst (λ (x : List ℕ). IsVerdict p (route x to message) octets a) e
-        (subst (λ (x : List ℕ). IsVerdict p (route from₁ x message) octets a) f
-        (subst (λ (x : List ℕ). IsVerdict p (route from₁ to₁ x) octets a) g
-        (subst (λ (x : List ℕ). IsVerdict p (route from₁ to₁ message₁) x a) h is))),
+    subst (λ (r : AbstractRoute). IsVerdict p r octets a) e (subst (λ (o : List ℕ). IsVerdict p route₁ o a) f is),
   )

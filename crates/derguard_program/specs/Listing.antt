@@ -11,7 +11,7 @@ use Rattle.guard_policy.specs.declared.policy.Effect.TheVariants.{Allow, Deny}
 use Rattle.guard_policy.specs.Barren.{is_barren_rule}
 use Rattle.guard_policy.specs.Decisions.{is_allowing, speaks_of}
 use Rattle.guard_policy.specs.Names.{anyone}
-use Rattle.guard_policy.specs.Policies.{AbstractMessage, AbstractPolicy, AbstractRoute, AbstractRule, declared_type}
+use Rattle.guard_policy.specs.Policies.{AbstractMessage, AbstractPolicy, AbstractRoute, AbstractRule, declared_type, own_route}
 use Rattle.guard_policy.specs.PolicyView.{said_view}
 use Rattle.guard_report.specs.Lines.{route_text}
 use Rattle.derguard_program.specs.declared.listing.Found.{Found}
@@ -64,9 +64,6 @@ found_rules p = found_from p 0 p.rules
 
 -- ---- what others do to it
 
-abbrev pub route_of : AbstractRule → AbstractRoute
-route_of r = record { from = r.from; to = r.to; message = r.message }
-
 -- On this route the second rule denies all that the first one allows: all of the declared type, or all of its type.
 abbrev pub denies_all_of : AbstractRoute → AbstractRule → FoundRule → Bool
 denies_all_of route a d = not (is_allowing d.rule) && speaks_of route d.rule && (d.whole || has_all_of d.rule.ty a.ty)
@@ -84,7 +81,8 @@ may_let_pass rules route a =
 -- The rule names a sender and a receiver, and nothing can pass from the one to the other.
 abbrev pub is_closed : List FoundRule → AbstractRule → Bool
 is_closed rules r =
-    not (bytes_eq r.from anyone) && not (bytes_eq r.to anyone) && not (list_any (may_let_pass rules (route_of r)) rules)
+    not (bytes_eq r.from anyone) && not (bytes_eq r.to anyone)
+    && not (list_any (may_let_pass rules (own_route r)) rules)
 
 -- ---- the text
 
@@ -106,11 +104,11 @@ closed_text false = []
 
 -- by which rule an allowing one is denied as a whole
 abbrev pub denier_of : List FoundRule → AbstractRule → Option (List ℕ)
-denier_of rules r = if is_allowing r then first_denier (route_of r) r rules else None
+denier_of rules r = if is_allowing r then first_denier (own_route r) r rules else None
 
 -- `  north>south order: allow small`
 abbrev pub said_text : AbstractRule → List ℕ
-said_text r = codes "  " ++ route_text (route_of r) ++ effect_text r.effect ++ r.name
+said_text r = codes "  " ++ route_text (own_route r) ++ effect_text r.effect ++ r.name
 
 -- what keeps it from letting anything pass
 abbrev pub remarks : List FoundRule → FoundRule → List ℕ

@@ -16,7 +16,7 @@ use Rattle.derguard_program.specs.declared.fault.Fault.{Fault}
 use Rattle.derguard_program.specs.declared.fault.Fault.TheVariants.{BadHex, CannotRead, Schema, Policy, Run, NoMemory}
 use Rattle.derguard_program.specs.Files.{Told}
 use Rattle.derguard_program.specs.Requests.{AbstractRequest, first, check, decide, show, run, mux}
-use Rattle.derguard_program.specs.Words.{Asks, the_app, version}
+use Rattle.derguard_program.specs.Words.{Asks, joined, the_app, version}
 use Rattle.derguard_program.specs.Reading.{IsPolicyAt, IsNoPolicyAt}
 use Rattle.derguard_program.specs.Answers.{AbstractAnswer, IsFirst, IsNoFirst, IsChecked, IsCheckedExplained, IsDecided, IsDecidedExplained, IsUndecided}
 use Rattle.derguard_program.specs.Devices.{Input, Device, IsUnread, IsUntouched}
@@ -152,4 +152,4 @@ Shows kinds out err status =
 abbrev pub Programs : List Text → Told → Input → Device → Device → ℕ → Type 0
 Programs words told input out err status =
     ((request : AbstractRequest) × Asks words request × Meets told request input out err status)
-    ⊎ (IsUnread input × Shows (fault_of the_app words) out err status)
+    ⊎ (IsUnread input × Shows (fault_of the_app (joined words)) out err status)

@@ -3,6 +3,8 @@ use Rattle.std.specs.Prelude.{◌≡◌, ◌<◌, ◌^◌, ◌⊎◌, ℕ, true,
 use Rattle.std.specs.List.{concat, All}
 use Rattle.std.specs.Io.KnownBytes.{Appends, Consumes, IsAtEnd}
 use Rattle.guard_policy.specs.Policies.{AbstractPolicy}
+use Rattle.guard_frames.specs.declared.link.LinkFault.TheVariants as link_fault
+use Rattle.guard_frames.specs.FaultTexts.{fault_text}
 use Rattle.guard_frames.specs.LinkView.{new_link}
 use Rattle.guard_frames.specs.Prefix.{IsProperPrefix}
 use Rattle.guard_frames.specs.Totals.{WentUpBy}
@@ -117,7 +119,7 @@ Stops ErrorFailed path first input out err =
 abbrev pub TellsStop : Stop → Device → ℕ → Type 0
 TellsStop BadRecord err status = TellsLine (codes "bad record") 3 err status
 TellsStop ReadFailed err status = TellsLine (codes "F5 ReadFailed") 3 err status
-TellsStop WriteFailed err status = TellsLine (codes "F2 WriteFailed") 3 err status
+TellsStop WriteFailed err status = TellsLine (fault_text link_fault.WriteFailed) 3 err status
 TellsStop ErrorFailed err status = (err.after ≡ err.before) × (status ≡ 3)
 
 -- The links are guarded to their ends; or there is a reason why not, reported after what standard error took so far.

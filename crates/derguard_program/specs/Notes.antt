@@ -33,11 +33,11 @@ pub record AbstractNote : Type 0 where
 abbrev pub note_view : Note → AbstractNote
 note_view n = record { place = n.place; advice = n.advice.now }
 
-abbrev pub noted : Place → List ℕ → AbstractNote
-noted place advice = record { place = place; advice = advice }
+abbrev pub noted : Place → List ℕ → Option AbstractNote
+noted place advice = Some (record { place = place; advice = advice })
 
 -- a fault of tokens, L1 to L7
-abbrev pub lex_note : LexFault → AbstractNote
+abbrev pub lex_note : LexFault → Option AbstractNote
 lex_note (lex.BadCharacter site) =
     noted (At site) (codes "No token begins with this character, or a digit follows the number 0. Remove or mend it.")
 lex_note (lex.BadString site) =
@@ -52,10 +52,10 @@ lex_note (lex.NumberTooLarge site) =
 lex_note (lex.NotUtf8 text) = noted (Module text) (codes "The file is no text in UTF-8. Save it in that encoding.")
 lex_note (lex.TextTooLong text) =
     noted (Module text) (codes "The file has more than 1,048,576 octets. Split it into several modules.")
-lex_note lex.OutOfMemory = noted Nowhere (codes "Memory ran out. Make more of it available.")
+lex_note lex.OutOfMemory = None
 
 -- a fault of syntax, P1 to P3
-abbrev pub syntax_note : SyntaxFault → AbstractNote
+abbrev pub syntax_note : SyntaxFault → Option AbstractNote
 syntax_note (syntax.Unexpected site) =
     noted (At site) (codes "A module can not go on like this. Look at what is here and at what is missing before it.")
 syntax_note (syntax.Unsupported spelling site) =
@@ -64,10 +64,10 @@ syntax_note (syntax.Unsupported spelling site) =
 syntax_note (syntax.TooDeep site) =
     noted (At site)
     (codes "More than 128 types, values or sets are around this one. Give an inner one a name of its own.")
-syntax_note syntax.OutOfMemory = noted Nowhere (codes "Memory ran out. Make more of it available.")
+syntax_note syntax.OutOfMemory = None
 
 -- a fault of names, N1 to N7
-abbrev pub name_note : NameFault → AbstractNote
+abbrev pub name_note : NameFault → Option AbstractNote
 name_note (name.Duplicate site) =
     noted (At site)
     (codes "The name is declared before, in this module or as the name of another. Rename one of the two.")
@@ -84,10 +84,10 @@ name_note (name.ImportNotDefined site) =
 name_note (name.Recursive site) =
     noted (At site) (codes "This definition uses itself, directly or through others. Break the circle.")
 name_note name.TooManyModules = noted ThePolicy (codes "The policy lists more than 64 modules. List fewer.")
-name_note name.OutOfMemory = noted Nowhere (codes "Memory ran out. Make more of it available.")
+name_note name.OutOfMemory = None
 
 -- a fault of tags and parts, G1 to G12
-abbrev pub tag_note : TagFault → AbstractNote
+abbrev pub tag_note : TagFault → Option AbstractNote
 tag_note (tag.UniversalTag site) =
     noted (At site) (codes "A tag of the class UNIVERSAL can not be written. Leave it out, or choose another class.")
 tag_note (tag.ImplicitChoice site) =
@@ -112,10 +112,10 @@ tag_note (tag.SchemaTooLarge site) =
     noted (At site) (codes "With this one there are more than 100,000 types. Leave out what no message needs.")
 tag_note (tag.NumberTooLarge site) =
     noted (At site) (codes "The number is outside 128 bits, or of a named bit above 65,535. Choose a smaller one.")
-tag_note tag.OutOfMemory = noted Nowhere (codes "Memory ran out. Make more of it available.")
+tag_note tag.OutOfMemory = None
 
 -- a fault of a written value, V1 to V8
-abbrev pub value_note : ValueFault → AbstractNote
+abbrev pub value_note : ValueFault → Option AbstractNote
 value_note (value.WrongNotation site) =
     noted (At site)
     (codes "A value of its type is not written like this, or the name stands for a value of another type.")
@@ -134,10 +134,10 @@ value_note (value.BadObjectId site) =
 value_note (value.TooLarge site) =
     noted (At site)
     (codes "The number, or the encoding of the value, is above the limits of this guard. Write a smaller one.")
-value_note value.OutOfMemory = noted Nowhere (codes "Memory ran out. Make more of it available.")
+value_note value.OutOfMemory = None
 
 -- a fault of a constraint, C1 to C10
-abbrev pub constraint_note : ConsFault → AbstractNote
+abbrev pub constraint_note : ConsFault → Option AbstractNote
 constraint_note (constraint.NotApplicable site) =
     noted (At site) (codes "This constraint does not apply to its type. Remove it, or write it where it applies.")
 constraint_note (constraint.ExclusiveLimit site) =
@@ -158,10 +158,10 @@ constraint_note (constraint.ContainedMismatch site) =
 constraint_note (constraint.Value fault) = value_note fault
 constraint_note (constraint.SizeOnNamedBits site) =
     noted (At site) (codes "SIZE is not read on a BIT STRING with named bits. Remove the one or the others.")
-constraint_note constraint.OutOfMemory = noted Nowhere (codes "Memory ran out. Make more of it available.")
+constraint_note constraint.OutOfMemory = None
 
 -- a fault of modules; S1 to S3 are those of the schema as a whole
-abbrev pub schema_note : SchemaFault → AbstractNote
+abbrev pub schema_note : SchemaFault → Option AbstractNote
 schema_note (schema.Lex fault) = lex_note fault
 schema_note (schema.Syntax fault) = syntax_note fault
 schema_note (schema.Name fault) = name_note fault
@@ -176,10 +176,10 @@ schema_note (schema.DefaultOutside site) =
 schema_note (schema.TooLarge site) =
     noted (At site)
     (codes "With this one there are more than 100,000 constraints and values. Leave out what no message needs.")
-schema_note schema.OutOfMemory = noted Nowhere (codes "Memory ran out. Make more of it available.")
+schema_note schema.OutOfMemory = None
 
 -- a fault of the types of a message and its rules, B1 to B3
-abbrev pub table_note : TableFault → AbstractNote
+abbrev pub table_note : TableFault → Option AbstractNote
 table_note (table.RuleTypeMismatch rule) =
     noted ThePolicy
     (codes "The type of a rule has other tags or another base than its message. Derive it by constraints.")
@@ -188,10 +188,10 @@ table_note table.TooManyConditions =
     (codes "The types of the message and its rules ask more than 256 things of one part. Split the message.")
 table_note table.TooManyRules =
     noted ThePolicy (codes "The message has more than 255 rules. Join some of them by unions of types.")
-table_note table.OutOfMemory = noted Nowhere (codes "Memory ran out. Make more of it available.")
+table_note table.OutOfMemory = None
 
 -- a fault of a policy, Q1 to Q9
-abbrev pub policy_note : PolicyFault → AbstractNote
+abbrev pub policy_note : PolicyFault → Option AbstractNote
 policy_note policy.Toml =
     noted ThePolicy (codes "The policy is no document of TOML. Look for a missing quote, bracket or equals sign.")
 policy_note (policy.UnknownKey entry key) =
@@ -211,17 +211,16 @@ policy_note (policy.NoSuchMessage entry) =
 policy_note (policy.BadEffect entry) =
     noted ThePolicy (codes "The effect is neither allow nor deny. Write one of them.")
 policy_note (policy.Table message fault) = table_note fault
-policy_note policy.OutOfMemory = noted Nowhere (codes "Memory ran out. Make more of it available.")
+policy_note policy.OutOfMemory = None
 
--- any fault; nothing is said of a stream that failed and of want of memory
+-- any fault; nothing is said of a stream that failed, nor of want of memory, whoever ran out of it
 abbrev pub note_of : Fault → Option AbstractNote
 note_of whole.BadHex =
-    Some (noted Nowhere
-    (codes "A message is written by pairs of hexadecimal digits, 0 to 9 and a to f. Mend the digits."))
+    noted Nowhere
+    (codes "A message is written by pairs of hexadecimal digits, 0 to 9 and a to f. Mend the digits.")
 note_of (whole.CannotRead file) =
-    Some (noted Nowhere
-    (codes "Nothing can be read at this path. Module files are looked for in the folder of the policy."))
-note_of (whole.Schema fault) = Some (schema_note fault)
-note_of (whole.Policy fault) = Some (policy_note fault)
+    noted Nowhere (codes "Nothing can be read at this path. Module files are looked for in the folder of the policy.")
+note_of (whole.Schema fault) = schema_note fault
+note_of (whole.Policy fault) = policy_note fault
 note_of (whole.Run fault) = None
 note_of whole.NoMemory = None

@@ -2,7 +2,7 @@
 use Rattle.std.specs.Prelude.{◌≡◌, ◌<◌, ◌≤◌, ℕ, nat_eq, List, [], ◌∷◌, ◌++◌, length, map, if◌then◌else◌, codes, decimal, Result, Ok, Err}
 use Rattle.std.specs.List.{concat}
 use Rattle.guard_frames.specs.declared.link.LinkFault.{LinkFault}
-use Rattle.guard_frames.specs.declared.link.LinkFault.TheVariants.{FrameTooLong, WriteFailed, Closed, TornFrame}
+use Rattle.guard_frames.specs.FaultTexts.{fault_text}
 use Rattle.derguard_program.specs.Records.{record_octets}
 use Rattle.derguard_program.specs.Records.Record.{piece}
 
@@ -42,12 +42,6 @@ marked_line link line = link_mark link ++ (line ++ codes "\n")
 -- the lines of a text, each after the number of its link
 abbrev pub marked : ℕ → List ℕ → List ℕ
 marked link text = concat (map (marked_line link) (lines_of text))
-
-abbrev pub fault_text : LinkFault → List ℕ
-fault_text FrameTooLong = codes "F1 FrameTooLong"
-fault_text WriteFailed = codes "F2 WriteFailed"
-fault_text Closed = codes "F3 Closed"
-fault_text TornFrame = codes "F4 TornFrame"
 
 -- the line of a link's fault, where it has one
 abbrev pub fault_line : ℕ → Result (Unit {0}) LinkFault → List ℕ

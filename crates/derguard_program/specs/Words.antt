@@ -1,6 +1,6 @@
 -- Which words of the command line are which request, in the terms of `clap`: its definitions say what is found in words
 -- of a command, and what is wrong with them.
-use Rattle.std.specs.Prelude.{◌≡◌, Bool, true, false, List, [], ◌∷◌, Some, codes, bytes_eq}
+use Rattle.std.specs.Prelude.{◌≡◌, Bool, ◌||◌, true, false, List, [], ◌∷◌, ◌++◌, Some, codes, bytes_eq, if◌then◌else◌}
 use Rattle.std.specs.Option.{option_map_or}
 use Rattle.clap.specs.Words.{App, Rule, Row, Shape, Text, first_of, fault_of, new_rule, subcommand_of}
 use Rattle.clap.specs.Simple.{new_shape}
@@ -85,9 +85,29 @@ IsCommand name rows (show path message digits) =
 IsCommand name rows (run path) = (name ≡ codes "run") × (first_of (codes "policy") rows ≡ Some path)
 IsCommand name rows (mux path) = (name ≡ codes "mux") × (first_of (codes "policy") rows ≡ Some path)
 
--- Nothing is wrong with the words, and the command that is found in them asks for this.
-abbrev pub Asks : List Text → AbstractRequest → Type 0
-Asks words request =
+-- ---- the words
+
+-- an option of a message, of which the next word is the value
+abbrev pub takes_next : Text → Bool
+takes_next word = bytes_eq word (codes "--from") || bytes_eq word (codes "--to") || bytes_eq word (codes "--message")
+
+-- The words as `clap` reads them: an option of a message and the word after it are one, as `--from=a`, so that the
+-- value may be any word. After `--` all words stay as they are.
+abbrev pub joined : List Text → List Text
+joined [] = []
+joined (word ∷ []) = word ∷ []
+joined (word ∷ next ∷ words) =
+    if bytes_eq word (codes "--") then word ∷ next ∷ words
+    else if takes_next word then (word ++ codes "=" ++ next) ∷ joined words
+    else word ∷ joined (next ∷ words)
+
+-- Nothing is wrong with words that `clap` reads, and the command that is found in them asks for this.
+abbrev pub AreFound : List Text → AbstractRequest → Type 0
+AreFound words request =
     (fault_of the_app words ≡ [])
     × ((name : Text) × (rows : List Row) × (subcommand_of the_app words ≡ Some (name, rows))
     × IsCommand name rows request)
+
+-- what the words ask for
+abbrev pub Asks : List Text → AbstractRequest → Type 0
+Asks words request = AreFound (joined words) request

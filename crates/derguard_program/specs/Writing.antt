@@ -1,6 +1,8 @@
 -- What goes to standard output and standard error, and with which status the program ends.
 use Rattle.std.specs.Prelude.{◌≡◌, ◌⊎◌, ℕ, true, List, ◌++◌, codes}
 use Rattle.std.specs.Io.KnownBytes.{Appends}
+use Rattle.guard_frames.specs.declared.link.LinkFault.TheVariants.{WriteFailed}
+use Rattle.guard_frames.specs.FaultTexts.{fault_text}
 use Rattle.guard_frames.specs.Prefix.{IsProperPrefix}
 use Rattle.derguard_program.specs.declared.fault.Fault.{Fault}
 use Rattle.derguard_program.specs.Devices.{Device, IsUntouched}
@@ -49,4 +51,4 @@ Tells f err result =
 abbrev pub Writes : List ℕ → ℕ → Device → Device → ℕ → Type 0
 Writes octets status out err result =
     (TookAll octets out × IsUntouched err × (result ≡ status))
-    ⊎ (TookPart octets out × TellsLine (codes "F2 WriteFailed") 3 err result)
+    ⊎ (TookPart octets out × TellsLine (fault_text WriteFailed) 3 err result)

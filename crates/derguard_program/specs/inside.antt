@@ -1,4 +1,6 @@
 -- What only private contracts and proofs cite.
 pub mod Doing
 pub mod Headers
+pub mod Joining
 pub mod Texts
+pub mod Values

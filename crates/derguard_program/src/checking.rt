@@ -51,7 +51,8 @@ pub fn check_explained<F: Files>(
 
 /// The counts, and below them the listing.
 fn listed(alloc: Global, policy: &Policy) -> Result<Vec<u8>, OutOfMemory>
-    ensures { IfOk result (λ out. out.items ≡ counts_text (policy_view policy.now) ++ listing (policy_view policy.now)) }
+    ensures { IfOk result (λ out. out.items
+        ≡ counts_text (policy_view policy.now) ++ listing (policy_view policy.now)) }
 {
     let mut out = counts(alloc, policy)?;
     let list = listing(alloc, policy)?;
@@ -94,8 +95,10 @@ pub fn load_explained<F: Files>(alloc: Global, path: &str, files: &mut F) -> Res
 
 /// The policy that the texts say; or why they say none, explained over them.
 pub fn said_explained(alloc: Global, path: &str, texts: &Texts) -> Result<Policy, Refusal>
-    ensures there { IfOk result (λ p. SayPolicy (map (λ text. text.items) texts.now.modules.items) texts.now.policy.items (policy_view p)) }
-    ensures none { IfErr result (λ r. (SayNothing (map (λ text. text.items) texts.now.modules.items) texts.now.policy.items r.fault
+    ensures there { IfOk result (λ p. SayPolicy
+        (map (λ text. text.items) texts.now.modules.items) texts.now.policy.items (policy_view p)) }
+    ensures none { IfErr result (λ r.
+        (SayNothing (map (λ text. text.items) texts.now.modules.items) texts.now.policy.items r.fault
         × (string_bytes r.note ≡ explanation (sources path.now (map string_bytes texts.now.files.items)
         (map (λ text. text.items) texts.now.modules.items)) r.fault))
         ⊎ ((r.fault ≡ NoMemory) × (string_bytes r.note ≡ []))) }
@@ -108,8 +111,10 @@ pub fn said_explained(alloc: Global, path: &str, texts: &Texts) -> Result<Policy
 
 /// The policy that the texts say.
 fn said_by(alloc: Global, texts: &Texts) -> Result<Policy, Fault>
-    ensures there { IfOk result (λ p. SayPolicy (map (λ text. text.items) texts.now.modules.items) texts.now.policy.items (policy_view p)) }
-    ensures none { IfErr result (λ f. SayNothing (map (λ text. text.items) texts.now.modules.items) texts.now.policy.items f ⊎ (f ≡ NoMemory)) }
+    ensures there { IfOk result (λ p. SayPolicy
+        (map (λ text. text.items) texts.now.modules.items) texts.now.policy.items (policy_view p)) }
+    ensures none { IfErr result (λ f. SayNothing
+        (map (λ text. text.items) texts.now.modules.items) texts.now.policy.items f ⊎ (f ≡ NoMemory)) }
 {
     let modules = texts.module_slices(alloc)?;
     Ok(load_texts(alloc, &modules, &texts.policy)?)

@@ -28,17 +28,13 @@ use std::alloc::Global;
 /// The text of the verdict on the message, under the policy at its path; or why it isn't decided. Bad digits come
 /// before all that is wrong with the policy.
 pub fn decide<F: Files>(alloc: Global, message: &Message, files: &mut F) -> Result<Answer, Fault>
-    ensures decided { IfOk result (λ a. IsDecided (F.told files.old) message.now.policy.now (message_route message.now) message.now.hex.now (answer_view a)) }
+    ensures decided { IfOk result (λ a. IsDecided (F.told files.old) message.now.policy.now
+        (message_route message.now) message.now.hex.now (answer_view a)) }
     ensures undecided { IfErr result (IsUndecided (F.told files.old) message.now.policy.now message.now.hex.now) }
 {
     let octets = octets_of(alloc, message.hex)?;
     let policy = load(alloc, message.policy, files)?;
-    let route = Route {
-        from: message.from.as_bytes(),
-        to: message.to.as_bytes(),
-        message: message.message.as_bytes(),
-    };
-    Ok(verdict_on(alloc, &policy, &route, &octets)?)
+    Ok(verdict_on(alloc, &policy, &route_of(message), &octets)?)
 }
 
 /// The same, with what explains the verdict or a fault.
@@ -47,8 +43,11 @@ pub fn decide_explained<F: Files>(
     message: &Message,
     files: &mut F,
 ) -> Result<Answer, Refusal>
-    ensures decided { IfOk result (λ a. IsDecidedExplained (F.told files.old) message.now.policy.now (message_route message.now) message.now.hex.now (answer_view a)) }
-    ensures undecided { IfErr result (λ r. IsUndecidedExplained (F.told files.old) message.now.policy.now message.now.hex.now r.fault (string_bytes r.note)) }
+    ensures decided { IfOk result (λ a. IsDecidedExplained (F.told files.old) message.now.policy.now
+        (message_route message.now) message.now.hex.now (answer_view a)) }
+    ensures undecided { IfErr result
+        (λ r. IsUndecidedExplained (F.told files.old) message.now.policy.now message.now.hex.now r.fault
+        (string_bytes r.note)) }
 {
     match octets_of(alloc, message.hex) {
         Ok(octets) => decide_octets(alloc, message, &octets, files),
@@ -63,8 +62,10 @@ fn decide_octets<F: Files>(
     octets: &[u8],
     files: &mut F,
 ) -> Result<Answer, Refusal>
-    ensures decided { IfOk result (λ a. IsDecidedOver (F.told files.old) message.now.policy.now (message_route message.now) octets.now (answer_view a)) }
-    ensures undecided { IfErr result (λ r. IsExplained (F.told files.old) message.now.policy.now r.fault (string_bytes r.note)) }
+    ensures decided { IfOk result (λ a. IsDecidedOver (F.told files.old) message.now.policy.now
+        (message_route message.now) octets.now (answer_view a)) }
+    ensures undecided { IfErr result
+        (λ r. IsExplained (F.told files.old) message.now.policy.now r.fault (string_bytes r.note)) }
 {
     match Texts::read(alloc, message.policy, files) {
         Ok(texts) => decide_over(alloc, message, octets, &texts),
@@ -79,9 +80,12 @@ fn decide_over(
     octets: &[u8],
     texts: &Texts,
 ) -> Result<Answer, Refusal>
-    ensures decided { IfOk result (λ a. IsExplainedOver (sources message.now.policy.now (map string_bytes texts.now.files.items) (map (λ text. text.items) texts.now.modules.items))
+    ensures decided { IfOk result (λ a. IsExplainedOver
+        (sources message.now.policy.now (map string_bytes texts.now.files.items)
+        (map (λ text. text.items) texts.now.modules.items))
         texts.now.policy.items (message_route message.now) octets.now (answer_view a)) }
-    ensures undecided { IfErr result (λ r. (SayNothing (map (λ text. text.items) texts.now.modules.items) texts.now.policy.items r.fault
+    ensures undecided { IfErr result
+        (λ r. (SayNothing (map (λ text. text.items) texts.now.modules.items) texts.now.policy.items r.fault
         × (string_bytes r.note ≡ explanation (sources message.now.policy.now (map string_bytes texts.now.files.items)
         (map (λ text. text.items) texts.now.modules.items)) r.fault))
         ⊎ ((r.fault ≡ NoMemory) × (string_bytes r.note ≡ []))) }
@@ -103,7 +107,8 @@ fn explained_verdict(
     route: &Route,
     octets: &[u8],
 ) -> Result<Answer, OutOfMemory>
-    ensures { IfOk result (λ a. IsExplainedVerdict (sources_view sources.now) (policy_view policy.now) (route_view route.now) octets.now (answer_view a)) }
+    ensures { IfOk result (λ a. IsExplainedVerdict (sources_view sources.now) (policy_view policy.now)
+        (route_view route.now) octets.now (answer_view a)) }
 {
     let verdict = policy.verdict(alloc, route, octets)?;
     let note = verdict_note(alloc, sources, policy, route, octets, &verdict)?;
@@ -156,7 +161,8 @@ fn status_of(verdict: &Verdict) -> u8
 /// The octets that the digits write, in either case.
 pub fn octets_of(alloc: Global, digits: &str) -> Result<Vec<u8>, Fault>
     ensures octets { IfOk result (λ octets. decode_of digits.now ≡ Ok octets.items) }
-    ensures bad { IfErr result (λ f. ((f ≡ BadHex) × ((e : FromHexError) × (decode_of digits.now ≡ Err e))) ⊎ (f ≡ NoMemory)) }
+    ensures bad { IfErr result (λ f. ((f ≡ BadHex) × ((e : FromHexError) × (decode_of digits.now ≡ Err e)))
+        ⊎ (f ≡ NoMemory)) }
 {
     match hex::decode(alloc, digits) {
         Ok(octets) => Ok(octets),

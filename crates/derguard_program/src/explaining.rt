@@ -33,7 +33,8 @@ impl<'a> Sources<'a> {
     }
 
     pub fn of_texts(path: &'a str, texts: &'a Texts) -> Sources<'a>
-        ensures { sources_view result ≡ sources path.now (map string_bytes texts.now.files.items) (map (λ text. text.items) texts.now.modules.items) }
+        ensures { sources_view result ≡ sources path.now (map string_bytes texts.now.files.items)
+            (map (λ text. text.items) texts.now.modules.items) }
     {
         Sources {
             path,

@@ -56,7 +56,8 @@ fn decide(
     octets: &[u8],
     out: &mut Vec<u8>,
 ) -> Result<(), OutOfMemory>
-    ensures { OnOk result (AppendsLine (policy_view policy.now) (sent message.now octets.now) out.old.items out.new.items) }
+    ensures { OnOk result (AppendsLine (policy_view policy.now)
+        (sent message.now octets.now) out.old.items out.new.items) }
 {
     let route = Route {
         from: b"a",

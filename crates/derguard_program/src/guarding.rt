@@ -1,6 +1,6 @@
 //! Guards the stream that comes in.
 ghost use Rattle.std.specs.Prelude.{◌≡◌, IfErr};
-ghost use Rattle.derguard_program.specs.Devices.{input_of, device};
+ghost use Rattle.derguard_program.specs.Devices.{source_of, device_of};
 ghost use Rattle.derguard_program.specs.Meeting.{GuardsAt, GuardsStream, IsDeviceFault, totals_status};
 
 use crate::fault::Fault;
@@ -21,9 +21,9 @@ pub fn run<F: Files, S: Source, O: Sink, E: Sink>(
     out: &mut O,
     err: &mut E,
 ) -> u8
-    ensures { GuardsStream (F.told files.old) path.now (input_of (S.tells input.old) (S.tells input.new) (S.takes input.old) (S.takes input.new) (S.has_failed input.new))
-        (device (O.taken out.old) (O.taken out.new) (O.has_failed out.new))
-        (device (E.taken err.old) (E.taken err.new) (E.has_failed err.new)) result }
+    ensures { GuardsStream (F.told files.old) path.now (source_of S.tells S.takes S.has_failed input.old input.new)
+        (device_of O.taken O.has_failed out.old out.new)
+        (device_of E.taken E.has_failed err.old err.new) result }
 {
     match guard(alloc, path, files, input, out, err) {
         Ok(totals) => status_of(totals),
@@ -42,12 +42,12 @@ fn guard<F: Files, S: Source, O: Sink, E: Sink>(
     out: &mut O,
     reports: &mut E,
 ) -> Result<Totals, Fault>
-    ensures guards { GuardsAt (F.told files.old) path.now (input_of (S.tells input.old) (S.tells input.new) (S.takes input.old) (S.takes input.new) (S.has_failed input.new))
-        (device (O.taken out.old) (O.taken out.new) (O.has_failed out.new))
-        (device (E.taken reports.old) (E.taken reports.new) (E.has_failed reports.new)) result }
-    ensures devices { IfErr result (λ f. IsDeviceFault f (input_of (S.tells input.old) (S.tells input.new) (S.takes input.old) (S.takes input.new) (S.has_failed input.new))
-        (device (O.taken out.old) (O.taken out.new) (O.has_failed out.new))
-        (device (E.taken reports.old) (E.taken reports.new) (E.has_failed reports.new))) }
+    ensures guards { GuardsAt (F.told files.old) path.now (source_of S.tells S.takes S.has_failed input.old input.new)
+        (device_of O.taken O.has_failed out.old out.new)
+        (device_of E.taken E.has_failed reports.old reports.new) result }
+    ensures devices { IfErr result (λ f. IsDeviceFault f (source_of S.tells S.takes S.has_failed input.old input.new)
+        (device_of O.taken O.has_failed out.old out.new)
+        (device_of E.taken E.has_failed reports.old reports.new)) }
 {
     let texts = Texts::read(alloc, path, files)?;
     let modules = texts.module_slices(alloc)?;

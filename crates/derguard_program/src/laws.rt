@@ -7,17 +7,20 @@ ghost use Rattle.derguard_program.specs.Files.{Told};
 ghost use Rattle.derguard_program.specs.Muxing.{GuardsLinks};
 ghost use Rattle.derguard_program.specs.Records.{Record, AreRecords, HasNoRecord};
 ghost use Rattle.derguard_program.specs.Requests.{AbstractRequest};
-ghost use Rattle.derguard_program.specs.Words.{Asks, the_app};
+ghost use Rattle.derguard_program.specs.Words.{Asks, joined, the_app};
 
 /// Words in which nothing is wrong ask for a request, and for one alone.
 pub fn law_one_request()
-    ensures some { (words : List Text) → fault_of the_app words ≡ [] → (request : AbstractRequest) × Asks words request }
-    ensures one { (words : List Text) (request other : AbstractRequest) → Asks words request → Asks words other → request ≡ other }
+    ensures some { (words : List Text) → fault_of the_app (joined words) ≡ [] → (request : AbstractRequest)
+        × Asks words request }
+    ensures one { (words : List Text) (request other : AbstractRequest) → Asks words request → Asks words other
+        → request ≡ other }
 {}
 
 /// A stream has one reading as records and a rest with which no record begins.
 pub fn law_one_reading()
-    ensures exists { (stream : List ℕ) → (records : List Record) × (rest : List ℕ) × AreRecords stream records rest × HasNoRecord rest }
+    ensures exists { (stream : List ℕ) → (records : List Record) × (rest : List ℕ) × AreRecords stream records rest
+        × HasNoRecord rest }
     ensures one { (stream : List ℕ) (records others : List Record) (rest last : List ℕ) →
         AreRecords stream records rest → AreRecords stream others last → HasNoRecord rest → HasNoRecord last →
         (records ≡ others) × (rest ≡ last) }

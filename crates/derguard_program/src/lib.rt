@@ -4,7 +4,7 @@
 //! | question | code | definition |
 //! |---|---|---|
 //! | What is a request? | `request.rt` (`Request`) | `specs/Requests.antt` |
-//! | Which words are which request? Is it one? | `words.rt`, `laws.rt` | `specs/Words.antt` |
+//! | Which words are which request? Is it one? | `joining.rt`, `words.rt`, `laws.rt` | `specs/Words.antt` |
 //! | Is a stream of records read in one way? | `laws.rt` | `specs/Records.antt` |
 //! | What is it to meet a request? | `meeting.rt` (`program`, `meet`) | `specs/Meeting.antt` |
 //! | What is answered to `check` and `decide`? | `checking.rt`, `deciding.rt`, `answer.rt` | `specs/Answers.antt` |
@@ -33,6 +33,7 @@ mod fault;
 mod files;
 mod first_run;
 mod guarding;
+mod joining;
 pub mod laws;
 mod links;
 mod listing;

@@ -29,7 +29,7 @@ impl Links {
     ghost use Rattle.guard_frames.specs.Prefix.{IsProperPrefix};
     ghost use Rattle.derguard_program.specs.declared.stop.Stop.TheVariants.{ErrorFailed};
     ghost use Rattle.guard_policy.specs.PolicyView.{policy_view};
-    ghost use Rattle.derguard_program.specs.Devices.{device};
+    ghost use Rattle.derguard_program.specs.Devices.{device, device_of};
     ghost use Rattle.derguard_program.specs.Files.{Told};
     ghost use Rattle.derguard_program.specs.Records.Record.{piece, end, reload};
     ghost use Rattle.derguard_program.specs.Muxing.{new_mux, WritesPart, BreaksErr};
@@ -68,11 +68,13 @@ impl Links {
     ) -> Result<(), Stop>
         requires link { link ≤ 15 }
         requires ready { IsReady self.old.gateway }
-        ensures done { OnOk result ((path : List ℕ) (told : Told) → IsTaken path told self.old (piece link octets.now) told self.new
+        ensures done { OnOk result ((path : List ℕ) (told : Told)
+            → IsTaken path told self.old (piece link octets.now) told self.new
             (O.taken out.old, O.taken out.new) (E.taken err.old, E.taken err.new)) }
-        ensures cut { IfErr result (λ s. (path : List ℕ) (told : Told) → IsCut s path (mux_of told self.old) (piece link octets.now)
-            (device (O.taken out.old) (O.taken out.new) (O.has_failed out.new))
-            (device (E.taken err.old) (E.taken err.new) (E.has_failed err.new))) }
+        ensures cut { IfErr result (λ s. (path : List ℕ) (told : Told)
+            → IsCut s path (mux_of told self.old) (piece link octets.now)
+            (device_of O.taken O.has_failed out.old out.new)
+            (device_of E.taken E.has_failed err.old err.new)) }
     {
         let answer = feed_link(&mut self.gateway, alloc, link, octets);
         let is_reported = pass_on(&mut self.gateway, link, out, err)?;
@@ -88,7 +90,7 @@ impl Links {
             IsTaken path told self.old (end link) told self.new (out, out) (E.taken err.old, E.taken err.new)) }
         ensures cut { IfErr result (λ s. (path : List ℕ) (told : Told) (out : Option (List ℕ)) (failed : Bool) →
             IsCut s path (mux_of told self.old) (end link) (device out out failed)
-            (device (E.taken err.old) (E.taken err.new) (E.has_failed err.new))) }
+            (device_of E.taken E.has_failed err.old err.new)) }
     {
         let answer = end_link(&mut self.gateway, alloc, link);
         self.tell_answer(link, answer, err)
@@ -99,9 +101,10 @@ impl Links {
         requires ready { IsReady self.old.gateway }
         ensures done { OnOk result ((path : List ℕ) (told : Told) →
             AreEnded path told self.old self.new (E.taken err.old, E.taken err.new)) }
-        ensures cut { IfErr result (λ s. (s ≡ ErrorFailed) × ((path : List ℕ) (told : Told) (out : Option (List ℕ)) (failed : Bool) →
+        ensures cut { IfErr result (λ s. (s ≡ ErrorFailed)
+            × ((path : List ℕ) (told : Told) (out : Option (List ℕ)) (failed : Bool) →
             IsEndCut path told self.old (device out out failed)
-            (device (E.taken err.old) (E.taken err.new) (E.has_failed err.new)))) }
+            (device_of E.taken E.has_failed err.old err.new))) }
     {
         for link in 0..LINKS {
             self.end_unless_ended(alloc, link, err)?;
@@ -124,7 +127,7 @@ impl Links {
         ensures cut { IfErr result (λ s. (s ≡ ErrorFailed) × Is false link self.old
             × ((path : List ℕ) (told : Told) (out : Option (List ℕ)) (failed : Bool)
             → WritesPart path (mux_of told self.old) (end link) []
-            (device out out failed) (device (E.taken err.old) (E.taken err.new) (E.has_failed err.new)) BreaksErr)) }
+            (device out out failed) (device_of E.taken E.has_failed err.old err.new) BreaksErr)) }
     {
         let answer = end_link(&mut self.gateway, alloc, link);
         if is_closed(answer) {
@@ -142,10 +145,12 @@ impl Links {
         err: &mut E,
     ) -> Result<(), Stop>
         requires ready { IsReady self.old.gateway }
-        ensures done { OnOk result ((out : Option (List ℕ)) → IsTaken path.now (F.told files.old) self.old reload (F.told files.new) self.new
+        ensures done { OnOk result ((out : Option (List ℕ))
+            → IsTaken path.now (F.told files.old) self.old reload (F.told files.new) self.new
             (out, out) (E.taken err.old, E.taken err.new)) }
-        ensures cut { IfErr result (λ s. (out : Option (List ℕ)) (failed : Bool) → IsCut s path.now (mux_of (F.told files.old) self.old) reload
-            (device out out failed) (device (E.taken err.old) (E.taken err.new) (E.has_failed err.new))) }
+        ensures cut { IfErr result (λ s. (out : Option (List ℕ)) (failed : Bool)
+            → IsCut s path.now (mux_of (F.told files.old) self.old) reload
+            (device out out failed) (device_of E.taken E.has_failed err.old err.new)) }
     {
         match load(alloc, path, files) {
             Ok(policy) => {

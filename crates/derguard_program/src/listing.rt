@@ -3,19 +3,14 @@ ghost use Rattle.std.specs.Prelude.{◌≡◌, ◌++◌, codes, is_some, map, op
 ghost use Rattle.std.specs.List.{list_any};
 ghost use Rattle.guard_model.specs.SameType.{same_site};
 ghost use Rattle.guard_model.specs.TypeView.{type_view, constraint_view, constraints_of};
-ghost use Rattle.guard_policy.specs.Decisions.{speaks_of};
-ghost use Rattle.guard_policy.specs.Names.{anyone, is_meant};
 ghost use Rattle.guard_policy.specs.PolicyView.{policy_view, route_view, said_view};
 ghost use Rattle.guard_report.specs.Lines.{route_text};
-ghost use Rattle.derguard_program.specs.Listing.{places_in, begins, has_all_of, found_view, is_whole, found_rule, found_rules, route_of, denies_all_of, first_denier, may_let_pass, is_closed, effect_text, barren_text, denied_text, closed_text, denier_of, said_text, remarks, rule_line, line_of_message, rule_lines, unused_line, message_lines, messages_lines, listing};
+ghost use Rattle.derguard_program.specs.Listing.{places_in, begins, has_all_of, found_view, is_whole, found_rule, found_rules, denies_all_of, first_denier, may_let_pass, is_closed, effect_text, barren_text, denied_text, closed_text, denier_of, said_text, remarks, rule_line, line_of_message, rule_lines, unused_line, message_lines, messages_lines, listing};
 
 use crate::octets::add;
 use guard_model::{Cons, OutOfMemory, Site, Ty};
-use guard_policy::{Effect, Policy, Route, SaidRule};
+use guard_policy::{Effect, Policy, Route, SaidRule, is_anyone};
 use std::alloc::Global;
-
-/// What a rule gives for every sender, or for every receiver.
-const ANYONE: &str = "*";
 
 /// What the remarks rest on.
 const LAST_LINE: &[u8] =
@@ -64,7 +59,8 @@ fn found_rule<'a>(
     number: usize,
     rule: SaidRule<'a>,
 ) -> Result<Found<'a>, OutOfMemory>
-    ensures { IfOk result (λ found. found_view found ≡ found_rule (policy_view policy.now) number (said_view rule.entry)) }
+    ensures { IfOk result (λ found. found_view found
+        ≡ found_rule (policy_view policy.now) number (said_view rule.entry)) }
 {
     let barren = policy.is_barren(alloc, number)?;
     let whole = is_whole(policy, &rule);
@@ -92,7 +88,8 @@ fn has_all_of(wide: &Ty, narrow: &Ty) -> bool
 }
 
 fn begins(first: &[Cons], all: &[Cons]) -> bool
-    ensures { result ≡ begins (places_in (constraints_of (map constraint_view first.now))) (places_in (constraints_of (map constraint_view all.now))) }
+    ensures { result ≡ begins (places_in (constraints_of (map constraint_view first.now)))
+        (places_in (constraints_of (map constraint_view all.now))) }
 {
     let mut rest = all;
     for constraint in first {
@@ -115,49 +112,19 @@ fn is_same_site(one: &Site, two: &Site) -> bool
 
 // ---- what others do to it
 
-fn route_of<'a>(rule: &SaidRule<'a>) -> Route<'a>
-    ensures { route_view result ≡ route_of (said_view rule.now) }
-{
-    Route {
-        from: rule.from.as_bytes(),
-        to: rule.to.as_bytes(),
-        message: rule.message.as_bytes(),
-    }
-}
-
-/// The rule speaks of this sender, receiver and message.
-fn speaks_of(route: &Route, rule: &SaidRule) -> bool
-    ensures { result ≡ speaks_of (route_view route.now) (said_view rule.now) }
-{
-    is_meant(rule.from, route.from)
-        && is_meant(rule.to, route.to)
-        && rule.message.as_bytes() == route.message
-}
-
-fn is_meant(given: &str, name: &[u8]) -> bool
-    ensures { result ≡ is_meant given.now name.now }
-{
-    given.as_bytes() == name || is_anyone(given)
-}
-
-fn is_anyone(given: &str) -> bool
-    ensures { result ≡ bytes_eq given.now anyone }
-{
-    given == ANYONE
-}
-
 /// On this route the second rule denies all that the first one allows.
 fn denies_all_of(route: &Route, rule: &SaidRule, other: &Found) -> bool
     ensures { result ≡ denies_all_of (route_view route.now) (said_view rule.now) (found_view other.now) }
 {
     other.rule.effect == Effect::Deny
-        && speaks_of(route, &other.rule)
+        && other.rule.speaks_of(route)
         && (other.whole || has_all_of(other.rule.ty, rule.ty))
 }
 
 /// The name of the first rule that denies on this route all that the rule allows.
 fn first_denier<'a>(route: &Route, rule: &SaidRule, rules: &[Found<'a>]) -> Option<&'a str>
-    ensures { option_map (λ name. name.now) result ≡ first_denier (route_view route.now) (said_view rule.now) (map found_view rules.now) }
+    ensures { option_map (λ name. name.now) result
+        ≡ first_denier (route_view route.now) (said_view rule.now) (map found_view rules.now) }
 {
     for other in rules {
         if denies_all_of(route, rule, other) {
@@ -171,7 +138,7 @@ fn may_let_pass(rules: &[Found], route: &Route, found: &Found) -> bool
     ensures { result ≡ may_let_pass (map found_view rules.now) (route_view route.now) (found_view found.now) }
 {
     found.rule.effect == Effect::Allow
-        && speaks_of(route, &found.rule)
+        && found.rule.speaks_of(route)
         && !found.barren
         && !is_denied(route, &found.rule, rules)
 }
@@ -184,7 +151,8 @@ fn is_denied(route: &Route, rule: &SaidRule, rules: &[Found]) -> bool
 
 /// Whether some rule may let something pass on this route.
 fn is_open(rules: &[Found], route: &Route) -> bool
-    ensures { result ≡ list_any (may_let_pass (map found_view rules.now) (route_view route.now)) (map found_view rules.now) }
+    ensures { result ≡ list_any (may_let_pass (map found_view rules.now) (route_view route.now))
+        (map found_view rules.now) }
 {
     for found in rules {
         if may_let_pass(rules, route, found) {
@@ -198,7 +166,7 @@ fn is_open(rules: &[Found], route: &Route) -> bool
 fn is_closed(rules: &[Found], rule: &SaidRule) -> bool
     ensures { result ≡ is_closed (map found_view rules.now) (said_view rule.now) }
 {
-    !is_anyone(rule.from) && !is_anyone(rule.to) && !is_open(rules, &route_of(rule))
+    !is_anyone(rule.from) && !is_anyone(rule.to) && !is_open(rules, &rule.route())
 }
 
 /// The rule by which an allowing one is denied as a whole.
@@ -206,7 +174,7 @@ fn denier_of<'a>(rules: &[Found<'a>], rule: &SaidRule) -> Option<&'a str>
     ensures { option_map (λ name. name.now) result ≡ denier_of (map found_view rules.now) (said_view rule.now) }
 {
     match rule.effect {
-        Effect::Allow => first_denier(&route_of(rule), rule, rules),
+        Effect::Allow => first_denier(&rule.route(), rule, rules),
         Effect::Deny => None,
     }
 }
@@ -214,7 +182,8 @@ fn denier_of<'a>(rules: &[Found<'a>], rule: &SaidRule) -> Option<&'a str>
 // ---- the text
 
 fn add_messages(text: &mut Vec<u8>, policy: &Policy, rules: &[Found]) -> Result<(), OutOfMemory>
-    ensures { OnOk result (text.new.items ≡ text.old.items ++ messages_lines (map found_view rules.now) (policy_view policy.now).messages) }
+    ensures { OnOk result (text.new.items
+        ≡ text.old.items ++ messages_lines (map found_view rules.now) (policy_view policy.now).messages) }
 {
     for place in 0..policy.messages() {
         let Some(message) = policy.message_name(place) else {
@@ -256,7 +225,8 @@ fn has_rule(rules: &[Found], message: &str) -> bool
 }
 
 fn add_rules(text: &mut Vec<u8>, rules: &[Found], message: &str) -> Result<(), OutOfMemory>
-    ensures { OnOk result (text.new.items ≡ text.old.items ++ rule_lines (map found_view rules.now) message.now (map found_view rules.now)) }
+    ensures { OnOk result (text.new.items
+        ≡ text.old.items ++ rule_lines (map found_view rules.now) message.now (map found_view rules.now)) }
 {
     for found in rules {
         add_rule_of(text, rules, message, found)?;
@@ -271,7 +241,8 @@ fn add_rule_of(
     message: &str,
     found: &Found,
 ) -> Result<(), OutOfMemory>
-    ensures { OnOk result (text.new.items ≡ text.old.items ++ line_of_message (map found_view rules.now) message.now (found_view found.now)) }
+    ensures { OnOk result (text.new.items
+        ≡ text.old.items ++ line_of_message (map found_view rules.now) message.now (found_view found.now)) }
 {
     if found.rule.message == message {
         add_rule(text, rules, found)
@@ -282,7 +253,8 @@ fn add_rule_of(
 
 /// Adds the line of a rule.
 fn add_rule(text: &mut Vec<u8>, rules: &[Found], found: &Found) -> Result<(), OutOfMemory>
-    ensures { OnOk result (text.new.items ≡ text.old.items ++ rule_line (map found_view rules.now) (found_view found.now)) }
+    ensures { OnOk result (text.new.items
+        ≡ text.old.items ++ rule_line (map found_view rules.now) (found_view found.now)) }
 {
     add_said(text, &found.rule)?;
     add_remarks(text, rules, found)?;
@@ -293,13 +265,14 @@ fn add_said(text: &mut Vec<u8>, rule: &SaidRule) -> Result<(), OutOfMemory>
     ensures { OnOk result (text.new.items ≡ text.old.items ++ said_text (said_view rule.now)) }
 {
     add(text, b"  ")?;
-    add_route(text, &route_of(rule))?;
+    add_route(text, &rule.route())?;
     add(text, effect_text(rule.effect))?;
     add(text, rule.name.as_bytes())
 }
 
 fn add_remarks(text: &mut Vec<u8>, rules: &[Found], found: &Found) -> Result<(), OutOfMemory>
-    ensures { OnOk result (text.new.items ≡ text.old.items ++ remarks (map found_view rules.now) (found_view found.now)) }
+    ensures { OnOk result (text.new.items
+        ≡ text.old.items ++ remarks (map found_view rules.now) (found_view found.now)) }
 {
     add(text, barren_text(found.barren))?;
     add_denied(text, denier_of(rules, &found.rule))?;

@@ -1,7 +1,7 @@
 //! The program over any files, source and sinks.
 ghost use Rattle.std.specs.Prelude.{◌≡◌, ◌≤◌, ◌∷◌, [], length, map, string_bytes, true, false, IfOk, IfErr};
 ghost use Rattle.derguard_program.specs.Requests.{request_view, first};
-ghost use Rattle.derguard_program.specs.Devices.{input_of, device, IsUntouched};
+ghost use Rattle.derguard_program.specs.Devices.{source_of, device_of, IsUntouched};
 ghost use Rattle.derguard_program.specs.Explaining.{TellsWith};
 ghost use Rattle.derguard_program.specs.Writing.{Writes, Tells, TellsNoMemory};
 ghost use Rattle.derguard_program.specs.Meeting.{Meets, Programs, Shows, is_help, version_line};
@@ -16,6 +16,7 @@ use crate::fault::Fault;
 use crate::files::Files;
 use crate::first_run::first_run;
 use crate::guarding::run;
+use crate::joining::joined;
 use crate::muxing::mux;
 use crate::outputs::{tell, tell_no_memory, tell_text, tell_with, write};
 use crate::request::Request;
@@ -41,18 +42,24 @@ pub fn program<F: Files, S: Source, O: Sink, E: Sink>(
     out: &mut O,
     err: &mut E,
 ) -> u8
-    ensures words { 2 ≤ length words.now → Programs (map (λ w. w.now) words.now) (F.told files.old) (input_of (S.tells input.old) (S.tells input.new) (S.takes input.old) (S.takes input.new) (S.has_failed input.new))
-        (device (O.taken out.old) (O.taken out.new) (O.has_failed out.new))
-        (device (E.taken err.old) (E.taken err.new) (E.has_failed err.new)) result }
+    ensures words { 2 ≤ length words.now
+        → Programs (map (λ w. w.now) words.now) (F.told files.old)
+        (source_of S.tells S.takes S.has_failed input.old input.new)
+        (device_of O.taken O.has_failed out.old out.new)
+        (device_of E.taken E.has_failed err.old err.new) result }
     // Without words after the program's name it decides the messages that are built in.
-    ensures alone { length words.now ≤ 1 → Meets (F.told files.old) first (input_of (S.tells input.old) (S.tells input.new) (S.takes input.old) (S.takes input.new) (S.has_failed input.new))
-        (device (O.taken out.old) (O.taken out.new) (O.has_failed out.new))
-        (device (E.taken err.old) (E.taken err.new) (E.has_failed err.new)) result }
+    ensures alone { length words.now ≤ 1
+        → Meets (F.told files.old) first (source_of S.tells S.takes S.has_failed input.old input.new)
+        (device_of O.taken O.has_failed out.old out.new)
+        (device_of E.taken E.has_failed err.old err.new) result }
 {
     if words.len() <= 1 {
         return meet(alloc, &Request::First, files, input, out, err);
     }
-    match request_in(alloc, words) {
+    let Ok(words) = joined(alloc, words) else {
+        return tell_no_memory(err);
+    };
+    match request_in(alloc, &words) {
         Ok(request) => meet(alloc, &request, files, input, out, err),
         Err(e) => show(alloc, &e, out, err),
     }
@@ -67,9 +74,10 @@ pub fn meet<F: Files, S: Source, O: Sink, E: Sink>(
     out: &mut O,
     err: &mut E,
 ) -> u8
-    ensures { Meets (F.told files.old) (request_view request.now) (input_of (S.tells input.old) (S.tells input.new) (S.takes input.old) (S.takes input.new) (S.has_failed input.new))
-        (device (O.taken out.old) (O.taken out.new) (O.has_failed out.new))
-        (device (E.taken err.old) (E.taken err.new) (E.has_failed err.new)) result }
+    ensures { Meets (F.told files.old) (request_view request.now)
+        (source_of S.tells S.takes S.has_failed input.old input.new)
+        (device_of O.taken O.has_failed out.old out.new)
+        (device_of E.taken E.has_failed err.old err.new) result }
 {
     match request {
         Request::First => give(alloc, first_run(alloc), out, err),
@@ -109,9 +117,10 @@ fn give<O: Sink, E: Sink>(
     out: &mut O,
     err: &mut E,
 ) -> u8
-    ensures written { IfOk found (λ a. Writes a.out.items a.status (device (O.taken out.old) (O.taken out.new) (O.has_failed out.new))
-        (device (E.taken err.old) (E.taken err.new) (E.has_failed err.new)) result) }
-    ensures told { IfErr found (λ f. (O.taken out.new ≡ O.taken out.old) × Tells f (device (E.taken err.old) (E.taken err.new) (E.has_failed err.new)) result) }
+    ensures written { IfOk found (λ a. Writes a.out.items a.status (device_of O.taken O.has_failed out.old out.new)
+        (device_of E.taken E.has_failed err.old err.new) result) }
+    ensures told { IfErr found (λ f. (O.taken out.new ≡ O.taken out.old)
+        × Tells f (device_of E.taken E.has_failed err.old err.new) result) }
 {
     match found {
         Ok(answer) => write(&answer.out, answer.status, out, err),
@@ -126,10 +135,10 @@ fn give_explained<O: Sink, E: Sink>(
     out: &mut O,
     err: &mut E,
 ) -> u8
-    ensures written { IfOk found (λ a. Writes a.out.items a.status (device (O.taken out.old) (O.taken out.new) (O.has_failed out.new))
-        (device (E.taken err.old) (E.taken err.new) (E.has_failed err.new)) result) }
+    ensures written { IfOk found (λ a. Writes a.out.items a.status (device_of O.taken O.has_failed out.old out.new)
+        (device_of E.taken E.has_failed err.old err.new) result) }
     ensures told { IfErr found (λ r. (O.taken out.new ≡ O.taken out.old)
-        × TellsWith r.fault (string_bytes r.note) (device (E.taken err.old) (E.taken err.new) (E.has_failed err.new))
+        × TellsWith r.fault (string_bytes r.note) (device_of E.taken E.has_failed err.old err.new)
         result) }
 {
     match found {
@@ -141,10 +150,10 @@ fn give_explained<O: Sink, E: Sink>(
 /// Shows what `clap` says of the words: help and the version on standard output, with status 0, and what is wrong with
 /// them on standard error, with status 2.
 fn show<O: Sink, E: Sink>(alloc: Global, said: &Error, out: &mut O, err: &mut E) -> u8
-    ensures shown { Shows (kind_of said.now ∷ []) (device (O.taken out.old) (O.taken out.new) (O.has_failed out.new))
-        (device (E.taken err.old) (E.taken err.new) (E.has_failed err.new)) result }
-    ensures memory { kind_of said.now ≡ OutOfMemory → IsUntouched (device (O.taken out.old) (O.taken out.new) (O.has_failed out.new))
-        × TellsNoMemory (device (E.taken err.old) (E.taken err.new) (E.has_failed err.new)) result }
+    ensures shown { Shows (kind_of said.now ∷ []) (device_of O.taken O.has_failed out.old out.new)
+        (device_of E.taken E.has_failed err.old err.new) result }
+    ensures memory { kind_of said.now ≡ OutOfMemory → IsUntouched (device_of O.taken O.has_failed out.old out.new)
+        × TellsNoMemory (device_of E.taken E.has_failed err.old err.new) result }
 {
     if is_no_memory(said.kind()) {
         return tell_no_memory(err);

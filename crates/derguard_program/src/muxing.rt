@@ -1,6 +1,6 @@
 //! Guards the links of a stream of records.
 ghost use Rattle.std.specs.Prelude.{◌≡◌, length, OnOk, IfErr};
-ghost use Rattle.derguard_program.specs.Devices.{input_of, device};
+ghost use Rattle.derguard_program.specs.Devices.{source_of, device_of};
 ghost use Rattle.derguard_program.specs.Muxing.{GuardsLinks, Finishes, Stops, TellsStop};
 ghost use Rattle.derguard_program.specs.inside.Doing.{IsReady, mux_of, IsTaken, IsCut};
 ghost use Rattle.derguard_program.specs.inside.Headers.{IsGood, record_of};
@@ -28,9 +28,9 @@ pub fn mux<F: Files, S: Source, O: Sink, E: Sink>(
     out: &mut O,
     err: &mut E,
 ) -> u8
-    ensures { GuardsLinks (F.told files.old) path.now (input_of (S.tells input.old) (S.tells input.new) (S.takes input.old) (S.takes input.new) (S.has_failed input.new))
-        (device (O.taken out.old) (O.taken out.new) (O.has_failed out.new))
-        (device (E.taken err.old) (E.taken err.new) (E.has_failed err.new)) result }
+    ensures { GuardsLinks (F.told files.old) path.now (source_of S.tells S.takes S.has_failed input.old input.new)
+        (device_of O.taken O.has_failed out.old out.new)
+        (device_of E.taken E.has_failed err.old err.new) result }
 {
     let policy = match load(alloc, path, files) {
         Ok(policy) => policy,
@@ -60,7 +60,7 @@ pub fn mux<F: Files, S: Source, O: Sink, E: Sink>(
 
 /// Tells why the links weren't guarded to their ends.
 fn tell_stop<E: Sink>(reason: Stop, err: &mut E) -> u8
-    ensures told { TellsStop reason (device (E.taken err.old) (E.taken err.new) (E.has_failed err.new)) result }
+    ensures told { TellsStop reason (device_of E.taken E.has_failed err.old err.new) result }
     ensures silent { reason ≡ stop.ErrorFailed → err.new ≡ err.old }
 {
     match reason {
@@ -86,15 +86,13 @@ fn guard<F: Files, S: Source, O: Sink, E: Sink>(
     requires ready { IsReady links.old.gateway }
     requires first { links.old.status ≡ 0 }
     ensures done { OnOk result (Finishes path.now (mux_of (F.told files.old) links.old)
-        (input_of (S.tells input.old) (S.tells input.new) (S.takes input.old) (S.takes input.new)
-        (S.has_failed input.new))
-        (device (O.taken out.old) (O.taken out.new) (O.has_failed out.new))
-        (device (E.taken err.old) (E.taken err.new) (E.has_failed err.new)) links.new.status) }
+        (source_of S.tells S.takes S.has_failed input.old input.new)
+        (device_of O.taken O.has_failed out.old out.new)
+        (device_of E.taken E.has_failed err.old err.new) links.new.status) }
     ensures stops { IfErr result (λ s. Stops s path.now (mux_of (F.told files.old) links.old)
-        (input_of (S.tells input.old) (S.tells input.new) (S.takes input.old) (S.takes input.new)
-        (S.has_failed input.new))
-        (device (O.taken out.old) (O.taken out.new) (O.has_failed out.new))
-        (device (E.taken err.old) (E.taken err.new) (E.has_failed err.new))) }
+        (source_of S.tells S.takes S.has_failed input.old input.new)
+        (device_of O.taken O.has_failed out.old out.new)
+        (device_of E.taken E.has_failed err.old err.new)) }
 {
     let mut reads = MOST_READS;
     for _ in 0..MOST_READS {
@@ -120,11 +118,12 @@ fn take_record<F: Files, O: Sink, E: Sink>(
     requires good { IsGood header }
     requires room { length room.now ≡ 1048576 }
     requires ready { IsReady links.old.gateway }
-    ensures done { OnOk result (IsTaken path.now (F.told files.old) links.old (record_of header room.now) (F.told files.new) links.new
+    ensures done { OnOk result (IsTaken path.now (F.told files.old) links.old (record_of header room.now)
+        (F.told files.new) links.new
         (O.taken out.old, O.taken out.new) (E.taken err.old, E.taken err.new)) }
     ensures cut { IfErr result (λ s. IsCut s path.now (mux_of (F.told files.old) links.old) (record_of header room.now)
-        (device (O.taken out.old) (O.taken out.new) (O.has_failed out.new))
-        (device (E.taken err.old) (E.taken err.new) (E.has_failed err.new))) }
+        (device_of O.taken O.has_failed out.old out.new)
+        (device_of E.taken E.has_failed err.old err.new)) }
 {
     match header {
         Header::Piece(link, size) => links.piece(alloc, link, &room[..size], out, err),

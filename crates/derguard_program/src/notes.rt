@@ -1,6 +1,6 @@
 //! What is said of a fault where it is to be explained.
 ghost use Rattle.std.specs.Prelude.{◌≡◌, option_map};
-ghost use Rattle.derguard_program.specs.Notes.{note_view, lex_note, syntax_note, name_note, tag_note, value_note, constraint_note, schema_note, table_note, policy_note, note_of};
+ghost use Rattle.derguard_program.specs.Notes.{note_view, noted, lex_note, syntax_note, name_note, tag_note, value_note, constraint_note, schema_note, table_note, policy_note, note_of};
 
 use crate::fault::Fault;
 use guard_constraints::ConsFault;
@@ -33,35 +33,34 @@ pub struct Note {
     pub advice: &'static str,
 }
 
-/// Any fault. Nothing is said of a stream that failed and of want of memory.
+/// Any fault. Nothing is said of a stream that failed, nor of want of memory, whoever ran out of it.
 pub fn note_of(fault: &Fault) -> Option<Note>
     ensures { option_map note_view result ≡ note_of fault.now }
 {
     match fault {
-        Fault::BadHex => Some(noted(
+        Fault::BadHex => noted(
             Place::Nowhere,
             "A message is written by pairs of hexadecimal digits, 0 to 9 and a to f. Mend the digits.",
-        )),
-        Fault::CannotRead(_) => Some(noted(
+        ),
+        Fault::CannotRead(_) => noted(
             Place::Nowhere,
             "Nothing can be read at this path. Module files are looked for in the folder of the policy.",
-        )),
-        Fault::Schema(fault) => Some(schema_note(fault)),
-        Fault::Policy(fault) => Some(policy_note(fault)),
+        ),
+        Fault::Schema(fault) => schema_note(fault),
+        Fault::Policy(fault) => policy_note(fault),
         Fault::Run(_) | Fault::NoMemory => None,
     }
 }
 
-fn noted(place: Place, advice: &'static str) -> Note
-    ensures place { result.place ≡ place }
-    ensures advice { result.advice.now ≡ advice.now }
+fn noted(place: Place, advice: &'static str) -> Option<Note>
+    ensures { option_map note_view result ≡ noted place advice.now }
 {
-    Note { place, advice }
+    Some(Note { place, advice })
 }
 
 /// A fault of tokens, L1 to L7.
-fn lex_note(fault: &LexFault) -> Note
-    ensures { note_view result ≡ lex_note fault.now }
+fn lex_note(fault: &LexFault) -> Option<Note>
+    ensures { option_map note_view result ≡ lex_note fault.now }
 {
     match fault {
         LexFault::BadCharacter(site) => noted(
@@ -92,16 +91,13 @@ fn lex_note(fault: &LexFault) -> Note
             Place::Module(*text),
             "The file has more than 1,048,576 octets. Split it into several modules.",
         ),
-        LexFault::OutOfMemory => noted(
-            Place::Nowhere,
-            "Memory ran out. Make more of it available.",
-        ),
+        LexFault::OutOfMemory => None,
     }
 }
 
 /// A fault of syntax, P1 to P3.
-fn syntax_note(fault: &SyntaxFault) -> Note
-    ensures { note_view result ≡ syntax_note fault.now }
+fn syntax_note(fault: &SyntaxFault) -> Option<Note>
+    ensures { option_map note_view result ≡ syntax_note fault.now }
 {
     match fault {
         SyntaxFault::Unexpected(site) => noted(
@@ -116,16 +112,13 @@ fn syntax_note(fault: &SyntaxFault) -> Note
             Place::At(*site),
             "More than 128 types, values or sets are around this one. Give an inner one a name of its own.",
         ),
-        SyntaxFault::OutOfMemory => noted(
-            Place::Nowhere,
-            "Memory ran out. Make more of it available.",
-        ),
+        SyntaxFault::OutOfMemory => None,
     }
 }
 
 /// A fault of names, N1 to N7.
-fn name_note(fault: &NameFault) -> Note
-    ensures { note_view result ≡ name_note fault.now }
+fn name_note(fault: &NameFault) -> Option<Note>
+    ensures { option_map note_view result ≡ name_note fault.now }
 {
     match fault {
         NameFault::Duplicate(site) => noted(
@@ -156,16 +149,13 @@ fn name_note(fault: &NameFault) -> Note
             Place::ThePolicy,
             "The policy lists more than 64 modules. List fewer.",
         ),
-        NameFault::OutOfMemory => noted(
-            Place::Nowhere,
-            "Memory ran out. Make more of it available.",
-        ),
+        NameFault::OutOfMemory => None,
     }
 }
 
 /// A fault of tags and parts, G1 to G12.
-fn tag_note(fault: &TagFault) -> Note
-    ensures { note_view result ≡ tag_note fault.now }
+fn tag_note(fault: &TagFault) -> Option<Note>
+    ensures { option_map note_view result ≡ tag_note fault.now }
 {
     match fault {
         TagFault::UniversalTag(site) => noted(
@@ -216,16 +206,13 @@ fn tag_note(fault: &TagFault) -> Note
             Place::At(*site),
             "The number is outside 128 bits, or of a named bit above 65,535. Choose a smaller one.",
         ),
-        TagFault::OutOfMemory => noted(
-            Place::Nowhere,
-            "Memory ran out. Make more of it available.",
-        ),
+        TagFault::OutOfMemory => None,
     }
 }
 
 /// A fault of a written value, V1 to V8.
-fn value_note(fault: &ValueFault) -> Note
-    ensures { note_view result ≡ value_note fault.now }
+fn value_note(fault: &ValueFault) -> Option<Note>
+    ensures { option_map note_view result ≡ value_note fault.now }
 {
     match fault {
         ValueFault::WrongNotation(site) => noted(
@@ -260,16 +247,13 @@ fn value_note(fault: &ValueFault) -> Note
             Place::At(*site),
             "The number, or the encoding of the value, is above the limits of this guard. Write a smaller one.",
         ),
-        ValueFault::OutOfMemory => noted(
-            Place::Nowhere,
-            "Memory ran out. Make more of it available.",
-        ),
+        ValueFault::OutOfMemory => None,
     }
 }
 
 /// A fault of a constraint, C1 to C10.
-fn constraint_note(fault: &ConsFault) -> Note
-    ensures { note_view result ≡ constraint_note fault.now }
+fn constraint_note(fault: &ConsFault) -> Option<Note>
+    ensures { option_map note_view result ≡ constraint_note fault.now }
 {
     match fault {
         ConsFault::NotApplicable(site) => noted(
@@ -309,16 +293,13 @@ fn constraint_note(fault: &ConsFault) -> Note
             Place::At(*site),
             "SIZE is not read on a BIT STRING with named bits. Remove the one or the others.",
         ),
-        ConsFault::OutOfMemory => noted(
-            Place::Nowhere,
-            "Memory ran out. Make more of it available.",
-        ),
+        ConsFault::OutOfMemory => None,
     }
 }
 
 /// A fault of modules; S1 to S3 are those of the schema as a whole.
-fn schema_note(fault: &SchemaFault) -> Note
-    ensures { note_view result ≡ schema_note fault.now }
+fn schema_note(fault: &SchemaFault) -> Option<Note>
+    ensures { option_map note_view result ≡ schema_note fault.now }
 {
     match fault {
         SchemaFault::Lex(fault) => lex_note(fault),
@@ -339,16 +320,13 @@ fn schema_note(fault: &SchemaFault) -> Note
             Place::At(*site),
             "With this one there are more than 100,000 constraints and values. Leave out what no message needs.",
         ),
-        SchemaFault::OutOfMemory => noted(
-            Place::Nowhere,
-            "Memory ran out. Make more of it available.",
-        ),
+        SchemaFault::OutOfMemory => None,
     }
 }
 
 /// A fault of the types of a message and its rules, B1 to B3.
-fn table_note(fault: &TableFault) -> Note
-    ensures { note_view result ≡ table_note fault.now }
+fn table_note(fault: &TableFault) -> Option<Note>
+    ensures { option_map note_view result ≡ table_note fault.now }
 {
     match fault {
         TableFault::RuleTypeMismatch(_) => noted(
@@ -363,16 +341,13 @@ fn table_note(fault: &TableFault) -> Note
             Place::ThePolicy,
             "The message has more than 255 rules. Join some of them by unions of types.",
         ),
-        TableFault::OutOfMemory => noted(
-            Place::Nowhere,
-            "Memory ran out. Make more of it available.",
-        ),
+        TableFault::OutOfMemory => None,
     }
 }
 
 /// A fault of a policy, Q1 to Q9.
-fn policy_note(fault: &PolicyFault) -> Note
-    ensures { note_view result ≡ policy_note fault.now }
+fn policy_note(fault: &PolicyFault) -> Option<Note>
+    ensures { option_map note_view result ≡ policy_note fault.now }
 {
     match fault {
         PolicyFault::Toml => noted(
@@ -408,9 +383,6 @@ fn policy_note(fault: &PolicyFault) -> Note
             "The effect is neither allow nor deny. Write one of them.",
         ),
         PolicyFault::Table(_, fault) => table_note(fault),
-        PolicyFault::OutOfMemory => noted(
-            Place::Nowhere,
-            "Memory ran out. Make more of it available.",
-        ),
+        PolicyFault::OutOfMemory => None,
     }
 }

@@ -2,7 +2,7 @@
 ghost use Rattle.std.specs.Prelude.{◌≡◌, ◌++◌, ℕ, List, true, IfOk, OnErr, codes, string_bytes};
 ghost use Rattle.std.specs.Io.KnownBytes.{Appends};
 ghost use Rattle.guard_frames.specs.Prefix.{IsProperPrefix};
-ghost use Rattle.derguard_program.specs.Devices.{device};
+ghost use Rattle.derguard_program.specs.Devices.{device_of};
 ghost use Rattle.derguard_program.specs.Explaining.{TellsWith};
 ghost use Rattle.derguard_program.specs.Faults.{IsText};
 ghost use Rattle.derguard_program.specs.Writing.{line_of, IsFaultLine, TellsOctets, TellsLine, TellsNoMemory, TellsText, Tells, Writes};
@@ -26,8 +26,8 @@ pub const FAILED: u8 = 3;
 /// Writes the octets to standard output, and answers the status. Where standard output fails, that is reported, and the
 /// status is 3.
 pub fn write<O: Sink, E: Sink>(octets: &[u8], status: u8, out: &mut O, err: &mut E) -> u8
-    ensures { Writes octets.now status (device (O.taken out.old) (O.taken out.new) (O.has_failed out.new))
-        (device (E.taken err.old) (E.taken err.new) (E.has_failed err.new)) result }
+    ensures { Writes octets.now status (device_of O.taken O.has_failed out.old out.new)
+        (device_of E.taken E.has_failed err.old err.new) result }
 {
     match put_all(out, octets) {
         Ok(()) => status,
@@ -38,7 +38,7 @@ pub fn write<O: Sink, E: Sink>(octets: &[u8], status: u8, out: &mut O, err: &mut
 /// Reports a fault after `derguard: `, and answers its status. Where standard error fails, nothing more is written, and
 /// the status is 3.
 pub fn tell<E: Sink>(alloc: Global, fault: &Fault, err: &mut E) -> u8
-    ensures { Tells fault.now (device (E.taken err.old) (E.taken err.new) (E.has_failed err.new)) result }
+    ensures { Tells fault.now (device_of E.taken E.has_failed err.old err.new) result }
 {
     match report(alloc, fault, err) {
         Ok(status) => status,
@@ -65,7 +65,7 @@ pub fn report<E: Sink>(alloc: Global, fault: &Fault, err: &mut E) -> Result<u8, 
 
 /// Tells a fault with what comes after its line.
 pub fn tell_with<E: Sink>(alloc: Global, fault: &Fault, note: &str, err: &mut E) -> u8
-    ensures { TellsWith fault.now note.now (device (E.taken err.old) (E.taken err.new) (E.has_failed err.new)) result }
+    ensures { TellsWith fault.now note.now (device_of E.taken E.has_failed err.old err.new) result }
 {
     match lines_with(alloc, fault, note) {
         Ok(lines) => tell_line(lines.as_bytes(), fault.status(), err),
@@ -74,7 +74,8 @@ pub fn tell_with<E: Sink>(alloc: Global, fault: &Fault, note: &str, err: &mut E)
 }
 
 fn lines_with(alloc: Global, fault: &Fault, note: &str) -> Result<String, AllocError>
-    ensures { IfOk result (λ lines. (text : List ℕ) × IsText fault.now text × (string_bytes lines ≡ line_of text ++ note.now)) }
+    ensures { IfOk result (λ lines. (text : List ℕ) × IsText fault.now text
+        × (string_bytes lines ≡ line_of text ++ note.now)) }
 {
     let line = fault_line(alloc, fault)?;
     format!(in alloc; "{line}{note}")
@@ -89,7 +90,7 @@ fn fault_line(alloc: Global, fault: &Fault) -> Result<String, AllocError>
 
 /// Reports a text after `derguard: `, with this status.
 pub fn tell_text<E: Sink>(alloc: Global, text: &str, status: u8, err: &mut E) -> u8
-    ensures { TellsText text.now status (device (E.taken err.old) (E.taken err.new) (E.has_failed err.new)) result }
+    ensures { TellsText text.now status (device_of E.taken E.has_failed err.old err.new) result }
 {
     match line(alloc, text) {
         Ok(line) => tell_line(line.as_bytes(), status, err),
@@ -99,28 +100,28 @@ pub fn tell_text<E: Sink>(alloc: Global, text: &str, status: u8, err: &mut E) ->
 
 /// Tells that memory ran out, which takes none.
 pub fn tell_no_memory<E: Sink>(err: &mut E) -> u8
-    ensures { TellsNoMemory (device (E.taken err.old) (E.taken err.new) (E.has_failed err.new)) result }
+    ensures { TellsNoMemory (device_of E.taken E.has_failed err.old err.new) result }
 {
     tell_line(NO_MEMORY, FAILED, err)
 }
 
 /// Tells that what came in is no record.
 pub fn tell_bad_record<E: Sink>(err: &mut E) -> u8
-    ensures { TellsLine (codes "bad record") 3 (device (E.taken err.old) (E.taken err.new) (E.has_failed err.new)) result }
+    ensures { TellsLine (codes "bad record") 3 (device_of E.taken E.has_failed err.old err.new) result }
 {
     tell_line(BAD_RECORD, FAILED, err)
 }
 
 /// Tells that standard input failed.
 pub fn tell_failed_read<E: Sink>(err: &mut E) -> u8
-    ensures { TellsLine (codes "F5 ReadFailed") 3 (device (E.taken err.old) (E.taken err.new) (E.has_failed err.new)) result }
+    ensures { TellsLine (codes "F5 ReadFailed") 3 (device_of E.taken E.has_failed err.old err.new) result }
 {
     tell_line(READ_FAILED, FAILED, err)
 }
 
 /// Tells that standard output failed.
 pub fn tell_failed_write<E: Sink>(err: &mut E) -> u8
-    ensures { TellsLine (codes "F2 WriteFailed") 3 (device (E.taken err.old) (E.taken err.new) (E.has_failed err.new)) result }
+    ensures { TellsLine (codes "F2 WriteFailed") 3 (device_of E.taken E.has_failed err.old err.new) result }
 {
     tell_line(WRITE_FAILED, FAILED, err)
 }
@@ -132,7 +133,7 @@ fn line(alloc: Global, text: &str) -> Result<String, AllocError>
 }
 
 fn tell_line<E: Sink>(line: &[u8], status: u8, err: &mut E) -> u8
-    ensures { TellsOctets line.now status (device (E.taken err.old) (E.taken err.new) (E.has_failed err.new)) result }
+    ensures { TellsOctets line.now status (device_of E.taken E.has_failed err.old err.new) result }
 {
     match put_all(err, line) {
         Ok(()) => status,

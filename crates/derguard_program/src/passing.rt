@@ -1,13 +1,14 @@
 //! What goes out of a link, and what is said of it.
 ghost use Rattle.std.specs.Prelude.{◌≡◌, ◌++◌, ◌<◌, ◌≤◌, ◌≢◌, ℕ, List, true, codes, decimal, length, slice_index, OnOk, OnErr};
 ghost use Rattle.std.specs.Io.KnownBytes.{Appends};
+ghost use Rattle.guard_frames.specs.FaultTexts.{fault_text};
 ghost use Rattle.guard_frames.specs.Prefix.{IsProperPrefix};
 ghost use Rattle.derguard_program.specs.Records.{header, record_octets};
 ghost use Rattle.derguard_program.specs.Records.Record.{piece};
-ghost use Rattle.derguard_program.specs.Passing.{InRecords, marked, marked_line, fault_text, link_mark};
+ghost use Rattle.derguard_program.specs.Passing.{InRecords, marked, marked_line, link_mark};
 
 use crate::records::LONGEST;
-use guard_frames::{Failed, LinkFault, Sink, put_all};
+use guard_frames::{Failed, LinkFault, Sink, put_all, put_both};
 use itoa::Buffer;
 
 /// Puts the octets in records of this link, each but the last of the most octets that one may have.
@@ -111,18 +112,7 @@ pub fn put_fault<E: Sink>(err: &mut E, link: u16, fault: LinkFault) -> Result<()
         × Appends (E.taken err.old) (E.taken err.new) part) }
     ensures failed { OnErr result (E.has_failed err.new ≡ true) }
 {
-    put_line(err, link, text_of(fault))
-}
-
-fn text_of(fault: LinkFault) -> &'static [u8]
-    ensures { result.now ≡ fault_text fault }
-{
-    match fault {
-        LinkFault::FrameTooLong => b"F1 FrameTooLong",
-        LinkFault::WriteFailed => b"F2 WriteFailed",
-        LinkFault::Closed => b"F3 Closed",
-        LinkFault::TornFrame => b"F4 TornFrame",
-    }
+    put_line(err, link, fault.text().as_bytes())
 }
 
 /// Puts a line, after the number of its link.
@@ -156,16 +146,4 @@ fn put_number<E: Sink>(err: &mut E, link: u16) -> Result<(), Failed>
 {
     let mut buffer = Buffer::new();
     put_both(err, buffer.format(link).as_bytes(), b" ")
-}
-
-/// Puts the first octets and then the second.
-fn put_both<S: Sink>(sink: &mut S, first: &[u8], second: &[u8]) -> Result<(), Failed>
-    ensures all { OnOk result (Appends (S.taken sink.old) (S.taken sink.new) (first.now ++ second.now)) }
-    ensures part { OnErr result ((part : List ℕ) × IsProperPrefix part (first.now ++ second.now)
-        × Appends (S.taken sink.old) (S.taken sink.new) part) }
-    ensures failed { OnErr result (S.has_failed sink.new ≡ true) }
-{
-    put_all(sink, first)?;
-    put_all(sink, second)?;
-    Ok(())
 }

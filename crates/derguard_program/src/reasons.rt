@@ -5,25 +5,27 @@ ghost use Rattle.guard_model.specs.ValueView.{value_view};
 ghost use Rattle.guard_der.specs.Der.{der};
 ghost use Rattle.guard_der.specs.Fits.{fits};
 ghost use Rattle.guard_eval.specs.Violations.{violation_view, shortfall_view};
+ghost use Rattle.guard_policy.specs.Decisions.{IsReason};
 ghost use Rattle.guard_policy.specs.Policies.{declared_type};
 ghost use Rattle.guard_policy.specs.PolicyView.{policy_view, route_view};
 ghost use Rattle.guard_policy.specs.Verdicts.{verdict_view};
 ghost use Rattle.derguard_program.specs.Explaining.{sources_view};
 ghost use Rattle.derguard_program.specs.Marking.{columns};
 ghost use Rattle.derguard_program.specs.Reasons.{step_name, name_at, name_before, part_shown, part_line, violation_lines, shortfall_lines, OfValue, ExplainsVerdict};
+ghost use Rattle.derguard_program.specs.inside.Values.{HasValue};
 
 use crate::explaining::{Sources, place_lines};
 use crate::marking::columns;
 use crate::notes::Place;
 use crate::octets::add;
-use guard_der::decode;
+use guard_der::{DecodeFault, decode};
 use guard_eval::Violation;
 use guard_model::{OutOfMemory, Step, Ty, Value};
 use guard_policy::{Policy, Route, Verdict};
 use guard_report::{part_text, type_at};
 use std::alloc::Global;
 
-/// What comes below the text of the verdict on these octets. Its one refusal is want of memory.
+/// What comes below the text of the verdict, which is the policy's on these octets. Its one refusal is want of memory.
 pub fn verdict_note(
     alloc: Global,
     sources: &Sources,
@@ -32,7 +34,9 @@ pub fn verdict_note(
     octets: &[u8],
     verdict: &Verdict,
 ) -> Result<Vec<u8>, OutOfMemory>
-    ensures { IfOk result (λ note. ExplainsVerdict (sources_view sources.now) (policy_view policy.now) (route_view route.now) octets.now (verdict_view verdict.now) note.items) }
+    requires { IsReason (policy_view policy.now) (route_view route.now) octets.now (verdict_view verdict.now) }
+    ensures { IfOk result (λ note. ExplainsVerdict (sources_view sources.now) (policy_view policy.now)
+        (route_view route.now) octets.now (verdict_view verdict.now) note.items) }
 {
     match verdict {
         Verdict::Pass => Ok(Vec::new(alloc)),
@@ -76,7 +80,9 @@ fn outside_note(
     octets: &[u8],
     violation: &Violation,
 ) -> Result<Vec<u8>, OutOfMemory>
-    ensures { IfOk result (λ note. OfValue (policy_view policy.now) (route_view route.now).message octets.now (λ t v. note.items ≡ violation_lines (sources_view sources.now) t v (violation_view violation.now))) }
+    requires { HasValue (policy_view policy.now) (route_view route.now).message octets.now }
+    ensures { IfOk result (λ note. OfValue (policy_view policy.now) (route_view route.now).message octets.now
+        (λ t v. note.items ≡ violation_lines (sources_view sources.now) t v (violation_view violation.now))) }
 {
     let (ty, value) = value_of(alloc, policy, route.message, octets)?;
     let mut note = Vec::new(alloc);
@@ -93,7 +99,9 @@ fn not_allowed_note(
     octets: &[u8],
     shortfalls: &[(usize, Violation)],
 ) -> Result<Vec<u8>, OutOfMemory>
-    ensures { IfOk result (λ note. OfValue (policy_view policy.now) (route_view route.now).message octets.now (λ t v. note.items ≡ shortfall_lines (sources_view sources.now) t v (map shortfall_view shortfalls.now))) }
+    requires { HasValue (policy_view policy.now) (route_view route.now).message octets.now }
+    ensures { IfOk result (λ note. OfValue (policy_view policy.now) (route_view route.now).message octets.now
+        (λ t v. note.items ≡ shortfall_lines (sources_view sources.now) t v (map shortfall_view shortfalls.now))) }
 {
     let (ty, value) = value_of(alloc, policy, route.message, octets)?;
     let mut note = Vec::new(alloc);
@@ -101,24 +109,25 @@ fn not_allowed_note(
     Ok(note)
 }
 
-/// The declared type of the message, and the value of it that the octets encode. What a verdict says of constraints it
-/// says of such a value, so nothing but memory can be missing.
+/// The declared type of the message, and the value of it that the octets encode.
 fn value_of<'a>(
     alloc: Global,
     policy: &'a Policy,
     message: &[u8],
     octets: &[u8],
 ) -> Result<(&'a Ty, Value), OutOfMemory>
+    requires { HasValue (policy_view policy.now) message.now octets.now }
     ensures { IfOk result (λ p. (declared_type (policy_view policy.now) message.now ≡ Some (type_view p.0.now))
         × IsTrue (fits (type_view p.0.now) (value_view p.1))
         × (der (type_view p.0.now) (value_view p.1) ≡ Some octets.now)) }
 {
     let Some(ty) = policy.declared(message) else {
-        return Err(OutOfMemory);
+        unreachable!()
     };
     match decode(alloc, ty, octets) {
         Ok(value) => Ok((ty, value)),
-        Err(_) => Err(OutOfMemory),
+        Err(DecodeFault::Breach(_)) => unreachable!(),
+        Err(DecodeFault::OutOfMemory) => Err(OutOfMemory),
     }
 }
 
@@ -130,7 +139,9 @@ fn add_shortfalls(
     value: &Value,
     shortfalls: &[(usize, Violation)],
 ) -> Result<(), OutOfMemory>
-    ensures { OnOk result (note.new.items ≡ note.old.items ++ shortfall_lines (sources_view sources.now) (type_view ty.now) (value_view value.now) (map shortfall_view shortfalls.now)) }
+    ensures { OnOk result (note.new.items
+        ≡ note.old.items ++ shortfall_lines (sources_view sources.now) (type_view ty.now) (value_view value.now)
+        (map shortfall_view shortfalls.now)) }
 {
     for shortfall in shortfalls {
         add_shortfall(alloc, note, sources, ty, value, shortfall)?;
@@ -146,7 +157,9 @@ fn add_shortfall(
     value: &Value,
     shortfall: &(usize, Violation),
 ) -> Result<(), OutOfMemory>
-    ensures { OnOk result (note.new.items ≡ note.old.items ++ violation_lines (sources_view sources.now) (type_view ty.now) (value_view value.now) (shortfall_view shortfall.now).1) }
+    ensures { OnOk result (note.new.items
+        ≡ note.old.items ++ violation_lines (sources_view sources.now) (type_view ty.now) (value_view value.now)
+        (shortfall_view shortfall.now).1) }
 {
     let (_, violation) = shortfall;
     add_violation(alloc, note, sources, ty, value, violation)
@@ -161,7 +174,9 @@ fn add_violation(
     value: &Value,
     violation: &Violation,
 ) -> Result<(), OutOfMemory>
-    ensures { OnOk result (note.new.items ≡ note.old.items ++ violation_lines (sources_view sources.now) (type_view ty.now) (value_view value.now) (violation_view violation.now)) }
+    ensures { OnOk result (note.new.items
+        ≡ note.old.items ++ violation_lines (sources_view sources.now) (type_view ty.now) (value_view value.now)
+        (violation_view violation.now)) }
 {
     let place = place_lines(alloc, sources, Place::At(violation.site))?;
     add(note, place.as_bytes())?;
@@ -175,7 +190,8 @@ fn add_part(
     value: &Value,
     path: &[Step],
 ) -> Result<(), OutOfMemory>
-    ensures { OnOk result (note.new.items ≡ note.old.items ++ part_line (type_view ty.now) (value_view value.now) path.now) }
+    ensures { OnOk result (note.new.items
+        ≡ note.old.items ++ part_line (type_view ty.now) (value_view value.now) path.now) }
 {
     let text = part_text(alloc, ty, value, path)?;
     add(note, b"  ")?;

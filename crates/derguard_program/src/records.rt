@@ -151,7 +151,8 @@ fn take_more<S: Source>(source: &mut S, buffer: &mut [u8], filled: usize) -> Res
     requires { filled < length buffer.old }
     ensures within { IfOk result (λ n. n ≤ length buffer.old - filled) }
     ensures kept { take filled buffer.new ≡ take filled buffer.old }
-    ensures given { IfOk result (λ n. Consumes (S.tells source.old) (S.tells source.new) (take n (drop filled buffer.new))) }
+    ensures given { IfOk result (λ n. Consumes (S.tells source.old) (S.tells source.new)
+        (take n (drop filled buffer.new))) }
     ensures end { IfOk result (λ n. n ≡ 0 → IsAtEnd (S.tells source.new)) }
     ensures none { OnErr result (Consumes (S.tells source.old) (S.tells source.new) []) }
     ensures failed { OnErr result (S.has_failed source.new ≡ true) }

@@ -11,7 +11,7 @@ ghost use Rattle.guard_frames.specs.GatewaySteps.{Step};
 ghost use Rattle.guard_frames.specs.GatewayView.{gateway_view, gateway_ends};
 ghost use Rattle.guard_frames.specs.declared.gateway.StepFault.TheVariants.{NoSuchLink};
 ghost use Rattle.guard_frames.specs.KeptView.{kept_octets};
-ghost use Rattle.derguard_program.specs.Devices.{device};
+ghost use Rattle.derguard_program.specs.Devices.{device_of};
 ghost use Rattle.derguard_program.specs.Passing.{InRecords, marked};
 ghost use Rattle.derguard_program.specs.inside.Doing.{AreEmpty, IsReady, IsFed, ArePassed, AreCut};
 
@@ -83,9 +83,10 @@ pub fn pass_on<O: Sink, E: Sink>(
         ArePassed link ends gateway.old gateway.new (O.taken out.old, O.taken out.new)
         (E.taken err.old, E.taken err.new)
         × (any ≡ not (nat_eq (length (kept_octets ends.reports)) 0))) }
-    ensures cut { IfErr result (λ s. (ends : Ends Kept) → slice_get (gateway_ends gateway.old) link ≡ Some ends → AreCut s link ends
-        (device (O.taken out.old) (O.taken out.new) (O.has_failed out.new))
-        (device (E.taken err.old) (E.taken err.new) (E.has_failed err.new))) }
+    ensures cut { IfErr result (λ s. (ends : Ends Kept) → slice_get (gateway_ends gateway.old) link ≡ Some ends
+        → AreCut s link ends
+        (device_of O.taken O.has_failed out.old out.new)
+        (device_of E.taken E.has_failed err.old err.new)) }
 {
     let Some(ends) = gateway.ends_mut(link) else {
         return Ok(false);
@@ -106,8 +107,8 @@ fn put_ends<O: Sink, E: Sink>(
     ensures done { OnOk result ((written : List ℕ) × InRecords link (kept_octets ends.now.out) written
         × Appends (O.taken out.old) (O.taken out.new) written
         × Appends (E.taken err.old) (E.taken err.new) (marked link (kept_octets ends.now.reports))) }
-    ensures cut { IfErr result (λ s. AreCut s link ends.now (device (O.taken out.old) (O.taken out.new) (O.has_failed out.new))
-        (device (E.taken err.old) (E.taken err.new) (E.has_failed err.new))) }
+    ensures cut { IfErr result (λ s. AreCut s link ends.now (device_of O.taken O.has_failed out.old out.new)
+        (device_of E.taken E.has_failed err.old err.new)) }
 {
     if put_pieces(out, link, ends.out.octets()).is_err() {
         return Err(Stop::WriteFailed);

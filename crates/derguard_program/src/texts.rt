@@ -24,8 +24,10 @@ impl Texts {
     /// It refuses with CannotRead by the path at which nothing can be read, and with Policy where the policy's text
     /// lists no modules (Q1 to Q3 of its top).
     pub fn read<F: Files>(alloc: Global, path: &str, files: &mut F) -> Result<Texts, Fault>
-        ensures read { IfOk result (λ texts. AreTexts (F.told files.old) path.now texts.policy.items (map (λ text. text.items) texts.modules.items)) }
-        ensures listed { IfOk result (λ texts. AreTextsOf (F.told files.old) path.now texts.policy.items (map string_bytes texts.files.items) (map (λ text. text.items) texts.modules.items)) }
+        ensures read { IfOk result (λ texts. AreTexts (F.told files.old) path.now texts.policy.items
+            (map (λ text. text.items) texts.modules.items)) }
+        ensures listed { IfOk result (λ texts. AreTextsOf (F.told files.old) path.now texts.policy.items
+            (map string_bytes texts.files.items) (map (λ text. text.items) texts.modules.items)) }
         ensures missing { IfErr result (IsNoPolicyAt (F.told files.old) path.now) }
         ensures before { IfErr result IsBeforeModules }
         ensures later { IsLater (F.told files.old) (F.told files.new) }
@@ -42,7 +44,8 @@ impl Texts {
 
     /// The texts of the modules, as a schema is built from them.
     pub fn module_slices(&self, alloc: Global) -> Result<Vec<&[u8]>, AllocError>
-        ensures { IfOk result (λ slices. map (λ s. s.now) slices.items ≡ map (λ text. text.items) self.now.modules.items) }
+        ensures { IfOk result (λ slices. map (λ s. s.now) slices.items
+            ≡ map (λ text. text.items) self.now.modules.items) }
     {
         let mut slices = Vec::with_capacity(alloc, self.modules.len())?;
         for text in &self.modules {
@@ -59,8 +62,10 @@ fn read_modules<F: Files>(
     listed: &[String],
     files: &mut F,
 ) -> Result<Vec<Vec<u8>>, Fault>
-    ensures read { IfOk result (λ texts. HaveTexts (F.told files.old) (folder path.now) (map string_bytes listed.now) (map (λ text. text.items) texts.items)) }
-    ensures missing { IfErr result (CannotAllBeRead (F.told files.old) (folder path.now) (map string_bytes listed.now)) }
+    ensures read { IfOk result (λ texts. HaveTexts (F.told files.old) (folder path.now) (map string_bytes listed.now)
+        (map (λ text. text.items) texts.items)) }
+    ensures missing { IfErr result (CannotAllBeRead (F.told files.old) (folder path.now)
+        (map string_bytes listed.now)) }
     ensures later { IsLater (F.told files.old) (F.told files.new) }
 {
     let mut texts = Vec::with_capacity(alloc, listed.len())?;

@@ -59,7 +59,8 @@ fn unknown(alloc: Global) -> Result<Answer, OutOfMemory>
 
 /// The text and a line feed, with status 1 where there is no value.
 fn answer_of(shown: Shown) -> Result<Answer, OutOfMemory>
-    ensures { IfOk result (λ a. (a.out.items ≡ shown_octets (shown_view shown) ++ codes "\n") × (a.status ≡ shown_status (shown_view shown))) }
+    ensures { IfOk result (λ a. (a.out.items ≡ shown_octets (shown_view shown) ++ codes "\n")
+        × (a.status ≡ shown_status (shown_view shown))) }
 {
     match shown {
         Shown::Value(text) => ended(text, 0),

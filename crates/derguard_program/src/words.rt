@@ -1,8 +1,8 @@
 //! The words of the command line. `clap` splits them.
-ghost use Rattle.std.specs.Prelude.{◌≡◌, ℕ, List, Some, codes, false, map, IfOk, IfErr};
+ghost use Rattle.std.specs.Prelude.{◌≡◌, ℕ, List, Some, codes, false, map, string_bytes, IfOk, IfErr};
 ghost use Rattle.clap.specs.Words.{HasKind, Row, Text, app_of, fault_of, first_of, found_of, rows_of, rule_of, shape_of, subcommand_rows_of};
 ghost use Rattle.derguard_program.specs.Requests.{AbstractRequest, request_view};
-ghost use Rattle.derguard_program.specs.Words.{Asks, IsCommand, check_shape, decide_shape, flag_of, flag_rule, mux_shape, option_rule, place_rule, required_rule, run_shape, show_shape, the_app};
+ghost use Rattle.derguard_program.specs.Words.{AreFound, IsCommand, check_shape, decide_shape, flag_of, flag_rule, mux_shape, option_rule, place_rule, required_rule, run_shape, show_shape, the_app};
 
 use crate::request::{Message, Request};
 use clap::{Arg, ArgAction, ArgMatches, Command, Error};
@@ -20,7 +20,7 @@ const EXAMPLE: &str =
 const CHECK_EXAMPLE: &str = "Example:\n  derguard check examples/orders.toml --explain";
 
 const DECIDE_EXAMPLE: &str =
-    "Example:\n  derguard decide examples/orders.toml --from north --to south --message order 300B800105810101A403020107\n\nA value that begins with a hyphen is given in one word with its option, as --from=-a.";
+    "Example:\n  derguard decide examples/orders.toml --from north --to south --message order 300B800105810101A403020107";
 
 const SHOW_EXAMPLE: &str =
     "Example:\n  derguard show examples/orders.toml --message order 300B800105810101A403020107";
@@ -30,10 +30,11 @@ const RUN_EXAMPLE: &str = "Example:\n  derguard run examples/orders.toml < examp
 const MUX_EXAMPLE: &str =
     "Example:\n  derguard mux examples/payments/payments.toml < examples/payments/payments.mux";
 
-/// What the words ask for; the first is the program's name. Help is an error of `clap` too, of its own kind.
-pub fn request_in<'a>(alloc: Global, words: &'a [&'a str]) -> Result<Request<'a>, Error>
-    ensures asked { IfOk result (λ request. Asks (map (λ w. w.now) words.now) (request_view request)) }
-    ensures refused { IfErr result (HasKind (fault_of the_app (map (λ w. w.now) words.now))) }
+/// What the words ask for, in which the options of a message are joined with their values; the first word is the
+/// program's name. Help is an error of `clap` too, of its own kind.
+pub fn request_in<'a>(alloc: Global, words: &'a [String]) -> Result<Request<'a>, Error>
+    ensures asked { IfOk result (λ request. AreFound (map string_bytes words.now) (request_view request)) }
+    ensures refused { IfErr result (HasKind (fault_of the_app (map string_bytes words.now))) }
 {
     let matches = command(alloc)?.try_get_matches_from(words)?;
     Ok(request_of(&matches))
@@ -41,7 +42,9 @@ pub fn request_in<'a>(alloc: Global, words: &'a [&'a str]) -> Result<Request<'a>
 
 /// What was matched. A command and each of its arguments is required, so they are there.
 fn request_of<'a>(matches: &ArgMatches<'a>) -> Request<'a>
-    ensures { (name : Text) (rows : List Row) (request : AbstractRequest) → subcommand_rows_of matches.now ≡ Some (name, rows)
+    requires { (name : Text) × (rows : List Row) × (subcommand_rows_of matches.now ≡ Some (name, rows)) }
+    ensures { (name : Text) (rows : List Row) (request : AbstractRequest)
+        → subcommand_rows_of matches.now ≡ Some (name, rows)
         → IsCommand name rows request → request_view result ≡ request }
 {
     match matches.subcommand() {
@@ -68,7 +71,7 @@ fn request_of<'a>(matches: &ArgMatches<'a>) -> Request<'a>
             hex: text(found, "hex"),
             explain: flag(found, "explain"),
         }),
-        None => Request::First,
+        None => unreachable!(),
     }
 }
 

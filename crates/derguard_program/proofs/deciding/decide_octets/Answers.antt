@@ -1,5 +1,6 @@
 use Rattle.std.proofs.Common.{map, string_bytes}
 use Rattle.std.proofs.lemmas.Result.{IfOk-weaker}
+use Rattle.derguard_program.proofs.ExplainedFaults.{explained}
 use Rattle.derguard_program.proofs.deciding.decide_octets.Goals as goal
 
 pub returns-in-Ok-clause-decided : goal.returns-in-Ok-clause-decided
@@ -11,3 +12,8 @@ returns-in-Ok-clause-decided g c =
       c.in-Ok.ensures.listed,
       h,
     )) c.decide_over.ensures.decided
+
+pub returns-in-Err-clause-undecided : goal.returns-in-Err-clause-undecided
+returns-in-Err-clause-undecided g c =
+    explained (g.F.Files.told c.args.files.now) c.args.message.now.policy.now c.in-Err.fault c.new.result.fault
+    (string_bytes c.new.result.note) c.in-Err.ensures.before c.in-Err.ensures.missing (rw c.of_path.ensures at c.new.ensures)

@@ -1,14 +1,23 @@
-use Rattle.std.proofs.Common.{◌∙◌, ap, map, refl, sym, List}
+use Rattle.std.proofs.Common.{◌∙◌, ap, map, string_bytes, refl, sym, List}
 use Rattle.clap.specs.Words.{App, Text, fault_of, is_simple, is_simple_and_free, subcommand_of}
 use Rattle.derguard_program.proofs.Simple.{the_app_simple}
-use Rattle.derguard_program.proofs.Asked.{answered}
+use Rattle.derguard_program.proofs.Asked.{answered, command_found}
 use Rattle.derguard_program.proofs.words.request_in.Goals as goal
 
 pub returns-clause-asked : goal.returns-clause-asked
 returns-clause-asked c =
-    let words : List Text = map (λ w. w.now) c.args.words.now in
+    let words : List Text = map string_bytes c.args.words.now in
     let is_app = c.in_ok-command.ensures in
     let same = ap (λ (a : App). fault_of a words) is_app in
     let no_fault = c.in_ok-matches.ensures.kinds (ap is_simple_and_free is_app ∙ the_app_simple) in
     let found = (c.in_ok-matches.ensures.matches (ap is_simple is_app ∙ refl)).1 ∙ ap (λ (a : App). subcommand_of a words) is_app in
     answered words _ _ (sym same ∙ no_fault) found c.request_of.ensures
+
+pub request_of-requires : goal.request_of-requires
+request_of-requires c =
+    let words : List Text = map string_bytes c.args.words.now in
+    let is_app = c.in_ok-command.ensures in
+    let same = ap (λ (a : App). fault_of a words) is_app in
+    let no_fault = c.in_ok-matches.ensures.kinds (ap is_simple_and_free is_app ∙ the_app_simple) in
+    let found = (c.in_ok-matches.ensures.matches (ap is_simple is_app ∙ refl)).1 ∙ ap (λ (a : App). subcommand_of a words) is_app in
+    command_found words _ (sym same ∙ no_fault) found

@@ -1,0 +1,8 @@
+use Rattle.guard_eval.specs.Violations.{violation_view}
+use Rattle.guard_policy.specs.PolicyView.{policy_view, route_view}
+use Rattle.derguard_program.proofs.FoundValues.{outside_has_value}
+use Rattle.derguard_program.proofs.reasons.verdict_note.Goals as goal
+
+pub outside_note-requires : goal.outside_note-requires
+outside_note-requires c = outside_has_value (policy_view c.args.policy.now) (route_view c.args.route.now) c.args.octets.now
+    (violation_view c.in-OutsideType.violation) (rw c.in-OutsideType.is at c.requires)

@@ -18,16 +18,16 @@ struct Passing<'a> {
 }
 
 impl Judges for Passing<'_> {
-    /// Whether `passes` is true exactly where the verdict is to pass, and `passes_as_given` where besides some rule
-    /// gives the route.
+    /// Whether `passes` is true exactly where the verdict is to pass, and `passes_as_given` answers the same where some
+    /// rule gives the route, and else none.
     fn agree(&self, alloc: Global, octets: &[u8]) -> Result<bool, AllocError> {
         match self.policy.verdict(alloc, &self.route, octets) {
             Ok(verdict) => {
                 let is_pass = matches!(verdict, Verdict::Pass);
+                let as_given = if self.is_given { Some(is_pass) } else { None };
                 Ok(
                     self.policy.passes(&self.route, octets) == is_pass
-                        && self.policy.passes_as_given(self.names, octets)
-                            == (is_pass && self.is_given),
+                        && self.policy.passes_as_given(self.names, octets) == as_given,
                 )
             }
             Err(OutOfMemory) => Err(AllocError),

@@ -2,8 +2,8 @@
 //! fault.
 use crate::verdicts::{counted, keep_modules};
 use conformance_rows::{Layer, text_of, unknown};
-use guard_frames::Modules;
 use guard_policy::{Policy, PolicyFault, Route, module_files};
+use guard_schema::Schema;
 use std::alloc::{AllocError, Global};
 
 /// What the rows ask.
@@ -21,7 +21,7 @@ enum Asked {
 pub struct Policies {
     asked: Asked,
     before: Vec<u8>,
-    modules: Option<Modules>,
+    modules: Option<Schema>,
 }
 
 impl Policies {

@@ -2,15 +2,15 @@
 use crate::verdicts::{counted, cut, keep_modules};
 use crate::written_verdicts::verdict_of;
 use conformance_rows::{Layer, text_of, unknown};
-use guard_frames::Modules;
 use guard_model::OutOfMemory;
 use guard_policy::{Policy, Route};
 use guard_report::verdict_text;
+use guard_schema::Schema;
 use std::alloc::{AllocError, Global};
 
 #[derive(Drop)]
 pub struct Reports {
-    modules: Option<Modules>,
+    modules: Option<Schema>,
     policy: Option<Policy>,
 }
 

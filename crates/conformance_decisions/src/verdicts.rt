@@ -1,14 +1,14 @@
 //! `Policy::load`, `verdict`, `verdict_text` and `line`: verdicts by policies that are read from their texts.
 use conformance_rows::{Layer, octets_in, text_of, texts_of, unknown};
-use guard_frames::Modules;
 use guard_model::OutOfMemory;
 use guard_policy::{Policy, PolicyFault, Route};
 use guard_report::{line, verdict_text};
+use guard_schema::Schema;
 use std::alloc::{AllocError, Global};
 
 #[derive(Drop)]
 pub struct Verdicts {
-    modules: Option<Modules>,
+    modules: Option<Schema>,
     policy: Option<Policy>,
     /// The number of the report line that the rows ask for, in place of the verdict's text.
     number: Option<u64>,
@@ -41,10 +41,10 @@ pub fn counted(alloc: Global, loaded: &Result<Policy, PolicyFault>) -> Result<St
 /// The modules of texts, separated by `====`, kept in place of those before them.
 pub fn keep_modules(
     alloc: Global,
-    kept: &mut Option<Modules>,
+    kept: &mut Option<Schema>,
     text: &[u8],
 ) -> Result<String, AllocError> {
-    match Modules::build(alloc, &texts_of(alloc, text)?) {
+    match Schema::build(alloc, &texts_of(alloc, text)?) {
         Ok(modules) => *kept = Some(modules),
         Err(fault) => return format!(in alloc; "{fault}"),
     }

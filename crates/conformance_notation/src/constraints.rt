@@ -4,6 +4,7 @@ use crate::unread::Unread;
 use crate::words::Words;
 use guard_model::{Comp, Cons, Kind, Limit, Part, Rule, Site, Ty, Word};
 use std::alloc::Global;
+use std::sync::{Arc, ArcSlice};
 
 impl Words<'_> {
     /// A site that tells the constraints of one text apart: its column counts the octets from there to the end.
@@ -96,7 +97,7 @@ impl Words<'_> {
             return Ok(Rule::Inside(self.ty(alloc, depth)?));
         }
         if self.take("SIZE") {
-            let size = Kind::Int(Vec::new(alloc));
+            let size = Kind::Int(ArcSlice::from_vec(Vec::new(alloc))?);
             return Ok(Rule::Size(self.constraint(alloc, &size, depth)?));
         }
         if self.take("ALL EXCEPT") {
@@ -176,7 +177,7 @@ impl Words<'_> {
         }
         *self = before;
         let value = self.value(alloc, kind)?;
-        Ok(Rule::One(Box::into_inner(value)))
+        Ok(Rule::One(Arc::new(alloc, Box::into_inner(value))?))
     }
 
     /// The low end of a range and the two dots after it.
@@ -196,7 +197,7 @@ impl Words<'_> {
     }
 
     /// Ranges of characters in parentheses.
-    fn alphabet(&mut self, alloc: Global) -> Result<Vec<(u32, u32)>, Unread> {
+    fn alphabet(&mut self, alloc: Global) -> Result<ArcSlice<(u32, u32)>, Unread> {
         let mut ranges = Vec::new(alloc);
         self.expect("(")?;
         for _ in 0..u32::MAX {
@@ -212,7 +213,7 @@ impl Words<'_> {
             }
         }
         self.expect(")")?;
-        Ok(ranges)
+        Ok(ArcSlice::from_vec(ranges)?)
     }
 
     /// The code of the one character of a string.

@@ -6,6 +6,7 @@ use crate::unread::Unread;
 use crate::words::Words;
 use guard_model::{CharKind, Class, Comp, Kind, Named, Presence, Tag, Ty};
 use std::alloc::Global;
+use std::sync::{Arc, ArcSlice, ArcStr};
 
 /// How deep parts may be nested.
 pub const DEEPEST: u32 = 1_000;
@@ -163,7 +164,7 @@ impl Words<'_> {
         let ty = self.ty(alloc, depth)?;
         let presence = self.presence(alloc, &ty.kind)?;
         comps.push(Comp {
-            name: String::from_str(alloc, name)?,
+            name: ArcStr::from_str(alloc, name)?,
             ty: Box::into_inner(ty),
             presence,
         })?;
@@ -185,7 +186,7 @@ impl Words<'_> {
         } else {
             self.value(alloc, kind)?
         };
-        Ok(Presence::Default(Box::into_inner(value)))
+        Ok(Presence::Default(Arc::new(alloc, Box::into_inner(value))?))
     }
 
     /// A type without parts, of which this is the first word.
@@ -222,10 +223,10 @@ impl Words<'_> {
     }
 
     /// Named numbers, items or named bits in braces. One without a number has its place as number.
-    fn named(&mut self, alloc: Global) -> Result<Vec<Named>, Unread> {
+    fn named(&mut self, alloc: Global) -> Result<ArcSlice<Named>, Unread> {
         let mut named = Vec::new(alloc);
         if !self.take("{") {
-            return Ok(named);
+            return Ok(ArcSlice::from_vec(named)?);
         }
         for place in 0..u32::MAX {
             let name = String::from_str(alloc, self.word())?;
@@ -236,7 +237,7 @@ impl Words<'_> {
             }
         }
         self.expect("}")?;
-        Ok(named)
+        Ok(ArcSlice::from_vec(named)?)
     }
 
     fn number_in_parentheses(&mut self, otherwise: i128) -> Result<i128, Unread> {

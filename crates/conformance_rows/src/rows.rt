@@ -8,6 +8,9 @@ use std::{fs, io};
 
 const NO_ESCAPE: &str = "(a backslash begins nothing)";
 
+/// Where memory was wanting. The rows below it are tried all the same.
+const NO_MEMORY: &str = "OutOfMemory";
+
 /// Reads a file of rows, prints each row whose answer isn't the expected one, with both, and then how many rows there
 /// were, and adds them to the tally.
 pub(crate) fn check_rows<R: Files + Print + AllocGlobal, L: Layer>(
@@ -78,11 +81,26 @@ impl Rows<'_> {
             return self.differs(rt, number, line, "(a row has =>)");
         };
         self.read = self.read.saturating_add(1);
-        let answer = self.answer_to(rt.alloc(), layer, input.trim())?;
+        let answer = self.answer_to(rt.alloc(), layer, input.trim());
         self.before.clear();
-        match octets_of(rt.alloc(), expected.trim())? {
+        match answer {
+            Ok(answer) => self.compare(rt, number, line, expected.trim(), &answer),
+            Err(AllocError) => self.differs(rt, number, line, NO_MEMORY),
+        }
+    }
+
+    /// Prints the row unless its answer is the one that is expected.
+    fn compare<R: Print + AllocGlobal>(
+        &mut self,
+        rt: &R,
+        number: usize,
+        line: &str,
+        expected: &str,
+        answer: &str,
+    ) -> io::Result<()> {
+        match octets_of(rt.alloc(), expected)? {
             Some(expected) if expected.as_slice() == answer.as_bytes() => Ok(()),
-            _ => self.differs(rt, number, line, answer.as_str()),
+            _ => self.differs(rt, number, line, answer),
         }
     }
 

@@ -27,7 +27,7 @@ fn encoded(alloc: Global, ty: &Ty, value: &Value) -> Result<String, AllocError>
     match encode(alloc, ty, value) {
         Ok(octets) => {
             let mut text = digits_of(alloc, &octets)?;
-            text.push_str(doubt(alloc, ty, value, &octets))?;
+            text.push_str(doubt(alloc, ty, value, &octets)?)?;
             Ok(text)
         }
         Err(EncodeFault::OutOfMemory) => Err(AllocError),
@@ -36,28 +36,29 @@ fn encoded(alloc: Global, ty: &Ty, value: &Value) -> Result<String, AllocError>
 }
 
 /// What the other calls say against octets as the encoding of a value.
-fn doubt(alloc: Global, ty: &Ty, value: &Value, octets: &[u8]) -> &'static str
+fn doubt(alloc: Global, ty: &Ty, value: &Value, octets: &[u8]) -> Result<&'static str, AllocError>
     requires { IsTrue (is_sound (type_view ty.now)) }
 {
-    if !decodes_to(alloc, ty, octets, value) {
-        return ", which decode takes for another value";
+    if !decodes_to(alloc, ty, octets, value)? {
+        return Ok(", which decode takes for another value");
     }
     if !has_header(ty, octets) {
-        return ", of which header answers another end or tag";
+        return Ok(", of which header answers another end or tag");
     }
-    if !is_cut_short(alloc, ty, octets) {
-        return ", of which decode takes the first octets for more";
+    if !is_cut_short(alloc, ty, octets)? {
+        return Ok(", of which decode takes the first octets for more");
     }
-    ""
+    Ok("")
 }
 
 /// Whether `decode` answers this value on the octets.
-pub fn decodes_to(alloc: Global, ty: &Ty, octets: &[u8], value: &Value) -> bool
+pub fn decodes_to(alloc: Global, ty: &Ty, octets: &[u8], value: &Value) -> Result<bool, AllocError>
     requires { IsTrue (is_sound (type_view ty.now)) }
 {
     match decode(alloc, ty, octets) {
-        Ok(found) => found.same(value),
-        Err(_) => false,
+        Ok(found) => Ok(found.same(value)),
+        Err(DecodeFault::OutOfMemory) => Err(AllocError),
+        Err(_) => Ok(false),
     }
 }
 
@@ -76,16 +77,19 @@ fn has_header(ty: &Ty, octets: &[u8]) -> bool {
 }
 
 /// Whether the octets without the last one or more are refused as Truncated at 0.
-fn is_cut_short(alloc: Global, ty: &Ty, octets: &[u8]) -> bool
+fn is_cut_short(alloc: Global, ty: &Ty, octets: &[u8]) -> Result<bool, AllocError>
     requires { IsTrue (is_sound (type_view ty.now)) }
 {
     for length in 0..octets.len() {
         let answer = decode(alloc, ty, &octets[..length]);
+        if let Err(DecodeFault::OutOfMemory) = answer {
+            return Err(AllocError);
+        }
         if !is_truncated(&answer) {
-            return false;
+            return Ok(false);
         }
     }
-    true
+    Ok(true)
 }
 
 fn is_truncated(answer: &Result<Value, DecodeFault>) -> bool {

@@ -41,7 +41,7 @@ fn add_comps(alloc: Global, text: &mut String, comps: &[Comp]) -> Result<(), All
         if place > 0 {
             text.push_str(", ")?;
         }
-        text.push_str(&comp.name)?;
+        text.push_str(comp.name.as_str())?;
         text.push_str(" ")?;
         add_type(alloc, text, &comp.ty)?;
         text.push_str(presence_word(&comp.presence))?;

@@ -1,6 +1,7 @@
 //! `guard_values`: the value that a text denotes under the type that is set, by the octets of its encoding; or the
 //! fault.
 ghost use Rattle.std.specs.Prelude.{◌≡◌, true, IsTrue, IfOk, IfSome};
+ghost use Rattle.std.specs.Arc.{arc_value};
 ghost use Rattle.guard_model.specs.TypeView.{type_view};
 ghost use Rattle.guard_model.specs.ValueView.{value_view};
 ghost use Rattle.guard_der.specs.Fits.{fits};
@@ -14,8 +15,9 @@ use guard_model::{Ty, Value};
 use guard_names::{Id, Names};
 use guard_schema::Schema;
 use guard_syntax::{Assignment, Module, ValueTree};
-use guard_values::{Known, ValueFault, value};
+use guard_values::{Known, ValueFault, shared_value};
 use std::alloc::{AllocError, Global};
+use std::sync::Arc;
 
 /// A value assignment that is visible: its name, its type and its value as they are written.
 #[derive(Drop)]
@@ -114,10 +116,10 @@ impl ValuesRows {
         &self,
         alloc: Global,
         ty: &Ty,
-        found: Option<Result<Value, ValueFault>>,
+        found: Option<Result<Arc<Value>, ValueFault>>,
     ) -> Result<String, AllocError>
         requires sound { IfSome found (λ r. IsTrue (is_sound (type_view ty.now))) }
-        requires fits { IfSome found (λ r. IfOk r (λ v. IsTrue (fits (type_view ty.now) (value_view v)))) }
+        requires fits { IfSome found (λ r. IfOk r (λ v. IsTrue (fits (type_view ty.now) (value_view (arc_value v))))) }
     {
         let Some(found) = found else {
             return String::from_str(alloc, "not sound");
@@ -135,7 +137,7 @@ impl ValuesRows {
         let Ok(octets) = encode(alloc, ty, value) else {
             return String::from_str(alloc, "no encoding");
         };
-        if !decodes_to(alloc, ty, &octets, value) {
+        if !decodes_to(alloc, ty, &octets, value)? {
             return String::from_str(alloc, "decode takes the octets for another value");
         }
         if self.counted {
@@ -151,7 +153,7 @@ fn keep(
     alloc: Global,
     known: &mut Known,
     ty: &Ty,
-    value: Value,
+    value: Arc<Value>,
 ) -> Result<Option<String>, AllocError> {
     let Ok(ty) = ty.copy(alloc) else {
         return Err(AllocError);
@@ -203,7 +205,7 @@ fn type_name(
     }
 }
 
-/// What `value` answers, where its premises hold.
+/// What `shared_value` answers, where its premises hold.
 fn denoted(
     alloc: Global,
     names: &Names,
@@ -211,14 +213,14 @@ fn denoted(
     id: Id,
     ty: &Ty,
     tree: &ValueTree,
-) -> Option<Result<Value, ValueFault>>
+) -> Option<Result<Arc<Value>, ValueFault>>
     ensures sound { IfSome result (λ r. IsTrue (is_sound (type_view ty.now))) }
-    ensures fits { IfSome result (λ r. IfOk r (λ v. IsTrue (fits (type_view ty.now) (value_view v)))) }
+    ensures fits { IfSome result (λ r. IfOk r (λ v. IsTrue (fits (type_view ty.now) (value_view (arc_value v))))) }
 {
     if !is_lawful(alloc, ty) || !are_fitting(alloc, known) {
         return None;
     }
-    Some(value(alloc, names, known, id, ty, tree))
+    Some(shared_value(alloc, names, known, id, ty, tree))
 }
 
 pub fn is_lawful(alloc: Global, ty: &Ty) -> bool

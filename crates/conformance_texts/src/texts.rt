@@ -1,5 +1,6 @@
 //! The module texts of a row, separated by `====`; the modules that they are read as; and values without names.
 ghost use Rattle.std.specs.Prelude.{All, IfOk, IsTrue};
+ghost use Rattle.std.specs.Arc.{arc_value};
 ghost use Rattle.guard_der.specs.Fits.{fits};
 ghost use Rattle.guard_der.specs.Sound.{is_sound};
 ghost use Rattle.guard_model.specs.TypeView.{type_view};
@@ -14,8 +15,9 @@ use guard_model::{Ty, Value};
 use guard_names::{Names, resolve};
 use guard_syntax::{Module, parse};
 use guard_tagging::laws::law_spelled;
-use guard_values::{Known, value};
+use guard_values::{Known, shared_value};
 use std::alloc::{AllocError, AllocFailed, Global};
+use std::sync::Arc;
 
 /// Why texts are no modules, or a text no value.
 #[derive(Drop)]
@@ -88,9 +90,9 @@ fn module<'a>(alloc: Global, place: u32, text: &'a [u8]) -> Result<Module<'a>, T
 }
 
 /// The value that a text denotes under a type, where no name is visible.
-pub fn value_of(alloc: Global, ty: &Ty, text: &str) -> Result<Value, TextsFault>
+pub fn value_of(alloc: Global, ty: &Ty, text: &str) -> Result<Arc<Value>, TextsFault>
     requires sound { IsTrue (is_sound (type_view ty.now)) }
-    ensures fits { IfOk result (λ v. IsTrue (fits (type_view ty.now) (value_view v))) }
+    ensures fits { IfOk result (λ v. IsTrue (fits (type_view ty.now) (value_view (arc_value v)))) }
 {
     let whole = format!(in alloc; "M DEFINITIONS ::= BEGIN\nrow-value NULL ::=\n{text}\nEND")?;
     let modules = modules(alloc, &whole)?;
@@ -101,9 +103,9 @@ pub fn value_of(alloc: Global, ty: &Ty, text: &str) -> Result<Value, TextsFault>
 }
 
 /// The value that is assigned to `row-value` in the module `M`, read under a type.
-fn assigned(alloc: Global, names: &Names, ty: &Ty) -> Result<Value, TextsFault>
+fn assigned(alloc: Global, names: &Names, ty: &Ty) -> Result<Arc<Value>, TextsFault>
     requires sound { IsTrue (is_sound (type_view ty.now)) }
-    ensures fits { IfOk result (λ v. IsTrue (fits (type_view ty.now) (value_view v))) }
+    ensures fits { IfOk result (λ v. IsTrue (fits (type_view ty.now) (value_view (arc_value v)))) }
 {
     let Some(id) = names.find("M", "row-value") else {
         return Err(no_value(alloc));
@@ -117,7 +119,7 @@ fn assigned(alloc: Global, names: &Names, ty: &Ty) -> Result<Value, TextsFault>
     };
     match &assignment.value {
         Some(tree) if are_fitting(alloc, &known) => {
-            match value(alloc, names, &known, id, ty, tree) {
+            match shared_value(alloc, names, &known, id, ty, tree) {
                 Ok(value) => Ok(value),
                 Err(fault) => Err(told(format!(in alloc; "{fault}"))),
             }

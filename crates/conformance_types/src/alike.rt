@@ -22,6 +22,7 @@ impl Written for Ty {
     }
 
     fn is_like(&self, other: &Ty) -> bool {
+        may_go_to_another_thread(self);
         self.same_base(other)
     }
 
@@ -41,6 +42,7 @@ impl Written for Value {
     }
 
     fn is_like(&self, other: &Value) -> bool {
+        may_go_to_another_thread(self);
         self.same(other)
     }
 
@@ -53,6 +55,9 @@ impl Written for Value {
         Ok(copy.same(self) && copied.as_str() == original.as_str())
     }
 }
+
+/// That this compiles shows of its type that it may go to another thread and be shared with it. It does nothing.
+fn may_go_to_another_thread<T: Send + Sync>(_: &T) {}
 
 /// A row above, and what it writes.
 #[derive(Drop)]

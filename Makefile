@@ -1,6 +1,7 @@
-# Installs the built program with its manual pages and completions. It builds nothing: `(cd crates/derguard && rt run)`
-# proves and builds the program.
+# Proves and builds the program, and installs it with its manual pages, completions, documents and examples.
 #
+#   make                                          proves the program's crates, as many at a time as there are processors
+#                                                 and memory for, and builds it; README says how long that takes
 #   make install [PREFIX=/usr/local] [DESTDIR=]   puts everything below DESTDIR/PREFIX
 #   make uninstall                                takes away what `make install` with the same words put there
 #   make deb                                      makes out/derguard_VERSION_ARCH.deb
@@ -16,27 +17,32 @@ bashdir = $(DESTDIR)$(PREFIX)/share/bash-completion/completions
 zshdir = $(DESTDIR)$(PREFIX)/share/zsh/site-functions
 fishdir = $(DESTDIR)$(PREFIX)/share/fish/vendor_completions.d
 docdir = $(DESTDIR)$(PREFIX)/share/doc/derguard
+documents = README.md CHANGELOG.md $(wildcard docs/*) $(shell find examples -type f ! -name '*.pyc')
 
-all:
-	@echo 'make install, make uninstall or make deb; (cd crates/derguard && rt run) builds the program'
+program:
+	packaging/build-program
 
+# It builds nothing: who installs may have no toolchain, or a program that was built elsewhere.
 install:
-	@test -x $(PROGRAM) || { echo '$(PROGRAM) is not there: (cd crates/derguard && rt run) builds it' >&2; exit 1; }
+	@test -x $(PROGRAM) || { echo '$(PROGRAM) is not there: make builds it' >&2; exit 1; }
 	install -D -m 755 $(PROGRAM) $(bindir)/derguard
 	install -D -m 644 man/derguard.1 $(man1dir)/derguard.1
 	install -D -m 644 man/derguard-policy.5 $(man5dir)/derguard-policy.5
 	install -D -m 644 completions/derguard.bash $(bashdir)/derguard
 	install -D -m 644 completions/_derguard $(zshdir)/_derguard
 	install -D -m 644 completions/derguard.fish $(fishdir)/derguard.fish
-	install -D -m 644 CHANGELOG.md $(docdir)/CHANGELOG.md
+	for file in $(documents); do \
+	    if [ -x $$file ]; then mode=755; else mode=644; fi; \
+	    install -D -m $$mode $$file $(docdir)/$$file || exit 1; \
+	done
 
 # Folders that others may use are left.
 uninstall:
 	rm -f $(bindir)/derguard $(man1dir)/derguard.1 $(man5dir)/derguard-policy.5
-	rm -f $(bashdir)/derguard $(zshdir)/_derguard $(fishdir)/derguard.fish $(docdir)/CHANGELOG.md
-	if [ -d $(docdir) ]; then rmdir --ignore-fail-on-non-empty $(docdir); fi
+	rm -f $(bashdir)/derguard $(zshdir)/_derguard $(fishdir)/derguard.fish $(addprefix $(docdir)/,$(documents))
+	if [ -d $(docdir) ]; then find $(docdir) -depth -type d -empty -delete; fi
 
 deb:
 	packaging/make-deb out
 
-.PHONY: all install uninstall deb
+.PHONY: program install uninstall deb

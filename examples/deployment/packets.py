@@ -1,16 +1,10 @@
-#!/usr/bin/env python3
 """Frames from packets, and packets from frames: the adapter between a protocol and the guard.
-
-    packets.py frame FROM TO MESSAGE    packets on standard input become frames on standard output
-    packets.py unframe                  the other way round
 
 A packet of this protocol is four octets of length, the high one first, and one message. The names in a frame are those
 that are given here, by whoever knows from where the packets come; nothing in a packet says them. Octets go on as they
-come, and only the few octets of a header are held. A packet that is too long for a frame, and a stream that ends inside
-one, end the program with status 1, the latter after what there is of it is out: the guard then says F4.
+come, and only the few octets of a header are held. With a packet that is too long for a frame the stream is over. Of a
+stream that ends inside a packet the guard has what there is, and says F4.
 """
-import os
-import sys
 
 LONGEST = 1_048_576
 
@@ -23,10 +17,11 @@ class Framing:
         self.names = b"".join(bytes([len(name)]) + name for name in names)
         self.header = b""
         self.left = 0
+        self.fault = None
 
     def feed(self, octets):
         out = []
-        while octets:
+        while octets and not self.fault:
             if self.left:
                 out.append(octets[: self.left])
                 octets, self.left = octets[self.left :], self.left - len(out[-1])
@@ -34,15 +29,18 @@ class Framing:
             wanted = 4 - len(self.header)
             self.header, octets = self.header + octets[:wanted], octets[wanted:]
             if len(self.header) == 4:
-                self.left = int.from_bytes(self.header, "big")
-                if self.left + len(self.names) > LONGEST:
-                    raise ValueError(f"a packet of {self.left} octets")
-                out.append((self.left + len(self.names)).to_bytes(4, "big") + self.names)
-                self.header = b""
+                size, self.header = int.from_bytes(self.header, "big"), b""
+                if size + len(self.names) > LONGEST:
+                    self.fault = f"a packet of {size} octets"
+                    break
+                out.append((size + len(self.names)).to_bytes(4, "big") + self.names)
+                self.left = size
         return b"".join(out)
 
-    def is_between_packets(self):
-        return not self.left and not self.header
+    def end(self):
+        """What is wrong with the stream, if it is over now, or None."""
+        torn = "the stream ended inside a packet" if self.left or self.header else None
+        return self.fault or torn
 
 
 class Unframing:
@@ -67,9 +65,6 @@ class Unframing:
                 self.header = b""
         return b"".join(out)
 
-    def is_between_packets(self):
-        return not self.left and not self.header
-
 
 def end_of_names(octets):
     """Where the three names at the front of a frame end, or None where they aren't there yet."""
@@ -81,23 +76,9 @@ def end_of_names(octets):
     return at if len(octets) >= at else None
 
 
-def main(words):
-    if len(words) == 4 and words[0] == "frame":
-        stream = Framing(*words[1:])
-    elif words == ["unframe"]:
-        stream = Unframing()
-    else:
-        print(__doc__, file=sys.stderr)
-        return 2
-    while octets := sys.stdin.buffer.read1(65536):
-        try:
-            sys.stdout.buffer.write(stream.feed(octets))
-            sys.stdout.buffer.flush()
-        except (ValueError, BrokenPipeError) as fault:
-            print(f"packets.py: {fault}", file=sys.stderr)
-            os._exit(1)
-    return 0 if stream.is_between_packets() else 1
-
-
-if __name__ == "__main__":
-    sys.exit(main(sys.argv[1:]))
+def address_of(text):
+    """The host and the port of HOST:PORT."""
+    host, _, port = text.rpartition(":")
+    if not host or not port.isdigit():
+        raise ValueError(f"{text} is not HOST:PORT")
+    return host.strip("[]"), int(port)

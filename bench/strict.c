@@ -1,17 +1,13 @@
-/* What the walk is measured against: readers of each message of bench/run, written by hand for that one type. Each reads
-   DER strictly (the shortest lengths and integers, the order of a SET and of a SET OF) and tests the constraints of the one rule.
+/* What the walk is measured against: readers of each message of bench/run, written by hand for that one type. Each
+   reads DER strictly (the shortest lengths and integers, the order of a SET and of a SET OF) and tests the constraints
+   of the one rule. bench/peer.c times them and sets them on a pipe.
 
-       strict CASE FILE      prints the case and the nanoseconds of one message, the least of nine rounds; status 1 where it refuses the file
-
-   Of text there are two: a loop that the compiler doesn't make into lanes, and lanes of AVX2 written by hand; `copy` copies the octets. */
+   Of text there are two: a loop that the compiler doesn't make into lanes, and lanes of AVX2 written by hand; `copy`
+   copies the octets. */
+#include "peer.h"
 #include <immintrin.h>
 #include <stdint.h>
-#include <stdio.h>
-#include <stdlib.h>
 #include <string.h>
-#include <time.h>
-
-typedef struct { const unsigned char *octets; size_t end; } message;
 
 /* The contents of the element at `at`, whose identifier is one octet: from `*from` to `*to`. */
 static inline int element(message m, size_t at, size_t end, unsigned tag, size_t *from, size_t *to) {
@@ -70,7 +66,8 @@ static inline int an_order(message m, int64_t low, int64_t high, int any) {
     if (!element(m, at, end, 0x81, &from, &to) || to - from != 1 || m.octets[from] > 1) return 0;
     at = to;
     if (at < end && m.octets[at] == 0x82) {
-        if (!element(m, at, end, 0x82, &from, &to) || !number(m, from, to, 1, 10) || (to - from == 1 && m.octets[from] == 1)) return 0;
+        if (!element(m, at, end, 0x82, &from, &to) || !number(m, from, to, 1, 10)) return 0;
+        if (to - from == 1 && m.octets[from] == 1) return 0;
         at = to;
     }
     if (at < end && m.octets[at] == 0x83) {
@@ -150,7 +147,8 @@ static int set(message m) {
             if (tag < 31) {
                 if (!element(m, part, last, 0x80 | tag, &from, &to)) return 0;
             } else {
-                if (part + 1 >= last || m.octets[part] != 0x9F || !element(m, part + 1, last, tag, &from, &to)) return 0;
+                if (part + 1 >= last || m.octets[part] != 0x9F) return 0;
+                if (!element(m, part + 1, last, tag, &from, &to)) return 0;
             }
             if (!number(m, from, to, 0, 100)) return 0;
             part = to;
@@ -180,60 +178,22 @@ static int set_of(message m) {
     return 1;
 }
 
-static unsigned char *into;
+static unsigned char into[1 << 21];
 
 static int copy(message m) {
+    if (m.end > sizeof into) return 0;
     memcpy(into, m.octets, m.end);
     __asm__ volatile("" ::"r"(into) : "memory");
     return 1;
 }
 
-static const struct { const char *name; int (*read)(message); } cases[] = {
-    {"order", order}, {"bulk", bulk}, {"nest", nest}, {"text", text}, {"text-avx2", text_by_lanes}, {"utf8", characters},
-    {"set", set}, {"set-of", set_of}, {"copy", copy},
+static const struct { const char *name; reader *read; } cases[] = {
+    {"order", order}, {"bulk", bulk}, {"nest", nest}, {"text", text}, {"text-avx2", text_by_lanes},
+    {"utf8", characters}, {"set", set}, {"set-of", set_of}, {"copy", copy},
 };
 
-static double now(void) {
-    struct timespec time;
-    clock_gettime(CLOCK_MONOTONIC, &time);
-    return (double)time.tv_sec * 1e9 + (double)time.tv_nsec;
-}
-
-static volatile int answer;
-
-static double least_of(int (*read)(message), message m) {
-    long times = 1;
-    double taken, least = 1e18;
-    for (;; times *= 2) {
-        double begin = now();
-        for (long at = 0; at < times; at++) answer = read(m);
-        taken = now() - begin;
-        if (taken > 5e6 || times > (1L << 40)) break;
-    }
-    for (int round = 0; round < 9; round++) {
-        double begin = now();
-        for (long at = 0; at < times; at++) answer = read(m);
-        taken = (now() - begin) / (double)times;
-        if (taken < least) least = taken;
-    }
-    return least;
-}
-
-int main(int words, char **word) {
-    FILE *file = words == 3 ? fopen(word[2], "rb") : NULL;
-    if (!file) return 2;
-    fseek(file, 0, SEEK_END);
-    size_t size = (size_t)ftell(file);
-    rewind(file);
-    unsigned char *octets = malloc(size + 64);
-    into = malloc(size + 64);
-    if (!octets || !into || fread(octets, 1, size, file) != size) return 2;
-    message m = {octets, size};
-    for (size_t at = 0; at < sizeof cases / sizeof *cases; at++) {
-        if (strcmp(word[1], cases[at].name)) continue;
-        if (!cases[at].read(m)) return 1;
-        printf("%s %.2f\n", cases[at].name, least_of(cases[at].read, m));
-        return 0;
-    }
-    return 2;
+reader *reader_of(const char *name) {
+    for (size_t at = 0; at < sizeof cases / sizeof *cases; at++)
+        if (!strcmp(name, cases[at].name)) return cases[at].read;
+    return NULL;
 }

@@ -1,0 +1,63 @@
+"""Frames of one kind and nothing else: what goes, and each reason for which a frame stays."""
+import os
+import subprocess
+
+from measure import GUARD, TOP, Stream, give_up, nanoseconds, say
+from messages import ALPHABETS, TEXT, TEXT_WRONG_AT_ITS_END, alphabets_module, frame, name_of, order, policy_of
+
+ORDERS = os.path.join(TOP, "examples", "orders.toml")
+STRICT = os.path.join(TOP, "examples", "strict.toml")
+SMALL = order([7])
+GOES = frame("order", SMALL)
+NOT_ALLOWED = frame("order", order([7], quantity=11))
+
+# What it is called, the aim in nanoseconds, the word of its report line (none where it goes), the policy, the frames.
+KINDS = [
+    ("goes", None, None, ORDERS, GOES),
+    ("bad header", 150, "bad-header", ORDERS, frame("ord r", SMALL)),
+    ("unknown-message", 150, "unknown-message", ORDERS, frame("ordre", SMALL)),
+    ("undecodable: an octet after the message", 500, "undecodable", ORDERS, frame("order", SMALL + b"\0")),
+    ("no-rule", 150, "no-rule", ORDERS, frame("order", SMALL, "south", "north")),
+    ("not-allowed", 500, "not-allowed", ORDERS, NOT_ALLOWED),
+    ("outside-type", 500, "outside-type", ORDERS, frame("order", order([7], id=100_000))),
+    ("denied-by", 500, "denied-by", STRICT, frame("order", order([7], id=95_000, quantity=2))),
+    ("one that goes and one that is not allowed, for both", None, "not-allowed", ORDERS, GOES + NOT_ALLOWED),
+]
+
+
+def texts(work):
+    """A text of a million characters under one alphabet written in two ways: it goes, and it stays for its last one."""
+    work.put("alphabets.asn1", alphabets_module())
+    path = work.put("alphabets.toml", policy_of("alphabets.asn1", ALPHABETS))
+    kinds = []
+    for what, written in (("text, ranges", '"0".."9" \\| "A".."F"'), ("text, a string", '"0123456789ABCDEF"')):
+        for becomes, word, octets in (("goes", None, TEXT), ("stays", "not-allowed", TEXT_WRONG_AT_ITS_END)):
+            name = f"a text of 1,000,000 under `FROM ({written})` that {becomes}"
+            kinds.append((name, None, word, path, frame(name_of(what), octets)))
+    return kinds
+
+
+def is_as_said(words, frames, word):
+    """One copy of the frames gives this report and no other."""
+    done = subprocess.run(words, input=frames, capture_output=True)
+    lines = done.stderr.decode().splitlines()
+    if [word in line.split() for line in lines] != ([True] if word else []):
+        give_up(f"{' '.join(words)} reports {lines} where {word or 'nothing'} was meant")
+
+
+def flood(work):
+    say("### A flood of one kind\n")
+    say("`run`, nanoseconds a frame, with the reports to `/dev/null` and to a pipe that `cat` reads.\n")
+    say("| frames | octets | ns a frame | ns a frame, reports to a pipe | times one that goes | aim, ns |")
+    say("|---|---|---|---|---|---|")
+    goes = None
+    for name, aim, word, path, frames in KINDS + texts(work):
+        words, file = [GUARD, "run", path], work.put("flood.frames", frames)
+        is_as_said(words, frames, word)
+        status = 1 if word else 0
+        times = nanoseconds({piped: Stream(work, file, words, status, piped) for piped in (False, True)})
+        goes = goes or times[False]
+        share = f"{times[False] / goes:.1f}" if len(frames) < 1000 else "-"
+        say(f"| {name} | {len(frames)} | {times[False]:.0f} | {times[True]:.0f} | {share} | {aim or '-'} |")
+    say()
+    return []

@@ -1,0 +1,149 @@
+"""How bench/run measures: programs between pipes, the least of several turns, and the room of a process."""
+import os
+import subprocess
+import sys
+import time
+
+HERE = os.path.dirname(os.path.abspath(__file__))
+TOP = os.path.dirname(HERE)
+OUT = os.path.join(HERE, "out")
+GUARD = os.environ.get("DERGUARD", os.path.join(TOP, "crates/derguard/out/derguard"))
+WALK = os.environ.get("BENCH_WALK", os.path.join(TOP, "crates/bench_walk/out/bench_walk"))
+TURNS = int(os.environ.get("BENCH_TURNS", "5"))
+SECONDS = float(os.environ.get("BENCH_SECONDS", "0.3"))
+page = []
+
+
+def say(line=""):
+    print(line, flush=True)
+    page.append(line)
+
+
+def give_up(why):
+    sys.exit(f"bench/run: {why}")
+
+
+def compile_c(program, *words):
+    subprocess.run([os.environ.get("CC", "cc"), "-O2", "-o", program, *words], check=True)
+
+
+class Work:
+    """A folder with the modules, policies, frames and small programs of one run."""
+
+    def __init__(self, place):
+        self.place = place
+        compile_c(self.path("strict"), os.path.join(HERE, "peer.c"), os.path.join(HERE, "strict.c"))
+        for tool in ("feed", "held"):
+            compile_c(self.path(tool), os.path.join(HERE, tool + ".c"))
+
+    def path(self, name):
+        return os.path.join(self.place, name)
+
+    def put(self, name, contents):
+        with open(self.path(name), "wb") as file:
+            file.write(contents if isinstance(contents, bytes) else contents.encode())
+        return self.path(name)
+
+
+# ---- streams
+
+class Stream:
+    """Copies of a file of frames through a program: `cat`, `derguard run`, or one that is compared with it.
+
+    All of them must go, or, where the status is 1, some of each copy must stay."""
+
+    def __init__(self, work, frames, words, status=0, reports_to_a_pipe=False):
+        self.feed, self.frames, self.words = work.path("feed"), frames, words
+        self.status, self.reports_to_a_pipe = status, reports_to_a_pipe
+
+    def seconds(self, count):
+        """From the start of the program until it and what feeds and reads it have ended."""
+        begin = time.perf_counter()
+        feed = subprocess.Popen([self.feed, self.frames, str(count)], stdout=subprocess.PIPE)
+        reports = subprocess.PIPE if self.reports_to_a_pipe else subprocess.DEVNULL
+        program = subprocess.Popen(self.words, stdin=feed.stdout, stdout=subprocess.DEVNULL, stderr=reports)
+        feed.stdout.close()
+        if self.reports_to_a_pipe:
+            reader = subprocess.Popen(["cat"], stdin=program.stderr, stdout=subprocess.DEVNULL)
+            program.stderr.close()
+            reader.wait()
+        if program.wait() != (self.status if count else 0) or feed.wait():
+            give_up(f"{' '.join(self.words)} ended with {program.returncode}, feed with {feed.wait()}")
+        return time.perf_counter() - begin
+
+    def copies(self):
+        """So many that a measurement takes about SECONDS."""
+        def least(count):
+            return min(self.seconds(count) for _ in range(2))
+
+        start, count = least(0), 16
+        while (taken := least(count) - start) < SECONDS / 4:
+            count *= 4
+        return max(1, int(count * SECONDS / taken))
+
+
+def nanoseconds(streams):
+    """For each stream those of one copy: the least of TURNS turns, in each of which every stream has its turn, less
+    the least that the same program takes without a frame."""
+    counts = {name: stream.copies() for name, stream in streams.items()}
+    full, empty = {name: [] for name in streams}, {name: [] for name in streams}
+    for _ in range(TURNS):
+        for name, stream in streams.items():
+            empty[name].append(stream.seconds(0))
+            full[name].append(stream.seconds(counts[name]))
+    taken = {name: min(full[name]) - min(empty[name]) for name in streams}
+    return {name: taken[name] / counts[name] * 1e9 if taken[name] > 0 else float("nan") for name in streams}
+
+
+# ---- in process
+
+def walk_ns(declared, rules, octets, text):
+    """Nanoseconds of one walk, as bench_walk measures them: the least of its rounds."""
+    stream = text.encode() + b"\0" + octets
+    times = max(1, min(20_000, 4_000_000 // (len(octets) + 20)))
+    done = subprocess.run([WALK, str(times), declared, *rules], input=stream, capture_output=True)
+    if done.returncode:
+        give_up(f"bench_walk {declared} ended with {done.returncode}: {done.stderr.decode()}")
+    return float(done.stdout.split()[-1]) / times
+
+
+def peer_ns(program, case, file):
+    done = subprocess.run([program, "time", case, file], capture_output=True, text=True)
+    if done.returncode:
+        give_up(f"{program} time {case} ended with {done.returncode}")
+    return float(done.stdout)
+
+
+def in_turn(measures):
+    """The least of TURNS turns of each, one after the other."""
+    found = {name: [] for name in measures}
+    for _ in range(TURNS):
+        for name, measure in measures.items():
+            found[name].append(measure())
+    return {name: min(times) for name, times in found.items()}
+
+
+# ---- a process from its start to its end
+
+LONGEST = 3
+
+
+def loads_soon(what, path):
+    """Whether a policy is loaded within LONGEST; where it isn't, what is measured over it is left out with a line."""
+    try:
+        subprocess.run([GUARD, "check", path], stdout=subprocess.DEVNULL, timeout=LONGEST, check=True)
+    except subprocess.TimeoutExpired:
+        say(f"{what}: left out, since loading takes more than {LONGEST} s.\n")
+        return False
+    return True
+
+
+def seconds_and_room(work, words):
+    """Seconds, and the MiB that the process itself held at most: bench/held.c starts it and asks the kernel."""
+    done = subprocess.run([work.path("held"), *words], stdin=subprocess.DEVNULL, capture_output=True, text=True)
+    if done.returncode:
+        give_up(f"{' '.join(words)} ended with {done.returncode}")
+    seconds, room, starter = done.stdout.split()
+    if int(room) <= int(starter):
+        give_up(f"the room of {' '.join(words)} is below that of what started it, {starter} KiB")
+    return float(seconds), int(room) / 1024

@@ -37,7 +37,7 @@ fn encoded(alloc: Global, ty: &Ty, value: &Value) -> Result<String, AllocError>
     Ok(text)
 }
 
-/// The same for a value that may not fit.
+/// The octets of the encoding of a value, where the type is sound and the value is one of its values.
 fn tried(alloc: Global, ty: &Ty, value: &Value) -> Result<String, AllocError> {
     let (Ok(is_sound), Ok(is_fitting)) = (sound(alloc, ty), fits(alloc, ty, value)) else {
         return Err(AllocError);

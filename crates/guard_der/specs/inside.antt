@@ -1,4 +1,5 @@
 -- What only private contracts and proofs cite.
 pub mod Digits
 pub mod EncodingSteps
+pub mod Faults
 pub mod SoundParts

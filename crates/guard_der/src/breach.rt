@@ -1,9 +1,7 @@
 //! Why octets are no encoding, and where.
-ghost use Rattle.std.specs.Prelude.{◌≡◌, ◌<◌, length, IfSome, option_map};
-ghost use Rattle.guard_der.specs.declared.breach.DecodeFault.TheVariants.{OutOfMemory};
+ghost use Rattle.std.specs.Prelude.{◌≡◌};
 
-use guard_model::{Path, PathText, Step};
-use std::alloc::{AllocError, AllocFailed};
+use guard_model::{Path, PathText};
 use std::fmt;
 use thiserror::Error;
 
@@ -120,47 +118,4 @@ pub enum DecodeFault {
     Breach(Breach),
     #[error("OutOfMemory")]
     OutOfMemory,
-}
-
-impl DecodeFault {
-    ghost use Rattle.guard_der.specs.Breach.{below};
-    ghost use Rattle.guard_der.specs.Views.{breach_of};
-
-    /// The fault of a value inside, seen from the value round it.
-    pub(crate) fn below(self, step: Step) -> DecodeFault
-        requires { IfSome (breach_of self) (λ b. length b.path < 32) }
-        ensures { breach_of result ≡ option_map (below step) (breach_of self) }
-    {
-        match self {
-            DecodeFault::Breach(mut breach) => {
-                breach.path.insert(0, step);
-                DecodeFault::Breach(breach)
-            }
-            DecodeFault::OutOfMemory => DecodeFault::OutOfMemory,
-        }
-    }
-}
-
-impl From<guard_model::OutOfMemory> for DecodeFault {
-    ghost from_gives = { λ _ e. e ≡ OutOfMemory };
-
-    fn from(_e: guard_model::OutOfMemory) -> DecodeFault {
-        DecodeFault::OutOfMemory
-    }
-}
-
-impl From<AllocError> for DecodeFault {
-    ghost from_gives = { λ _ e. e ≡ OutOfMemory };
-
-    fn from(_e: AllocError) -> DecodeFault {
-        DecodeFault::OutOfMemory
-    }
-}
-
-impl<T: Drop> From<AllocFailed<T>> for DecodeFault {
-    ghost from_gives = { λ _ e. e ≡ OutOfMemory };
-
-    fn from(_e: AllocFailed<T>) -> DecodeFault {
-        DecodeFault::OutOfMemory
-    }
 }

@@ -8,58 +8,59 @@ ghost use Rattle.guard_model.specs.ValueView.{value_view};
 ghost use Rattle.guard_der.specs.Octets.{twos_complement as twos_read};
 ghost use Rattle.guard_der.specs.Simple.{boolean_fault, boolean_of, integer_fault, bits_fault, bits_of, null_fault, enumerated_fault, characters_fault, characters_of, simple_fault, simple_value};
 ghost use Rattle.guard_der.specs.Reading.{unless_fault};
-ghost use Rattle.guard_der.specs.Views.{breach_of};
+ghost use Rattle.guard_der.specs.inside.Faults.{fault_of};
 
 use crate::bits::{ends_as_named, has_proper_end, has_zero_end};
-use crate::breach::{Code, DecodeFault};
+use crate::breach::Code;
 use crate::characters::text_of;
-use crate::faults::fault_at;
+use crate::faults::{Fault, fault_at};
 use crate::fitting::simple::is_item;
 use crate::integers::{fault_of_integer, twos_complement};
 use crate::object_id::object_identifier;
-use guard_model::{Bits, CharKind, Kind, Named, Value};
+use guard_model::{Bits, CharKind, Kind, Named, Path, Value};
 use std::alloc::Global;
 
 /// The value that contents octets of a simple kind say.
 pub fn value_of_simple(
     alloc: Global,
+    path: &mut Path,
     kind: &Kind,
     at: usize,
     octets: &[u8],
-) -> Result<Value, DecodeFault>
-    ensures { Gives value_view breach_of result (unless_fault at (simple_fault (kind_view kind.now) octets.now) (simple_value (kind_view kind.now) octets.now)) }
+) -> Result<Value, Fault>
+    ensures { Gives value_view (fault_of path.new.items) result (unless_fault at (simple_fault (kind_view kind.now) octets.now) (simple_value (kind_view kind.now) octets.now)) }
 {
     match kind {
-        Kind::Bool => boolean(at, octets),
-        Kind::Int(_) => integer(at, octets),
-        Kind::Bits(names) => bit_string(alloc, names, at, octets),
+        Kind::Bool => boolean(path, at, octets),
+        Kind::Int(_) => integer(path, at, octets),
+        Kind::Bits(names) => bit_string(alloc, path, names, at, octets),
         Kind::Octets => Ok(Value::Octets(Vec::from_slice(alloc, octets)?)),
-        Kind::Null => null(at, octets),
-        Kind::Oid => object_identifier(alloc, at, octets),
-        Kind::Enumerated(items) => enumerated(items, at, octets),
-        Kind::Chars(characters) => text(alloc, *characters, at, octets),
+        Kind::Null => null(path, at, octets),
+        Kind::Oid => object_identifier(alloc, path, at, octets),
+        Kind::Enumerated(items) => enumerated(path, items, at, octets),
+        Kind::Chars(characters) => text(alloc, path, *characters, at, octets),
         _ => Ok(Value::Null),
     }
 }
 
 /// FALSE is 00, TRUE is FF (X.690 8.2, 11.1).
-fn boolean(at: usize, octets: &[u8]) -> Result<Value, DecodeFault>
-    ensures { Gives value_view breach_of result (unless_fault at (boolean_fault octets.now) (abstract.boolean (boolean_of octets.now))) }
+fn boolean(path: &mut Path, at: usize, octets: &[u8]) -> Result<Value, Fault>
+    ensures { Gives value_view (fault_of path.new.items) result (unless_fault at (boolean_fault octets.now) (abstract.boolean (boolean_of octets.now))) }
 {
     match octets {
         [0] => Ok(Value::Bool(false)),
         [0xFF] => Ok(Value::Bool(true)),
-        _ => Err(fault_at(Code::BooleanContents, at)),
+        _ => Err(fault_at(path, Code::BooleanContents, at)),
     }
 }
 
 /// A NULL has no contents (X.690 8.8.2).
-fn null(at: usize, octets: &[u8]) -> Result<Value, DecodeFault>
-    ensures { Gives value_view breach_of result (unless_fault at (null_fault octets.now) abstract.null) }
+fn null(path: &mut Path, at: usize, octets: &[u8]) -> Result<Value, Fault>
+    ensures { Gives value_view (fault_of path.new.items) result (unless_fault at (null_fault octets.now) abstract.null) }
 {
     match octets {
         [] => Ok(Value::Null),
-        _ => Err(fault_at(Code::NullContents, at)),
+        _ => Err(fault_at(path, Code::NullContents, at)),
     }
 }
 
@@ -67,23 +68,24 @@ fn null(at: usize, octets: &[u8]) -> Result<Value, DecodeFault>
 /// one isn't (11.2.2).
 fn bit_string(
     alloc: Global,
+    path: &mut Path,
     names: &[Named],
     at: usize,
     octets: &[u8],
-) -> Result<Value, DecodeFault>
-    ensures { Gives value_view breach_of result (unless_fault at (bits_fault (map named_view names.now) octets.now) (bits_of octets.now)) }
+) -> Result<Value, Fault>
+    ensures { Gives value_view (fault_of path.new.items) result (unless_fault at (bits_fault (map named_view names.now) octets.now) (bits_of octets.now)) }
 {
     let [unused, rest @ ..] = octets else {
-        return Err(fault_at(Code::BitStringContents, at));
+        return Err(fault_at(path, Code::BitStringContents, at));
     };
     if !has_proper_end(rest, *unused) {
-        return Err(fault_at(Code::BitStringContents, at));
+        return Err(fault_at(path, Code::BitStringContents, at));
     }
     if !has_zero_end(rest, *unused) {
-        return Err(fault_at(Code::UnusedBits, at));
+        return Err(fault_at(path, Code::UnusedBits, at));
     }
     if !ends_as_named(names, rest, *unused) {
-        return Err(fault_at(Code::TrailingZeroBit, at));
+        return Err(fault_at(path, Code::TrailingZeroBit, at));
     }
     Ok(Value::Bits(Bits {
         octets: Vec::from_slice(alloc, rest)?,
@@ -92,36 +94,42 @@ fn bit_string(
 }
 
 /// UTF-8 for UTF8String, else one octet a character (X.690 8.23).
-fn text(alloc: Global, kind: CharKind, at: usize, octets: &[u8]) -> Result<Value, DecodeFault>
-    ensures { Gives value_view breach_of result (unless_fault at (characters_fault kind octets.now) (abstract.characters (characters_of kind octets.now))) }
+fn text(
+    alloc: Global,
+    path: &mut Path,
+    kind: CharKind,
+    at: usize,
+    octets: &[u8],
+) -> Result<Value, Fault>
+    ensures { Gives value_view (fault_of path.new.items) result (unless_fault at (characters_fault kind octets.now) (abstract.characters (characters_of kind octets.now))) }
 {
     match text_of(kind, octets) {
         Some(text) => Ok(Value::Chars(String::from_str(alloc, text)?)),
-        None => Err(fault_at(Code::Characters, at)),
+        None => Err(fault_at(path, Code::Characters, at)),
     }
 }
 
-fn integer(at: usize, octets: &[u8]) -> Result<Value, DecodeFault>
-    ensures { Gives value_view breach_of result (unless_fault at (integer_fault octets.now) (abstract.integer (twos_read octets.now))) }
+fn integer(path: &mut Path, at: usize, octets: &[u8]) -> Result<Value, Fault>
+    ensures { Gives value_view (fault_of path.new.items) result (unless_fault at (integer_fault octets.now) (abstract.integer (twos_read octets.now))) }
 {
     match fault_of_integer(octets) {
-        Some(code) => Err(fault_at(code, at)),
+        Some(code) => Err(fault_at(path, code, at)),
         None => Ok(Value::Int(twos_complement(octets))),
     }
 }
 
 /// An INTEGER that is the number of an item (X.690 8.4).
-fn enumerated(items: &[Named], at: usize, octets: &[u8]) -> Result<Value, DecodeFault>
-    ensures { Gives value_view breach_of result (unless_fault at (enumerated_fault (map named_view items.now) octets.now) (abstract.enumerated (twos_read octets.now))) }
+fn enumerated(path: &mut Path, items: &[Named], at: usize, octets: &[u8]) -> Result<Value, Fault>
+    ensures { Gives value_view (fault_of path.new.items) result (unless_fault at (enumerated_fault (map named_view items.now) octets.now) (abstract.enumerated (twos_read octets.now))) }
 {
     match fault_of_integer(octets) {
-        Some(code) => Err(fault_at(code, at)),
+        Some(code) => Err(fault_at(path, code, at)),
         None => {
             let number = twos_complement(octets);
             if is_item(number, items) {
                 Ok(Value::Enumerated(number))
             } else {
-                Err(fault_at(Code::UnknownEnumeration, at))
+                Err(fault_at(path, Code::UnknownEnumeration, at))
             }
         }
     }

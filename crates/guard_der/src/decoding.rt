@@ -15,19 +15,20 @@ ghost use Rattle.guard_der.specs.Sound.{is_sound, is_proper, is_proper_kind, are
 ghost use Rattle.guard_der.specs.Breach.{AbstractBreach, IsBreach};
 ghost use Rattle.guard_der.specs.Reading.{due_at, alone_at, component_at, end_at, element_at, untagged_at, contents_at, chosen_at, part_at, fields_at, item_alone, item_at, items_at, message_of, sent_at, set_element_at, set_at};
 ghost use Rattle.guard_der.specs.Views.{head_view, breach_of};
+ghost use Rattle.guard_der.specs.inside.Faults.{fault_of};
 
 mod set;
 
-use crate::breach::{Code, DecodeFault};
+use crate::breach::{Breach, Code, DecodeFault};
 use crate::contents::value_of_simple;
 use crate::decoding::set::{completed, place_of};
-use crate::faults::{end, fault_at, header_at_front, wrong_form};
+use crate::faults::{Fault, end, fault_at, header_at_front, wrong_form};
 use crate::forms::{is_constructed, is_form};
 use crate::head::Head;
 use crate::order::descends;
 use crate::presence::{is_left_out, not_sent};
 use crate::tags::{begins_in, one_with};
-use guard_model::{Comp, Kind, Presence, Step, Tag, Ty, Value, absent_fields, set_field};
+use guard_model::{Comp, Kind, Path, Presence, Step, Tag, Ty, Value, absent_fields, set_field};
 use guard_tagcheck::begins_with;
 use std::alloc::Global;
 
@@ -53,7 +54,12 @@ fn message(alloc: Global, ty: &Ty, octets: &[u8]) -> Result<Value, DecodeFault>
     requires { IsTrue (is_sound (type_view ty.now)) }
     ensures { Gives value_view breach_of result (message_of (type_view ty.now) octets.now) }
 {
-    alone(alloc, &ty.tags, &ty.kind, 0, octets)
+    let mut path = Path::new();
+    match alone(alloc, &mut path, &ty.tags, &ty.kind, 0, octets) {
+        Ok(value) => Ok(value),
+        Err(Fault::Breach(code, at)) => Err(DecodeFault::Breach(Breach { code, at, path })),
+        Err(Fault::OutOfMemory) => Err(DecodeFault::OutOfMemory),
+    }
 }
 
 /// One element of a kind with these tags, and nothing after it.
@@ -61,35 +67,36 @@ fn message(alloc: Global, ty: &Ty, octets: &[u8]) -> Result<Value, DecodeFault>
 #[tactic(auto, unfolding(crate::specs::Reading::alone_at))]
 fn alone(
     alloc: Global,
+    path: &mut Path,
     tags: &[Tag],
     kind: &Kind,
     at: usize,
     octets: &[u8],
-) -> Result<Value, DecodeFault>
+) -> Result<Value, Fault>
     requires proper { IsTrue (is_proper (type_of tags.now (kind_view kind.now) no_constraints)) }
     requires depth { nesting (type_of tags.now (kind_view kind.now) no_constraints) ≤ 32 }
     requires room { at + length octets.now < 2 ^ 64 }
-    ensures { Gives value_view breach_of result (alone_at (begins_with (type_of tags.now (kind_view kind.now) no_constraints)) (element_at (type_of tags.now (kind_view kind.now) no_constraints)) at octets.now) }
+    ensures { Gives value_view (fault_of path.new.items) result (alone_at (begins_with (type_of tags.now (kind_view kind.now) no_constraints)) (element_at (type_of tags.now (kind_view kind.now) no_constraints)) at octets.now) }
 {
-    let head = due(tags, kind, at, octets)?;
-    let value = element(alloc, tags, kind, at, head, octets)?;
+    let head = due(path, tags, kind, at, octets)?;
+    let value = element(alloc, path, tags, kind, at, head, octets)?;
     let size = head.size + head.contents;
     if size < octets.len() {
-        return Err(fault_at(Code::TrailingOctets, at + size));
+        return Err(fault_at(path, Code::TrailingOctets, at + size));
     }
     Ok(value)
 }
 
 /// The header at the front, where an element of a kind with these tags is due.
 #[tactic(auto, unfolding(crate::specs::Reading::due_at))]
-fn due(tags: &[Tag], kind: &Kind, at: usize, octets: &[u8]) -> Result<Head, DecodeFault>
-    ensures { Gives head_view breach_of result (due_at (begins_with (type_of tags.now (kind_view kind.now) no_constraints)) at octets.now) }
+fn due(path: &mut Path, tags: &[Tag], kind: &Kind, at: usize, octets: &[u8]) -> Result<Head, Fault>
+    ensures { Gives head_view (fault_of path.new.items) result (due_at (begins_with (type_of tags.now (kind_view kind.now) no_constraints)) at octets.now) }
 {
-    let head = header_at_front(at, octets)?;
+    let head = header_at_front(path, at, octets)?;
     if begins_in(tags, kind, head.tag) {
         Ok(head)
     } else {
-        Err(fault_at(Code::UnexpectedTag, at))
+        Err(fault_at(path, Code::UnexpectedTag, at))
     }
 }
 
@@ -97,33 +104,34 @@ fn due(tags: &[Tag], kind: &Kind, at: usize, octets: &[u8]) -> Result<Head, Deco
 #[cycle(reading)]
 fn element(
     alloc: Global,
+    path: &mut Path,
     tags: &[Tag],
     kind: &Kind,
     at: usize,
     head: Head,
     octets: &[u8],
-) -> Result<Value, DecodeFault>
+) -> Result<Value, Fault>
     requires proper { IsTrue (is_proper (type_of tags.now (kind_view kind.now) no_constraints)) }
     requires depth { nesting (type_of tags.now (kind_view kind.now) no_constraints) ≤ 32 }
     requires header { head_of octets.now ≡ Ok (head_view head) }
     requires room { at + length octets.now < 2 ^ 64 }
-    ensures { Gives value_view breach_of result (element_at (type_of tags.now (kind_view kind.now) no_constraints) at (head_view head) octets.now) }
+    ensures { Gives value_view (fault_of path.new.items) result (element_at (type_of tags.now (kind_view kind.now) no_constraints) at (head_view head) octets.now) }
 {
     if tags.is_empty() {
-        return untagged(alloc, kind, at, head, octets);
+        return untagged(alloc, path, kind, at, head, octets);
     }
     let (_, behind) = octets.split_at(head.size);
     let (inside, _) = behind.split_at(head.contents);
     if tags.len() == 1 {
         if !is_form(head.constructed, is_constructed(kind)) {
-            return Err(wrong_form(at));
+            return Err(wrong_form(path, at));
         }
-        return contents(alloc, kind, at, at + head.size, inside);
+        return contents(alloc, path, kind, at, at + head.size, inside);
     }
     if !head.constructed {
-        return Err(fault_at(Code::WrongForm, at));
+        return Err(fault_at(path, Code::WrongForm, at));
     }
-    alone(alloc, &tags[1..], kind, at + head.size, inside)
+    alone(alloc, path, &tags[1..], kind, at + head.size, inside)
 }
 
 /// An element of a kind without a tag.
@@ -131,20 +139,21 @@ fn element(
 #[tactic(auto, unfolding(crate::specs::Reading::untagged_at))]
 fn untagged(
     alloc: Global,
+    path: &mut Path,
     kind: &Kind,
     at: usize,
     head: Head,
     octets: &[u8],
-) -> Result<Value, DecodeFault>
+) -> Result<Value, Fault>
     requires proper { IsTrue (is_proper_kind (kind_view kind.now)) }
     requires depth { nesting_inside (kind_view kind.now) ≤ 32 }
     requires header { head_of octets.now ≡ Ok (head_view head) }
     requires room { at + length octets.now < 2 ^ 64 }
-    ensures { Gives value_view breach_of result (untagged_at (kind_view kind.now) at (head_view head) octets.now) }
+    ensures { Gives value_view (fault_of path.new.items) result (untagged_at (kind_view kind.now) at (head_view head) octets.now) }
 {
     match kind {
-        Kind::Choice(alternatives) => chosen(alloc, alternatives, at, head, octets),
-        _ => Err(fault_at(Code::UnexpectedTag, at)),
+        Kind::Choice(alternatives) => chosen(alloc, path, alternatives, at, head, octets),
+        _ => Err(fault_at(path, Code::UnexpectedTag, at)),
     }
 }
 
@@ -152,25 +161,26 @@ fn untagged(
 #[cycle(reading)]
 fn chosen(
     alloc: Global,
+    path: &mut Path,
     alternatives: &[Comp],
     at: usize,
     head: Head,
     octets: &[u8],
-) -> Result<Value, DecodeFault>
+) -> Result<Value, Fault>
     requires proper { IsTrue (are_proper (components_of (map component_view alternatives.now))) }
     requires few { length alternatives.now ≤ 64 }
     requires depth { deepest (components_of (map component_view alternatives.now)) ≤ 31 }
     requires header { head_of octets.now ≡ Ok (head_view head) }
     requires room { at + length octets.now < 2 ^ 64 }
-    ensures { Gives value_view breach_of result (chosen_at (components_of (map component_view alternatives.now)) (part_at (components_of (map component_view alternatives.now))) at (head_view head) octets.now) }
+    ensures { Gives value_view (fault_of path.new.items) result (chosen_at (components_of (map component_view alternatives.now)) (part_at (components_of (map component_view alternatives.now))) at (head_view head) octets.now) }
 {
     let Some(place) = one_with(alternatives, head.tag) else {
-        return Err(fault_at(Code::UnexpectedTag, at));
+        return Err(fault_at(path, Code::UnexpectedTag, at));
     };
     let ty = &alternatives[place].ty;
-    match element(alloc, &ty.tags, &ty.kind, at, head, octets) {
+    match element(alloc, path, &ty.tags, &ty.kind, at, head, octets) {
         Ok(value) => Ok(Value::Chosen(place as u8, Box::new(alloc, value)?)),
-        Err(fault) => Err(fault.below(Step::Component(place as u8))),
+        Err(fault) => Err(fault.below(path, Step::Component(place as u8))),
     }
 }
 
@@ -179,26 +189,27 @@ fn chosen(
 #[tactic(auto, unfolding(crate::specs::Reading::contents_at, crate::specs::Reading::simple_at))]
 fn contents(
     alloc: Global,
+    path: &mut Path,
     kind: &Kind,
     at: usize,
     start: usize,
     octets: &[u8],
-) -> Result<Value, DecodeFault>
+) -> Result<Value, Fault>
     requires proper { IsTrue (is_proper_kind (kind_view kind.now)) }
     requires depth { nesting_inside (kind_view kind.now) ≤ 31 }
     requires room { start + length octets.now < 2 ^ 64 }
     requires short { length octets.now < 2 ^ 32 }
-    ensures { Gives value_view breach_of result (contents_at (kind_view kind.now) at start octets.now) }
+    ensures { Gives value_view (fault_of path.new.items) result (contents_at (kind_view kind.now) at start octets.now) }
 {
     match kind {
-        Kind::Sequence(comps) => Ok(Value::Fields(components(alloc, comps, start, octets)?)),
-        Kind::Set(comps) => Ok(Value::Fields(set_components(alloc, comps, start, octets)?)),
-        Kind::Choice(_) => alone(alloc, &[], kind, start, octets),
+        Kind::Sequence(comps) => Ok(Value::Fields(components(alloc, path, comps, start, octets)?)),
+        Kind::Set(comps) => Ok(Value::Fields(set_components(alloc, path, comps, start, octets)?)),
+        Kind::Choice(_) => alone(alloc, path, &[], kind, start, octets),
         Kind::SequenceOf(element) => {
-            Ok(Value::Items(items(alloc, element, false, start, octets)?))
+            Ok(Value::Items(items(alloc, path, element, false, start, octets)?))
         }
-        Kind::SetOf(element) => Ok(Value::Items(items(alloc, element, true, start, octets)?)),
-        _ => value_of_simple(alloc, kind, at, octets),
+        Kind::SetOf(element) => Ok(Value::Items(items(alloc, path, element, true, start, octets)?)),
+        _ => value_of_simple(alloc, path, kind, at, octets),
     }
 }
 
@@ -206,27 +217,36 @@ fn contents(
 #[cycle(reading)]
 fn components(
     alloc: Global,
+    path: &mut Path,
     comps: &[Comp],
     start: usize,
     octets: &[u8],
-) -> Result<Vec<Option<Value>>, DecodeFault>
+) -> Result<Vec<Option<Value>>, Fault>
     requires proper { IsTrue (are_proper (components_of (map component_view comps.now))) }
     requires few { length comps.now ≤ 64 }
     requires depth { deepest (components_of (map component_view comps.now)) ≤ 31 }
     requires room { start + length octets.now < 2 ^ 64 }
-    ensures { Gives (λ v. fields_view v.items) breach_of result (fields_at 0 (components_of (map component_view comps.now)) start octets.now) }
+    ensures { Gives (λ v. fields_view v.items) (fault_of path.new.items) result (fields_at 0 (components_of (map component_view comps.now)) start octets.now) }
 {
     let mut fields = Vec::with_capacity(alloc, comps.len())?;
     let mut at = start;
     let mut rest = octets;
     for (index, comp) in comps.iter().enumerate() {
-        let (field, size) = component(alloc, &comp.ty, &comp.presence, index as u8, at, rest)?;
+        let (field, size) = component(
+            alloc,
+            path,
+            &comp.ty,
+            &comp.presence,
+            index as u8,
+            at,
+            rest,
+        )?;
         fields.push(field)?;
         let (_, behind) = rest.split_at(size);
         at += size;
         rest = behind;
     }
-    end(at, rest)?;
+    end(path, at, rest)?;
     Ok(fields)
 }
 
@@ -234,28 +254,32 @@ fn components(
 #[cycle(reading)]
 fn component(
     alloc: Global,
+    path: &mut Path,
     ty: &Ty,
     presence: &Presence,
     index: u8,
     at: usize,
     octets: &[u8],
-) -> Result<(Option<Value>, usize), DecodeFault>
+) -> Result<(Option<Value>, usize), Fault>
     requires proper { IsTrue (is_proper (type_view ty.now)) }
     requires depth { nesting (type_view ty.now) ≤ 31 }
     requires room { at + length octets.now < 2 ^ 64 }
     ensures within { IfOk result (λ x. x.1 ≤ length octets.now) }
-    ensures given { Gives (λ x. (field_view x.0, x.1)) breach_of result (component_at index (presence_view presence.now) (begins_with (type_view ty.now)) (element_at (type_view ty.now)) at octets.now) }
+    ensures given { Gives (λ x. (field_view x.0, x.1)) (fault_of path.new.items) result (component_at index (presence_view presence.now) (begins_with (type_view ty.now)) (element_at (type_view ty.now)) at octets.now) }
 {
     if octets.is_empty() {
-        let missing = fault_at(Code::MissingComponent, at).below(Step::Component(index));
+        let missing = fault_at(path, Code::MissingComponent, at).below(
+            path,
+            Step::Component(index),
+        );
         return Ok((not_sent(alloc, presence, missing)?, 0));
     }
-    let head = header_at_front(at, octets)?;
+    let head = header_at_front(path, at, octets)?;
     if !begins_with(ty, head.tag) {
-        let stray = fault_at(Code::UnexpectedTag, at);
+        let stray = fault_at(path, Code::UnexpectedTag, at);
         return Ok((not_sent(alloc, presence, stray)?, 0));
     }
-    let value = sent(alloc, ty, presence, index, at, head, octets)?;
+    let value = sent(alloc, path, ty, presence, index, at, head, octets)?;
     Ok((Some(value), head.size + head.contents))
 }
 
@@ -263,27 +287,31 @@ fn component(
 #[cycle(reading)]
 fn sent(
     alloc: Global,
+    path: &mut Path,
     ty: &Ty,
     presence: &Presence,
     index: u8,
     at: usize,
     head: Head,
     octets: &[u8],
-) -> Result<Value, DecodeFault>
+) -> Result<Value, Fault>
     requires proper { IsTrue (is_proper (type_view ty.now)) }
     requires depth { nesting (type_view ty.now) ≤ 31 }
     requires header { head_of octets.now ≡ Ok (head_view head) }
     requires room { at + length octets.now < 2 ^ 64 }
-    ensures { Gives value_view breach_of result (sent_at index (presence_view presence.now) (element_at (type_view ty.now)) at (head_view head) octets.now) }
+    ensures { Gives value_view (fault_of path.new.items) result (sent_at index (presence_view presence.now) (element_at (type_view ty.now)) at (head_view head) octets.now) }
 {
-    match element(alloc, &ty.tags, &ty.kind, at, head, octets) {
+    match element(alloc, path, &ty.tags, &ty.kind, at, head, octets) {
         Ok(value) => {
             if is_left_out(presence, &value) {
-                return Err(fault_at(Code::DefaultPresent, at).below(Step::Component(index)));
+                return Err(fault_at(path, Code::DefaultPresent, at).below(
+                    path,
+                    Step::Component(index),
+                ));
             }
             Ok(value)
         }
-        Err(fault) => Err(fault.below(Step::Component(index))),
+        Err(fault) => Err(fault.below(path, Step::Component(index))),
     }
 }
 
@@ -291,23 +319,33 @@ fn sent(
 #[cycle(reading)]
 fn items(
     alloc: Global,
+    path: &mut Path,
     ty: &Ty,
     ordered: bool,
     start: usize,
     octets: &[u8],
-) -> Result<Vec<Value>, DecodeFault>
+) -> Result<Vec<Value>, Fault>
     requires proper { IsTrue (is_proper (type_view ty.now)) }
     requires depth { nesting (type_view ty.now) ≤ 31 }
     requires room { start + length octets.now < 2 ^ 64 }
     requires short { length octets.now < 2 ^ 32 }
-    ensures { Gives (λ v. items_view v.items) breach_of result (items_at (length octets.now) ordered (begins_with (type_view ty.now)) (element_at (type_view ty.now)) 0 [] start octets.now) }
+    ensures { Gives (λ v. items_view v.items) (fault_of path.new.items) result (items_at (length octets.now) ordered (begins_with (type_view ty.now)) (element_at (type_view ty.now)) 0 [] start octets.now) }
 {
     let mut items = Vec::new(alloc);
     let mut at = start;
     let mut before: &[u8] = &[];
     let mut rest = octets;
     while !rest.is_empty() {
-        let (value, size) = item(alloc, ty, ordered, items.len() as u32, before, at, rest)?;
+        let (value, size) = item(
+            alloc,
+            path,
+            ty,
+            ordered,
+            items.len() as u32,
+            before,
+            at,
+            rest,
+        )?;
         items.push(value)?;
         let (front, behind) = rest.split_at(size);
         at += size;
@@ -321,23 +359,24 @@ fn items(
 #[cycle(reading)]
 fn item(
     alloc: Global,
+    path: &mut Path,
     ty: &Ty,
     ordered: bool,
     index: u32,
     before: &[u8],
     at: usize,
     octets: &[u8],
-) -> Result<(Value, usize), DecodeFault>
+) -> Result<(Value, usize), Fault>
     requires proper { IsTrue (is_proper (type_view ty.now)) }
     requires depth { nesting (type_view ty.now) ≤ 31 }
     requires room { at + length octets.now < 2 ^ 64 }
     ensures some { IfOk result (λ x. 1 ≤ x.1) }
     ensures within { IfOk result (λ x. x.1 ≤ length octets.now) }
-    ensures given { Gives (λ x. (value_view x.0, x.1)) breach_of result (item_at ordered (begins_with (type_view ty.now)) (element_at (type_view ty.now)) index before.now at octets.now) }
+    ensures given { Gives (λ x. (value_view x.0, x.1)) (fault_of path.new.items) result (item_at ordered (begins_with (type_view ty.now)) (element_at (type_view ty.now)) index before.now at octets.now) }
 {
-    match next_item(alloc, ty, ordered, before, at, octets) {
+    match next_item(alloc, path, ty, ordered, before, at, octets) {
         Ok((value, size)) => Ok((value, size)),
-        Err(fault) => Err(fault.below(Step::Element(index))),
+        Err(fault) => Err(fault.below(path, Step::Element(index))),
     }
 }
 
@@ -345,25 +384,26 @@ fn item(
 #[cycle(reading)]
 fn next_item(
     alloc: Global,
+    path: &mut Path,
     ty: &Ty,
     ordered: bool,
     before: &[u8],
     at: usize,
     octets: &[u8],
-) -> Result<(Value, usize), DecodeFault>
+) -> Result<(Value, usize), Fault>
     requires proper { IsTrue (is_proper (type_view ty.now)) }
     requires depth { nesting (type_view ty.now) ≤ 31 }
     requires room { at + length octets.now < 2 ^ 64 }
     ensures some { IfOk result (λ x. 1 ≤ x.1) }
     ensures within { IfOk result (λ x. x.1 ≤ length octets.now) }
-    ensures given { Gives (λ x. (value_view x.0, x.1)) breach_of result (item_alone ordered (begins_with (type_view ty.now)) (element_at (type_view ty.now)) before.now at octets.now) }
+    ensures given { Gives (λ x. (value_view x.0, x.1)) (fault_of path.new.items) result (item_alone ordered (begins_with (type_view ty.now)) (element_at (type_view ty.now)) before.now at octets.now) }
 {
-    let head = due(&ty.tags, &ty.kind, at, octets)?;
-    let value = element(alloc, &ty.tags, &ty.kind, at, head, octets)?;
+    let head = due(path, &ty.tags, &ty.kind, at, octets)?;
+    let value = element(alloc, path, &ty.tags, &ty.kind, at, head, octets)?;
     let size = head.size + head.contents;
     let (front, _) = octets.split_at(size);
     if is_out_of_order(ordered, before, front) {
-        return Err(fault_at(Code::SetOfOrder, at));
+        return Err(fault_at(path, Code::SetOfOrder, at));
     }
     Ok((value, size))
 }
@@ -379,22 +419,23 @@ fn is_out_of_order(ordered: bool, before: &[u8], octets: &[u8]) -> bool
 #[cycle(reading)]
 fn set_components(
     alloc: Global,
+    path: &mut Path,
     comps: &[Comp],
     start: usize,
     octets: &[u8],
-) -> Result<Vec<Option<Value>>, DecodeFault>
+) -> Result<Vec<Option<Value>>, Fault>
     requires proper { IsTrue (are_proper (components_of (map component_view comps.now))) }
     requires few { length comps.now ≤ 64 }
     requires depth { deepest (components_of (map component_view comps.now)) ≤ 31 }
     requires room { start + length octets.now < 2 ^ 64 }
-    ensures { Gives (λ v. fields_view v.items) breach_of result (set_at (length octets.now) (components_of (map component_view comps.now)) (part_at (components_of (map component_view comps.now))) (all_absent (components_of (map component_view comps.now))) None start octets.now) }
+    ensures { Gives (λ v. fields_view v.items) (fault_of path.new.items) result (set_at (length octets.now) (components_of (map component_view comps.now)) (part_at (components_of (map component_view comps.now))) (all_absent (components_of (map component_view comps.now))) None start octets.now) }
 {
     let mut fields = absent_fields(alloc, comps)?;
     let mut before = None;
     let mut at = start;
     let mut rest = octets;
     while !rest.is_empty() {
-        let (place, value, head) = set_component(alloc, comps, &fields, before, at, rest)?;
+        let (place, value, head) = set_component(alloc, path, comps, &fields, before, at, rest)?;
         let size = head.size + head.contents;
         set_field(&mut fields, place, Some(value));
         before = Some(head.tag);
@@ -402,19 +443,20 @@ fn set_components(
         at += size;
         rest = behind;
     }
-    completed(alloc, comps, fields, at)
+    completed(alloc, path, comps, fields, at)
 }
 
 /// The element of a component of a SET: its place in the list, its value, its header.
 #[cycle(reading)]
 fn set_component(
     alloc: Global,
+    path: &mut Path,
     comps: &[Comp],
     fields: &[Option<Value>],
     before: Option<Tag>,
     at: usize,
     octets: &[u8],
-) -> Result<(usize, Value, Head), DecodeFault>
+) -> Result<(usize, Value, Head), Fault>
     requires proper { IsTrue (are_proper (components_of (map component_view comps.now))) }
     requires few { length comps.now ≤ 64 }
     requires depth { deepest (components_of (map component_view comps.now)) ≤ 31 }
@@ -423,13 +465,14 @@ fn set_component(
     ensures place { IfOk result (λ x. x.0 < length comps.now) }
     ensures some { IfOk result (λ x. 1 ≤ x.2.size) }
     ensures within { IfOk result (λ x. x.2.size + x.2.contents ≤ length octets.now) }
-    ensures given { Gives (λ x. (x.0, value_view x.1, head_view x.2)) breach_of result (set_element_at (components_of (map component_view comps.now)) (part_at (components_of (map component_view comps.now))) (fields_view fields.now) before at octets.now) }
+    ensures given { Gives (λ x. (x.0, value_view x.1, head_view x.2)) (fault_of path.new.items) result (set_element_at (components_of (map component_view comps.now)) (part_at (components_of (map component_view comps.now))) (fields_view fields.now) before at octets.now) }
 {
-    let head = header_at_front(at, octets)?;
-    let place = place_of(comps, fields, before, at, head.tag)?;
+    let head = header_at_front(path, at, octets)?;
+    let place = place_of(path, comps, fields, before, at, head.tag)?;
     let comp = &comps[place];
     let value = sent(
         alloc,
+        path,
         &comp.ty,
         &comp.presence,
         place as u8,

@@ -1,49 +1,102 @@
-//! Faults at an offset.
+//! Faults at an offset, on their way out. The path to a fault is written into one place as the calls return, so that
+//! what each of them hands up is small.
 ghost use Rattle.std.specs.Prelude.{◌≡◌, Some};
 ghost use Rattle.guard_model.specs.Answer.{Gives};
 ghost use Rattle.guard_model.specs.AbstractValue.{no_fields};
 ghost use Rattle.guard_der.specs.Head.{head_of};
 ghost use Rattle.guard_der.specs.Reading.{end_at, fault, located};
-ghost use Rattle.guard_der.specs.Views.{head_view, breach_of};
+ghost use Rattle.guard_der.specs.Views.{head_view};
+ghost use Rattle.guard_der.specs.inside.Faults.{fault_of};
 ghost use Rattle.guard_der.specs.declared.breach.Code.TheVariants.{WrongForm};
+ghost use Rattle.guard_der.specs.declared.faults.Fault.TheVariants.{OutOfMemory};
 
-use crate::breach::{Breach, Code, DecodeFault};
+use crate::breach::Code;
 use crate::head::{Head, head_at_front};
-use guard_model::Path;
+use guard_model::{Path, Step};
+use std::alloc::{AllocError, AllocFailed};
 
-pub fn header_at_front(at: usize, octets: &[u8]) -> Result<Head, DecodeFault>
-    ensures { Gives head_view breach_of result (located at (head_of octets.now)) }
+/// Why there is no value, without the path.
+#[derive(Clone, Copy)]
+pub enum Fault {
+    /// What is wrong, and at which offset.
+    Breach(Code, usize),
+    OutOfMemory,
+}
+
+impl Fault {
+    ghost use Rattle.std.specs.Prelude.{◌≡◌, ◌<◌, length, IfSome, option_map};
+    ghost use Rattle.guard_der.specs.Breach.{below};
+    ghost use Rattle.guard_der.specs.inside.Faults.{fault_of};
+
+    /// The fault of a value inside, seen from the value round it.
+    pub fn below(self, path: &mut Path, step: Step) -> Fault
+        requires { IfSome (fault_of path.old.items self) (λ b. length b.path < 32) }
+        ensures { fault_of path.new.items result ≡ option_map (below step) (fault_of path.old.items self) }
+    {
+        match self {
+            Fault::Breach(code, at) => {
+                path.insert(0, step);
+                Fault::Breach(code, at)
+            }
+            Fault::OutOfMemory => Fault::OutOfMemory,
+        }
+    }
+}
+
+impl From<guard_model::OutOfMemory> for Fault {
+    ghost from_gives = { λ _ e. e ≡ OutOfMemory };
+
+    fn from(_e: guard_model::OutOfMemory) -> Fault {
+        Fault::OutOfMemory
+    }
+}
+
+impl From<AllocError> for Fault {
+    ghost from_gives = { λ _ e. e ≡ OutOfMemory };
+
+    fn from(_e: AllocError) -> Fault {
+        Fault::OutOfMemory
+    }
+}
+
+impl<T: Drop> From<AllocFailed<T>> for Fault {
+    ghost from_gives = { λ _ e. e ≡ OutOfMemory };
+
+    fn from(_e: AllocFailed<T>) -> Fault {
+        Fault::OutOfMemory
+    }
+}
+
+pub fn header_at_front(path: &mut Path, at: usize, octets: &[u8]) -> Result<Head, Fault>
+    ensures { Gives head_view (fault_of path.new.items) result (located at (head_of octets.now)) }
 {
     match head_at_front(octets) {
         Ok(head) => Ok(head),
-        Err(code) => Err(fault_at(code, at)),
+        Err(code) => Err(fault_at(path, code, at)),
     }
 }
 
 /// Where no element is due.
 #[tactic(auto, unfolding(crate::specs::Reading::end_at, crate::specs::Reading::due_at))]
-pub fn end(at: usize, octets: &[u8]) -> Result<(), DecodeFault>
-    ensures { Gives (λ x. no_fields) breach_of result (end_at at octets.now) }
+pub fn end(path: &mut Path, at: usize, octets: &[u8]) -> Result<(), Fault>
+    ensures { Gives (λ x. no_fields) (fault_of path.new.items) result (end_at at octets.now) }
 {
     if octets.is_empty() {
         return Ok(());
     }
-    header_at_front(at, octets)?;
-    Err(fault_at(Code::UnexpectedTag, at))
+    header_at_front(path, at, octets)?;
+    Err(fault_at(path, Code::UnexpectedTag, at))
 }
 
-pub fn fault_at(code: Code, at: usize) -> DecodeFault
-    ensures { breach_of result ≡ Some (fault code at) }
+pub fn fault_at(path: &mut Path, code: Code, at: usize) -> Fault
+    ensures { fault_of path.new.items result ≡ Some (fault code at) }
 {
-    DecodeFault::Breach(Breach {
-        code,
-        at,
-        path: Path::new(),
-    })
+    path.clear();
+    Fault::Breach(code, at)
 }
 
-pub fn wrong_form(at: usize) -> DecodeFault
-    ensures { breach_of result ≡ Some (fault WrongForm at) }
+pub fn wrong_form(path: &mut Path, at: usize) -> Fault
+    ensures { fault_of path.new.items result ≡ Some (fault WrongForm at) }
 {
-    fault_at(Code::WrongForm, at)
+    fault_at(path, Code::WrongForm, at)
 }

@@ -1,37 +1,42 @@
 //! Contents octets of an OBJECT IDENTIFIER (X.690 8.19).
-ghost use Rattle.std.specs.Prelude.{◌≡◌, ◌≤◌, ◌*◌, ◌-◌, ◌∷◌, ◌++◌, [], ℕ, List, Ok, ◌&&◌, nat_eq, if◌then◌else◌};
+ghost use Rattle.std.specs.Prelude.{◌≡◌, ◌≤◌, ◌*◌, ◌-◌, ◌∷◌, ◌++◌, [], ℕ, List, OnOk, ◌&&◌, nat_eq, if◌then◌else◌};
 ghost use Rattle.guard_model.specs.AbstractValue as abstract;
 ghost use Rattle.guard_model.specs.Answer.{Gives};
 ghost use Rattle.guard_model.specs.ValueView.{value_view};
 ghost use Rattle.guard_der.specs.Simple.{are_subidentifiers as subidentifiers_end, subidentifiers, object_id_fault, arcs_of as arcs_from};
 ghost use Rattle.guard_der.specs.Reading.{unless_fault};
-ghost use Rattle.guard_der.specs.Views.{breach_of};
+ghost use Rattle.guard_der.specs.inside.Faults.{fault_of};
 ghost use Rattle.guard_der.specs.declared.breach.Code.TheVariants.{ObjectIdContents, ObjectIdTooLong};
 
-use crate::breach::{Code, DecodeFault};
-use crate::faults::fault_at;
-use guard_model::Value;
+use crate::breach::Code;
+use crate::faults::{Fault, fault_at};
+use guard_model::{OutOfMemory, Path, Value};
 use std::alloc::Global;
 
 /// From here on a number has no room for seven bits more.
 const FULL: u128 = 1 << 121;
 
 /// The arcs, read octet by octet. Bit 8 is set on each octet of a subidentifier but its last, and its first is not 80.
-pub fn object_identifier(alloc: Global, at: usize, octets: &[u8]) -> Result<Value, DecodeFault>
-    ensures { Gives value_view breach_of result (unless_fault at (object_id_fault octets.now) (abstract.object_identifier (arcs_from (subidentifiers 0 octets.now)))) }
+pub fn object_identifier(
+    alloc: Global,
+    path: &mut Path,
+    at: usize,
+    octets: &[u8],
+) -> Result<Value, Fault>
+    ensures { Gives value_view (fault_of path.new.items) result (unless_fault at (object_id_fault octets.now) (abstract.object_identifier (arcs_from (subidentifiers 0 octets.now)))) }
 {
     if octets.is_empty() {
-        return Err(fault_at(Code::ObjectIdContents, at));
+        return Err(fault_at(path, Code::ObjectIdContents, at));
     }
     let mut arcs = Vec::new(alloc);
     let mut number = 0u128;
     let mut starts = true;
     for (index, octet) in octets.iter().enumerate() {
         if is_padding(starts, *octet) {
-            return Err(fault_at(Code::ObjectIdContents, at));
+            return Err(fault_at(path, Code::ObjectIdContents, at));
         }
         if number >= FULL {
-            return Err(fault_at(code_behind_full(starts, &octets[index..]), at));
+            return Err(fault_at(path, code_behind_full(starts, &octets[index..]), at));
         }
         number = number * 128 + u128::from(*octet % 128);
         starts = *octet < 128;
@@ -43,7 +48,7 @@ pub fn object_identifier(alloc: Global, at: usize, octets: &[u8]) -> Result<Valu
     if starts {
         Ok(Value::Oid(arcs))
     } else {
-        Err(fault_at(Code::ObjectIdContents, at))
+        Err(fault_at(path, Code::ObjectIdContents, at))
     }
 }
 
@@ -79,8 +84,8 @@ fn are_subidentifiers(starts: bool, octets: &[u8]) -> bool
 }
 
 /// Appends the arcs of the next subidentifier: the first one is 40X + Y for the first two (8.19.4).
-fn push_arcs(arcs: &mut Vec<u128>, number: u128) -> Result<(), DecodeFault>
-    ensures { (before : List ℕ) → arcs.old.items ≡ arcs_from before → Gives (λ _. arcs.new.items) breach_of result (Ok (arcs_from (before ++ number ∷ []))) }
+fn push_arcs(arcs: &mut Vec<u128>, number: u128) -> Result<(), OutOfMemory>
+    ensures { (before : List ℕ) → arcs.old.items ≡ arcs_from before → OnOk result (arcs.new.items ≡ arcs_from (before ++ number ∷ [])) }
 {
     if !arcs.is_empty() {
         return Ok(arcs.push(number)?);

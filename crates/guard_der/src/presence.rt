@@ -1,14 +1,15 @@
 //! Whether a component is sent, by its presence.
-ghost use Rattle.std.specs.Prelude.{◌≡◌, ◌≢◌, None, Some};
+ghost use Rattle.std.specs.Prelude.{◌≡◌, ◌≢◌, List, [], None, Some};
 ghost use Rattle.guard_model.specs.Answer.{Gives};
 ghost use Rattle.guard_model.specs.TypeView.{presence_view};
 ghost use Rattle.guard_model.specs.ValueView.{value_view, field_view};
 ghost use Rattle.guard_der.specs.Breach.{AbstractBreach};
 ghost use Rattle.guard_der.specs.Der.{is_left_out as left_out};
 ghost use Rattle.guard_der.specs.Reading.{not_sent as unsent};
-ghost use Rattle.guard_der.specs.Views.{breach_of};
+ghost use Rattle.guard_model.specs.declared.site.Step.{Step};
+ghost use Rattle.guard_der.specs.inside.Faults.{fault_of};
 
-use crate::breach::DecodeFault;
+use crate::faults::Fault;
 use guard_model::{Presence, Value};
 use std::alloc::Global;
 
@@ -25,13 +26,9 @@ pub fn is_left_out(presence: &Presence, value: &Value) -> bool
 }
 
 /// What a component is that isn't sent; or this fault, if it is mandatory.
-pub fn not_sent(
-    alloc: Global,
-    presence: &Presence,
-    fault: DecodeFault,
-) -> Result<Option<Value>, DecodeFault>
-    requires named { breach_of fault ≢ None }
-    ensures { (b : AbstractBreach) → breach_of fault ≡ Some b → Gives field_view breach_of result (unsent (presence_view presence.now) b) }
+pub fn not_sent(alloc: Global, presence: &Presence, fault: Fault) -> Result<Option<Value>, Fault>
+    requires named { fault_of [] fault ≢ None }
+    ensures { (steps : List Step) (b : AbstractBreach) → fault_of steps fault ≡ Some b → Gives field_view (fault_of steps) result (unsent (presence_view presence.now) b) }
 {
     match presence {
         Presence::Mandatory => Err(fault),

@@ -1,8 +1,10 @@
--- Contained types have the base of what they constrain, at any depth. So what fits the one fits the other.
-use Rattle.std.specs.Prelude.{◌≡◌, ⊤, []}
+-- Contained types have the base of what they constrain, and SIZE is on kinds that take it, at any depth. So what fits a
+-- type fits those that it contains.
+use Rattle.std.specs.Prelude.{◌≡◌, ⊤, [], IsTrue}
 use Rattle.guard_model.specs.AbstractType as type
 use Rattle.guard_model.specs.AbstractType.{AbstractType, AbstractKind, Components, Constraint, Constraints, Element, Parts, type_of, no_components, component, at, no_constraints, constraint}
 use Rattle.guard_model.specs.SameBase.{bare_kind, bare_kind_of}
+use Rattle.guard_der.specs.ProperConstraints.{takes_size}
 use Rattle.guard_eval.specs.Presence.{element_kind, kind_at}
 
 abbrev mutual
@@ -28,7 +30,7 @@ abbrev mutual
   -- of a constraint on a type of this kind
   pub ConstraintKeepsBase : Constraint → AbstractKind → Type 0
   ConstraintKeepsBase (at site (type.contained_subtype t)) kind = (bare_kind_of t ≡ bare_kind kind) × KeepsBase t
-  ConstraintKeepsBase (at site (type.size c)) kind = ConstraintKeepsBase c (type.integer [])
+  ConstraintKeepsBase (at site (type.size c)) kind = IsTrue (takes_size kind) × ConstraintKeepsBase c (type.integer [])
   ConstraintKeepsBase (at site (type.with_component c)) kind = ConstraintKeepsBase c (element_kind kind)
   ConstraintKeepsBase (at site (type.with_components partial ps)) kind = ListedKeepBase ps kind
   ConstraintKeepsBase (at site (type.union cs)) kind = AllKeepBase cs kind

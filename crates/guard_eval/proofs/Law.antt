@@ -137,20 +137,28 @@ mutual
   kind_clear (type.set_of t) (value.items vs) h =
       fitting_items_clear (violation t) (is_member t) (fits t) (λ v k. type_clear t v k) 0 vs
       (and_parts (are_few vs) (every_fits (fits t) vs) (and_parts (fits_items (fits t) vs) _ h).0).1
-  kind_clear _ _ h = refl
+  kind_clear type.boolean v h = refl
+  kind_clear (type.integer names) v h = refl
+  kind_clear (type.bit_string names) v h = refl
+  kind_clear type.octet_string v h = refl
+  kind_clear type.null v h = refl
+  kind_clear type.object_identifier v h = refl
+  kind_clear (type.enumerated items) v h = refl
+  kind_clear (type.characters k) v h = refl
+  kind_clear _ _ h = absurd cc
 
   components_clear : (i : ℕ) (cs : Components) (fs : Fields) → IsTrue (fits_fields cs fs) → is_clear (violation_from i cs fs) ≡ fields_are_members cs fs
-  components_clear i no_components fs h = refl
-  components_clear i (component name t presence cs) value.no_fields h = refl
+  components_clear i no_components value.no_fields h = refl
   components_clear i (component name t presence cs) (value.absent fs) h =
       components_clear (suc i) cs fs (and_parts (may_be_absent presence) (fits_fields cs fs) h).1
   components_clear i (component name t presence cs) (value.present v fs) h =
       let k = and_parts (fits t v) (fits_fields cs fs) h in
       either (below (Component i) (violation t v)) (violation_from (suc i) cs fs)
       (clear_below (Component i) (violation t v) ∙ type_clear t v k.0) (components_clear (suc i) cs fs k.1)
+  components_clear i _ _ h = absurd cc
 
   chosen_clear : (cs : Components) (i : ℕ) (v : AbstractValue) → IsTrue (fits_alternative cs i v) → is_clear (violation_of_chosen cs i v) ≡ chosen_is_member cs i v
-  chosen_clear no_components i v h = refl
+  chosen_clear no_components i v h = absurd cc
   chosen_clear (component name t presence cs) zero v h = type_clear t v h
   chosen_clear (component name t presence cs) (suc i) v h = chosen_clear cs i v h
 

@@ -3,6 +3,8 @@ pub mod AtPlace
 pub mod Characters
 pub mod PartFits
 pub mod SameFits
+-- ---- contained types and SIZE where they apply
+pub mod Applied
 -- ---- what the walk finds is the violation, and a member has none
 pub mod Law
 pub mod Walk

@@ -89,7 +89,9 @@ mutual
       let b = and_parts (is_proper u && none_clash (first_clash u)) (nat_le (nesting u) 32) a.1 in
       (same_from u (type_of tags kind cons) a.0, (proper_keeps u (and_parts (is_proper u) (none_clash (first_clash u)) b.0).0).1)
   constraint_keeps (at site (type.range low high)) t h = tt
-  constraint_keeps (at site (type.size c)) (type_of tags kind cons) h = constraint_keeps c type_of_size (and_parts (takes_size kind) (is_proper_constraint c type_of_size) h).1
+  constraint_keeps (at site (type.size c)) (type_of tags kind cons) h =
+      let a = and_parts (takes_size kind) (is_proper_constraint c type_of_size) h in
+      (a.0, constraint_keeps c type_of_size a.1)
   constraint_keeps (at site (type.permitted_alphabet ranges)) t h = tt
   constraint_keeps (at site (type.with_component c)) (type_of tags (type.sequence_of u) cons) h = constraint_keeps c u h
   constraint_keeps (at site (type.with_component c)) (type_of tags (type.set_of u) cons) h = constraint_keeps c u h

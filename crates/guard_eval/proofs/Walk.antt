@@ -13,11 +13,13 @@ use Rattle.guard_model.specs.AbstractValue.{AbstractValue, Fields, Items}
 use Rattle.guard_model.specs.Components.{components_in, component_at}
 use Rattle.guard_model.specs.TypeView.{OneComponent}
 use Rattle.guard_der.specs.Fits.{fits, fits_kind, fits_fields, fits_alternative, every_fits, are_few, fits_items, may_be_absent}
+use Rattle.guard_der.specs.ProperConstraints.{takes_size}
 use Rattle.guard_model.specs.Limits.{fits_128_bits}
-use Rattle.guard_eval.specs.Elements.{size_of, some_passes}
+use Rattle.guard_eval.specs.Elements.{has_base, size_of, some_passes, has_size}
 use Rattle.guard_eval.specs.Presence.{element_kind, kind_at, has_parts, part_at, is_there, is_placed, first_intruder}
-use Rattle.guard_eval.specs.Member.{holds, some_hold}
+use Rattle.guard_eval.specs.Member.{is_member, holds, some_hold}
 use Rattle.guard_eval.specs.Violations.{AbstractViolation, below, unless, first_among, blame_in_items, misplaced, blame_in_part, blame_intruder, violation, violation_inside, violation_from, violation_of_chosen, first_failing, blame, first_failing_part}
+use Rattle.guard_eval.proofs.Applied.{with_true, base_kept}
 use Rattle.guard_eval.proofs.Bases.{KeepsBase, PartsKeepBase, ComponentsKeepBase, AllKeepBase, ConstraintKeepsBase, ListedKeepBase}
 use Rattle.guard_eval.specs.inside.Failures.{near, under, failure_among, failure_in_items, placing_failure, failure_in_part, intruder_failure, failure, failure_inside, failure_from, failure_of_chosen, first_failure, some_allows, failure_by, first_part_failure}
 use Rattle.guard_eval.proofs.Law.{constraint_clear, type_clear}
@@ -183,13 +185,15 @@ mutual
 
   pub by_walked : (c : Constraint) (kind : AbstractKind) (v : AbstractValue) → ConstraintKeepsBase c kind → IsTrue (fits_kind kind v) → failure_by c kind v ≡ seen (blame c kind v)
   by_walked (at site (type.contained_subtype (type_of tags k cons))) kind v b h =
+      let t : AbstractType = type_of tags k cons in
       let f : IsTrue (fits_kind k v) = same_fits k kind v b.0 ∙ h in
       unless_seen site
-      (ap is_none (walked (type_of tags k cons) v b.1 f) ∙ seen_clear (violation (type_of tags k cons) v) ∙ type_clear (type_of tags k cons) v f)
+      (ap is_none (walked (type_of tags k cons) v b.1 f) ∙ seen_clear (violation t v) ∙ type_clear t v f ∙ with_true (has_base kind t) (is_member t v) (base_kept t kind b.0))
   by_walked (at site (type.size c)) kind v b h =
       unless_seen site
       (passes_same (λ n. is_none (failure_by c kind n)) (holds c (type.integer [])) (size_of v)
-      (λ n k. ap is_none (number_free c kind (type.integer []) (pos n)) ∙ tested c (type.integer []) (value.integer (pos n)) (by_walked c (type.integer []) (value.integer (pos n)) b k)))
+      (λ n k. ap is_none (number_free c kind (type.integer []) (pos n)) ∙ tested c (type.integer []) (value.integer (pos n)) (by_walked c (type.integer []) (value.integer (pos n)) b.1 k))
+      ∙ with_true (takes_size kind) (has_size (holds c (type.integer [])) v) b.0)
   by_walked (at site (type.with_component c)) kind v b h =
       items_seen (failure_by c (element_kind kind)) (blame c (element_kind kind)) kind (λ w k. by_walked c (element_kind kind) w b k) site v h
   by_walked (at site (type.with_components partial ps)) kind v b h =

@@ -1,13 +1,20 @@
--- Sets of values by a value alone: by its number, its size or its characters.
-use Rattle.std.specs.Prelude.{ℕ, ◌*◌, ◌-◌, ℤ, pos, Bool, true, false, ◌&&◌, List, length, int_le, int_lt, Option, Some, None}
+-- What the elements of constraints ask: of a value alone by its number, its size or its characters, and of a contained
+-- type by its base.
+use Rattle.std.specs.Prelude.{ℕ, ◌*◌, ◌-◌, ℤ, pos, Bool, true, false, ◌&&◌, List, [], length, int_le, int_lt, Option, Some, None}
 use Rattle.std.specs.Int.{is_in_range}
 use Rattle.std.specs.List.{list_all, list_any}
 use Rattle.guard_model.specs.declared.ty.Limit.{Limit}
 use Rattle.guard_model.specs.declared.ty.Limit.TheVariants.{Free, At, Past}
+use Rattle.guard_model.specs.AbstractType.{AbstractType, AbstractKind, type_of, no_constraints}
 use Rattle.guard_model.specs.AbstractValue as value
 use Rattle.guard_model.specs.AbstractValue.{AbstractValue, Items}
 use Rattle.guard_model.specs.Counts.{item_count}
 use Rattle.guard_model.specs.Limits.{fits_128_bits}
+use Rattle.guard_model.specs.SameType.{same_base}
+
+-- a contained type has the base of what it constrains, a type of this kind (X.680 51.3)
+abbrev pub has_base : AbstractKind → AbstractType → Bool
+has_base kind u = same_base u (type_of [] kind no_constraints)
 
 -- MIN is no end, and `<` leaves the end out (X.680 51.4.2, 51.4.3)
 abbrev pub is_above : Limit → ℤ → Bool

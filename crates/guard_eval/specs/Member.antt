@@ -8,7 +8,8 @@ use Rattle.guard_model.specs.AbstractValue.{AbstractValue, Fields}
 use Rattle.guard_model.specs.Components.{components_in, component_at}
 use Rattle.guard_model.specs.Same.{same}
 use Rattle.guard_der.specs.Fits.{fits_kind}
-use Rattle.guard_eval.specs.Elements.{is_between, has_size, is_spelled_in, every_item, has_each}
+use Rattle.guard_der.specs.ProperConstraints.{takes_size}
+use Rattle.guard_eval.specs.Elements.{has_base, is_between, has_size, is_spelled_in, every_item, has_each}
 use Rattle.guard_eval.specs.Presence.{element_kind, kind_at, has_parts, part_at, is_there, if_there, is_placed, first_intruder}
 
 abbrev mutual
@@ -23,17 +24,27 @@ abbrev mutual
   parts_are_members (type.choice cs) (value.chosen i v) = chosen_is_member cs i v
   parts_are_members (type.sequence_of t) (value.items vs) = every_item (is_member t) vs
   parts_are_members (type.set_of t) (value.items vs) = every_item (is_member t) vs
-  parts_are_members _ v = true
+  -- these kinds have no parts
+  parts_are_members type.boolean v = true
+  parts_are_members (type.integer names) v = true
+  parts_are_members (type.bit_string names) v = true
+  parts_are_members type.octet_string v = true
+  parts_are_members type.null v = true
+  parts_are_members type.object_identifier v = true
+  parts_are_members (type.enumerated items) v = true
+  parts_are_members (type.characters k) v = true
+  parts_are_members _ _ = false
 
   -- An absent OPTIONAL component is never tested. A component that is its default has a value though it is not sent.
   pub fields_are_members : Components → Fields → Bool
   fields_are_members (component name t presence cs) (value.present v fs) = is_member t v && fields_are_members cs fs
   fields_are_members (component name t presence cs) (value.absent fs) = fields_are_members cs fs
-  fields_are_members _ _ = true
+  fields_are_members no_components value.no_fields = true
+  fields_are_members _ _ = false
 
   -- of the alternative at this place of the written list, from 0
   pub chosen_is_member : Components → ℕ → AbstractValue → Bool
-  chosen_is_member no_components i v = true
+  chosen_is_member no_components i v = false
   chosen_is_member (component name t presence cs) zero v = is_member t v
   chosen_is_member (component name t presence cs) (suc i) v = chosen_is_member cs i v
 
@@ -45,12 +56,12 @@ abbrev mutual
   pub holds_element : Element → AbstractKind → AbstractValue → Bool
   -- 51.2: this value alone
   holds_element (type.single_value w) kind v = same w v
-  -- 51.3: the members of the contained type
-  holds_element (type.contained_subtype t) kind v = is_member t v
+  -- 51.3: the members of the contained type, which has the same base
+  holds_element (type.contained_subtype t) kind v = has_base kind t && is_member t v
   -- 51.4: the integers between the ends
   holds_element (type.range low high) kind v = is_between low high v
-  -- 51.5: those whose size is among the integers that the constraint has
-  holds_element (type.size c) kind v = has_size (holds c (type.integer [])) v
+  -- 51.5: those whose size is among the integers that the constraint has, where the kind takes SIZE
+  holds_element (type.size c) kind v = takes_size kind && has_size (holds c (type.integer [])) v
   -- 51.7: those all of whose characters are permitted
   holds_element (type.permitted_alphabet ranges) kind v = is_spelled_in ranges v
   -- 51.8.4: those each of whose elements the constraint has

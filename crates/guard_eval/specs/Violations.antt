@@ -1,5 +1,5 @@
 -- The first constraint that a value fails: its site, and the path to the part that fails it.
-use Rattle.std.specs.Prelude.{◌≡◌, ℕ, zero, suc, Bool, true, false, not, List, [], ◌∷◌, Option, Some, None, ◌↔◌, IsTrue}
+use Rattle.std.specs.Prelude.{◌≡◌, ℕ, zero, suc, Bool, true, false, not, ◌&&◌, List, [], ◌∷◌, Option, Some, None, ◌↔◌, IsTrue}
 use Rattle.guard_model.specs.declared.site.Site.{Site}
 use Rattle.guard_model.specs.declared.site.Step.{Step}
 use Rattle.guard_model.specs.declared.site.Step.TheVariants.{Component, Element}
@@ -12,8 +12,9 @@ use Rattle.guard_model.specs.Components.{components_in, component_at}
 use Rattle.guard_model.specs.Same.{same}
 use Rattle.guard_model.specs.TypeView.{OneComponent}
 use Rattle.guard_der.specs.Fits.{fits}
+use Rattle.guard_der.specs.ProperConstraints.{takes_size}
 use Rattle.guard_eval.specs.declared.violation.Violation.{Violation}
-use Rattle.guard_eval.specs.Elements.{is_between, has_size, is_spelled_in}
+use Rattle.guard_eval.specs.Elements.{has_base, is_between, has_size, is_spelled_in}
 use Rattle.guard_eval.specs.Presence.{element_kind, kind_at, has_parts, part_at, is_there, is_placed, first_intruder}
 use Rattle.guard_eval.specs.Member.{is_member, holds, some_hold}
 use Rattle.std.specs.Option.{option_or}
@@ -104,9 +105,9 @@ abbrev mutual
   -- fails and otherwise itself, WITH COMPONENT what fails in the first failing element.
   pub blame : Constraint → AbstractKind → AbstractValue → Option AbstractViolation
   blame (at site (type.single_value w)) kind v = unless (same w v) site
-  blame (at site (type.contained_subtype t)) kind v = unless (is_member t v) site
+  blame (at site (type.contained_subtype t)) kind v = unless (has_base kind t && is_member t v) site
   blame (at site (type.range low high)) kind v = unless (is_between low high v) site
-  blame (at site (type.size c)) kind v = unless (has_size (holds c (type.integer [])) v) site
+  blame (at site (type.size c)) kind v = unless (takes_size kind && has_size (holds c (type.integer [])) v) site
   blame (at site (type.permitted_alphabet ranges)) kind v = unless (is_spelled_in ranges v) site
   blame (at site (type.with_component c)) kind v = blame_in_items (blame c (element_kind kind)) site v
   -- the first failing name in written order, then the first part that should be absent

@@ -12,6 +12,7 @@
 #![tactic(auto)]
 
 mod elements;
+mod found;
 pub mod laws;
 mod members;
 mod presence;

@@ -9,7 +9,7 @@ ghost use Rattle.guard_model.specs.Kinds.{kind_of};
 ghost use Rattle.guard_eval.specs.Member.{holds, is_member};
 
 use super::search::{failure, failure_by};
-use guard_model::{Cons, Kind, Ty, Value};
+use guard_model::{Cons, Kind, Path, Ty, Value};
 
 /// Whether a constraint that this type may have allows the value, which fits the type (X.680 clauses 49 to 51).
 pub fn holds(cons: &Cons, ty: &Ty, value: &Value) -> bool
@@ -17,7 +17,7 @@ pub fn holds(cons: &Cons, ty: &Ty, value: &Value) -> bool
     requires fits { IsTrue (fits (type_view ty.now) (value_view value.now)) }
     ensures { result ≡ holds (constraint_view cons.now) (kind_of (type_view ty.now)) (value_view value.now) }
 {
-    failure_by(cons, &ty.kind, value).is_none()
+    failure_by(&mut Path::new(), cons, &ty.kind, value).is_none()
 }
 
 /// Whether a value that fits the sound type is a member: each constraint holds, of the value itself and of each part,
@@ -28,7 +28,7 @@ pub fn member(ty: &Ty, value: &Value) -> bool
     requires fits { IsTrue (fits (type_view ty.now) (value_view value.now)) }
     ensures { result ≡ is_member (type_view ty.now) (value_view value.now) }
 {
-    failure(ty, value).is_none()
+    failure(&mut Path::new(), ty, value).is_none()
 }
 
 // ---- for what is inside sound types
@@ -40,7 +40,7 @@ pub fn holds_on_kind(cons: &Cons, kind: &Kind, value: &Value) -> bool
     requires fits { IsTrue (fits_kind (kind_view kind.now) (value_view value.now)) }
     ensures { result ≡ holds (constraint_view cons.now) (kind_view kind.now) (value_view value.now) }
 {
-    failure_by(cons, kind, value).is_none()
+    failure_by(&mut Path::new(), cons, kind, value).is_none()
 }
 
 /// Whether a value that fits the proper type is a member of it. A sound type is proper, and so is each type inside it.
@@ -49,5 +49,5 @@ pub fn proper_member(ty: &Ty, value: &Value) -> bool
     requires fits { IsTrue (fits (type_view ty.now) (value_view value.now)) }
     ensures { result ≡ is_member (type_view ty.now) (value_view value.now) }
 {
-    failure(ty, value).is_none()
+    failure(&mut Path::new(), ty, value).is_none()
 }

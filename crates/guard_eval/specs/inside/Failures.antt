@@ -1,6 +1,6 @@
 -- What the code computes: the first violation in one walk. Elements that are blamed themselves are tested by the same
 -- walk, contained types are not asked whether the value fits, and paths have the bounds of the code's numbers.
-use Rattle.std.specs.Prelude.{ℕ, zero, suc, Bool, false, ◌∷◌, take, Option, Some, None, ◌||◌, min}
+use Rattle.std.specs.Prelude.{ℕ, zero, suc, Bool, false, List, ◌∷◌, take, Option, Some, None, option_map, ◌||◌, min}
 use Rattle.std.specs.Option.{option_or, is_none, is_some}
 use Rattle.guard_model.specs.declared.site.Site.{Site}
 use Rattle.guard_model.specs.declared.site.Step.{Step}
@@ -16,6 +16,10 @@ use Rattle.guard_model.specs.TypeView.{OneComponent, OnePart}
 use Rattle.guard_eval.specs.Elements.{is_between, has_size, is_spelled_in}
 use Rattle.guard_eval.specs.Presence.{element_kind, kind_at, has_parts, part_at, is_there, is_placed, first_intruder}
 use Rattle.guard_eval.specs.Violations.{AbstractViolation, here, unless}
+
+-- what was found, with the path to it, which is kept apart
+abbrev pub found_by : List Step → Option Site → Option AbstractViolation
+found_by steps found = option_map (λ site. record { site = site; path = steps }) found
 
 -- places as far as the code's steps count
 abbrev pub near : Step → Step

@@ -5,7 +5,7 @@ use Rattle.guard_model.specs.declared.ty.CharKind.TheVariants.{Utf8, Ia5}
 use Rattle.guard_model.specs.declared.ty.Limit.TheVariants.{Free, At}
 use Rattle.guard_model.specs.declared.ty.Word.TheVariants.{Absent}
 use Rattle.guard_model.specs.AbstractType as type
-use Rattle.guard_model.specs.AbstractType.{AbstractType, AbstractKind, Components, Constraint, Constraints, Element as SetElement, Parts, type_of, no_components, component, at, no_constraints, constraint}
+use Rattle.guard_model.specs.AbstractType.{AbstractType, AbstractKind, Components, Constraint, Constraints, Element as SetElement, NamedNumber, Parts, type_of, no_components, component, at, no_constraints, constraint}
 use Rattle.guard_model.specs.AbstractValue as value
 use Rattle.guard_model.specs.AbstractValue.{AbstractValue, Fields}
 use Rattle.guard_eval.specs.Member.{is_member}
@@ -81,11 +81,30 @@ two = refl
 -- ---- contained types, sizes, characters
 
 -- INTEGER (Small), where Small is INTEGER (0..5)
+abbrev within_small : Constraint
+within_small = at (column 10) (type.contained_subtype (ranged (range_at 40 (pos 0) (pos 5))))
+
 abbrev small : AbstractType
-small = ranged (at (column 10) (type.contained_subtype (ranged (range_at 40 (pos 0) (pos 5)))))
+small = ranged within_small
+
+abbrev named : ℕ → List NamedNumber
+named n = record { name = codes "it"; number = pos n } ∷ []
 
 small_six : violation small (whole 6) ≡ Some (record { site = column 10; path = [] })
 small_six = refl
+
+-- INTEGER { it(3) } (Small): named numbers are no other base
+small_three : is_member (tagged 2 (type.integer (named 3)) (alone within_small)) (whole 3) ≡ true
+small_three = refl
+
+-- UTF8String (Ascii), where Ascii is IA5String: the same characters are of another base
+abbrev another_base : AbstractType
+another_base =
+    tagged 12 (type.characters Utf8)
+    (alone (at (column 12) (type.contained_subtype (tagged 22 (type.characters Ia5) no_constraints))))
+
+of_another_base : violation another_base (value.characters (codes "a")) ≡ Some (record { site = column 12; path = [] })
+of_another_base = refl
 
 -- UTF8String (SIZE (1)): a character of two octets is one
 abbrev one_of_size : AbstractType
@@ -101,7 +120,13 @@ bits_of_size = tagged 3 (type.bit_string []) (alone (at (column 12) (type.size (
 three_bits : is_member bits_of_size (value.bit_string (0xA0 ∷ []) 5) ≡ true
 three_bits = refl
 
--- SIZE applies to no INTEGER
+-- BIT STRING { it(0) } (SIZE (1)): SIZE applies to no named bits
+no_size_of_named_bits :
+    is_member (tagged 3 (type.bit_string (named 0)) (alone (at (column 12) (type.size (number_at 18 1)))))
+    (value.bit_string (0x80 ∷ []) 7) ≡ false
+no_size_of_named_bits = refl
+
+-- nor to INTEGER
 no_size : is_member (ranged (at (column 10) (type.size (number_at 16 1)))) (whole 1) ≡ false
 no_size = refl
 

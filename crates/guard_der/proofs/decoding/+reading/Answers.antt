@@ -13,7 +13,8 @@ use Rattle.guard_der.specs.declared.breach.Code.TheVariants as code
 use Rattle.guard_der.specs.Head.{head_of}
 use Rattle.guard_der.specs.Breach.{below}
 use Rattle.guard_der.specs.Reading.{element_at, part_at, fields_at, contents_at, missing_at, fault, same_form}
-use Rattle.guard_der.specs.Views.{head_view, breach_of}
+use Rattle.guard_der.specs.Views.{head_view}
+use Rattle.guard_der.specs.inside.Faults.{fault_of}
 use Rattle.guard_der.proofs.Numbers.Digits.{are_digits}
 use Rattle.guard_der.proofs.Headers.Offsets.{head_room, head_small}
 use Rattle.guard_der.proofs.Elements.Steps.{due_ok}
@@ -80,7 +81,7 @@ element-alone-requires t c =
 
 pub element-returns-then-is_empty : goal.element-returns-then-is_empty
 element-returns-then-is_empty t c =
-    subst (λ r. Gives value_view breach_of c.untagged.result r) (sym (element_none c.args.tags.now (kind_view c.args.kind.now) c.args.at (head_view c.args.head) c.args.octets.now (sym c.is_empty.ensures ∙ c.if-is_empty.true))) c.untagged.ensures
+    subst (λ r. Gives value_view (fault_of c.untagged.new.path.items) c.untagged.result r) (sym (element_none c.args.tags.now (kind_view c.args.kind.now) c.args.at (head_view c.args.head) c.args.octets.now (sym c.is_empty.ensures ∙ c.if-is_empty.true))) c.untagged.ensures
 
 pub element-returns-then-not-is_form : goal.element-returns-then-not-is_form
 element-returns-then-not-is_form t c =
@@ -89,7 +90,7 @@ element-returns-then-not-is_form t c =
 
 pub element-returns-then-tags-eq1 : goal.element-returns-then-tags-eq1
 element-returns-then-tags-eq1 t c =
-    subst (λ r. Gives value_view breach_of c.contents.result r) (sym (element_one c.args.tags.now (kind_view c.args.kind.now) c.args.at (head_view c.args.head) c.args.octets.now c.if-tags-eq1.true
+    subst (λ r. Gives value_view (fault_of c.contents.new.path.items) c.contents.result r) (sym (element_one c.args.tags.now (kind_view c.args.kind.now) c.args.at (head_view c.args.head) c.args.octets.now c.if-tags-eq1.true
     (ap (same_form c.args.head.constructed) (sym c.is_constructed.ensures) ∙ sym c.is_form.ensures ∙ c.if-not-is_form.false)))
     (rw (c.split_at-2.ensures.front, c.split_at.ensures.back) at c.contents.ensures)
 
@@ -100,7 +101,7 @@ element-returns-then-not-head t c =
 
 pub element-returns : goal.element-returns
 element-returns t c =
-    subst (λ r. Gives value_view breach_of c.alone.result r) (sym (element_more c.args.tags.now (kind_view c.args.kind.now) c.args.at (head_view c.args.head) c.args.octets.now
+    subst (λ r. Gives value_view (fault_of c.alone.new.path.items) c.alone.result r) (sym (element_more c.args.tags.now (kind_view c.args.kind.now) c.args.at (head_view c.args.head) c.args.octets.now
     (several c.args.tags.now (sym c.is_empty.ensures ∙ c.if-is_empty.false) c.if-tags-eq1.false) (not-false c.args.head.constructed c.if-not-head.false)))
     (rw (c.split_at-2.ensures.front, c.split_at.ensures.back) at c.alone.ensures)
 
@@ -114,14 +115,14 @@ untagged-chosen-requires t c =
 
 pub untagged-returns-in-Choice : goal.untagged-returns-in-Choice
 untagged-returns-in-Choice t c =
-    subst (λ r. Gives value_view breach_of c.chosen.result r) (choice_element c.args.kind.now c.in-Choice.alternatives c.args.at (head_view c.args.head) c.args.octets.now c.in-Choice.is) (rw c.deref.ensures.value at c.chosen.ensures)
+    subst (λ r. Gives value_view (fault_of c.chosen.new.path.items) c.chosen.result r) (choice_element c.args.kind.now c.in-Choice.alternatives c.args.at (head_view c.args.head) c.args.octets.now c.in-Choice.is) (rw c.deref.ensures.value at c.chosen.ensures)
 
 pub contents-alone-requires : goal.contents-alone-requires
 contents-alone-requires t c = (omega arith, (choice_proper c.args.kind.now c.in-Choice.field-0 c.in-Choice.is c.requires.proper, (omega (arith, c.requires.depth), c.requires.room)))
 
 pub contents-returns-in-Choice : goal.contents-returns-in-Choice
 contents-returns-in-Choice t c =
-    subst (λ r. Gives value_view breach_of c.alone.result r) (choice_contents c.args.kind.now c.in-Choice.field-0 c.args.at c.args.start c.args.octets.now c.in-Choice.is) c.alone.ensures
+    subst (λ r. Gives value_view (fault_of c.alone.new.path.items) c.alone.result r) (choice_contents c.args.kind.now c.in-Choice.field-0 c.args.at c.args.start c.args.octets.now c.in-Choice.is) c.alone.ensures
 
 pub chosen-returns-in_default : goal.chosen-returns-in_default
 chosen-returns-in_default t c = rw c.fault_at.ensures (chosen_none (in_view c.args.alternatives.now) c.args.at (head_view c.args.head) c.args.octets.now (sym c.in_default.ensures.place))
@@ -137,7 +138,7 @@ pub chosen-below-requires : goal.chosen-below-requires
 chosen-below-requires t c =
     let ty = (out-Comp (get_or c.args.alternatives.now c.in-Some.place c.index-alternatives-place.result)).ty in
     let p = part_is c.args.alternatives.now c.in-Some.place (get_or c.args.alternatives.now c.in-Some.place c.index-alternatives-place.result) c.in-Some.ensures.within (ap (λ x. get_or c.args.alternatives.now c.in-Some.place x) c.index-alternatives-place.is) c.requires.proper in
-    room_below (breach_of c.in-Err.fault) (whole c.deref.result.now (kind_view (out-Ty ty).kind)) c.args.at (head_view c.args.head) c.args.octets.now (tags_proper ty c.deref.result.now c.deref.ensures.value p.0)
+    room_below _ (whole c.deref.result.now (kind_view (out-Ty ty).kind)) c.args.at (head_view c.args.head) c.args.octets.now (tags_proper ty c.deref.result.now c.deref.ensures.value p.0)
     (omega (arith, p.1, tags_nesting ty c.deref.result.now c.deref.ensures.value, c.requires.depth)) c.in-Err.ensures
 
 pub chosen-returns-in_ok-new-in-Ok : goal.chosen-returns-in_ok-new-in-Ok
@@ -152,7 +153,7 @@ chosen-returns-in-Err t c =
     let ty = (out-Comp (get_or c.args.alternatives.now c.in-Some.place c.index-alternatives-place.result)).ty in
     let p = part_is c.args.alternatives.now c.in-Some.place (get_or c.args.alternatives.now c.in-Some.place c.index-alternatives-place.result) c.in-Some.ensures.within (ap (λ x. get_or c.args.alternatives.now c.in-Some.place x) c.index-alternatives-place.is) c.requires.proper in
     let same = p.2 c.args.at (head_view c.args.head) c.args.octets.now ∙ tags_element ty c.deref.result.now c.args.at (head_view c.args.head) c.args.octets.now c.deref.ensures.value in
-    rw c.below.ensures (chosen_refused (breach_of c.in-Err.fault) (in_view c.args.alternatives.now) c.in-Some.place c.args.at (head_view c.args.head) c.args.octets.now (sym c.in-Some.ensures.place) (refuses_as (breach_of c.in-Err.fault) _ _ same c.in-Err.ensures))
+    rw c.below.ensures (chosen_refused _ (in_view c.args.alternatives.now) c.in-Some.place c.args.at (head_view c.args.head) c.args.octets.now (sym c.in-Some.ensures.place) (refuses_as _ _ _ same c.in-Err.ensures))
 
 -- ---- component
 
@@ -161,30 +162,30 @@ component-returns-in_err-not_sent-clause-given t c =
     let p = err_from_is_err_and c.from_residual.result c.from_residual.ensures.1 in
     let named = c.below-missing.ensures ∙ ap (option_map (below (Component c.args.index))) c.fault_at.ensures in
     rw (p.1, p.2) (decodings.end_refused c.args.index (presence_view c.args.presence.now) (begins_with (type_view c.args.ty.now)) (element_at (type_view c.args.ty.now)) c.args.at c.args.octets.now
-    (breach_of c.in_err-not_sent.field-0.0) (sym c.is_empty.ensures ∙ c.if-is_empty.true) (c.in_err-not_sent.ensures (missing_at c.args.index c.args.at) named))
+    _ (sym c.is_empty.ensures ∙ c.if-is_empty.true) (c.in_err-not_sent.ensures _ (missing_at c.args.index c.args.at) named))
 
 pub component-returns-then-is_empty-clause-given : goal.component-returns-then-is_empty-clause-given
 component-returns-then-is_empty-clause-given t c =
     let named = c.below-missing.ensures ∙ ap (option_map (below (Component c.args.index))) c.fault_at.ensures in
     end_ok c.args.index (presence_view c.args.presence.now) (begins_with (type_view c.args.ty.now)) (element_at (type_view c.args.ty.now)) c.args.at c.args.octets.now (field_view c.in_ok-not_sent.field-0)
-    (sym c.is_empty.ensures ∙ c.if-is_empty.true) (c.in_ok-not_sent.ensures (missing_at c.args.index c.args.at) named)
+    (sym c.is_empty.ensures ∙ c.if-is_empty.true) (c.in_ok-not_sent.ensures _ (missing_at c.args.index c.args.at) named)
 
 pub component-returns-in_err-head-clause-given : goal.component-returns-in_err-head-clause-given
 component-returns-in_err-head-clause-given t c =
     let p = err_from_is_err_and c.from_residual-in_err-head.result c.from_residual-in_err-head.ensures.1 in
     rw (p.1, p.2) (no_header c.args.index (presence_view c.args.presence.now) (begins_with (type_view c.args.ty.now)) (element_at (type_view c.args.ty.now)) c.args.at c.args.octets.now
-    (breach_of c.in_err-head.field-0.0) (sym c.is_empty.ensures ∙ c.if-is_empty.false) c.in_err-head.ensures)
+    _ (sym c.is_empty.ensures ∙ c.if-is_empty.false) c.in_err-head.ensures)
 
 pub component-returns-in_err-not_sent-2-clause-given : goal.component-returns-in_err-not_sent-2-clause-given
 component-returns-in_err-not_sent-2-clause-given t c =
     let p = err_from_is_err_and c.from_residual-in_err-not_sent-2.result c.from_residual-in_err-not_sent-2.ensures.1 in
     rw (p.1, p.2) (stray_refused c.args.index (presence_view c.args.presence.now) (begins_with (type_view c.args.ty.now)) (element_at (type_view c.args.ty.now)) c.args.at c.args.octets.now (head_view c.in_ok-head.head)
-    (sym c.is_empty.ensures ∙ c.if-is_empty.false) c.in_ok-head.ensures (breach_of c.in_err-not_sent-2.field-0.0) (sym c.begins_with.ensures ∙ c.if-not-begins_with.true) (c.in_err-not_sent-2.ensures (fault code.UnexpectedTag c.args.at) c.fault_at-stray.ensures))
+    (sym c.is_empty.ensures ∙ c.if-is_empty.false) c.in_ok-head.ensures _ (sym c.begins_with.ensures ∙ c.if-not-begins_with.true) (c.in_err-not_sent-2.ensures _ (fault code.UnexpectedTag c.args.at) c.fault_at-stray.ensures))
 
 pub component-returns-then-not-begins_with-clause-given : goal.component-returns-then-not-begins_with-clause-given
 component-returns-then-not-begins_with-clause-given t c =
     stray_ok c.args.index (presence_view c.args.presence.now) (begins_with (type_view c.args.ty.now)) (element_at (type_view c.args.ty.now)) c.args.at c.args.octets.now (head_view c.in_ok-head.head)
-    (sym c.is_empty.ensures ∙ c.if-is_empty.false) c.in_ok-head.ensures (field_view c.in_ok-not_sent-2.field-0) (sym c.begins_with.ensures ∙ c.if-not-begins_with.true) (c.in_ok-not_sent-2.ensures (fault code.UnexpectedTag c.args.at) c.fault_at-stray.ensures)
+    (sym c.is_empty.ensures ∙ c.if-is_empty.false) c.in_ok-head.ensures (field_view c.in_ok-not_sent-2.field-0) (sym c.begins_with.ensures ∙ c.if-not-begins_with.true) (c.in_ok-not_sent-2.ensures _ (fault code.UnexpectedTag c.args.at) c.fault_at-stray.ensures)
 
 pub component-sent-requires : goal.component-sent-requires
 component-sent-requires t c = (omega arith, (c.requires.proper, (c.requires.depth, (located_is c.args.at (head_of c.args.octets.now) (head_view c.in_ok-head.head) c.in_ok-head.ensures, c.requires.room))))
@@ -193,7 +194,7 @@ pub component-returns-in_err-value-clause-given : goal.component-returns-in_err-
 component-returns-in_err-value-clause-given t c =
     let p = err_from_is_err_and c.from_residual-in_err-value.result c.from_residual-in_err-value.ensures.1 in
     rw (p.1, p.2) (component_refused c.args.index (presence_view c.args.presence.now) (begins_with (type_view c.args.ty.now)) (element_at (type_view c.args.ty.now)) c.args.at c.args.octets.now (head_view c.in_ok-head.head)
-    (sym c.is_empty.ensures ∙ c.if-is_empty.false) c.in_ok-head.ensures (breach_of c.in_err-value.field-0.0) (sym c.begins_with.ensures ∙ c.if-not-begins_with.false) c.in_err-value.ensures)
+    (sym c.is_empty.ensures ∙ c.if-is_empty.false) c.in_ok-head.ensures _ (sym c.begins_with.ensures ∙ c.if-not-begins_with.false) c.in_err-value.ensures)
 
 pub component-overflow_add-result : goal.component-overflow_add-result
 component-overflow_add-result t c = omega (arith, c.requires.room, head_room c.args.octets.now (head_view c.in_ok-head.head) (are_digits 256 c.args.octets.now (λ i _. omega (arith, c.type_inv.octets i))) (located_is c.args.at (head_of c.args.octets.now) (head_view c.in_ok-head.head) c.in_ok-head.ensures))
@@ -225,13 +226,13 @@ sent-returns-else-is_left_out t c =
 
 pub sent-below-requires-in-Err : goal.sent-below-requires-in-Err
 sent-below-requires-in-Err t c =
-    room_below (breach_of c.in-Err.fault) (whole c.deref.result.now (kind_view (out-Ty c.args.ty.now).kind)) c.args.at (head_view c.args.head) c.args.octets.now (tags_proper c.args.ty.now c.deref.result.now c.deref.ensures.value c.requires.proper)
+    room_below _ (whole c.deref.result.now (kind_view (out-Ty c.args.ty.now).kind)) c.args.at (head_view c.args.head) c.args.octets.now (tags_proper c.args.ty.now c.deref.result.now c.deref.ensures.value c.requires.proper)
     (omega (arith, tags_nesting c.args.ty.now c.deref.result.now c.deref.ensures.value, c.requires.depth)) c.in-Err.ensures
 
 pub sent-returns-in-Err : goal.sent-returns-in-Err
 sent-returns-in-Err t c =
     let same = tags_element c.args.ty.now c.deref.result.now c.args.at (head_view c.args.head) c.args.octets.now c.deref.ensures.value in
-    rw c.below-in-Err.ensures (sent_refused c.args.index (presence_view c.args.presence.now) (element_at (type_view c.args.ty.now)) c.args.at (head_view c.args.head) c.args.octets.now (breach_of c.in-Err.fault) (refuses_as (breach_of c.in-Err.fault) _ _ same c.in-Err.ensures))
+    rw c.below-in-Err.ensures (sent_refused c.args.index (presence_view c.args.presence.now) (element_at (type_view c.args.ty.now)) c.args.at (head_view c.args.head) c.args.octets.now _ (refuses_as _ _ _ same c.in-Err.ensures))
 
 -- ---- components
 
@@ -250,7 +251,7 @@ components-component-requires t c =
 pub components-returns-in_err-field : goal.components-returns-in_err-field
 components-returns-in_err-field t c =
     let p = err_from_is_err_and c.from_residual-in_err-field.result c.from_residual-in_err-field.ensures.1 in
-    rw (p.1, p.2) (refused (breach_of c.in_err-field.field-0.0) c.args.comps.now c.loop-index.index c.index-comps-index.result (map field_view c.loop-index.fields.items) c.loop-index.at c.loop-index.rest.now
+    rw (p.1, p.2) (refused _ c.args.comps.now c.loop-index.index c.index-comps-index.result (map field_view c.loop-index.fields.items) c.loop-index.at c.loop-index.rest.now
     (fields_at 0 (in_view c.args.comps.now) c.args.start c.args.octets.now) c.loop-index-test.true c.index-comps-index.is c.in_err-field.ensures.given c.loop-index.invariant.so_far)
 
 pub components-loop-index-preserved : goal.components-loop-index-preserved
@@ -269,7 +270,7 @@ components-loop-index-preserved t c =
 pub components-returns-in_err-end : goal.components-returns-in_err-end
 components-returns-in_err-end t c =
     let p = err_from_is_err_and c.from_residual-in_err-end.result c.from_residual-in_err-end.ensures.1 in
-    rw (p.1, p.2) (end_refused (breach_of c.in_err-end.field-0.0) c.args.comps.now c.loop-index.index (map field_view c.loop-index.fields.items) c.loop-index.at c.loop-index.rest.now
+    rw (p.1, p.2) (end_refused _ c.args.comps.now c.loop-index.index (map field_view c.loop-index.fields.items) c.loop-index.at c.loop-index.rest.now
     (fields_at 0 (in_view c.args.comps.now) c.args.start c.args.octets.now) c.loop-index-test.false c.in_err-end.ensures c.loop-index.invariant.so_far)
 
 pub components-returns : goal.components-returns
@@ -282,7 +283,7 @@ components-returns t c =
 pub contents-returns-in_err-items-in-SequenceOf : goal.contents-returns-in_err-items-in-SequenceOf
 contents-returns-in_err-items-in-SequenceOf t c =
     let p = err_from_is_err_and c.from_residual-in_err-items-in-SequenceOf.result c.from_residual-in_err-items-in-SequenceOf.ensures.1 in
-    rw (p.1, p.2) (contents_refused (breach_of c.in_err-items-in-SequenceOf.field-0.0) (contents_at (kind_view c.args.kind.now) c.args.at c.args.start c.args.octets.now) _
+    rw (p.1, p.2) (contents_refused _ (contents_at (kind_view c.args.kind.now) c.args.at c.args.start c.args.octets.now) _
     (sequence_of_contents c.args.kind.now c.in-SequenceOf.element c.args.at c.args.start c.args.octets.now c.in-SequenceOf.is) (rw c.deref-in-SequenceOf.ensures at c.in_err-items-in-SequenceOf.ensures))
 
 pub contents-returns-in_ok-items-in-SequenceOf : goal.contents-returns-in_ok-items-in-SequenceOf
@@ -293,7 +294,7 @@ contents-returns-in_ok-items-in-SequenceOf t c =
 pub contents-returns-in_err-items-in-SetOf : goal.contents-returns-in_err-items-in-SetOf
 contents-returns-in_err-items-in-SetOf t c =
     let p = err_from_is_err_and c.from_residual-in_err-items-in-SetOf.result c.from_residual-in_err-items-in-SetOf.ensures.1 in
-    rw (p.1, p.2) (contents_refused (breach_of c.in_err-items-in-SetOf.field-0.0) (contents_at (kind_view c.args.kind.now) c.args.at c.args.start c.args.octets.now) _
+    rw (p.1, p.2) (contents_refused _ (contents_at (kind_view c.args.kind.now) c.args.at c.args.start c.args.octets.now) _
     (set_of_contents c.args.kind.now c.in-SetOf.element c.args.at c.args.start c.args.octets.now c.in-SetOf.is) (rw c.deref-in-SetOf.ensures at c.in_err-items-in-SetOf.ensures))
 
 pub contents-returns-in_ok-items-in-SetOf : goal.contents-returns-in_ok-items-in-SetOf
@@ -305,7 +306,7 @@ pub items-returns-in_err-value : goal.items-returns-in_err-value
 items-returns-in_err-value t c =
     let place : c.len.result ≡ length c.loop-before.items.items = omega (arith, c.len.ensures, c.loop-before.items.ok.0) in
     let p = err_from_is_err_and c.from_residual.result c.from_residual.ensures.1 in
-    rw (p.1, p.2) (items_refused (breach_of c.in_err-value.field-0.0) (type_view c.args.ty.now) c.args.ordered (length c.args.octets.now) c.loop-before.items.items c.loop-before.before.now c.loop-before.at c.loop-before.rest.now _
+    rw (p.1, p.2) (items_refused _ (type_view c.args.ty.now) c.args.ordered (length c.args.octets.now) c.loop-before.items.items c.loop-before.before.now c.loop-before.at c.loop-before.rest.now _
     (sym c.is_empty.ensures ∙ c.loop-before-test.true) c.loop-before.invariant.counted (rw place at c.in_err-value.ensures.given) c.loop-before.invariant.so_far)
 
 pub items-loop-before-preserved : goal.items-loop-before-preserved
@@ -328,7 +329,7 @@ items-returns t c =
 
 pub item-below-requires : goal.item-below-requires
 item-below-requires t c =
-    room_below_item (breach_of c.in-Err.fault) (type_view c.args.ty.now) c.args.ordered c.args.before.now c.args.at c.args.octets.now c.requires.proper (omega (arith, c.requires.depth)) c.in-Err.ensures.given
+    room_below_item _ (type_view c.args.ty.now) c.args.ordered c.args.before.now c.args.at c.args.octets.now c.requires.proper (omega (arith, c.requires.depth)) c.in-Err.ensures.given
 
 pub item-returns-in-Ok-clause-given : goal.item-returns-in-Ok-clause-given
 item-returns-in-Ok-clause-given t c =
@@ -336,14 +337,14 @@ item-returns-in-Ok-clause-given t c =
 
 pub item-returns-in-Err-clause-given : goal.item-returns-in-Err-clause-given
 item-returns-in-Err-clause-given t c =
-    rw c.below.ensures (item_refused (breach_of c.in-Err.fault) c.args.ordered (begins_with (type_view c.args.ty.now)) (element_at (type_view c.args.ty.now)) c.args.index c.args.before.now c.args.at c.args.octets.now c.in-Err.ensures.given)
+    rw c.below.ensures (item_refused _ c.args.ordered (begins_with (type_view c.args.ty.now)) (element_at (type_view c.args.ty.now)) c.args.index c.args.before.now c.args.at c.args.octets.now c.in-Err.ensures.given)
 
 pub next_item-returns-in_err-head-clause-given : goal.next_item-returns-in_err-head-clause-given
 next_item-returns-in_err-head-clause-given t c =
     let p = err_from_is_err_and c.from_residual.result c.from_residual.ensures.1 in
     let w = whole c.deref.result.now (kind_view (out-Ty c.args.ty.now).kind) in
-    rw (p.1, p.2) (refuses_as (breach_of c.in_err-head.field-0.0) _ _ (item_tags c.args.ty.now c.deref.result.now c.args.ordered c.args.before.now c.args.at c.args.octets.now c.deref.ensures.value)
-    (item_not_due (breach_of c.in_err-head.field-0.0) c.args.ordered (begins_with w) (element_at w) c.args.before.now c.args.at c.args.octets.now c.in_err-head.ensures))
+    rw (p.1, p.2) (refuses_as _ _ _ (item_tags c.args.ty.now c.deref.result.now c.args.ordered c.args.before.now c.args.at c.args.octets.now c.deref.ensures.value)
+    (item_not_due _ c.args.ordered (begins_with w) (element_at w) c.args.before.now c.args.at c.args.octets.now c.in_err-head.ensures))
 
 pub next_item-element-requires : goal.next_item-element-requires
 next_item-element-requires t c =
@@ -356,8 +357,8 @@ next_item-returns-in_err-value-clause-given t c =
     let p = err_from_is_err_and c.from_residual-in_err-value.result c.from_residual-in_err-value.ensures.1 in
     let w = whole c.deref.result.now (kind_view (out-Ty c.args.ty.now).kind) in
     let same = c.deref-2.ensures.value ∙ sym c.deref.ensures.value in
-    rw (p.1, p.2) (refuses_as (breach_of c.in_err-value.field-0.0) _ _ (item_tags c.args.ty.now c.deref.result.now c.args.ordered c.args.before.now c.args.at c.args.octets.now c.deref.ensures.value)
-    (item_not_read (breach_of c.in_err-value.field-0.0) c.args.ordered (begins_with w) (element_at w) c.args.before.now c.args.at c.args.octets.now (head_view c.in_ok-head.head) c.in_ok-head.ensures (rw same at c.in_err-value.ensures)))
+    rw (p.1, p.2) (refuses_as _ _ _ (item_tags c.args.ty.now c.deref.result.now c.args.ordered c.args.before.now c.args.at c.args.octets.now c.deref.ensures.value)
+    (item_not_read _ c.args.ordered (begins_with w) (element_at w) c.args.before.now c.args.at c.args.octets.now (head_view c.in_ok-head.head) c.in_ok-head.ensures (rw same at c.in_err-value.ensures)))
 
 pub next_item-overflow_add-size : goal.next_item-overflow_add-size
 next_item-overflow_add-size t c =
@@ -398,7 +399,7 @@ contents-set_components-requires t c =
 pub contents-returns-in_err-set_components-in-Set : goal.contents-returns-in_err-set_components-in-Set
 contents-returns-in_err-set_components-in-Set t c =
     let p = err_from_is_err_and c.from_residual-in_err-set_components-in-Set.result c.from_residual-in_err-set_components-in-Set.ensures.1 in
-    rw (p.1, p.2) (set_refused (breach_of c.in_err-set_components-in-Set.field-0.0) c.args.kind.now c.in-Set.comps c.args.at c.args.start c.args.octets.now c.in-Set.is (rw c.deref-in-Set.ensures.value at c.in_err-set_components-in-Set.ensures))
+    rw (p.1, p.2) (set_refused _ c.args.kind.now c.in-Set.comps c.args.at c.args.start c.args.octets.now c.in-Set.is (rw c.deref-in-Set.ensures.value at c.in_err-set_components-in-Set.ensures))
 
 pub contents-returns-in_ok-set_components-in-Set : goal.contents-returns-in_ok-set_components-in-Set
 contents-returns-in_ok-set_components-in-Set t c =
@@ -408,13 +409,13 @@ pub set_component-returns-in_err-head-clause-given : goal.set_component-returns-
 set_component-returns-in_err-head-clause-given t c =
     let p = err_from_is_err_and c.from_residual.result c.from_residual.ensures.1 in
     let cs = in_view c.args.comps.now in
-    rw (p.1, p.2) (set_components.no_header (breach_of c.in_err-head.field-0.0) cs (part_at cs) (fields_view c.args.fields.now) c.args.before c.args.at c.args.octets.now c.in_err-head.ensures)
+    rw (p.1, p.2) (set_components.no_header _ cs (part_at cs) (fields_view c.args.fields.now) c.args.before c.args.at c.args.octets.now c.in_err-head.ensures)
 
 pub set_component-returns-in_err-place-clause-given : goal.set_component-returns-in_err-place-clause-given
 set_component-returns-in_err-place-clause-given t c =
     let p = err_from_is_err_and c.from_residual-in_err-place.result c.from_residual-in_err-place.ensures.1 in
     let cs = in_view c.args.comps.now in
-    rw (p.1, p.2) (set_components.no_place (breach_of c.in_err-place.field-0.0) cs (part_at cs) (fields_view c.args.fields.now) c.args.before c.args.at c.args.octets.now (head_view c.in_ok-head.head) c.in_ok-head.ensures c.in_err-place.ensures.given)
+    rw (p.1, p.2) (set_components.no_place _ cs (part_at cs) (fields_view c.args.fields.now) c.args.before c.args.at c.args.octets.now (head_view c.in_ok-head.head) c.in_ok-head.ensures c.in_err-place.ensures.given)
 
 pub set_component-sent-requires : goal.set_component-sent-requires
 set_component-sent-requires t c =
@@ -428,7 +429,7 @@ set_component-returns-in_err-value-clause-given t c =
     let h = head_view c.in_ok-head.head in
     let same = sent_part c.args.comps.now c.in_ok-place.place c.index-comps-place.result c.args.at h c.args.octets.now c.in_ok-place.ensures.within c.index-comps-place.is c.requires.proper in
     rw (q.1, q.2) (element_refused cs (part_at cs) (fields_view c.args.fields.now) c.args.before c.args.at c.args.octets.now h c.in_ok-place.place c.in_ok-head.ensures c.in_ok-place.ensures.given
-    (breach_of c.in_err-value.field-0.0) (refuses_as (breach_of c.in_err-value.field-0.0) _ _ same c.in_err-value.ensures))
+    _ (refuses_as _ _ _ same c.in_err-value.ensures))
 
 pub set_component-returns-clause-some : goal.set_component-returns-clause-some
 set_component-returns-clause-some t c = head_size c.args.octets.now (head_view c.in_ok-head.head) (are_digits 256 c.args.octets.now (λ i _. omega (arith, c.type_inv.octets i))) (located_is c.args.at (head_of c.args.octets.now) (head_view c.in_ok-head.head) c.in_ok-head.ensures)
@@ -446,7 +447,7 @@ set_component-returns-clause-given t c =
 pub set_components-returns-in_err-place : goal.set_components-returns-in_err-place
 set_components-returns-in_err-place t c =
     let p = err_from_is_err_and c.from_residual-in_err-place.result c.from_residual-in_err-place.ensures.1 in
-    rw (p.1, p.2) (set_components.stops (breach_of c.in_err-place.field-0.0) (in_view c.args.comps.now) (fields_view c.loop-rest.fields.items) c.loop-rest.before c.loop-rest.at c.loop-rest.rest.now
+    rw (p.1, p.2) (set_components.stops _ (in_view c.args.comps.now) (fields_view c.loop-rest.fields.items) c.loop-rest.before c.loop-rest.at c.loop-rest.rest.now
     (set_read c.args.comps.now c.args.start c.args.octets.now) (sym c.is_empty.ensures ∙ c.loop-rest-test.true) (rw c.deref.ensures.value at c.in_err-place.ensures.given) c.loop-rest.invariant.so_far)
 
 pub set_components-overflow_add-size : goal.set_components-overflow_add-size
@@ -474,6 +475,6 @@ set_components-loop-rest-preserved t c =
 
 pub set_components-returns : goal.set_components-returns
 set_components-returns t c =
-    subst (λ r. Gives (λ v. fields_view v.items) breach_of c.completed.result r)
+    subst (λ r. Gives (λ v. fields_view v.items) (fault_of c.completed.new.path.items) c.completed.result r)
     (set_components.ends (in_view c.args.comps.now) (fields_view c.loop-rest.fields.items) c.loop-rest.before c.loop-rest.at c.loop-rest.rest.now (set_read c.args.comps.now c.args.start c.args.octets.now) (sym c.is_empty.ensures ∙ c.loop-rest-test.false) c.loop-rest.invariant.so_far)
     c.completed.ensures

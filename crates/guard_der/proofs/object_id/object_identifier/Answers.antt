@@ -1,8 +1,6 @@
 use Rattle.std.proofs.Common.{ℕ, List, None, refl, ◌∙◌, ◌+◌, ◌*◌, ◌-◌, ◌<◌, length, get_or, drop, sym, ap, arith}
 use Rattle.std.proofs.lemmas.List.{drop_more, drop_all, take_all, length-drop}
-use Rattle.guard_model.proofs.Results.{same_Ok}
 use Rattle.guard_model.specs.AbstractValue as abstract
-use Rattle.guard_der.specs.Breach.{AbstractBreach}
 use Rattle.guard_der.specs.Reading.{unless_fault}
 use Rattle.guard_der.proofs.Simple.ObjectIdentifiers.{goes_on, ends, too_long, all_read, value_view_object_identifier}
 use Rattle.guard_der.proofs.object_id.object_identifier.Goals as goal
@@ -25,9 +23,9 @@ loop-index-preserved c =
     let fine = sym c.is_padding.ensures ∙ c.if-is_padding.false in
     elim c.if-starts.branch [
       | then-starts+in_ok-push_arcs w ↦
-          let arcs = same_Ok {F = AbstractBreach} _ _ (w.in_ok-push_arcs.ensures now.ended now.arcs_are) in
+          let arcs = w.in_ok-push_arcs.ensures now.ended now.arcs_are in
           let number = ap (λ (n : ℕ). c.loop-index.number * 128 + n) c.from.ensures in
-          ends os c.loop-index.arcs.items c.loop-index.starts c.loop-index.number (get_or os i 0) (drop (i + 1) os) octet now fine c.if-starts.arcs.items _ c.if-starts.number c.if-number-ge-FULL.false w.if-starts.true number (ap (λ v. v.items) w.arcs-is ∙ sym arcs) w.number-is
+          ends os c.loop-index.arcs.items c.loop-index.starts c.loop-index.number (get_or os i 0) (drop (i + 1) os) octet now fine c.if-starts.arcs.items _ c.if-starts.number c.if-number-ge-FULL.false w.if-starts.true number (ap (λ v. v.items) w.arcs-is ∙ arcs) w.number-is
       | else-starts w ↦
           goes_on os c.loop-index.arcs.items c.loop-index.starts c.loop-index.number (get_or os i 0) (drop (i + 1) os) octet now fine c.if-starts.arcs.items c.if-starts.number w.if-starts.false (ap (λ v. v.items) w.arcs-is) (w.number-is ∙ ap (λ (n : ℕ). c.loop-index.number * 128 + n) c.from.ensures)
     ]

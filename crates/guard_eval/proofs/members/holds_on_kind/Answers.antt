@@ -16,6 +16,6 @@ returns c =
     let t = c.requires.proper.0 in
     let is = c.requires.proper.1 in
     not_some c.failure_by.result c.is_none.result c.is_none.ensures
-    ∙ holds_by_walk cons t (kind_view c.args.kind.now) value c.failure_by.result is (proper_keeps_base cons t c.requires.proper.2)
+    ∙ holds_by_walk cons t (kind_view c.args.kind.now) value _ c.failure_by.result is (proper_keeps_base cons t c.requires.proper.2)
     (fits_of t value ∙ ap (λ (k : AbstractKind). fits_kind k value) is ∙ c.requires.fits) c.failure_by.ensures
     ∙ ap (λ (k : AbstractKind). holds cons k value) is

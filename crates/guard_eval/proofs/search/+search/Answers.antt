@@ -1,4 +1,4 @@
-use Rattle.std.proofs.Common.{rules, ◌≡◌, sym, ap, ◌∙◌, ◌⊎◌, length, inl, inr, map, drop, ◌+◌, option_map}
+use Rattle.std.proofs.Common.{rules, ◌≡◌, sym, ap, ◌∙◌, ◌⊎◌, length, inl, inr, map, drop, ◌+◌}
 use Rattle.std.specs.Slice.Iter.{iter_rest}
 use Rattle.std.specs.Iterator.Adapters.{zip_first, zip_second, enumerate_source, enumerate_count}
 use Rattle.guard_model.specs.declared.site.Step.TheVariants.{Component}
@@ -10,8 +10,7 @@ use Rattle.guard_model.specs.ValueView.{value_view}
 use Rattle.guard_model.proofs.TypeViews.{kind_view_sequence, kind_view_set}
 use Rattle.guard_model.proofs.ValueViews.{value_view_fields}
 use Rattle.guard_model.proofs.Components.{found_there, found_nowhere}
-use Rattle.guard_eval.specs.Violations.{violation_view}
-use Rattle.guard_eval.specs.inside.Failures.{under, failure_by, first_part_failure}
+use Rattle.guard_eval.specs.inside.Failures.{found_by, under, failure_by, first_part_failure}
 use Rattle.guard_eval.proofs.AtPlace.{chosen_failure, no_failure, failure_at_end, parts_next, constraint_view_is, element_view_each}
 use Rattle.guard_eval.proofs.search.+search.Goals as goal
 
@@ -33,22 +32,22 @@ pub failure_of_chosen-returns-in_err-comp : goal.failure_of_chosen-returns-in_er
 failure_of_chosen-returns-in_err-comp t c =
     let cs = components_of (map component_view c.args.comps.now) in
     let none = rw c.from.ensures at (found_nowhere c.get.result c.args.comps.now c.from.result c.get.ensures.lookup.3 c.in_err-comp.was) in
-    ap (option_map violation_view) c.from_residual.ensures ∙ ap (under (Component c.args.at)) (sym (no_failure cs c.args.at (value_view c.args.value.now) none))
+    ap (found_by _) c.from_residual.ensures ∙ ap (under (Component c.args.at)) (sym (no_failure cs c.args.at (value_view c.args.value.now) none))
 
-pub failure_of_chosen-returns-in_err-violation : goal.failure_of_chosen-returns-in_err-violation
-failure_of_chosen-returns-in_err-violation t c =
+pub failure_of_chosen-returns-in_err-site : goal.failure_of_chosen-returns-in_err-site
+failure_of_chosen-returns-in_err-site t c =
     let cs = components_of (map component_view c.args.comps.now) in
     let v = value_view c.args.value.now in
     let there = rw c.from.ensures at (found_there c.get.result c.args.comps.now c.from.result c.in_ok-comp.comp c.get.ensures.lookup.3 c.in_ok-comp.was) in
-    let none = sym (ap (option_map violation_view) c.in_err-violation.was) ∙ c.failure.ensures in
-    ap (option_map violation_view) c.from_residual-in_err-violation.ensures ∙ ap (under (Component c.args.at)) (none ∙ sym (chosen_failure cs c.args.at _ v there))
+    let none = sym (ap (found_by _) c.in_err-site.was) ∙ c.failure.ensures in
+    ap (found_by _) c.from_residual-in_err-site.ensures ∙ ap (under (Component c.args.at)) (none ∙ sym (chosen_failure cs c.args.at _ v there))
 
 pub failure_of_chosen-returns : goal.failure_of_chosen-returns
 failure_of_chosen-returns t c =
     let cs = components_of (map component_view c.args.comps.now) in
     let v = value_view c.args.value.now in
     let there = rw c.from.ensures at (found_there c.get.result c.args.comps.now c.from.result c.in_ok-comp.comp c.get.ensures.lookup.3 c.in_ok-comp.was) in
-    let some = sym (ap (option_map violation_view) c.in_ok-violation.was) ∙ c.failure.ensures in
+    let some = sym (ap (found_by _) c.in_ok-site.was) ∙ c.failure.ensures in
     rw c.from-2.ensures at c.under_component.ensures ∙ ap (under (Component c.args.at)) (some ∙ sym (chosen_failure cs c.args.at _ v there))
 
 pub failure_by-returns-in-Each : goal.failure_by-returns-in-Each
@@ -61,7 +60,7 @@ first_part_failure-returns-in-Some t c =
     let v = value_view c.args.value.now in
     let k = kind_view c.args.kind.now in
     let e = parts_next c.args.parts.now c.loop-part.part-index c.part-item.result c.loop-part-test.true c.part-item.is c.args.partial k v in
-    let found = sym (ap (option_map violation_view) c.in-Some.is) ∙ c.part_failure.ensures in
+    let found = sym (ap (found_by _) c.in-Some.is) ∙ c.part_failure.ensures in
     ap (λ w. option_or w (first_part_failure (parts_of (map part_view (drop (c.loop-part.part-index + 1) c.args.parts.now))) c.args.partial k v)) found
     ∙ sym e ∙ c.loop-part.invariant
 

@@ -6,7 +6,6 @@ use Rattle.guard_model.specs.declared.ty.Kind.TheViews.{out-Comp}
 use Rattle.guard_model.specs.declared.site.Step.TheVariants.{Component}
 use Rattle.guard_der.specs.Breach.{below}
 use Rattle.guard_der.specs.Reading.{missing_at, completed}
-use Rattle.guard_der.specs.Views.{breach_of}
 use Rattle.guard_model.specs.ValueView.{fields_view}
 use Rattle.guard_der.proofs.Functions.SetFields.{put_settles, kept_settles, settles_badly, all_settled, is_empty}
 use Rattle.guard_der.proofs.decoding.set.completed.Goals as goal
@@ -18,7 +17,7 @@ loop-index-preserved c = elim c.if-is_none.branch [
   | then-is_none+in_ok-not_sent w ↦
       let named = w.below-missing.ensures ∙ ap (option_map (below (Component c.loop-index.index))) w.fault_at.ensures in
       let presence = presence_view (out-Comp c.index-comps-index.result).presence in
-      let settles = is_empty presence c.index.result.now (missing_at c.loop-index.index c.args.at) (c.is_none.ensures ∙ ap not w.if-is_none.true) ∙ w.in_ok-not_sent.ensures (missing_at c.loop-index.index c.args.at) named in
+      let settles = is_empty presence c.index.result.now (missing_at c.loop-index.index c.args.at) (c.is_none.ensures ∙ ap not w.if-is_none.true) ∙ w.in_ok-not_sent.ensures _ (missing_at c.loop-index.index c.args.at) named in
       let p = put_settles c.args.comps.now c.loop-index.index c.index-comps-index.result c.loop-index.fields.items c.if-is_none.fields.items c.index.result.now w.in_ok-not_sent.field-0 c.args.at
       (completed 0 (left c.args.comps.now 0) (fields_view c.args.fields.items) c.args.at) c.loop-index-test.true c.loop-index.invariant.count c.index-comps-index.is c.index.ensures
       settles (ap (λ v. v.items) w.fields-is ∙ w.set_field.ensures) c.loop-index.invariant.so_far in
@@ -36,9 +35,9 @@ returns-in_err-not_sent c =
     let named = c.below-missing.ensures ∙ ap (option_map (below (Component c.loop-index.index))) c.fault_at.ensures in
     let empty = c.is_none.ensures ∙ ap not c.if-is_none.true in
     let presence = presence_view (out-Comp c.index-comps-index.result).presence in
-    rw (p.1, p.2) (settles_badly (breach_of c.in_err-not_sent.field-0.0) c.args.comps.now c.loop-index.index c.index-comps-index.result c.loop-index.fields.items c.index.result.now c.args.at
+    rw (p.1, p.2) (settles_badly _ c.args.comps.now c.loop-index.index c.index-comps-index.result c.loop-index.fields.items c.index.result.now c.args.at
     (completed 0 (left c.args.comps.now 0) (fields_view c.args.fields.items) c.args.at) c.loop-index-test.true c.loop-index.invariant.count c.index-comps-index.is c.index.ensures
-    (rw (is_empty presence c.index.result.now (missing_at c.loop-index.index c.args.at) empty) (c.in_err-not_sent.ensures (missing_at c.loop-index.index c.args.at) named)) c.loop-index.invariant.so_far)
+    (rw (is_empty presence c.index.result.now (missing_at c.loop-index.index c.args.at) empty) (c.in_err-not_sent.ensures _ (missing_at c.loop-index.index c.args.at) named)) c.loop-index.invariant.so_far)
 
 pub returns : goal.returns
 returns c =

@@ -8,7 +8,7 @@ use std::simd::prelude::*;
 /// How many octets are looked at together.
 const LANES: usize = 32;
 
-/// Whether each octet lies in one of the ranges, both ends in.
+/// Whether all octets are in the ranges, whose two ends belong to them.
 pub fn all_in(ranges: &[(u8, u8)], octets: &[u8]) -> bool
     requires { length ranges.now ≤ 8 }
     ensures { result ≡ list_all (is_in_some ranges.now) octets.now }
@@ -20,7 +20,7 @@ pub fn all_in(ranges: &[(u8, u8)], octets: &[u8]) -> bool
     }
 }
 
-/// The same, compiled for each list of ranges that is known where it is called.
+/// Whether all octets are in the ranges: compiled anew for each list that is known where it is called.
 #[inline(always)]
 pub fn are_all_in(ranges: &[(u8, u8)], octets: &[u8]) -> bool
     ensures { result ≡ list_all (is_in_some ranges.now) octets.now }

@@ -111,7 +111,8 @@ fn after_spelled<'a>(tag: &Tag, constructed: bool, octets: &'a [u8]) -> Option<&
     }
 }
 
-/// The same of a node's outermost tag.
+/// What follows the first identifier octet of an element with the node's outermost tag, where that has two octets and
+/// is spelled as it should be.
 #[inline(always)]
 pub fn after_first<'a>(table: &Nodes, at: usize, octets: &'a [u8]) -> Option<&'a [u8]>
     requires { at < vec_len table.now.hots }
@@ -125,7 +126,7 @@ pub fn after_first<'a>(table: &Nodes, at: usize, octets: &'a [u8]) -> Option<&'a
     }
 }
 
-/// The same by the header that is there.
+/// What is at the front for an element with this tag, by the header that is there.
 #[tactic(auto, unfolding(crate::specs::Fronts::head_front))]
 fn headed_front<'a>(tag: &Tag, constructed: bool, octets: &'a [u8]) -> Front<'a>
     ensures { front_view result ≡ head_front tag.now constructed octets.now }
@@ -165,7 +166,7 @@ fn untagged<'a>(table: &Nodes, at: usize, octets: &'a [u8]) -> Front<'a>
 {
     let node = &table.hots[at];
     if has_layers(node.kind) {
-        return untagged(table, node.first as usize, octets);
+        return untagged(table, node.first, octets);
     }
     if is_choice(node.kind) {
         return alternatives(table, at, octets);
@@ -181,7 +182,7 @@ fn alternatives<'a>(table: &Nodes, at: usize, octets: &'a [u8]) -> Front<'a>
     ensures { front_view result ≡ body_front (body_at (spots_in table.now) at) octets.now }
 {
     let node = &table.hots[at];
-    let first = node.first as usize;
+    let first = node.first;
     for k in first..first + node.count as usize {
         match front_at(table, k, octets) {
             Front::Here(_, rest) => return Front::Here(front_of(octets, rest), rest),
@@ -227,7 +228,7 @@ pub fn innermost<'a>(table: &Nodes, at: usize, octets: &'a [u8]) -> Option<&'a [
     if !has_layers(node.kind) {
         return Some(octets);
     }
-    let first = node.first as usize;
+    let first = node.first;
     let round = tag_round(node.kind, table.colds[at].tag);
     if has_two_tags(round, outermost(table, first)) {
         return match alone(front_at(table, first, octets)) {

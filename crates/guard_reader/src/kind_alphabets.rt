@@ -77,7 +77,7 @@ pub fn are_octets_in(ranges: &[(u32, u32)], inside: &[u8]) -> bool
     all_in(narrowed(ranges).as_slice(), inside)
 }
 
-/// The same, one octet after the other.
+/// Whether each octet is the code of a character in one of the ranges, one octet after the other.
 fn are_singly_in(ranges: &[(u32, u32)], inside: &[u8]) -> bool
     ensures { result ≡ list_all (is_in_some ranges.now) inside.now }
 {

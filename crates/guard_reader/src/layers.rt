@@ -79,7 +79,7 @@ pub fn outermost(table: &Nodes, at: usize) -> TagAndForm
     }
 }
 
-/// The same of a node in front of another one.
+/// The outermost tag, and the form, of a node in front of another one.
 #[cycle(outermost)]
 #[cold]
 #[inline(never)]
@@ -89,7 +89,7 @@ fn outermost_round(table: &Nodes, at: usize) -> TagAndForm
     ensures { tag_and_form result ≡ outermost (spot_at (spots_in table.now) at).plan }
 {
     let node = &table.hots[at];
-    let inner = outermost(table, node.first as usize);
+    let inner = outermost(table, node.first);
     wrapped(tag_round(node.kind, table.colds[at].tag), inner)
 }
 

@@ -43,7 +43,7 @@ fn front_tag(octets: &[u8]) -> Option<Tag>
     low_tag(octets)
 }
 
-/// The same of a number from 31 on.
+/// The tag of the element at the front, of a number from 31 on.
 #[cold]
 #[inline(never)]
 fn far_tag(octets: &[u8]) -> Option<Tag>
@@ -55,7 +55,7 @@ fn far_tag(octets: &[u8]) -> Option<Tag>
     }
 }
 
-/// The same of a number up to 30, which is in the first octet (X.690 8.1.2).
+/// The tag of the element at the front, of a number up to 30, which is in the first octet (X.690 8.1.2).
 #[inline(always)]
 fn low_tag(octets: &[u8]) -> Option<Tag>
     requires some { 0 < length octets.now }
@@ -97,7 +97,7 @@ fn rank(octet: u8) -> u8
     octet & 0xDF
 }
 
-/// The same of the first of some octets.
+/// The order of the first of some octets whatever its form; 0 where there is none.
 #[inline(always)]
 pub fn rank_of(octets: &[u8]) -> u8
     ensures { result ≡ rank_of octets.now }
@@ -221,7 +221,7 @@ fn has_bit(read: u64, place: usize) -> bool
     (read >> place) & 1 == 1
 }
 
-/// The same of a place that isn't kept as a bit: the octets before are looked through again.
+/// Whether the component at a place that isn't kept as a bit was read: the octets before are looked through again.
 #[cold]
 #[inline(never)]
 fn was_read(

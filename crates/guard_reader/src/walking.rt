@@ -45,13 +45,7 @@ fn decide(table: &Nodes, octets: &[u8], failed: &mut Slots) -> bool
     let top = &table.hots[table.hots.len() - 1];
     match top.kind {
         Kind::Series if begins(top.identifier, octets) => match alone(cut_off(octets)) {
-            Some(inside) => fields(
-                table,
-                top.first as usize,
-                top.count as usize,
-                inside,
-                failed,
-            ),
+            Some(inside) => fields(table, top.first, top.count as usize, inside, failed),
             None => false,
         },
         _ => decide_by_front(table, octets, failed),
@@ -129,22 +123,16 @@ fn node_contents(table: &Nodes, at: usize, node: &Hot, inside: &[u8], failed: &m
     ensures { Answers result failed.new (contents_judged (body_at (spots_in table.now) at) inside.now failed.old) }
 {
     match node.kind {
-        Kind::List => items(table, node.first as usize, inside, failed),
-        Kind::Series => series(
-            table,
-            node.first as usize,
-            node.count as usize,
-            inside,
-            failed,
-        ),
+        Kind::List => items(table, node.first, inside, failed),
+        Kind::Series => series(table, node.first, node.count as usize, inside, failed),
         Kind::Simple(kind) => simple(&table.colds[at], kind, inside, failed),
         Kind::Asked => asked(table, at, inside, failed),
         Kind::Formula => formula(table, at, inside, failed),
-        Kind::SetOf => set_of(table, node.first as usize, inside, failed),
+        Kind::SetOf => set_of(table, node.first, inside, failed),
         Kind::Choice => choice(table, at, inside, failed),
         Kind::Set => set(table, at, inside, failed),
         // What is inside the last tag has the same contents.
-        Kind::Wrapper => inner_contents(table, node.first as usize, inside, failed),
+        Kind::Wrapper => inner_contents(table, node.first, inside, failed),
     }
 }
 
@@ -170,10 +158,10 @@ fn asked(table: &Nodes, at: usize, inside: &[u8], failed: &mut Slots) -> bool
     ensures { Answers result failed.new (contents_judged (body_at (spots_in table.now) at) inside.now failed.old) }
 {
     let node = &table.hots[at];
-    if !contents(table, node.first as usize, inside, failed) {
+    if !contents(table, node.first, inside, failed) {
         return false;
     }
-    let size = size_of(table, node.first as usize, inside);
+    let size = size_of(table, node.first, inside);
     mark_whole(&table.colds[at].conditions.list, size, inside, failed);
     true
 }
@@ -189,7 +177,7 @@ fn formula(table: &Nodes, at: usize, inside: &[u8], failed: &mut Slots) -> bool
 {
     let node = &table.hots[at];
     let mut inner = Slots::none();
-    if !contents(table, node.first as usize, inside, &mut inner) {
+    if !contents(table, node.first, inside, &mut inner) {
         return false;
     }
     let cold = &table.colds[at];

@@ -24,11 +24,11 @@ pub fn size_of(table: &Nodes, at: usize, inside: &[u8]) -> Option<usize>
         Kind::Series => None,
         Kind::Set => None,
         Kind::Choice => None,
-        Kind::List => Some(count(table, node.first as usize, inside)),
-        Kind::SetOf => Some(count(table, node.first as usize, inside)),
-        Kind::Wrapper => size_of(table, node.first as usize, inside),
-        Kind::Asked => size_of(table, node.first as usize, inside),
-        Kind::Formula => size_of(table, node.first as usize, inside),
+        Kind::List => Some(count(table, node.first, inside)),
+        Kind::SetOf => Some(count(table, node.first, inside)),
+        Kind::Wrapper => size_of(table, node.first, inside),
+        Kind::Asked => size_of(table, node.first, inside),
+        Kind::Formula => size_of(table, node.first, inside),
     }
 }
 

@@ -11,7 +11,7 @@ use Rattle.guard_model.specs.SameBase.{bare, bare_kind, bare_components, HasSame
 use Rattle.guard_model.specs.TypeView.{OneComponent}
 use Rattle.guard_der.specs.ProperConstraints.{takes_size}
 use Rattle.guard_tables.specs.Demands.{Demand, by_type, by_constraint, Atom, scalar, equals, sized, spelled, each, within, sent, unsent, Term}
-use Rattle.guard_tables.specs.Spread.{is_scalar}
+use Rattle.guard_tables.specs.Terms.{is_scalar}
 use Rattle.guard_tables.specs.Apt.{IsAlike, IsApt, IsAptFor, Speaks, AllSpeak}
 
 -- ---- what bare kinds keep

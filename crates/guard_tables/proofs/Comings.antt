@@ -29,6 +29,7 @@ use Rattle.guard_tables.specs.declared.node.SimpleKind.{SimpleKind}
 use Rattle.guard_tables.specs.declared.node_list.Builder.{Builder}
 use Rattle.guard_tables.specs.declared.slots.Slots.{Slots}
 use Rattle.guard_tables.specs.NodeViews.{absence_of, condition_view, raise_view, kind_view, identifier_of, other_of}
+use Rattle.guard_tables.specs.Lay.{raised_of}
 use Rattle.guard_tables.specs.Plan.{Plan, Body, Parts, plan, simple, asked, formula, asked_of, no_parts, part, body_in, tags_in, form_in}
 use Rattle.guard_tables.specs.Slots.{none}
 use Rattle.guard_tables.specs.TableNodes.{Spot, side_of, spot_of, spots_of, spot_at, blank, own_tags, tags_of_kind, form_of_kind, body_of_kind, has_inner, parts_of, parts_between, IsNode, IsFree}
@@ -420,6 +421,14 @@ unasked l (x ∷ cs) e = absurd (omega (arith, e))
 pub some_asked : (cs : List Condition) (b : Body) → 0 < length cs → asked (map condition_view cs) b ≡ asked_of (map condition_view cs) b
 some_asked [] b h = absurd (omega (arith, h))
 some_asked (x ∷ cs) b h = refl
+
+pub unraised : (l : Laid) (rs : List Raise) → length rs ≡ 0 → Lays l.builder l (plan (tags_in (plan_in l)) (form_in (plan_in l)) (raised_of (map raise_view rs) (body_in (plan_in l))))
+unraised l [] e = record { grows = nothing_more l.builder; stands = same_plan (plan_in l) }
+unraised l (r ∷ rs) e = absurd (omega (arith, e))
+
+pub some_raised : (rs : List Raise) (b : Body) → 0 < length rs → formula (map raise_view rs) b ≡ raised_of (map raise_view rs) b
+some_raised [] b h = absurd (omega (arith, h))
+some_raised (r ∷ rs) b h = refl
 
 pub laid_as : (before : Builder) (l : Laid) (p q : Plan) → p ≡ q → Lays before l p → Lays before l q
 laid_as before l p q e a = record { grows = a.grows; stands = a.stands ∙ e }

@@ -1,4 +1,4 @@
--- A conjunction fails its slots exactly where one of its tests does.
+-- What is asked of parts fails its slots exactly where one of its terms does.
 use Rattle.std.proofs.Common.{◌≡◌, ℕ, zero, suc, ◌+◌, ◌<◌, Bool, true, false, cond, List, [], ◌∷◌, ◌++◌, Option, Some, None, refl, ap, ◌∙◌, subst, arith, IsTrue}
 use Rattle.std.specs.Prelude.{not, ◌&&◌, ◌||◌, option_map}
 use Rattle.std.specs.Option.{is_none, is_some}
@@ -13,20 +13,19 @@ use Rattle.guard_model.specs.AbstractValue.{AbstractValue, Fields}
 use Rattle.guard_model.specs.Components.{components_in, component_at}
 use Rattle.guard_model.specs.Kinds.{kind_of, part_of, is_integer, has_parts}
 use Rattle.guard_model.specs.TypeView.{OneComponent}
-use Rattle.guard_der.specs.Fits.{fits, fits_kind, fits_fields, may_be_absent}
+use Rattle.guard_der.specs.Fits.{fits, fits_kind, fits_fields, fits_alternative, may_be_absent}
 use Rattle.guard_der.specs.ProperConstraints.{is_there_and}
-use Rattle.guard_der.specs.Sound.{is_proper, are_proper_constraints, is_proper_constraint, is_proper_element, are_proper_parts}
+use Rattle.guard_der.specs.Sound.{is_proper_constraint, is_proper_element, are_proper_parts}
 use Rattle.guard_eval.specs.Presence as presence
 use Rattle.guard_eval.specs.Presence.{kind_at, field_at, part_at, is_there, if_there, is_placed, is_as_said, is_ruled_out, first_ruled_out, first_intruder}
-use Rattle.guard_eval.specs.Member.{holds, holds_element, all_hold, parts_hold, is_member, parts_are_members, fields_are_members, chosen_is_member}
+use Rattle.guard_eval.specs.Member.{holds_element, parts_hold, is_member, parts_are_members, fields_are_members, chosen_is_member}
 use Rattle.guard_eval.proofs.SameFits.{same_fits}
 use Rattle.guard_tables.specs.declared.slots.Slots.{Slots}
 use Rattle.guard_tables.specs.Slots.{has}
-use Rattle.guard_tables.specs.Demands.{Demand, by_type, by_constraint, Atom, scalar, equals, sized, spelled, each, within, sent, unsent, Term, meets, passes, term_fails, terms_fail}
-use Rattle.guard_tables.specs.Spread.{term, is_scalar, said, placed, ruled_out, unlisted, parts_from, spread_kind, spread_type, spread_one, spread_element, spread_all, spread_parts, spread, is_plain, is_plain_type, is_plain_constraint, is_plain_element, are_plain}
-use Rattle.guard_tables.specs.Apt.{IsApt}
+use Rattle.guard_tables.specs.Demands.{Demand, by_type, by_constraint, Atom, each, within, sent, unsent, Term, meets, passes, term_fails, terms_fail}
+use Rattle.guard_tables.specs.Terms.{term, is_scalar, said, placed, ruled_out, unlisted, parts_from, kind_terms, listed_terms}
 use Rattle.guard_tables.proofs.Bases.{base_is}
-use Rattle.guard_tables.proofs.Speaking.{proper_constraints, contained}
+use Rattle.guard_tables.proofs.Speaking.{contained}
 
 -- ---- truth
 
@@ -50,10 +49,6 @@ never false = refl
 pub with_true : (a b c : Bool) → a ≡ true → (b && c) ≡ (a && b && c)
 with_true a b c e = rw e refl
 
-or_rest : (a b : Bool) → a ≡ false → (a || b) ≡ true → b ≡ true
-or_rest true b e h = absurd cc
-or_rest false b e h = h
-
 -- ---- tests that fail, with the slots of k, where this is false
 
 abbrev pub Fails : Slots → AbstractValue → List Term → Bool → Type 0
@@ -72,10 +67,6 @@ two k v xs ys a b p q slot =
 
 pub of_same : (k : Slots) (v : AbstractValue) (ts : List Term) (a b : Bool) → a ≡ b → Fails k v ts a → Fails k v ts b
 of_same k v ts a b e p slot = p slot ∙ ap (λ (t : Bool). has k slot && not t) e
-
-pub fail_either : (b : Bool) (k : Slots) (v : AbstractValue) (xs ys : List Term) (test : Bool) → (b ≡ true → Fails k v xs test) → (b ≡ false → Fails k v ys test) → Fails k v (cond b xs ys) test
-fail_either true k v xs ys test p q = p refl
-fail_either false k v xs ys test p q = q refl
 
 -- ---- presence
 
@@ -130,7 +121,8 @@ part_fails : (k : Slots) (i : ℕ) (v : AbstractValue) (d : Demand) (o : Option 
 part_fails k i v d o e = of_same k v (term k (within i d) ∷ []) (if_there (meets d) (part_at i v)) (if_there (meets d) o) (ap (if_there (meets d)) e) (one k v (within i d))
 
 fields_fail : (k : Slots) (cs : Components) (i : ℕ) (fs rs : Fields) → IsTrue (fits_fields cs rs) → Follow i fs rs → Fails k (value.fields fs) (parts_from i k cs) (fields_are_members cs rs)
-fields_fail k no_components i fs rs fit h = nothing k (value.fields fs)
+fields_fail k no_components i fs value.no_fields fit h = nothing k (value.fields fs)
+fields_fail k no_components i fs rs fit h = absurd cc
 fields_fail k (component name t presence cs) i fs value.no_fields fit h = absurd cc
 fields_fail k (component name t presence cs) i fs (value.present v rs) fit h =
     let p = and_parts (fits t v) (fits_fields cs rs) fit in
@@ -156,9 +148,9 @@ past_chosen k (component name t presence cs) i j v lt =
     two k (value.chosen j v) (term k (within i (by_type t)) ∷ []) (parts_from (suc i) k cs) true true
     (part_fails k i (value.chosen j v) (by_type t) None (chosen_elsewhere i j v (λ e. absurd (omega (arith, lt, e))))) (past_chosen k cs (suc i) j v (omega (arith, lt)))
 
-chosen_fails : (k : Slots) (cs : Components) (i n j : ℕ) (v : AbstractValue) → j ≡ i + n → Fails k (value.chosen j v) (parts_from i k cs) (chosen_is_member cs n v)
-chosen_fails k no_components i n j v e = nothing k (value.chosen j v)
-chosen_fails k (component name t presence cs) i zero j v e =
+chosen_fails : (k : Slots) (cs : Components) (i n j : ℕ) (v : AbstractValue) → IsTrue (fits_alternative cs n v) → j ≡ i + n → Fails k (value.chosen j v) (parts_from i k cs) (chosen_is_member cs n v)
+chosen_fails k no_components i n j v fit e = absurd cc
+chosen_fails k (component name t presence cs) i zero j v fit e =
     of_same k (value.chosen j v) (parts_from i k (component name t presence cs)) (is_member t v && true) (is_member t v) (and_true (is_member t v))
     (two k (value.chosen j v) (term k (within i (by_type t)) ∷ []) (parts_from (suc i) k cs) (is_member t v) true
     (part_fails k i (value.chosen j v) (by_type t) (Some v) (chosen_here i j v (omega (arith, e)))) (past_chosen k cs (suc i) j v (omega (arith, e))))
@@ -166,17 +158,17 @@ chosen_fails k (component name t presence cs) i zero j v e =
     and_true : (b : Bool) → (b && true) ≡ b
     and_true true = refl
     and_true false = refl
-chosen_fails k (component name t presence cs) i (suc n) j v e =
+chosen_fails k (component name t presence cs) i (suc n) j v fit e =
     two k (value.chosen j v) (term k (within i (by_type t)) ∷ []) (parts_from (suc i) k cs) true (chosen_is_member cs n v)
-    (part_fails k i (value.chosen j v) (by_type t) None (chosen_elsewhere i j v (λ same. absurd (omega (arith, e, same))))) (chosen_fails k cs (suc i) n j v (omega (arith, e)))
+    (part_fails k i (value.chosen j v) (by_type t) None (chosen_elsewhere i j v (λ same. absurd (omega (arith, e, same))))) (chosen_fails k cs (suc i) n j v fit (omega (arith, e)))
 
 all_fields : (fs : Fields) → Follow 0 fs fs
 all_fields fs j = ap (λ (n : ℕ). field_at n fs) (omega arith)
 
-pub kind_fails : (k : Slots) (kind : AbstractKind) (v : AbstractValue) → IsTrue (fits_kind kind v) → Fails k v (spread_kind k kind) (parts_are_members kind v)
+pub kind_fails : (k : Slots) (kind : AbstractKind) (v : AbstractValue) → IsTrue (fits_kind kind v) → Fails k v (kind_terms k kind) (parts_are_members kind v)
 kind_fails k (type.sequence cs) (value.fields fs) fit = fields_fail k cs 0 fs fs fit (all_fields fs)
 kind_fails k (type.set cs) (value.fields fs) fit = fields_fail k cs 0 fs fs fit (all_fields fs)
-kind_fails k (type.choice cs) (value.chosen j v) fit = chosen_fails k cs 0 j j v (omega arith)
+kind_fails k (type.choice cs) (value.chosen j v) fit = chosen_fails k cs 0 j j v fit (omega arith)
 kind_fails k (type.sequence_of t) (value.items vs) fit = one k (value.items vs) (each (by_type t))
 kind_fails k (type.set_of t) (value.items vs) fit = one k (value.items vs) (each (by_type t))
 kind_fails k (type.sequence cs) v fit = absurd cc
@@ -189,7 +181,7 @@ kind_fails k _ v fit = nothing k v
 -- ---- all elements
 
 -- a range is on INTEGER alone
-not_scalar : (kind : AbstractKind) → IsTrue (is_integer kind) → is_scalar kind ≡ false → ⊥
+pub not_scalar : (kind : AbstractKind) → IsTrue (is_integer kind) → is_scalar kind ≡ false → ⊥
 not_scalar (type.integer names) h e = absurd cc
 not_scalar _ h e = absurd cc
 
@@ -206,12 +198,12 @@ some_there : (test : AbstractType → Bool) (found : Option AbstractType) → Is
 some_there test None h = absurd cc
 some_there test (Some t) h = refl
 
-parts_fail : (k : Slots) (partial : Bool) (ps : Parts) (t : AbstractType) (v : AbstractValue) → IsTrue (are_proper_parts ps t) → Fails k v (spread_parts k (kind_of t) partial ps) (parts_hold ps partial (kind_of t) v)
+parts_fail : (k : Slots) (partial : Bool) (ps : Parts) (t : AbstractType) (v : AbstractValue) → IsTrue (are_proper_parts ps t) → Fails k v (listed_terms k (kind_of t) partial ps) (parts_hold ps partial (kind_of t) v)
 parts_fail k partial type.no_parts t v h = nothing k v
 parts_fail k partial (type.part site i word ps) t v h =
     let kind : AbstractKind = kind_of t in
     let a = and_parts (is_some (part_of i kind)) (are_proper_parts ps t) h in
-    two k v (placed partial (component_at i (components_in kind)) word i k) (spread_parts k kind partial ps) (is_placed partial (component_at i (components_in kind)) word (is_there i v)) (parts_hold ps partial kind v)
+    two k v (placed partial (component_at i (components_in kind)) word i k) (listed_terms k kind partial ps) (is_placed partial (component_at i (components_in kind)) word (is_there i v)) (parts_hold ps partial kind v)
     (placed_fails partial (component_at i (components_in kind)) word i k v a.0) (parts_fail k partial ps t v a.1)
 parts_fail k partial (type.part_within site i c word ps) t v h =
     let kind : AbstractKind = kind_of t in
@@ -220,57 +212,20 @@ parts_fail k partial (type.part_within site i c word ps) t v h =
     let here : Bool = is_placed partial (component_at i (components_in kind)) word (is_there i v) in
     let inside : Bool = if_there (meets d) (part_at i v) in
     let rest : Bool = parts_hold ps partial kind v in
-    of_same k v (spread_parts k kind partial (type.part_within site i c word ps)) (here && (inside && rest)) (here && inside && rest) (and_turned here inside rest)
-    (two k v (placed partial (component_at i (components_in kind)) word i k) (term k (within i d) ∷ spread_parts k kind partial ps) here (inside && rest)
+    of_same k v (listed_terms k kind partial (type.part_within site i c word ps)) (here && (inside && rest)) (here && inside && rest) (and_turned here inside rest)
+    (two k v (placed partial (component_at i (components_in kind)) word i k) (term k (within i d) ∷ listed_terms k kind partial ps) here (inside && rest)
     (placed_fails partial (component_at i (components_in kind)) word i k v (some_there (is_proper_constraint c) (part_of i kind) a.0))
-    (two k v (term k (within i d) ∷ []) (spread_parts k kind partial ps) inside rest (one k v (within i d)) (parts_fail k partial ps t v a.1)))
+    (two k v (term k (within i d) ∷ []) (listed_terms k kind partial ps) inside rest (one k v (within i d)) (parts_fail k partial ps t v a.1)))
 
 pub fits_inside : (u t : AbstractType) (v : AbstractValue) → IsTrue (is_proper_element (type.contained_subtype u) t) → IsTrue (fits_kind (kind_of t) v) → IsTrue (fits_kind (kind_of u) v)
 fits_inside u t v h fit = same_fits (kind_of u) (kind_of t) v (base_is u t (contained u t h).base) ∙ fit
 
-mutual
-  type_fails : (k : Slots) (t : AbstractType) (v : AbstractValue) → IsTrue (is_proper t) → IsTrue (is_plain_type t) → IsTrue (fits_kind (kind_of t) v) → Fails k v (spread_type k t) (is_member t v)
-  type_fails k (type_of tags kind cons) v h plain fit =
-      of_same k v (spread_type k (type_of tags kind cons)) (all_hold cons kind v && parts_are_members kind v) (is_member (type_of tags kind cons) v) (with_true (fits_kind kind v) (all_hold cons kind v) (parts_are_members kind v) fit)
-      (two k v (spread_all k kind cons) (spread_kind k kind) (all_hold cons kind v) (parts_are_members kind v) (all_fail k cons (type_of tags kind cons) v (proper_constraints tags kind cons h) plain fit) (kind_fails k kind v fit))
-
-  one_fails : (k : Slots) (c : Constraint) (t : AbstractType) (v : AbstractValue) → IsTrue (is_proper_constraint c t) → IsTrue (is_plain_constraint (kind_of t) c) → IsTrue (fits_kind (kind_of t) v) → Fails k v (spread_one k (kind_of t) c) (holds c (kind_of t) v)
-  one_fails k (at site e) t v h plain fit =
-      fail_either (is_scalar (kind_of t)) k v (term k (scalar (kind_of t) (at site e)) ∷ []) (spread_element k (kind_of t) e) (holds_element e (kind_of t) v)
-      (λ yes. one k v (scalar (kind_of t) (at site e)))
-      (λ other. element_fails k e t v h (or_rest (is_scalar (kind_of t)) (is_plain_element (kind_of t) e) other plain) fit other)
-
-  pub element_fails : (k : Slots) (e : Element) (t : AbstractType) (v : AbstractValue) → IsTrue (is_proper_element e t) → IsTrue (is_plain_element (kind_of t) e) → IsTrue (fits_kind (kind_of t) v) → is_scalar (kind_of t) ≡ false → Fails k v (spread_element k (kind_of t) e) (holds_element e (kind_of t) v)
-  element_fails k (type.single_value w) t v h plain fit other = one k v (equals w)
-  element_fails k (type.contained_subtype u) t v h plain fit other = type_fails k u v (contained u t h).proper plain (fits_inside u t v h fit)
-  element_fails k (type.range low high) t v h plain fit other = absurd (not_scalar (kind_of t) h other)
-  element_fails k (type.size c) t v h plain fit other = one k v (sized c)
-  element_fails k (type.permitted_alphabet ranges) t v h plain fit other = one k v (spelled ranges)
-  element_fails k (type.with_component c) t v h plain fit other = one k v (each (by_constraint (presence.element_kind (kind_of t)) c))
-  element_fails k (type.with_components partial ps) t v h plain fit other =
-      let kind : AbstractKind = kind_of t in
-      let a = and_parts (has_parts kind) (are_proper_parts ps t) h in
-      of_same k v (spread_parts k kind partial ps ++ unlisted partial kind ps k) (parts_hold ps partial kind v && is_none (first_intruder partial kind ps v)) (holds_element (type.with_components partial ps) kind v)
-      (with_true (presence.has_parts v) (parts_hold ps partial kind v) (is_none (first_intruder partial kind ps v)) (parts_there kind v a.0 fit))
-      (two k v (spread_parts k kind partial ps) (unlisted partial kind ps k) (parts_hold ps partial kind v) (is_none (first_intruder partial kind ps v)) (parts_fail k partial ps t v a.1) (unlisted_fails partial kind ps k v))
-  element_fails k (type.intersection cs) t v h plain fit other = all_fail k cs t v h plain fit
-  element_fails k (type.union cs) t v h plain fit other = absurd cc
-  element_fails k (type.except c d) t v h plain fit other = absurd cc
-  element_fails k (type.all_except c) t v h plain fit other = absurd cc
-
-  all_fail : (k : Slots) (cs : Constraints) (t : AbstractType) (v : AbstractValue) → IsTrue (are_proper_constraints cs t) → IsTrue (are_plain (kind_of t) cs) → IsTrue (fits_kind (kind_of t) v) → Fails k v (spread_all k (kind_of t) cs) (all_hold cs (kind_of t) v)
-  all_fail k no_constraints t v h plain fit = nothing k v
-  all_fail k (constraint c cs) t v h plain fit =
-      let a = and_parts (is_proper_constraint c t) (are_proper_constraints cs t) h in
-      let b = and_parts (is_plain_constraint (kind_of t) c) (are_plain (kind_of t) cs) plain in
-      two k v (spread_one k (kind_of t) c) (spread_all k (kind_of t) cs) (holds c (kind_of t) v) (all_hold cs (kind_of t) v) (one_fails k c t v a.0 b.0 fit) (all_fail k cs t v a.1 b.1 fit)
-
--- a constraint that some type of the kind may have
-standing_fails : (k : Slots) (kind : AbstractKind) (c : Constraint) (t : AbstractType) (v : AbstractValue) → kind_of t ≡ kind → IsTrue (is_proper_constraint c t) → IsTrue (is_plain_constraint kind c) → IsTrue (fits_kind kind v)
-    → Fails k v (spread_one k kind c) (holds c kind v)
-standing_fails k kind c t v e h plain fit =
-    subst (λ (of : AbstractKind). IsTrue (is_plain_constraint of c) → IsTrue (fits_kind of v) → Fails k v (spread_one k of c) (holds c of v)) e (λ p f. one_fails k c t v h p f) plain fit
-
-pub spread_law : (kind : AbstractKind) (d : Demand) → IsApt kind d → IsTrue (is_plain d) → (k : Slots) (v : AbstractValue) → IsTrue (fits_kind kind v) → Fails k v (spread k d) (meets d v)
-spread_law kind (by_type t) apt plain k v fit = type_fails k t v apt.1 plain (same_fits (kind_of t) kind v apt.0 ∙ fit)
-spread_law kind (by_constraint own c) apt plain k v fit = standing_fails k own c apt.1.0 v apt.1.1 apt.1.2 plain (same_fits own kind v apt.0 ∙ fit)
+-- what WITH COMPONENTS says of presence and of the parts that are there
+pub components_fail : (k : Slots) (partial : Bool) (ps : Parts) (t : AbstractType) (v : AbstractValue) → IsTrue (is_proper_element (type.with_components partial ps) t) → IsTrue (fits_kind (kind_of t) v)
+    → Fails k v (listed_terms k (kind_of t) partial ps ++ unlisted partial (kind_of t) ps k) (holds_element (type.with_components partial ps) (kind_of t) v)
+components_fail k partial ps t v h fit =
+    let kind : AbstractKind = kind_of t in
+    let a = and_parts (has_parts kind) (are_proper_parts ps t) h in
+    of_same k v (listed_terms k kind partial ps ++ unlisted partial kind ps k) (parts_hold ps partial kind v && is_none (first_intruder partial kind ps v)) (holds_element (type.with_components partial ps) kind v)
+    (with_true (presence.has_parts v) (parts_hold ps partial kind v) (is_none (first_intruder partial kind ps v)) (parts_there kind v a.0 fit))
+    (two k v (listed_terms k kind partial ps) (unlisted partial kind ps k) (parts_hold ps partial kind v) (is_none (first_intruder partial kind ps v)) (parts_fail k partial ps t v a.1) (unlisted_fails partial kind ps k v))

@@ -10,7 +10,6 @@ use Rattle.guard_tables.specs.Nodes.{ways, ways_inside, ways_among}
 use Rattle.guard_tables.specs.Demands.{Ask}
 use Rattle.guard_tables.specs.Handed.{each_of, within_of, terms_at, of_asks, asks_from, NeedsFew, NeedsFewInside, NeedsFewAmong}
 use Rattle.guard_tables.proofs.Handing.{each_law, within_law}
-use Rattle.guard_tables.proofs.SlotCounts.{needed_law}
 
 abbrev AllFew : (List ℕ → ℕ) → List (List ℕ) → Type 0
 AllFew count ws = AllByRecursion (λ way. count way ≤ 256) ws
@@ -30,7 +29,7 @@ step count part place h (w ∷ ws) a = let x = h w in let y = a.0 in (omega (ari
 
 mutual
   few : (t : AbstractType) (asks : List Ask) → AllFew (of_asks asks) (ways t) → NeedsFew t asks
-  few (type_of tags kind cons) asks a = let n = needed_law asks in let h = a.0 in (omega (arith, n, h), few_inside kind asks a.1)
+  few (type_of tags kind cons) asks a = (a.0, few_inside kind asks a.1)
 
   few_inside : (kind : AbstractKind) (asks : List Ask) → AllFew (of_asks asks) (ways_inside kind) → NeedsFewInside kind (terms_at asks)
   few_inside (type.sequence cs) asks a = few_among cs 0 asks a

@@ -6,7 +6,7 @@ use Rattle.guard_tables.specs.declared.node.Form.TheOpen.{Form-F}
 use Rattle.guard_tables.specs.declared.node.Form.TheVariants.{Never, Always, rolls-Never, rolls-Always}
 use Rattle.guard_tables.specs.Formulas as formulas
 use Rattle.guard_tables.specs.Formulas.{either, both}
-use Rattle.guard_tables.specs.inside.FormSteps.{eithers, boths}
+use Rattle.guard_tables.specs.Forms.{eithers, boths}
 use Rattle.guard_tables.specs.NodeViews.{form_view, form_step}
 
 -- the last of them goes to those that are put together

@@ -1,50 +1,42 @@
 -- All that is asked at a node: conjunctions with their own slots, or formulas over slots of the node.
-use Rattle.std.proofs.Common.{◌≡◌, ℕ, suc, ◌+◌, ◌<◌, ◌≤◌, Bool, true, false, cond, List, [], ◌∷◌, ◌++◌, length, refl, sym, ap, ◌∙◌, arith, inl, inr, IsTrue}
+use Rattle.std.proofs.Common.{◌≡◌, ℕ, suc, ◌+◌, ◌<◌, ◌≤◌, Bool, true, false, List, [], ◌∷◌, length, refl, sym, ap, ◌∙◌, arith, inl, inr, IsTrue}
 use Rattle.std.specs.Prelude.{not, ◌&&◌, ◌||◌, ◌⊎◌}
 use Rattle.std.specs.List.{list_any}
-use Rattle.std.proofs.lemmas.Bool.{and_parts}
-use Rattle.std.proofs.lemmas.List.Folds.{list_any-append}
+use Rattle.std.proofs.lemmas.Bool.{eq-eqb, ne_eqb}
 use Rattle.guard_model.specs.AbstractType.{AbstractKind}
 use Rattle.guard_model.specs.AbstractValue.{AbstractValue}
 use Rattle.guard_der.specs.Fits.{fits_kind}
 use Rattle.guard_tables.specs.declared.slots.Slots.{Slots}
-use Rattle.guard_tables.specs.Slots.{none, has}
-use Rattle.guard_tables.specs.Formulas as formulas
-use Rattle.guard_tables.specs.Formulas.{Form, either, fails_where, Raise, failed_unless, raised}
-use Rattle.guard_tables.specs.Forms.{Formula, form, forms_from, forms_of}
-use Rattle.guard_tables.specs.Plan.{Body, formula}
+use Rattle.guard_tables.specs.Slots.{none, only, has}
+use Rattle.guard_tables.specs.Formulas.{Form, never, fails_where, Raise, failed_unless, raised}
+use Rattle.guard_tables.specs.Forms.{Formula, Formulas, formulas, eithers, aside, form, conjoined, forms_from, forms_of, if_conjoined, nothing_yet}
+use Rattle.guard_tables.specs.Lay.{raised_of}
+use Rattle.guard_tables.specs.Plan.{Body}
 use Rattle.guard_tables.specs.Marking.{marked}
-use Rattle.guard_tables.specs.Demands.{Ask, Term, meets, ask_fails, asks_fail, term_fails, terms_fail}
-use Rattle.guard_tables.specs.Spread.{spread, terms_of, is_plain, are_plain_asks}
+use Rattle.guard_tables.specs.Demands.{Ask, Term, meets, ask_fails, asks_fail, terms_fail}
 use Rattle.guard_tables.specs.Apt.{AreApt}
 use Rattle.guard_tables.specs.Handed.{terms_at}
-use Rattle.guard_tables.specs.Lay.{formulas_over}
-use Rattle.guard_tables.proofs.SlotSets.{none_law}
-use Rattle.guard_tables.proofs.SlotCounts.{form_up, forms_up}
+use Rattle.guard_tables.proofs.SlotSets.{none_law, only_law}
 use Rattle.guard_tables.proofs.Truths.{or_no, not_twice, or_again, has_unless}
-use Rattle.guard_tables.proofs.Failing.{spread_law}
-use Rattle.guard_tables.proofs.Forming.{PutOf, form_put}
+use Rattle.guard_tables.proofs.Forming.{Put, form_put, form_none, conjunction}
 
 -- ---- conjunctions
 
-plain_asks_fail : (kind : AbstractKind) (asks : List Ask) → AreApt kind asks → IsTrue (are_plain_asks asks) → (v : AbstractValue) → IsTrue (fits_kind kind v) → (slot : ℕ) → terms_fail slot v (terms_of asks) ≡ asks_fail slot v asks
-plain_asks_fail kind [] apt plain v fit slot = refl
-plain_asks_fail kind (a ∷ asks) apt plain v fit slot =
-    let p = and_parts (is_plain a.demand) (are_plain_asks asks) plain in
-    list_any-append (term_fails slot v) (spread a.slots a.demand) (terms_of asks)
-    ∙ ap (λ (b : Bool). b || terms_fail slot v (terms_of asks)) (spread_law kind a.demand apt.0 p.0 a.slots v fit slot)
-    ∙ ap (λ (b : Bool). ask_fails slot v a || b) (plain_asks_fail kind asks apt.1 p.1 v fit slot)
+-- no slot is taken before, nor at the next
+conjoined_none : (asks : List Ask) (f : Formula) → (conjoined asks f).besides ≡ [] → f.besides ≡ []
+conjoined_none [] f e = e
+conjoined_none (a ∷ asks) f e = (form_none a.slots a.demand f (conjoined_none asks (form a.slots a.demand f) e)).before
+
+conjoined_fail : (kind : AbstractKind) (asks : List Ask) (f : Formula) → AreApt kind asks → (conjoined asks f).besides ≡ [] → (v : AbstractValue) → IsTrue (fits_kind kind v) → (slot : ℕ)
+    → terms_fail slot v (conjoined asks f).terms ≡ (terms_fail slot v f.terms || asks_fail slot v asks)
+conjoined_fail kind [] f apt e v fit slot = sym (or_no (terms_fail slot v f.terms))
+conjoined_fail kind (a ∷ asks) f apt e v fit slot =
+    let g : Formula = form a.slots a.demand f in
+    conjoined_fail kind asks g apt.1 e v fit slot
+    ∙ ap (λ (b : Bool). b || asks_fail slot v asks) (conjunction kind a.demand a.slots f v apt.0 fit (conjoined_none asks g e) slot)
+    ∙ or_again (terms_fail slot v f.terms) (ask_fails slot v a) (asks_fail slot v asks)
 
 -- ---- formulas
-
-of_two : (xs ys : List Term) (v : AbstractValue) (j : ℕ) → terms_fail j v (xs ++ ys) ≡ (terms_fail j v xs || terms_fail j v ys)
-of_two xs ys v j = list_any-append (term_fails j v) xs ys
-
-front_alone : (xs ys : List Term) (v : AbstractValue) (j : ℕ) → terms_fail j v ys ≡ false → terms_fail j v (xs ++ ys) ≡ terms_fail j v xs
-front_alone xs ys v j e = of_two xs ys v j ∙ ap (λ (b : Bool). terms_fail j v xs || b) e ∙ or_no (terms_fail j v xs)
-
-back_alone : (xs ys : List Term) (v : AbstractValue) (j : ℕ) → terms_fail j v xs ≡ false → terms_fail j v (xs ++ ys) ≡ terms_fail j v ys
-back_alone xs ys v j e = of_two xs ys v j ∙ ap (λ (b : Bool). b || terms_fail j v ys) e
 
 abbrev raise_fails : ℕ → (ℕ → Bool) → Raise → Bool
 raise_fails slot failed r = has r.slots slot && fails_where r.where_failed failed
@@ -52,66 +44,84 @@ raise_fails slot failed r = has r.slots slot && fails_where r.where_failed faile
 abbrev raises_fail : ℕ → (ℕ → Bool) → List Raise → Bool
 raises_fail slot failed rs = list_any (raise_fails slot failed) rs
 
--- no slot but those of these asks, from k on, and free ones, from n on
-others_untouched : (kind : AbstractKind) (k n : ℕ) (asks : List Ask) → AreApt kind asks → k + length asks ≤ n → (v : AbstractValue) → IsTrue (fits_kind kind v)
-    → (j : ℕ) → (j < k) ⊎ (((forms_from k n asks).next ≤ j) ⊎ ((k + length asks ≤ j) × (j < n))) → terms_fail j v (forms_from k n asks).terms ≡ false
-others_untouched kind k n [] apt room v fit j out = refl
-others_untouched kind k n (a ∷ asks) apt room v fit j out =
-    let f : Formula = form k n a.demand in
-    let below : k < n = omega (arith, room) in
-    let up = form_up k n a.demand in
-    let rest_room : suc k + length asks ≤ f.next = omega (arith, room, up) in
-    let put : PutOf k v n f (meets a.demand v) = form_put kind a.demand k n v apt.0 fit below in
-    let on = forms_up (suc k) f.next asks in
-    elim out [
-      | inl o ↦
-          back_alone f.terms (forms_from (suc k) f.next asks).terms v j (put.others j (λ e. absurd (omega (arith, o, e))) (inl (omega (arith, o, below))))
-          ∙ others_untouched kind (suc k) f.next asks apt.1 rest_room v fit j (inl (omega (arith, o)))
-      | inr more ↦ elim more [
-        | inl o ↦
-            back_alone f.terms (forms_from (suc k) f.next asks).terms v j (put.others j (λ e. absurd (omega (arith, o, e, on, up, below))) (inr (omega (arith, o, on))))
-            ∙ others_untouched kind (suc k) f.next asks apt.1 rest_room v fit j (inr (inl o))
-        | inr o ↦
-            let from : k + suc (length asks) ≤ j = o.0 in
-            let to : j < n = o.1 in
-            back_alone f.terms (forms_from (suc k) f.next asks).terms v j (put.others j (λ e. absurd (omega (arith, from, e))) (inl to))
-            ∙ others_untouched kind (suc k) f.next asks apt.1 rest_room v fit j (inr (inr (omega (arith, from), omega (arith, to, up))))
-      ]
-    ]
+other_slot : (k j : ℕ) → (k ≡ j → ⊥) → has (only k) j ≡ false
+other_slot k j ne = only_law k j ∙ ne_eqb k j ne
+
+own_slot : (k : ℕ) → has (only k) k ≡ true
+own_slot k = only_law k k ∙ eq-eqb k k refl
+
+-- what is asked of the first of these, with slot k
+abbrev first : ℕ → Ask → Formula → Formula
+first k a f = form (only k) a.demand (aside f)
+
+forms_up : (kind : AbstractKind) (k : ℕ) (asks : List Ask) (f : Formula) → AreApt kind asks → (v : AbstractValue) → IsTrue (fits_kind kind v) → f.next ≤ (forms_from k asks f).next
+forms_up kind k [] f apt v fit = omega arith
+forms_up kind k (a ∷ asks) f apt v fit =
+    let up = (form_put kind a.demand (only k) (aside f) v apt.0 fit).up in
+    let on = forms_up kind (suc k) asks (aside (first k a f)) apt.1 v fit in
+    omega (arith, up, on)
+
+-- no slot but those of these asks, from k on, and free ones
+abbrev Outside : ℕ → ℕ → List Ask → Formula → Type 0
+Outside j k asks f = ((j < k) ⊎ (k + length asks ≤ j)) × ((j < f.next) ⊎ ((forms_from k asks f).next ≤ j))
+
+others_untouched : (kind : AbstractKind) (k : ℕ) (asks : List Ask) (f : Formula) → AreApt kind asks → (v : AbstractValue) → IsTrue (fits_kind kind v)
+    → (j : ℕ) → Outside j k asks f → terms_fail j v (forms_from k asks f).terms ≡ terms_fail j v f.terms
+others_untouched kind k [] f apt v fit j out = refl
+others_untouched kind k (a ∷ asks) f apt v fit j out =
+    let g : Formula = first k a f in
+    let put : Put (only k) v (aside f) g (meets a.demand v) = form_put kind a.demand (only k) (aside f) v apt.0 fit in
+    let up = put.up in
+    let on = forms_up kind (suc k) asks (aside g) apt.1 v fit in
+    let own : (j < suc k) ⊎ (suc k + length asks ≤ j) = elim out.0 [ inl o ↦ inl (omega (arith, o)) | inr o ↦ inr (omega (arith, o)) ] in
+    let rest : (j < g.next) ⊎ ((forms_from (suc k) asks (aside g)).next ≤ j) = elim out.1 [ inl o ↦ inl (omega (arith, o, up)) | inr o ↦ inr o ] in
+    let here : (j < f.next) ⊎ (g.next ≤ j) = elim out.1 [ inl o ↦ inl o | inr o ↦ inr (omega (arith, o, on)) ] in
+    let ne : k ≡ j → ⊥ = λ e. elim out.0 [ inl o ↦ absurd (omega (arith, o, e)) | inr o ↦ absurd (omega (arith, o, e)) ] in
+    others_untouched kind (suc k) asks (aside g) apt.1 v fit j (own, rest) ∙ put.others j (other_slot k j ne) here
+
+-- slots that these take: their own and free ones
+abbrev Taken : ℕ → ℕ → List Ask → Formula → Type 0
+Taken j k asks f = ((k ≤ j) × (j < k + length asks)) ⊎ ((f.next ≤ j) × (j < (forms_from k asks f).next))
 
 -- What the formulas raise is what the asks fail.
-formulas_tell : (kind : AbstractKind) (k n : ℕ) (asks : List Ask) → AreApt kind asks → k + length asks ≤ n → (v : AbstractValue) → IsTrue (fits_kind kind v)
-    → (failed : ℕ → Bool) → ((j : ℕ) → ((k ≤ j) × (j < k + length asks)) ⊎ ((n ≤ j) × (j < (forms_from k n asks).next)) → failed j ≡ terms_fail j v (forms_from k n asks).terms)
-    → (slot : ℕ) → raises_fail slot failed (forms_from k n asks).raises ≡ asks_fail slot v asks
-formulas_tell kind k n [] apt room v fit failed h slot = refl
-formulas_tell kind k n (a ∷ asks) apt room v fit failed h slot =
-    let f : Formula = form k n a.demand in
-    let below : k < n = omega (arith, room) in
-    let up = form_up k n a.demand in
-    let rest_room : suc k + length asks ≤ f.next = omega (arith, room, up) in
-    let put : PutOf k v n f (meets a.demand v) = form_put kind a.demand k n v apt.0 fit below in
-    let on = forms_up (suc k) f.next asks in
-    let rest : List Term = (forms_from (suc k) f.next asks).terms in
-    let own : failed k ≡ terms_fail k v f.terms =
-    h k (inl (omega arith, omega arith)) ∙ front_alone f.terms rest v k (others_untouched kind (suc k) f.next asks apt.1 rest_room v fit k (inl (omega arith))) in
-    let fresh : (j : ℕ) → n ≤ j → j < f.next → failed j ≡ terms_fail j v f.terms =
-    λ j from to. h j (inr (from, omega (arith, to, on)))
-    ∙ front_alone f.terms rest v j (others_untouched kind (suc k) f.next asks apt.1 rest_room v fit j (inr (inr (omega (arith, from, room), to)))) in
-    let here : fails_where (either (formulas.slot k) f.besides) failed ≡ not (meets a.demand v) =
-    ap (λ (b : Bool). b || fails_where f.besides failed) own ∙ put.tells failed fresh in
-    let later : (j : ℕ) → ((suc k ≤ j) × (j < suc k + length asks)) ⊎ ((f.next ≤ j) × (j < (forms_from (suc k) f.next asks).next)) → failed j ≡ terms_fail j v rest =
+formulas_tell : (kind : AbstractKind) (k : ℕ) (asks : List Ask) (f : Formula) → AreApt kind asks → k + length asks ≤ f.next → (v : AbstractValue) → IsTrue (fits_kind kind v)
+    → ((j : ℕ) → Taken j k asks f → terms_fail j v f.terms ≡ false)
+    → (failed : ℕ → Bool) → ((j : ℕ) → Taken j k asks f → failed j ≡ terms_fail j v (forms_from k asks f).terms)
+    → (slot : ℕ) → raises_fail slot failed (forms_from k asks f).raises ≡ asks_fail slot v asks
+formulas_tell kind k [] f apt room v fit unused failed h slot = refl
+formulas_tell kind k (a ∷ asks) f apt room v fit unused failed h slot =
+    let g : Formula = first k a f in
+    let put : Put (only k) v (aside f) g (meets a.demand v) = form_put kind a.demand (only k) (aside f) v apt.0 fit in
+    let up = put.up in
+    let on = forms_up kind (suc k) asks (aside g) apt.1 v fit in
+    let later : List Term = (forms_from (suc k) asks (aside g)).terms in
+    let here : (j : ℕ) → Outside j (suc k) asks (aside g) → terms_fail j v later ≡ terms_fail j v g.terms = λ j out. others_untouched kind (suc k) asks (aside g) apt.1 v fit j out in
+    let fresh : (j : ℕ) → f.next ≤ j → j < g.next → failed j ≡ terms_fail j v g.terms =
+    λ j from to. h j (inr (from, omega (arith, to, on))) ∙ here j (inr (omega (arith, from, room)), inl to) in
+    let own : failed k ≡ terms_fail k v g.terms = h k (inl (omega arith, omega arith)) ∙ here k (inl (omega arith), inl (omega (arith, room, up))) in
+    let free : (j : ℕ) → f.next ≤ j → j < g.next → (terms_fail j v f.terms ≡ false) × (has (only k) j ≡ false) =
+    λ j from to. (unused j (inr (from, omega (arith, to, on))), other_slot k j (λ e. absurd (omega (arith, e, from, room)))) in
+    let whole : (failed k || fails_where (eithers g.besides never) failed) ≡ not (meets a.demand v) =
+    ap (λ (b : Bool). b || fails_where (eithers g.besides never) failed) own
+    ∙ put.tells free failed fresh k (own_slot k)
+    ∙ ap (λ (b : Bool). b || not (meets a.demand v)) (unused k (inl (omega arith, omega arith))) in
+    let unused_on : (j : ℕ) → Taken j (suc k) asks (aside g) → terms_fail j v g.terms ≡ false =
     λ j place. elim place [
       | inl o ↦
           let from : suc k ≤ j = o.0 in
           let to : j < suc k + length asks = o.1 in
-          h j (inl (omega (arith, from), omega (arith, to))) ∙ back_alone f.terms rest v j (put.others j (λ e. absurd (omega (arith, from, e))) (inl (omega (arith, to, room))))
+          put.others j (other_slot k j (λ e. absurd (omega (arith, e, from)))) (inl (omega (arith, to, room))) ∙ unused j (inl (omega (arith, from), omega (arith, to)))
       | inr o ↦
-          let from : f.next ≤ j = o.0 in
-          let to : j < (forms_from (suc k) f.next asks).next = o.1 in
-          h j (inr (omega (arith, from, up), to)) ∙ back_alone f.terms rest v j (put.others j (λ e. absurd (omega (arith, from, up, below, e))) (inr from))
+          let from : g.next ≤ j = o.0 in
+          put.others j (other_slot k j (λ e. absurd (omega (arith, e, from, up, room)))) (inr from) ∙ unused j (inr (omega (arith, from, up), o.1))
     ] in
-    ap (λ (b : Bool). (has a.slots slot && b) || raises_fail slot failed (forms_from (suc k) f.next asks).raises) here
-    ∙ ap (λ (b : Bool). ask_fails slot v a || b) (formulas_tell kind (suc k) f.next asks apt.1 rest_room v fit failed later slot)
+    let more : (j : ℕ) → Taken j (suc k) asks (aside g) → failed j ≡ terms_fail j v later =
+    λ j place. elim place [
+      | inl o ↦ h j (inl (omega (arith, o.0), omega (arith, o.1)))
+      | inr o ↦ h j (inr (omega (arith, o.0, up), o.1))
+    ] in
+    ap (λ (b : Bool). (has a.slots slot && b) || raises_fail slot failed (forms_from (suc k) asks (aside g)).raises) whole
+    ∙ ap (λ (b : Bool). ask_fails slot v a || b) (formulas_tell kind (suc k) asks (aside g) apt.1 (omega (arith, room, up)) v fit unused_on failed more slot)
 
 has_raised : (rs : List Raise) (inner m : Slots) (slot : ℕ) → has (raised rs inner m) slot ≡ (has m slot || raises_fail slot (has inner) rs)
 has_raised [] inner m slot = sym (or_no (has m slot))
@@ -127,15 +137,32 @@ has_raised (r ∷ rs) inner m slot =
 abbrev pub Tests : AbstractKind → Body → List Term → AbstractValue → Type 0
 Tests kind b ts v = (m : Slots) (slot : ℕ) → has (marked kind b v m) slot ≡ (has m slot || terms_fail slot v ts)
 
-node_of : (plain : Bool) (kind : AbstractKind) (asks : List Ask) → are_plain_asks asks ≡ plain → AreApt kind asks → (b : Body) (v : AbstractValue) → IsTrue (fits_kind kind v)
-    → Tests kind b (cond plain (terms_of asks) (forms_of asks).terms) v → (m : Slots) (slot : ℕ) → has (marked kind (cond plain b (formula (forms_of asks).raises b)) v m) slot ≡ (has m slot || asks_fail slot v asks)
+-- where there are asks there is something raised
+raises_alone : (asks : List Ask) (f : Formula) (k : ℕ) (w : Form) (ws : List Form) → (conjoined asks f).besides ≡ w ∷ ws → f.besides ≡ [] → (g : Formula) (kind : AbstractKind) (b : Body) (v : AbstractValue) (m : Slots)
+    → marked kind (raised_of (forms_from k asks g).raises b) v m ≡ raised (forms_from k asks g).raises (marked kind b v none) m
 unfolding marked
-node_of true kind asks e apt b v fit h m slot = h m slot ∙ ap (λ (x : Bool). has m slot || x) (plain_asks_fail kind asks apt e v fit slot)
-node_of false kind asks e apt b v fit h m slot =
-    has_raised (forms_of asks).raises (marked kind b v none) m slot
+raises_alone [] f k w ws e none g kind b v m = let no = sym e ∙ none in absurd cc
+raises_alone (a ∷ asks) f k w ws e none g kind b v m = refl
+
+abbrev begun : List Ask → Formula
+begun asks = nothing_yet (length asks)
+
+node_of : (ws : List Form) (kind : AbstractKind) (asks : List Ask) → (conjoined asks (begun asks)).besides ≡ ws → AreApt kind asks → (b : Body) (v : AbstractValue) → IsTrue (fits_kind kind v)
+    → (fs : Formulas) → fs ≡ if_conjoined ws (formulas (conjoined asks (begun asks)).terms [] (conjoined asks (begun asks)).next) (forms_from 0 asks (begun asks))
+    → Tests kind b fs.terms v → (m : Slots) (slot : ℕ) → has (marked kind (raised_of fs.raises b) v m) slot ≡ (has m slot || asks_fail slot v asks)
+node_of [] kind asks e apt b v fit fs is h m slot =
+    ap (λ (gs : Formulas). has (marked kind (raised_of gs.raises b) v m) slot) is
+    ∙ h m slot
+    ∙ ap (λ (x : Bool). has m slot || x) (ap (λ (gs : Formulas). terms_fail slot v gs.terms) is ∙ conjoined_fail kind asks (begun asks) apt e v fit slot)
+node_of (w ∷ ws) kind asks e apt b v fit fs is h m slot =
+    let gs : Formulas = forms_from 0 asks (begun asks) in
+    ap (λ (gs : Formulas). has (marked kind (raised_of gs.raises b) v m) slot) is
+    ∙ ap (λ (x : Slots). has x slot) (raises_alone asks (begun asks) 0 w ws e refl (begun asks) kind b v m)
+    ∙ has_raised gs.raises (marked kind b v none) m slot
     ∙ ap (λ (x : Bool). has m slot || x)
-    (formulas_tell kind 0 (length asks) asks apt (omega arith) v fit (has (marked kind b v none)) (λ j place. h none j ∙ ap (λ (x : Bool). x || terms_fail j v (forms_of asks).terms) (none_law j)) slot)
+    (formulas_tell kind 0 asks (begun asks) apt (omega arith) v fit (λ j place. refl) (has (marked kind b v none))
+    (λ j place. h none j ∙ ap (λ (x : Bool). x || terms_fail j v fs.terms) (none_law j) ∙ ap (λ (gs : Formulas). terms_fail j v gs.terms) is) slot)
 
 pub node_laid : (kind : AbstractKind) (asks : List Ask) → AreApt kind asks → (b : Body) (v : AbstractValue) → IsTrue (fits_kind kind v)
-    → Tests kind b (terms_at asks) v → (m : Slots) (slot : ℕ) → has (marked kind (formulas_over asks b) v m) slot ≡ (has m slot || asks_fail slot v asks)
-node_laid kind asks apt b v fit h m slot = node_of (are_plain_asks asks) kind asks refl apt b v fit h m slot
+    → Tests kind b (terms_at asks) v → (m : Slots) (slot : ℕ) → has (marked kind (raised_of (forms_of asks).raises b) v m) slot ≡ (has m slot || asks_fail slot v asks)
+node_laid kind asks apt b v fit h m slot = node_of (conjoined asks (begun asks)).besides kind asks refl apt b v fit (forms_of asks) refl h m slot

@@ -10,7 +10,7 @@ use Rattle.guard_tables.specs.declared.slots.Slots.{Slots}
 use Rattle.guard_tables.specs.declared.asks.Term as code
 use Rattle.guard_tables.specs.Demands.{Ask, Atom, scalar, equals, sized, spelled, each, within, sent, unsent, Term}
 use Rattle.guard_tables.specs.Handed.{within_in, within_of}
-use Rattle.guard_tables.specs.Lay.{absent_in, absent_of, present_in, present_of, chosen_in, chosen_of, added_if}
+use Rattle.guard_tables.specs.Lay.{added_if, slots_where, is_sent, absent_of, is_unsent, present_of, is_unchosen, chosen_of}
 use Rattle.guard_tables.specs.inside.AskViews.{term_view, terms_view}
 use Rattle.guard_tables.specs.inside.Giving.{given_view, given, given_below, give, give_out}
 
@@ -169,53 +169,50 @@ no_sent : (a b : Bool) → (a || b) ≡ false → b ≡ false
 no_sent true b e = absurd cc
 no_sent false b e = e
 
-silent_absent : (exclusive : Bool) (i : ℕ) (k : Slots) (a : Atom) (m : Slots) → speaks_of exclusive i a ≡ false → m ≡ absent_in i k a m
-silent_absent exclusive i k (sent j) m e = sym (ap (λ (b : Bool). added_if b k m) (no_sent exclusive (eqb j i) e))
-silent_absent exclusive i k (within j d) m e = refl
-silent_absent exclusive i k (unsent j) m e = refl
-silent_absent exclusive i k (each d) m e = refl
-silent_absent exclusive i k (scalar own c) m e = refl
-silent_absent exclusive i k (equals w) m e = refl
-silent_absent exclusive i k (sized c) m e = refl
-silent_absent exclusive i k (spelled ranges) m e = refl
+own_slots : (test : Atom → Bool) (exclusive : Bool) (i : ℕ) → ((a : Atom) → speaks_of exclusive i a ≡ false → test a ≡ false) → (ts : List Term) → slots_where test (own_terms exclusive i ts) ≡ slots_where test ts
+own_slots test exclusive i silent [] = refl
+own_slots test exclusive i silent (t ∷ ts) =
+    by_own (slots_where test) (speaks_of exclusive i t.atom) t (own_terms exclusive i ts) (λ e. sym (ap (λ (b : Bool). added_if b t.slots (slots_where test (own_terms exclusive i ts))) (silent t.atom e)))
+    ∙ ap (λ (m : Slots). added_if (test t.atom) t.slots m) (own_slots test exclusive i silent ts)
+
+silent_sent : (exclusive : Bool) (i : ℕ) (a : Atom) → speaks_of exclusive i a ≡ false → is_sent i a ≡ false
+silent_sent exclusive i (sent j) e = no_sent exclusive (eqb j i) e
+silent_sent exclusive i (unsent j) e = refl
+silent_sent exclusive i (within j d) e = refl
+silent_sent exclusive i (each d) e = refl
+silent_sent exclusive i (scalar own c) e = refl
+silent_sent exclusive i (equals w) e = refl
+silent_sent exclusive i (sized c) e = refl
+silent_sent exclusive i (spelled ranges) e = refl
+
+silent_unsent : (exclusive : Bool) (i : ℕ) (a : Atom) → speaks_of exclusive i a ≡ false → is_unsent i a ≡ false
+silent_unsent exclusive i (unsent j) e = e
+silent_unsent exclusive i (sent j) e = refl
+silent_unsent exclusive i (within j d) e = refl
+silent_unsent exclusive i (each d) e = refl
+silent_unsent exclusive i (scalar own c) e = refl
+silent_unsent exclusive i (equals w) e = refl
+silent_unsent exclusive i (sized c) e = refl
+silent_unsent exclusive i (spelled ranges) e = refl
+
+silent_chosen : (i : ℕ) (a : Atom) → speaks_of true i a ≡ false → is_unchosen i a ≡ false
+silent_chosen i (unsent j) e = e
+silent_chosen i (sent j) e = absurd cc
+silent_chosen i (within j d) e = refl
+silent_chosen i (each d) e = refl
+silent_chosen i (scalar own c) e = refl
+silent_chosen i (equals w) e = refl
+silent_chosen i (sized c) e = refl
+silent_chosen i (spelled ranges) e = refl
 
 pub own_absent : (exclusive : Bool) (i : ℕ) (ts : List Term) → absent_of i (own_terms exclusive i ts) ≡ absent_of i ts
-own_absent exclusive i [] = refl
-own_absent exclusive i (t ∷ ts) =
-    by_own (absent_of i) (speaks_of exclusive i t.atom) t (own_terms exclusive i ts) (λ e. silent_absent exclusive i t.slots t.atom (absent_of i (own_terms exclusive i ts)) e)
-    ∙ ap (λ (m : Slots). absent_in i t.slots t.atom m) (own_absent exclusive i ts)
-
-silent_present : (exclusive : Bool) (i : ℕ) (k : Slots) (a : Atom) (m : Slots) → speaks_of exclusive i a ≡ false → m ≡ present_in i k a m
-silent_present exclusive i k (unsent j) m e = sym (ap (λ (b : Bool). added_if b k m) e)
-silent_present exclusive i k (sent j) m e = refl
-silent_present exclusive i k (within j d) m e = refl
-silent_present exclusive i k (each d) m e = refl
-silent_present exclusive i k (scalar own c) m e = refl
-silent_present exclusive i k (equals w) m e = refl
-silent_present exclusive i k (sized c) m e = refl
-silent_present exclusive i k (spelled ranges) m e = refl
+own_absent exclusive i ts = own_slots (is_sent i) exclusive i (silent_sent exclusive i) ts
 
 pub own_present : (exclusive : Bool) (i : ℕ) (ts : List Term) → present_of i (own_terms exclusive i ts) ≡ present_of i ts
-own_present exclusive i [] = refl
-own_present exclusive i (t ∷ ts) =
-    by_own (present_of i) (speaks_of exclusive i t.atom) t (own_terms exclusive i ts) (λ e. silent_present exclusive i t.slots t.atom (present_of i (own_terms exclusive i ts)) e)
-    ∙ ap (λ (m : Slots). present_in i t.slots t.atom m) (own_present exclusive i ts)
-
-silent_chosen : (i : ℕ) (k : Slots) (a : Atom) (m : Slots) → speaks_of true i a ≡ false → m ≡ chosen_in i k a m
-silent_chosen i k (unsent j) m e = sym (ap (λ (b : Bool). added_if b k m) e)
-silent_chosen i k (sent j) m e = absurd cc
-silent_chosen i k (within j d) m e = refl
-silent_chosen i k (each d) m e = refl
-silent_chosen i k (scalar own c) m e = refl
-silent_chosen i k (equals w) m e = refl
-silent_chosen i k (sized c) m e = refl
-silent_chosen i k (spelled ranges) m e = refl
+own_present exclusive i ts = own_slots (is_unsent i) exclusive i (silent_unsent exclusive i) ts
 
 pub own_chosen : (i : ℕ) (ts : List Term) → chosen_of i (own_terms true i ts) ≡ chosen_of i ts
-own_chosen i [] = refl
-own_chosen i (t ∷ ts) =
-    by_own (chosen_of i) (speaks_of true i t.atom) t (own_terms true i ts) (λ e. silent_chosen i t.slots t.atom (chosen_of i (own_terms true i ts)) e)
-    ∙ ap (λ (m : Slots). chosen_in i t.slots t.atom m) (own_chosen i ts)
+own_chosen i ts = own_slots (is_unchosen i) true i (silent_chosen i) ts
 
 -- ---- in the lists of the code
 

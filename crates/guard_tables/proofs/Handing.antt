@@ -9,23 +9,19 @@ use Rattle.guard_model.specs.AbstractType.{AbstractType, AbstractKind, Component
 use Rattle.guard_model.specs.Components.{components_in, component_at}
 use Rattle.guard_model.specs.TypeView.{OneComponent}
 use Rattle.guard_der.specs.Fits.{may_be_absent}
-use Rattle.guard_eval.specs.Presence.{is_ruled_out, kind_at}
+use Rattle.guard_eval.specs.Presence.{is_ruled_out, kind_at, element_kind}
 use Rattle.guard_tables.specs.Conditions.{of_type, of_kind, of_component, of_constraints, of_constraint, of_element, of_parts}
 use Rattle.guard_tables.specs.declared.slots.Slots.{Slots}
 use Rattle.guard_tables.specs.Slots.{only}
 use Rattle.guard_tables.specs.Demands.{Demand, by_type, by_constraint, Ask, Atom, scalar, equals, sized, spelled, each, within, sent, unsent, Term}
-use Rattle.guard_tables.specs.Spread.{term, is_scalar, placed, ruled_out, unlisted, parts_from, spread_kind, spread_type, spread_one, spread_element, spread_all, spread_parts, spread, terms_of, are_plain_asks}
-use Rattle.guard_tables.specs.Formulas.{never}
-use Rattle.guard_tables.specs.Forms.{Formula, formula, form_one, form_element, form_all, form_some, form_type, form, forms_from, forms_of}
+use Rattle.guard_tables.specs.Terms.{term, is_scalar, placed, ruled_out, unlisted, parts_from, kind_terms, listed_terms}
+use Rattle.guard_tables.specs.Forms.{Formula, and_terms, aside, taking, form_one, form_element, form_all, form_each, form_own, form_type, form, conjoined, forms_from, nothing_yet}
+use Rattle.guard_tables.proofs.Speaking.{either_forms}
 use Rattle.guard_tables.specs.Handed.{each_in, each_of, within_in, within_of, ask, terms_at, of_demand, of_asks, of_atom, of_terms}
 
 two : (xs ys : List Term) (p : ℕ) (w : List ℕ) → of_terms (xs ++ ys) p w ≡ of_terms xs p w + of_terms ys p w
 two [] ys p w = omega arith
 two (x ∷ xs) ys p w = let e = two xs ys p w in omega (arith, e)
-
-either_hands : (b : Bool) (xs ys : List Term) (p : ℕ) (w : List ℕ) (most : ℕ) → of_terms xs p w ≤ most → of_terms ys p w ≤ most → of_terms (cond b xs ys) p w ≤ most
-either_hands true xs ys p w most g h = g
-either_hands false xs ys p w most g h = h
 
 either_form_hands : (b : Bool) (x y : Formula) (p : ℕ) (w : List ℕ) (most : ℕ) → of_terms x.terms p w ≤ most → of_terms y.terms p w ≤ most → of_terms (cond b x y).terms p w ≤ most
 either_form_hands true x y p w most g h = g
@@ -58,9 +54,9 @@ unlisted_hands false kind ps k p w = ruled_hands kind ps 0 k (components_in kind
 
 -- ---- what a type asks of its parts
 
-apart : (b : Bool) (x y : ℕ) → b ≡ false → cond b x y ≡ y
-apart true x y e = absurd cc
-apart false x y e = refl
+beside : (b : Bool) (x y : ℕ) → b ≡ false → cond b x y ≡ y
+beside true x y e = absurd cc
+beside false x y e = refl
 
 at_most : (b : Bool) (x : ℕ) → cond b x 0 ≤ x
 at_most true x = omega arith
@@ -69,7 +65,7 @@ at_most false x = omega arith
 below : (n p : ℕ) (k : Slots) (cs : Components) (w : List ℕ) → p < n → of_terms (parts_from n k cs) p w ≡ 0
 below n p k no_components w lt = refl
 below n p k (component name t presence cs) w lt =
-    let a = apart (eqb n p) (of_type t w) 0 (ne_eqb n p (λ e. absurd (omega (arith, lt, e)))) in
+    let a = beside (eqb n p) (of_type t w) 0 (ne_eqb n p (λ e. absurd (omega (arith, lt, e)))) in
     let b = below (suc n) p k cs w (omega (arith, lt)) in
     omega (arith, a, b)
 
@@ -80,11 +76,11 @@ parts_hand (component name t presence cs) n zero p k w e =
     let b = below (suc n) p k cs w (omega (arith, e)) in
     omega (arith, a, b)
 parts_hand (component name t presence cs) n (suc i) p k w e =
-    let a = apart (eqb n p) (of_type t w) 0 (ne_eqb n p (λ same. absurd (omega (arith, e, same)))) in
+    let a = beside (eqb n p) (of_type t w) 0 (ne_eqb n p (λ same. absurd (omega (arith, e, same)))) in
     let b = parts_hand cs (suc n) i p k w (omega (arith, e)) in
     omega (arith, a, b)
 
-kind_hands : (kind : AbstractKind) (k : Slots) (p : ℕ) (w : List ℕ) → of_terms (spread_kind k kind) p w ≤ of_kind kind (p ∷ w)
+kind_hands : (kind : AbstractKind) (k : Slots) (p : ℕ) (w : List ℕ) → of_terms (kind_terms k kind) p w ≤ of_kind kind (p ∷ w)
 kind_hands (type.sequence cs) k p w = parts_hand cs 0 p p k w (omega arith)
 kind_hands (type.set cs) k p w = parts_hand cs 0 p p k w (omega arith)
 kind_hands (type.choice cs) k p w = parts_hand cs 0 p p k w (omega arith)
@@ -92,141 +88,97 @@ kind_hands (type.sequence_of t) k p w = omega arith
 kind_hands (type.set_of t) k p w = omega arith
 kind_hands _ k p w = omega arith
 
--- ---- conjunctions
+-- ---- all demands
 
-parts_of_list_hand : (k : Slots) (kind : AbstractKind) (partial : Bool) (ps : Parts) (p : ℕ) (w : List ℕ) → of_terms (spread_parts k kind partial ps) p w ≤ of_parts ps p w
+parts_of_list_hand : (k : Slots) (kind : AbstractKind) (partial : Bool) (ps : Parts) (p : ℕ) (w : List ℕ) → of_terms (listed_terms k kind partial ps) p w ≤ of_parts ps p w
 parts_of_list_hand k kind partial type.no_parts p w = omega arith
 parts_of_list_hand k kind partial (type.part site i word ps) p w =
-    let e = two (placed partial (component_at i (components_in kind)) word i k) (spread_parts k kind partial ps) p w in
+    let e = two (placed partial (component_at i (components_in kind)) word i k) (listed_terms k kind partial ps) p w in
     let a = placed_hands partial (component_at i (components_in kind)) word i k p w in
     let b = parts_of_list_hand k kind partial ps p w in
     omega (arith, e, a, b)
 parts_of_list_hand k kind partial (type.part_within site i c word ps) p w =
     let d : Demand = by_constraint (kind_at i kind) c in
-    let e = two (placed partial (component_at i (components_in kind)) word i k) (term k (within i d) ∷ spread_parts k kind partial ps) p w in
+    let e = two (placed partial (component_at i (components_in kind)) word i k) (term k (within i d) ∷ listed_terms k kind partial ps) p w in
     let a = placed_hands partial (component_at i (components_in kind)) word i k p w in
     let b = parts_of_list_hand k kind partial ps p w in
     omega (arith, e, a, b)
 
 mutual
-  type_hands : (k : Slots) (t : AbstractType) (p : ℕ) (w : List ℕ) → of_terms (spread_type k t) p w ≤ of_type t (p ∷ w)
-  type_hands k (type_of tags kind cons) p w =
-      let e = two (spread_all k kind cons) (spread_kind k kind) p w in
-      let a = all_hands k kind cons p w in
+  type_hands : (k : Slots) (t : AbstractType) (f : Formula) (p : ℕ) (w : List ℕ) → of_terms (form_type k t f).terms p w ≤ of_terms f.terms p w + of_type t (p ∷ w)
+  type_hands k (type_of tags kind cons) f p w =
+      let e = two (form_all k kind cons f).terms (kind_terms k kind) p w in
+      let a = all_hands k kind cons f p w in
       let b = kind_hands kind k p w in
       omega (arith, e, a, b)
 
-  one_hands : (k : Slots) (kind : AbstractKind) (c : Constraint) (p : ℕ) (w : List ℕ) → of_terms (spread_one k kind c) p w ≤ of_constraint c (p ∷ w)
-  one_hands k kind (at site e) p w =
-      let a = either_hands (is_scalar kind) (term k (scalar kind (at site e)) ∷ []) (spread_element k kind e) p w (of_element e (p ∷ w)) (omega arith) (element_hands k kind e p w) in
+  one_hands : (k : Slots) (kind : AbstractKind) (c : Constraint) (f : Formula) (p : ℕ) (w : List ℕ) → of_terms (form_one k kind c f).terms p w ≤ of_terms f.terms p w + of_constraint c (p ∷ w)
+  one_hands k kind (at site e) f p w =
+      let own = two f.terms (term k (scalar kind (at site e)) ∷ []) p w in
+      let a = either_form_hands (is_scalar kind) (and_terms f (term k (scalar kind (at site e)) ∷ [])) (form_element k kind e f) p w (of_terms f.terms p w + of_element e (p ∷ w)) (omega (arith, own)) (element_hands k kind e f p w) in
       omega (arith, a)
 
-  element_hands : (k : Slots) (kind : AbstractKind) (e : Element) (p : ℕ) (w : List ℕ) → of_terms (spread_element k kind e) p w ≤ of_element e (p ∷ w)
-  element_hands k kind (type.single_value v) p w = omega arith
-  element_hands k kind (type.contained_subtype t) p w = type_hands k t p w
-  element_hands k kind (type.range low high) p w = omega arith
-  element_hands k kind (type.size c) p w = omega arith
-  element_hands k kind (type.permitted_alphabet ranges) p w = omega arith
-  element_hands k kind (type.with_component c) p w = omega arith
-  element_hands k kind (type.with_components partial ps) p w =
-      let e = two (spread_parts k kind partial ps) (unlisted partial kind ps k) p w in
+  element_hands : (k : Slots) (kind : AbstractKind) (e : Element) (f : Formula) (p : ℕ) (w : List ℕ) → of_terms (form_element k kind e f).terms p w ≤ of_terms f.terms p w + of_element e (p ∷ w)
+  element_hands k kind (type.single_value v) f p w = let e = two f.terms (term k (equals v) ∷ []) p w in omega (arith, e)
+  element_hands k kind (type.contained_subtype t) f p w = type_hands k t f p w
+  element_hands k kind (type.range low high) f p w = omega arith
+  element_hands k kind (type.size c) f p w = let e = two f.terms (term k (sized c) ∷ []) p w in omega (arith, e)
+  element_hands k kind (type.permitted_alphabet ranges) f p w = let e = two f.terms (term k (spelled ranges) ∷ []) p w in omega (arith, e)
+  element_hands k kind (type.with_component c) f p w = let e = two f.terms (term k (each (by_constraint (element_kind kind) c)) ∷ []) p w in omega (arith, e)
+  element_hands k kind (type.with_components partial ps) f p w =
+      let whole = two f.terms (listed_terms k kind partial ps ++ unlisted partial kind ps k) p w in
+      let e = two (listed_terms k kind partial ps) (unlisted partial kind ps k) p w in
       let a = parts_of_list_hand k kind partial ps p w in
       let b = unlisted_hands partial kind ps k p w in
-      omega (arith, e, a, b)
-  element_hands k kind (type.union cs) p w = omega arith
-  element_hands k kind (type.intersection cs) p w = all_hands k kind cs p w
-  element_hands k kind (type.except c d) p w = omega arith
-  element_hands k kind (type.all_except c) p w = omega arith
+      omega (arith, whole, e, a, b)
+  element_hands k kind (type.union cs) f p w = each_hand kind cs (aside f) p w
+  element_hands k kind (type.intersection cs) f p w = all_hands k kind cs f p w
+  element_hands k kind (type.except c d) f p w =
+      let a = one_hands k kind c f p w in
+      let b = one_hands (only (form_one k kind c f).next) kind d (taking (form_one k kind c f)) p w in
+      omega (arith, a, b)
+  element_hands k kind (type.all_except c) f p w = one_hands (only f.next) kind c (taking f) p w
 
-  all_hands : (k : Slots) (kind : AbstractKind) (cs : Constraints) (p : ℕ) (w : List ℕ) → of_terms (spread_all k kind cs) p w ≤ of_constraints cs (p ∷ w)
-  all_hands k kind no_constraints p w = omega arith
-  all_hands k kind (constraint c cs) p w =
-      let e = two (spread_one k kind c) (spread_all k kind cs) p w in
-      let a = one_hands k kind c p w in
-      let b = all_hands k kind cs p w in
-      omega (arith, e, a, b)
+  all_hands : (k : Slots) (kind : AbstractKind) (cs : Constraints) (f : Formula) (p : ℕ) (w : List ℕ) → of_terms (form_all k kind cs f).terms p w ≤ of_terms f.terms p w + of_constraints cs (p ∷ w)
+  all_hands k kind no_constraints f p w = omega arith
+  all_hands k kind (constraint c cs) f p w =
+      let a = one_hands k kind c f p w in
+      let b = all_hands k kind cs (form_one k kind c f) p w in
+      omega (arith, a, b)
 
-pub spread_hands : (k : Slots) (d : Demand) (p : ℕ) (w : List ℕ) → of_terms (spread k d) p w ≤ of_demand d (p ∷ w)
-spread_hands k (by_type t) p w = type_hands k t p w
-spread_hands k (by_constraint kind c) p w = one_hands k kind c p w
+  each_hand : (kind : AbstractKind) (cs : Constraints) (f : Formula) (p : ℕ) (w : List ℕ) → of_terms (form_each kind cs f).terms p w ≤ of_terms f.terms p w + of_constraints cs (p ∷ w)
+  each_hand kind no_constraints f p w = omega arith
+  each_hand kind (constraint c cs) f p w =
+      let a = one_hands (only f.next) kind c (taking f) p w in
+      let b = each_hand kind cs (form_own false kind c f) p w in
+      omega (arith, a, b)
 
--- ---- formulas
-
-mutual
-  form_hands : (k n : ℕ) (kind : AbstractKind) (c : Constraint) (p : ℕ) (w : List ℕ) → of_terms (form_one k n kind c).terms p w ≤ of_constraint c (p ∷ w)
-  form_hands k n kind (at site e) p w =
-      let a = either_form_hands (is_scalar kind) (formula (term (only k) (scalar kind (at site e)) ∷ []) never n) (form_element k n kind e) p w (of_element e (p ∷ w)) (omega arith) (form_element_hands k n kind e p w) in
-      omega (arith, a)
-
-  form_element_hands : (k n : ℕ) (kind : AbstractKind) (e : Element) (p : ℕ) (w : List ℕ) → of_terms (form_element k n kind e).terms p w ≤ of_element e (p ∷ w)
-  form_element_hands k n kind (type.single_value v) p w = element_hands (only k) kind (type.single_value v) p w
-  form_element_hands k n kind (type.contained_subtype t) p w = form_type_hands k n t p w
-  form_element_hands k n kind (type.range low high) p w = element_hands (only k) kind (type.range low high) p w
-  form_element_hands k n kind (type.size c) p w = element_hands (only k) kind (type.size c) p w
-  form_element_hands k n kind (type.permitted_alphabet rs) p w = element_hands (only k) kind (type.permitted_alphabet rs) p w
-  form_element_hands k n kind (type.with_component c) p w = element_hands (only k) kind (type.with_component c) p w
-  form_element_hands k n kind (type.with_components partial ps) p w = element_hands (only k) kind (type.with_components partial ps) p w
-  form_element_hands k n kind (type.union cs) p w = form_some_hands n kind cs p w
-  form_element_hands k n kind (type.intersection cs) p w = form_all_hands k n kind cs p w
-  form_element_hands k n kind (type.except c d) p w =
-      let m : ℕ = (form_one k n kind c).next in
-      let e = two (form_one k n kind c).terms (form_one m (suc m) kind d).terms p w in
-      let a = form_hands k n kind c p w in
-      let b = form_hands m (suc m) kind d p w in
-      omega (arith, e, a, b)
-  form_element_hands k n kind (type.all_except c) p w = form_hands n (suc n) kind c p w
-
-  form_all_hands : (k n : ℕ) (kind : AbstractKind) (cs : Constraints) (p : ℕ) (w : List ℕ) → of_terms (form_all k n kind cs).terms p w ≤ of_constraints cs (p ∷ w)
-  form_all_hands k n kind no_constraints p w = omega arith
-  form_all_hands k n kind (constraint c cs) p w =
-      let m : ℕ = (form_one k n kind c).next in
-      let e = two (form_one k n kind c).terms (form_all k m kind cs).terms p w in
-      let a = form_hands k n kind c p w in
-      let b = form_all_hands k m kind cs p w in
-      omega (arith, e, a, b)
-
-  form_some_hands : (n : ℕ) (kind : AbstractKind) (cs : Constraints) (p : ℕ) (w : List ℕ) → of_terms (form_some n kind cs).terms p w ≤ of_constraints cs (p ∷ w)
-  form_some_hands n kind no_constraints p w = omega arith
-  form_some_hands n kind (constraint c cs) p w =
-      let m : ℕ = (form_one n (suc n) kind c).next in
-      let e = two (form_one n (suc n) kind c).terms (form_some m kind cs).terms p w in
-      let a = form_hands n (suc n) kind c p w in
-      let b = form_some_hands m kind cs p w in
-      omega (arith, e, a, b)
-
-  form_type_hands : (k n : ℕ) (t : AbstractType) (p : ℕ) (w : List ℕ) → of_terms (form_type k n t).terms p w ≤ of_type t (p ∷ w)
-  form_type_hands k n (type_of tags kind cons) p w =
-      let e = two (form_all k n kind cons).terms (spread_kind (only k) kind) p w in
-      let a = form_all_hands k n kind cons p w in
-      let b = kind_hands kind (only k) p w in
-      omega (arith, e, a, b)
-
-pub form_hand_law : (k n : ℕ) (d : Demand) (p : ℕ) (w : List ℕ) → of_terms (form k n d).terms p w ≤ of_demand d (p ∷ w)
-form_hand_law k n (by_type t) p w = form_type_hands k n t p w
-form_hand_law k n (by_constraint kind c) p w = form_hands k n kind c p w
+form_hands : (k : Slots) (d : Demand) (f : Formula) (p : ℕ) (w : List ℕ) → of_terms (form k d f).terms p w ≤ of_terms f.terms p w + of_demand d (p ∷ w)
+form_hands k (by_type t) f p w = type_hands k t f p w
+form_hands k (by_constraint kind c) f p w = one_hands k kind c f p w
 
 -- ---- all asks of a node
 
-spread_asks_hand : (asks : List Ask) (p : ℕ) (w : List ℕ) → of_terms (terms_of asks) p w ≤ of_asks asks (p ∷ w)
-spread_asks_hand [] p w = omega arith
-spread_asks_hand (a ∷ asks) p w =
-    let e = two (spread a.slots a.demand) (terms_of asks) p w in
-    let x = spread_hands a.slots a.demand p w in
-    let y = spread_asks_hand asks p w in
-    omega (arith, e, x, y)
+conjoined_hand : (asks : List Ask) (f : Formula) (p : ℕ) (w : List ℕ) → of_terms (conjoined asks f).terms p w ≤ of_terms f.terms p w + of_asks asks (p ∷ w)
+conjoined_hand [] f p w = omega arith
+conjoined_hand (a ∷ asks) f p w =
+    let x = form_hands a.slots a.demand f p w in
+    let y = conjoined_hand asks (form a.slots a.demand f) p w in
+    omega (arith, x, y)
 
-form_asks_hand : (k n : ℕ) (asks : List Ask) (p : ℕ) (w : List ℕ) → of_terms (forms_from k n asks).terms p w ≤ of_asks asks (p ∷ w)
-form_asks_hand k n [] p w = omega arith
-form_asks_hand k n (a ∷ asks) p w =
-    let m : ℕ = (form k n a.demand).next in
-    let e = two (form k n a.demand).terms (forms_from (suc k) m asks).terms p w in
-    let x = form_hand_law k n a.demand p w in
-    let y = form_asks_hand (suc k) m asks p w in
-    omega (arith, e, x, y)
+forms_hand : (k : ℕ) (asks : List Ask) (f : Formula) (p : ℕ) (w : List ℕ) → of_terms (forms_from k asks f).terms p w ≤ of_terms f.terms p w + of_asks asks (p ∷ w)
+forms_hand k [] f p w = omega arith
+forms_hand k (a ∷ asks) f p w =
+    let x = form_hands (only k) a.demand (aside f) p w in
+    let y = forms_hand (suc k) asks (aside (form (only k) a.demand (aside f))) p w in
+    omega (arith, x, y)
 
 terms_hand : (asks : List Ask) (p : ℕ) (w : List ℕ) → of_terms (terms_at asks) p w ≤ of_asks asks (p ∷ w)
 terms_hand asks p w =
-    either_hands (are_plain_asks asks) (terms_of asks) (forms_of asks).terms p w (of_asks asks (p ∷ w)) (spread_asks_hand asks p w) (form_asks_hand 0 (length asks) asks p w)
+    let n : ℕ = length asks in
+    let a = conjoined_hand asks (nothing_yet n) p w in
+    let b = forms_hand 0 asks (nothing_yet n) p w in
+    either_forms (λ ts. of_terms ts p w ≤ of_asks asks (p ∷ w)) (conjoined asks (nothing_yet n)).besides _ (forms_from 0 asks (nothing_yet n)) (omega (arith, a)) (omega (arith, b))
 
 each_step : (k : Slots) (a : Atom) (asks : List Ask) (p : ℕ) (w : List ℕ) (rest : ℕ) → of_asks asks w ≤ rest → of_asks (each_in k a ++ asks) w ≤ of_atom a p w + rest
 each_step k (each d) asks p w rest h = omega (arith, h)

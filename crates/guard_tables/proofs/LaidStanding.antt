@@ -1,5 +1,5 @@
 -- The plan that is laid for a sound type stands for the type: it has its tags, parts and defaults.
-use Rattle.std.proofs.Common.{◌≡◌, ℕ, suc, Bool, true, false, cond, List, [], ◌∷◌, Option, Some, None, refl, sym, ap, ◌∙◌, subst, IsTrue}
+use Rattle.std.proofs.Common.{◌≡◌, ℕ, suc, Bool, true, false, List, [], ◌∷◌, Option, Some, None, refl, sym, ap, ◌∙◌, subst, IsTrue}
 use Rattle.std.specs.Prelude.{◌&&◌, nat_le, option_and_then}
 use Rattle.std.specs.Option.{option_or}
 use Rattle.std.proofs.lemmas.Bool.{and_parts}
@@ -24,14 +24,14 @@ use Rattle.guard_der.specs.Sound.{is_proper, is_proper_kind, are_proper, is_prop
 use Rattle.guard_tables.specs.declared.slots.Slots.{Slots}
 use Rattle.guard_tables.specs.Slots as slots
 use Rattle.guard_tables.specs.Slots.{added}
-use Rattle.guard_tables.specs.Plan.{AbstractCondition, Plan, Body, Parts, plan, part, series, set, choice, list, set_of, formula, asked_of}
+use Rattle.guard_tables.specs.Plan.{AbstractCondition, Plan, Body, Parts, plan, part, series, set, choice, list, set_of, asked_of}
 use Rattle.guard_tables.specs.Marking.{type_marked}
 use Rattle.guard_tables.specs.Standing.{Spells, Tells, DefaultFor, SideFor, SimpleFor, IsWhole, PlanFor, BodyFor, PartsFor, AlternativesFor}
 use Rattle.guard_tables.specs.Demands.{Ask, Term}
-use Rattle.guard_tables.specs.Spread.{are_plain_asks}
+use Rattle.guard_tables.specs.Formulas.{Raise}
 use Rattle.guard_tables.specs.Forms.{forms_of}
 use Rattle.guard_tables.specs.Handed.{each_of, within_of, terms_at}
-use Rattle.guard_tables.specs.Lay.{conditions_of, absent_of, present_of, inside_octets, side_for, formulas_over, nameless, lay, lay_kind, lay_parts, lay_alternatives}
+use Rattle.guard_tables.specs.Lay.{conditions_of, absent_of, present_of, inside_octets, side_for, nameless, lay, lay_kind, lay_parts, lay_alternatives, raised_of}
 use Rattle.guard_tables.proofs.SlotSums.{added_again}
 use Rattle.guard_tables.proofs.Adding.{adds_type}
 use Rattle.guard_tables.proofs.Telling.{HasContents, standing_contents, one_contents, one_encoding}
@@ -122,9 +122,9 @@ asked_for : (cs : List AbstractCondition) (b : Body) (kind : AbstractKind) → S
 asked_for [] b kind spells whole h = h
 asked_for (c ∷ cs) b kind spells whole h = (spells, h, whole)
 
-formulas_for : (plain : Bool) (asks : List Ask) (b : Body) (kind : AbstractKind) → BodyFor b kind → BodyFor (cond plain b (formula (forms_of asks).raises b)) kind
-formulas_for true asks b kind h = h
-formulas_for false asks b kind h = h
+formulas_for : (rs : List Raise) (b : Body) (kind : AbstractKind) → BodyFor b kind → BodyFor (raised_of rs b) kind
+formulas_for [] b kind h = h
+formulas_for (r ∷ rs) b kind h = h
 
 spells_for : (kind : AbstractKind) → IsWellKind kind → Spells kind
 spells_for kind w at start os v digits short e = (contents_back kind at start os v w.0 w.1 digits short e).1
@@ -138,12 +138,12 @@ well_list in_sequence cs e clear = ((and_parts (nat_le (component_count cs) 64) 
 one_part : (name : List ℕ) (t : AbstractType) (presence : AbstractPresence) (cs : Components) → IsWell t → IsTrue (is_proper_presence t presence) → (asks : List Ask) (absent present : Slots) (ps : Parts)
     → PlanFor (lay t asks) t → PartsFor ps cs → PartsFor (part (side_for t presence (lay t asks) absent present) (lay t asks) ps) (component name t presence cs)
 one_part name (type_of tags kind cons) presence cs w h asks absent present ps stands rest =
-    (stands, side_stands tags kind cons presence w h (formulas_over asks (lay_kind kind (terms_at asks))) absent present, rest)
+    (stands, side_stands tags kind cons presence w h (raised_of (forms_of asks).raises (lay_kind kind (terms_at asks))) absent present, rest)
 
 mutual
   type_stands : (t : AbstractType) → IsWell t → (asks : List Ask) → PlanFor (lay t asks) t
   type_stands (type_of tags kind cons) w asks =
-      (refl, refl, formulas_for (are_plain_asks asks) asks (lay_kind kind (terms_at asks)) kind (kind_stands kind (well_kind tags kind cons w) (terms_at asks)))
+      (refl, refl, formulas_for (forms_of asks).raises (lay_kind kind (terms_at asks)) kind (kind_stands kind (well_kind tags kind cons w) (terms_at asks)))
 
   kind_stands : (kind : AbstractKind) → IsWellKind kind → (ts : List Term) → BodyFor (lay_kind kind ts) kind
   kind_stands type.boolean w ts = tt

@@ -1,10 +1,11 @@
 -- From what is inside a node to the node, and from parts to the whole.
-use Rattle.std.proofs.Common.{◌≡◌, ℕ, zero, suc, ◌+◌, ◌-◌, ◌<◌, ◌≤◌, Bool, true, false, cond, eqb, List, [], ◌∷◌, ◌++◌, length, get_or, Option, Result, Ok, Err, refl, sym, ap, subst, ◌∙◌, arith, add-one, length-append}
+use Rattle.std.proofs.Common.{◌≡◌, ℕ, zero, suc, ◌+◌, ◌-◌, ◌<◌, ◌≤◌, Bool, true, false, eqb, List, [], ◌∷◌, ◌++◌, length, get_or, Option, Result, Ok, Err, refl, sym, ap, subst, ◌∙◌, arith, add-one, length-append}
 use Rattle.std.specs.Prelude.{not, IsTrue}
 use Rattle.std.specs.Result.{IfOk}
 use Rattle.std.proofs.lemmas.Bool.{eqb-true, eqb-false}
 use Rattle.guard_model.specs.declared.tag.Tag.{Tag}
-use Rattle.guard_model.specs.AbstractType.{AbstractType, AbstractKind, AbstractPresence, Components, component}
+use Rattle.guard_model.specs.AbstractType.{AbstractType, AbstractKind, AbstractPresence, Components, no_components, component}
+use Rattle.guard_model.specs.Counts.{component_count}
 use Rattle.guard_model.specs.TypeView.{OneComponent, component_view}
 use Rattle.guard_model.specs.declared.ty.Comp.{Comp}
 use Rattle.guard_model.proofs.Components.{left, left_is}
@@ -26,10 +27,9 @@ use Rattle.guard_tables.specs.Forms.{forms_of}
 use Rattle.guard_tables.specs.Formulas as formulas
 use Rattle.guard_tables.specs.Handed.{within_of, terms_at}
 use Rattle.guard_tables.specs.declared.slots.Slots.{Slots}
-use Rattle.guard_tables.specs.Lay.{lay, lay_kind, formulas_over, absent_of, present_of, chosen_of, side_for, side_chosen}
-use Rattle.guard_tables.specs.Plan.{Side, Plan, Body, Parts, plan, formula, no_parts, part, body_in, tags_in, form_in}
+use Rattle.guard_tables.specs.Lay.{lay, lay_kind, lay_parts, lay_alternatives, absent_of, present_of, chosen_of, side_for, side_chosen, raised_of}
+use Rattle.guard_tables.specs.Plan.{Side, Plan, Body, Parts, plan, no_parts, part, body_in, tags_in, form_in}
 use Rattle.guard_tables.specs.NodesView.{spots_in, root_of}
-use Rattle.guard_tables.specs.Spread.{terms_of, are_plain_asks}
 use Rattle.guard_tables.specs.TableNodes.{Spot, spot_of, spots_of, spot_at, own_tags, parts_between, IsNode}
 use Rattle.guard_tables.specs.inside.Aside.{spots_at, AreNodes, parts_then}
 use Rattle.guard_tables.specs.inside.Laid.{spots_so_far, Grows, Stacks, Lays, MayBeLaid, PartsMayBeLaid, LaysParts, WithPart, Extends, MayCome, plan_in, parts_in, body_of_group, body_of_elements, parts_of_group, side_of_part, is_exclusive}
@@ -198,6 +198,35 @@ pub elements_laid : (before : Builder) (element whole : Laid) (p : Plan) (g : El
     → Lays before whole (plan (own_tags tag) true (body_of_elements g p))
 elements_laid before element whole p g tag a b = laid_on before element whole p (λ (p : Plan). plan (own_tags tag) true (body_of_elements g p)) a b
 
+-- as many parts as components
+abbrev parts_length : Parts → ℕ
+parts_length no_parts = 0
+parts_length (part side p ps) = suc (parts_length ps)
+
+then_length : (ss : List Spot) (ps : Parts) → parts_length (parts_then ss ps) ≡ length ss + parts_length ps
+then_length [] ps = omega arith
+then_length (s ∷ ss) ps = let rest = then_length ss ps in omega (arith, rest)
+
+listed_length : (i : ℕ) (cs : Components) (terms : List Term) → parts_length (lay_parts i cs terms) ≡ component_count cs
+listed_length i no_components terms = refl
+listed_length i (component name t presence cs) terms = ap suc (listed_length (suc i) cs terms)
+
+chosen_length : (i : ℕ) (cs : Components) (terms : List Term) → parts_length (lay_alternatives i cs terms) ≡ component_count cs
+chosen_length i no_components terms = refl
+chosen_length i (component name t presence cs) terms = ap suc (chosen_length (suc i) cs terms)
+
+group_length : (g : Group) (cs : Components) (terms : List Term) → parts_length (parts_of_group g 0 cs terms) ≡ component_count cs
+group_length group.Series cs terms = listed_length 0 cs terms
+group_length group.Set cs terms = listed_length 0 cs terms
+group_length group.Choice cs terms = chosen_length 0 cs terms
+
+pub nodes_few : (before : Builder) (parts : LaidParts) (g : Group) (cs : Components) (terms : List Term) → LaysParts before parts (parts_of_group g 0 cs terms)
+    → component_count cs ≤ 64 → length parts.nodes.items ≤ 64
+nodes_few before parts g cs terms laid few =
+    let ss : List Spot = spots_at (spots_so_far parts.builder) parts.nodes.items in
+    let all : length ss + 0 ≡ component_count cs = sym (then_length ss no_parts) ∙ ap parts_length laid.stand ∙ group_length g cs terms in
+    omega (arith, all, few, spots_length (spots_so_far parts.builder) parts.nodes.items)
+
 pub group_laid : (before : Builder) (parts : LaidParts) (whole : Laid) (ps : Parts) (g : Group) (tag : Option Tag) → LaysParts before parts ps → Lays parts.builder whole (plan (own_tags tag) true (body_of_group g (parts_in parts no_parts)))
     → Lays before whole (plan (own_tags tag) true (body_of_group g ps))
 group_laid before parts whole ps g tag a b = record {
@@ -211,18 +240,11 @@ pub extended : {E : Type 0} (old : LaidParts) (l : Laid) (p : Plan) (s side : Si
 extended old l p s side are laid same r h =
     passed_on (λ (new : LaidParts). WithPart old.nodes.items l s new) (λ (new : LaidParts). Extends old new side p) r (λ new with. extends old new l p s side are laid same with) h
 
-by_formulas : (b : Bool) (own : List Tag) (form : Bool) (kind : AbstractKind) (xs ts : List Term) (rs : List formulas.Raise) → b ≡ false
-    → plan own form (formula rs (lay_kind kind ts)) ≡ plan own form (cond b (lay_kind kind (cond b xs ts)) (formula rs (lay_kind kind (cond b xs ts))))
-by_formulas true own form kind xs ts rs e = absurd cc
-by_formulas false own form kind xs ts rs e = refl
-
--- where not all that is asked is conjunctions
-pub not_plain : (asks : List Ask) (own : List Tag) (form : Bool) (kind : AbstractKind) (ts : List Term) (rs : List formulas.Raise) → are_plain_asks asks ≡ false → ts ≡ (forms_of asks).terms → rs ≡ (forms_of asks).raises
-    → plan own form (formula rs (lay_kind kind ts)) ≡ plan own form (formulas_over asks (lay_kind kind (terms_at asks)))
-not_plain asks own form kind ts rs e t r =
-    ap (λ (ts : List Term). plan own form (formula rs (lay_kind kind ts))) t
-    ∙ ap (λ (rs : List formulas.Raise). plan own form (formula rs (lay_kind kind (forms_of asks).terms))) r
-    ∙ by_formulas (are_plain_asks asks) own form kind (terms_of asks) (forms_of asks).terms (forms_of asks).raises e
+pub formulas_are : (asks : List Ask) (own : List Tag) (form : Bool) (kind : AbstractKind) (ts : List Term) (rs : List formulas.Raise) → ts ≡ (forms_of asks).terms → rs ≡ (forms_of asks).raises
+    → plan own form (raised_of rs (lay_kind kind ts)) ≡ plan own form (raised_of (forms_of asks).raises (lay_kind kind (terms_at asks)))
+formulas_are asks own form kind ts rs t r =
+    ap (λ (ts : List Term). plan own form (raised_of rs (lay_kind kind ts))) t
+    ∙ ap (λ (rs : List formulas.Raise). plan own form (raised_of rs (lay_kind kind (terms_at asks)))) r
 
 -- the last of all is the whole
 pub whole_is : (before : Builder) (l : Laid) (after : Builder) (first : ℕ) (n : Nodes) (p : Plan) → Lays before l p → Stacks l after first → n.hots.items ≡ after.hots.items → n.colds.items ≡ after.colds.items → root_of n ≡ p

@@ -1,5 +1,5 @@
 -- What holds of a type that may be laid holds of its parts, and of what is asked of them.
-use Rattle.std.proofs.Common.{◌≡◌, ℕ, suc, ◌≤◌, Bool, true, false, List, None, refl, ap, arith, IsTrue}
+use Rattle.std.proofs.Common.{◌≡◌, ℕ, suc, ◌≤◌, Bool, true, false, List, length, None, refl, ap, arith, IsTrue}
 use Rattle.std.specs.Prelude.{◌&&◌, nat_le}
 use Rattle.std.proofs.lemmas.Bool.{and_parts, leb-true}
 use Rattle.std.proofs.lemmas.Bool.Decides.{nat_tests}
@@ -16,7 +16,8 @@ use Rattle.guard_tables.specs.Apt.{AllSpeak}
 use Rattle.guard_tables.specs.Demands.{Ask, Term}
 use Rattle.guard_tables.specs.Handed.{terms_at, NeedsFewInside, NeedsFewAmong}
 use Rattle.guard_tables.specs.inside.Laid.{MayBeLaid, PartsMayBeLaid, KindMayBeLaid, AskedMayBeLaid}
-use Rattle.guard_tables.proofs.FormSpeaking.{terms_speak}
+use Rattle.guard_tables.proofs.Speaking.{terms_speak}
+use Rattle.guard_tables.proofs.SlotCounts.{conjoined_few, forms_few}
 use Rattle.guard_tables.proofs.LaidParts.{each_apt, within_apt, FollowTypes, after_component, type_here}
 use Rattle.guard_tables.proofs.Laying.{none_of_two, well_kind, well_sound}
 
@@ -48,14 +49,23 @@ parts_may kind i (component name t presence cs) proper clear deep follow ts spea
 
 kind_may : (kind : AbstractKind) → is_proper_kind kind ≡ true → clash_of_kind kind ≡ None → nesting_inside kind ≤ 32 → (ts : List Term) → AllSpeak kind ts → NeedsFewInside kind ts → KindMayBeLaid kind ts
 kind_may (type.sequence cs) proper clear deep ts speak few =
-    parts_may (type.sequence cs) 0 cs (and_parts (nat_le (component_count cs) 64) (are_proper cs) proper).1 (none_of_two (here (first_pair true 0 cs)) (clash_inside 0 cs) clear).1 deep
-    (λ j. ap (λ (n : ℕ). part_of n (type.sequence cs)) (omega arith)) ts speak few
+    let a = and_parts (nat_le (component_count cs) 64) (are_proper cs) proper in (
+      leb-true (component_count cs) 64 a.0,
+      parts_may (type.sequence cs) 0 cs a.1 (none_of_two (here (first_pair true 0 cs)) (clash_inside 0 cs) clear).1 deep
+          (λ j. ap (λ (n : ℕ). part_of n (type.sequence cs)) (omega arith)) ts speak few,
+    )
 kind_may (type.set cs) proper clear deep ts speak few =
-    parts_may (type.set cs) 0 cs (and_parts (nat_le (component_count cs) 64) (are_proper cs) proper).1 (none_of_two (here (first_pair false 0 cs)) (clash_inside 0 cs) clear).1 deep
-    (λ j. ap (λ (n : ℕ). part_of n (type.set cs)) (omega arith)) ts speak few
+    let a = and_parts (nat_le (component_count cs) 64) (are_proper cs) proper in (
+      leb-true (component_count cs) 64 a.0,
+      parts_may (type.set cs) 0 cs a.1 (none_of_two (here (first_pair false 0 cs)) (clash_inside 0 cs) clear).1 deep
+          (λ j. ap (λ (n : ℕ). part_of n (type.set cs)) (omega arith)) ts speak few,
+    )
 kind_may (type.choice cs) proper clear deep ts speak few =
-    parts_may (type.choice cs) 0 cs (and_parts (nat_le (component_count cs) 64) (are_proper cs) proper).1 (none_of_two (here (first_pair false 0 cs)) (clash_inside 0 cs) clear).1 (omega (arith, deep))
-    (λ j. ap (λ (n : ℕ). part_of n (type.choice cs)) (omega arith)) ts speak few
+    let a = and_parts (nat_le (component_count cs) 64) (are_proper cs) proper in (
+      leb-true (component_count cs) 64 a.0,
+      parts_may (type.choice cs) 0 cs a.1 (none_of_two (here (first_pair false 0 cs)) (clash_inside 0 cs) clear).1 (omega (arith, deep))
+          (λ j. ap (λ (n : ℕ). part_of n (type.choice cs)) (omega arith)) ts speak few,
+    )
 kind_may (type.sequence_of t) proper clear deep ts speak few =
     record { sound = sound_part t proper (inside_none (Element 0) (first_clash t) clear) deep; apt = each_apt (type.sequence_of t) t refl ts speak; room = few }
 kind_may (type.set_of t) proper clear deep ts speak few =
@@ -78,4 +88,4 @@ asked_may (type_of tags kind cons) asks m =
     let speak : AllSpeak kind (terms_at asks) = terms_speak kind asks m.apt in
     let deep = deep_enough (type_of tags kind cons) m.sound in
     let inner : nesting_inside kind ≤ 32 = omega (arith, deep) in
-    record { speak = speak; room = m.room.0; parts = kind_may kind k.0 k.1 inner (terms_at asks) speak m.room.1 }
+    record { speak = speak; room = (conjoined_few asks (length asks) refl m.room.0, forms_few asks (length asks) refl m.room.0); parts = kind_may kind k.0 k.1 inner (terms_at asks) speak m.room.1 }

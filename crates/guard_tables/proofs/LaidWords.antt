@@ -1,6 +1,6 @@
 -- Where what is asked has slots of 64-bit words, so has what fails at a value; and what fails at one is what it doesn't meet.
-use Rattle.std.proofs.Common.{◌≡◌, ℕ, zero, suc, Bool, true, false, cond, List, [], ◌∷◌, ◌++◌, refl, sym, ap, ◌∙◌, subst, IsTrue}
-use Rattle.std.specs.Prelude.{not, ◌||◌, nat_eq}
+use Rattle.std.proofs.Common.{◌≡◌, ℕ, zero, suc, Bool, true, false, List, [], ◌∷◌, ◌++◌, refl, sym, ap, ◌∙◌, subst, IsTrue}
+use Rattle.std.specs.Prelude.{not, ◌||◌}
 use Rattle.guard_model.specs.AbstractType as type
 use Rattle.guard_model.specs.AbstractType.{AbstractType, AbstractKind, AbstractPresence, Components, type_of, no_components, component}
 use Rattle.guard_model.specs.AbstractValue as value
@@ -11,14 +11,13 @@ use Rattle.guard_der.specs.Sound.{is_sound}
 use Rattle.guard_tables.specs.declared.slots.Slots.{Slots}
 use Rattle.guard_tables.specs.Slots.{none, added, has}
 use Rattle.guard_tables.specs.Formulas.{Raise, fails_where, failed_unless, raised}
-use Rattle.guard_tables.specs.Plan.{AbstractTest, AbstractCondition, Plan, Body, series, set, choice, list, set_of, formula, asked_of}
+use Rattle.guard_tables.specs.Plan.{AbstractTest, AbstractCondition, Plan, Body, series, set, choice, list, set_of, asked_of}
 use Rattle.guard_tables.specs.Marking.{Facts, facts_of, test_passes, conditions_marked, absence_marked, items_marked, marked, type_marked, fields_marked, alternative_marked}
-use Rattle.guard_tables.specs.Demands.{Ask, Atom, sent, unsent, Term, meets, ask_fails, asks_fail}
-use Rattle.guard_tables.specs.Spread.{are_plain_asks}
+use Rattle.guard_tables.specs.Demands.{Ask, Atom, Term, meets, ask_fails, asks_fail}
 use Rattle.guard_tables.specs.Forms.{forms_of}
 use Rattle.guard_tables.specs.Apt.{AreApt}
 use Rattle.guard_tables.specs.Handed.{each_of, within_of, terms_at}
-use Rattle.guard_tables.specs.Lay.{tests_of, conditions_in, conditions_of, added_if, absent_in, absent_of, present_in, present_of, chosen_in, chosen_of, side_for, lay, lay_kind, lay_parts, lay_alternatives}
+use Rattle.guard_tables.specs.Lay.{tests_of, conditions_in, conditions_of, added_if, slots_where, is_sent, absent_of, is_unsent, present_of, is_unchosen, chosen_of, side_for, lay, lay_kind, lay_parts, lay_alternatives, raised_of}
 use Rattle.guard_tables.specs.inside.SideViews.{asks_marked}
 use Rattle.guard_tables.specs.inside.SlotWords.{InWords, AsksIn}
 use Rattle.guard_tables.proofs.SlotWords.{none_in, added_in, same_slots}
@@ -68,34 +67,9 @@ keeps_raised (r ∷ rs) h inner m p =
     let w : Bool = not (fails_where r.where_failed (has inner)) in keeps_raised rs h.1 inner
     (failed_unless w r.slots m) (keeps_unless w r.slots h.0 m p)
 
-keeps_absent : (i : ℕ) (k : Slots) (a : Atom) → InWords k → Keeps (λ m. absent_in i k a m)
-keeps_absent i k (sent j) h m p = keeps_if (nat_eq j i) k h m p
-keeps_absent i k _ h m p = p
-
-keeps_present : (i : ℕ) (k : Slots) (a : Atom) → InWords k → Keeps (λ m. present_in i k a m)
-keeps_present i k (unsent j) h m p = keeps_if (nat_eq j i) k h m p
-keeps_present i k _ h m p = p
-
-unless_this : (b : Bool) (k : Slots) → InWords k → Keeps (λ m. cond b m (added m k))
-unless_this true k h m p = p
-unless_this false k h m p = added_in m k p h
-
-keeps_chosen : (i : ℕ) (k : Slots) (a : Atom) → InWords k → Keeps (λ m. chosen_in i k a m)
-keeps_chosen i k (unsent j) h m p = keeps_if (nat_eq j i) k h m p
-keeps_chosen i k (sent j) h m p = unless_this (nat_eq j i) k h m p
-keeps_chosen i k _ h m p = p
-
-absent_words : (i : ℕ) (ts : List Term) → TermsIn ts → InWords (absent_of i ts)
-absent_words i [] h = none_in
-absent_words i (t ∷ ts) h = keeps_absent i t.slots t.atom h.0 (absent_of i ts) (absent_words i ts h.1)
-
-present_words : (i : ℕ) (ts : List Term) → TermsIn ts → InWords (present_of i ts)
-present_words i [] h = none_in
-present_words i (t ∷ ts) h = keeps_present i t.slots t.atom h.0 (present_of i ts) (present_words i ts h.1)
-
-chosen_words : (i : ℕ) (ts : List Term) → TermsIn ts → InWords (chosen_of i ts)
-chosen_words i [] h = none_in
-chosen_words i (t ∷ ts) h = keeps_chosen i t.slots t.atom h.0 (chosen_of i ts) (chosen_words i ts h.1)
+where_words : (test : Atom → Bool) (ts : List Term) → TermsIn ts → InWords (slots_where test ts)
+where_words test [] h = none_in
+where_words test (t ∷ ts) h = keeps_if (test t.atom) t.slots h.0 (slots_where test ts) (where_words test ts h.1)
 
 -- ---- plans
 
@@ -108,11 +82,11 @@ keeps_asked kind ts h (c ∷ cs) e b v inside m p =
     subst (λ (ds : List AbstractCondition). InWords (conditions_marked ds (facts_of kind v) (marked kind b v m)))
     (sym e) (keeps_conditions kind ts h (facts_of kind v) (marked kind b v m) (inside m p))
 
-keeps_formulas : (plain : Bool) (rs : List Raise) → RaisesIn rs → (kind : AbstractKind) (b : Body) (v : AbstractValue)
-    → Keeps (λ m. marked kind b v m) → Keeps (λ m. marked kind (cond plain b (formula rs b)) v m)
+keeps_formulas : (rs : List Raise) → RaisesIn rs → (kind : AbstractKind) (b : Body) (v : AbstractValue)
+    → Keeps (λ m. marked kind b v m) → Keeps (λ m. marked kind (raised_of rs b) v m)
 unfolding marked
-keeps_formulas true rs h kind b v inside m p = inside m p
-keeps_formulas false rs h kind b v inside m p = keeps_raised rs h (marked kind b v none) m p
+keeps_formulas [] h kind b v inside m p = inside m p
+keeps_formulas (r ∷ rs) h kind b v inside m p = keeps_raised (r ∷ rs) h (marked kind b v none) m p
 
 keeps_items : (mark : AbstractValue → Slots → Slots) → ((v : AbstractValue) → Keeps (mark v)) → (vs : Items)
     → Keeps (λ m. items_marked mark vs m)
@@ -177,7 +151,7 @@ mutual
   keeps_type : (t : AbstractType) (asks : List Ask) → AsksIn asks → (v : AbstractValue)
       → Keeps (λ m. type_marked t (lay t asks) v m)
   keeps_type (type_of tags kind cons) asks h v m p =
-      keeps_formulas (are_plain_asks asks) (forms_of asks).raises (raises_in asks h) kind
+      keeps_formulas (forms_of asks).raises (raises_in asks h) kind
       (lay_kind kind (terms_at asks)) v (keeps_kind kind (terms_at asks) (terms_in asks h) v) m p
 
   keeps_kind : (kind : AbstractKind) (ts : List Term) → TermsIn ts → (v : AbstractValue)
@@ -218,13 +192,13 @@ mutual
       let g : Slots = (side_for t presence q (absent_of i ts) (present_of i ts)).present in
       keeps_fields cs (suc i) ts h fs (type_marked t q v (added m g))
       (keeps_type t asks (within_asks i ts h) v (added m g)
-      (added_in m g p (keeps_there t presence q (absent_of i ts) (present_of i ts) (present_words i ts h))))
+      (added_in m g p (keeps_there t presence q (absent_of i ts) (present_of i ts) (where_words (is_unsent i) ts h))))
   keeps_fields (component name t presence cs) i ts h (value.absent fs) m p =
       let asks : List Ask = within_of i ts in
       let q : Plan = lay t asks in
       keeps_fields cs (suc i) ts h fs
       (absence_marked (side_for t presence q (absent_of i ts) (present_of i ts)).absent m)
-      (keeps_gone t presence q (absent_of i ts) (present_of i ts) (absent_words i ts h) (present_words i ts h)
+      (keeps_gone t presence q (absent_of i ts) (present_of i ts) (where_words (is_sent i) ts h) (where_words (is_unsent i) ts h)
       (λ v m r. keeps_type t asks (within_asks i ts h) v m r) m p)
 
   keeps_alternative : (cs : Components) (i j : ℕ) (ts : List Term) → TermsIn ts → (v : AbstractValue)
@@ -232,7 +206,7 @@ mutual
   keeps_alternative no_components i j ts h v m p = p
   keeps_alternative (component name t presence cs) i zero ts h v m p =
       keeps_type t (within_of i ts) (within_asks i ts h) v (added m (chosen_of i ts))
-      (added_in m (chosen_of i ts) p (chosen_words i ts h))
+      (added_in m (chosen_of i ts) p (where_words (is_unchosen i) ts h))
   keeps_alternative (component name t presence cs) i (suc j) ts h v m p = keeps_alternative cs (suc i) j ts h v m p
 
 -- ---- what a value fails is what it doesn't meet

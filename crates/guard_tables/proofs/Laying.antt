@@ -28,7 +28,7 @@ use Rattle.guard_tables.specs.Lay.{conditions_of, absent_of, present_of, chosen_
 use Rattle.guard_tables.proofs.SlotSets.{none_law, added_law}
 use Rattle.guard_tables.proofs.Truths.{or_no, or_again}
 use Rattle.guard_tables.proofs.OwnTests.{inside_fail, simple_laid, whole_laid}
-use Rattle.guard_tables.proofs.FormSpeaking.{terms_speak}
+use Rattle.guard_tables.proofs.Speaking.{terms_speak}
 use Rattle.guard_tables.proofs.FormNodes.{node_laid}
 use Rattle.guard_tables.proofs.LaidParts.{each_apt, within_apt, items_laid, chosen_fails, from_fail, all_from, there_fails, gone_fails, FollowFields, FollowTypes, after_present, after_absent, after_component, type_here, at_end, present_is, absence_is}
 

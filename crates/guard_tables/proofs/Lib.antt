@@ -1,7 +1,7 @@
 -- ---- sums of counts
 pub mod Counts
 -- ---- a search through all nodes
-pub mod HandedDown
+pub mod Crowding
 -- ---- what same tags and bases come to
 pub mod BareTypes
 pub mod Faultless
@@ -18,7 +18,6 @@ pub mod Failing
 -- ---- demands of any form, and how many slots they take
 pub mod SlotCounts
 pub mod Forming
-pub mod FormSpeaking
 pub mod Handing
 pub mod FewSlots
 -- ---- a plan that asks all that is asked
@@ -44,7 +43,6 @@ pub mod RuleViews
 pub mod ItemTests
 -- ---- formulas from lists
 pub mod FormLists
-pub mod Folded
 pub mod FormRooms
 pub mod SlotOfTypes
 pub mod ReadsBack

@@ -24,7 +24,7 @@ use Rattle.guard_tables.specs.Formulas.{failed_unless}
 use Rattle.guard_tables.specs.Plan.{AbstractTest, AbstractCondition}
 use Rattle.guard_tables.specs.Marking.{Facts, facts_of, some_passes, test_passes, conditions_marked}
 use Rattle.guard_tables.specs.Demands.{Atom, scalar, equals, sized, spelled, each, within, sent, unsent, Term, meets, passes, term_fails, terms_fail}
-use Rattle.guard_tables.specs.Spread.{is_scalar}
+use Rattle.guard_tables.specs.Terms.{is_scalar}
 use Rattle.guard_tables.specs.Apt.{IsAptFor, Speaks, AllSpeak}
 use Rattle.guard_tables.specs.Lay.{no_value, truth_tests, scalar_tests, stored_test, tests_of, conditions_in, conditions_of}
 use Rattle.guard_tables.proofs.Truths.{or_no, and_yes, and_no, or_again, crossed, nothing_more, both_fail, has_unless}

@@ -1,24 +1,18 @@
--- The slots that formulas take: as many as conditions are counted, and from the first free one on.
+-- The slots that demands take are no more than conditions are counted.
 use Rattle.std.proofs.Common.{◌≡◌, ℕ, suc, ◌+◌, ◌≤◌, Bool, true, false, cond, List, [], ◌∷◌, length, refl, arith}
 use Rattle.guard_model.specs.AbstractType as type
 use Rattle.guard_model.specs.AbstractType.{AbstractType, AbstractKind, Constraint, Constraints, Element, type_of, at, no_constraints, constraint}
+use Rattle.guard_tables.specs.declared.slots.Slots.{Slots}
 use Rattle.guard_tables.specs.Conditions.{of_type, of_kind, of_constraints, of_constraint, of_element}
 use Rattle.guard_tables.specs.Slots.{only}
 use Rattle.guard_tables.specs.Demands.{Demand, by_type, by_constraint, Ask, scalar}
-use Rattle.guard_tables.specs.Spread.{term, is_scalar}
-use Rattle.guard_tables.specs.Formulas.{never}
-use Rattle.guard_tables.specs.Forms.{Formula, formula, form_one, form_element, form_all, form_some, form_type, form, forms_from}
-use Rattle.guard_tables.specs.Handed.{of_demand, of_asks, slots_needed}
+use Rattle.guard_tables.specs.Terms.{term, is_scalar}
+use Rattle.guard_tables.specs.Forms.{Formula, and_terms, aside, taking, form_one, form_element, form_all, form_each, form_own, form_type, form, conjoined, forms_from, nothing_yet}
+use Rattle.guard_tables.specs.Handed.{of_demand, of_asks}
 
 at_most_either : (b : Bool) (x y : Formula) (most : ℕ) → x.next ≤ most → y.next ≤ most → (cond b x y).next ≤ most
 at_most_either true x y most p q = p
 at_most_either false x y most p q = q
-
-at_least_either : (b : Bool) (x y : Formula) (least : ℕ) → least ≤ x.next → least ≤ y.next → least ≤ (cond b x y).next
-at_least_either true x y least p q = p
-at_least_either false x y least p q = q
-
--- ---- at most so many
 
 pub kind_counts : (kind : AbstractKind) → of_kind kind [] ≡ 1
 kind_counts type.boolean = refl
@@ -36,110 +30,130 @@ kind_counts (type.sequence_of t) = refl
 kind_counts (type.set_of t) = refl
 
 mutual
-  one_count : (k n : ℕ) (kind : AbstractKind) (c : Constraint) → (form_one k n kind c).next + 1 ≤ n + of_constraint c []
-  one_count k n kind (at site e) =
-      let p = at_most_either (is_scalar kind) (formula (term (only k) (scalar kind (at site e)) ∷ []) never n) (form_element k n kind e) (n + of_element e []) (omega arith) (element_count k n kind e) in
+  one_count : (k : Slots) (kind : AbstractKind) (c : Constraint) (f : Formula) → (form_one k kind c f).next + 1 ≤ f.next + of_constraint c []
+  one_count k kind (at site e) f =
+      let p = at_most_either (is_scalar kind) (and_terms f (term k (scalar kind (at site e)) ∷ [])) (form_element k kind e f) (f.next + of_element e []) (omega arith) (element_count k kind e f) in
       omega (arith, p)
 
-  element_count : (k n : ℕ) (kind : AbstractKind) (e : Element) → (form_element k n kind e).next ≤ n + of_element e []
-  element_count k n kind (type.single_value w) = omega arith
-  element_count k n kind (type.contained_subtype t) = let p = type_count k n t in omega (arith, p)
-  element_count k n kind (type.range low high) = omega arith
-  element_count k n kind (type.size c) = omega arith
-  element_count k n kind (type.permitted_alphabet ranges) = omega arith
-  element_count k n kind (type.with_component c) = omega arith
-  element_count k n kind (type.with_components partial ps) = omega arith
-  element_count k n kind (type.union cs) = some_count n kind cs
-  element_count k n kind (type.intersection cs) = all_count k n kind cs
-  element_count k n kind (type.except c d) =
-      let p = one_count k n kind c in
-      let m : ℕ = (form_one k n kind c).next in
-      let q = one_count m (suc m) kind d in
+  element_count : (k : Slots) (kind : AbstractKind) (e : Element) (f : Formula) → (form_element k kind e f).next ≤ f.next + of_element e []
+  element_count k kind (type.single_value w) f = omega arith
+  element_count k kind (type.contained_subtype t) f = let p = type_count k t f in omega (arith, p)
+  element_count k kind (type.range low high) f = omega arith
+  element_count k kind (type.size c) f = omega arith
+  element_count k kind (type.permitted_alphabet ranges) f = omega arith
+  element_count k kind (type.with_component c) f = omega arith
+  element_count k kind (type.with_components partial ps) f = omega arith
+  element_count k kind (type.union cs) f = each_count kind cs (aside f)
+  element_count k kind (type.intersection cs) f = all_count k kind cs f
+  element_count k kind (type.except c d) f =
+      let p = one_count k kind c f in
+      let g : Formula = form_one k kind c f in
+      let q = one_count (only g.next) kind d (taking g) in
       omega (arith, p, q)
-  element_count k n kind (type.all_except c) = let p = one_count n (suc n) kind c in omega (arith, p)
+  element_count k kind (type.all_except c) f = let p = one_count (only f.next) kind c (taking f) in omega (arith, p)
 
-  all_count : (k n : ℕ) (kind : AbstractKind) (cs : Constraints) → (form_all k n kind cs).next ≤ n + of_constraints cs []
-  all_count k n kind no_constraints = omega arith
-  all_count k n kind (constraint c cs) =
-      let p = one_count k n kind c in
-      let q = all_count k (form_one k n kind c).next kind cs in
-      omega (arith, p, q)
-
-  some_count : (n : ℕ) (kind : AbstractKind) (cs : Constraints) → (form_some n kind cs).next ≤ n + of_constraints cs []
-  some_count n kind no_constraints = omega arith
-  some_count n kind (constraint c cs) =
-      let p = one_count n (suc n) kind c in
-      let q = some_count (form_one n (suc n) kind c).next kind cs in
+  all_count : (k : Slots) (kind : AbstractKind) (cs : Constraints) (f : Formula) → (form_all k kind cs f).next ≤ f.next + of_constraints cs []
+  all_count k kind no_constraints f = omega arith
+  all_count k kind (constraint c cs) f =
+      let p = one_count k kind c f in
+      let q = all_count k kind cs (form_one k kind c f) in
       omega (arith, p, q)
 
-  type_count : (k n : ℕ) (t : AbstractType) → (form_type k n t).next + 1 ≤ n + of_type t []
-  type_count k n (type_of tags kind cons) =
-      let p = all_count k n kind cons in
+  each_count : (kind : AbstractKind) (cs : Constraints) (f : Formula) → (form_each kind cs f).next ≤ f.next + of_constraints cs []
+  each_count kind no_constraints f = omega arith
+  each_count kind (constraint c cs) f =
+      let p = one_count (only f.next) kind c (taking f) in
+      let q = each_count kind cs (form_own false kind c f) in
+      omega (arith, p, q)
+
+  type_count : (k : Slots) (t : AbstractType) (f : Formula) → (form_type k t f).next + 1 ≤ f.next + of_type t []
+  type_count k (type_of tags kind cons) f =
+      let p = all_count k kind cons f in
       let e = kind_counts kind in
       omega (arith, p, e)
 
-pub count_law : (k n : ℕ) (d : Demand) → (form k n d).next + 1 ≤ n + of_demand d []
-count_law k n (by_type t) = type_count k n t
-count_law k n (by_constraint kind c) = one_count k n kind c
+pub count_law : (k : Slots) (d : Demand) (f : Formula) → (form k d f).next + 1 ≤ f.next + of_demand d []
+count_law k (by_type t) f = type_count k t f
+count_law k (by_constraint kind c) f = one_count k kind c f
 
-asks_count : (k n : ℕ) (asks : List Ask) → (forms_from k n asks).next + length asks ≤ n + of_asks asks []
-asks_count k n [] = omega arith
-asks_count k n (a ∷ asks) =
-    let p = count_law k n a.demand in
-    let q = asks_count (suc k) (form k n a.demand).next asks in
+-- ---- all that is asked
+
+conjoined_count : (asks : List Ask) (f : Formula) → (conjoined asks f).next + length asks ≤ f.next + of_asks asks []
+conjoined_count [] f = omega arith
+conjoined_count (a ∷ asks) f =
+    let p = count_law a.slots a.demand f in
+    let q = conjoined_count asks (form a.slots a.demand f) in
     omega (arith, p, q)
 
-pub needed_law : (asks : List Ask) → slots_needed asks ≤ of_asks asks []
-needed_law asks = let p = asks_count 0 (length asks) asks in omega (arith, p)
+forms_count : (k : ℕ) (asks : List Ask) (f : Formula) → (forms_from k asks f).next + length asks ≤ f.next + of_asks asks []
+forms_count k [] f = omega arith
+forms_count k (a ∷ asks) f =
+    let p = count_law (only k) a.demand (aside f) in
+    let q = forms_count (suc k) asks (aside (form (only k) a.demand (aside f))) in
+    omega (arith, p, q)
+
+pub conjoined_few : (asks : List Ask) (n : ℕ) → n ≡ length asks → of_asks asks [] ≤ 256 → (conjoined asks (nothing_yet n)).next ≤ 256
+conjoined_few asks n e h = let p = conjoined_count asks (nothing_yet n) in omega (arith, p, e, h)
+
+pub forms_few : (asks : List Ask) (n : ℕ) → n ≡ length asks → of_asks asks [] ≤ 256 → (forms_from 0 asks (nothing_yet n)).next ≤ 256
+forms_few asks n e h = let p = forms_count 0 asks (nothing_yet n) in omega (arith, p, e, h)
 
 -- ---- from the first free one on
 
+at_least_either : (b : Bool) (x y : Formula) (least : ℕ) → least ≤ x.next → least ≤ y.next → least ≤ (cond b x y).next
+at_least_either true x y least p q = p
+at_least_either false x y least p q = q
+
 mutual
-  pub one_up : (k n : ℕ) (kind : AbstractKind) (c : Constraint) → n ≤ (form_one k n kind c).next
-  one_up k n kind (at site e) =
-      at_least_either (is_scalar kind) (formula (term (only k) (scalar kind (at site e)) ∷ []) never n) (form_element k n kind e) n (omega arith) (element_up k n kind e)
+  pub one_up : (k : Slots) (kind : AbstractKind) (c : Constraint) (f : Formula) → f.next ≤ (form_one k kind c f).next
+  one_up k kind (at site e) f = at_least_either (is_scalar kind) (and_terms f (term k (scalar kind (at site e)) ∷ [])) (form_element k kind e f) f.next (omega arith) (element_up k kind e f)
 
-  element_up : (k n : ℕ) (kind : AbstractKind) (e : Element) → n ≤ (form_element k n kind e).next
-  element_up k n kind (type.single_value w) = omega arith
-  element_up k n kind (type.contained_subtype t) = type_up k n t
-  element_up k n kind (type.range low high) = omega arith
-  element_up k n kind (type.size c) = omega arith
-  element_up k n kind (type.permitted_alphabet ranges) = omega arith
-  element_up k n kind (type.with_component c) = omega arith
-  element_up k n kind (type.with_components partial ps) = omega arith
-  element_up k n kind (type.union cs) = some_up n kind cs
-  element_up k n kind (type.intersection cs) = all_up k n kind cs
-  element_up k n kind (type.except c d) =
-      let p = one_up k n kind c in
-      let m : ℕ = (form_one k n kind c).next in
-      let q = one_up m (suc m) kind d in
+  element_up : (k : Slots) (kind : AbstractKind) (e : Element) (f : Formula) → f.next ≤ (form_element k kind e f).next
+  element_up k kind (type.single_value w) f = omega arith
+  element_up k kind (type.contained_subtype t) f = type_up k t f
+  element_up k kind (type.range low high) f = omega arith
+  element_up k kind (type.size c) f = omega arith
+  element_up k kind (type.permitted_alphabet ranges) f = omega arith
+  element_up k kind (type.with_component c) f = omega arith
+  element_up k kind (type.with_components partial ps) f = omega arith
+  element_up k kind (type.union cs) f = each_up kind cs (aside f)
+  element_up k kind (type.intersection cs) f = all_up k kind cs f
+  element_up k kind (type.except c d) f =
+      let g : Formula = form_one k kind c f in
+      let p = one_up k kind c f in
+      let q = one_up (only g.next) kind d (taking g) in
       omega (arith, p, q)
-  element_up k n kind (type.all_except c) = let p = one_up n (suc n) kind c in omega (arith, p)
+  element_up k kind (type.all_except c) f = let p = one_up (only f.next) kind c (taking f) in omega (arith, p)
 
-  pub all_up : (k n : ℕ) (kind : AbstractKind) (cs : Constraints) → n ≤ (form_all k n kind cs).next
-  all_up k n kind no_constraints = omega arith
-  all_up k n kind (constraint c cs) =
-      let p = one_up k n kind c in
-      let q = all_up k (form_one k n kind c).next kind cs in
-      omega (arith, p, q)
+  pub all_up : (k : Slots) (kind : AbstractKind) (cs : Constraints) (f : Formula) → f.next ≤ (form_all k kind cs f).next
+  all_up k kind no_constraints f = omega arith
+  all_up k kind (constraint c cs) f = let p = one_up k kind c f in let q = all_up k kind cs (form_one k kind c f) in omega (arith, p, q)
 
-  pub some_up : (n : ℕ) (kind : AbstractKind) (cs : Constraints) → n ≤ (form_some n kind cs).next
-  some_up n kind no_constraints = omega arith
-  some_up n kind (constraint c cs) =
-      let p = one_up n (suc n) kind c in
-      let q = some_up (form_one n (suc n) kind c).next kind cs in
+  pub each_up : (kind : AbstractKind) (cs : Constraints) (f : Formula) → f.next ≤ (form_each kind cs f).next
+  each_up kind no_constraints f = omega arith
+  each_up kind (constraint c cs) f =
+      let p = one_up (only f.next) kind c (taking f) in
+      let q = each_up kind cs (form_own false kind c f) in
       omega (arith, p, q)
 
-  pub type_up : (k n : ℕ) (t : AbstractType) → n ≤ (form_type k n t).next
-  type_up k n (type_of tags kind cons) = all_up k n kind cons
+  type_up : (k : Slots) (t : AbstractType) (f : Formula) → f.next ≤ (form_type k t f).next
+  type_up k (type_of tags kind cons) f = all_up k kind cons f
 
-pub form_up : (k n : ℕ) (d : Demand) → n ≤ (form k n d).next
-form_up k n (by_type t) = type_up k n t
-form_up k n (by_constraint kind c) = one_up k n kind c
+form_up : (k : Slots) (d : Demand) (f : Formula) → f.next ≤ (form k d f).next
+form_up k (by_type t) f = type_up k t f
+form_up k (by_constraint kind c) f = one_up k kind c f
 
-pub forms_up : (k n : ℕ) (asks : List Ask) → n ≤ (forms_from k n asks).next
-forms_up k n [] = omega arith
-forms_up k n (a ∷ asks) =
-    let p = form_up k n a.demand in
-    let q = forms_up (suc k) (form k n a.demand).next asks in
+pub own_up : (taken : Bool) (kind : AbstractKind) (c : Constraint) (f : Formula) → f.next + 1 ≤ (form_own taken kind c f).next
+own_up taken kind c f = let p = one_up (only f.next) kind c (taking f) in omega (arith, p)
+
+pub conjoined_up : (asks : List Ask) (f : Formula) → f.next ≤ (conjoined asks f).next
+conjoined_up [] f = omega arith
+conjoined_up (a ∷ asks) f = let p = form_up a.slots a.demand f in let q = conjoined_up asks (form a.slots a.demand f) in omega (arith, p, q)
+
+pub forms_up : (k : ℕ) (asks : List Ask) (f : Formula) → f.next ≤ (forms_from k asks f).next
+forms_up k [] f = omega arith
+forms_up k (a ∷ asks) f =
+    let g : Formula = form (only k) a.demand (aside f) in
+    let p = form_up (only k) a.demand (aside f) in
+    let q = forms_up (suc k) asks (aside g) in
     omega (arith, p, q)

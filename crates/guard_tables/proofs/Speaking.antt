@@ -1,5 +1,5 @@
 -- What a demand comes down to speaks of the values of its kind, and asks of parts what may be asked of them.
-use Rattle.std.proofs.Common.{◌≡◌, ℕ, suc, ◌+◌, Bool, true, false, cond, List, [], ◌∷◌, ◌++◌, Option, Some, None, refl, sym, ap, subst, arith, IsTrue}
+use Rattle.std.proofs.Common.{◌≡◌, ℕ, suc, ◌+◌, Bool, true, false, cond, List, [], ◌∷◌, ◌++◌, length, Option, Some, None, refl, sym, ap, subst, arith, IsTrue}
 use Rattle.std.specs.Prelude.{not, ◌&&◌, ◌||◌, nat_le, option_map}
 use Rattle.std.specs.Option.{is_some}
 use Rattle.std.proofs.lemmas.Bool.{and_parts}
@@ -20,9 +20,13 @@ use Rattle.guard_der.specs.ProperConstraints.{is_there_and, takes_size}
 use Rattle.guard_der.specs.Sound.{is_proper, is_proper_kind, is_proper_presence, are_proper, are_proper_constraints, is_proper_constraint, is_proper_element, are_proper_parts, has_distinct_tags, is_sound}
 use Rattle.guard_eval.specs.Presence.{element_kind, kind_at, kind_found, is_ruled_out}
 use Rattle.guard_tables.specs.declared.slots.Slots.{Slots}
-use Rattle.guard_tables.specs.Demands.{Demand, by_type, by_constraint, scalar, within, sent, unsent, Term}
-use Rattle.guard_tables.specs.Spread.{term, is_scalar, said, placed, ruled_out, unlisted, parts_from, spread_kind, spread_type, spread_one, spread_element, spread_all, spread_parts, spread}
-use Rattle.guard_tables.specs.Apt.{IsApt, IsAptFor, AllSpeak}
+use Rattle.guard_tables.specs.Demands.{Demand, by_type, by_constraint, Ask, scalar, within, sent, unsent, Term}
+use Rattle.guard_tables.specs.Slots.{only}
+use Rattle.guard_tables.specs.Formulas.{Form}
+use Rattle.guard_tables.specs.Terms.{term, is_scalar, said, placed, ruled_out, unlisted, listed_terms, parts_from, kind_terms}
+use Rattle.guard_tables.specs.Forms.{Formula, and_terms, aside, taking, form_one, form_element, form_all, form_each, form_own, form_type, form, Formulas, conjoined, forms_from, if_conjoined, nothing_yet}
+use Rattle.guard_tables.specs.Handed.{terms_at}
+use Rattle.guard_tables.specs.Apt.{IsApt, AreApt, IsAptFor, AllSpeak}
 use Rattle.guard_tables.proofs.Bases.{base_is, all_alike}
 
 -- ---- lists of tests
@@ -111,7 +115,7 @@ from_speak i k (component name t presence cs) kind h proper =
 few : (cs : Components) → IsTrue (nat_le (component_count cs) 64 && are_proper cs) → IsTrue (are_proper cs)
 few cs h = (and_parts (nat_le (component_count cs) 64) (are_proper cs) h).1
 
-pub kind_speaks : (k : Slots) (kind : AbstractKind) → IsTrue (is_proper_kind kind) → AllSpeak kind (spread_kind k kind)
+pub kind_speaks : (k : Slots) (kind : AbstractKind) → IsTrue (is_proper_kind kind) → AllSpeak kind (kind_terms k kind)
 kind_speaks k (type.sequence cs) h = from_speak 0 k cs (type.sequence cs) (λ j. ap (λ (n : ℕ). part_of n (type.sequence cs)) (omega arith)) (few cs h)
 kind_speaks k (type.set cs) h = from_speak 0 k cs (type.set cs) (λ j. ap (λ (n : ℕ). part_of n (type.set cs)) (omega arith)) (few cs h)
 kind_speaks k (type.choice cs) h = from_speak 0 k cs (type.choice cs) (λ j. ap (λ (n : ℕ). part_of n (type.choice cs)) (omega arith)) (few cs h)
@@ -137,59 +141,97 @@ found_apt kind c (Some d) h = (refl, (d.ty, refl, h))
 pub scalar_speaks : (k : Slots) (c : Constraint) (t : AbstractType) → IsTrue (is_proper_constraint c t) → is_scalar (kind_of t) ≡ true → AllSpeak (kind_of t) (term k (scalar (kind_of t) c) ∷ [])
 scalar_speaks k c t h e = ((e, (refl, (t, refl, h))), tt)
 
-pub parts_speak : (k : Slots) (partial : Bool) (ps : Parts) (t : AbstractType) → IsTrue (are_proper_parts ps t) → AllSpeak (kind_of t) (spread_parts k (kind_of t) partial ps)
+pub parts_speak : (k : Slots) (partial : Bool) (ps : Parts) (t : AbstractType) → IsTrue (are_proper_parts ps t) → AllSpeak (kind_of t) (listed_terms k (kind_of t) partial ps)
 parts_speak k partial type.no_parts t h = tt
 parts_speak k partial (type.part site i word ps) t h =
     let kind : AbstractKind = kind_of t in
     let a = and_parts (is_some (part_of i kind)) (are_proper_parts ps t) h in
-    speak_two kind (placed partial (component_at i (components_in kind)) word i k) (spread_parts k kind partial ps)
+    speak_two kind (placed partial (component_at i (components_in kind)) word i k) (listed_terms k kind partial ps)
     (placed_speaks partial (component_at i (components_in kind)) word i k kind a.0) (parts_speak k partial ps t a.1)
 parts_speak k partial (type.part_within site i c word ps) t h =
     let kind : AbstractKind = kind_of t in
     let a = and_parts (is_there_and (is_proper_constraint c) (part_of i kind)) (are_proper_parts ps t) h in
-    speak_two kind (placed partial (component_at i (components_in kind)) word i k) (term k (within i (by_constraint (kind_at i kind) c)) ∷ spread_parts k kind partial ps)
+    speak_two kind (placed partial (component_at i (components_in kind)) word i k) (term k (within i (by_constraint (kind_at i kind) c)) ∷ listed_terms k kind partial ps)
     (placed_speaks partial (component_at i (components_in kind)) word i k kind (there kind i (is_proper_constraint c) (part_of i kind) a.0))
     (found_apt kind c (component_at i (components_in kind)) a.0, parts_speak k partial ps t a.1)
 
+formula_speaks : (b : Bool) (kind : AbstractKind) (x y : Formula) → (b ≡ true → AllSpeak kind x.terms) → (b ≡ false → AllSpeak kind y.terms) → AllSpeak kind (cond b x y).terms
+formula_speaks true kind x y p q = p refl
+formula_speaks false kind x y p q = q refl
+
 mutual
-  type_speaks : (k : Slots) (t : AbstractType) → IsTrue (is_proper t) → AllSpeak (kind_of t) (spread_type k t)
-  type_speaks k (type_of tags kind cons) h =
-      speak_two kind (spread_all k kind cons) (spread_kind k kind) (all_speak k cons (type_of tags kind cons) (proper_constraints tags kind cons h)) (kind_speaks k kind (proper_inside (type_of tags kind cons) h))
+  type_speaks : (k : Slots) (t : AbstractType) (f : Formula) → IsTrue (is_proper t) → AllSpeak (kind_of t) f.terms → AllSpeak (kind_of t) (form_type k t f).terms
+  type_speaks k (type_of tags kind cons) f h s =
+      speak_two kind (form_all k kind cons f).terms (kind_terms k kind) (all_speak k cons f (type_of tags kind cons) (proper_constraints tags kind cons h) s) (kind_speaks k kind (proper_inside (type_of tags kind cons) h))
 
-  pub one_speaks : (k : Slots) (c : Constraint) (t : AbstractType) → IsTrue (is_proper_constraint c t) → AllSpeak (kind_of t) (spread_one k (kind_of t) c)
-  one_speaks k (at site e) t h =
-      speak_either (is_scalar (kind_of t)) (kind_of t) (term k (scalar (kind_of t) (at site e)) ∷ []) (spread_element k (kind_of t) e)
-      (λ yes. scalar_speaks k (at site e) t h yes) (λ other. element_speaks k e t h other)
+  one_speaks : (k : Slots) (c : Constraint) (f : Formula) (t : AbstractType) → IsTrue (is_proper_constraint c t) → AllSpeak (kind_of t) f.terms → AllSpeak (kind_of t) (form_one k (kind_of t) c f).terms
+  one_speaks k (at site e) f t h s =
+      formula_speaks (is_scalar (kind_of t)) (kind_of t) (and_terms f (term k (scalar (kind_of t) (at site e)) ∷ [])) (form_element k (kind_of t) e f)
+      (λ yes. speak_two (kind_of t) f.terms (term k (scalar (kind_of t) (at site e)) ∷ []) s (scalar_speaks k (at site e) t h yes)) (λ other. element_speaks k e f t h other s)
 
-  pub element_speaks : (k : Slots) (e : Element) (t : AbstractType) → IsTrue (is_proper_element e t) → is_scalar (kind_of t) ≡ false → AllSpeak (kind_of t) (spread_element k (kind_of t) e)
-  element_speaks k (type.single_value w) t h other = ((ap not other, t, refl, h), tt)
-  element_speaks k (type.contained_subtype u) t h other =
+  element_speaks : (k : Slots) (e : Element) (f : Formula) (t : AbstractType) → IsTrue (is_proper_element e t) → is_scalar (kind_of t) ≡ false → AllSpeak (kind_of t) f.terms → AllSpeak (kind_of t) (form_element k (kind_of t) e f).terms
+  element_speaks k (type.single_value w) f t h other s = speak_two (kind_of t) f.terms _ s ((ap not other, t, refl, h), tt)
+  element_speaks k (type.contained_subtype u) f t h other s =
       let p = contained u t h in
-      all_alike (kind_of u) (kind_of t) (spread_type k u) (base_is u t p.base) (type_speaks k u p.proper)
-  element_speaks k (type.range low high) t h other = tt
-  element_speaks k (type.size c) t h other = (and_parts (takes_size (kind_of t)) (is_proper_constraint c type_of_size) h, tt)
-  element_speaks k (type.permitted_alphabet ranges) t h other = (h, tt)
-  element_speaks k (type.with_component c) t h other = (element_apt (kind_of t) c h, tt)
-  element_speaks k (type.with_components partial ps) t h other =
-      speak_two (kind_of t) (spread_parts k (kind_of t) partial ps) (unlisted partial (kind_of t) ps k)
-      (parts_speak k partial ps t (and_parts (has_parts (kind_of t)) (are_proper_parts ps t) h).1) (unlisted_speak partial (kind_of t) ps k)
-  element_speaks k (type.union cs) t h other = tt
-  element_speaks k (type.intersection cs) t h other = all_speak k cs t h
-  element_speaks k (type.except c d) t h other = tt
-  element_speaks k (type.all_except c) t h other = tt
+      let base = base_is u t p.base in
+      all_alike (kind_of u) (kind_of t) (form_type k u f).terms base (type_speaks k u f p.proper (all_alike (kind_of t) (kind_of u) f.terms (sym base) s))
+  element_speaks k (type.range low high) f t h other s = s
+  element_speaks k (type.size c) f t h other s = speak_two (kind_of t) f.terms _ s (and_parts (takes_size (kind_of t)) (is_proper_constraint c type_of_size) h, tt)
+  element_speaks k (type.permitted_alphabet ranges) f t h other s = speak_two (kind_of t) f.terms _ s (h, tt)
+  element_speaks k (type.with_component c) f t h other s = speak_two (kind_of t) f.terms _ s (element_apt (kind_of t) c h, tt)
+  element_speaks k (type.with_components partial ps) f t h other s =
+      let kind : AbstractKind = kind_of t in
+      speak_two kind f.terms (listed_terms k kind partial ps ++ unlisted partial kind ps k) s
+      (speak_two kind (listed_terms k kind partial ps) (unlisted partial kind ps k) (parts_speak k partial ps t (and_parts (has_parts kind) (are_proper_parts ps t) h).1) (unlisted_speak partial kind ps k))
+  element_speaks k (type.union cs) f t h other s = each_speak cs (aside f) t h s
+  element_speaks k (type.intersection cs) f t h other s = all_speak k cs f t h s
+  element_speaks k (type.except c d) f t h other s =
+      let a = and_parts (is_proper_constraint c t) (is_proper_constraint d t) h in
+      one_speaks (only (form_one k (kind_of t) c f).next) d (taking (form_one k (kind_of t) c f)) t a.1 (one_speaks k c f t a.0 s)
+  element_speaks k (type.all_except c) f t h other s = one_speaks (only f.next) c (taking f) t h s
 
-  all_speak : (k : Slots) (cs : Constraints) (t : AbstractType) → IsTrue (are_proper_constraints cs t) → AllSpeak (kind_of t) (spread_all k (kind_of t) cs)
-  all_speak k no_constraints t h = tt
-  all_speak k (constraint c cs) t h =
+  all_speak : (k : Slots) (cs : Constraints) (f : Formula) (t : AbstractType) → IsTrue (are_proper_constraints cs t) → AllSpeak (kind_of t) f.terms → AllSpeak (kind_of t) (form_all k (kind_of t) cs f).terms
+  all_speak k no_constraints f t h s = s
+  all_speak k (constraint c cs) f t h s =
       let a = and_parts (is_proper_constraint c t) (are_proper_constraints cs t) h in
-      speak_two (kind_of t) (spread_one k (kind_of t) c) (spread_all k (kind_of t) cs) (one_speaks k c t a.0) (all_speak k cs t a.1)
+      all_speak k cs (form_one k (kind_of t) c f) t a.1 (one_speaks k c f t a.0 s)
 
-pub speak_law : (kind : AbstractKind) (d : Demand) → IsApt kind d → (k : Slots) → AllSpeak kind (spread k d)
-speak_law kind (by_type t) apt k = all_alike (kind_of t) kind (spread_type k t) apt.0 (type_speaks k t apt.1)
-speak_law kind (by_constraint own c) apt k =
+  each_speak : (cs : Constraints) (f : Formula) (t : AbstractType) → IsTrue (are_proper_constraints cs t) → AllSpeak (kind_of t) f.terms → AllSpeak (kind_of t) (form_each (kind_of t) cs f).terms
+  each_speak no_constraints f t h s = s
+  each_speak (constraint c cs) f t h s =
+      let a = and_parts (is_proper_constraint c t) (are_proper_constraints cs t) h in
+      each_speak cs (form_own false (kind_of t) c f) t a.1 (one_speaks (only f.next) c (taking f) t a.0 s)
+
+form_speaks : (kind : AbstractKind) (d : Demand) (k : Slots) (f : Formula) → IsApt kind d → AllSpeak kind f.terms → AllSpeak kind (form k d f).terms
+form_speaks kind (by_type t) k f apt s = all_alike (kind_of t) kind (form_type k t f).terms apt.0 (type_speaks k t f apt.1 (all_alike kind (kind_of t) f.terms (sym apt.0) s))
+form_speaks kind (by_constraint own c) k f apt s =
     let t : AbstractType = apt.1.0 in
-    all_alike own kind (spread_one k own c) apt.0
-    (subst (λ (of : AbstractKind). AllSpeak of (spread_one k of c)) apt.1.1 (one_speaks k c t apt.1.2))
+    all_alike own kind (form_one k own c f).terms apt.0
+    (subst (λ (of : AbstractKind). AllSpeak of f.terms → AllSpeak of (form_one k of c f).terms) apt.1.1 (one_speaks k c f t apt.1.2) (all_alike kind own f.terms (sym apt.0) s))
+
+pub speak_law : (kind : AbstractKind) (d : Demand) → IsApt kind d → (k : Slots) (n : ℕ) → AllSpeak kind (form k d (nothing_yet n)).terms
+speak_law kind d apt k n = form_speaks kind d k (nothing_yet n) apt tt
 
 pub sound_law : (t : AbstractType) → IsTrue (is_sound t) → IsApt (kind_of t) (by_type t)
 sound_law t h = (refl, proper_of_sound t h)
+
+-- ---- all that is asked at a node
+
+conjoined_speak : (kind : AbstractKind) (asks : List Ask) (f : Formula) → AreApt kind asks → AllSpeak kind f.terms → AllSpeak kind (conjoined asks f).terms
+conjoined_speak kind [] f apt s = s
+conjoined_speak kind (a ∷ asks) f apt s = conjoined_speak kind asks (form a.slots a.demand f) apt.1 (form_speaks kind a.demand a.slots f apt.0 s)
+
+formulas_speak : (kind : AbstractKind) (k : ℕ) (asks : List Ask) (f : Formula) → AreApt kind asks → AllSpeak kind f.terms → AllSpeak kind (forms_from k asks f).terms
+formulas_speak kind k [] f apt s = s
+formulas_speak kind k (a ∷ asks) f apt s =
+    formulas_speak kind (suc k) asks (aside (form (only k) a.demand (aside f))) apt.1 (form_speaks kind a.demand (only k) (aside f) apt.0 s)
+
+-- of both where there is the one or the other
+pub either_forms : (P : List Term → Type 0) (ws : List Form) (own others : Formulas) → P own.terms → P others.terms → P (if_conjoined ws own others).terms
+either_forms P [] own others p q = p
+either_forms P (w ∷ ws) own others p q = q
+
+pub terms_speak : (kind : AbstractKind) (asks : List Ask) → AreApt kind asks → AllSpeak kind (terms_at asks)
+terms_speak kind asks apt =
+    let n : ℕ = length asks in
+    either_forms (AllSpeak kind) (conjoined asks (nothing_yet n)).besides _ (forms_from 0 asks (nothing_yet n)) (conjoined_speak kind asks (nothing_yet n) apt tt) (formulas_speak kind 0 asks (nothing_yet n) apt tt)

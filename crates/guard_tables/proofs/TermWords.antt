@@ -12,12 +12,13 @@ use Rattle.guard_eval.specs.Presence.{is_ruled_out}
 use Rattle.guard_tables.specs.declared.slots.Slots.{Slots}
 use Rattle.guard_tables.specs.Slots.{only}
 use Rattle.guard_tables.specs.Demands.{Demand, by_type, by_constraint, Ask, Atom, scalar, each, within, sent, unsent, Term}
-use Rattle.guard_tables.specs.Formulas.{Raise, never}
-use Rattle.guard_tables.specs.Spread.{term, is_scalar, said, placed, ruled_out, unlisted, parts_from, spread_kind, spread_type, spread_one, spread_element, spread_all, spread_parts, spread, terms_of, are_plain_asks}
-use Rattle.guard_tables.specs.Forms.{Formula, formula, form_one, form_element, form_all, form_some, form_type, form, forms_from, forms_of}
+use Rattle.guard_tables.specs.Formulas.{Form, Raise}
+use Rattle.guard_tables.specs.Terms.{term, is_scalar, said, placed, ruled_out, unlisted, parts_from, kind_terms, listed_terms}
+use Rattle.guard_tables.specs.Forms.{Formula, formulas, and_terms, aside, taking, form_one, form_element, form_all, form_each, form_own, form_type, form, conjoined, forms_from, forms_of, if_conjoined, nothing_yet}
 use Rattle.guard_tables.specs.Handed.{ask, each_in, each_of, within_in, within_of, terms_at}
 use Rattle.guard_tables.specs.inside.SlotWords.{InWords, AsksIn}
 use Rattle.guard_tables.proofs.SlotWords.{only_in}
+use Rattle.guard_tables.proofs.Speaking.{either_forms}
 
 abbrev pub TermsIn : List Term → Type 0
 TermsIn [] = ⊤
@@ -35,7 +36,7 @@ chosen_in : (b : Bool) (xs ys : List Term) → TermsIn xs → TermsIn ys → Ter
 chosen_in true xs ys p q = p
 chosen_in false xs ys p q = q
 
--- ---- conjunctions: each test has the slots of the demand
+-- ---- each term has the slots of the demand, or one of its own
 
 said_in : (partial : Bool) (presence : AbstractPresence) (word : Option Word) (i : ℕ) (k : Slots) → InWords k
     → TermsIn (said partial presence word i k)
@@ -67,7 +68,7 @@ parts_in : (i : ℕ) (k : Slots) (cs : Components) → InWords k → TermsIn (pa
 parts_in i k no_components h = tt
 parts_in i k (component name t presence cs) h = (h, parts_in (suc i) k cs h)
 
-kind_in : (k : Slots) (kind : AbstractKind) → InWords k → TermsIn (spread_kind k kind)
+kind_in : (k : Slots) (kind : AbstractKind) → InWords k → TermsIn (kind_terms k kind)
 kind_in k (type.sequence cs) h = parts_in 0 k cs h
 kind_in k (type.set cs) h = parts_in 0 k cs h
 kind_in k (type.choice cs) h = parts_in 0 k cs h
@@ -75,120 +76,78 @@ kind_in k (type.sequence_of t) h = (h, tt)
 kind_in k (type.set_of t) h = (h, tt)
 kind_in k _ h = tt
 
-mutual
-  type_in : (k : Slots) (t : AbstractType) → InWords k → TermsIn (spread_type k t)
-  type_in k (type_of tags kind cons) h = both_in (spread_all k kind cons) (spread_kind k kind) (all_in k kind cons h)
-      (kind_in k kind h)
-
-  one_in : (k : Slots) (kind : AbstractKind) (c : Constraint) → InWords k → TermsIn (spread_one k kind c)
-  one_in k kind (at site e) h = chosen_in (is_scalar kind) (term k (scalar kind (at site e)) ∷ [])
-      (spread_element k kind e) (h, tt) (element_in k kind e h)
-
-  element_in : (k : Slots) (kind : AbstractKind) (e : Element) → InWords k → TermsIn (spread_element k kind e)
-  element_in k kind (type.single_value w) h = (h, tt)
-  element_in k kind (type.contained_subtype t) h = type_in k t h
-  element_in k kind (type.range low high) h = tt
-  element_in k kind (type.size c) h = (h, tt)
-  element_in k kind (type.permitted_alphabet ranges) h = (h, tt)
-  element_in k kind (type.with_component c) h = (h, tt)
-  element_in k kind (type.with_components partial ps) h =
-      both_in (spread_parts k kind partial ps) (unlisted partial kind ps k) (listed_in k kind partial ps h)
-      (unlisted_in partial kind ps k h)
-  element_in k kind (type.union cs) h = tt
-  element_in k kind (type.intersection cs) h = all_in k kind cs h
-  element_in k kind (type.except c d) h = tt
-  element_in k kind (type.all_except c) h = tt
-
-  all_in : (k : Slots) (kind : AbstractKind) (cs : Constraints) → InWords k → TermsIn (spread_all k kind cs)
-  all_in k kind no_constraints h = tt
-  all_in k kind (constraint c cs) h = both_in (spread_one k kind c) (spread_all k kind cs) (one_in k kind c h)
-      (all_in k kind cs h)
-
-  listed_in : (k : Slots) (kind : AbstractKind) (partial : Bool) (ps : Parts) → InWords k
-      → TermsIn (spread_parts k kind partial ps)
-  listed_in k kind partial type.no_parts h = tt
-  listed_in k kind partial (type.part site i word ps) h =
-      both_in (placed partial (component_at i (components_in kind)) word i k) (spread_parts k kind partial ps)
-      (placed_in partial (component_at i (components_in kind)) word i k h) (listed_in k kind partial ps h)
-  listed_in k kind partial (type.part_within site i c word ps) h =
-      both_in (placed partial (component_at i (components_in kind)) word i k) _
-      (placed_in partial (component_at i (components_in kind)) word i k h) (h, listed_in k kind partial ps h)
-
-demand_in : (k : Slots) (d : Demand) → InWords k → TermsIn (spread k d)
-demand_in k (by_type t) h = type_in k t h
-demand_in k (by_constraint kind c) h = one_in k kind c h
-
-plain_in : (asks : List Ask) → AsksIn asks → TermsIn (terms_of asks)
-plain_in [] h = tt
-plain_in (a ∷ asks) h = both_in (spread a.slots a.demand) (terms_of asks) (demand_in a.slots a.demand h.0)
-    (plain_in asks h.1)
-
--- ---- demands of any form: each test has one slot
+listed_in : (k : Slots) (kind : AbstractKind) (partial : Bool) (ps : Parts) → InWords k
+    → TermsIn (listed_terms k kind partial ps)
+listed_in k kind partial type.no_parts h = tt
+listed_in k kind partial (type.part site i word ps) h =
+    both_in (placed partial (component_at i (components_in kind)) word i k) (listed_terms k kind partial ps)
+    (placed_in partial (component_at i (components_in kind)) word i k h) (listed_in k kind partial ps h)
+listed_in k kind partial (type.part_within site i c word ps) h =
+    both_in (placed partial (component_at i (components_in kind)) word i k) _
+    (placed_in partial (component_at i (components_in kind)) word i k h) (h, listed_in k kind partial ps h)
 
 one_of : (b : Bool) (f g : Formula) → TermsIn f.terms → TermsIn g.terms → TermsIn (cond b f g).terms
 one_of true f g p q = p
 one_of false f g p q = q
 
 mutual
-  form_one_in : (k n : ℕ) (kind : AbstractKind) (c : Constraint) → TermsIn (form_one k n kind c).terms
-  form_one_in k n kind (at site e) = one_of (is_scalar kind)
-      (formula (term (only k) (scalar kind (at site e)) ∷ []) never n) (form_element k n kind e) (only_in k, tt)
-      (form_element_in k n kind e)
+  type_in : (k : Slots) (t : AbstractType) (f : Formula) → InWords k → TermsIn f.terms → TermsIn (form_type k t f).terms
+  type_in k (type_of tags kind cons) f h p = both_in (form_all k kind cons f).terms (kind_terms k kind) (all_in k kind cons f h p) (kind_in k kind h)
 
-  form_element_in : (k n : ℕ) (kind : AbstractKind) (e : Element) → TermsIn (form_element k n kind e).terms
-  form_element_in k n kind (type.single_value w) = element_in (only k) kind (type.single_value w) (only_in k)
-  form_element_in k n kind (type.contained_subtype t) = form_type_in k n t
-  form_element_in k n kind (type.range low high) = element_in (only k) kind (type.range low high) (only_in k)
-  form_element_in k n kind (type.size c) = element_in (only k) kind (type.size c) (only_in k)
-  form_element_in k n kind (type.permitted_alphabet ranges) = element_in (only k) kind (type.permitted_alphabet ranges)
-      (only_in k)
-  form_element_in k n kind (type.with_component c) = element_in (only k) kind (type.with_component c) (only_in k)
-  form_element_in k n kind (type.with_components partial ps) = element_in (only k) kind
-      (type.with_components partial ps) (only_in k)
-  form_element_in k n kind (type.union cs) = form_some_in n kind cs
-  form_element_in k n kind (type.intersection cs) = form_all_in k n kind cs
-  form_element_in k n kind (type.except c d) =
-      let m : ℕ = (form_one k n kind c).next in both_in (form_one k n kind c).terms (form_one m (suc m) kind d).terms
-      (form_one_in k n kind c) (form_one_in m (suc m) kind d)
-  form_element_in k n kind (type.all_except c) = form_one_in n (suc n) kind c
+  one_in : (k : Slots) (kind : AbstractKind) (c : Constraint) (f : Formula) → InWords k → TermsIn f.terms → TermsIn (form_one k kind c f).terms
+  one_in k kind (at site e) f h p = one_of (is_scalar kind) (and_terms f (term k (scalar kind (at site e)) ∷ [])) (form_element k kind e f) (both_in f.terms _ p (h, tt)) (element_in k kind e f h p)
 
-  form_all_in : (k n : ℕ) (kind : AbstractKind) (cs : Constraints) → TermsIn (form_all k n kind cs).terms
-  form_all_in k n kind no_constraints = tt
-  form_all_in k n kind (constraint c cs) =
-      let m : ℕ = (form_one k n kind c).next in both_in (form_one k n kind c).terms (form_all k m kind cs).terms
-      (form_one_in k n kind c) (form_all_in k m kind cs)
+  element_in : (k : Slots) (kind : AbstractKind) (e : Element) (f : Formula) → InWords k → TermsIn f.terms → TermsIn (form_element k kind e f).terms
+  element_in k kind (type.single_value w) f h p = both_in f.terms _ p (h, tt)
+  element_in k kind (type.contained_subtype t) f h p = type_in k t f h p
+  element_in k kind (type.range low high) f h p = p
+  element_in k kind (type.size c) f h p = both_in f.terms _ p (h, tt)
+  element_in k kind (type.permitted_alphabet ranges) f h p = both_in f.terms _ p (h, tt)
+  element_in k kind (type.with_component c) f h p = both_in f.terms _ p (h, tt)
+  element_in k kind (type.with_components partial ps) f h p =
+      both_in f.terms _ p (both_in (listed_terms k kind partial ps) (unlisted partial kind ps k) (listed_in k kind partial ps h) (unlisted_in partial kind ps k h))
+  element_in k kind (type.union cs) f h p = each_in_words kind cs (aside f) p
+  element_in k kind (type.intersection cs) f h p = all_in k kind cs f h p
+  element_in k kind (type.except c d) f h p = one_in (only (form_one k kind c f).next) kind d (taking (form_one k kind c f)) (only_in _) (one_in k kind c f h p)
+  element_in k kind (type.all_except c) f h p = one_in (only f.next) kind c (taking f) (only_in f.next) p
 
-  form_some_in : (n : ℕ) (kind : AbstractKind) (cs : Constraints) → TermsIn (form_some n kind cs).terms
-  form_some_in n kind no_constraints = tt
-  form_some_in n kind (constraint c cs) =
-      let m : ℕ = (form_one n (suc n) kind c).next in both_in (form_one n (suc n) kind c).terms
-      (form_some m kind cs).terms (form_one_in n (suc n) kind c) (form_some_in m kind cs)
+  all_in : (k : Slots) (kind : AbstractKind) (cs : Constraints) (f : Formula) → InWords k → TermsIn f.terms → TermsIn (form_all k kind cs f).terms
+  all_in k kind no_constraints f h p = p
+  all_in k kind (constraint c cs) f h p = all_in k kind cs (form_one k kind c f) h (one_in k kind c f h p)
 
-  form_type_in : (k n : ℕ) (t : AbstractType) → TermsIn (form_type k n t).terms
-  form_type_in k n (type_of tags kind cons) =
-      both_in (form_all k n kind cons).terms (spread_kind (only k) kind) (form_all_in k n kind cons)
-      (kind_in (only k) kind (only_in k))
+  each_in_words : (kind : AbstractKind) (cs : Constraints) (f : Formula) → TermsIn f.terms → TermsIn (form_each kind cs f).terms
+  each_in_words kind no_constraints f p = p
+  each_in_words kind (constraint c cs) f p = each_in_words kind cs (form_own false kind c f) (one_in (only f.next) kind c (taking f) (only_in f.next) p)
 
-form_in : (k n : ℕ) (d : Demand) → TermsIn (form k n d).terms
-form_in k n (by_type t) = form_type_in k n t
-form_in k n (by_constraint kind c) = form_one_in k n kind c
+form_in : (k : Slots) (d : Demand) (f : Formula) → InWords k → TermsIn f.terms → TermsIn (form k d f).terms
+form_in k (by_type t) f h p = type_in k t f h p
+form_in k (by_constraint kind c) f h p = one_in k kind c f h p
 
-forms_in : (k n : ℕ) (asks : List Ask) → AsksIn asks
-    → TermsIn (forms_from k n asks).terms × RaisesIn (forms_from k n asks).raises
-forms_in k n [] h = (tt, tt)
-forms_in k n (a ∷ asks) h =
-    let m : ℕ = (form k n a.demand).next in
-    let rest = forms_in (suc k) m asks h.1 in
-    (both_in (form k n a.demand).terms (forms_from (suc k) m asks).terms (form_in k n a.demand) rest.0, (h.0, rest.1))
+conjoined_in : (asks : List Ask) (f : Formula) → AsksIn asks → TermsIn f.terms → TermsIn (conjoined asks f).terms
+conjoined_in [] f h p = p
+conjoined_in (a ∷ asks) f h p = conjoined_in asks (form a.slots a.demand f) h.1 (form_in a.slots a.demand f h.0 p)
+
+forms_in : (k : ℕ) (asks : List Ask) (f : Formula) → AsksIn asks → TermsIn f.terms → TermsIn (forms_from k asks f).terms
+forms_in k [] f h p = p
+forms_in k (a ∷ asks) f h p = forms_in (suc k) asks (aside (form (only k) a.demand (aside f))) h.1 (form_in (only k) a.demand (aside f) (only_in k) p)
+
+raised_in : (k : ℕ) (asks : List Ask) (f : Formula) → AsksIn asks → RaisesIn (forms_from k asks f).raises
+raised_in k [] f h = tt
+raised_in k (a ∷ asks) f h = (h.0, raised_in (suc k) asks (aside (form (only k) a.demand (aside f))) h.1)
 
 -- ---- all that is asked at a node, and of its parts
 
 pub terms_in : (asks : List Ask) → AsksIn asks → TermsIn (terms_at asks)
-terms_in asks h = chosen_in (are_plain_asks asks) (terms_of asks) (forms_of asks).terms (plain_in asks h)
-    (forms_in 0 (length asks) asks h).0
+terms_in asks h =
+    let n : ℕ = length asks in
+    either_forms TermsIn (conjoined asks (nothing_yet n)).besides _ (forms_from 0 asks (nothing_yet n)) (conjoined_in asks (nothing_yet n) h tt) (forms_in 0 asks (nothing_yet n) h tt)
+
+some_raised : (ws : List Form) (f : Formula) (asks : List Ask) → AsksIn asks → RaisesIn (if_conjoined ws (formulas f.terms [] f.next) (forms_from 0 asks (nothing_yet (length asks)))).raises
+some_raised [] f asks h = tt
+some_raised (w ∷ ws) f asks h = raised_in 0 asks (nothing_yet (length asks)) h
 
 pub raises_in : (asks : List Ask) → AsksIn asks → RaisesIn (forms_of asks).raises
-raises_in asks h = (forms_in 0 (length asks) asks h).1
+raises_in asks h = some_raised (conjoined asks (nothing_yet (length asks))).besides (conjoined asks (nothing_yet (length asks))) asks h
 
 all_asks : (xs ys : List Ask) → AsksIn xs → AsksIn ys → AsksIn (xs ++ ys)
 all_asks [] ys p q = q

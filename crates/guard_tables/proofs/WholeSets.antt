@@ -11,6 +11,7 @@ use Rattle.guard_model.specs.AbstractType.{AbstractKind, Constraints, type_of}
 use Rattle.guard_model.specs.AbstractValue as value
 use Rattle.guard_model.specs.Kinds.{is_integer}
 use Rattle.guard_model.specs.Limits.{fits_128_bits}
+use Rattle.guard_model.specs.SameBase.{bare_kind}
 use Rattle.guard_model.specs.TypeView.{constraint_view, constraints_of}
 use Rattle.guard_eval.specs.Member.{holds, all_hold, some_hold, is_member}
 
@@ -72,6 +73,15 @@ pub some_done : (kind : AbstractKind) (z : ℤ) (cs : List Cons) (i : ℕ) (a f 
 some_done kind z cs i a f total ends so_far =
     sym (or_false a) ∙ ap (λ (b : Bool). a || b) (sym (and_false f))
     ∙ ap (λ (b : Bool). a || (f && b)) (sym (at_drop_all (λ (ds : List Cons). some_hold (rest_of ds) kind (value.integer z)) cs i ends)) ∙ so_far
+
+-- ---- kinds of INTEGER
+
+bare_integer : (kind : AbstractKind) → is_integer (bare_kind kind) ≡ is_integer kind
+bare_integer (type.integer names) = refl
+bare_integer _ = refl
+
+pub alike_integer : (own kind : AbstractKind) → bare_kind own ≡ bare_kind kind → is_integer kind ≡ true → is_integer own ≡ true
+alike_integer own kind e whole = sym (bare_integer own) ∙ ap is_integer e ∙ bare_integer kind ∙ whole
 
 -- ---- members of a type
 

@@ -7,7 +7,7 @@ use Rattle.guard_model.specs.SameBase.{bare_kind}
 use Rattle.guard_der.specs.ProperConstraints.{may_stand_in, takes_size}
 use Rattle.guard_der.specs.Sound.{is_proper, is_proper_constraint}
 use Rattle.guard_tables.specs.Demands.{Demand, by_type, by_constraint, Ask, Atom, scalar, equals, sized, spelled, each, within, sent, unsent, Term}
-use Rattle.guard_tables.specs.Spread.{is_scalar}
+use Rattle.guard_tables.specs.Terms.{is_scalar}
 
 -- kinds of the same base: the same values fit both, constraints aside
 abbrev pub IsAlike : AbstractKind → AbstractKind → Type 0

@@ -1,79 +1,109 @@
--- Demands of any form at a node (X.680 50): tests with slots of the node's own, and a formula over these slots.
-use Rattle.std.specs.Prelude.{ℕ, suc, List, [], ◌∷◌, ◌++◌, length, if◌then◌else◌}
+-- What a demand comes to at a node (X.680 clauses 49 to 51): terms with its slots, and where they aren't all that it
+-- asks, formulas over what fails in slots of the node's own.
+use Rattle.std.specs.Prelude.{ℕ, suc, Bool, true, false, List, [], ◌∷◌, ◌++◌, length, if◌then◌else◌}
 use Rattle.guard_model.specs.AbstractType as type
 use Rattle.guard_model.specs.AbstractType.{AbstractType, AbstractKind, Constraint, Constraints, Element, type_of, at, no_constraints, constraint}
+use Rattle.guard_eval.specs.Presence.{element_kind}
 use Rattle.guard_tables.specs.declared.slots.Slots.{Slots}
 use Rattle.guard_tables.specs.Slots.{only}
 use Rattle.guard_tables.specs.Formulas.{Form, never, always, slot, both, either, unless, Raise}
-use Rattle.guard_tables.specs.Demands.{Demand, by_type, by_constraint, Ask, scalar, Term}
-use Rattle.guard_tables.specs.Spread.{term, is_scalar, spread_kind, spread_element}
+use Rattle.guard_tables.specs.Demands.{Demand, by_type, by_constraint, Ask, scalar, equals, sized, spelled, each, Term}
+use Rattle.guard_tables.specs.Terms.{term, is_scalar, unlisted, listed_terms, kind_terms}
 
--- a demand with a slot that is given: its tests, where it fails besides, and the next slot that is free
+-- What is asked so far: terms; formulas, of which each says where it fails besides; and the next slot that is free. A
+-- conjunction has no formulas.
 pub record Formula : Type 0 where
   pub terms : List Term
-  pub besides : Form
+  pub besides : List Form
   pub next : ℕ
 
-abbrev pub formula : List Term → Form → ℕ → Formula
-formula terms form next = record { terms = terms; besides = form; next = next }
+abbrev pub and_terms : Formula → List Term → Formula
+and_terms f ts = record { terms = f.terms ++ ts; besides = f.besides; next = f.next }
 
--- both with the same slot
-abbrev pub joined : Formula → (ℕ → Formula) → Formula
-joined a more = formula (a.terms ++ (more a.next).terms) (either a.besides (more a.next).besides) (more a.next).next
+-- nothing besides yet
+abbrev pub aside : Formula → Formula
+aside f = record { terms = f.terms; besides = []; next = f.next }
 
--- the first with a slot of its own, which is this one
-abbrev pub or_else : ℕ → Formula → (ℕ → Formula) → Formula
-or_else n a more =
-    formula (a.terms ++ (more a.next).terms) (both (either (slot n) a.besides) (more a.next).besides) (more a.next).next
+-- nor that, with the next slot taken
+abbrev pub taking : Formula → Formula
+taking f = record { terms = f.terms; besides = []; next = suc f.next }
 
--- the second with a slot of its own, the first that is free
-abbrev pub minus : Formula → (ℕ → Formula) → Formula
-minus a more =
-    formula (a.terms ++ (more a.next).terms)
-    (either a.besides (unless (either (slot a.next) (more a.next).besides))) (more a.next).next
+-- the first, and what came after it as this form
+abbrev pub and_form : Formula → Form → Formula → Formula
+and_form f w g = record { terms = g.terms; besides = f.besides ++ w ∷ []; next = g.next }
 
-abbrev pub other_than : ℕ → Formula → Formula
-other_than n a = formula a.terms (unless (either (slot n) a.besides)) a.next
+-- one of these, or the last
+abbrev pub eithers : List Form → Form → Form
+eithers [] last = last
+eithers (f ∷ fs) last = either f (eithers fs last)
 
--- With slot k, where slots from n on are free: what is asked together has slot k itself; each member of a union, and
--- each set that is taken away, has a free slot of its own.
+-- all of these, and the last
+abbrev pub boths : List Form → Form → Form
+boths [] last = last
+boths (f ∷ fs) last = both f (boths fs last)
+
+-- where its own slot has failed, or what is besides says so
+abbrev pub own_form : ℕ → List Form → Form
+own_form n ws = either (slot n) (eithers ws never)
+
+-- of a set that is taken away
+abbrev pub turned : Bool → Form → Form
+turned true w = unless w
+turned false w = w
+
+abbrev pub in_own : Bool → Formula → Formula → Formula
+in_own taken f g = and_form f (turned taken (own_form f.next g.besides)) g
+
+-- what comes of it with the next free slot as its own
+abbrev pub with_own : Bool → Formula → (Slots → Formula → Formula) → Formula
+with_own taken f more = in_own taken f (more (only f.next) (taking f))
+
+abbrev pub in_union : Formula → Formula → Formula
+in_union f g = and_form f (boths g.besides always) g
+
+-- With the slots k: what is asked together has them too; each member of a union, and each set that is taken away, has
+-- the next free slot as its own.
 abbrev mutual
-  pub form_one : ℕ → ℕ → AbstractKind → Constraint → Formula
-  form_one k n kind (at site e) =
-      if is_scalar kind then formula (term (only k) (scalar kind (at site e)) ∷ []) never n else form_element k n kind e
+  pub form_one : Slots → AbstractKind → Constraint → Formula → Formula
+  form_one k kind (at site e) f =
+      if is_scalar kind then and_terms f (term k (scalar kind (at site e)) ∷ []) else form_element k kind e f
 
   -- of a kind that isn't scalar
-  pub form_element : ℕ → ℕ → AbstractKind → Element → Formula
-  form_element k n kind (type.single_value w) = formula (spread_element (only k) kind (type.single_value w)) never n
-  form_element k n kind (type.contained_subtype t) = form_type k n t
-  form_element k n kind (type.range low high) = formula (spread_element (only k) kind (type.range low high)) never n
-  form_element k n kind (type.size c) = formula (spread_element (only k) kind (type.size c)) never n
-  form_element k n kind (type.permitted_alphabet ranges) =
-      formula (spread_element (only k) kind (type.permitted_alphabet ranges)) never n
-  form_element k n kind (type.with_component c) = formula (spread_element (only k) kind (type.with_component c)) never n
-  form_element k n kind (type.with_components partial ps) =
-      formula (spread_element (only k) kind (type.with_components partial ps)) never n
-  form_element k n kind (type.union cs) = form_some n kind cs
-  form_element k n kind (type.intersection cs) = form_all k n kind cs
-  form_element k n kind (type.except c d) = minus (form_one k n kind c) (λ n. form_one n (suc n) kind d)
-  form_element k n kind (type.all_except c) = other_than n (form_one n (suc n) kind c)
+  pub form_element : Slots → AbstractKind → Element → Formula → Formula
+  form_element k kind (type.single_value w) f = and_terms f (term k (equals w) ∷ [])
+  form_element k kind (type.contained_subtype t) f = form_type k t f
+  -- a range is on INTEGER alone, which is scalar
+  form_element k kind (type.range low high) f = f
+  form_element k kind (type.size c) f = and_terms f (term k (sized c) ∷ [])
+  form_element k kind (type.permitted_alphabet ranges) f = and_terms f (term k (spelled ranges) ∷ [])
+  form_element k kind (type.with_component c) f = and_terms f (term k (each (by_constraint (element_kind kind) c)) ∷ [])
+  form_element k kind (type.with_components partial ps) f =
+      and_terms f (listed_terms k kind partial ps ++ unlisted partial kind ps k)
+  -- a union fails where all of its members do
+  form_element k kind (type.union cs) f = in_union f (form_each kind cs (aside f))
+  form_element k kind (type.intersection cs) f = form_all k kind cs f
+  -- A EXCEPT B fails where A does or B doesn't
+  form_element k kind (type.except c d) f = with_own true (form_one k kind c f) (λ k f. form_one k kind d f)
+  form_element k kind (type.all_except c) f = with_own true f (λ k f. form_one k kind c f)
 
-  pub form_all : ℕ → ℕ → AbstractKind → Constraints → Formula
-  form_all k n kind no_constraints = formula [] never n
-  form_all k n kind (constraint c cs) = joined (form_one k n kind c) (λ n. form_all k n kind cs)
+  pub form_all : Slots → AbstractKind → Constraints → Formula → Formula
+  form_all k kind no_constraints f = f
+  form_all k kind (constraint c cs) f = form_all k kind cs (form_one k kind c f)
 
-  -- where none of them holds
-  pub form_some : ℕ → AbstractKind → Constraints → Formula
-  form_some n kind no_constraints = formula [] always n
-  form_some n kind (constraint c cs) = or_else n (form_one n (suc n) kind c) (λ n. form_some n kind cs)
+  -- the members of a union
+  pub form_each : AbstractKind → Constraints → Formula → Formula
+  form_each kind no_constraints f = f
+  form_each kind (constraint c cs) f = form_each kind cs (with_own false f (λ k f. form_one k kind c f))
 
-  pub form_type : ℕ → ℕ → AbstractType → Formula
-  form_type k n (type_of tags kind cons) =
-      joined (form_all k n kind cons) (λ n. formula (spread_kind (only k) kind) never n)
+  pub form_type : Slots → AbstractType → Formula → Formula
+  form_type k (type_of tags kind cons) f = and_terms (form_all k kind cons f) (kind_terms k kind)
 
-abbrev pub form : ℕ → ℕ → Demand → Formula
-form k n (by_type t) = form_type k n t
-form k n (by_constraint kind c) = form_one k n kind c
+abbrev pub form_own : Bool → AbstractKind → Constraint → Formula → Formula
+form_own taken kind c f = with_own taken f (λ k f. form_one k kind c f)
+
+abbrev pub form : Slots → Demand → Formula → Formula
+form k (by_type t) f = form_type k t f
+form k (by_constraint kind c) f = form_one k kind c f
 
 -- ---- all that is asked at a node
 
@@ -85,15 +115,36 @@ pub record Formulas : Type 0 where
 abbrev pub formulas : List Term → List Raise → ℕ → Formulas
 formulas terms raises next = record { terms = terms; raises = raises; next = next }
 
-abbrev pub more_formulas : ℕ → Slots → Formula → (ℕ → Formulas) → Formulas
-more_formulas k slots a more =
-    formulas (a.terms ++ (more a.next).terms)
-    (record { slots = slots; where_failed = either (slot k) a.besides } ∷ (more a.next).raises) (more a.next).next
+-- all of these, with their own slots
+abbrev pub conjoined : List Ask → Formula → Formula
+conjoined [] f = f
+conjoined (a ∷ asks) f = conjoined asks (form a.slots a.demand f)
 
--- The first of them has slot k, each other the next one, and slots from n on are free.
-abbrev pub forms_from : ℕ → ℕ → List Ask → Formulas
-forms_from k n [] = formulas [] [] n
-forms_from k n (a ∷ asks) = more_formulas k a.slots (form k n a.demand) (λ n. forms_from (suc k) n asks)
+abbrev pub and_raise : Raise → Formulas → Formulas
+and_raise r fs = formulas fs.terms (r ∷ fs.raises) fs.next
+
+abbrev pub raise_of : ℕ → Slots → Formula → Raise
+raise_of k slots f = record { slots = slots; where_failed = own_form k f.besides }
+
+-- The first of them has slot k, each other the next one.
+abbrev pub forms_from : ℕ → List Ask → Formula → Formulas
+forms_from k [] f = formulas f.terms [] f.next
+forms_from k (a ∷ asks) f =
+    and_raise (raise_of k a.slots (form (only k) a.demand (aside f)))
+    (forms_from (suc k) asks (aside (form (only k) a.demand (aside f))))
+
+-- so many slots are taken
+abbrev pub nothing_yet : ℕ → Formula
+nothing_yet n = record { terms = []; besides = []; next = n }
+
+-- conjunctions as they are, with nothing raised; otherwise the others
+abbrev pub if_conjoined : List Form → Formulas → Formulas → Formulas
+if_conjoined [] own others = own
+if_conjoined (w ∷ ws) own others = others
+
+abbrev pub chosen_forms : Formula → Formulas → Formulas
+chosen_forms f others = if_conjoined f.besides (formulas f.terms [] f.next) others
 
 abbrev pub forms_of : List Ask → Formulas
-forms_of asks = forms_from 0 (length asks) asks
+forms_of asks =
+    chosen_forms (conjoined asks (nothing_yet (length asks))) (forms_from 0 asks (nothing_yet (length asks)))

@@ -1,4 +1,4 @@
--- What is asked of the parts of a node, and how many slots are needed at each node.
+-- What is asked of the parts of a node, and how many conditions that are at each.
 use Rattle.std.specs.Prelude.{ℕ, suc, ◌+◌, ◌≤◌, nat_eq, List, [], ◌∷◌, ◌++◌, if◌then◌else◌, ⊤}
 use Rattle.guard_model.specs.AbstractType as type
 use Rattle.guard_model.specs.AbstractType.{AbstractType, AbstractKind, Components, type_of, no_components, component}
@@ -6,7 +6,6 @@ use Rattle.guard_tables.specs.declared.slots.Slots.{Slots}
 use Rattle.guard_tables.specs.Slots.{only}
 use Rattle.guard_tables.specs.Conditions.{of_type, of_constraint, most_conditions}
 use Rattle.guard_tables.specs.Demands.{Demand, by_type, by_constraint, Ask, Atom, scalar, equals, sized, spelled, each, within, sent, unsent, Term}
-use Rattle.guard_tables.specs.Spread.{terms_of, are_plain_asks}
 use Rattle.guard_tables.specs.Forms.{forms_of}
 
 -- ---- what is asked of parts
@@ -44,41 +43,6 @@ abbrev pub within_of : ℕ → List Term → List Ask
 within_of i [] = []
 within_of i (t ∷ ts) = within_in i t.slots t.atom ++ within_of i ts
 
--- ---- at all nodes of a type
-
--- Conjunctions alone are tested with their own slots; otherwise the node has slots of its own.
-abbrev pub terms_at : List Ask → List Term
-terms_at asks = if are_plain_asks asks then terms_of asks else (forms_of asks).terms
-
--- how many slots a node has of its own
-abbrev pub slots_needed : List Ask → ℕ
-slots_needed asks = (forms_of asks).next
-
--- at each node at most so many are needed, where this is asked of values of the type
-abbrev mutual
-  pub NeedsFew : AbstractType → List Ask → Type 0
-  NeedsFew (type_of tags kind cons) asks = (slots_needed asks ≤ most_conditions) × NeedsFewInside kind (terms_at asks)
-
-  pub NeedsFewInside : AbstractKind → List Term → Type 0
-  NeedsFewInside (type.sequence cs) terms = NeedsFewAmong 0 cs terms
-  NeedsFewInside (type.set cs) terms = NeedsFewAmong 0 cs terms
-  NeedsFewInside (type.choice cs) terms = NeedsFewAmong 0 cs terms
-  NeedsFewInside (type.sequence_of t) terms = NeedsFew t (each_of terms)
-  NeedsFewInside (type.set_of t) terms = NeedsFew t (each_of terms)
-  NeedsFewInside type.boolean terms = ⊤
-  NeedsFewInside (type.integer names) terms = ⊤
-  NeedsFewInside (type.bit_string names) terms = ⊤
-  NeedsFewInside type.octet_string terms = ⊤
-  NeedsFewInside type.null terms = ⊤
-  NeedsFewInside type.object_identifier terms = ⊤
-  NeedsFewInside (type.enumerated items) terms = ⊤
-  NeedsFewInside (type.characters kind) terms = ⊤
-
-  -- of these components, the first of which is at this place
-  pub NeedsFewAmong : ℕ → Components → List Term → Type 0
-  NeedsFewAmong i no_components terms = ⊤
-  NeedsFewAmong i (component name t presence cs) terms = NeedsFew t (within_of i terms) × NeedsFewAmong (suc i) cs terms
-
 -- ---- how many conditions these are
 
 abbrev pub of_demand : Demand → List ℕ → ℕ
@@ -103,6 +67,36 @@ of_atom (unsent i) place way = 0
 abbrev pub of_terms : List Term → ℕ → List ℕ → ℕ
 of_terms [] place way = 0
 of_terms (t ∷ ts) place way = of_atom t.atom place way + of_terms ts place way
+
+-- ---- at all nodes of a type
+
+abbrev pub terms_at : List Ask → List Term
+terms_at asks = (forms_of asks).terms
+
+-- at each node there are at most so many, where this is asked of values of the type
+abbrev mutual
+  pub NeedsFew : AbstractType → List Ask → Type 0
+  NeedsFew (type_of tags kind cons) asks = (of_asks asks [] ≤ most_conditions) × NeedsFewInside kind (terms_at asks)
+
+  pub NeedsFewInside : AbstractKind → List Term → Type 0
+  NeedsFewInside (type.sequence cs) terms = NeedsFewAmong 0 cs terms
+  NeedsFewInside (type.set cs) terms = NeedsFewAmong 0 cs terms
+  NeedsFewInside (type.choice cs) terms = NeedsFewAmong 0 cs terms
+  NeedsFewInside (type.sequence_of t) terms = NeedsFew t (each_of terms)
+  NeedsFewInside (type.set_of t) terms = NeedsFew t (each_of terms)
+  NeedsFewInside type.boolean terms = ⊤
+  NeedsFewInside (type.integer names) terms = ⊤
+  NeedsFewInside (type.bit_string names) terms = ⊤
+  NeedsFewInside type.octet_string terms = ⊤
+  NeedsFewInside type.null terms = ⊤
+  NeedsFewInside type.object_identifier terms = ⊤
+  NeedsFewInside (type.enumerated items) terms = ⊤
+  NeedsFewInside (type.characters kind) terms = ⊤
+
+  -- of these components, the first of which is at this place
+  pub NeedsFewAmong : ℕ → Components → List Term → Type 0
+  NeedsFewAmong i no_components terms = ⊤
+  NeedsFewAmong i (component name t presence cs) terms = NeedsFew t (within_of i terms) × NeedsFewAmong (suc i) cs terms
 
 -- ---- what a table asks
 

@@ -10,12 +10,11 @@ use Rattle.guard_eval.specs.Member.{is_member}
 use Rattle.guard_tables.specs.declared.slots.Slots.{Slots}
 use Rattle.guard_tables.specs.Slots.{none, only, added, below, without, has}
 use Rattle.guard_tables.specs.Demands.{Demand, by_type, Ask, Term, meets, asks_fail, terms_fail}
-use Rattle.guard_tables.specs.Spread.{spread, is_plain}
 use Rattle.guard_tables.specs.Alike.{AreConsistent}
 use Rattle.guard_tables.specs.Apt.{IsApt, AreApt, AllSpeak}
 use Rattle.guard_tables.specs.Conditions.{has_crowded_node}
-use Rattle.guard_tables.specs.Formulas.{fails_where}
-use Rattle.guard_tables.specs.Forms.{form}
+use Rattle.guard_tables.specs.Formulas.{never, fails_where}
+use Rattle.guard_tables.specs.Forms.{Formula, eithers, form, nothing_yet}
 use Rattle.guard_tables.specs.Handed.{each_of, within_of, terms_at, of_demand, of_asks, asks_from, NeedsFew}
 use Rattle.guard_tables.specs.Lay.{lay}
 use Rattle.guard_tables.specs.Marking.{fails_at}
@@ -38,42 +37,38 @@ BelowLaw = (n slot : ℕ) → n ≤ 256 → has (below n) slot ≡ nat_lt slot n
 abbrev pub WithoutLaw : Type 0
 WithoutLaw = (m k : Slots) (slot : ℕ) → has (without m k) slot ≡ (has m slot && not (has k slot))
 
--- ---- demands as tests
-
--- A conjunction fails its slots exactly where one of its tests does.
-abbrev pub SpreadLaw : Type 0
-SpreadLaw = (kind : AbstractKind) (d : Demand) → IsApt kind d → IsTrue (is_plain d)
-    → (k : Slots) (v : AbstractValue) → IsTrue (fits_kind kind v) → (slot : ℕ)
-    → terms_fail slot v (spread k d) ≡ (has k slot && not (meets d v))
-
--- Each test is one of the values of the kind, and what it asks of a part may be asked of it.
-abbrev pub SpeakLaw : Type 0
-SpeakLaw = (kind : AbstractKind) (d : Demand) → IsApt kind d → (k : Slots) → AllSpeak kind (spread k d)
+-- ---- demands as formulas
 
 -- Membership in a sound type may be asked of the values that fit it.
 abbrev pub SoundLaw : Type 0
 SoundLaw = (t : AbstractType) → IsTrue (is_sound t) → IsApt (kind_of t) (by_type t)
 
--- ---- formulas
-
--- the set has the slots from n on as the tests say, up to the last
+-- the set has the slots from n on as the terms say, up to the last
 abbrev pub Agrees : (ℕ → Bool) → AbstractValue → List Term → ℕ → ℕ → Type 0
 Agrees failed v terms n last = (j : ℕ) → n ≤ j → j < last → failed j ≡ terms_fail j v terms
 
--- A demand of any form fails where its own slot has failed or the formula says so.
+-- A demand of any form, with one slot, fails where its own slot has failed or one of its formulas says so.
 abbrev pub FormLaw : Type 0
 FormLaw = (kind : AbstractKind) (d : Demand) → IsApt kind d → (k n : ℕ) → k < n
     → (v : AbstractValue) → IsTrue (fits_kind kind v)
-    → (failed : ℕ → Bool) → Agrees failed v (form k n d).terms n (form k n d).next
-    → (terms_fail k v (form k n d).terms || fails_where (form k n d).besides failed) ≡ not (meets d v)
+    → (failed : ℕ → Bool) → Agrees failed v (form (only k) d (nothing_yet n)).terms n (form (only k) d (nothing_yet n)).next
+    → (terms_fail k v (form (only k) d (nothing_yet n)).terms
+    || fails_where (eithers (form (only k) d (nothing_yet n)).besides never) failed) ≡ not (meets d v)
 
--- Its tests too are of the values of the kind, and ask of parts what may be asked of them.
-abbrev pub FormSpeakLaw : Type 0
-FormSpeakLaw = (kind : AbstractKind) (d : Demand) → IsApt kind d → (k n : ℕ) → AllSpeak kind (form k n d).terms
+-- One without formulas is a conjunction: its slots fail exactly where one of its terms does.
+abbrev pub ConjunctionLaw : Type 0
+ConjunctionLaw = (kind : AbstractKind) (d : Demand) → IsApt kind d → (k : Slots) (n : ℕ)
+    → (form k d (nothing_yet n)).besides ≡ [] → (v : AbstractValue) → IsTrue (fits_kind kind v) → (slot : ℕ)
+    → terms_fail slot v (form k d (nothing_yet n)).terms ≡ (has k slot && not (meets d v))
+
+-- Each term is one of the values of the kind, and what it asks of a part may be asked of it.
+abbrev pub SpeakLaw : Type 0
+SpeakLaw = (kind : AbstractKind) (d : Demand) → IsApt kind d → (k : Slots) (n : ℕ)
+    → AllSpeak kind (form k d (nothing_yet n)).terms
 
 -- It takes no more slots, its own among them, than conditions are counted.
 abbrev pub CountLaw : Type 0
-CountLaw = (k n : ℕ) (d : Demand) → (form k n d).next + 1 ≤ n + of_demand d []
+CountLaw = (k : Slots) (d : Demand) (f : Formula) → (form k d f).next + 1 ≤ f.next + of_demand d []
 
 -- ---- all nodes
 

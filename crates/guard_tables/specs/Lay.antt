@@ -1,6 +1,6 @@
 -- The plan of a declared type that asks of its values all that is asked of them: the tests of each node, and below it
 -- what they ask of parts.
-use Rattle.std.specs.Prelude.{ℕ, suc, pos, Bool, true, false, ◌&&◌, List, [], ◌∷◌, ◌++◌, map, Option, Some, None, option_and_then, nat_eq, if◌then◌else◌}
+use Rattle.std.specs.Prelude.{ℕ, suc, pos, Bool, true, false, not, ◌&&◌, List, [], ◌∷◌, ◌++◌, map, Option, Some, None, option_and_then, nat_eq, if◌then◌else◌}
 use Rattle.guard_model.specs.declared.tag.Tag.{Tag}
 use Rattle.guard_model.specs.AbstractType as type
 use Rattle.guard_model.specs.AbstractType.{AbstractType, AbstractKind, AbstractPresence, Components, NamedNumber, type_of, no_components, component}
@@ -16,11 +16,11 @@ use Rattle.guard_eval.specs.Elements.{is_in_some}
 use Rattle.guard_eval.specs.Member.{holds}
 use Rattle.guard_tables.specs.declared.slots.Slots.{Slots}
 use Rattle.guard_tables.specs.Slots.{none, added}
+use Rattle.guard_tables.specs.Formulas.{Raise}
 use Rattle.guard_tables.specs.Plan as plans
 use Rattle.guard_tables.specs.Plan.{AbstractTest, numbers, sizes, stored, AbstractCondition, Side, Plan, Body, Parts, plan, simple, series, set, choice, list, set_of, formula, no_parts, part, asked_of}
 use Rattle.guard_tables.specs.Marking.{type_marked}
 use Rattle.guard_tables.specs.Demands.{Ask, Atom, scalar, equals, sized, spelled, each, within, sent, unsent, Term}
-use Rattle.guard_tables.specs.Spread.{are_plain_asks}
 use Rattle.guard_tables.specs.Forms.{forms_of}
 use Rattle.guard_tables.specs.Handed.{each_of, within_of, terms_at}
 
@@ -83,50 +83,52 @@ abbrev pub added_if : Bool → Slots → Slots → Slots
 added_if true k m = added m k
 added_if false k m = m
 
--- what fails where the component at this place isn't there
-abbrev pub absent_in : ℕ → Slots → Atom → Slots → Slots
-absent_in i k (sent j) m = added_if (nat_eq j i) k m
-absent_in i k (unsent j) m = m
-absent_in i k (each d) m = m
-absent_in i k (within j d) m = m
-absent_in i k (scalar own c) m = m
-absent_in i k (equals w) m = m
-absent_in i k (sized c) m = m
-absent_in i k (spelled ranges) m = m
+-- the slots of those terms of which this holds
+abbrev pub slots_where : (Atom → Bool) → List Term → Slots
+slots_where test [] = none
+slots_where test (t ∷ ts) = added_if (test t.atom) t.slots (slots_where test ts)
+
+-- what the absence of the part at this place fails
+abbrev pub is_sent : ℕ → Atom → Bool
+is_sent i (sent j) = nat_eq j i
+is_sent i (unsent j) = false
+is_sent i (each d) = false
+is_sent i (within j d) = false
+is_sent i (scalar own c) = false
+is_sent i (equals w) = false
+is_sent i (sized c) = false
+is_sent i (spelled ranges) = false
+
+-- what its presence fails
+abbrev pub is_unsent : ℕ → Atom → Bool
+is_unsent i (unsent j) = nat_eq j i
+is_unsent i (sent j) = false
+is_unsent i (each d) = false
+is_unsent i (within j d) = false
+is_unsent i (scalar own c) = false
+is_unsent i (equals w) = false
+is_unsent i (sized c) = false
+is_unsent i (spelled ranges) = false
+
+-- what the choice of the alternative at this place fails: then no other is there
+abbrev pub is_unchosen : ℕ → Atom → Bool
+is_unchosen i (unsent j) = nat_eq j i
+is_unchosen i (sent j) = not (nat_eq j i)
+is_unchosen i (each d) = false
+is_unchosen i (within j d) = false
+is_unchosen i (scalar own c) = false
+is_unchosen i (equals w) = false
+is_unchosen i (sized c) = false
+is_unchosen i (spelled ranges) = false
 
 abbrev pub absent_of : ℕ → List Term → Slots
-absent_of i [] = none
-absent_of i (t ∷ ts) = absent_in i t.slots t.atom (absent_of i ts)
-
--- what fails where it is there
-abbrev pub present_in : ℕ → Slots → Atom → Slots → Slots
-present_in i k (unsent j) m = added_if (nat_eq j i) k m
-present_in i k (sent j) m = m
-present_in i k (each d) m = m
-present_in i k (within j d) m = m
-present_in i k (scalar own c) m = m
-present_in i k (equals w) m = m
-present_in i k (sized c) m = m
-present_in i k (spelled ranges) m = m
+absent_of i terms = slots_where (is_sent i) terms
 
 abbrev pub present_of : ℕ → List Term → Slots
-present_of i [] = none
-present_of i (t ∷ ts) = present_in i t.slots t.atom (present_of i ts)
-
--- what fails where the alternative at this place is the chosen one: then no other is there
-abbrev pub chosen_in : ℕ → Slots → Atom → Slots → Slots
-chosen_in i k (unsent j) m = added_if (nat_eq j i) k m
-chosen_in i k (sent j) m = if nat_eq j i then m else added m k
-chosen_in i k (each d) m = m
-chosen_in i k (within j d) m = m
-chosen_in i k (scalar own c) m = m
-chosen_in i k (equals w) m = m
-chosen_in i k (sized c) m = m
-chosen_in i k (spelled ranges) m = m
+present_of i terms = slots_where (is_unsent i) terms
 
 abbrev pub chosen_of : ℕ → List Term → Slots
-chosen_of i [] = none
-chosen_of i (t ∷ ts) = chosen_in i t.slots t.atom (chosen_of i ts)
+chosen_of i terms = slots_where (is_unchosen i) terms
 
 -- ---- plans
 
@@ -170,14 +172,15 @@ side_for t type.pending p absent present = record { absent = None; present = pre
 abbrev pub side_chosen : Slots → Side
 side_chosen present = record { absent = None; present = present; default = None }
 
--- demands that aren't conjunctions are formulas over what fails in slots of the node's own
-abbrev pub formulas_over : List Ask → Body → Body
-formulas_over asks b = if are_plain_asks asks then b else formula (forms_of asks).raises b
+-- where nothing is raised there is no node for it
+abbrev pub raised_of : List Raise → Body → Body
+raised_of [] b = b
+raised_of (r ∷ rs) b = formula (r ∷ rs) b
 
 abbrev mutual
   pub lay : AbstractType → List Ask → Plan
   lay (type_of tags kind cons) asks =
-      plan tags (is_constructed kind) (formulas_over asks (lay_kind kind (terms_at asks)))
+      plan tags (is_constructed kind) (raised_of (forms_of asks).raises (lay_kind kind (terms_at asks)))
 
   pub lay_kind : AbstractKind → List Term → Body
   lay_kind (type.sequence cs) terms =

@@ -12,7 +12,7 @@ pub mod Standing
 pub mod MarkingLaws
 -- ---- how what is asked is tested at a node
 pub mod Demands
-pub mod Spread
+pub mod Terms
 pub mod Apt
 pub mod Forms
 pub mod Handed

@@ -1,11 +1,10 @@
 -- What only private contracts and proofs cite.
 pub mod AskViews
 pub mod OnePart
-pub mod FormSteps
+pub mod FormViews
 pub mod JoinedRanges
 pub mod NumberSets
 pub mod Counting
-pub mod HandingDown
 pub mod Search
 pub mod SideViews
 pub mod SlotWords

@@ -1,5 +1,7 @@
 //! Steps in which nodes are put together, from the inside out.
-ghost use Rattle.std.specs.Prelude.{◌≡◌, ◌<◌, ◌-◌, ◌++◌, ◌∷◌, [], length, map, drop, Some, IfOk, true};
+ghost use Rattle.std.specs.Prelude.{◌≡◌, ◌<◌, ◌≤◌, ◌-◌, ◌++◌, ◌∷◌, [], length, map, drop, Some, IfOk, true};
+ghost use Rattle.guard_model.specs.Limits.{most_components};
+ghost use Rattle.guard_tables.specs.Lay.{raised_of};
 ghost use Rattle.guard_tables.specs.NodeViews.{condition_view, raise_view};
 ghost use Rattle.guard_tables.specs.Plan as plans;
 ghost use Rattle.guard_tables.specs.Plan.{body_in, tags_in, form_in, asked_of};
@@ -22,26 +24,16 @@ use std::alloc::Global;
 #[derive(Drop)]
 pub(crate) struct Stacked {
     pub builder: Builder,
-    pub first: u32,
+    pub first: usize,
 }
 
 /// With the one that wasn't with them.
 pub(crate) fn with_last(laid: Laid) -> Result<Stacked, OutOfMemory>
     ensures { IfOk result (λ s. Stacks laid s.builder s.first) }
 {
-    let first = small(laid.builder.hots.len())?;
+    let first = laid.builder.hots.len();
     let builder = laid.builder.with(laid.node.hot, laid.node.cold)?;
     Ok(Stacked { builder, first })
-}
-
-/// A table's nodes are fewer than 2 to the 32.
-fn small(number: usize) -> Result<u32, OutOfMemory>
-    ensures { IfOk result (λ same. same ≡ number) }
-{
-    let Ok(number) = u32::try_from(number) else {
-        return Err(OutOfMemory);
-    };
-    Ok(number)
 }
 
 // ---- in front of a node
@@ -71,15 +63,18 @@ pub(crate) fn with_conditions(
     })
 }
 
-/// Formulas over what fails there.
+/// Formulas over what fails there; where they raise nothing no node comes in front.
 pub(crate) fn with_formulas(
     laid: Laid,
     alloc: Global,
     raises: Vec<Raise>,
 ) -> Result<Laid, OutOfMemory>
     ensures { IfOk result (λ l. Lays laid.builder l (plans.plan (tags_in (plan_in laid)) (form_in (plan_in laid))
-        (plans.formula (map raise_view raises.items) (body_in (plan_in laid))))) }
+        (raised_of (map raise_view raises.items) (body_in (plan_in laid))))) }
 {
+    if raises.is_empty() {
+        return Ok(laid);
+    }
     let identifiers = Identifiers {
         own: laid.node.hot.identifier,
         other: laid.node.hot.other,
@@ -160,11 +155,12 @@ pub(crate) fn as_parts(
     group: Group,
     tag: Option<Tag>,
 ) -> Result<Laid, OutOfMemory>
-    requires { MayCome parts }
+    requires come { MayCome parts }
+    requires few { length parts.nodes.items ≤ most_components }
     ensures { IfOk result (λ l. Lays parts.builder l (plans.plan (own_tags tag) true (body_of_group group (parts_in parts plans.no_parts)))) }
 {
-    let first = small(parts.builder.hots.len())?;
-    let count = small(parts.nodes.len())?;
+    let first = parts.builder.hots.len();
+    let count = parts.nodes.len() as u32;
     let builder = with_all(parts)?;
     let node = group_node(alloc, group, tag, first, count);
     Ok(Laid { builder, node })

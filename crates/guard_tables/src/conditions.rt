@@ -1,89 +1,145 @@
-//! The conditions that types and constraints lay on one node. They are counted up to the greatest number of a usize,
-//! which is far more than a node may have.
-ghost use Rattle.std.specs.Prelude.{◌≡◌, [], map, not, nat_le};
-ghost use Rattle.guard_model.specs.TypeView.{type_view, constraint_view, element_view, constraints_of};
-ghost use Rattle.guard_tables.specs.Conditions.{of_type, of_constraints, of_constraint, of_element, most_conditions};
-ghost use Rattle.guard_tables.specs.inside.Counting.{counted, of_source, of_sources, source_view, sources_view};
+//! The conditions that types and constraints lay on the node at the end of a way. They are counted up to the greatest
+//! number of a usize, which is far more than a node may have.
+ghost use Rattle.std.specs.Prelude.{◌≡◌, ◌∷◌, map};
+ghost use Rattle.guard_model.specs.TypeView.{type_view, kind_view, component_view, constraint_view, element_view, part_view, components_of, constraints_of, parts_of};
+ghost use Rattle.guard_tables.specs.Conditions.{conditions, is_crowded, of_type, of_kind, of_component, of_constraints, of_constraint, of_element, of_parts};
+ghost use Rattle.guard_tables.specs.Tables.{types_view};
+ghost use Rattle.guard_tables.specs.inside.Counting.{counted, of_part, of_each, of_listed};
 
-use guard_model::{Cons, Rule, Ty};
+use guard_model::{Comp, Cons, Kind, Part, Rule, Ty};
 
 /// How many conditions a node may have.
 const MOST_CONDITIONS: usize = 256;
 
-/// What lays conditions on a node and on its parts.
-#[derive(Clone, Copy)]
-pub(crate) enum Source<'a> {
-    Type(&'a Ty),
-    Constraint(&'a Cons),
-}
-
-/// Whether they lay more than 256 conditions on the node.
+/// Whether all types together lay more than 256 conditions on the node.
 #[tactic(auto, using(crate::proofs::Counts::is_above))]
-pub(crate) fn is_crowded(sources: &[Source<'_>]) -> bool
-    ensures { result ≡ not (nat_le (of_sources (sources_view sources.now) []) most_conditions) }
+pub(crate) fn is_crowded(declared: &Ty, rules: &[&Ty], way: &[usize]) -> bool
+    ensures { result ≡ is_crowded (type_view declared.now ∷ types_view rules.now) way.now }
 {
-    of_all(sources) > MOST_CONDITIONS
+    of_type(declared, way).saturating_add(of_types(rules, way)) > MOST_CONDITIONS
 }
 
-fn of_all(sources: &[Source<'_>]) -> usize
-    ensures { result ≡ counted (of_sources (sources_view sources.now) []) }
+fn of_types(types: &[&Ty], way: &[usize]) -> usize
+    ensures { result ≡ counted (conditions (types_view types.now) way.now) }
 {
     let mut count: usize = 0;
-    for source in sources {
-        count = count.saturating_add(of_source(*source));
+    for ty in types {
+        count = count.saturating_add(of_type(ty, way));
     }
     count
 }
 
-fn of_source(source: Source<'_>) -> usize
-    ensures { result ≡ counted (of_source (source_view source.entry) []) }
+#[cycle(conditions)]
+fn of_type(ty: &Ty, way: &[usize]) -> usize
+    ensures { result ≡ counted (of_type (type_view ty.now) way.now) }
 {
-    match source {
-        Source::Type(ty) => of_type(ty),
-        Source::Constraint(constraint) => of_constraint(constraint),
+    of_kind(&ty.kind, way).saturating_add(of_constraints(&ty.cons, way))
+}
+
+/// One of the type itself; of each part what its type lays.
+#[cycle(conditions)]
+fn of_kind(kind: &Kind, way: &[usize]) -> usize
+    ensures { result ≡ counted (of_kind (kind_view kind.now) way.now) }
+{
+    let [place, rest @ ..] = way else {
+        return 1;
+    };
+    match kind {
+        Kind::Sequence(comps) | Kind::Set(comps) | Kind::Choice(comps) => {
+            of_component(comps, *place, rest)
+        }
+        Kind::SequenceOf(element) | Kind::SetOf(element) => of_type(element, rest),
+        _ => 0,
     }
 }
 
-/// One of the type itself, and those of its constraints.
-#[tactic(auto, using(crate::proofs::SlotCounts::kind_counts))]
+/// Of the component or alternative at this place.
 #[cycle(conditions)]
-fn of_type(ty: &Ty) -> usize
-    ensures { result ≡ counted (of_type (type_view ty.now) []) }
+fn of_component(comps: &[Comp], place: usize, way: &[usize]) -> usize
+    ensures { result ≡ counted (of_component (components_of (map component_view comps.now)) place way.now) }
 {
-    let own: usize = 1;
-    own.saturating_add(of_constraints(&ty.cons))
+    match comps.get(place) {
+        Some(comp) => of_type(&comp.ty, way),
+        None => 0,
+    }
 }
 
 #[cycle(conditions)]
-fn of_constraints(constraints: &[Cons]) -> usize
-    ensures { result ≡ counted (of_constraints (constraints_of (map constraint_view constraints.now)) []) }
+fn of_constraints(constraints: &[Cons], way: &[usize]) -> usize
+    ensures { result ≡ counted (of_constraints (constraints_of (map constraint_view constraints.now)) way.now) }
 {
     let mut count: usize = 0;
     for constraint in constraints {
-        count = count.saturating_add(of_constraint(constraint));
+        count = count.saturating_add(of_constraint(constraint, way));
     }
     count
 }
 
 /// One of the constraint itself, and those of what is in it.
 #[cycle(conditions)]
-fn of_constraint(constraint: &Cons) -> usize
-    ensures { result ≡ counted (of_constraint (constraint_view constraint.now) []) }
+fn of_constraint(constraint: &Cons, way: &[usize]) -> usize
+    ensures { result ≡ counted (of_constraint (constraint_view constraint.now) way.now) }
 {
-    let own: usize = 1;
-    own.saturating_add(of_rule(&constraint.rule))
+    let own = usize::from(way.is_empty());
+    own.saturating_add(of_rule(&constraint.rule, way))
 }
 
-/// What speaks of parts lays nothing on the node; inside SIZE are conditions on a number, which don't count.
+/// Inside SIZE are conditions on a number, which don't count.
 #[cycle(conditions)]
-fn of_rule(rule: &Rule) -> usize
-    ensures { result ≡ counted (of_element (element_view rule.now) []) }
+fn of_rule(rule: &Rule, way: &[usize]) -> usize
+    ensures { result ≡ counted (of_element (element_view rule.now) way.now) }
 {
     match rule {
-        Rule::Inside(ty) => of_type(ty),
-        Rule::Any(constraints) | Rule::Both(constraints) => of_constraints(constraints),
-        Rule::Minus(kept, taken) => of_constraint(kept).saturating_add(of_constraint(taken)),
-        Rule::Other(other) => of_constraint(other),
+        Rule::Inside(ty) => of_type(ty, way),
+        Rule::Each(each) => of_each(each, way),
+        Rule::Parts(_, parts) => of_listed(parts, way),
+        Rule::Any(constraints) | Rule::Both(constraints) => of_constraints(constraints, way),
+        Rule::Minus(kept, taken) => {
+            of_constraint(kept, way).saturating_add(of_constraint(taken, way))
+        }
+        Rule::Other(other) => of_constraint(other, way),
+        _ => 0,
+    }
+}
+
+#[cycle(conditions)]
+fn of_each(each: &Cons, way: &[usize]) -> usize
+    ensures { result ≡ counted (of_each (constraint_view each.now) way.now) }
+{
+    match way {
+        [_, rest @ ..] => of_constraint(each, rest),
+        [] => 0,
+    }
+}
+
+#[cycle(conditions)]
+fn of_listed(parts: &[Part], way: &[usize]) -> usize
+    ensures { result ≡ counted (of_listed (parts_of (map part_view parts.now)) way.now) }
+{
+    match way {
+        [place, rest @ ..] => of_parts(parts, *place, rest),
+        [] => 0,
+    }
+}
+
+#[cycle(conditions)]
+fn of_parts(parts: &[Part], place: usize, way: &[usize]) -> usize
+    ensures { result ≡ counted (of_parts (parts_of (map part_view parts.now)) place way.now) }
+{
+    let mut count: usize = 0;
+    for part in parts {
+        count = count.saturating_add(of_part(part, place, way));
+    }
+    count
+}
+
+/// Of one part of WITH COMPONENTS, where it is the one at this place.
+#[cycle(conditions)]
+fn of_part(part: &Part, place: usize, way: &[usize]) -> usize
+    ensures { result ≡ counted (of_part (part_view part.now) place way.now) }
+{
+    match &part.cons {
+        Some(constraint) if usize::from(part.at) == place => of_constraint(constraint, way),
         _ => 0,
     }
 }

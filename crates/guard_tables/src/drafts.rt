@@ -81,7 +81,7 @@ pub(crate) fn bare(
     kind: Kind,
     identifiers: Identifiers,
     asked: bool,
-    first: u32,
+    first: usize,
     count: u32,
 ) -> Node
     ensures hot { result.hot ≡ bare_hot kind identifiers asked first count }
@@ -171,7 +171,7 @@ pub(crate) fn group_node(
     alloc: Global,
     group: Group,
     tag: Option<Tag>,
-    first: u32,
+    first: usize,
     count: u32,
 ) -> Node
     ensures node { (spots : List Spot) (k : ℕ) → first + count ≤ k → IsNode result.hot result.cold spots k }

@@ -1,42 +1,46 @@
 //! Formulas, put together from the right.
 ghost use Rattle.std.specs.Prelude.{◌≡◌, map, IfOk};
 ghost use Rattle.guard_tables.specs.Formulas as formulas;
-ghost use Rattle.guard_tables.specs.inside.FormSteps.{eithers, boths};
+ghost use Rattle.guard_tables.specs.Forms.{eithers, boths, own_form};
 ghost use Rattle.guard_tables.specs.NodeViews.{form_view};
 
 use crate::node::Form;
 use guard_model::OutOfMemory;
 use std::alloc::Global;
 
-/// It fails where one of these does, or the last.
-pub(crate) fn either_of_all(
-    alloc: Global,
-    forms: Vec<Form>,
-    last: Form,
-) -> Result<Form, OutOfMemory>
-    ensures { IfOk result (λ f. form_view f ≡ eithers (map form_view forms.items) (form_view last)) }
+/// It fails where this slot has failed or one of these says so.
+pub(crate) fn own_form(alloc: Global, slot: u8, besides: Vec<Form>) -> Result<Form, OutOfMemory>
+    ensures { IfOk result (λ f. form_view f ≡ own_form slot (map form_view besides.items)) }
+{
+    let other = one_of(alloc, besides)?;
+    either(alloc, Form::Slot(slot), other)
+}
+
+/// It fails where one of these does.
+fn one_of(alloc: Global, forms: Vec<Form>) -> Result<Form, OutOfMemory>
+    ensures { IfOk result (λ f. form_view f ≡ eithers (map form_view forms.items) formulas.never) }
 {
     let mut forms = forms;
-    let mut all = last;
+    let mut all = Form::Never;
     while let Some(form) = forms.pop() {
         all = either(alloc, form, all)?;
     }
     Ok(all)
 }
 
-/// It fails where all of these do, and the last.
-pub(crate) fn both_of_all(alloc: Global, forms: Vec<Form>, last: Form) -> Result<Form, OutOfMemory>
-    ensures { IfOk result (λ f. form_view f ≡ boths (map form_view forms.items) (form_view last)) }
+/// It fails where all of these do.
+pub(crate) fn all_of(alloc: Global, forms: Vec<Form>) -> Result<Form, OutOfMemory>
+    ensures { IfOk result (λ f. form_view f ≡ boths (map form_view forms.items) formulas.always) }
 {
     let mut forms = forms;
-    let mut all = last;
+    let mut all = Form::Always;
     while let Some(form) = forms.pop() {
         all = both(alloc, form, all)?;
     }
     Ok(all)
 }
 
-pub(crate) fn either(alloc: Global, first: Form, second: Form) -> Result<Form, OutOfMemory>
+fn either(alloc: Global, first: Form, second: Form) -> Result<Form, OutOfMemory>
     ensures { IfOk result (λ f. form_view f ≡ formulas.either (form_view first) (form_view second)) }
 {
     let first = Box::new(alloc, first)?;

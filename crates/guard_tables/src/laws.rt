@@ -1,5 +1,5 @@
 //! Laws of the definitions alone. Each is carried by a function that does nothing when it runs.
-ghost use Rattle.guard_tables.specs.Laws.{NoneLaw, OnlyLaw, AddedLaw, BelowLaw, WithoutLaw, SpreadLaw, SpeakLaw, SoundLaw, FormLaw, FormSpeakLaw, CountLaw, EachHandLaw, WithinHandLaw, FewLaw, LayLaw, MemberLaw, TableMembersLaw, TableRoomLaw, StandsLaw};
+ghost use Rattle.guard_tables.specs.Laws.{NoneLaw, OnlyLaw, AddedLaw, BelowLaw, WithoutLaw, SoundLaw, FormLaw, ConjunctionLaw, SpeakLaw, CountLaw, EachHandLaw, WithinHandLaw, FewLaw, LayLaw, MemberLaw, TableMembersLaw, TableRoomLaw, StandsLaw};
 
 /// Which slots a set has.
 pub fn law_slots()
@@ -10,19 +10,13 @@ pub fn law_slots()
     ensures without { WithoutLaw }
 {}
 
-/// What a type or a constraint asks of the values at a node is what some tests of the node ask, where no union and no
-/// EXCEPT is in it.
-pub fn law_spread()
-    ensures fails { SpreadLaw }
-    ensures speaks { SpeakLaw }
-    ensures sound { SoundLaw }
-{}
-
-/// What any demand asks, unions, EXCEPT and ALL EXCEPT in it, is a formula over slots of its own, and each test of
-/// these slots is one of the node.
+/// What a type or a constraint asks of the values at a node is what some terms of the node ask, with formulas over slots
+/// of the node's own where it isn't a conjunction.
 pub fn law_forms()
     ensures fails { FormLaw }
-    ensures speaks { FormSpeakLaw }
+    ensures conjunctions { ConjunctionLaw }
+    ensures speaks { SpeakLaw }
+    ensures sound { SoundLaw }
 {}
 
 /// 256 slots suffice at each node of a type, whatever the depth, where no node has too many conditions.

@@ -1,11 +1,14 @@
 //! The nodes of a type and of what is asked of its values. What is inside the parts of a node comes first, then the
 //! parts side by side; the node itself is answered and isn't with them yet.
-ghost use Rattle.std.specs.Prelude.{◌≡◌, IfOk, IsTrue, map, true, false};
+ghost use Rattle.std.specs.Prelude.{◌≡◌, ◌≤◌, IfOk, IsTrue, map, true, false};
 ghost use Rattle.guard_der.specs.Der as der;
 ghost use Rattle.guard_der.specs.Sound.{is_sound, is_proper_presence};
+ghost use Rattle.guard_model.specs.Counts.{component_count};
 ghost use Rattle.guard_model.specs.Kinds.{kind_of};
+ghost use Rattle.guard_model.specs.Limits.{most_components};
 ghost use Rattle.guard_model.specs.TypeView.{type_view, kind_view, component_view, components_of};
 ghost use Rattle.guard_tables.specs.Apt.{AreApt, AllSpeak};
+ghost use Rattle.guard_tables.specs.Forms.{forms_of};
 ghost use Rattle.guard_tables.specs.Handed.{each_of, within_of, terms_at, NeedsFew};
 ghost use Rattle.guard_tables.specs.Lay as plan;
 ghost use Rattle.guard_tables.specs.NodeViews.{condition_view};
@@ -31,10 +34,8 @@ use crate::giving::give_out;
 use crate::kinds_of_nodes::{item_numbers, simple_kind};
 use crate::laid::{Laid, LaidParts};
 use crate::node_list::{Builder, Nodes};
-use crate::plain::are_plain_asks;
-use crate::presence::{absent_of, chosen_of, present_of};
+use crate::presence::{Event, slots_where};
 use crate::sides::{PartSide, side_chosen, side_for};
-use crate::spreading::terms_of;
 use guard_model::{Comp, Kind, OutOfMemory, Tag, Ty};
 use std::alloc::Global;
 
@@ -76,12 +77,8 @@ fn lay_asked(
 ) -> Result<Laid, OutOfMemory>
     requires { AskedMayBeLaid (kind_view kind.now) (asks_view asks.now) }
     ensures { IfOk result (λ l. Lays builder l (plans.plan (own_tags tag) (der.is_constructed (kind_view kind.now))
-        (plan.formulas_over (asks_view asks.now) (plan.lay_kind (kind_view kind.now) (terms_at (asks_view asks.now)))))) }
+        (plan.raised_of (forms_of (asks_view asks.now)).raises (plan.lay_kind (kind_view kind.now) (terms_at (asks_view asks.now)))))) }
 {
-    if are_plain_asks(asks) {
-        let terms = terms_of(alloc, asks)?;
-        return lay_kind(kind, alloc, &terms, tag, builder);
-    }
     let formulas = forms_of(alloc, asks)?;
     let laid = lay_kind(kind, alloc, &formulas.terms, tag, builder)?;
     with_formulas(laid, alloc, formulas.raises)
@@ -193,7 +190,8 @@ fn lay_group(
     conditions: Conditions,
     builder: Builder,
 ) -> Result<Laid, OutOfMemory>
-    requires { PartsMayBeLaid 0 (components_of (map component_view comps.now)) (terms_view terms.now) }
+    requires few { component_count (components_of (map component_view comps.now)) ≤ most_components }
+    requires parts { PartsMayBeLaid 0 (components_of (map component_view comps.now)) (terms_view terms.now) }
     ensures { IfOk result (λ l. Lays builder l (plans.plan (own_tags tag) true (asked_of (map condition_view conditions.list.items)
         (body_of_group group (parts_of_group group 0 (components_of (map component_view comps.now)) (terms_view terms.now)))))) }
 {
@@ -262,9 +260,9 @@ fn side_of(
     ensures { IfOk result (λ s. part_side_view s ≡ side_of_part group place (component_view comp.now) (terms_view terms.now) (plan.lay (component_view comp.now).ty (asks_view asks.now))) }
 {
     if let Group::Choice = group {
-        return Ok(side_chosen(chosen_of(place, terms)));
+        return Ok(side_chosen(slots_where(Event::Chosen, place, terms)));
     }
-    let absent = absent_of(place, terms);
-    let present = present_of(place, terms);
+    let absent = slots_where(Event::Absent, place, terms);
+    let present = slots_where(Event::Present, place, terms);
     side_for(alloc, &comp.ty, &comp.presence, asks, absent, present)
 }

@@ -6,9 +6,8 @@
 //! | Why do types make none, and which reason comes first? | `fault.rt` | `Tables.antt` |
 //! | Which types does a table keep? | `kept_types.rt`, each once `sharing.rt` | `SharedTypes.antt`, `Sharing.antt` |
 //! | When are two types one and the same? | `same_types.rt` | `SameParts.antt` |
-//! | What is asked of a value at a node, how much is too much? | `conditions.rt` | `Conditions.antt`, `Counting.antt` |
+//! | How many conditions has a node, and how many are too many? | `conditions.rt` | `Conditions.antt`, `Counting.antt` |
 //! | At which nodes is that looked at? | `nodes.rt` | `Conditions.antt`, `Search.antt` |
-//! | What is laid on the parts of a node? | `handing_down.rt` | `HandingDown.antt` |
 //! | Which slots have failed? | `slots.rt` | `Slots.antt` |
 //! | How are the nodes of a table put together? | `layout.rt` (`lay_nodes`) | `Lay.antt` |
 //! | By which steps? | `assembly.rt`, `laid.rt` | `Laid.antt`, `Bare.antt`, `Aside.antt` |
@@ -23,15 +22,14 @@
 //! | For which types does a plan stand, for which a table's nodes? | `table.rt` | `Standing.antt`, `StandsFor.antt` |
 //! | Which nodes are there? | `node.rt` | `NodeViews.antt` |
 //! | What keeps them in order? | `node_list.rt` | `TableNodes.antt`, `NodesView.antt` |
-//! | Which tests of one node test what types and constraints ask? | `laws.rt` | `Demands.antt`, `Spread.antt` |
-//! | And which formulas over its slots? | `laws.rt` | `Forms.antt` |
+//! | Which terms and formulas of one node ask what types and constraints ask? | `laws.rt` | `Demands.antt`, `Forms.antt` |
 //! | Which plan asks all of it, how many slots does a node need? | `laws.rt` | `Lay.antt`, `Handed.antt`, `Laws.antt` |
 //! | What is asked at a node, in code? | `asks.rt` | `AskViews.antt` |
-//! | Which of it is a conjunction, that tests ask in full? | `plain.rt` | `Spread.antt` |
-//! | The same as tests | `spreading.rt`, `parts.rt` | `Spread.antt`, `OnePart.antt` |
-//! | The same as formulas | `form_terms.rt`, `form_trees.rt`, `asks_at_node.rt` | `FormSteps.antt` |
-//! | The same of parts | `giving.rt`, `gathering.rt` | `Handed.antt`, `Giving.antt` |
-//! | The same of a component's presence | `presence.rt` | `Lay.antt` |
+//! | To which terms do the parts of a type and of WITH COMPONENTS come? | `parts.rt` | `Terms.antt`, `OnePart.antt` |
+//! | To which terms and formulas does a demand come? | `formulas.rt`, `form_trees.rt` | `Forms.antt`, `FormViews.antt` |
+//! | And all that is asked at a node? | `asks_at_node.rt` | `Forms.antt` |
+//! | What do the terms of a node ask of each of its parts? | `giving.rt`, `gathering.rt` | `Handed.antt`, `Giving.antt` |
+//! | And of a component's presence? | `presence.rt` | `Lay.antt` |
 //! | Which numbers does a constraint have? | `number_sets.rt` | `NumberSets.antt` |
 //! | Which sizes and characters? | `simple_tests.rt` | `Lay.antt` |
 //! | How are permitted characters kept? | `alphabet.rt` | `Alphabets.antt` |
@@ -49,11 +47,10 @@ mod conditions_list;
 mod drafts;
 mod encoded;
 mod fault;
-mod form_terms;
 mod form_trees;
+mod formulas;
 mod gathering;
 mod giving;
-mod handing_down;
 mod identifiers;
 mod kept_types;
 mod kinds_of_nodes;
@@ -66,7 +63,6 @@ mod node_list;
 mod nodes;
 mod number_sets;
 mod parts;
-mod plain;
 mod plain_interval;
 mod presence;
 mod same_types;
@@ -75,7 +71,6 @@ mod sharing;
 mod sides;
 mod simple_tests;
 mod slots;
-mod spreading;
 mod table;
 
 pub use alphabet::Alphabet;

@@ -65,7 +65,7 @@ pub struct Hot {
     pub low: i32,
     pub high: i32,
     /// Its parts are those from `first` on.
-    pub first: u32,
+    pub first: usize,
     pub count: u32,
 }
 

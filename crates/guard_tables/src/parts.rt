@@ -1,11 +1,11 @@
-//! What WITH COMPONENTS asks of single parts (X.680 51.8.5 to 51.8.9).
+//! What a type, and WITH COMPONENTS (X.680 51.8.5 to 51.8.9), ask of parts.
 ghost use Rattle.std.specs.Prelude.{◌≡◌, ◌++◌, map, option_map, OnOk};
 ghost use Rattle.guard_model.specs.Components.{components_in, component_at};
-ghost use Rattle.guard_model.specs.TypeView.{kind_view, component_view, part_view, parts_of, presence_view};
+ghost use Rattle.guard_model.specs.TypeView.{kind_view, type_view, component_view, components_of, part_view, parts_of, presence_view};
 ghost use Rattle.guard_der.specs.Fits.{may_be_absent};
 ghost use Rattle.guard_eval.specs.Presence.{element_kind, kind_at, is_listed, is_ruled_out};
-ghost use Rattle.guard_tables.specs.Spread.{is_scalar, placed, unlisted};
-ghost use Rattle.guard_tables.specs.inside.OnePart.{spread_inner, spread_unlisted_one};
+ghost use Rattle.guard_tables.specs.Terms.{is_scalar, parts_from, kind_terms, listed_terms, placed, unlisted};
+ghost use Rattle.guard_tables.specs.inside.OnePart.{inner_terms, part_terms, ruled_out_terms};
 ghost use Rattle.guard_tables.specs.inside.AskViews.{terms_view};
 
 use crate::asks::{Atom, Demand, Term, push};
@@ -46,17 +46,96 @@ fn kind_at(kind: &Kind, at: u8) -> &Kind
     }
 }
 
+// ---- the parts of a type
+
+/// What a type asks of each part is what the part's type asks.
+pub(crate) fn push_kind<'a>(
+    kind: &'a Kind,
+    slots: Slots,
+    terms: &mut Vec<Term<'a>>,
+) -> Result<(), OutOfMemory>
+    ensures { OnOk result (terms_view terms.new.items ≡ terms_view terms.old.items ++ kind_terms slots (kind_view kind.now)) }
+{
+    match kind {
+        Kind::Sequence(comps) => push_comps(comps, slots, terms),
+        Kind::Set(comps) => push_comps(comps, slots, terms),
+        Kind::Choice(comps) => push_comps(comps, slots, terms),
+        Kind::SequenceOf(element) => push(terms, slots, Atom::Each(Demand::Type(element))),
+        Kind::SetOf(element) => push(terms, slots, Atom::Each(Demand::Type(element))),
+        _ => Ok(()),
+    }
+}
+
+fn push_comps<'a>(
+    comps: &'a [Comp],
+    slots: Slots,
+    terms: &mut Vec<Term<'a>>,
+) -> Result<(), OutOfMemory>
+    ensures { OnOk result (terms_view terms.new.items
+        ≡ terms_view terms.old.items ++ parts_from 0 slots (components_of (map component_view comps.now))) }
+{
+    for (place, comp) in comps.iter().enumerate() {
+        push(terms, slots, Atom::Within(place, Demand::Type(&comp.ty)))?;
+    }
+    Ok(())
+}
+
 // ---- of what is listed
 
+pub(crate) fn push_parts<'a>(
+    parts: &'a [Part],
+    kind: &'a Kind,
+    partial: bool,
+    slots: Slots,
+    terms: &mut Vec<Term<'a>>,
+) -> Result<(), OutOfMemory>
+    ensures { OnOk result (terms_view terms.new.items ≡ terms_view terms.old.items
+        ++ (listed_terms slots (kind_view kind.now) partial (parts_of (map part_view parts.now))
+        ++ unlisted partial (kind_view kind.now) (parts_of (map part_view parts.now)) slots)) }
+{
+    push_listed(parts, kind, partial, slots, terms)?;
+    push_unlisted(parts, kind, partial, slots, terms)
+}
+
+fn push_listed<'a>(
+    parts: &'a [Part],
+    kind: &'a Kind,
+    partial: bool,
+    slots: Slots,
+    terms: &mut Vec<Term<'a>>,
+) -> Result<(), OutOfMemory>
+    ensures { OnOk result (terms_view terms.new.items
+        ≡ terms_view terms.old.items ++ listed_terms slots (kind_view kind.now) partial (parts_of (map part_view parts.now))) }
+{
+    for part in parts {
+        push_part(part, kind, partial, slots, terms)?;
+    }
+    Ok(())
+}
+
+fn push_part<'a>(
+    part: &'a Part,
+    kind: &'a Kind,
+    partial: bool,
+    slots: Slots,
+    terms: &mut Vec<Term<'a>>,
+) -> Result<(), OutOfMemory>
+    ensures { OnOk result (terms_view terms.new.items
+        ≡ terms_view terms.old.items ++ part_terms slots (kind_view kind.now) partial (part_view part.now)) }
+{
+    push_word(kind, part.at, part.word, partial, slots, terms)?;
+    push_inner(part, kind, slots, terms)
+}
+
 /// What a listed part asks of the value that is there.
-pub(crate) fn spread_inner<'a>(
+fn push_inner<'a>(
     part: &'a Part,
     kind: &'a Kind,
     slots: Slots,
     terms: &mut Vec<Term<'a>>,
 ) -> Result<(), OutOfMemory>
     ensures { OnOk result (terms_view terms.new.items
-        ≡ terms_view terms.old.items ++ spread_inner slots (kind_view kind.now) (part_view part.now).place (part_view part.now).within) }
+        ≡ terms_view terms.old.items ++ inner_terms slots (kind_view kind.now) (part_view part.now).place (part_view part.now).within) }
 {
     match &part.cons {
         Some(constraint) => {
@@ -68,7 +147,7 @@ pub(crate) fn spread_inner<'a>(
 }
 
 /// What its word asks.
-pub(crate) fn spread_word<'a>(
+fn push_word<'a>(
     kind: &Kind,
     at: u8,
     word: Option<Word>,
@@ -79,7 +158,7 @@ pub(crate) fn spread_word<'a>(
     ensures { OnOk result (terms_view terms.new.items
         ≡ terms_view terms.old.items ++ placed partial (component_at at (components_in (kind_view kind.now))) word at slots) }
 {
-    spread_said(
+    push_said(
         kind.component(at),
         usize::from(at),
         word,
@@ -90,7 +169,7 @@ pub(crate) fn spread_word<'a>(
 }
 
 /// Without a word a full list makes an OPTIONAL component PRESENT.
-fn spread_said<'a>(
+fn push_said<'a>(
     comp: Option<&Comp>,
     place: usize,
     word: Option<Word>,
@@ -127,7 +206,7 @@ fn is_optional(presence: &Presence) -> bool
 // ---- of what isn't listed
 
 /// A full list makes each OPTIONAL component and each alternative absent that it doesn't list.
-pub(crate) fn spread_unlisted<'a>(
+fn push_unlisted<'a>(
     parts: &[Part],
     kind: &Kind,
     partial: bool,
@@ -142,12 +221,12 @@ pub(crate) fn spread_unlisted<'a>(
     }
     let comps = kind.components();
     for (place, comp) in comps.iter().enumerate() {
-        spread_unlisted_one(parts, kind, place, &comp.presence, slots, terms)?;
+        push_ruled_out(parts, kind, place, &comp.presence, slots, terms)?;
     }
     Ok(())
 }
 
-fn spread_unlisted_one<'a>(
+fn push_ruled_out<'a>(
     parts: &[Part],
     kind: &Kind,
     place: usize,
@@ -156,7 +235,7 @@ fn spread_unlisted_one<'a>(
     terms: &mut Vec<Term<'a>>,
 ) -> Result<(), OutOfMemory>
     ensures { OnOk result (terms_view terms.new.items ≡ terms_view terms.old.items
-        ++ spread_unlisted_one slots (kind_view kind.now) (parts_of (map part_view parts.now)) place (presence_view presence.now)) }
+        ++ ruled_out_terms slots (kind_view kind.now) (parts_of (map part_view parts.now)) place (presence_view presence.now)) }
 {
     if is_ruled_out(parts, kind, place, presence) {
         return push(terms, slots, Atom::Unsent(place));

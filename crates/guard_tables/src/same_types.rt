@@ -19,7 +19,7 @@ pub(crate) fn are_same_types(one: &Ty, two: &Ty) -> bool
         && are_same_kinds(&one.kind, &two.kind)
 }
 
-fn are_same_tags(tags: &[Tag], others: &[Tag]) -> bool
+pub(crate) fn are_same_tags(tags: &[Tag], others: &[Tag]) -> bool
     ensures { result ≡ pointwise same_tag tags.now others.now }
 {
     tags == others

@@ -1,8 +1,9 @@
 //! Tests of a number, a size or characters, as the nodes have them.
-ghost use Rattle.std.specs.Prelude.{◌≡◌, [], pos, ◌&&◌, IfOk};
+ghost use Rattle.std.specs.Prelude.{◌≡◌, [], pos, ◌&&◌, IfOk, IsTrue};
 ghost use Rattle.guard_model.specs.AbstractType as type;
 ghost use Rattle.guard_model.specs.AbstractType.{AbstractKind};
 ghost use Rattle.guard_model.specs.AbstractValue as abstract;
+ghost use Rattle.guard_model.specs.Kinds.{is_integer};
 ghost use Rattle.guard_model.specs.Limits.{fits_128_bits};
 ghost use Rattle.guard_model.specs.TypeView.{constraint_view};
 ghost use Rattle.guard_eval.specs.Elements.{is_in_some};
@@ -18,9 +19,9 @@ use guard_integers::IntSet;
 use guard_model::{Cons, OutOfMemory};
 use std::alloc::Global;
 
-/// The number is one that the constraint has.
+/// The number is one that the constraint on an INTEGER has.
 pub(crate) fn number_test(constraint: &Cons, alloc: Global) -> Result<Test, OutOfMemory>
-    ensures { IfOk result (λ t. (kind : AbstractKind) → test_view t
+    ensures { IfOk result (λ t. (kind : AbstractKind) → IsTrue (is_integer kind) → test_view t
         ≡ numbers (λ z. fits_128_bits z && holds (constraint_view constraint.now) kind (abstract.integer z))) }
 {
     Ok(Test::Numbers(numbers_of(constraint, alloc)?))

@@ -22,7 +22,7 @@ pub fn choice(table: &Nodes, at: usize, octets: &[u8], failed: &mut Slots) -> bo
     ensures { Answers result failed.new (contents_judged (body_at (spots_in table.now) at) octets.now failed.old) }
 {
     let node = &table.hots[at];
-    let first = node.first as usize;
+    let first = node.first;
     for k in first..first + node.count as usize {
         match front_at(table, k, octets) {
             Front::Here(inside, rest) => return chosen(table, k, inside, rest, failed),

@@ -44,7 +44,7 @@ fn list(table: &Nodes, first: usize, octets: &[u8], failed: &mut Slots) -> bool
         let is_last = next.is_empty();
         match item.kind {
             Kind::List if is_last => {
-                at = item.first as usize;
+                at = item.first;
                 rest = after_plain(table, at, content);
             }
             _ => {

@@ -27,7 +27,7 @@ pub fn series(table: &Nodes, first: usize, count: usize, inside: &[u8], failed: 
     fields(table, first, count, inside, failed)
 }
 
-/// The same, compiled into its caller.
+/// So many components from the first on, one after the other, all of the octets: compiled into its caller.
 #[cycle(walking)]
 #[inline(always)]
 pub fn fields(table: &Nodes, first: usize, count: usize, inside: &[u8], failed: &mut Slots) -> bool
@@ -58,7 +58,7 @@ pub fn fields(table: &Nodes, first: usize, count: usize, inside: &[u8], failed: 
     rest.is_empty()
 }
 
-/// The same of components of which the first has no identifier octet of its own.
+/// So many components one after the other, all of the octets, of which the first has no identifier octet of its own.
 #[cycle(walking)]
 #[inline(never)]
 fn far_fields(table: &Nodes, first: usize, count: usize, inside: &[u8], failed: &mut Slots) -> bool
@@ -92,7 +92,7 @@ fn part<'a>(table: &Nodes, at: usize, octets: &'a [u8], failed: &mut Slots) -> O
     near_part(table, at, node, octets, failed)
 }
 
-/// The same of a node with an identifier octet of its own.
+/// A component with an identifier octet of its own, where it may come next.
 #[cycle(walking)]
 #[inline(always)]
 fn near_part<'a>(
@@ -115,7 +115,7 @@ fn near_part<'a>(
     other_part(table, at, node, octets, failed)
 }
 
-/// The same of octets that don't begin with the node's identifier octet.
+/// A component where it may come next, before octets that don't begin with its identifier octet.
 #[inline(always)]
 fn other_part<'a>(
     table: &Nodes,
@@ -141,7 +141,7 @@ fn other_part<'a>(
     Some(octets)
 }
 
-/// The same of octets that begin with the node's identifier octet.
+/// A component whose identifier octet the octets begin with.
 #[cycle(walking)]
 #[inline(always)]
 fn begun_part<'a>(
@@ -165,7 +165,7 @@ fn begun_part<'a>(
     cut_part(table, at, node, octets, failed)
 }
 
-/// The same of an element of which one identifier octet is left.
+/// A component of which one identifier octet is left to read.
 #[cycle(walking)]
 #[inline(always)]
 fn cut_part<'a>(
@@ -192,7 +192,7 @@ fn cut_part<'a>(
     }
 }
 
-/// The same of a node without an identifier octet of its own.
+/// A component without an identifier octet of its own, where it may come next.
 #[cycle(walking)]
 #[inline(always)]
 fn far_part<'a>(table: &Nodes, at: usize, octets: &'a [u8], failed: &mut Slots) -> Option<&'a [u8]>
@@ -207,7 +207,7 @@ fn far_part<'a>(table: &Nodes, at: usize, octets: &'a [u8], failed: &mut Slots) 
     seen_part(table, at, octets, failed)
 }
 
-/// The same by what is at the front.
+/// A component without an identifier octet of its own, by what is at the front.
 #[cycle(walking)]
 #[cold]
 #[inline(never)]
@@ -245,7 +245,7 @@ pub fn present(table: &Nodes, at: usize, inside: &[u8], failed: &mut Slots) -> b
     present_node(table, at, &table.hots[at], inside, failed)
 }
 
-/// The same of a node that was looked up.
+/// What is inside the outermost tag of a component whose node was looked up.
 #[cycle(walking)]
 #[inline(always)]
 fn present_node(table: &Nodes, at: usize, node: &Hot, inside: &[u8], failed: &mut Slots) -> bool
@@ -273,7 +273,7 @@ fn check(table: &Nodes, at: usize, node: &Hot, inside: &[u8], failed: &mut Slots
     watch(table, at, inside, failed)
 }
 
-/// The same of a node that is watched.
+/// Whether contents are none of a default, of a node that is watched; what their presence costs fails.
 #[cold]
 #[inline(never)]
 fn watch(table: &Nodes, at: usize, inside: &[u8], failed: &mut Slots) -> bool
@@ -298,7 +298,7 @@ pub fn absent(table: &Nodes, at: usize, failed: &mut Slots) -> bool
     absent_node(table, at, &table.hots[at], failed)
 }
 
-/// The same of a node that was looked up.
+/// Whether a component whose node was looked up may be absent.
 #[inline(always)]
 fn absent_node(table: &Nodes, at: usize, node: &Hot, failed: &mut Slots) -> bool
     requires room { at < vec_len table.now.hots }

@@ -23,7 +23,7 @@ pub fn set(table: &Nodes, at: usize, octets: &[u8], failed: &mut Slots) -> bool
     ensures { Answers result failed.new (contents_judged (body_at (spots_in table.now) at) octets.now failed.old) }
 {
     let node = &table.hots[at];
-    let first = node.first as usize;
+    let first = node.first;
     let count = node.count as usize;
     if ascend(table, first, count) {
         // The order of their tags is that of the components, so each is present or absent where its turn is.
@@ -41,7 +41,7 @@ fn members(table: &Nodes, at: usize, octets: &[u8], failed: &mut Slots) -> bool
     ensures { Answers result failed.new (contents_judged (body_at (spots_in table.now) at) octets.now failed.old) }
 {
     let node = &table.hots[at];
-    let first = node.first as usize;
+    let first = node.first;
     let count = node.count as usize;
     let mut read = 0;
     // Components come in the order of their tags, so those before the last one are seldom looked at again.

@@ -1,34 +1,24 @@
--- How conditions are counted, and what lays them.
-use Rattle.std.specs.Prelude.{ℕ, ◌+◌, List, [], ◌∷◌, map, min}
-use Rattle.guard_model.specs.AbstractType.{AbstractType, Constraint}
-use Rattle.guard_model.specs.TypeView.{type_view, constraint_view}
-use Rattle.guard_tables.specs.declared.conditions.Source.{Source}
-use Rattle.guard_tables.specs.declared.conditions.Source.TheVariants as source
-use Rattle.guard_tables.specs.Conditions as conditions
+-- How conditions are counted.
+use Rattle.std.specs.Prelude.{ℕ, List, min, nat_eq, Option, Some, None, if◌then◌else◌}
+use Rattle.guard_model.specs.AbstractType.{Constraint, Parts}
+use Rattle.guard_model.specs.TypeView.{OnePart}
+use Rattle.guard_tables.specs.Conditions.{inside, of_constraint, of_parts}
 
 -- as a usize of 64 bits holds it: so many, but never more than its greatest number
 abbrev pub counted : ℕ → ℕ
 counted n = min n 18446744073709551615
 
--- what lays conditions on a node and on its parts
-pub data AbstractSource : Type 0 where
-  by_type : AbstractType → AbstractSource
-  by_constraint : Constraint → AbstractSource
+-- of WITH COMPONENT, and of the list of WITH COMPONENTS
+abbrev pub of_each : Constraint → List ℕ → ℕ
+of_each c way = inside 0 (λ place. of_constraint c) way
 
-abbrev pub source_view : Source → AbstractSource
-source_view (source.Type t) = by_type (type_view t.now)
-source_view (source.Constraint c) = by_constraint (constraint_view c.now)
+abbrev pub of_listed : Parts → List ℕ → ℕ
+of_listed ps way = inside 0 (of_parts ps) way
 
-abbrev pub sources_view : List Source → List AbstractSource
-sources_view sources = map source_view sources
+-- of one part in it
+abbrev pub of_within : Option Constraint → ℕ → ℕ → List ℕ → ℕ
+of_within None at_place place way = 0
+of_within (Some c) at_place place way = if nat_eq at_place place then of_constraint c way else 0
 
-abbrev pub of_source : AbstractSource → List ℕ → ℕ
-of_source (by_type t) way = conditions.of_type t way
-of_source (by_constraint c) way = conditions.of_constraint c way
-
-abbrev pub of_sources : List AbstractSource → List ℕ → ℕ
-of_sources [] way = 0
-of_sources (s ∷ ss) way = of_source s way + of_sources ss way
-
-abbrev pub by_types : List AbstractType → List AbstractSource
-by_types types = map by_type types
+abbrev pub of_part : OnePart → ℕ → List ℕ → ℕ
+of_part p place way = of_within p.within p.place place way

@@ -1,9 +1,11 @@
 -- How nodes are put together for a type and what is asked of it: each step adds nodes, and answers one that isn't
 -- there yet.
-use Rattle.std.specs.Prelude.{ℕ, suc, ◌+◌, ◌≤◌, ◌≡◌, Bool, true, false, IsTrue, List, [], ◌++◌, map, length, ⊤, ℤ}
+use Rattle.std.specs.Prelude.{◌≤◌, ℕ, suc, ◌+◌, ◌≡◌, Bool, true, false, IsTrue, List, [], ◌++◌, map, length, ⊤, ℤ}
 use Rattle.guard_model.specs.AbstractType as type
 use Rattle.guard_model.specs.AbstractType.{AbstractType, AbstractKind, Components, no_components, component}
+use Rattle.guard_model.specs.Counts.{component_count}
 use Rattle.guard_model.specs.Kinds.{kind_of}
+use Rattle.guard_model.specs.Limits.{most_components}
 use Rattle.guard_model.specs.TypeView.{OneComponent}
 use Rattle.guard_der.specs.Sound.{is_sound, is_proper_presence}
 use Rattle.guard_tables.specs.declared.drafts.Group.{Group}
@@ -15,12 +17,12 @@ use Rattle.guard_tables.specs.declared.laid.Laid.{Laid}
 use Rattle.guard_tables.specs.declared.laid.LaidParts.{LaidParts}
 use Rattle.guard_tables.specs.declared.node_list.Builder.{Builder}
 use Rattle.guard_tables.specs.Apt.{AreApt, AllSpeak}
-use Rattle.guard_tables.specs.Conditions.{most_conditions}
 use Rattle.guard_tables.specs.Demands.{Ask, Term}
-use Rattle.guard_tables.specs.Handed.{each_of, within_of, terms_at, slots_needed, NeedsFew}
+use Rattle.guard_tables.specs.Handed.{each_of, within_of, terms_at, NeedsFew}
 use Rattle.guard_tables.specs.Lay.{lay_parts, lay_alternatives, side_for, side_chosen, absent_of, present_of, chosen_of}
 use Rattle.guard_tables.specs.Plan.{Plan, Body, Parts, Side, series, set, choice, list, set_of, no_parts, part}
 use Rattle.guard_tables.specs.TableNodes.{Spot, spots_of, spot_at}
+use Rattle.guard_tables.specs.inside.FormViews.{RoomFor}
 use Rattle.guard_tables.specs.inside.Aside.{plan_of_node, spots_at, AreNodes, parts_then}
 
 -- what the nodes so far stand for
@@ -133,9 +135,9 @@ PartsMayBeLaid i (component name t presence cs) terms =
     MayBeLaid t (within_of i terms) × IsTrue (is_proper_presence t presence) × PartsMayBeLaid (suc i) cs terms
 
 abbrev pub KindMayBeLaid : AbstractKind → List Term → Type 0
-KindMayBeLaid (type.sequence cs) terms = PartsMayBeLaid 0 cs terms
-KindMayBeLaid (type.set cs) terms = PartsMayBeLaid 0 cs terms
-KindMayBeLaid (type.choice cs) terms = PartsMayBeLaid 0 cs terms
+KindMayBeLaid (type.sequence cs) terms = (component_count cs ≤ most_components) × PartsMayBeLaid 0 cs terms
+KindMayBeLaid (type.set cs) terms = (component_count cs ≤ most_components) × PartsMayBeLaid 0 cs terms
+KindMayBeLaid (type.choice cs) terms = (component_count cs ≤ most_components) × PartsMayBeLaid 0 cs terms
 KindMayBeLaid (type.sequence_of t) terms = MayBeLaid t (each_of terms)
 KindMayBeLaid (type.set_of t) terms = MayBeLaid t (each_of terms)
 KindMayBeLaid type.boolean terms = ⊤
@@ -149,5 +151,5 @@ KindMayBeLaid (type.characters k) terms = ⊤
 
 pub record AskedMayBeLaid (kind : AbstractKind) (asks : List Ask) : Type 0 where
   pub speak : AllSpeak kind (terms_at asks)
-  pub room : slots_needed asks ≤ most_conditions
+  pub room : RoomFor asks
   pub parts : KindMayBeLaid kind (terms_at asks)

@@ -83,6 +83,11 @@ untagged-returns t c =
 
 -- ---- alternatives
 
+pub alternatives-overflow_add-k-end : goal.alternatives-overflow_add-k-end
+alternatives-overflow_add-k-end t c =
+    let n = node_at c.args.table.now c.args.at c.index-node.result.now c.requires.room c.index-node.ensures in
+    omega (arith, n.node.before, c.ranges.at.fits)
+
 pub alternatives-loop-k-init : goal.alternatives-loop-k-init
 alternatives-loop-k-init t c =
     let h = c.index-node.result.now in

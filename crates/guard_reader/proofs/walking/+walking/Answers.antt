@@ -526,6 +526,11 @@ series::present_node-returns-else-check t c =
 
 -- ---- CHOICE
 
+pub choices::choice-overflow_add-k-end : goal.choices::choice-overflow_add-k-end
+choices::choice-overflow_add-k-end t c =
+    let n = node_at c.args.table.now c.args.at c.index-node.result.now c.requires.room c.index-node.ensures in
+    omega (arith, n.node.before, c.ranges.at.fits)
+
 pub choices::choice-loop-k-init : goal.choices::choice-loop-k-init
 choices::choice-loop-k-init t c =
     let h = c.index-node.result.now in
@@ -633,6 +638,11 @@ sets::members-returns-in_default t c =
     let some = sym c.is_empty.ensures ∙ c.loop-rest-test.true in
     let places = c.loop-rest.invariant.0 in
     sym c.loop-rest.invariant.2 ∙ no_tag ps places c.loop-rest.last c.loop-rest.rest.now c.loop-rest.failed some (sym c.next_tag.ensures ∙ c.in_default.is)
+
+pub sets::members-overflow_add-first : goal.sets::members-overflow_add-first
+sets::members-overflow_add-first t c =
+    let n = node_at c.args.table.now c.args.at c.index-node.result.now c.requires.room c.index-node.ensures in
+    omega (arith, n.node.before, c.in-Some-member.ensures.place, c.ranges.at.fits)
 
 pub sets::members-member-requires : goal.sets::members-member-requires
 sets::members-member-requires t c =

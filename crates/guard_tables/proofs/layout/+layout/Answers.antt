@@ -1,4 +1,4 @@
-use Rattle.std.proofs.Common.{arith, ◌≡◌, ℕ, ◌<◌, Bool, true, List, [], length, replicate, get_or, map, refl, rules, sym, ap, subst, ◌∙◌}
+use Rattle.std.proofs.Common.{arith, ◌≡◌, ℕ, ◌<◌, Bool, true, List, [], length, replicate, get_or, map, refl, rules, ap, subst, ◌∙◌}
 use Rattle.guard_model.specs.AbstractType.{AbstractKind}
 use Rattle.guard_model.specs.Kinds.{kind_of}
 use Rattle.guard_model.specs.TypeView.{type_view, kind_view, component_view, components_of}
@@ -7,15 +7,15 @@ use Rattle.guard_model.proofs.TypeViews.{type_view_is, component_view_is}
 use Rattle.guard_der.specs.Der.{is_constructed}
 use Rattle.guard_tables.specs.Demands.{Ask}
 use Rattle.guard_tables.specs.Handed.{each_of, within_of}
-use Rattle.guard_tables.specs.Lay.{lay}
+use Rattle.guard_tables.specs.Lay.{lay, raised_of}
 use Rattle.guard_tables.specs.NodeViews.{condition_view, raise_view}
-use Rattle.guard_tables.specs.Plan.{Body, plan, asked_of, formula}
+use Rattle.guard_tables.specs.Plan.{Body, plan, asked_of}
 use Rattle.guard_tables.specs.TableNodes.{own_tags}
 use Rattle.guard_tables.specs.inside.AskViews.{asks_view, terms_view}
 use Rattle.guard_tables.specs.inside.Laid.{AskedMayBeLaid, body_of_elements, body_of_group, parts_of_group, side_of_part, is_exclusive}
 use Rattle.guard_tables.specs.inside.SideViews.{part_side_view}
 use Rattle.guard_tables.proofs.Comings.{laid_as, grown_on}
-use Rattle.guard_tables.proofs.LaidSteps.{tags_laid, formulas_laid, elements_laid, group_laid, extended, not_plain, still_aside, part_may, part_proper, part_more, rest_may}
+use Rattle.guard_tables.proofs.LaidSteps.{tags_laid, formulas_laid, elements_laid, group_laid, nodes_few, extended, formulas_are, still_aside, part_may, part_proper, part_more, rest_may}
 use Rattle.guard_tables.proofs.LaidTypes.{asked_may}
 use Rattle.std.specs.Global.{Vec}
 use Rattle.guard_model.specs.declared.ty.Comp.{Comp}
@@ -36,9 +36,9 @@ lay-returns t c = tags_laid c.args.builder c.in_ok-laid.laid c.deref-2.result.no
     (rw (c.deref-2.ensures.value, type_view_is c.args.ty.now) refl) c.in_ok-laid.ensures c.with_tags.result c.with_tags.ensures
 
 pub lay_asked-returns : goal.lay_asked-returns
-lay_asked-returns t c = formulas_laid c.args.builder c.in_ok-laid.laid _ _ (λ (b : Body). formula (map raise_view c.in_ok-formulas.formulas.raises.items) b) c.in_ok-laid.ensures
-    (not_plain (asks_view c.args.asks.now) (own_tags c.args.tag) (is_constructed (kind_view c.args.kind.now)) (kind_view c.args.kind.now) (terms_view c.deref-2.result.now) (map raise_view c.in_ok-formulas.formulas.raises.items)
-    (sym c.are_plain_asks.ensures ∙ c.if-are_plain_asks.false) (ap terms_view c.deref-2.ensures.value ∙ c.in_ok-formulas.ensures.terms) c.in_ok-formulas.ensures.raises)
+lay_asked-returns t c = formulas_laid c.args.builder c.in_ok-laid.laid _ _ (λ (b : Body). raised_of (map raise_view c.in_ok-formulas.formulas.raises.items) b) c.in_ok-laid.ensures
+    (formulas_are (asks_view c.args.asks.now) (own_tags c.args.tag) (is_constructed (kind_view c.args.kind.now)) (kind_view c.args.kind.now) (terms_view c.deref.result.now) (map raise_view c.in_ok-formulas.formulas.raises.items)
+    (ap terms_view c.deref.ensures.value ∙ c.in_ok-formulas.ensures.terms) c.in_ok-formulas.ensures.raises)
     c.with_formulas.result c.with_formulas.ensures
 
 pub lay_elements-returns : goal.lay_elements-returns
@@ -49,6 +49,12 @@ lay_elements-returns t c =
     (elements_laid c.args.builder c.in_ok-laid.laid c.in_ok-whole.whole p c.args.elements c.args.tag
     (laid_as c.args.builder c.in_ok-laid.laid _ p (rw (c.deref.ensures.value, c.in_ok-asks.ensures) refl) c.in_ok-laid.ensures) c.in_ok-whole.ensures)
     refl c.with_conditions.result c.with_conditions.ensures
+
+pub lay_group-as_parts-requires : goal.lay_group-as_parts-requires
+lay_group-as_parts-requires t c = record {
+  come = c.in_ok-parts.ensures.nodes;
+  few = nodes_few c.args.builder c.in_ok-parts.parts c.args.group (components_of (map component_view c.args.comps.now)) (terms_view c.args.terms.now) c.in_ok-parts.ensures c.requires.few;
+}
 
 pub lay_group-returns : goal.lay_group-returns
 lay_group-returns t c =

@@ -1,14 +1,16 @@
-use Rattle.std.proofs.Common.{◌≡◌, ◌&&◌, ◌||◌, List, map, IfOk, refl, sym, ap, subst, ◌∙◌}
+use Rattle.std.proofs.Common.{◌≡◌, Bool, true, ◌&&◌, ◌||◌, List, map, IfOk, refl, sym, ap, subst, ◌∙◌}
 use Rattle.guard_integers.specs.Integers.{Integers, holds, some_holds, only_fitting}
 use Rattle.guard_model.specs.AbstractType as type
 use Rattle.guard_model.specs.AbstractType.{AbstractType, Element}
 use Rattle.guard_model.specs.AbstractValue as abstract
+use Rattle.guard_model.specs.Kinds.{is_integer}
 use Rattle.guard_model.specs.Limits.{fits_128_bits}
 use Rattle.guard_model.specs.TypeView.{type_view, kind_view, constraint_view, constraints_of, element_view}
 use Rattle.guard_model.specs.ValueView.{value_view}
 use Rattle.guard_model.specs.declared.ty.Kind.TheViews.{out-Ty}
 use Rattle.guard_model.proofs.TypeViews.{type_view_is}
 use Rattle.guard_eval.specs.Member.{holds_element, all_hold, is_member}
+use Rattle.guard_eval.proofs.Applied.{contained_integer}
 use Rattle.guard_tables.specs.NumberSets.{HasNumbers}
 use Rattle.guard_tables.proofs.RuleViews.{view_one, view_inside, view_range, view_minus, view_other}
 use Rattle.guard_tables.proofs.WholeSets.{if_ok, all_more, some_more, some_done, one_set_more, of_integer, minus_has, other_has}
@@ -22,7 +24,9 @@ numbers_of_rule-returns-in-One t c =
 pub numbers_of_rule-returns-in-Inside : goal.numbers_of_rule-returns-in-Inside
 numbers_of_rule-returns-in-Inside t c =
     let e : element_view c.args.rule.now ≡ type.contained_subtype (type_view c.deref-in-Inside.result.now) = view_inside c.args.rule.now c.in-Inside.ty c.in-Inside.is ∙ ap (λ ty. type.contained_subtype (type_view ty)) (sym c.deref-in-Inside.ensures) in
-    subst (λ (e : Element). IfOk c.numbers_of_type.result (λ set. HasNumbers set (λ kind z. holds_element e kind (abstract.integer z)))) (sym e) c.numbers_of_type.ensures
+    let ty = type_view c.deref-in-Inside.result.now in
+    subst (λ (e : Element). IfOk c.numbers_of_type.result (λ set. HasNumbers set (λ kind z. holds_element e kind (abstract.integer z)))) (sym e)
+    (if_ok c.numbers_of_type.result _ _ (λ set h kind whole z. h kind whole z ∙ ap (λ (b : Bool). fits_128_bits z && b) (contained_integer ty kind z whole)) c.numbers_of_type.ensures)
 
 pub numbers_of_rule-returns-in-Range : goal.numbers_of_rule-returns-in-Range
 numbers_of_rule-returns-in-Range t c =
@@ -34,35 +38,36 @@ numbers_of_rule-returns-in_ok-numbers_of-in-Minus t c =
     let e : element_view c.args.rule.now ≡ type.except (constraint_view c.deref-in-Minus.result.now) (constraint_view c.deref-in-Minus-2.result.now) = view_minus c.args.rule.now c.in-Minus.kept c.in-Minus.taken c.in-Minus.is ∙ rw (c.deref-in-Minus.ensures, c.deref-in-Minus-2.ensures) refl in
     subst (λ (e : Element). IfOk c.minus-in-Minus.result (λ set. HasNumbers set (λ kind z. holds_element e kind (abstract.integer z)))) (sym e)
     (if_ok c.minus-in-Minus.result _ _
-    (λ set h kind z. minus_has _ _ (fits_128_bits z) _ _ _ (c.in_ok-numbers-in-Minus.ensures kind z) (c.in_ok-numbers_of-in-Minus.ensures kind z) (h z)) c.minus-in-Minus.ensures)
+    (λ set h kind whole z. minus_has _ _ (fits_128_bits z) _ _ _ (c.in_ok-numbers-in-Minus.ensures kind whole z) (c.in_ok-numbers_of-in-Minus.ensures kind whole z) (h z)) c.minus-in-Minus.ensures)
 
 pub numbers_of_rule-returns-in_ok-numbers_of-in-Other : goal.numbers_of_rule-returns-in_ok-numbers_of-in-Other
 numbers_of_rule-returns-in_ok-numbers_of-in-Other t c =
     let e : element_view c.args.rule.now ≡ type.all_except (constraint_view c.deref-in-Other.result.now) = view_other c.args.rule.now c.in-Other.other c.in-Other.is ∙ ap (λ o. type.all_except (constraint_view o)) (sym c.deref-in-Other.ensures) in
     subst (λ (e : Element). IfOk c.complement-in-Other.result (λ set. HasNumbers set (λ kind z. holds_element e kind (abstract.integer z)))) (sym e)
-    (if_ok c.complement-in-Other.result _ _ (λ set h kind z. other_has _ (fits_128_bits z) _ _ (c.in_ok-numbers_of-in-Other.ensures kind z) (h z)) c.complement-in-Other.ensures)
+    (if_ok c.complement-in-Other.result _ _ (λ set h kind whole z. other_has _ (fits_128_bits z) _ _ (c.in_ok-numbers_of-in-Other.ensures kind whole z) (h z)) c.complement-in-Other.ensures)
 
 pub numbers_of_all-loop-constraint-preserved : goal.numbers_of_all-loop-constraint-preserved
-numbers_of_all-loop-constraint-preserved t c = λ kind z.
+numbers_of_all-loop-constraint-preserved t c = λ kind whole z.
     all_more kind z c.args.constraints.now c.loop-constraint.constraint-index c.constraint-item.result (holds c.loop-constraint.left z) (holds c.in_ok-left-2.left z) _ (fits_128_bits z) _ c.loop-constraint-test.true
-    c.constraint-item.is (c.in_ok-left-2.ensures z) (c.in_ok-numbers_of.ensures kind z) (only_fitting c.loop-constraint.left z) (c.loop-constraint.invariant kind z)
+    c.constraint-item.is (c.in_ok-left-2.ensures z) (c.in_ok-numbers_of.ensures kind whole z) (only_fitting c.loop-constraint.left z) (c.loop-constraint.invariant kind whole z)
 
 pub numbers_of_some-loop-constraint-preserved : goal.numbers_of_some-loop-constraint-preserved
-numbers_of_some-loop-constraint-preserved t c = λ kind z.
+numbers_of_some-loop-constraint-preserved t c = λ kind whole z.
     let added : some_holds c.push.new.self.items z ≡ (some_holds c.loop-constraint.sets.items z || holds c.in_ok-numbers_of.field-0 z) =
     ap (λ (sets : List Integers). some_holds sets z) c.in_ok-push.ensures.items ∙ one_set_more c.loop-constraint.sets.items c.in_ok-numbers_of.field-0 z in
     some_more kind z c.args.constraints.now c.loop-constraint.constraint-index c.constraint-item.result (some_holds c.loop-constraint.sets.items z) _ _ (fits_128_bits z) _ c.loop-constraint-test.true
-    c.constraint-item.is added (c.in_ok-numbers_of.ensures kind z) (c.loop-constraint.invariant kind z)
+    c.constraint-item.is added (c.in_ok-numbers_of.ensures kind whole z) (c.loop-constraint.invariant kind whole z)
 
 pub numbers_of_some-returns : goal.numbers_of_some-returns
 numbers_of_some-returns t c =
     if_ok c.union_of.result _ _
-    (λ set h kind z. h z ∙ ap (λ (sets : List Integers). some_holds sets z) c.deref.ensures.value
-    ∙ some_done kind z c.args.constraints.now c.loop-constraint.constraint-index (some_holds c.loop-constraint.sets.items z) (fits_128_bits z) _ c.loop-constraint-test.false (c.loop-constraint.invariant kind z)) c.union_of.ensures
+    (λ set h kind whole z. h z ∙ ap (λ (sets : List Integers). some_holds sets z) c.deref.ensures.value
+    ∙ some_done kind z c.args.constraints.now c.loop-constraint.constraint-index (some_holds c.loop-constraint.sets.items z) (fits_128_bits z) _ c.loop-constraint-test.false (c.loop-constraint.invariant kind whole z)) c.union_of.ensures
 
 pub numbers_of_type-returns-then-is_integer : goal.numbers_of_type-returns-then-is_integer
 numbers_of_type-returns-then-is_integer t c =
     let ty = out-Ty c.args.ty.now in
+    let own : is_integer (kind_view ty.kind) ≡ true = rw c.if-is_integer.true at (sym c.is_integer.ensures) in
     subst (λ (a : AbstractType). IfOk c.numbers_of_all.result (λ set. HasNumbers set (λ kind z. is_member a (abstract.integer z)))) (sym (type_view_is c.args.ty.now))
     (if_ok c.numbers_of_all.result _ _
-    (λ set h kind z. of_integer ty.tags.items (kind_view ty.kind) (constraints_of (map constraint_view ty.cons.items)) z _ (rw c.if-is_integer.true at (sym c.is_integer.ensures)) (h (kind_view ty.kind) z ∙ ap (λ cs. fits_128_bits z && all_hold (constraints_of (map constraint_view cs)) (kind_view ty.kind) (abstract.integer z)) c.deref.ensures.value)) c.numbers_of_all.ensures)
+    (λ set h kind whole z. of_integer ty.tags.items (kind_view ty.kind) (constraints_of (map constraint_view ty.cons.items)) z _ own (h (kind_view ty.kind) own z ∙ ap (λ cs. fits_128_bits z && all_hold (constraints_of (map constraint_view cs)) (kind_view ty.kind) (abstract.integer z)) c.deref.ensures.value)) c.numbers_of_all.ensures)

@@ -1,0 +1,213 @@
+//! What a demand comes to at a node: terms with its slots, and where they aren't all that it asks, formulas over what
+//! fails in slots of the node's own.
+ghost use Rattle.std.specs.Prelude.{◌≡◌, ◌<◌, ◌≤◌, ◌++◌, ◌∷◌, [], map, OnOk};
+ghost use Rattle.guard_model.specs.TypeView.{type_view, kind_view, constraint_view, element_view, constraints_of};
+ghost use Rattle.guard_tables.specs.Forms.{form, form_one, form_element, form_all, form_each, form_own, form_type, turned};
+ghost use Rattle.guard_tables.specs.NodeViews.{form_view};
+ghost use Rattle.guard_tables.specs.inside.AskViews.{demand_view};
+ghost use Rattle.guard_tables.specs.inside.FormViews.{formula_of};
+
+use crate::asks::{Atom, Demand, Term, push};
+use crate::form_trees::{all_of, own_form, unless};
+use crate::node::Form;
+use crate::parts::{element_kind, is_scalar, push_kind, push_parts};
+use crate::slots::Slots;
+use guard_model::{Cons, Kind, OutOfMemory, Rule, Ty};
+use std::alloc::Global;
+
+/// Terms at a node, and its next slot that is free.
+#[derive(Drop)]
+pub(crate) struct Tests<'a> {
+    pub terms: Vec<Term<'a>>,
+    pub next: usize,
+}
+
+/// With these slots. A node has no more than 256.
+pub(crate) fn form<'a>(
+    demand: Demand<'a>,
+    alloc: Global,
+    slots: Slots,
+    tests: &mut Tests<'a>,
+    besides: &mut Vec<Form>,
+) -> Result<(), OutOfMemory>
+    requires { (form slots (demand_view demand) (formula_of tests.now besides.now.items)).next ≤ 256 }
+    ensures { OnOk result (formula_of tests.new besides.new.items
+        ≡ form slots (demand_view demand.entry) (formula_of tests.old besides.old.items)) }
+{
+    match demand {
+        Demand::Type(ty) => form_type(ty, alloc, slots, tests, besides),
+        Demand::Constraint(kind, constraint) => {
+            form_one(constraint, kind, alloc, slots, tests, besides)
+        }
+    }
+}
+
+#[cycle(formulas)]
+fn form_type<'a>(
+    ty: &'a Ty,
+    alloc: Global,
+    slots: Slots,
+    tests: &mut Tests<'a>,
+    besides: &mut Vec<Form>,
+) -> Result<(), OutOfMemory>
+    requires { (form_type slots (type_view ty.now) (formula_of tests.now besides.now.items)).next ≤ 256 }
+    ensures { OnOk result (formula_of tests.new besides.new.items
+        ≡ form_type slots (type_view ty.now) (formula_of tests.old besides.old.items)) }
+{
+    form_all(&ty.cons, &ty.kind, alloc, slots, tests, besides)?;
+    push_kind(&ty.kind, slots, &mut tests.terms)
+}
+
+/// All of these, with the same slots.
+#[cycle(formulas)]
+fn form_all<'a>(
+    constraints: &'a [Cons],
+    kind: &'a Kind,
+    alloc: Global,
+    slots: Slots,
+    tests: &mut Tests<'a>,
+    besides: &mut Vec<Form>,
+) -> Result<(), OutOfMemory>
+    requires { (form_all slots (kind_view kind.now) (constraints_of (map constraint_view constraints.now)) (formula_of tests.now besides.now.items)).next ≤ 256 }
+    ensures { OnOk result (formula_of tests.new besides.new.items
+        ≡ form_all slots (kind_view kind.now) (constraints_of (map constraint_view constraints.now)) (formula_of tests.old besides.old.items)) }
+{
+    for constraint in constraints {
+        form_one(constraint, kind, alloc, slots, tests, besides)?;
+    }
+    Ok(())
+}
+
+/// Each of these with a slot of its own, as members of a union.
+#[cycle(formulas)]
+fn form_each<'a>(
+    constraints: &'a [Cons],
+    kind: &'a Kind,
+    alloc: Global,
+    tests: &mut Tests<'a>,
+    besides: &mut Vec<Form>,
+) -> Result<(), OutOfMemory>
+    requires { (form_each (kind_view kind.now) (constraints_of (map constraint_view constraints.now)) (formula_of tests.now besides.now.items)).next ≤ 256 }
+    ensures { OnOk result (formula_of tests.new besides.new.items
+        ≡ form_each (kind_view kind.now) (constraints_of (map constraint_view constraints.now)) (formula_of tests.old besides.old.items)) }
+{
+    for constraint in constraints {
+        form_own(constraint, kind, alloc, false, tests, besides)?;
+    }
+    Ok(())
+}
+
+/// One with a slot of its own, the first that is free. It fails where that has failed or the formulas say so; where
+/// the set is taken away, where it doesn't.
+#[cycle(formulas)]
+fn form_own<'a>(
+    constraint: &'a Cons,
+    kind: &'a Kind,
+    alloc: Global,
+    taken: bool,
+    tests: &mut Tests<'a>,
+    besides: &mut Vec<Form>,
+) -> Result<(), OutOfMemory>
+    requires { (form_own taken (kind_view kind.now) (constraint_view constraint.now) (formula_of tests.now besides.now.items)).next ≤ 256 }
+    ensures { OnOk result (formula_of tests.new besides.new.items
+        ≡ form_own taken (kind_view kind.now) (constraint_view constraint.now) (formula_of tests.old besides.old.items)) }
+{
+    let slot = slot_at(tests.next);
+    tests.next += 1;
+    let mut inner = Vec::new(alloc);
+    form_one(
+        constraint,
+        kind,
+        alloc,
+        Slots::only(slot),
+        tests,
+        &mut inner,
+    )?;
+    let form = own_form(alloc, slot, inner)?;
+    push_form(form, alloc, taken, besides)
+}
+
+#[cycle(formulas)]
+fn form_one<'a>(
+    constraint: &'a Cons,
+    kind: &'a Kind,
+    alloc: Global,
+    slots: Slots,
+    tests: &mut Tests<'a>,
+    besides: &mut Vec<Form>,
+) -> Result<(), OutOfMemory>
+    requires { (form_one slots (kind_view kind.now) (constraint_view constraint.now) (formula_of tests.now besides.now.items)).next ≤ 256 }
+    ensures { OnOk result (formula_of tests.new besides.new.items
+        ≡ form_one slots (kind_view kind.now) (constraint_view constraint.now) (formula_of tests.old besides.old.items)) }
+{
+    if is_scalar(kind) {
+        return push(&mut tests.terms, slots, Atom::Scalar(kind, constraint));
+    }
+    form_rule(&constraint.rule, kind, alloc, slots, tests, besides)
+}
+
+/// Of a kind that isn't scalar. A range is on INTEGER alone.
+#[cycle(formulas)]
+fn form_rule<'a>(
+    rule: &'a Rule,
+    kind: &'a Kind,
+    alloc: Global,
+    slots: Slots,
+    tests: &mut Tests<'a>,
+    besides: &mut Vec<Form>,
+) -> Result<(), OutOfMemory>
+    requires { (form_element slots (kind_view kind.now) (element_view rule.now) (formula_of tests.now besides.now.items)).next ≤ 256 }
+    ensures { OnOk result (formula_of tests.new besides.new.items
+        ≡ form_element slots (kind_view kind.now) (element_view rule.now) (formula_of tests.old besides.old.items)) }
+{
+    match rule {
+        Rule::One(value) => push(&mut tests.terms, slots, Atom::Equals(value)),
+        Rule::Inside(ty) => form_type(ty, alloc, slots, tests, besides),
+        Rule::Range(_, _) => Ok(()),
+        Rule::Size(size) => push(&mut tests.terms, slots, Atom::Sized(size)),
+        Rule::Alphabet(ranges) => push(&mut tests.terms, slots, Atom::Spelled(ranges)),
+        Rule::Each(each) => {
+            let demand = Demand::Constraint(element_kind(kind), each);
+            push(&mut tests.terms, slots, Atom::Each(demand))
+        }
+        Rule::Parts(partial, parts) => {
+            push_parts(parts, kind, *partial, slots, &mut tests.terms)
+        }
+        Rule::Any(constraints) => {
+            let mut members = Vec::new(alloc);
+            form_each(constraints, kind, alloc, tests, &mut members)?;
+            let form = all_of(alloc, members)?;
+            push_form(form, alloc, false, besides)
+        }
+        Rule::Both(constraints) => form_all(constraints, kind, alloc, slots, tests, besides),
+        Rule::Minus(kept, taken) => {
+            form_one(kept, kind, alloc, slots, tests, besides)?;
+            form_own(taken, kind, alloc, true, tests, besides)
+        }
+        Rule::Other(other) => form_own(other, kind, alloc, true, tests, besides),
+    }
+}
+
+fn push_form(
+    form: Form,
+    alloc: Global,
+    taken: bool,
+    forms: &mut Vec<Form>,
+) -> Result<(), OutOfMemory>
+    ensures { OnOk result (map form_view forms.new.items ≡ map form_view forms.old.items ++ turned taken (form_view form) ∷ []) }
+{
+    if taken {
+        forms.push(unless(alloc, form)?)?;
+    } else {
+        forms.push(form)?;
+    }
+    Ok(())
+}
+
+/// The slot at this place.
+pub(crate) fn slot_at(place: usize) -> u8
+    requires { place < 256 }
+    ensures { result ≡ place }
+{
+    place as u8
+}

@@ -6,6 +6,7 @@ ghost use Rattle.guard_model.specs.TypeView.{type_view};
 ghost use Rattle.guard_model.specs.ValueView.{value_view};
 ghost use Rattle.guard_der.specs.Fits.{fits};
 ghost use Rattle.guard_der.specs.Sound.{is_sound};
+ghost use Rattle.guard_values.specs.Views.{AreKnownFitting};
 
 use crate::encoding::decodes_to;
 use conformance_rows::{Layer, in_hexadecimal, not_read, text_of, unknown};
@@ -15,7 +16,7 @@ use guard_model::{Ty, Value};
 use guard_names::{Id, Names};
 use guard_schema::Schema;
 use guard_syntax::{Assignment, Module, ValueTree};
-use guard_values::{Known, ValueFault, shared_value};
+use guard_values::{Known, ValueFault, shared_value, value};
 use std::alloc::{AllocError, Global};
 use std::sync::Arc;
 
@@ -36,6 +37,8 @@ pub struct ValuesRows {
     imported: String,
     /// Whether of the octets only their number is answered.
     counted: bool,
+    /// Whether the row asks `value`; else it asks `shared_value`, as schemas do.
+    unshared: bool,
 }
 
 impl ValuesRows {
@@ -101,7 +104,8 @@ impl ValuesRows {
         let Some(ty) = types.ty("M", &name) else {
             return Ok(Some(String::from_str(alloc, "no type")?));
         };
-        let found = denoted(alloc, names, known, id, ty, tree);
+        let unshared = self.unshared && assignment.name == "v".as_bytes();
+        let found = denoted(alloc, names, known, id, ty, tree, unshared);
         if assignment.name == "v".as_bytes() {
             return Ok(Some(self.shown(alloc, ty, found)?));
         }
@@ -205,7 +209,7 @@ fn type_name(
     }
 }
 
-/// What `shared_value` answers, where its premises hold.
+/// What `shared_value` answers, or `value`, where their premises hold.
 fn denoted(
     alloc: Global,
     names: &Names,
@@ -213,6 +217,7 @@ fn denoted(
     id: Id,
     ty: &Ty,
     tree: &ValueTree,
+    unshared: bool,
 ) -> Option<Result<Arc<Value>, ValueFault>>
     ensures sound { IfSome result (λ r. IsTrue (is_sound (type_view ty.now))) }
     ensures fits { IfSome result (λ r. IfOk r (λ v. IsTrue (fits (type_view ty.now) (value_view (arc_value v))))) }
@@ -220,7 +225,27 @@ fn denoted(
     if !is_lawful(alloc, ty) || !are_fitting(alloc, known) {
         return None;
     }
+    if unshared {
+        return Some(own_value(alloc, names, known, id, ty, tree));
+    }
     Some(shared_value(alloc, names, known, id, ty, tree))
+}
+
+/// What `value` answers.
+fn own_value(
+    alloc: Global,
+    names: &Names,
+    known: &Known,
+    id: Id,
+    ty: &Ty,
+    tree: &ValueTree,
+) -> Result<Arc<Value>, ValueFault>
+    requires sound { IsTrue (is_sound (type_view ty.now)) }
+    requires fitting { AreKnownFitting known.now }
+    ensures { IfOk result (λ v. IsTrue (fits (type_view ty.now) (value_view (arc_value v)))) }
+{
+    let found = value(alloc, names, known, id, ty, tree)?;
+    Ok(Arc::new(alloc, found)?)
 }
 
 pub fn is_lawful(alloc: Global, ty: &Ty) -> bool
@@ -240,6 +265,7 @@ impl Layer for ValuesRows {
             others: Vec::new(alloc),
             imported: String::new(alloc),
             counted: false,
+            unshared: false,
         }
     }
 
@@ -249,7 +275,7 @@ impl Layer for ValuesRows {
     }
 
     /// `@type TYPE`; `@visible NAME TYPE ::= VALUE`, and `@visible none`; `@other NAME TYPE ::= VALUE` in another
-    /// module, and `@imports NAMES` from it; `@show octets` and `@show count`.
+    /// module, and `@imports NAMES` from it; `@show octets` and `@show count`; `@ask value` and `@ask shared_value`.
     fn set(&mut self, alloc: Global, name: &str, text: &[u8]) -> Result<String, AllocError> {
         match (name, text_of(text)) {
             ("type", text) => self.ty = String::from_str(alloc, text)?,
@@ -259,6 +285,8 @@ impl Layer for ValuesRows {
             ("imports", text) => self.imported = String::from_str(alloc, text)?,
             ("show", "octets") => self.counted = false,
             ("show", "count") => self.counted = true,
+            ("ask", "value") => self.unshared = true,
+            ("ask", "shared_value") => self.unshared = false,
             _ => return unknown(alloc),
         }
         String::from_str(alloc, "ok")

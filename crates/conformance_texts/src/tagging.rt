@@ -11,7 +11,7 @@ use std::alloc::{AllocError, Global};
 enum Asked {
     /// How many types the definitions in these texts are made of.
     Types,
-    /// The same of texts that a word makes.
+    /// How many types the definitions in texts are made of that a word makes.
     Large,
 }
 

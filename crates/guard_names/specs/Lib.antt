@@ -9,7 +9,6 @@ pub mod Places
 pub mod Faults
 -- ---- what the contracts see of the code's values
 pub mod NamesView
-pub mod DeclarationViews
 pub mod TableViews
 -- ---- what only private contracts and proofs cite
 pub mod inside

@@ -1,5 +1,5 @@
 -- What a name means in a module (X.680 13.1), and which definitions a definition uses.
-use Rattle.std.specs.Prelude.{◌≡◌, ◌⊎◌, ℕ, Bool, true, List, Contains, Some, slice_get}
+use Rattle.std.specs.Prelude.{◌≡◌, ◌⊎◌, ℕ, Bool, true, List, Contains, Option, Some, option_and_then, slice_get}
 use Rattle.guard_model.specs.declared.site.Site.{Site}
 use Rattle.guard_syntax.specs.Trees.{WrittenModule}
 use Rattle.guard_names.specs.Mentions.{Mention, mentions}
@@ -27,6 +27,10 @@ Means ms home name number = IsAssigned ms home name number ⊎ IsImported ms hom
 -- That number by a look-up. Where no name is declared twice it is the one that `Means` leads to, as a law says.
 abbrev pub number_meant : List WrittenModule → Numbers
 number_meant ms = definition_of (origin_there (declarations ms))
+
+-- The same where the name is written in the definition of a number.
+abbrev pub number_meant_from : List WrittenModule → ℕ → List ℕ → Option ℕ
+number_meant_from ms number name = option_and_then (λ d. number_meant ms d.home.name name) (slice_get (definitions ms) number)
 
 -- The definition of the first number uses that of the second one: it mentions a name that means it in its module.
 abbrev pub Uses : List WrittenModule → ℕ → ℕ → Type 0

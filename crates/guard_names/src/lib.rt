@@ -10,6 +10,7 @@
 //! | Have the names of modules a fault, and which is the first? | `resolution.rt`, `fault.rt` | `specs/Faults.antt` |
 //! | Which names does a module declare and export? | `declarations.rt`, `exports.rt` | `specs/Declarations.antt` |
 //! | Where does a name come from, and what does it mean? | `table.rt`, `meanings.rt` | `specs/Declarations.antt` |
+//! | By which number are the names in a module looked up? | `declarations.rt` (`Home`), `meanings.rt` (`Within`) | `specs/TableViews.antt` |
 //! | Is what is imported there, assigned and exported? | `checks.rt` | `specs/Faults.antt` |
 //! | Which names does an assignment mention? | `mentions.rt` | `specs/Mentions.antt` |
 //! | Which definitions does a definition use? | `uses.rt` | `specs/Meanings.antt` |

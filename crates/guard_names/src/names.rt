@@ -3,15 +3,15 @@ ghost use Rattle.std.specs.Prelude.{◌≡◌, ◌↔◌, ℕ, ◌<◌, List, ma
 ghost use Rattle.std.proofs.Props.{props};
 ghost use Rattle.guard_names.specs.Declarations.{Definition, definitions};
 ghost use Rattle.guard_names.specs.Faults.{fault_of_names};
-ghost use Rattle.guard_names.specs.Meanings.{Means, Uses, number_meant};
+ghost use Rattle.guard_names.specs.Meanings.{Means, Uses, number_meant, number_meant_from};
 ghost use Rattle.guard_names.specs.Order.{IsOrder, IsRecursive, is_listed};
 ghost use Rattle.guard_names.specs.Places.{place_in};
 ghost use Rattle.guard_names.specs.inside.OrderProps.{IsOrder-prop};
 ghost use Rattle.guard_names.specs.inside.Reading.{uses_of_all};
-ghost use Rattle.guard_names.specs.TableViews.{meaning_in};
+ghost use Rattle.guard_names.specs.TableViews.{meaning_in, module_number};
 ghost use Rattle.guard_syntax.specs.ModuleViews.{module_view, assignment_view};
 
-use crate::declarations::Id;
+use crate::declarations::{Id, number_of};
 use crate::meanings::Meanings;
 use crate::order::order;
 use guard_syntax::{Assignment, Module};
@@ -21,10 +21,14 @@ use std::alloc::{AllocError, Global};
 #[derive(Drop)]
 pub struct Names<'m, 'a> {
     modules: &'m [Module<'a>],
-    meanings: Meanings<'a>,
+    meanings: Meanings<'m, 'a>,
+    /// By modules, which number each name has.
+    numbers: Vec<Option<usize>>,
     order: Vec<Id>,
     /// The place of each definition in the order, by definitions.
     places: Vec<usize>,
+    pub ghost looked_up: { meanings.modules.now ≡ modules.now },
+    pub ghost numbered: { numbers.items ≡ map (λ m. module_number (map module_view modules.now) m.name.now) modules.now },
     pub ghost faultless: { is_some (fault_of_names (map module_view modules.now)) ≡ false },
     pub ghost meant: { (home name : List ℕ) → meaning_in meanings home name ≡ number_meant (map module_view modules.now) home name } by { Prim.hlevel props },
     pub ghost ordered: { IsOrder (length (definitions (map module_view modules.now))) (Uses (map module_view modules.now)) order.items } by { IsOrder-prop (length (definitions (map module_view modules.now))) (Uses (map module_view modules.now)) order.items },
@@ -40,10 +44,11 @@ impl<'m, 'a> Names<'m, 'a> {
     pub(crate) fn of(
         alloc: Global,
         modules: &'m [Module<'a>],
-        meanings: Meanings<'a>,
+        meanings: Meanings<'m, 'a>,
         uses: &[Vec<Id>],
     ) -> Result<Names<'m, 'a>, AllocError>
         requires named { fault_of_names (map module_view modules.now) ≡ None }
+        requires modules { meanings.modules.now ≡ modules.now }
         requires acyclic { (number : ℕ) → IsRecursive (Uses (map module_view modules.now)) number → ⊥ }
         requires meant { (home name : List ℕ) → meaning_in meanings home name ≡ number_meant (map module_view modules.now) home name }
         requires used { map (λ v. v.items) uses.now ≡ uses_of_all (map module_view modules.now) }
@@ -51,9 +56,11 @@ impl<'m, 'a> Names<'m, 'a> {
     {
         let order = order(alloc, uses)?;
         let places = places(alloc, &order, uses.len())?;
+        let numbers = numbers(alloc, modules)?;
         Ok(Names {
             modules,
             meanings,
+            numbers,
             order,
             places,
         })
@@ -65,15 +72,17 @@ impl<'m, 'a> Names<'m, 'a> {
         ensures meant { (number : ℕ) → (result ≡ Some number) ↔ Means (modules_of self.now) module_name.now name.now number }
         ensures home { IfSome result (λ id. (d : Definition) × (slice_get (definitions (modules_of self.now)) id ≡ Some d) × (d.assignment.name ≡ name.now)) }
     {
-        self.meanings.find(module_name.as_bytes(), name.as_bytes())
+        self.meanings
+            .within(module_name.as_bytes())
+            .find(name.as_bytes())
     }
 
-    /// The same of names as they are in trees, which are octets.
-    pub fn meaning(&self, module_name: &[u8], name: &[u8]) -> Option<Id>
-        ensures meant { (number : ℕ) → (result ≡ Some number) ↔ Means (modules_of self.now) module_name.now name.now number }
-        ensures computed { result ≡ number_meant (modules_of self.now) module_name.now name.now }
+    /// The same of a name that is written in this definition, as it is in its tree. The name of the module isn't read.
+    pub fn meaning_from(&self, id: Id, name: &[u8]) -> Option<Id>
+        ensures { result ≡ number_meant_from (modules_of self.now) id name.now }
     {
-        self.meanings.find(module_name, name)
+        let (place, _, _) = home_of(self.modules, id)?;
+        self.meanings.find(self.numbers[place], name)
     }
 
     /// All definitions, each after those that it uses: again and again the first one in module and text order of those
@@ -97,25 +106,39 @@ impl<'m, 'a> Names<'m, 'a> {
     pub fn home(&self, id: Id) -> Option<(&Module<'a>, &Assignment<'a>)>
         ensures { option_map (λ p. record { home = module_view p.0.now; assignment = assignment_view p.1.now }) result ≡ slice_get (definitions (modules_of self.now)) id }
     {
-        home_of(self.modules, id)
+        let (_, home, assignment) = home_of(self.modules, id)?;
+        Some((home, assignment))
     }
 }
 
-/// The module and the assignment of a definition.
+/// The place of the module of a definition, the module and the assignment.
 pub fn home_of<'m, 'a>(
     modules: &'m [Module<'a>],
     id: Id,
-) -> Option<(&'m Module<'a>, &'m Assignment<'a>)>
-    ensures { option_map (λ p. record { home = module_view p.0.now; assignment = assignment_view p.1.now }) result ≡ slice_get (definitions (map module_view modules.now)) id }
+) -> Option<(usize, &'m Module<'a>, &'m Assignment<'a>)>
+    ensures home { option_map (λ p. record { home = module_view p.1.now; assignment = assignment_view p.2.now }) result ≡ slice_get (definitions (map module_view modules.now)) id }
+    ensures place { IfSome result (λ p. slice_get modules.now p.0 ≡ Some p.1.now) }
 {
     let mut left = id;
-    for module in modules {
+    for place in 0..modules.len() {
+        let module = &modules[place];
         if let Some(assignment) = module.assignments.get(left) {
-            return Some((module, assignment));
+            return Some((place, module, assignment));
         }
         left -= module.assignments.len();
     }
     None
+}
+
+/// The number of each module, by its name.
+fn numbers(alloc: Global, modules: &[Module]) -> Result<Vec<Option<usize>>, AllocError>
+    ensures { IfOk result (λ v. v.items ≡ map (λ m. module_number (map module_view modules.now) m.name.now) modules.now) }
+{
+    let mut numbers = Vec::with_capacity(alloc, modules.len())?;
+    for module in modules {
+        numbers.push(number_of(modules, module.name))?;
+    }
+    Ok(numbers)
 }
 
 /// The place of each of the numbers below this one in a list of them.

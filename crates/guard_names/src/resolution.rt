@@ -1,14 +1,15 @@
 //! Whether the names in a list of modules have a fault, and what they mean where they have none.
-ghost use Rattle.std.specs.Prelude.{◌≡◌, ℕ, ◌<◌, List, map, length, option_map, slice_get, IfOk, IfErr, IfSome, Option, Some, None};
+ghost use Rattle.std.specs.Prelude.{◌≡◌, ℕ, ◌<◌, [], All, List, map, length, option_map, slice_get, IfOk, IfErr, IfSome, Option, Some, None};
 ghost use Rattle.std.specs.List.{flat_map};
 ghost use Rattle.guard_model.specs.Answer.{Gives};
 ghost use Rattle.guard_names.specs.declared.fault.NameFault.TheVariants as fault;
 ghost use Rattle.guard_names.specs.Declarations.{definitions, definition_of, origin_there};
-ghost use Rattle.guard_names.specs.DeclarationViews.{declaration_view};
-ghost use Rattle.guard_names.specs.Faults.{AreFaultless, IsFirstFault, IsRecursiveAt, named, first_found, undefined_in, fault_of_names};
+ghost use Rattle.guard_names.specs.inside.DeclarationViews.{declaration_view};
+ghost use Rattle.guard_names.specs.Faults.{AreFaultless, IsFirstFault, IsRecursiveAt, named, duplicate_after, first_found, undefined_in, fault_of_names};
 ghost use Rattle.guard_names.specs.Meanings.{Uses, number_meant};
 ghost use Rattle.guard_names.specs.NamesView.{modules_of};
 ghost use Rattle.guard_names.specs.Order.{IsRecursive};
+ghost use Rattle.guard_names.specs.inside.Numbered.{IsNumbered};
 ghost use Rattle.guard_names.specs.inside.Reading as reading;
 ghost use Rattle.guard_names.specs.TableViews.{origin_in, meaning_in};
 ghost use Rattle.guard_syntax.specs.ModuleViews.{module_view};
@@ -22,7 +23,7 @@ use crate::recursion::first_recursive;
 use crate::table::Table;
 use crate::uses::uses;
 use guard_syntax::Module;
-use std::alloc::Global;
+use std::alloc::{AllocError, Global};
 
 /// How many modules there may be.
 pub const MOST_MODULES: usize = 64;
@@ -48,9 +49,10 @@ pub fn resolve<'m, 'a>(alloc: Global, modules: &'m [Module<'a>]) -> Result<Names
 fn by_uses<'m, 'a>(
     alloc: Global,
     modules: &'m [Module<'a>],
-    meanings: Meanings<'a>,
+    meanings: Meanings<'m, 'a>,
     uses: &[Vec<Id>],
 ) -> Result<Names<'m, 'a>, NameFault>
+    requires modules { meanings.modules.now ≡ modules.now }
     requires named { fault_of_names (map module_view modules.now) ≡ None }
     requires meant { (home name : List ℕ) → meaning_in meanings home name ≡ number_meant (map module_view modules.now) home name }
     requires used { map (λ v. v.items) uses.now ≡ reading.uses_of_all (map module_view modules.now) }
@@ -63,35 +65,57 @@ fn by_uses<'m, 'a>(
 }
 
 /// What the declared names mean, and which definitions each definition uses.
-fn meanings_and_uses<'a>(
+fn meanings_and_uses<'m, 'a>(
     alloc: Global,
-    modules: &[Module<'a>],
-) -> Result<(Meanings<'a>, Vec<Vec<Id>>), NameFault>
+    modules: &'m [Module<'a>],
+) -> Result<(Meanings<'m, 'a>, Vec<Vec<Id>>), NameFault>
+    ensures modules { IfOk result (λ p. p.0.modules.now ≡ modules.now) }
     ensures meant { IfOk result (λ p. (home name : List ℕ) → meaning_in p.0 home name ≡ number_meant (map module_view modules.now) home name) }
     ensures used { IfOk result (λ p. reading.listed_uses p.1 ≡ reading.uses_of_all (map module_view modules.now)) }
     ensures refused { Gives reading.nothing named result (reading.check_names (map module_view modules.now)) }
 {
     let declared = declarations(alloc, modules)?;
-    let table = Table::of(alloc, &declared)?;
+    let table = Table::of(alloc, modules, &declared)?;
     check_imports(modules, &declared, &table)?;
-    by_table(alloc, modules, &declared, &table)
+    by_table(alloc, modules, declared, &table)
 }
 
 /// The same by where the declared names come from. Of the faults of names, one that is undefined is left.
-fn by_table<'a>(
+fn by_table<'m, 'a>(
     alloc: Global,
-    modules: &[Module<'a>],
-    declared: &[Declaration<'a>],
-    table: &Table<'a>,
-) -> Result<(Meanings<'a>, Vec<Vec<Id>>), NameFault>
-    requires { (scope : Option (List ℕ)) (name : List ℕ) → origin_in table.now scope name ≡ origin_there (map declaration_view declared.now) scope name }
+    modules: &'m [Module<'a>],
+    declared: Vec<Declaration<'a>>,
+    table: &Table<'m, 'a>,
+) -> Result<(Meanings<'m, 'a>, Vec<Vec<Id>>), NameFault>
+    requires modules { table.now.modules.now ≡ modules.now }
+    requires once { duplicate_after [] (map declaration_view declared.items) ≡ None }
+    requires numbered { All (IsNumbered (map module_view modules.now)) declared.items }
+    requires origins { (scope : Option (List ℕ)) (name : List ℕ) → origin_in table.now scope name ≡ origin_there (map declaration_view declared.items) scope name }
+    ensures modules { IfOk result (λ p. p.0.modules.now ≡ modules.now) }
     ensures meant { IfOk result (λ p. (home name : List ℕ) → meaning_in p.0 home name ≡ definition_of (origin_in table.now) home name) }
     ensures used { IfOk result (λ p. reading.listed_uses p.1 ≡ flat_map (reading.used_in_module (definition_of (origin_in table.now))) (map module_view modules.now)) }
     ensures refused { Gives reading.nothing named result (reading.refused_at fault.Undefined (first_found (undefined_in (origin_in table.now) (definition_of (origin_in table.now))) (map module_view modules.now))) }
 {
-    let meanings = Meanings::of(alloc, declared, table)?;
+    let meanings = meanings_of(alloc, modules, declared, table)?;
     let uses = uses(alloc, modules, table, &meanings)?;
     Ok((meanings, uses))
+}
+
+/// What the declared names mean. The declarations are let go, since there may be millions.
+fn meanings_of<'m, 'a>(
+    alloc: Global,
+    modules: &'m [Module<'a>],
+    declared: Vec<Declaration<'a>>,
+    table: &Table<'m, 'a>,
+) -> Result<Meanings<'m, 'a>, AllocError>
+    requires modules { table.now.modules.now ≡ modules.now }
+    requires once { duplicate_after [] (map declaration_view declared.items) ≡ None }
+    requires numbered { All (IsNumbered (map module_view modules.now)) declared.items }
+    requires origins { (scope : Option (List ℕ)) (name : List ℕ) → origin_in table.now scope name ≡ origin_there (map declaration_view declared.items) scope name }
+    ensures modules { IfOk result (λ t. t.modules.now ≡ modules.now) }
+    ensures found { IfOk result (λ t. (home name : List ℕ) → meaning_in t home name ≡ definition_of (origin_in table.now) home name) }
+{
+    Meanings::of(alloc, modules, &declared, table)
 }
 
 /// Looks for a definition that uses itself, directly or through others.
@@ -113,7 +137,7 @@ fn recursive(modules: &[Module], number: Id) -> NameFault
     ensures { option_map (λ d. fault.Recursive d.assignment.site) (slice_get (definitions (map module_view modules.now)) number) ≡ Some result }
 {
     match home_of(modules, number) {
-        Some((_, assignment)) => NameFault::Recursive(assignment.site),
+        Some((_, _, assignment)) => NameFault::Recursive(assignment.site),
         None => unreachable!(),
     }
 }

@@ -1,92 +1,124 @@
 //! Where each declared name comes from.
-ghost use Rattle.std.specs.Prelude.{◌≡◌, ℕ, List, [], map, Option, Some, option_map, IfOk};
+ghost use Rattle.std.specs.Prelude.{◌≡◌, ℕ, List, [], All, map, Option, None, Some, option_map, is_some, IfOk};
 ghost use Rattle.guard_model.specs.Answer.{Gives};
+ghost use Rattle.guard_syntax.specs.ModuleViews.{module_view};
 ghost use Rattle.guard_names.specs.declared.fault.NameFault.TheVariants as fault;
-ghost use Rattle.guard_names.specs.Declarations.{origin_there, assigned_number, exported_number, definition_of};
-ghost use Rattle.guard_names.specs.DeclarationViews.{declaration_view, origin_view, scope_view};
+ghost use Rattle.guard_names.specs.Declarations.{origin_there, assigned_number, exported_number};
+ghost use Rattle.guard_names.specs.inside.DeclarationViews.{declaration_view, origin_view};
 ghost use Rattle.guard_names.specs.Faults.{named, duplicate_after};
+ghost use Rattle.guard_names.specs.inside.Numbered.{IsNumbered};
 ghost use Rattle.guard_names.specs.inside.Reading.{refused_at, nothing};
 
-use crate::declarations::{Declaration, Id, Origin};
+use crate::declarations::{Declaration, Home, Id, Origin, number_of};
 use crate::fault::NameFault;
+use guard_syntax::Module;
 use indexmap::IndexMap;
 use std::alloc::Global;
 
 /// By which a declaration is looked up.
 #[derive(Clone, Copy, PartialEq, Eq, Hash)]
 pub struct Key<'a> {
-    pub scope: Option<&'a [u8]>,
+    /// The number of the module in which it is declared. The name of a module itself is declared in none.
+    pub scope: Option<usize>,
     pub name: &'a [u8],
 }
 
 /// Where each declared name comes from, in module and text order.
 #[derive(Drop)]
-pub struct Table<'a> {
+pub struct Table<'m, 'a> {
+    modules: &'m [Module<'a>],
     origins: IndexMap<Key<'a>, Origin<'a>>,
 }
 
-impl<'a> Table<'a> {
-    ghost use Rattle.guard_names.specs.TableViews.{origin_in};
+/// By which the declaration is looked up.
+pub fn key_of<'a>(declaration: &Declaration<'a>) -> Key<'a>
+    ensures name { result.name ≡ declaration.now.name }
+    ensures scope { result.scope ≡ option_map (λ home. home.number) declaration.now.scope }
+{
+    Key {
+        scope: number_in(declaration.scope),
+        name: declaration.name,
+    }
+}
+
+fn number_in(scope: Option<Home>) -> Option<usize>
+    ensures { result ≡ option_map (λ home. home.number) scope.entry }
+{
+    match scope {
+        None => None,
+        Some(home) => Some(home.number),
+    }
+}
+
+impl<'m, 'a> Table<'m, 'a> {
+    ghost use Rattle.guard_names.specs.TableViews.{module_number, origin_in};
 
     /// The table of declarations. A name that is declared twice is refused.
-    pub fn of(alloc: Global, declarations: &[Declaration<'a>]) -> Result<Table<'a>, NameFault>
+    pub fn of(
+        alloc: Global,
+        modules: &'m [Module<'a>],
+        declarations: &[Declaration<'a>],
+    ) -> Result<Table<'m, 'a>, NameFault>
+        requires numbered { All (IsNumbered (map module_view modules.now)) declarations.now }
+        ensures modules { IfOk result (λ t. t.modules.now ≡ modules.now) }
         ensures found { IfOk result (λ t. (scope : Option (List ℕ)) (name : List ℕ) → origin_in t scope name ≡ origin_there (map declaration_view declarations.now) scope name) }
         ensures refused { Gives nothing named result (refused_at fault.Duplicate (duplicate_after [] (map declaration_view declarations.now))) }
     {
         let mut origins = IndexMap::new(alloc);
         for declaration in declarations {
-            let key = Key {
-                scope: declaration.scope,
-                name: declaration.name,
-            };
-            if origins.insert(key, declaration.origin)?.is_some() {
+            if origins
+                .insert(key_of(declaration), declaration.origin)?
+                .is_some()
+            {
                 return Err(NameFault::Duplicate(declaration.site));
             }
         }
-        Ok(Table { origins })
+        Ok(Table { modules, origins })
     }
 
-    /// Where the name comes from that is declared there.
-    pub fn origin<'s>(&'s self, scope: Option<&'s [u8]>, name: &'s [u8]) -> Option<Origin<'s>>
-        ensures { option_map origin_view result ≡ origin_in self.now (scope_view scope.entry) name.now }
+    /// The number of the module of this name.
+    pub fn number_of(&self, home: &[u8]) -> Option<usize>
+        ensures { result ≡ module_number (map module_view self.now.modules.now) home.now }
     {
+        number_of(self.modules, home)
+    }
+
+    /// Whether there is a module of this name.
+    pub fn has_module(&self, name: &[u8]) -> bool
+        ensures { result ≡ is_some (origin_in self.now None name.now) }
+    {
+        self.origins.contains_key(&Key { scope: None, name })
+    }
+
+    /// Where the name comes from that is declared in the module of this number.
+    fn origin<'s>(&'s self, number: usize, name: &'s [u8]) -> Option<Origin<'s>>
+        ensures { (home : List ℕ) → module_number (map module_view self.now.modules.now) home ≡ Some number → option_map origin_view result ≡ origin_in self.now (Some home) name.now }
+    {
+        let scope = Some(number);
         self.origins.get(&Key { scope, name }).copied()
     }
 
-    /// The definition in which a name is assigned in the module of this name.
-    pub fn assigned(&self, home: &[u8], name: &[u8]) -> Option<Id>
-        ensures { result ≡ assigned_number (origin_in self.now (Some home.now) name.now) }
+    /// The definition in which a name is assigned in the module of this number, if it is there.
+    pub fn assigned(&self, number: Option<usize>, name: &[u8]) -> Option<Id>
+        ensures { (home : List ℕ) → number ≡ module_number (map module_view self.now.modules.now) home → result ≡ assigned_number (origin_in self.now (Some home) name.now) }
     {
-        match self.origin(Some(home), name) {
+        match self.origin(number?, name) {
             None => None,
             Some(Origin::Module) => None,
-            Some(Origin::Import(_)) => None,
-            Some(Origin::Assignment(number, _)) => Some(number),
+            Some(Origin::Import(_, _)) => None,
+            Some(Origin::Assignment(id, _)) => Some(id),
         }
     }
 
-    /// The definition in which a name is assigned in the module of this name, if that module exports it.
-    pub fn exported(&self, home: &[u8], name: &[u8]) -> Option<Id>
-        ensures { result ≡ exported_number (origin_in self.now (Some home.now) name.now) }
+    /// The definition in which a name is assigned in the module of this number, if it is there and exports the name.
+    pub fn exported(&self, number: Option<usize>, name: &[u8]) -> Option<Id>
+        ensures { (home : List ℕ) → number ≡ module_number (map module_view self.now.modules.now) home → result ≡ exported_number (origin_in self.now (Some home) name.now) }
     {
-        match self.origin(Some(home), name) {
+        match self.origin(number?, name) {
             None => None,
             Some(Origin::Module) => None,
-            Some(Origin::Import(_)) => None,
-            Some(Origin::Assignment(number, exports)) => exports.then_some(number),
-        }
-    }
-
-    /// The definition of a name in the module of this name: one that is assigned there, or in the module from which the
-    /// name is imported and that exports it.
-    pub fn definition(&self, home: &[u8], name: &[u8]) -> Option<Id>
-        ensures { result ≡ definition_of (origin_in self.now) home.now name.now }
-    {
-        match self.origin(Some(home), name) {
-            None => None,
-            Some(Origin::Module) => None,
-            Some(Origin::Import(from)) => self.exported(from, name),
-            Some(Origin::Assignment(number, _)) => Some(number),
+            Some(Origin::Import(_, _)) => None,
+            Some(Origin::Assignment(id, exports)) => exports.then_some(id),
         }
     }
 }

@@ -12,7 +12,7 @@ ghost use Rattle.guard_syntax.specs.ModuleViews.{module_view, assignment_view, s
 
 use crate::declarations::{Id, listed_exports};
 use crate::fault::NameFault;
-use crate::meanings::Meanings;
+use crate::meanings::{Meanings, Within};
 use crate::mentions::{Mention, mentions};
 use crate::table::Table;
 use guard_syntax::{Assignment, Module, SymbolKind, SymbolTree};
@@ -23,8 +23,8 @@ use std::alloc::Global;
 pub fn uses<'a>(
     alloc: Global,
     modules: &[Module<'a>],
-    table: &Table<'a>,
-    meanings: &Meanings<'a>,
+    table: &Table,
+    meanings: &Meanings,
 ) -> Result<Vec<Vec<Id>>, NameFault>
     ensures found { IfOk result (λ v. listed_uses v ≡ flat_map (used_in_module (meaning_in meanings.now)) (map module_view modules.now)) }
     ensures refused { Gives nothing faults.named result (refused_at fault.Undefined (faults.first_found (faults.undefined_in (origin_in table.now) (meaning_in meanings.now)) (map module_view modules.now))) }
@@ -41,12 +41,13 @@ pub fn uses<'a>(
 fn check_exports<'a>(
     home: &[u8],
     symbols: &[SymbolTree<'a>],
-    table: &Table<'a>,
+    table: &Table,
 ) -> Result<(), NameFault>
     ensures { Gives nothing faults.named result (refused_at fault.Undefined (faults.first_where (faults.is_undefined_export (origin_in table.now) home.now) (λ s. s.site) (map symbol_view symbols.now))) }
 {
+    let number = table.number_of(home);
     for symbol in symbols {
-        if table.assigned(home, symbol.name).is_none() {
+        if table.assigned(number, symbol.name).is_none() {
             return Err(NameFault::Undefined(symbol.site));
         }
     }
@@ -56,47 +57,38 @@ fn check_exports<'a>(
 fn add_uses<'a>(
     alloc: Global,
     tree: &Module<'a>,
-    meanings: &Meanings<'a>,
+    meanings: &Meanings,
     into: &mut Vec<Vec<Id>>,
 ) -> Result<(), NameFault>
     ensures found { OnOk result (listed_uses into.new ≡ listed_uses into.old ++ used_in_module (meaning_in meanings.now) (module_view tree.now)) }
     ensures refused { Gives nothing faults.named result (refused_at fault.Undefined (faults.first_found (faults.undefined_mention_in (meaning_in meanings.now) tree.now.name.now) (map assignment_view tree.now.assignments.items))) }
 {
+    let within = meanings.within(tree.name);
     for assignment in &tree.assignments {
-        let used = uses_of(alloc, tree.name, assignment, meanings)?;
+        let used = uses_of(alloc, &within, assignment)?;
         into.push(used)?;
     }
     Ok(())
 }
 
-/// The definitions that an assignment in the module of this name uses.
-fn uses_of<'a>(
-    alloc: Global,
-    home: &'a [u8],
-    assignment: &Assignment<'a>,
-    meanings: &Meanings<'a>,
-) -> Result<Vec<Id>, NameFault>
-    ensures found { IfOk result (λ v. v.items ≡ used_in (meaning_in meanings.now) home.now (assignment_view assignment.now)) }
-    ensures refused { Gives nothing faults.named result (refused_at fault.Undefined (faults.undefined_mention_in (meaning_in meanings.now) home.now (assignment_view assignment.now))) }
+/// The definitions that an assignment in this module uses.
+fn uses_of(alloc: Global, within: &Within, assignment: &Assignment) -> Result<Vec<Id>, NameFault>
+    ensures found { IfOk result (λ v. v.items ≡ used_in (meaning_in within.now.meanings.now) within.now.home.now (assignment_view assignment.now)) }
+    ensures refused { Gives nothing faults.named result (refused_at fault.Undefined (faults.undefined_mention_in (meaning_in within.now.meanings.now) within.now.home.now (assignment_view assignment.now))) }
 {
     let mentioned = mentions(alloc, assignment)?;
     let mut used = Vec::new(alloc);
     for mention in &mentioned {
-        add_use(home, mention, meanings, &mut used)?;
+        add_use(within, mention, &mut used)?;
     }
     Ok(used)
 }
 
-fn add_use<'a>(
-    home: &[u8],
-    mention: &Mention<'a>,
-    meanings: &Meanings<'a>,
-    into: &mut Vec<Id>,
-) -> Result<(), NameFault>
-    ensures found { OnOk result (into.new.items ≡ into.old.items ++ filter_map (λ x. meaning_in meanings.now home.now x.name) (mention_view mention.now ∷ [])) }
-    ensures refused { Gives nothing faults.named result (refused_at fault.Undefined (faults.first_where (faults.is_undefined_mention (meaning_in meanings.now) home.now) (λ x. x.site) (mention_view mention.now ∷ []))) }
+fn add_use(within: &Within, mention: &Mention, into: &mut Vec<Id>) -> Result<(), NameFault>
+    ensures found { OnOk result (into.new.items ≡ into.old.items ++ filter_map (λ x. meaning_in within.now.meanings.now within.now.home.now x.name) (mention_view mention.now ∷ [])) }
+    ensures refused { Gives nothing faults.named result (refused_at fault.Undefined (faults.first_where (faults.is_undefined_mention (meaning_in within.now.meanings.now) within.now.home.now) (λ x. x.site) (mention_view mention.now ∷ []))) }
 {
-    match meanings.find(home, mention.name) {
+    match within.find(mention.name) {
         Some(number) => {
             into.push(number)?;
             Ok(())

@@ -34,8 +34,10 @@ looked_up items name entries = lookup (λ key. bytes_eq name (items key)) entrie
 abbrev pub place_if : List ℕ → List ℕ → Option ℕ → Option (Option ℕ)
 place_if q name place = if bytes_eq q name then Some place else None
 
-abbrev pub entry_if : List ℕ → List ℕ → Entry → Option (Option ℕ)
-entry_if home name e = if bytes_eq home e.home then place_if name e.name e.place else None
+-- what the first one with this name has as its place, whatever its module
+abbrev pub first_place : List ℕ → List Entry → Option (Option ℕ)
+first_place name [] = None
+first_place name (e ∷ es) = if bytes_eq name e.name then Some e.place else first_place name es
 
 -- what the first one with these names has as its place
 abbrev pub first_named : List ℕ → List ℕ → List Entry → Option (Option ℕ)

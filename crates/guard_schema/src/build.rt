@@ -1,15 +1,15 @@
 //! What texts denote, as one answer, and the names by which a schema finds its types.
-ghost use Rattle.std.specs.Prelude.{◌≡◌, ◌≤◌, ◌++◌, All, map, slice_get, length, IfOk, IsUtf8, string_bytes};
+ghost use Rattle.std.specs.Prelude.{◌≡◌, ◌≤◌, ◌++◌, ℕ, List, All, map, slice_get, length, IfOk, IsUtf8, string_bytes};
 ghost use Rattle.guard_names.specs.Declarations.{definitions, defined_in};
 ghost use Rattle.guard_names.specs.NamesView.{modules_of, order_of};
 ghost use Rattle.guard_syntax.specs.ModuleViews.{module_view};
 ghost use Rattle.guard_schema.specs.Accepts.{Denotes};
 ghost use Rattle.guard_schema.specs.Entries as entries;
-ghost use Rattle.guard_schema.specs.Entries.{entries_from};
+ghost use Rattle.guard_schema.specs.Entries.{entries_from, first_named};
 ghost use Rattle.guard_schema.specs.Faults.{named};
 ghost use Rattle.guard_schema.specs.Outcomes.{Answers};
 ghost use Rattle.guard_schema.specs.Schemas as schemas;
-ghost use Rattle.guard_schema.specs.Views.{entry_view, type_place, schema_view, known_view};
+ghost use Rattle.guard_schema.specs.Views.{entry_view, found_in, type_place, schema_view, known_view};
 
 use crate::definitions::all_built;
 use crate::fault::SchemaFault;
@@ -55,8 +55,7 @@ fn with_names(alloc: Global, modules: &[Module], progress: Progress) -> Result<S
 {
     let Progress { names, known, .. } = progress;
     let Known { types, values } = known;
-    let definitions = definitions(alloc, names, &values, modules)?;
-    let index = TypeIndex::of(alloc, &definitions)?;
+    let index = index_of(alloc, names, &values, modules)?;
     let modules = module_names(alloc, modules)?;
     Ok(Schema {
         modules,
@@ -78,20 +77,24 @@ fn module_names(alloc: Global, modules: &[Module]) -> Result<Vec<String>, AllocE
 
 // ---- definitions
 
-/// The names of all definitions.
-fn definitions<'a>(
+/// The index of all definitions, module by module.
+fn index_of(
     alloc: Global,
     names: &Names,
     values: &[Option<Arc<Value>>],
-    modules: &[Module<'a>],
-) -> Result<Vec<NamedDefinition<'a>>, AllocError>
-    ensures { IfOk result (λ v. map entry_view v.items ≡ entries_from (type_place (order_of names.now) values.now) 0 (definitions (map module_view modules.now))) }
+    modules: &[Module],
+) -> Result<TypeIndex, AllocError>
+    ensures { IfOk result (λ index. (home name : List ℕ) → found_in index home name ≡ first_named home name (entries_from (type_place (order_of names.now) values.now) 0 (definitions (map module_view modules.now)))) }
 {
+    let mut index = TypeIndex::new(alloc);
     let mut all = Vec::new(alloc);
     for module in modules {
+        let first = all.len();
         all = with_module(names, values, module, all)?;
+        let (_, own) = all.split_at(first);
+        index = index.with(alloc, module.name, own)?;
     }
-    Ok(all)
+    Ok(index)
 }
 
 /// Those of a module after those before it.

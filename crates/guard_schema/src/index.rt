@@ -1,7 +1,7 @@
 //! Look-ups of definitions by the names of their modules and their own.
-ghost use Rattle.std.specs.Prelude.{◌≡◌, ℕ, List, map, IfOk};
+ghost use Rattle.std.specs.Prelude.{◌≡◌, ℕ, List, None, All, map, IfOk};
 ghost use Rattle.std.specs.Option.{option_or};
-ghost use Rattle.guard_schema.specs.Entries.{first_named, looked_up, place_if, entry_if};
+ghost use Rattle.guard_schema.specs.Entries.{first_named, looked_up, place_if, first_place};
 ghost use Rattle.guard_schema.specs.Views.{entry_view, found_in, place_in};
 
 use crate::build::NamedDefinition;
@@ -15,17 +15,33 @@ pub struct TypeIndex {
 }
 
 impl TypeIndex {
-    /// The index of these definitions.
-    pub fn of(alloc: Global, definitions: &[NamedDefinition]) -> Result<TypeIndex, AllocError>
-        ensures { IfOk result (λ index. (home name : List ℕ) → found_in index home name ≡ first_named home name (map entry_view definitions.now)) }
+    /// Nothing yet.
+    pub fn new(alloc: Global) -> TypeIndex
+        ensures { (home name : List ℕ) → found_in result home name ≡ None }
     {
-        let mut index = TypeIndex {
+        TypeIndex {
             homes: IndexMap::new(alloc),
-        };
-        for definition in definitions {
-            index = with_definition(alloc, index, definition)?;
         }
-        Ok(index)
+    }
+
+    /// With these definitions of the module of this name, whose name is copied once. The first one with two names stays.
+    pub fn with(
+        self,
+        alloc: Global,
+        home: &[u8],
+        definitions: &[NamedDefinition],
+    ) -> Result<TypeIndex, AllocError>
+        requires { All (λ d. d.home.now ≡ home.now) definitions.now }
+        ensures { IfOk result (λ after. (q name : List ℕ) → found_in after q name ≡ option_or (found_in self q name) (first_named q name (map entry_view definitions.now))) }
+    {
+        let mut homes = self.homes;
+        let places = match homes.shift_remove(home) {
+            Some(places) => places,
+            None => IndexMap::new(alloc),
+        };
+        let places = with_places(alloc, places, definitions)?;
+        homes.insert(Vec::from_slice(alloc, home)?, places)?;
+        Ok(TypeIndex { homes })
     }
 
     /// The place of the type to which the module of this name assigns a name.
@@ -37,22 +53,19 @@ impl TypeIndex {
     }
 }
 
-/// The index with one more definition. The first one with two names stays.
-fn with_definition(
+/// The places of these names after those that are there.
+fn with_places(
     alloc: Global,
-    before: TypeIndex,
-    definition: &NamedDefinition,
-) -> Result<TypeIndex, AllocError>
-    ensures { IfOk result (λ after. (home name : List ℕ) → found_in after home name ≡ option_or (found_in before home name) (entry_if home name (entry_view definition.now))) }
+    before: IndexMap<Vec<u8>, Option<usize>>,
+    definitions: &[NamedDefinition],
+) -> Result<IndexMap<Vec<u8>, Option<usize>>, AllocError>
+    ensures { IfOk result (λ after. (q : List ℕ) → looked_up (λ key. key.items) q after.entries ≡ option_or (looked_up (λ key. key.items) q before.entries) (first_place q (map entry_view definitions.now))) }
 {
-    let mut homes = before.homes;
-    let places = match homes.shift_remove(definition.home) {
-        Some(places) => places,
-        None => IndexMap::new(alloc),
-    };
-    let places = with_place(alloc, places, definition.name, definition.place)?;
-    homes.insert(Vec::from_slice(alloc, definition.home)?, places)?;
-    Ok(TypeIndex { homes })
+    let mut places = before;
+    for definition in definitions {
+        places = with_place(alloc, places, definition.name, definition.place)?;
+    }
+    Ok(places)
 }
 
 /// The first place of a name stays.

@@ -1,9 +1,10 @@
 -- What a scope of the code says.
-use Rattle.std.specs.Prelude.{Bool, List, [], ◌∷◌, map}
+use Rattle.std.specs.Prelude.{Bool, List, [], ◌∷◌, map, option_and_then, slice_get}
 use Rattle.guard_model.specs.AbstractType.{AbstractType}
 use Rattle.guard_model.specs.TypeView.{type_view}
 use Rattle.guard_names.specs.NamesView.{modules_of, order_of}
-use Rattle.guard_names.specs.Places.{known_meant}
+use Rattle.guard_names.specs.Meanings.{number_meant_from}
+use Rattle.guard_names.specs.Places.{place_in}
 use Rattle.guard_tagging.specs.declared.scope.Done.{Done}
 use Rattle.guard_tagging.specs.declared.scope.Known.{Known}
 use Rattle.guard_tagging.specs.declared.scope.Scope.{Scope}
@@ -24,5 +25,6 @@ done_view d = known_list (map type_view d.types.now) d.automatic.now
 abbrev pub scope_view : Scope → Surroundings
 scope_view s = record {
   tag_default = s.tag_default;
-  meaning = λ name. known_meant (modules_of s.names.now) (order_of s.names.now) (done_view s.done) s.home.now name;
+  meaning = λ name. option_and_then (slice_get (done_view s.done))
+      (option_and_then (place_in (order_of s.names.now)) (number_meant_from (modules_of s.names.now) s.id name));
 }

@@ -1,7 +1,7 @@
 //! The type of a definition, from its tree and the types of the definitions before it.
-ghost use Rattle.std.specs.Prelude.{◌≡◌, ◌↔◌, true, ◌≤◌, ◌+◌, IsTrue, IfOk, IfErr, IfSome, map, length, min, slice_get, All};
+ghost use Rattle.std.specs.Prelude.{◌≡◌, ◌↔◌, true, ◌≤◌, ◌+◌, IsTrue, Some, IfOk, IfErr, IfSome, map, length, min, slice_get, All};
 ghost use Rattle.guard_model.specs.TypeView.{type_view};
-ghost use Rattle.guard_names.specs.Declarations.{definitions};
+ghost use Rattle.guard_names.specs.Declarations.{Definition, definitions};
 ghost use Rattle.guard_names.specs.NamesView.{modules_of, order_of};
 ghost use Rattle.guard_syntax.specs.ModuleViews.{module_view};
 ghost use Rattle.guard_tagcheck.specs.Limits.{is_within_limits};
@@ -86,7 +86,7 @@ pub fn skeleton_after(
     let Some((home, assignment)) = names.home(id) else {
         unreachable!();
     };
-    let scope = scope_in(names, home, *done);
+    let scope = scope_in(names, home, id, *done);
     let made = type_of(alloc, &scope, &assignment.ty, true, None, done.nodes)?;
     let is_automatic = is_automatic_definition(names, *done, id);
     let Made { ty, nodes, .. } = Box::into_inner(made);
@@ -97,17 +97,19 @@ pub fn skeleton_after(
     })
 }
 
-/// The scope of what is written in a module.
+/// The scope of what is written in this definition of the module.
 fn scope_in<'s, 'm, 'a, 'd>(
     names: &'s Names<'m, 'a>,
     home: &Module<'a>,
+    id: Id,
     done: Done<'d>,
 ) -> Scope<'s, 'm, 'a, 'd>
+    requires { (d : Definition) × (Some d ≡ slice_get (definitions (modules_of names.now)) id) × (d.home ≡ module_view home.now) }
     ensures { scope_view result ≡ surroundings (modules_of names.now) (order_of names.now) (done_view done.entry) (module_view home.now) }
 {
     Scope {
         tag_default: home.tag_default.unwrap_or(TagDefault::Explicit),
-        home: home.name,
+        id,
         names,
         done,
     }
@@ -136,7 +138,7 @@ fn is_automatic_definition(names: &Names, done: Done, id: Id) -> bool
 {
     match names.home(id) {
         Some((home, assignment)) => {
-            is_automatic(&scope_in(names, home, done), &assignment.ty.base)
+            is_automatic(&scope_in(names, home, id, done), &assignment.ty.base)
         }
         None => false,
     }

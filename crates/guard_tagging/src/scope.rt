@@ -2,7 +2,7 @@
 ghost use Rattle.std.specs.Prelude.{◌≡◌, option_map, slice_get};
 
 use guard_model::Ty;
-use guard_names::Names;
+use guard_names::{Id, Names};
 use guard_syntax::TagDefault;
 
 /// The definitions that are built: the first ones in the order of definitions.
@@ -24,12 +24,13 @@ pub struct Known<'d> {
     pub is_automatic: bool,
 }
 
-/// The module in which a type is written.
+/// Where a type is written.
 #[derive(Clone, Copy)]
 pub struct Scope<'s, 'm, 'a, 'd> {
     /// The tag default of the module, EXPLICIT where none is written.
     pub tag_default: TagDefault,
-    pub home: &'a [u8],
+    /// The definition in which it is written.
+    pub id: Id,
     pub names: &'s Names<'m, 'a>,
     pub done: Done<'d>,
 }
@@ -53,7 +54,7 @@ impl<'s, 'm, 'a, 'd> Scope<'s, 'm, 'a, 'd> {
     pub fn referred(&self, name: &[u8]) -> Option<Known<'d>>
         ensures { option_map meaning_view result ≡ (scope_view self.now).meaning name.now }
     {
-        let id = self.names.meaning(self.home, name)?;
+        let id = self.names.meaning_from(self.id, name)?;
         let place = self.names.place(id)?;
         self.done.at(place)
     }

@@ -1,5 +1,5 @@
 -- What the code's results and arguments mean.
-use Rattle.std.specs.Prelude.{ℕ, List, [], Option, Some, None, slice_get, IsTrue, IfSome}
+use Rattle.std.specs.Prelude.{ℕ, List, Option, Some, None, option_and_then, slice_get, IsTrue, IfSome}
 use Rattle.std.specs.Option.{option_map}
 use Rattle.std.specs.Arc.{arc_value}
 use Rattle.std.specs.Borrow.{Bor}
@@ -18,9 +18,9 @@ use Rattle.guard_values.specs.declared.scope.Scope.{Scope}
 use Rattle.guard_values.specs.declared.scope.VisibleValue.{VisibleValue}
 use Rattle.guard_values.specs.Meanings.{Governed, Meaning}
 use Rattle.guard_names.specs.declared.names.Names.{Names}
-use Rattle.guard_names.specs.Declarations.{Definition, definitions}
+use Rattle.guard_names.specs.Meanings.{number_meant_from}
 use Rattle.guard_names.specs.NamesView.{modules_of, order_of}
-use Rattle.guard_names.specs.Places.{place_meant}
+use Rattle.guard_names.specs.Places.{place_in}
 use Rattle.guard_der.specs.Fits.{fits}
 use Rattle.guard_values.specs.declared.arrangement.Encoded.{Encoded}
 use Rattle.guard_values.specs.Places.{Located}
@@ -72,15 +72,9 @@ AreKnownFitting known = (place : ℕ) → IfSome (known_at known place) (λ g. I
 
 -- ---- what names mean in the module of a definition
 
--- the name of the module that assigns it
-abbrev pub home_name : Option Definition → List ℕ
-home_name None = []
-home_name (Some d) = d.home.name
-
 -- the place in the order of what a name means there
 abbrev pub place_from : Names → ℕ → List ℕ → Option ℕ
-place_from names id name =
-    place_meant (modules_of names) (order_of names) (home_name (slice_get (definitions (modules_of names)) id)) name
+place_from names id name = option_and_then (place_in (order_of names)) (number_meant_from (modules_of names) id name)
 
 -- values
 abbrev pub visible_from : Names → Known → ℕ → Meaning

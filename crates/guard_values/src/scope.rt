@@ -1,9 +1,7 @@
 //! Where something is written, and what visible names mean there.
-ghost use Rattle.std.specs.Prelude.{◌≡◌, option_map, slice_get};
+ghost use Rattle.std.specs.Prelude.{◌≡◌, option_map};
 ghost use Rattle.guard_model.specs.TypeView.{type_view};
-ghost use Rattle.guard_names.specs.Declarations.{definitions};
-ghost use Rattle.guard_names.specs.NamesView.{modules_of};
-ghost use Rattle.guard_values.specs.Views.{visible_view, home_name, known_at, type_at, place_from, meaning_of, types_of};
+ghost use Rattle.guard_values.specs.Views.{visible_view, known_at, type_at, place_from, meaning_of, types_of};
 
 use guard_model::{Ty, Value};
 use guard_names::{Id, Names};
@@ -76,19 +74,9 @@ impl<'s, 'm, 'a> Scope<'s, 'm, 'a> {
     fn place(&self, name: &[u8]) -> Option<usize>
         ensures { result ≡ place_from self.now.names.now self.now.id name.now }
     {
-        match self.names.meaning(self.home(), name) {
+        match self.names.meaning_from(self.id, name) {
             Some(id) => self.names.place(id),
             None => None,
-        }
-    }
-
-    /// The name of the module in which it is written.
-    fn home(&self) -> &'s [u8]
-        ensures { result.now ≡ home_name (slice_get (definitions (modules_of self.now.names.now)) self.now.id) }
-    {
-        match self.names.home(self.id) {
-            Some((module_tree, _)) => module_tree.name,
-            None => &[],
         }
     }
 }

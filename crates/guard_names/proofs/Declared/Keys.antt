@@ -1,44 +1,103 @@
 -- Look-ups in a table, and in the declarations of which it is made.
-use Rattle.std.proofs.Common.{◌≡◌, ℕ, ◌+◌, ◌<◌, Bool, true, false, cond, ◌&&◌, List, [], ◌∷◌, ◌++◌, map, length, get_or, take, drop, Option, Some, None, option_map, is_some, refl, sym, ◌∙◌, ap}
-use Rattle.std.specs.Prelude.{bytes_eq}
+use Rattle.std.proofs.Common.{◌≡◌, inl, inr, ℕ, ◌+◌, ◌<◌, Bool, true, false, cond, ◌&&◌, List, [], ◌∷◌, ◌++◌, map, length, get_or, take, drop, Option, Some, None, option_map, is_some, refl, sym, ◌∙◌, ap, subst}
+use Rattle.std.specs.Prelude.{bytes_eq, nat_eq}
 use Rattle.std.specs.List.{find}
 use Rattle.std.specs.Map.{lookup}
 use Rattle.std.specs.Option.{option_eq, option_or}
 use Rattle.std.specs.Cmp.Lexicographic.{nat_list_eq_equiv, bytes_decides}
-use Rattle.std.proofs.lemmas.List.{map_more, drop_more}
+use Rattle.std.proofs.lemmas.List.{map_more, drop_more, get_or-map, length-map}
 use Rattle.std.proofs.lemmas.List.Folds.{find-append}
 use Rattle.indexmap.specs.IndexMap.{insert_entry}
 use Rattle.std.specs.Borrow.{Bor}
+use Rattle.std.proofs.lemmas.Bool.Decides.{eqb_tells}
+use Rattle.guard_syntax.specs.Trees.{WrittenModule}
 use Rattle.guard_model.specs.declared.site.Site.{Site}
 use Rattle.guard_names.specs.declared.table.Key.{Key}
+use Rattle.guard_names.specs.declared.meanings.Meanings.{Meanings}
+use Rattle.guard_names.specs.declared.meanings.Within.{Within}
 use Rattle.guard_names.specs.declared.declarations.Origin.{Origin}
 use Rattle.guard_names.specs.declared.declarations.Declaration.{Declaration}
+use Rattle.guard_names.specs.declared.declarations.Home.{Home}
 use Rattle.guard_names.specs.Declarations as declared
 use Rattle.guard_names.specs.Declarations.{declares, origin_there, definition_of}
-use Rattle.guard_names.specs.DeclarationViews.{scope_view, origin_view, declaration_view}
+use Rattle.guard_names.specs.inside.DeclarationViews.{scope_view, origin_view, declaration_view}
 use Rattle.guard_names.specs.Faults.{duplicate_after}
-use Rattle.guard_names.specs.TableViews.{is_key}
+use Rattle.guard_names.proofs.Declared.Meaning.{never_before}
+use Rattle.guard_names.proofs.Declared.Modules.{one_name}
+use Rattle.guard_names.specs.TableViews.{module_number, is_number, is_scope, is_key, meaning_in}
+use Rattle.guard_names.specs.inside.Numbered.{HasNumber}
 
 -- how keys are compared
 abbrev pub key_eq : Key → Key → Bool
-key_eq k j = option_eq (λ x y. bytes_eq x.now y.now) k.scope j.scope && bytes_eq k.name.now j.name.now
+key_eq k j = option_eq nat_eq k.scope j.scope && bytes_eq k.name.now j.name.now
 
-scope_eq : (a b : Option (Bor (List ℕ))) → option_eq (λ x y. bytes_eq x.now y.now) a b ≡ option_eq bytes_eq (scope_view a) (scope_view b)
-scope_eq None None = refl
-scope_eq None (Some y) = refl
-scope_eq (Some x) None = refl
-scope_eq (Some x) (Some y) = refl
+-- the number that a declaration is looked up by
+abbrev pub number_in : Option Home → Option ℕ
+number_in scope = option_map (λ home. home.number) scope
 
-key_eq-is_key : (k j : Key) → key_eq k j ≡ is_key (scope_view k.scope) k.name.now j
-key_eq-is_key k j = ap (λ b. b && bytes_eq k.name.now j.name.now) (scope_eq k.scope j.scope)
+both_so : (a b : Bool) → a ≡ true → b ≡ true → a ≡ b
+both_so a b h g = h ∙ sym g
+
+nat_itself : (n : ℕ) → nat_eq n n ≡ true
+nat_itself n = elim (eqb_tells n n) [
+  | inl h ↦ h.0
+  | inr h ↦ absurd (h.1 refl)
+]
+
+-- a name is looked up by its number where it is the name of the module there
+number_tells : (ms : List WrittenModule) (n : ℕ) (home h : List ℕ) → module_number ms h ≡ Some n → is_number (module_number ms home) (Some n) ≡ bytes_eq home h
+number_tells ms n home h is = by (bytes_eq home h) refl (module_number ms home) refl
+  where
+    by : (b : Bool) → bytes_eq home h ≡ b → (k : Option ℕ) → module_number ms home ≡ k → is_number k (Some n) ≡ bytes_eq home h
+    by true same k at =
+        let one : home ≡ h = (bytes_decides home h).0 same in
+        let here : k ≡ Some n = sym at ∙ ap (module_number ms) one ∙ is in
+        ap (λ o. is_number o (Some n)) here ∙ nat_itself n ∙ sym same
+    by false other None at = sym other
+    by false other (Some k) at = elim (eqb_tells k n) [
+      | inl h' ↦ absurd (let one : home ≡ h = one_name ms n home h (at ∙ ap (λ (x : ℕ). Some x) h'.1) is in let same : bytes_eq home h ≡ true = (bytes_decides home h).1 one in let no : false ≡ true = sym other ∙ same in cc)
+      | inr h' ↦ h'.0 ∙ sym other
+    ]
+
+no_number : (k : Option ℕ) → is_number k None ≡ false
+no_number None = refl
+no_number (Some k) = refl
+
+scope_tells : (ms : List WrittenModule) (scope : Option (List ℕ)) (s : Option Home) → HasNumber ms s → is_scope ms scope (number_in s) ≡ option_eq bytes_eq scope (scope_view s)
+scope_tells ms None None is = refl
+scope_tells ms None (Some h) is = refl
+scope_tells ms (Some home) None is = no_number (module_number ms home)
+scope_tells ms (Some home) (Some h) is = number_tells ms h.number home h.name.now is
+
+-- the scope of a key
+abbrev pub IsScopeOf : List WrittenModule → Option (List ℕ) → Option ℕ → Type 0
+IsScopeOf ms None k = k ≡ None
+IsScopeOf ms (Some home) k = (n : ℕ) × (k ≡ Some n) × (module_number ms home ≡ Some n)
+
+pub scope_of : (ms : List WrittenModule) (s : Option Home) → HasNumber ms s → IsScopeOf ms (scope_view s) (number_in s)
+scope_of ms None is = refl
+scope_of ms (Some h) is = (h.number, refl, is)
+
+key_eq-is_key : (ms : List WrittenModule) (scope : Option (List ℕ)) (k j : Key) → IsScopeOf ms scope k.scope → key_eq k j ≡ is_key ms scope k.name.now j
+key_eq-is_key ms None k j is = ap (λ s. option_eq nat_eq s j.scope && bytes_eq k.name.now j.name.now) is
+key_eq-is_key ms (Some home) k j (n, at, number) =
+    ap (λ s. option_eq nat_eq s j.scope && bytes_eq k.name.now j.name.now) at
+    ∙ ap (λ o. is_number o j.scope && bytes_eq k.name.now j.name.now) (sym number)
 
 lookup_agrees : {K X : Type 0} (p q : K → Bool) → ((k : K) → p k ≡ q k) → (es : List (K × X)) → lookup p es ≡ lookup q es
 lookup_agrees p q same [] = refl
 lookup_agrees p q same (e ∷ es) = rw (same e.0, lookup_agrees p q same es) refl
 
 -- a look-up by a key is one by its scope and name
-pub lookup_key : {X : Type 0} (k : Key) (es : List (Key × X)) → lookup (key_eq k) es ≡ lookup (is_key (scope_view k.scope) k.name.now) es
-lookup_key k es = lookup_agrees (key_eq k) (is_key (scope_view k.scope) k.name.now) (key_eq-is_key k) es
+pub lookup_key : {X : Type 0} (ms : List WrittenModule) (scope : Option (List ℕ)) (k : Key) → IsScopeOf ms scope k.scope → (es : List (Key × X)) → lookup (key_eq k) es ≡ lookup (is_key ms scope k.name.now) es
+lookup_key ms scope k is es = lookup_agrees (key_eq k) (is_key ms scope k.name.now) (λ j. key_eq-is_key ms scope k j is) es
+
+-- nothing is looked up in a module that isn't there
+pub nothing_there : {X : Type 0} (ms : List WrittenModule) (home name : List ℕ) (es : List (Key × X)) → None ≡ module_number ms home → lookup (is_key ms (Some home) name) es ≡ None
+nothing_there ms home name [] none = refl
+nothing_there ms home name (e ∷ es) none =
+    ap (λ o. cond (is_number o e.0.scope && bytes_eq name e.0.name.now) (Some e.1) (lookup (is_key ms (Some home) name) es)) (sym none)
+    ∙ nothing_there ms home name es none
 
 lookup-push : {K X : Type 0} (p : K → Bool) (es : List (K × X)) (k : K) (v : X) → lookup p (es ++ (k, v) ∷ []) ≡ option_or (lookup p es) (cond (p k) (Some v) None)
 lookup-push p [] k v = refl
@@ -60,8 +119,8 @@ insert_entry-absent (e ∷ es) k v absent = by_test (key_eq k e.0) (insert_entry
     by_test false rest there = ap (λ all. e ∷ all) (rest there)
 
 -- the origins of the entries are those of the declarations
-abbrev pub AreOrigins : List (Key × Origin) → List declared.Declaration → Type 0
-AreOrigins es ds = (scope : Option (List ℕ)) (name : List ℕ) → option_map origin_view (lookup (is_key scope name) es) ≡ origin_there ds scope name
+abbrev pub AreOrigins : List WrittenModule → List (Key × Origin) → List declared.Declaration → Type 0
+AreOrigins ms es ds = (scope : Option (List ℕ)) (name : List ℕ) → option_map origin_view (lookup (is_key ms scope name) es) ≡ origin_there ds scope name
 
 origin-push : (ds : List declared.Declaration) (d : declared.Declaration) (scope : Option (List ℕ)) (name : List ℕ)
     → origin_there (ds ++ d ∷ []) scope name ≡ option_or (origin_there ds scope name) (cond (declares scope name d) (Some d.origin) None)
@@ -82,26 +141,37 @@ some_mapped : (o : Option Origin) → is_some (option_map origin_view o) ≡ is_
 some_mapped None = refl
 some_mapped (Some x) = refl
 
-module _ (xs : List Declaration) (i : ℕ) (d : Declaration) (inside : i < length xs) where
-  abbrev pub key_at : Key
-  key_at = record { scope = (get_or xs i d).scope; name = (get_or xs i d).name }
-
+module _ (ms : List WrittenModule) (xs : List Declaration) (i : ℕ) (d : Declaration) (inside : i < length xs) (numbered : HasNumber ms (get_or xs i d).scope) (key : Key)
+    (by_name : key.name ≡ (get_or xs i d).name) (by_number : key.scope ≡ number_in (get_or xs i d).scope) where
   abbrev pub here : declared.Declaration
   here = declaration_view (get_or xs i d)
 
+  key_scope : IsScopeOf ms here.scope key.scope
+  key_scope = subst (IsScopeOf ms here.scope) (sym by_number) (scope_of ms (get_or xs i d).scope numbered)
+
+  -- the key is that of the names that are declared
+  pub key_tells : (scope : Option (List ℕ)) (name : List ℕ) → is_key ms scope name key ≡ declares scope name here
+  key_tells scope name =
+      ap (λ s. is_scope ms scope s && bytes_eq name key.name.now) by_number
+      ∙ ap (λ b. b && bytes_eq name key.name.now) (scope_tells ms scope (get_or xs i d).scope numbered)
+      ∙ ap (λ (n : Bor (List ℕ)). option_eq bytes_eq scope here.scope && bytes_eq name n.now) by_name
+
   -- what the table has at the next key
-  pub same_before : (es : List (Key × Origin)) → AreOrigins es (map declaration_view (take i xs))
-      → option_map origin_view (lookup (key_eq key_at) es) ≡ origin_there (map declaration_view (take i xs)) here.scope here.name
-  same_before es are = ap (option_map origin_view) (lookup_key key_at es) ∙ are here.scope here.name
+  pub same_before : (es : List (Key × Origin)) → AreOrigins ms es (map declaration_view (take i xs))
+      → option_map origin_view (lookup (key_eq key) es) ≡ origin_there (map declaration_view (take i xs)) here.scope here.name
+  same_before es are =
+      ap (option_map origin_view) (lookup_key ms here.scope key key_scope es) ∙ are here.scope key.name.now
+      ∙ ap (λ (n : Bor (List ℕ)). origin_there (map declaration_view (take i xs)) here.scope n.now) by_name
 
   -- one more entry, one more declaration
-  pub more_origins : (es new : List (Key × Origin)) → AreOrigins es (map declaration_view (take i xs)) → lookup (key_eq key_at) es ≡ None → new ≡ insert_entry key_eq es key_at (get_or xs i d).origin
-      → AreOrigins new (map declaration_view (take (i + 1) xs))
+  pub more_origins : (es new : List (Key × Origin)) → AreOrigins ms es (map declaration_view (take i xs)) → lookup (key_eq key) es ≡ None → new ≡ insert_entry key_eq es key (get_or xs i d).origin
+      → AreOrigins ms new (map declaration_view (take (i + 1) xs))
   more_origins es new are absent is scope name =
-      ap (λ (all : List (Key × Origin)). option_map origin_view (lookup (is_key scope name) all)) (is ∙ insert_entry-absent es key_at (get_or xs i d).origin absent)
-      ∙ ap (option_map origin_view) (lookup-push (is_key scope name) es key_at (get_or xs i d).origin)
-      ∙ view-or (lookup (is_key scope name) es) (is_key scope name key_at) (get_or xs i d).origin
-      ∙ ap (λ f. option_or f (cond (is_key scope name key_at) (Some here.origin) None)) (are scope name)
+      ap (λ (all : List (Key × Origin)). option_map origin_view (lookup (is_key ms scope name) all)) (is ∙ insert_entry-absent es key (get_or xs i d).origin absent)
+      ∙ ap (option_map origin_view) (lookup-push (is_key ms scope name) es key (get_or xs i d).origin)
+      ∙ view-or (lookup (is_key ms scope name) es) (is_key ms scope name key) (get_or xs i d).origin
+      ∙ ap (λ b. option_or (option_map origin_view (lookup (is_key ms scope name) es)) (cond b (Some here.origin) None)) (key_tells scope name)
+      ∙ ap (λ f. option_or f (cond (declares scope name here) (Some here.origin) None)) (are scope name)
       ∙ sym (ap (λ ds. origin_there ds scope name) (map_more declaration_view xs i d inside) ∙ origin-push (map declaration_view (take i xs)) here scope name)
 
   -- the next one is declared before, or it isn't
@@ -111,7 +181,7 @@ module _ (xs : List Declaration) (i : ℕ) (d : Declaration) (inside : i < lengt
   next_declaration = rw (drop_more xs i d inside, map_more declaration_view xs i d inside) refl
 
   -- where it isn't, the search goes on
-  pub passes_new : (es : List (Key × Origin)) → AreOrigins es (map declaration_view (take i xs)) → lookup (key_eq key_at) es ≡ None → (total : Option Site)
+  pub passes_new : (es : List (Key × Origin)) → AreOrigins ms es (map declaration_view (take i xs)) → lookup (key_eq key) es ≡ None → (total : Option Site)
       → duplicate_after (map declaration_view (take i xs)) (map declaration_view (drop i xs)) ≡ total
       → duplicate_after (map declaration_view (take (i + 1) xs)) (map declaration_view (drop (i + 1) xs)) ≡ total
   passes_new es are absent total so_far =
@@ -119,11 +189,11 @@ module _ (xs : List Declaration) (i : ℕ) (d : Declaration) (inside : i < lengt
       ∙ so_far
 
   -- where it is, it is the first one that is declared twice
-  pub is_duplicate : (es : List (Key × Origin)) → AreOrigins es (map declaration_view (take i xs)) → is_some (lookup (key_eq key_at) es) ≡ true → (total : Option Site)
+  pub is_duplicate : (es : List (Key × Origin)) → AreOrigins ms es (map declaration_view (take i xs)) → is_some (lookup (key_eq key) es) ≡ true → (total : Option Site)
       → duplicate_after (map declaration_view (take i xs)) (map declaration_view (drop i xs)) ≡ total → total ≡ Some here.site
   is_duplicate es are found total so_far =
       sym so_far ∙ next_declaration
-      ∙ ap (λ b. cond b (Some here.site) (duplicate_after (map declaration_view (take (i + 1) xs)) (map declaration_view (drop (i + 1) xs)))) (ap is_some (sym (same_before es are)) ∙ some_mapped (lookup (key_eq key_at) es) ∙ found)
+      ∙ ap (λ b. cond b (Some here.site) (duplicate_after (map declaration_view (take (i + 1) xs)) (map declaration_view (drop (i + 1) xs)))) (ap is_some (sym (same_before es are)) ∙ some_mapped (lookup (key_eq key) es) ∙ found)
 
 pub some_from_old : {X : Type 0} (o p : Option X) → o ≡ p → true ≡ is_some o → is_some p ≡ true
 some_from_old o p is some = ap is_some (sym is) ∙ sym some
@@ -131,6 +201,15 @@ some_from_old o p is some = ap is_some (sym is) ∙ sym some
 pub none_from_old : {X : Type 0} (o p : Option X) → o ≡ p → false ≡ is_some o → p ≡ None
 none_from_old None p is none = sym is
 none_from_old (Some x) p is none = absurd cc
+
+-- where none is declared twice, each comes from where its declaration says
+pub own_origin : (origins : declared.Origins) (xs : List Declaration) (i : ℕ) (d : Declaration) → i < length xs → duplicate_after [] (map declaration_view xs) ≡ None
+    → ((scope : Option (List ℕ)) (name : List ℕ) → origins scope name ≡ origin_there (map declaration_view xs) scope name)
+    → origins (scope_view (get_or xs i d).scope) (get_or xs i d).name.now ≡ Some (origin_view (get_or xs i d).origin)
+own_origin origins xs i d inside once are =
+    let one = declaration_view (get_or xs i d) in
+    are one.scope one.name
+    ∙ never_before [] (map declaration_view xs) once i one (subst (λ n. i < n) (sym (length-map xs declaration_view)) inside) (get_or-map declaration_view xs i d one inside)
 
 -- ---- what the declared names mean
 
@@ -153,56 +232,114 @@ known-cases None false p n = refl
 known-cases (Some q) true p n = refl
 known-cases (Some q) false p n = refl
 
-module _ (origins : declared.Origins) (xs : List Declaration) (i : ℕ) (d : Declaration) (inside : i < length xs) where
+module _ (ms : List WrittenModule) (origins : declared.Origins) (xs : List Declaration) (i : ℕ) (d : Declaration) (inside : i < length xs)
+    (own : origins (scope_view (get_or xs i d).scope) (get_or xs i d).name.now ≡ Some (origin_view (get_or xs i d).origin)) where
+  abbrev pub one : declared.Declaration
+  one = declaration_view (get_or xs i d)
+
+  abbrev pub meant_here : Option ℕ
+  meant_here = declared.number_of_origin origins one.name (Some one.origin)
+
   known_more : (home name : List ℕ) → known_number origins (map declaration_view (take (i + 1) xs)) home name
-      ≡ cond (declares (Some home) name (declaration_view (get_or xs i d))) (definition_of origins home name) (known_number origins (map declaration_view (take i xs)) home name)
+      ≡ cond (declares (Some home) name one) (definition_of origins home name) (known_number origins (map declaration_view (take i xs)) home name)
   known_more home name =
-      rw (map_more declaration_view xs i d inside, origin-push (map declaration_view (take i xs)) (declaration_view (get_or xs i d)) (Some home) name)
-      (known-cases (origin_there (map declaration_view (take i xs)) (Some home) name) (declares (Some home) name (declaration_view (get_or xs i d))) (origin_view (get_or xs i d).origin) (definition_of origins home name))
+      rw (map_more declaration_view xs i d inside, origin-push (map declaration_view (take i xs)) one (Some home) name)
+      (known-cases (origin_there (map declaration_view (take i xs)) (Some home) name) (declares (Some home) name one) one.origin (definition_of origins home name))
 
-  -- the name of a module is declared in none
-  pub passes_module : (get_or xs i d).scope ≡ None → (home name : List ℕ) (old : Option ℕ)
+  scopes_same : (home : List ℕ) (s : Option (List ℕ)) → option_eq bytes_eq (Some home) s ≡ true → Some home ≡ s
+  scopes_same home None h = absurd cc
+  scopes_same home (Some x) h = ap Some ((bytes_decides home x).0 h)
+
+  -- where it is declared, the name means what the declaration says
+  means_here : (home name : List ℕ) → declares (Some home) name one ≡ true → definition_of origins home name ≡ meant_here
+  means_here home name alike =
+      let same = both_true (option_eq bytes_eq (Some home) one.scope) (bytes_eq name one.name) alike in
+      let s : Some home ≡ one.scope = scopes_same home one.scope same.0 in
+      let n : name ≡ one.name = (bytes_decides name one.name).0 same.1 in
+      ap (λ x. declared.number_of_origin origins x (origins (Some home) x)) n
+      ∙ ap (λ o. declared.number_of_origin origins one.name (origins o one.name)) s
+      ∙ ap (declared.number_of_origin origins one.name) own
+
+  -- a name that has no definition
+  pub passes_unknown : meant_here ≡ None → (home name : List ℕ) (old : Option ℕ)
       → old ≡ known_number origins (map declaration_view (take i xs)) home name → old ≡ known_number origins (map declaration_view (take (i + 1) xs)) home name
-  passes_module none home name old was =
-      was ∙ sym (known_more home name ∙ ap (λ s. cond (option_eq bytes_eq (Some home) (scope_view s) && bytes_eq name (get_or xs i d).name.now) (definition_of origins home name) (known_number origins (map declaration_view (take i xs)) home name)) none)
+  passes_unknown unknown home name old was =
+      was ∙ sym (known_more home name ∙ keeps (declares (Some home) name one) refl)
+    where
+      keeps : (b : Bool) → declares (Some home) name one ≡ b
+          → cond b (definition_of origins home name) (known_number origins (map declaration_view (take i xs)) home name) ≡ known_number origins (map declaration_view (take i xs)) home name
+      keeps false other = refl
+      keeps true alike =
+          let none : definition_of origins home name ≡ None = means_here home name alike ∙ unknown in
+          rw none (cond-same (is_some (origin_there (map declaration_view (take i xs)) (Some home) name)) None)
 
-  module _ (h : Bor (List ℕ)) (in_module : (get_or xs i d).scope ≡ Some h) where
-    known_next : (home name : List ℕ) → known_number origins (map declaration_view (take (i + 1) xs)) home name
-        ≡ cond (bytes_eq home h.now && bytes_eq name (get_or xs i d).name.now) (definition_of origins home name) (known_number origins (map declaration_view (take i xs)) home name)
-    known_next home name =
-        known_more home name ∙ ap (λ s. cond (option_eq bytes_eq (Some home) (scope_view s) && bytes_eq name (get_or xs i d).name.now) (definition_of origins home name) (known_number origins (map declaration_view (take i xs)) home name)) in_module
+  -- a name that has one, under the key that is looked up
+  pub takes_number : (numbered : HasNumber ms (get_or xs i d).scope) (key : Key) (by_name : key.name ≡ (get_or xs i d).name) (by_number : key.scope ≡ number_in (get_or xs i d).scope)
+      → (n : ℕ) → meant_here ≡ Some n → (home name : List ℕ) (old new : Option ℕ)
+      → old ≡ known_number origins (map declaration_view (take i xs)) home name
+      → new ≡ cond (is_key ms (Some home) name key) (Some n) old
+      → new ≡ known_number origins (map declaration_view (take (i + 1) xs)) home name
+  takes_number numbered key by_name by_number n known home name old new was is =
+      is ∙ ap (λ b. cond b (Some n) old) (key_tells ms xs i d inside numbered key by_name by_number (Some home) name)
+      ∙ ap (λ o. cond (declares (Some home) name one) (Some n) o) was
+      ∙ sym (known_more home name ∙ knows (declares (Some home) name one) refl)
+    where
+      knows : (b : Bool) → declares (Some home) name one ≡ b
+          → cond b (definition_of origins home name) (known_number origins (map declaration_view (take i xs)) home name)
+          ≡ cond b (Some n) (known_number origins (map declaration_view (take i xs)) home name)
+      knows false other = refl
+      knows true alike = means_here home name alike ∙ known
 
-    -- a name that has no definition
-    pub passes_unknown : definition_of origins h.now (get_or xs i d).name.now ≡ None → (home name : List ℕ) (old : Option ℕ)
-        → old ≡ known_number origins (map declaration_view (take i xs)) home name → old ≡ known_number origins (map declaration_view (take (i + 1) xs)) home name
-    passes_unknown unknown home name old was =
-        was ∙ sym (known_next home name ∙ keeps (bytes_eq home h.now && bytes_eq name (get_or xs i d).name.now) refl)
-      where
-        keeps : (b : Bool) → (bytes_eq home h.now && bytes_eq name (get_or xs i d).name.now) ≡ b
-            → cond b (definition_of origins home name) (known_number origins (map declaration_view (take i xs)) home name) ≡ known_number origins (map declaration_view (take i xs)) home name
-        keeps false other = refl
-        keeps true alike =
-            let same = both_true (bytes_eq home h.now) (bytes_eq name (get_or xs i d).name.now) alike in
-            let none : definition_of origins home name ≡ None = rw ((bytes_decides home h.now).0 same.0, (bytes_decides name (get_or xs i d).name.now).0 same.1) unknown in
-            rw none (cond-same (is_some (origin_there (map declaration_view (take i xs)) (Some home) name)) None)
+-- ---- what is looked up after an insertion
 
-    -- a name that has one
-    pub takes_number : (n : ℕ) → Some n ≡ definition_of origins h.now (get_or xs i d).name.now → (home name : Bor (List ℕ)) (old new : Option ℕ)
-        → old ≡ known_number origins (map declaration_view (take i xs)) home.now name.now
-        → new ≡ cond (key_eq (record { scope = (get_or xs i d).scope; name = (get_or xs i d).name }) (record { scope = Some home; name = name })) (Some n) old
-        → new ≡ known_number origins (map declaration_view (take (i + 1) xs)) home.now name.now
-    takes_number n known home name old new was is =
-        is ∙ ap (λ s. cond (option_eq (λ x y. bytes_eq x.now y.now) s (Some home) && bytes_eq (get_or xs i d).name.now name.now) (Some n) old) in_module
-        ∙ rw (nat_list_eq_equiv.symm h.now home.now, nat_list_eq_equiv.symm (get_or xs i d).name.now name.now, was) refl
-        ∙ sym (known_next home.now name.now ∙ knows (bytes_eq home.now h.now && bytes_eq name.now (get_or xs i d).name.now) refl)
-      where
-        knows : (b : Bool) → (bytes_eq home.now h.now && bytes_eq name.now (get_or xs i d).name.now) ≡ b
-            → cond b (definition_of origins home.now name.now) (known_number origins (map declaration_view (take i xs)) home.now name.now)
-            ≡ cond b (Some n) (known_number origins (map declaration_view (take i xs)) home.now name.now)
-        knows false other = refl
-        knows true alike =
-            let same = both_true (bytes_eq home.now h.now) (bytes_eq name.now (get_or xs i d).name.now) alike in
-            rw ((bytes_decides home.now h.now).0 same.0, (bytes_decides name.now (get_or xs i d).name.now).0 same.1) (sym known)
+eq_either : (a b : ℕ) → nat_eq a b ≡ nat_eq b a
+eq_either a b = elim (eqb_tells a b) [
+  | inl h ↦ h.0 ∙ sym (ap (nat_eq b) h.1 ∙ nat_itself b)
+  | inr h ↦ elim (eqb_tells b a) [
+    | inl g ↦ absurd (h.1 (sym g.1))
+    | inr g ↦ h.0 ∙ sym g.0
+  ]
+]
+
+scope_either : (a b : Option ℕ) → option_eq nat_eq a b ≡ option_eq nat_eq b a
+scope_either None None = refl
+scope_either None (Some b) = refl
+scope_either (Some a) None = refl
+scope_either (Some a) (Some b) = eq_either a b
+
+key_either : (k j : Key) → key_eq k j ≡ key_eq j k
+key_either k j =
+    ap (λ b. b && bytes_eq k.name.now j.name.now) (scope_either k.scope j.scope)
+    ∙ ap (λ b. option_eq nat_eq j.scope k.scope && b) (nat_list_eq_equiv.symm k.name.now j.name.now)
+
+lent : List ℕ → Bor (List ℕ)
+lent name = record { ref_ptr = (0, 0); now = name }
+
+pub after_insert : {X : Type 0} (ms : List WrittenModule) (home name : List ℕ) (old new : List (Key × X)) (key : Key) (x : X)
+    → ((k : Key) → lookup (key_eq k) new ≡ cond (key_eq key k) (Some x) (lookup (key_eq k) old))
+    → lookup (is_key ms (Some home) name) new ≡ cond (is_key ms (Some home) name key) (Some x) (lookup (is_key ms (Some home) name) old)
+unfolding lent
+after_insert ms home name old new key x updated = by (module_number ms home) refl
+  where
+    by : (number : Option ℕ) → module_number ms home ≡ number
+        → lookup (is_key ms (Some home) name) new ≡ cond (is_key ms (Some home) name key) (Some x) (lookup (is_key ms (Some home) name) old)
+    by None none =
+        nothing_there ms home name new (sym none)
+        ∙ sym (ap (λ o. cond (is_number o key.scope && bytes_eq name key.name.now) (Some x) (lookup (is_key ms (Some home) name) old)) none
+        ∙ nothing_there ms home name old (sym none))
+    by (Some n) at =
+        let k : Key = record { scope = Some n; name = lent name } in
+        let is : IsScopeOf ms (Some home) k.scope = (n, refl, at) in
+        sym (lookup_key ms (Some home) k is new) ∙ updated k
+        ∙ ap (λ b. cond b (Some x) (lookup (key_eq k) old)) (key_either key k ∙ key_eq-is_key ms (Some home) k key is)
+        ∙ ap (λ o. cond (is_key ms (Some home) name key) (Some x) o) (lookup_key ms (Some home) k is old)
+
+-- what names mean within a module
+pub within_is : (w : Within) (m : Meanings) (home name : List ℕ) → w.meanings.now ≡ m → w.home.now ≡ home → meaning_in w.meanings.now w.home.now name ≡ meaning_in m home name
+within_is w m home name first second = ap (λ (x : Meanings). meaning_in x w.home.now name) first ∙ ap (λ h. meaning_in m h name) second
+
+pub moved_within : (w : Within) (m : Meanings) (home : List ℕ) → w.meanings.now ≡ m → w.home.now ≡ home → (P : declared.Numbers → List ℕ → Type 0) → P (meaning_in w.meanings.now) w.home.now → P (meaning_in m) home
+moved_within w m home first second P h = subst (λ x. P (meaning_in m) x) second (subst (λ (x : Meanings). P (meaning_in x) w.home.now) first h)
 
 -- what isn't declared has no definition
 pub known_all : (origins : declared.Origins) (ds : List declared.Declaration) → ((scope : Option (List ℕ)) (name : List ℕ) → origins scope name ≡ origin_there ds scope name)

@@ -68,7 +68,7 @@ first_new : (o : Option Origin) (site : Site) (rest : Option Site) → cond (is_
 first_new None site rest h = (refl, h)
 first_new (Some x) site rest h = absurd cc
 
-never_before : (before ds : List Declaration) → duplicate_after before ds ≡ None → (k : ℕ) (d : Declaration) → k < length ds → get_or ds k d ≡ d
+pub never_before : (before ds : List Declaration) → duplicate_after before ds ≡ None → (k : ℕ) (d : Declaration) → k < length ds → get_or ds k d ≡ d
     → origin_there (before ++ ds) d.scope d.name ≡ Some d.origin
 never_before before [] h k d l is = absurd (omega (arith, l))
 never_before before (e ∷ ds) h zero d l is =

@@ -25,7 +25,6 @@ use Rattle.guard_tagging.specs.Surroundings.{nodes_of_all}
 use Rattle.guard_tagging.specs.Types.{Surroundings}
 use Rattle.guard_constraints.specs.Visible.{Visible}
 use Rattle.guard_constraints.specs.Views.{visible_at}
-use Rattle.guard_values.specs.Views.{home_name}
 use Rattle.guard_schema.specs.declared.fault.SchemaFault.{SchemaFault}
 use Rattle.guard_schema.specs.declared.progress.Progress.{Progress}
 use Rattle.guard_schema.specs.declared.progress.Definition as code
@@ -165,7 +164,7 @@ module _ (p : Progress) (id : ℕ) (d : Definition)
       subst (λ (x : Definition). HasTags (known_view p) x answer) (same_Some h.0 d (sym h.1 ∙ sym is)) h.2
 
   here : visible_at p.names.now p.known id ≡ visible (known_view p) d.home.name
-  here = visible_same p id ∙ ap (λ (o : Option Definition). visible (known_view p) (home_name o)) (sym is)
+  here = visible_same p id d is
 
   by_tags : (f : AbstractFault) → TagsApart (known_view p) id d.assignment.site (Err f)
       → BuildsNumber (known_view p) id (Err f)

@@ -1,7 +1,7 @@
 -- What names mean by what the code keeps is what they mean by the definitions.
 use Rattle.std.proofs.Common.{◌≡◌, ℕ, zero, suc, List, [], ◌∷◌, length, Option, Some, None}
 use Rattle.std.proofs.Common.{option_map, slice_get, refl, sym, ap, subst, ◌∙◌, IsTrue, arith}
-use Rattle.std.specs.Prelude.{IfSome, All}
+use Rattle.std.specs.Prelude.{IfSome, All, option_and_then}
 use Rattle.std.proofs.Math.Path.{fun_ext}
 use Rattle.std.proofs.lemmas.Option.{same_Some}
 use Rattle.std.proofs.lemmas.List.Elements.{All-head, All-tail}
@@ -14,10 +14,12 @@ use Rattle.guard_model.specs.declared.ty.Ty.{Ty}
 use Rattle.guard_model.specs.declared.value.Value.{Value}
 use Rattle.std.specs.Global.{Global}
 use Rattle.std.specs.declared.sync.Arc.{Arc}
-use Rattle.guard_names.specs.Declarations.{definitions}
+use Rattle.guard_names.specs.Declarations.{Definition, definitions}
+use Rattle.guard_names.specs.Meanings.{number_meant}
+use Rattle.guard_names.specs.Places.{place_in, place_meant}
 use Rattle.guard_names.specs.NamesView.{modules_of}
 use Rattle.guard_values.specs.Meanings.{Meaning}
-use Rattle.guard_values.specs.Views.{known_pair, known_definition, placed_type, home_name, place_from, visible_from}
+use Rattle.guard_values.specs.Views.{known_pair, known_definition, placed_type, place_from, visible_from}
 use Rattle.guard_values.specs.Views.{types_from, shared_view, AreKnownFitting}
 use Rattle.guard_constraints.specs.Views.{visible_at, AreKnownSound}
 use Rattle.guard_schema.specs.declared.progress.Progress.{Progress}
@@ -65,16 +67,20 @@ module _ (p : Progress) where
   types_found None = refl
   types_found (Some place) = sym (type_there p.known.types.items p.known.values.items place p.even)
 
-  pub visible_same : (id : ℕ) → visible_at p.names.now p.known id ≡ visible (known_view p)
-      (home_name (slice_get (definitions (modules_of p.names.now)) id))
-  visible_same id =
-      let home = home_name (slice_get (definitions (modules_of p.names.now)) id) in
+  pub visible_same : (id : ℕ) (d : Definition) → Some d ≡ slice_get (definitions (modules_of p.names.now)) id
+      → visible_at p.names.now p.known id ≡ visible (known_view p) d.home.name
+  visible_same id d is =
+      let home = d.home.name in
       let k = known_view p in
-      let place : List ℕ → Option ℕ = λ name. place_from p.names.now id name in
+      let ms = modules_of p.names.now in
+      let place : List ℕ → Option ℕ = λ name. place_meant ms k.order home name in
+      let there : (name : List ℕ) → place_from p.names.now id name ≡ place name =
+      λ name. ap (λ (o : Option Definition). option_and_then (place_in k.order)
+      (option_and_then (λ x. number_meant ms x.home.name name) o)) (sym is) in
       let values : visible_from p.names.now p.known id ≡ (λ name. governed (meant k home name)) =
-      fun_ext (λ name. values_found (place name)) in
+      fun_ext (λ name. ap (known_definition p.known) (there name) ∙ values_found (place name)) in
       let types : types_from p.names.now p.known id ≡ (λ name. type_alone (meant k home name)) =
-      fun_ext (λ name. types_found (place name)) in
+      fun_ext (λ name. ap (placed_type p.known) (there name) ∙ types_found (place name)) in
       ap (λ (m : Meaning). record { values = m; types = types_from p.names.now p.known id }) values
       ∙ ap (λ (m : List ℕ → Option AbstractType). record { values = λ name. governed (meant k home name); types = m })
       types

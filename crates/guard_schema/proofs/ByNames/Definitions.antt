@@ -1,12 +1,14 @@
 -- Types by the names of definitions, as a schema keeps them.
 use Rattle.std.proofs.Common.{◌≡◌, ℕ, zero, suc, ◌+◌, Bool, true, false, cond, List, [], ◌∷◌, ◌++◌, length, map, drop}
-use Rattle.std.proofs.Common.{get_or, Option, Some, None, Bor, MatchOption, option_map, slice_get, refl, sym, ap, ◌∙◌}
+use Rattle.std.proofs.Common.{get_or, Option, Some, None, Bor, MatchOption, option_map, slice_get, refl, sym, ap, subst, ◌∙◌}
 use Rattle.std.proofs.Common.{append_assoc, arith}
-use Rattle.std.specs.Prelude.{option_and_then, ◌<◌, ◌≤◌}
+use Rattle.std.specs.Prelude.{All, option_and_then, ◌<◌, ◌≤◌}
 use Rattle.std.specs.List.{HoldsAt}
 use Rattle.std.proofs.Math.Path.{fun_ext}
 use Rattle.std.proofs.lemmas.Option.{slice_get_past, slice_get_read}
-use Rattle.std.proofs.lemmas.List.{append-nil, length-append, length-map, map_push, at_drop_more, at_drop_all}
+use Rattle.std.proofs.lemmas.List.{append-nil, length-append, length-map, map_push, at_drop_more, at_drop_all, drop-map}
+use Rattle.std.proofs.lemmas.List.Elements.{All-nil, All-cons, All-head, All-tail, All-map}
+use Rattle.std.proofs.Math.Seq.{drop-append_seam}
 use Rattle.guard_model.specs.AbstractType.{AbstractType}
 use Rattle.guard_model.specs.TypeView.{type_view}
 use Rattle.guard_model.specs.declared.ty.Ty.{Ty}
@@ -14,7 +16,7 @@ use Rattle.guard_model.specs.declared.value.Value.{Value}
 use Rattle.std.specs.Global.{Global}
 use Rattle.std.specs.declared.sync.Arc.{Arc}
 use Rattle.guard_syntax.specs.ModuleViews.{module_view, assignment_view}
-use Rattle.guard_syntax.specs.Trees.{WrittenModule}
+use Rattle.guard_syntax.specs.Trees.{WrittenAssignment, WrittenModule}
 use Rattle.guard_syntax.specs.declared.tree.Assignment.{Assignment}
 use Rattle.guard_syntax.specs.declared.tree.Module.{Module}
 use Rattle.guard_names.specs.Declarations.{Definition, definitions, defined_in}
@@ -249,3 +251,49 @@ module _ (place : ℕ → Option ℕ) (total : List Entry) where
         sym (append-nil (map entry_view all))
         ∙ ap (λ (ds : List Definition). map entry_view all ++ entries_from place (length all) ds) (sym none)
         ∙ so_far
+
+-- ---- those of one module, after those of others
+
+entries_of_home : (place : ℕ → Option ℕ) (n : ℕ) (m : WrittenModule) (all : List WrittenAssignment)
+    → All (λ e. e.home ≡ m.name) (entries_from place n (map (λ a. record { home = m; assignment = a }) all))
+entries_of_home place n m [] = All-nil (λ (e : Entry). e.home ≡ m.name)
+entries_of_home place n m (a ∷ all) =
+    All-cons (λ (e : Entry). e.home ≡ m.name) (record { home = m.name; name = a.name; place = place n }) _ refl
+    (entries_of_home place (n + 1) m all)
+
+seen_all : (home : List ℕ) (ds : List NamedDefinition) → All (λ e. e.home ≡ home) (map entry_view ds)
+    → All (λ d. d.home.now ≡ home) ds
+seen_all home [] h = All-nil (λ (d : NamedDefinition). d.home.now ≡ home)
+seen_all home (d ∷ ds) h =
+    All-cons (λ (d : NamedDefinition). d.home.now ≡ home) d ds
+    (All-head (λ (e : Entry). e.home ≡ home) (entry_view d) (map entry_view ds) h)
+    (seen_all home ds (All-tail (λ (e : Entry). e.home ≡ home) (entry_view d) (map entry_view ds) h))
+
+pub all_own : (home : List ℕ) (ds : List NamedDefinition) → All (λ d. d.home.now ≡ home) ds
+    → All (λ e. e.home ≡ home) (map entry_view ds)
+all_own home ds own = All-map (λ (e : Entry). e.home ≡ home) entry_view ds own
+
+module _ (place : ℕ → Option ℕ) (before after : List NamedDefinition) (m : WrittenModule)
+    (more : map entry_view after ≡ map entry_view before ++ entries_from place (length before) (defined_in m)) where
+  pub module_entries : (n : ℕ) → n ≡ length before
+      → map entry_view (drop n after) ≡ entries_from place (length before) (defined_in m)
+  module_entries n e =
+      let es = entries_from place (length before) (defined_in m) in
+      let same : n ≡ length (map entry_view before) = e ∙ sym (length-map before entry_view) in
+      sym (drop-map entry_view n after) ∙ ap (drop n) more
+      ∙ ap (λ (k : ℕ). drop k (map entry_view before ++ es)) same
+      ∙ drop-append_seam (map entry_view before) es
+
+  pub module_from : (n : ℕ) → n ≡ length before → n ≤ length after
+  module_from n e =
+      let es = entries_from place (length before) (defined_in m) in
+      let count : length after ≡ length before + length es =
+      sym (length-map after entry_view) ∙ ap length more ∙ length-append (map entry_view before) es
+      ∙ ap (λ (k : ℕ). k + length es) (length-map before entry_view) in
+      omega (arith, count, e)
+
+  pub module_homes : (n : ℕ) → n ≡ length before → All (λ d. d.home.now ≡ m.name) (drop n after)
+  module_homes n e =
+      seen_all m.name (drop n after)
+      (subst (λ (es : List Entry). All (λ x. x.home ≡ m.name) es) (sym (module_entries n e))
+      (entries_of_home place (length before) m m.assignments))

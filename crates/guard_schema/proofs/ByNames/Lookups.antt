@@ -2,7 +2,8 @@
 use Rattle.std.proofs.Common.{◌≡◌, ℕ, ◌+◌, ◌<◌, Bool, true, false, cond, ◌&&◌, List, [], ◌∷◌, ◌++◌, length, map, take}
 use Rattle.std.proofs.Common.{get_or, Option, Some, None, option_map, option_and_then, slice_get, is_some, refl, sym}
 use Rattle.std.proofs.Common.{ap, ◌∙◌, true≢false}
-use Rattle.std.specs.Prelude.{bytes_eq}
+use Rattle.std.specs.Prelude.{bytes_eq, All}
+use Rattle.std.proofs.lemmas.List.Elements.{All-head, All-tail}
 use Rattle.std.specs.Map.{remove_entry}
 use Rattle.std.specs.Option.{option_or}
 use Rattle.std.proofs.lemmas.List.{map_more}
@@ -11,7 +12,7 @@ use Rattle.indexmap.specs.IndexMap.{insert_entry}
 use Rattle.std.proofs.Math.Path.{fun_ext}
 use Rattle.guard_model.specs.TypeView.{type_view}
 use Rattle.guard_model.specs.declared.ty.Ty.{Ty}
-use Rattle.guard_schema.specs.Entries.{Entry, looked_up, first_named, entry_if, place_named}
+use Rattle.guard_schema.specs.Entries.{Entry, looked_up, first_named, first_place, place_if, place_named}
 use Rattle.guard_schema.specs.Schemas.{AbstractSchema}
 use Rattle.guard_schema.specs.Views.{entry_view, found_in, place_in}
 use Rattle.guard_schema.specs.declared.build.NamedDefinition.{NamedDefinition}
@@ -139,32 +140,68 @@ module _ {K X : Type 0} (items : K → List ℕ) where
 
 -- ---- the first of some definitions
 
-one_named : (a b : Bool) (p : Option ℕ) → cond (a && b) (Some p) None ≡ cond a (cond b (Some p) None) None
-one_named true b p = refl
-one_named false b p = refl
+or_within : {X : Type 0} (a b c : Option X) → option_or (option_or a b) c ≡ option_or a (option_or b c)
+or_within None b c = refl
+or_within (Some x) b c = refl
 
-first_more : (home name : List ℕ) (es : List Entry) (e : Entry)
-    → first_named home name (es ++ e ∷ []) ≡ option_or (first_named home name es) (entry_if home name e)
-first_more home name [] e = one_named (bytes_eq home e.home) (bytes_eq name e.name) e.place
-first_more home name (d ∷ ds) e =
+-- those of one module after others
+pub first_append : (home name : List ℕ) (es others : List Entry)
+    → first_named home name (es ++ others) ≡ option_or (first_named home name es) (first_named home name others)
+first_append home name [] others = refl
+first_append home name (d ∷ ds) others =
     elim (bytes_eq home d.home && bytes_eq name d.name) as
-    (λ (b : Bool). cond b (Some d.place) (first_named home name (ds ++ e ∷ [])) ≡ option_or
-    (cond b (Some d.place) (first_named home name ds)) (entry_if home name e)) [
+    (λ (b : Bool). cond b (Some d.place) (first_named home name (ds ++ others)) ≡ option_or
+    (cond b (Some d.place) (first_named home name ds)) (first_named home name others)) [
       | true ↦ refl
-      | false ↦ first_more home name ds e
+      | false ↦ first_append home name ds others
+    ]
+
+none_either : (b : Bool) → ◌≡◌ {A = Option (Option ℕ)} (cond b None None) None
+none_either true = refl
+none_either false = refl
+
+one_home : (a b : Bool) (p : Option ℕ) (rest : Option (Option ℕ))
+    → cond (a && b) (Some p) (cond a rest None) ≡ cond a (cond b (Some p) rest) None
+one_home true b p rest = refl
+one_home false b p rest = refl
+
+-- those of one module by their own names
+pub own_named : (home q name : List ℕ) (es : List Entry) → All (λ e. e.home ≡ home) es
+    → first_named q name es ≡ cond (bytes_eq q home) (first_place name es) None
+own_named home q name [] own = sym (none_either (bytes_eq q home))
+own_named home q name (e ∷ es) own =
+    ap (λ (x : List ℕ). cond (bytes_eq q x && bytes_eq name e.name) (Some e.place) (first_named q name es))
+    (All-head (λ (x : Entry). x.home ≡ home) e es own)
+    ∙ ap (λ (o : Option (Option ℕ)). cond (bytes_eq q home && bytes_eq name e.name) (Some e.place) o)
+    (own_named home q name es (All-tail (λ (x : Entry). x.home ≡ home) e es own))
+    ∙ one_home (bytes_eq q home) (bytes_eq name e.name) e.place (first_place name es)
+
+place_more : (q : List ℕ) (es : List Entry) (e : Entry)
+    → first_place q (es ++ e ∷ []) ≡ option_or (first_place q es) (place_if q e.name e.place)
+place_more q [] e = refl
+place_more q (d ∷ ds) e =
+    elim (bytes_eq q d.name) as
+    (λ (b : Bool). cond b (Some d.place) (first_place q (ds ++ e ∷ [])) ≡ option_or
+    (cond b (Some d.place) (first_place q ds)) (place_if q e.name e.place)) [
+      | true ↦ refl
+      | false ↦ place_more q ds e
     ]
 
 -- as a loop reads definitions
-pub found_more : (definitions : List NamedDefinition) (i : ℕ) (d : NamedDefinition) → i < length definitions
-    → (home name : List ℕ) (before after : Option (Option ℕ))
-    → before ≡ first_named home name (map entry_view (take i definitions))
-    → after ≡ option_or before (entry_if home name (entry_view (get_or definitions i d)))
-    → after ≡ first_named home name (map entry_view (take (i + 1) definitions))
-found_more definitions i d lt home name before after so_far next =
+pub places_more : (definitions : List NamedDefinition) (i : ℕ) (d : NamedDefinition) → i < length definitions
+    → (q : List ℕ) (start before after : Option (Option ℕ))
+    → before ≡ option_or start (first_place q (map entry_view (take i definitions)))
+    → after ≡ option_or before (place_if q (get_or definitions i d).name.now (get_or definitions i d).place)
+    → after ≡ option_or start (first_place q (map entry_view (take (i + 1) definitions)))
+places_more definitions i d lt q start before after so_far next =
     let one = entry_view (get_or definitions i d) in
-    next ∙ ap (λ (o : Option (Option ℕ)). option_or o (entry_if home name one)) so_far
-    ∙ sym (first_more home name (map entry_view (take i definitions)) one)
-    ∙ ap (λ (es : List Entry). first_named home name es) (sym (map_more entry_view definitions i d lt))
+    next ∙ ap (λ (o : Option (Option ℕ)). option_or o (place_if q one.name one.place)) so_far
+    ∙ or_within start (first_place q (map entry_view (take i definitions))) (place_if q one.name one.place)
+    ∙ ap (option_or start) (sym (place_more q (map entry_view (take i definitions)) one)
+    ∙ ap (λ (es : List Entry). first_place q es) (sym (map_more entry_view definitions i d lt)))
+
+pub places_before : (start : Option (Option ℕ)) → start ≡ option_or start None
+places_before start = sym (or_none start)
 
 -- ---- what a schema finds by an index
 

@@ -1,20 +1,23 @@
 -- What is known of a definition is at its place in the order.
 use Rattle.std.proofs.Common.{◌≡◌, ℕ, zero, suc, Bool, true, List, [], ◌∷◌, map, Option, Some, None, option_map, slice_get, refl, sym, ◌∙◌, ap}
 use Rattle.std.specs.Prelude.{IfSome}
-use Rattle.std.specs.Option.{option_and_then}
+use Rattle.std.specs.Option.{option_and_then, unwrap_or}
 use Rattle.std.proofs.lemmas.Option.{same_Some, slice_get-map}
 use Rattle.guard_model.specs.AbstractType.{AbstractType}
 use Rattle.guard_model.specs.TypeView.{type_view}
 use Rattle.guard_model.specs.declared.ty.Ty.{Ty}
 use Rattle.guard_syntax.specs.Trees.{WrittenModule}
-use Rattle.guard_names.specs.Meanings.{number_meant}
-use Rattle.guard_names.specs.Places.{place_in, place_meant, known_meant}
+use Rattle.guard_syntax.specs.declared.tree.TagDefault.{TagDefault}
+use Rattle.guard_syntax.specs.declared.tree.TagDefault.TheVariants as by_default
+use Rattle.guard_names.specs.Declarations.{Definition, definitions}
+use Rattle.guard_names.specs.Meanings.{number_meant, number_meant_from}
+use Rattle.guard_names.specs.Places.{place_in, place_meant}
 use Rattle.guard_tagcheck.specs.Limits.{is_within_limits}
 use Rattle.guard_tagging.specs.declared.scope.Known.{Known}
 use Rattle.guard_tagging.specs.ScopeView.{meaning_view, known_list}
-use Rattle.guard_tagging.specs.Surroundings.{surroundings}
+use Rattle.guard_tagging.specs.Surroundings.{surroundings, tag_default_of}
 use Rattle.guard_tagging.specs.Tagged.{KeepLimits}
-use Rattle.guard_tagging.specs.Types.{Meaning}
+use Rattle.guard_tagging.specs.Types.{Meaning, Surroundings}
 
 -- ---- a type and its flag, at one place
 
@@ -36,12 +39,37 @@ known_at (t ∷ types) (b ∷ automatic) (suc place) = known_at types automatic 
 
 -- ---- what is known of the definition that a name means, by its number and its place
 
-pub known_placed : (ms : List WrittenModule) (order : List ℕ) (known : List Meaning) (home name : List ℕ) (id : ℕ)
-    (place : Option ℕ) → number_meant ms home name ≡ Some id → place_in order id ≡ place
-    → known_meant ms order known home name ≡ option_and_then (slice_get known) place
-known_placed ms order known home name id place n p =
+pub known_placed : (order : List ℕ) (known : List Meaning) (number : Option ℕ) (id : ℕ)
+    (place : Option ℕ) → number ≡ Some id → place_in order id ≡ place
+    → option_and_then (slice_get known) (option_and_then (place_in order) number)
+    ≡ option_and_then (slice_get known) place
+known_placed order known number id place n p =
     ap (λ (o : Option ℕ). option_and_then (slice_get known) (option_and_then (place_in order) o)) n
     ∙ ap (option_and_then (slice_get known)) p
+
+-- ---- what is written in a definition is written under the surroundings of its module
+
+default_is : (o : Option TagDefault) (found : TagDefault) → found ≡ unwrap_or o by_default.Explicit → found ≡ tag_default_of o
+default_is None found is = is
+default_is (Some t) found is = is
+
+pub scope_is : (ms : List WrittenModule) (order : List ℕ) (known : List Meaning) (id : ℕ) (home : WrittenModule)
+    (found : TagDefault) → found ≡ unwrap_or home.tag_default by_default.Explicit
+    → (d : Definition) × (Some d ≡ slice_get (definitions ms) id) × (d.home ≡ home)
+    → ◌≡◌ {A = Surroundings} (record {
+      tag_default = found;
+      meaning = λ name. option_and_then (slice_get known)
+          (option_and_then (place_in order) (number_meant_from ms id name));
+    }) (surroundings ms order known home)
+scope_is ms order known id home found tags (d, is, at) = λ i. record {
+  tag_default = default_is home.tag_default found tags i;
+  meaning = λ name. option_and_then (slice_get known) (option_and_then (place_in order) (number name i));
+}
+  where
+    number : (name : List ℕ) → number_meant_from ms id name ≡ number_meant ms home.name name
+    number name =
+        ap (λ (o : Option Definition). option_and_then (λ x. number_meant ms x.home.name name) o) (sym is)
+        ∙ ap (λ (m : WrittenModule). number_meant ms m.name name) at
 
 -- ---- what a look-up among the built definitions answers
 

@@ -1,5 +1,5 @@
 use Rattle.std.proofs.Common.{◌≡◌, map, drop}
-use Rattle.guard_names.specs.DeclarationViews.{declaration_view}
+use Rattle.guard_names.specs.inside.DeclarationViews.{declaration_view}
 use Rattle.guard_names.specs.Faults.{not_exported_among}
 use Rattle.guard_names.specs.TableViews.{origin_in}
 use Rattle.guard_names.proofs.checks.check_exported.Given as goal

@@ -1,7 +1,7 @@
 use Rattle.std.proofs.Common.{map, subst}
 use Rattle.guard_model.specs.Answer.{Gives}
 use Rattle.guard_syntax.specs.ModuleViews.{module_view}
-use Rattle.guard_names.specs.DeclarationViews.{declaration_view}
+use Rattle.guard_names.specs.inside.DeclarationViews.{declaration_view}
 use Rattle.guard_names.specs.Faults.{named}
 use Rattle.guard_names.specs.inside.Reading.{nothing}
 use Rattle.guard_names.specs.TableViews.{origin_in}

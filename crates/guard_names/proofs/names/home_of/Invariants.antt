@@ -3,5 +3,5 @@ use Rattle.guard_syntax.specs.ModuleViews.{module_view}
 use Rattle.guard_names.specs.Declarations.{definitions}
 use Rattle.guard_names.proofs.names.home_of.Given as goal
 
-abbrev pub invariant-loop-module : goal.invariant-loop-module
-invariant-loop-module l = slice_get (definitions (map module_view (drop l.module-index l.modules))) l.left ≡ slice_get (definitions (map module_view l.modules)) l.id
+abbrev pub invariant-loop-place : goal.invariant-loop-place
+invariant-loop-place l = slice_get (definitions (map module_view (drop l.place l.modules))) l.left ≡ slice_get (definitions (map module_view l.modules)) l.id

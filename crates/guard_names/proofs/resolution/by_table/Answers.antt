@@ -17,15 +17,16 @@ returns-in_err-uses-clause-refused c =
     let t = origin_in c.args.table.now in
     rw (p.1, p.2)
     (subst (λ n. Refuses (named c.in_err-uses.field-0.0) (refused_at Undefined (first_found (undefined_in t n) (map module_view c.args.modules.now))))
-    (same_numbers (meaning_in c.in_ok-meanings.meanings) (definition_of t) c.in_ok-meanings.ensures) c.in_err-uses.ensures.refused)
+    (same_numbers (meaning_in c.in_ok-meanings.meanings) (definition_of t) c.in_ok-meanings.ensures.found) c.in_err-uses.ensures.refused)
 
 pub returns : goal.returns
 returns c =
     let t = origin_in c.args.table.now in
-    let same = same_numbers (meaning_in c.in_ok-meanings.meanings) (definition_of t) c.in_ok-meanings.ensures in
+    let same = same_numbers (meaning_in c.in_ok-meanings.meanings) (definition_of t) c.in_ok-meanings.ensures.found in
     let ms = map module_view c.args.modules.now in
     record {
-      meant = c.in_ok-meanings.ensures;
+      modules = c.in_ok-meanings.ensures.modules;
+      meant = c.in_ok-meanings.ensures.found;
       used = c.in_ok-uses.ensures.found ∙ ap (λ n. flat_map (used_in_module n) ms) same;
       refused = ap (λ n. refused_at Undefined (first_found (undefined_in t n) ms)) (sym same) ∙ c.in_ok-uses.ensures.refused;
     }

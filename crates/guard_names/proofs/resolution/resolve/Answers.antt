@@ -12,6 +12,7 @@ returns-in_err-meanings-clause-refused c =
 
 pub by_uses-requires : goal.by_uses-requires
 by_uses-requires c = record {
+  modules = c.in_ok-meanings.ensures.modules;
   named = accepts_none (map module_view c.args.modules.now) (few_enough module_view c.args.modules.now c.if-modules-gt-MOST_MODULES.false) c.in_ok-meanings.ensures.refused;
   meant = c.in_ok-meanings.ensures.meant;
   used = ap (map (λ v. v.items)) c.deref.ensures.value ∙ c.in_ok-meanings.ensures.used;

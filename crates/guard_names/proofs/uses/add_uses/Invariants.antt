@@ -8,9 +8,9 @@ use Rattle.guard_names.proofs.uses.add_uses.Given as goal
 abbrev pub invariant-loop-assignment : goal.invariant-loop-assignment
 invariant-loop-assignment l = record {
   found :
-      listed_uses l.into ++ map (used_in (meaning_in l.meanings) l.tree.name.now) (map assignment_view (drop l.assignment-index l.tree.assignments.items))
-      ≡ listed_uses l.fn.into ++ map (used_in (meaning_in l.meanings) l.tree.name.now) (map assignment_view l.tree.assignments.items);
+      listed_uses l.into ++ map (used_in (meaning_in l.within.meanings.now) l.within.home.now) (map assignment_view (drop l.assignment-index l.tree.assignments.items))
+      ≡ listed_uses l.fn.into ++ map (used_in (meaning_in l.within.meanings.now) l.within.home.now) (map assignment_view l.tree.assignments.items);
   rest :
-      first_found (undefined_mention_in (meaning_in l.meanings) l.tree.name.now) (map assignment_view (drop l.assignment-index l.tree.assignments.items))
-      ≡ first_found (undefined_mention_in (meaning_in l.meanings) l.tree.name.now) (map assignment_view l.tree.assignments.items);
+      first_found (undefined_mention_in (meaning_in l.within.meanings.now) l.within.home.now) (map assignment_view (drop l.assignment-index l.tree.assignments.items))
+      ≡ first_found (undefined_mention_in (meaning_in l.within.meanings.now) l.within.home.now) (map assignment_view l.tree.assignments.items);
 }

@@ -19,6 +19,8 @@ places-requires c = λ number h. order_below (length c.args.uses.now) (UsesIn (m
 
 pub invariant_of-result : goal.invariant_of-result
 invariant_of-result c = record {
+  looked_up = c.requires.modules;
+  numbered = c.in_ok-numbers.ensures;
   faultless = ap is_some c.requires.named;
   meant = c.requires.meant;
   ordered =

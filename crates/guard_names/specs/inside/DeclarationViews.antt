@@ -1,18 +1,18 @@
 -- What the definitions see of declarations of the code.
 use Rattle.std.specs.Prelude.{ℕ, List, Option, Some, None}
-use Rattle.std.specs.Borrow.{Bor}
 use Rattle.guard_names.specs.Declarations as declared
 use Rattle.guard_names.specs.declared.declarations.Declaration.{Declaration}
+use Rattle.guard_names.specs.declared.declarations.Home.{Home}
 use Rattle.guard_names.specs.declared.declarations.Origin.{Origin}
 use Rattle.guard_names.specs.declared.declarations.Origin.TheVariants as origin
 
-abbrev pub scope_view : Option (Bor (List ℕ)) → Option (List ℕ)
+abbrev pub scope_view : Option Home → Option (List ℕ)
 scope_view None = None
-scope_view (Some name) = Some name.now
+scope_view (Some home) = Some home.name.now
 
 abbrev pub origin_view : Origin → declared.Origin
 origin_view origin.Module = declared.of_module
-origin_view (origin.Import from) = declared.imported_from from.now
+origin_view (origin.Import from number) = declared.imported_from from.now
 origin_view (origin.Assignment number exports) = declared.assigned_by number exports
 
 abbrev pub declaration_view : Declaration → declared.Declaration

@@ -24,16 +24,18 @@ use Rattle.guard_policy.specs.declared.policy.Effect.{Effect}
 use Rattle.guard_policy.specs.declared.policy.Effect.TheVariants.{Allow, Deny}
 use Rattle.guard_policy.specs.declared.routing.RouteRules.{RouteRules}
 use Rattle.guard_policy.specs.declared.routing.Routing.{Routing}
-use Rattle.guard_policy.specs.Decisions.{NumberedRule, speaks_of, speaking, allows, denies, rules_of as route_rules, Goes}
+use Rattle.guard_policy.specs.Decisions.{NumberedRule, speaks_of, speaking, is_allowing, allows, denies, rules_of as route_rules, Goes, IsReason}
+use Rattle.guard_policy.specs.Verdicts.{no_rule}
 use Rattle.guard_policy.specs.KeptView.{kept_message_view}
 use Rattle.guard_policy.specs.Names.{is_meant}
 use Rattle.guard_policy.specs.PolicyView.{policy_view}
 use Rattle.guard_policy.specs.Policies.{AbstractPolicy, AbstractMessage, AbstractRule, AbstractRoute, declared_type, declared_among}
 use Rattle.guard_policy.specs.inside.Keeping.{IsFirst}
-use Rattle.guard_policy.specs.inside.Passing.{LetsGo, AreMarks, EncodeNothing, IsAnswer}
+use Rattle.guard_policy.specs.inside.Passing.{LetsGo, AreMarks, EncodeNothing, IsAnswer, AreMarkedUndenied}
 use Rattle.guard_policy.specs.inside.Routing.{rules_named, slots_where, has_effect, common, speaking_slots, slots_for, route_rules as rules_on, IsRouting, IsRouted}
 use Rattle.guard_policy.specs.inside.KeptRules.{messages_kept, rules_kept}
 use Rattle.guard_policy.proofs.Applicable.{declared_sound}
+use Rattle.guard_policy.proofs.Goes.{judged_undenied, none_allows, nothing_allows}
 use Rattle.guard_policy.proofs.Keeping.{first_named}
 use Rattle.guard_policy.proofs.Listed.{speaks_not, with_numbers, declared_pair}
 use Rattle.guard_policy.proofs.RuleSlots.{Says, true_at, any, says_slots, common_says, both_mapped, filled, empty, filled_any, empty_any, any_mapped}
@@ -57,18 +59,23 @@ answers effect route v r = ((is_meant r.from route.from && is_meant r.to route.t
 says_where : (f : AbstractRule → Bool) (rs : List AbstractRule) (m : Slots) → m ≡ slots_where f rs → Says (map f rs) m
 says_where f rs m e = subst (Says (map f rs)) (sym e) (says_slots (map f rs))
 
--- the slots of such rules
-answering : (effect : Effect) (route : AbstractRoute) (v : AbstractValue) (rs : List AbstractRule) (r : Routing) (own members : Slots)
-    → IsRouting rs r → own ≡ slots_where (has_effect effect) rs → ((n : ℕ) → has members (suc n) ≡ true_at (map (λ x. is_member x.ty v) rs) n)
-    → Says (map (answers effect route v) rs) (common (common (speaking_slots r route) own) members)
-answering effect route v rs r own members routing is shows =
+-- the slots of the rules that speak of the parties and have the effect
+effective : (effect : Effect) (route : AbstractRoute) (rs : List AbstractRule) (r : Routing) (own : Slots) → IsRouting rs r → own ≡ slots_where (has_effect effect) rs
+    → Says (map (λ x. (is_meant x.from route.from && is_meant x.to route.to) && has_effect effect x) rs) (common (speaking_slots r route) own)
+effective effect route rs r own routing is =
     let senders = says_where (λ x. is_meant x.from route.from) rs (slots_for r.senders route.from) (routing.senders route.from) in
     let receivers = says_where (λ x. is_meant x.to route.to) rs (slots_for r.receivers route.to) (routing.receivers route.to) in
     let parties = common_mapped (λ x. is_meant x.from route.from) (λ x. is_meant x.to route.to) rs (slots_for r.senders route.from) (slots_for r.receivers route.to) senders receivers.others in
     let effects = says_where (has_effect effect) rs own is in
-    let of_effect = common_mapped (λ x. is_meant x.from route.from && is_meant x.to route.to) (has_effect effect) rs (speaking_slots r route) own parties effects.others in
+    common_mapped (λ x. is_meant x.from route.from && is_meant x.to route.to) (has_effect effect) rs (speaking_slots r route) own parties effects.others
+
+-- the slots of those whose types have the value
+answering : (effect : Effect) (route : AbstractRoute) (v : AbstractValue) (rs : List AbstractRule) (r : Routing) (own members : Slots)
+    → IsRouting rs r → own ≡ slots_where (has_effect effect) rs → ((n : ℕ) → has members (suc n) ≡ true_at (map (λ x. is_member x.ty v) rs) n)
+    → Says (map (answers effect route v) rs) (common (common (speaking_slots r route) own) members)
+answering effect route v rs r own members routing is shows =
     common_mapped (λ x. (is_meant x.from route.from && is_meant x.to route.to) && has_effect effect x) (λ x. is_member x.ty v) rs
-    (common (speaking_slots r route) own) members of_effect shows
+    (common (speaking_slots r route) own) members (effective effect route rs r own routing is) shows
 
 -- ---- they are the rules of the route
 
@@ -85,26 +92,40 @@ any_first : (test : NumberedRule → Bool) (b s : Bool) (x : NumberedRule) (xs :
 any_first test b true x xs e = ap (λ c. c || list_any test xs) e
 any_first test b false x xs e = ap (λ c. c || list_any test xs) e
 
+-- what a test says of those of the message's rules that speak of the parties, it says of the rules of the route
+any_heard : (test : AbstractRule → Bool) (route : AbstractRoute) (i : ℕ) (rules : List AbstractRule)
+    → list_any (λ r. (is_meant r.from route.from && is_meant r.to route.to) && test r) (rules_named route.message rules) ≡ list_any (λ x. test x.rule) (speaking route i rules)
+any_heard test route i [] = refl
+any_heard test route i (r ∷ rs) =
+    let heard : AbstractRule → Bool = λ x. (is_meant x.from route.from && is_meant x.to route.to) && test x in
+    let more = any_heard test route (i + 1) rs in
+    let x : NumberedRule = record { number = i; rule = r } in
+    let xs = speaking route (i + 1) rs in
+    (elim (bytes_eq r.message route.message) as (λ (b : Bool). bytes_eq r.message route.message ≡ b
+    → list_any heard (cond b (r ∷ rules_named route.message rs) (rules_named route.message rs)) ≡ list_any (λ y. test y.rule) (cond (speaks_of route r) (x ∷ xs) xs)) [
+      | true ↦ λ same.
+          ap (λ b. heard r || b) more
+          ∙ any_first (λ y. test y.rule) (heard r) (speaks_of route r) x xs
+          (ap (λ s. s && test r) (sym (all_true (is_meant r.from route.from) (is_meant r.to route.to) (bytes_eq r.message route.message) same)))
+      | false ↦ λ other. more ∙ ap (λ b. list_any (λ y. test y.rule) (cond b (x ∷ xs) xs)) (sym (speaks_not route r other))
+    ]) refl
+
 -- what such a rule says of the value
 abbrev says_of : Effect → AbstractValue → NumberedRule → Bool
 says_of effect v x = has_effect effect x.rule && is_member x.rule.ty v
 
+any_grouped : (effect : Effect) (route : AbstractRoute) (v : AbstractValue) (rs : List AbstractRule)
+    → list_any (answers effect route v) rs ≡ list_any (λ r. (is_meant r.from route.from && is_meant r.to route.to) && (has_effect effect r && is_member r.ty v)) rs
+any_grouped effect route v [] = refl
+any_grouped effect route v (r ∷ rs) =
+    let test : AbstractRule → Bool = λ x. (is_meant x.from route.from && is_meant x.to route.to) && (has_effect effect x && is_member x.ty v) in
+    ap (λ b. b || list_any (answers effect route v) rs) (grouped (is_meant r.from route.from && is_meant r.to route.to) (has_effect effect r) (is_member r.ty v))
+    ∙ ap (λ b. test r || b) (any_grouped effect route v rs)
+
 any_speaking : (effect : Effect) (route : AbstractRoute) (v : AbstractValue) (i : ℕ) (rules : List AbstractRule)
     → list_any (answers effect route v) (rules_named route.message rules) ≡ list_any (says_of effect v) (speaking route i rules)
-any_speaking effect route v i [] = refl
-any_speaking effect route v i (r ∷ rs) =
-    let more = any_speaking effect route v (i + 1) rs in
-    let x : NumberedRule = record { number = i; rule = r } in
-    let xs = speaking route (i + 1) rs in
-    (elim (bytes_eq r.message route.message) as (λ (b : Bool). bytes_eq r.message route.message ≡ b
-    → list_any (answers effect route v) (cond b (r ∷ rules_named route.message rs) (rules_named route.message rs)) ≡ list_any (says_of effect v) (cond (speaks_of route r) (x ∷ xs) xs)) [
-      | true ↦ λ same.
-          ap (λ b. answers effect route v r || b) more
-          ∙ any_first (says_of effect v) (answers effect route v r) (speaks_of route r) x xs
-          (grouped (is_meant r.from route.from && is_meant r.to route.to) (has_effect effect r) (is_member r.ty v)
-          ∙ ap (λ s. s && says_of effect v x) (sym (all_true (is_meant r.from route.from) (is_meant r.to route.to) (bytes_eq r.message route.message) same)))
-      | false ↦ λ other. more ∙ ap (λ b. list_any (says_of effect v) (cond b (x ∷ xs) xs)) (sym (speaks_not route r other))
-    ]) refl
+any_speaking effect route v i rules =
+    any_grouped effect route v (rules_named route.message rules) ∙ any_heard (λ r. has_effect effect r && is_member r.ty v) route i rules
 
 all_not : {A : Type 0} (p : A → Bool) (xs : List A) → list_all (λ x. not (p x)) xs ≡ not (list_any p xs)
 all_not p [] = refl
@@ -156,6 +177,14 @@ module _ (p : Kept) (policy : AbstractPolicy) (route : AbstractRoute) (octets : 
   abbrev Lets : Type 0
   Lets = LetsGo (rules_on m.routing route) marks.members
 
+  inside : IsTrue (has marks.members 0) → is_member (declared_of m.table) v ≡ true
+  inside of_type = sym (has_marks 0) ∙ of_type
+
+  undenied : common (rules_on m.routing route).denying marks.members ≡ none → list_all (λ r. not (denies r.rule v)) (route_rules policy route) ≡ true
+  undenied none_denies =
+      all_not (says_of Deny v) (route_rules policy route)
+      ∙ ap not (sym (said Deny) ∙ empty_any (map (answers Deny route v) named) (slots_of m.routing.denying) denied none_denies)
+
   goes : Lets → Goes policy route octets
   goes (of_type, some, none_denies) = (
     declared_of m.table,
@@ -163,10 +192,9 @@ module _ (p : Kept) (policy : AbstractPolicy) (route : AbstractRoute) (octets : 
     declared,
     fitting,
     encoded,
-    sym (has_marks 0) ∙ of_type,
+    inside of_type,
     sym (said Allow) ∙ filled_any (map (answers Allow route v) named) (slots_of m.routing.allowing) allowed some,
-    all_not (says_of Deny v) (route_rules policy route)
-        ∙ ap not (sym (said Deny) ∙ empty_any (map (answers Deny route v) named) (slots_of m.routing.denying) denied none_denies),
+    undenied none_denies,
   )
 
   only : Goes policy route octets → Lets
@@ -180,6 +208,16 @@ module _ (p : Kept) (policy : AbstractPolicy) (route : AbstractRoute) (octets : 
             (said Deny ∙ is_false (list_any (says_of Deny v) (route_rules policy route)) (sym (all_not (says_of Deny v) (route_rules policy route))
             ∙ subst (λ (x : AbstractValue). list_all (λ r. not (denies r.rule x)) (route_rules policy route) ≡ true) is_v none_denies)),
       )
+
+-- ---- no rule of the route allows anything
+
+unallowing : (rules : List AbstractRule) (route : AbstractRoute) (m : KeptMessage) → IsRouted rules m → string_bytes m.name ≡ route.message
+    → (rules_on m.routing route).allowing ≡ none → list_any (λ r. is_allowing r.rule) (speaking route 0 rules) ≡ false
+unallowing rules route m routed name empty_now =
+    let named = rules_named (string_bytes m.name) rules in
+    let heard : AbstractRule → Bool = λ r. (is_meant r.from route.from && is_meant r.to route.to) && has_effect Allow r in
+    sym (any_mapped heard named ∙ ap (λ (n : List ℕ). list_any heard (rules_named n rules)) name ∙ any_heard (has_effect Allow) route 0 rules)
+    ∙ empty_any (map heard named) (rules_on m.routing route).allowing (effective Allow route named m.routing m.routing.allowing routed.routing routed.routing.allowing) empty_now
 
 -- ---- as the code has it
 
@@ -223,3 +261,35 @@ module _ (policy : Policy) (route : AbstractRoute) (octets numbers : List ℕ) (
         λ g. exactly.1 (subst (λ (r : RouteRules). LetsGo r marks.members) (sym are) (goes.1 g)),
       )
   goes_exactly rules answer are (inr (nothing, is)) = (λ e. absurd (false≢true (sym is ∙ e)), λ g. absurd (encoded g nothing))
+
+  -- where no allowing rule speaks of the route, none of its rules allows anything
+  pub unallowed_by : (rules : RouteRules) → rules ≡ rules_on m.routing route → rules.allowing ≡ none
+      → list_any (λ r. is_allowing r.rule) (route_rules (policy_view policy) route) ≡ false
+  unallowed_by rules are empty_now =
+      let routed = routed_first policy.kept.messages.items (rules_kept policy.kept) route.message m policy.kept.routed first in
+      unallowing (rules_kept policy.kept) route m routed.0 routed.1 (ap (λ (r : RouteRules). r.allowing) (sym are) ∙ empty_now)
+
+  -- and no message goes
+  pub unallowed_stays : (rules : RouteRules) → rules ≡ rules_on m.routing route → rules.allowing ≡ none → Goes (policy_view policy) route octets → ⊥
+  unallowed_stays rules are empty_now (t, v, declared, fitting, encoded, is_in, some, none_denies) =
+      false≢true (sym (none_allows (route_rules (policy_view policy) route) v (unallowed_by rules are empty_now)) ∙ some)
+
+  -- so that is the reason why a member of the declared type stays that no denying rule has
+  pub no_rule_by : (rules : RouteRules) → rules ≡ rules_on m.routing route → AreMarkedUndenied m.table rules octets → rules.allowing ≡ none
+      → IsReason (policy_view policy) route octets no_rule
+  no_rule_by rules are (marks, (v, fitting, encoded, has_marks), of_type, none_denies) empty_now =
+      let routed = routed_first policy.kept.messages.items (rules_kept policy.kept) route.message m policy.kept.routed first in
+      let none_now = subst (λ (r : RouteRules). common r.denying marks.members ≡ none) are none_denies in
+      let is_in = inside policy.kept (policy_view policy) route octets m marks v refl refl declares routed.0 routed.1 fitting encoded has_marks of_type in
+      let rests = undenied policy.kept (policy_view policy) route octets m marks v refl refl declares routed.0 routed.1 fitting encoded has_marks none_now in
+      let rs = route_rules (policy_view policy) route in
+      inr (
+        declared_of m.table,
+        declares,
+        inr (
+          v,
+          fitting,
+          encoded,
+          sym (judged_undenied (declared_of m.table) rs v fitting is_in rests ∙ nothing_allows rs v (unallowed_by rules are empty_now)),
+        ),
+      )

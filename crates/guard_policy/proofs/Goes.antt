@@ -1,5 +1,5 @@
 -- The reason is to pass exactly where the message goes.
-use Rattle.std.proofs.Common.{◌≡◌, ℕ, List, [], ◌∷◌, Bool, true, false, ◌&&◌, not, cond, Option, Some, None, refl, ap, sym, ◌∙◌, inl, inr}
+use Rattle.std.proofs.Common.{◌≡◌, ℕ, List, [], ◌∷◌, Bool, true, false, ◌&&◌, ◌||◌, not, cond, Option, Some, None, refl, ap, sym, ◌∙◌, inl, inr}
 use Rattle.std.specs.Prelude.{IsTrue}
 use Rattle.std.specs.List.{list_all}
 use Rattle.guard_der.specs.Fits.{fits}
@@ -9,7 +9,7 @@ use Rattle.guard_eval.specs.Member.{is_member}
 use Rattle.guard_eval.specs.Violations.{AbstractViolation, violation}
 use Rattle.guard_policy.specs.Verdicts.{AbstractVerdict, pass, outside_type, denied_by, not_allowed, no_rule}
 use Rattle.guard_policy.specs.Policies.{AbstractPolicy, AbstractRoute}
-use Rattle.guard_policy.specs.Decisions.{NumberedRule, denies, rules_of, first_denying, shortfalls, by_allowing, by_rules, judged, IsReason, Goes}
+use Rattle.guard_policy.specs.Decisions.{NumberedRule, is_allowing, denies, rules_of, first_denying, shortfalls, by_allowing, by_rules, judged, IsReason, Goes}
 use Rattle.guard_eval.proofs.Law.{type_clear, is_clear}
 use Rattle.guard_policy.proofs.Shortfalls.{some_allows, some_allowing}
 
@@ -68,13 +68,36 @@ judged_pass t rules v fitting e =
       is_undenied = none_denies-first rules v ∙ ap is_no_number b.0;
     }
 
-passes_judged : (t : AbstractType) (rules : List NumberedRule) (v : AbstractValue) → IsTrue (fits t v) → Passes t rules v → judged t rules v ≡ pass
-passes_judged t rules v fitting p =
-    let a : violation t v ≡ None = none_of (violation t v) (type_clear t v fitting ∙ p.is_inside) in
-    let b : first_denying rules v ≡ None = no_number_of (first_denying rules v) (sym (none_denies-first rules v) ∙ p.is_undenied) in
+-- what becomes of a member of the type that no rule denies is up to the allowing rules
+pub judged_undenied : (t : AbstractType) (rules : List NumberedRule) (v : AbstractValue) → IsTrue (fits t v) → is_member t v ≡ true → list_all (λ r. not (denies r.rule v)) rules ≡ true
+    → judged t rules v ≡ by_allowing rules v
+unfolding is_no_number none_denies
+judged_undenied t rules v fitting is_in undenied =
+    let a : violation t v ≡ None = none_of (violation t v) (type_clear t v fitting ∙ is_in) in
+    let b : first_denying rules v ≡ None = no_number_of (first_denying rules v) (sym (none_denies-first rules v) ∙ undenied) in
     ap (λ x. elim x [ Some w ↦ outside_type w | None ↦ by_rules rules v ]) a
     ∙ ap (λ x. elim x [ Some i ↦ denied_by i | None ↦ by_allowing rules v ]) b
+
+passes_judged : (t : AbstractType) (rules : List NumberedRule) (v : AbstractValue) → IsTrue (fits t v) → Passes t rules v → judged t rules v ≡ pass
+unfolding none_denies
+passes_judged t rules v fitting p =
+    judged_undenied t rules v fitting p.is_inside p.is_undenied
     ∙ ap (λ x. cond x pass (cond (some_allowing rules) (not_allowed (shortfalls rules v)) no_rule)) p.is_allowed
+
+-- ---- where no rule allows anything
+
+pub none_allows : (rules : List NumberedRule) (v : AbstractValue) → some_allowing rules ≡ false → some_allows rules v ≡ false
+none_allows [] v e = refl
+none_allows (r ∷ rs) v e =
+    (elim (is_allowing r.rule) as (λ b. (b || some_allowing rs) ≡ false → ((b && is_member r.rule.ty v) || some_allows rs v) ≡ false) [
+      | true ↦ λ is. absurd cc
+      | false ↦ λ is. none_allows rs v is
+    ]) e
+
+pub nothing_allows : (rules : List NumberedRule) (v : AbstractValue) → some_allowing rules ≡ false → by_allowing rules v ≡ no_rule
+nothing_allows rules v e =
+    ap (λ x. cond x pass (cond (some_allowing rules) (not_allowed (shortfalls rules v)) no_rule)) (none_allows rules v e)
+    ∙ ap (λ x. cond x (not_allowed (shortfalls rules v)) no_rule) e
 
 pub passes_from_goes : (p : AbstractPolicy) (route : AbstractRoute) (octets : List ℕ) → Goes p route octets → IsReason p route octets pass
 unfolding none_denies

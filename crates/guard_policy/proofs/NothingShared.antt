@@ -10,14 +10,15 @@ use Rattle.guard_model.specs.AbstractType as type
 use Rattle.guard_model.specs.AbstractType.{AbstractType, AbstractKind, AbstractPresence, Components, NamedNumber, type_of, no_components, component}
 use Rattle.guard_model.specs.AbstractValue as value
 use Rattle.guard_model.specs.AbstractValue.{AbstractValue, Fields}
+use Rattle.guard_model.specs.Kinds.{is_integer}
 use Rattle.guard_model.specs.Limits.{fits_128_bits}
 use Rattle.guard_model.specs.declared.ty.CharKind.{CharKind}
 use Rattle.guard_der.specs.Fits.{fits, fits_kind, fits_fields, may_be_absent}
 use Rattle.guard_eval.specs.Elements.{size_of}
-use Rattle.guard_eval.specs.Member.{is_member, all_hold, parts_are_members}
+use Rattle.guard_eval.specs.Member.{is_member, holds as has_value, all_hold, parts_are_members}
 use Rattle.guard_eval.specs.Presence.{field_at}
-use Rattle.guard_tables.specs.Demands.{Demand, by_type}
-use Rattle.guard_policy.specs.Barren.{starts_of, least_number, all_have_number, have_no_number, demand_may_have_size, is_size, have_no_size, demands_within, has_no_value, kind_has_no_value, some_has_no_value, BarrenShareNothing, IntegersAreTold}
+use Rattle.guard_tables.specs.Demands.{Demand, by_type, by_constraint, meets}
+use Rattle.guard_policy.specs.Barren.{starts_of, least_number, demand_has_number, all_have_number, have_no_number, demand_may_have_size, is_size, have_no_size, demands_within, has_no_value, kind_has_no_value, some_has_no_value, BarrenShareNothing, IntegersAreTold}
 use Rattle.guard_policy.proofs.Starts.{last_of, low_bound, high_bound, next_fits, same_demands}
 use Rattle.guard_policy.proofs.SizesOfValues.{size_of_demands, kept_demands}
 use Rattle.guard_policy.proofs.Within.{met, demands_met}
@@ -48,6 +49,21 @@ no_size asked n all none =
 
 no_sized : (asked : List Demand) (v : AbstractValue) (n : ℕ) → size_of v ≡ Some n → met asked v ≡ true → have_no_size asked ≡ true → ⊥
 no_sized asked v n sized all none = no_size asked n (size_of_demands v n sized asked all) none
+
+-- an integer that meets all is one that all have
+one_number : (d : Demand) (z : ℤ) → meets d (value.integer z) ≡ true → demand_has_number z d ≡ true
+one_number (by_type t) z h = h
+one_number (by_constraint kind c) z h = or_so (not (is_integer kind)) (has_value c kind (value.integer z)) h
+  where
+    or_so : (a b : Bool) → b ≡ true → (a || b) ≡ true
+    or_so true b h = refl
+    or_so false b h = h
+
+all_numbers : (asked : List Demand) (z : ℤ) → met asked (value.integer z) ≡ true → all_have_number asked z ≡ true
+all_numbers [] z h = refl
+all_numbers (d ∷ ds) z h =
+    let both = and_parts (meets d (value.integer z)) (met ds (value.integer z)) h in
+    both_true (demand_has_number z d) (all_have_number ds z) (one_number d z both.0) (all_numbers ds z both.1)
 
 -- ---- values that fit
 
@@ -180,7 +196,7 @@ mutual
   nothing_of_kind type.object_identifier asked v f all none = absurd cc
   nothing_of_kind (type.enumerated items) asked v f all none = absurd cc
   nothing_of_kind (type.choice alternatives) asked v f all none = absurd cc
-  nothing_of_kind (type.integer names) asked (value.integer z) f all none = no_number asked z f all none
+  nothing_of_kind (type.integer names) asked (value.integer z) f all none = no_number asked z f (all_numbers asked z all) none
   nothing_of_kind (type.integer names) asked (value.boolean b) f all none = absurd cc
   nothing_of_kind (type.integer names) asked (value.enumerated z) f all none = absurd cc
   nothing_of_kind (type.integer names) asked value.null f all none = absurd cc

@@ -1,5 +1,5 @@
 -- Each message has one reason, by the law that octets are an encoding or have one breach.
-use Rattle.std.proofs.Common.{◌≡◌, ℕ, List, Some, None, refl, ap, sym, ◌∙◌, inl, inr}
+use Rattle.std.proofs.Common.{◌≡◌, ◌↔◌, ℕ, List, Some, None, refl, ap, sym, ◌∙◌, subst, inl, inr}
 use Rattle.std.specs.Prelude.{IsTrue, ◌⊎◌}
 use Rattle.guard_model.specs.AbstractType.{AbstractType}
 use Rattle.guard_model.specs.AbstractValue.{AbstractValue}
@@ -7,11 +7,12 @@ use Rattle.guard_der.specs.Der.{der}
 use Rattle.guard_der.specs.Fits.{fits}
 use Rattle.guard_der.specs.Breach.{AbstractBreach, IsBreach}
 use Rattle.guard_der.proofs.Types.Messages.{never_both, one_breach, one_encoding}
-use Rattle.guard_policy.specs.Verdicts.{AbstractVerdict, undecodable, unknown_message}
+use Rattle.guard_policy.specs.Verdicts.{AbstractVerdict, undecodable, unknown_message, pass}
 use Rattle.guard_policy.specs.Consistency.{IsConsistent}
 use Rattle.guard_policy.specs.Policies.{AbstractPolicy, AbstractRoute, declared_type}
-use Rattle.guard_policy.specs.Decisions.{rules_of, judged, IsReason}
+use Rattle.guard_policy.specs.Decisions.{rules_of, judged, IsReason, Goes}
 use Rattle.guard_policy.proofs.Applicable.{declared_sound}
+use Rattle.guard_policy.proofs.Goes.{passes_from_goes, goes_from_passes}
 use Rattle.guard_policy.proofs.Reasons.{value_read, breach_read, reason_of_value, reason_of_breach}
 
 -- a reason of octets that are the encoding of a value, or have a breach
@@ -40,3 +41,11 @@ one_reason p route octets v w c (inr (t, declared, inr (x, fitting, encoded, e))
     e ∙ reason_of_value p route octets t x w declared
     (λ u fits_too encoded_too. ap value_read (one_encoding t u x octets sound fits_too fitting encoded_too encoded))
     (λ b broken. absurd (never_both t octets x b sound fitting encoded broken)) reason
+
+-- where a reason is to pass, the message goes, and where it goes, that is its reason
+pub passes_exactly : (p : AbstractPolicy) (route : AbstractRoute) (octets : List ℕ) (w : AbstractVerdict) → IsConsistent p.messages p.rules → IsReason p route octets w
+    → (w ≡ pass) ↔ Goes p route octets
+passes_exactly p route octets w c reason = (
+  λ is. goes_from_passes p route octets (subst (λ (x : AbstractVerdict). IsReason p route octets x) is reason),
+  λ goes. one_reason p route octets w pass c reason (passes_from_goes p route octets goes),
+)

@@ -1,15 +1,14 @@
 -- There is one reason.
-use Rattle.std.proofs.Common.{◌≡◌, List, Some, Result, Ok, Err, ap, sym, ◌∙◌, subst, inl, inr, ℕ, ◌↔◌}
+use Rattle.std.proofs.Common.{◌≡◌, List, Some, Result, Ok, Err, ap, sym, ◌∙◌, subst, inl, inr, ℕ}
 use Rattle.std.specs.Prelude.{IsTrue, IfOk}
 use Rattle.guard_model.specs.AbstractType.{AbstractType}
 use Rattle.guard_model.specs.AbstractValue.{AbstractValue}
 use Rattle.guard_der.specs.Der.{der}
 use Rattle.guard_der.specs.Fits.{fits}
 use Rattle.guard_der.specs.Breach.{AbstractBreach, IsBreach}
-use Rattle.guard_policy.specs.Verdicts.{AbstractVerdict, undecodable, pass}
+use Rattle.guard_policy.specs.Verdicts.{AbstractVerdict, undecodable}
 use Rattle.guard_policy.specs.Policies.{AbstractPolicy, AbstractRoute, declared_type}
-use Rattle.guard_policy.specs.Decisions.{NumberedRule, rules_of, judged, DeclaredReason, IsReason, Goes}
-use Rattle.guard_policy.proofs.Goes.{passes_from_goes, goes_from_passes}
+use Rattle.guard_policy.specs.Decisions.{NumberedRule, rules_of, judged, DeclaredReason, IsReason}
 
 -- what is read of the octets: a value or a breach
 abbrev pub Read : Type 0
@@ -65,14 +64,3 @@ reason_of_breach p route octets t b w declared never only reason =
 pub if_ok_map : {A E : Type 0} (P Q : A → Type 0) (r : Result A E) → ((x : A) → P x → Q x) → IfOk r P → IfOk r Q
 if_ok_map P Q (Ok x) f p = f x p
 if_ok_map P Q (Err e) f p = tt
-
--- the verdict on the value is to pass exactly where the message goes
-pub passes_exactly : (p : AbstractPolicy) (route : AbstractRoute) (octets : List ℕ) (t : AbstractType) (v : AbstractValue) (w : AbstractVerdict)
-    → declared_type p route.message ≡ Some t → IsTrue (fits t v) → der t v ≡ Some octets
-    → ((u : AbstractValue) → IsTrue (fits t u) → der t u ≡ Some octets → value_read u ≡ value_read v)
-    → ((b : AbstractBreach) → IsBreach t octets b → breach_read b ≡ value_read v)
-    → w ≡ judged t (rules_of p route) v → (w ≡ pass) ↔ Goes p route octets
-passes_exactly p route octets t v w declared fitting encoded only never e = (
-  λ (is : w ≡ pass). goes_from_passes p route octets (inr (t, declared, inr (v, fitting, encoded, sym is ∙ e))),
-  λ goes. e ∙ reason_of_value p route octets t v pass declared only never (passes_from_goes p route octets goes),
-)

@@ -11,6 +11,7 @@ use Rattle.guard_model.specs.Limits.{fits_128_bits}
 use Rattle.guard_der.specs.Fits.{fits_kind}
 use Rattle.guard_eval.specs.Elements.{size_of, some_passes}
 use Rattle.guard_eval.specs.Member.{is_member, holds, holds_element, all_hold, some_hold, parts_are_members}
+use Rattle.guard_eval.proofs.Applied.{contained_inside, size_inside}
 use Rattle.guard_tables.specs.Demands.{Demand, by_type, by_constraint, meets}
 use Rattle.guard_policy.specs.Barren.{starts, element_starts, type_starts, all_starts, demand_starts, starts_of, may_have_size, element_may_have_size, type_may_have_size, all_may_have_size, some_may_have_size, demand_may_have_size}
 use Rattle.guard_policy.proofs.Starts.{Reaches, reaches_both, same_holds}
@@ -33,9 +34,9 @@ module _ (v : AbstractValue) (n : ℕ) (sized : size_of v ≡ Some n) where
 
     size_of_element : (e : Element) (kind : AbstractKind) → holds_element e kind v ≡ true → element_may_have_size e (pos n) ≡ true
     size_of_element (type.single_value w) kind h = refl
-    size_of_element (type.contained_subtype t) kind h = size_of_member t h
+    size_of_element (type.contained_subtype t) kind h = size_of_member t (contained_inside t kind v h)
     size_of_element (type.range low high) kind h = refl
-    size_of_element (type.size c) kind h = ap (some_passes (holds c (type.integer []))) (sym sized) ∙ h
+    size_of_element (type.size c) kind h = ap (some_passes (holds c (type.integer []))) (sym sized) ∙ size_inside c kind v h
     size_of_element (type.permitted_alphabet ranges) kind h = refl
     size_of_element (type.with_component c) kind h = refl
     size_of_element (type.with_components partial ps) kind h = refl

@@ -1,5 +1,5 @@
 -- A set of integers has a number only if it has one where it may begin.
-use Rattle.std.proofs.Common.{◌≡◌, ℕ, zero, suc, ℤ, Bool, true, false, true≢false, not, ◌&&◌, ◌||◌, List, [], ◌∷◌, ◌++◌, refl, sym, ap, ◌∙◌, arith}
+use Rattle.std.proofs.Common.{◌≡◌, zero, suc, ℤ, Bool, true, false, true≢false, not, ◌&&◌, ◌||◌, List, [], ◌∷◌, ◌++◌, refl, sym, ap, ◌∙◌, arith}
 use Rattle.std.specs.Prelude.{⊤, ◌^◌, ◌-◌, pos, negsuc, ◌≤ℤ◌, ◌<ℤ◌, ◌+ℤ◌}
 use Rattle.std.specs.Ordering.{int_eq}
 use Rattle.std.specs.List.{list_any}
@@ -14,11 +14,11 @@ use Rattle.guard_model.specs.Limits.{fits_128_bits}
 use Rattle.guard_model.specs.Same.{same}
 use Rattle.guard_model.specs.declared.ty.Limit.{Limit}
 use Rattle.guard_model.specs.declared.ty.Limit.TheVariants.{Free, At, Past}
-use Rattle.guard_eval.specs.Elements.{is_above, is_under}
+use Rattle.guard_eval.specs.Elements.{has_base, is_above, is_under}
 use Rattle.guard_eval.specs.Member.{is_member, holds, holds_element, all_hold, some_hold}
-use Rattle.guard_tables.specs.Demands.{Demand, by_type, by_constraint, meets}
+use Rattle.guard_tables.specs.Demands.{Demand, by_type, by_constraint}
 use Rattle.guard_tables.proofs.WholeSets.{integers_of}
-use Rattle.guard_policy.specs.Barren.{least_number, low_starts, high_starts, value_starts, starts, element_starts, type_starts, all_starts, demand_starts, starts_of, all_have_number}
+use Rattle.guard_policy.specs.Barren.{least_number, low_starts, high_starts, value_starts, starts, element_starts, type_starts, all_starts, demand_starts, starts_of, demand_has_number, all_have_number}
 
 -- each of these numbers of this profile that isn't above z isn't above p
 abbrev pub Reaches : ℤ → ℤ → List ℤ → Type 0
@@ -164,7 +164,7 @@ module _ (p z : ℤ) (le : p ≤ℤ z) (p_fits : fits_128_bits p ≡ true) (z_fi
 
     same_element : (e : Element) (kind : AbstractKind) → Reaches p z (element_starts e) → holds_element e kind (value.integer p) ≡ holds_element e kind (value.integer z)
     same_element (type.single_value w) kind r = same_value w r
-    same_element (type.contained_subtype t) kind r = same_member t r
+    same_element (type.contained_subtype t) kind r = ap (λ (b : Bool). has_base kind t && b) (same_member t r)
     same_element (type.range low high) kind r =
         let both = reaches_both p z (low_starts low) (high_starts high) r in
         ap (λ (b : Bool). b && is_under high p) (same_above low both.0) ∙ ap (λ (b : Bool). is_above low z && b) (same_under high both.1)
@@ -201,12 +201,12 @@ module _ (p z : ℤ) (le : p ≤ℤ z) (p_fits : fits_128_bits p ≡ true) (z_fi
         ap (λ (b : Bool). b || some_hold cs kind (value.integer p)) (same_holds c kind both.0)
         ∙ ap (λ (b : Bool). holds c kind (value.integer z) || b) (same_some cs kind both.1)
 
-  same_demand : (d : Demand) → Reaches p z (demand_starts d) → meets d (value.integer p) ≡ meets d (value.integer z)
+  same_demand : (d : Demand) → Reaches p z (demand_starts d) → demand_has_number p d ≡ demand_has_number z d
   same_demand (by_type t) r = same_member t r
-  same_demand (by_constraint kind c) r = same_holds c kind r
+  same_demand (by_constraint kind c) r = ap (λ (b : Bool). not (is_integer kind) || b) (same_holds c kind r)
 
   pub same_demands : (asked : List Demand) → Reaches p z (starts_of asked) → all_have_number asked p ≡ all_have_number asked z
   same_demands [] r = refl
   same_demands (d ∷ ds) r =
       let both = reaches_both p z (demand_starts d) (starts_of ds) r in
-      ap (λ (b : Bool). b && all_have_number ds p) (same_demand d both.0) ∙ ap (λ (b : Bool). meets d (value.integer z) && b) (same_demands ds both.1)
+      ap (λ (b : Bool). b && all_have_number ds p) (same_demand d both.0) ∙ ap (λ (b : Bool). demand_has_number z d && b) (same_demands ds both.1)

@@ -14,6 +14,7 @@ use Rattle.guard_model.specs.Components.{components_in, component_at}
 use Rattle.guard_der.specs.Fits.{fits_kind}
 use Rattle.guard_eval.specs.Presence.{kind_at, field_at, if_there, is_there, is_placed, first_intruder}
 use Rattle.guard_eval.specs.Member.{is_member, holds, holds_element, all_hold, parts_hold, parts_are_members, fields_are_members}
+use Rattle.guard_eval.proofs.Applied.{contained_inside}
 use Rattle.guard_tables.specs.Demands.{Demand, by_type, by_constraint, meets}
 use Rattle.guard_policy.specs.Barren.{own_part, type_within, within, element_within, all_within, parts_within, demand_within, demands_within}
 
@@ -92,7 +93,7 @@ module _ (fs : Fields) (i : ℕ) (w : AbstractValue) where
 
       element_met : (e : Element) (kind : AbstractKind) → holds_element e kind (value.fields fs) ≡ true → met (element_within i kind e) w ≡ true
       element_met (type.single_value v) kind h = refl
-      element_met (type.contained_subtype t) kind h = type_met t h
+      element_met (type.contained_subtype t) kind h = type_met t (contained_inside t kind (value.fields fs) h)
       element_met (type.range low high) kind h = refl
       element_met (type.size c) kind h = refl
       element_met (type.permitted_alphabet ranges) kind h = refl

@@ -6,6 +6,7 @@ use Rattle.guard_model.specs.AbstractType.{AbstractType, AbstractKind, Component
 use Rattle.guard_model.specs.AbstractValue as value
 use Rattle.guard_model.specs.AbstractValue.{AbstractValue}
 use Rattle.guard_model.specs.Components.{components_in, component_at}
+use Rattle.guard_model.specs.Kinds.{is_integer}
 use Rattle.guard_model.specs.Limits.{fits_128_bits}
 use Rattle.guard_model.specs.TypeView.{OneComponent}
 use Rattle.guard_model.specs.declared.tag.Tag.{Tag}
@@ -14,7 +15,7 @@ use Rattle.guard_model.specs.declared.ty.Limit.TheVariants.{Free, At, Past}
 use Rattle.guard_der.specs.Fits.{may_be_absent}
 use Rattle.guard_eval.specs.Member.{is_member, holds}
 use Rattle.guard_eval.specs.Presence.{kind_at}
-use Rattle.guard_tables.specs.Demands.{Demand, by_type, by_constraint, meets}
+use Rattle.guard_tables.specs.Demands.{Demand, by_type, by_constraint}
 use Rattle.guard_policy.specs.Policies.{AbstractPolicy, AbstractRule, declared_type}
 
 -- ---- where sets of integers may begin: such a set has a number only if it has one of these, or the least of all
@@ -73,8 +74,13 @@ starts_of (d ∷ ds) = demand_starts d ++ starts_of ds
 abbrev pub least_number : ℤ
 least_number = negsuc (2 ^ 127 - 1)
 
+-- what is asked of another kind than INTEGER tells nothing of integers
+abbrev pub demand_has_number : ℤ → Demand → Bool
+demand_has_number z (by_type t) = is_member t (value.integer z)
+demand_has_number z (by_constraint kind c) = not (is_integer kind) || holds c kind (value.integer z)
+
 abbrev pub all_have_number : List Demand → ℤ → Bool
-all_have_number asked z = list_all (λ d. meets d (value.integer z)) asked
+all_have_number asked z = list_all (demand_has_number z) asked
 
 -- no integer of this profile meets all that is asked
 abbrev pub have_no_number : List Demand → Bool

@@ -1,14 +1,12 @@
 //! Rules that no value of their message's declared type is under, as far as integers and sizes tell.
 ghost use Rattle.std.specs.Prelude.{◌≡◌, ◌&&◌, ◌↔◌, ◌^◌, ◌-◌, ℤ, pos, int_le, false, map, IfOk, IsTrue};
 ghost use Rattle.guard_integers.specs.Integers.{holds};
-ghost use Rattle.guard_model.specs.AbstractValue as abstract_value;
 ghost use Rattle.guard_model.specs.Limits.{fits_128_bits};
 ghost use Rattle.guard_model.specs.TypeView.{type_view, kind_view, component_view, components_of, presence_view};
 ghost use Rattle.guard_der.specs.Fits.{may_be_absent};
-ghost use Rattle.guard_policy.specs.Barren.{have_no_number, demand_may_have_size, have_no_size, kind_has_no_value};
+ghost use Rattle.guard_policy.specs.Barren.{demand_has_number, have_no_number, demand_may_have_size, have_no_size, kind_has_no_value};
 ghost use Rattle.guard_policy.specs.Barren.{some_has_no_value, is_barren};
 ghost use Rattle.guard_policy.specs.inside.Asked.{demand_view, demands_view};
-ghost use Rattle.guard_tables.specs.Demands.{meets};
 
 use super::asked::{Demand, demands_within};
 use super::policy::Policy;
@@ -113,14 +111,15 @@ fn have_no_number(alloc: Global, demands: &[Demand]) -> Result<bool, OutOfMemory
     Ok(is_empty(&left))
 }
 
-/// The integers that meet it.
+/// The integers that meet it, as far as it is asked of an INTEGER.
 fn numbers_met(alloc: Global, demand: Demand) -> Result<IntSet, OutOfMemory>
     ensures { IfOk result (λ set. (z : ℤ)
-        → holds set z ≡ (fits_128_bits z && meets (demand_view demand.entry) (abstract_value.integer z))) }
+        → holds set z ≡ (fits_128_bits z && demand_has_number z (demand_view demand.entry))) }
 {
     match demand {
         Demand::Type(ty) => numbers_of_type(ty, alloc),
-        Demand::Constraint(_, constraint) => numbers_of(constraint, alloc),
+        Demand::Constraint(kind, constraint) if kind.is_integer() => numbers_of(constraint, alloc),
+        Demand::Constraint(_, _) => IntSet::all(alloc),
     }
 }
 

@@ -12,7 +12,7 @@
 //! | When does a message go? | `passing.rt` (`passes`) | `specs/Decisions.antt` |
 //! | How does a route lead to its rules? | `routing.rt` | `specs/inside/Routing.antt` |
 //! | Which routes do rules give by names? | `leads.rt`, `route_octets.rt` | `specs/NamedRoutes.antt` |
-//! | Which verdict is it? | `policy.rt` (`verdict`), `decision.rt` | `specs/Decisions.antt` |
+//! | Which verdict is it? | `policy.rt` (`verdict`), `reason.rt`, `decision.rt` | `specs/Decisions.antt` |
 //! | Do a rule's type and the declared one share no value? | `barren.rt`, `asked.rt`, `sizes.rt` | `specs/Barren.antt` |
 //! | What holds of every message? | `laws.rt` | `specs/Decisions.antt` |
 //! | Which octets are names? | `route.rt` (`is_name`, `Route::is_plain`) | `specs/Names.antt` |
@@ -41,6 +41,7 @@ mod load;
 mod messages;
 mod passing;
 mod policy;
+mod reason;
 mod route;
 mod route_octets;
 mod routing;

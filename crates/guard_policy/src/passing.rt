@@ -27,7 +27,11 @@ impl Policy {
         let Some((message, _)) = self.found(route.message) else {
             return false;
         };
-        goes_by(message, &message.routing.rules(route), octets)
+        let rules = message.routing.rules(route);
+        if rules.allow_nothing() {
+            return false;
+        }
+        goes_by(message, &rules, octets)
     }
 
     /// Whether a message goes on the route that these octets are: three names, each after one octet with its length, as

@@ -9,7 +9,6 @@ ghost use Rattle.guard_policy.specs.SaidView.{said_view};
 ghost use Rattle.guard_policy.specs.inside.Said.{said_message_view};
 ghost use Rattle.guard_policy.specs.inside.KeptRules.{messages_kept, rules_kept};
 
-use super::decision::judge;
 use super::fault::PolicyFault;
 use super::kept::{Kept, KeptMessage, keep_rules};
 use super::leads::Leads;
@@ -17,7 +16,6 @@ use super::route::Route;
 use super::said::SaidMessage;
 use super::tables::keep_messages;
 use super::verdict::Verdict;
-use guard_der::DecodeFault;
 use guard_model::{OutOfMemory, Ty};
 use std::alloc::Global;
 
@@ -185,14 +183,7 @@ impl Policy {
         ensures passes { IfOk result (λ w. (verdict_view w ≡ pass)
             ↔ Goes (policy_view self.now) (route_view route.now) octets.now) }
     {
-        let Some((ty, numbers)) = self.listed(route.message) else {
-            return Ok(Verdict::UnknownMessage);
-        };
-        match guard_der::decode(alloc, ty, octets) {
-            Ok(value) => judge(alloc, &self.kept, numbers, route, ty, &value),
-            Err(DecodeFault::Breach(breach)) => Ok(Verdict::Undecodable(breach)),
-            Err(DecodeFault::OutOfMemory) => Err(OutOfMemory),
-        }
+        self.reason(alloc, route, octets)
     }
 }
 

@@ -105,6 +105,18 @@ impl Routing {
     }
 }
 
+impl RouteRules {
+    ghost use Rattle.std.specs.Prelude.{◌≡◌, ◌↔◌, IsTrue};
+    ghost use Rattle.guard_tables.specs.Slots.{none};
+
+    /// Whether none of them allows anything.
+    pub fn allow_nothing(&self) -> bool
+        ensures { IsTrue result ↔ (self.now.allowing ≡ none) }
+    {
+        self.allowing == Slots::none()
+    }
+}
+
 /// Whether the sets have a slot in common.
 pub(crate) fn meets(first: &Slots, second: &Slots) -> bool
     ensures { IsTrue result ↔ (common first.now second.now ≢ none) }

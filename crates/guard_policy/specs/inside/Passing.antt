@@ -33,3 +33,9 @@ abbrev pub IsAnswer : Table → RouteRules → List ℕ → Bool → Type 0
 IsAnswer table rules octets answer =
     ((marks : Marks) × AreMarks table octets marks × (IsTrue answer ↔ LetsGo rules marks.members))
     ⊎ (EncodeNothing table octets × (answer ≡ false))
+
+-- by these marks the declared type has the value and no denying rule does
+abbrev pub AreMarkedUndenied : Table → RouteRules → List ℕ → Type 0
+AreMarkedUndenied table rules octets =
+    (marks : Marks) × AreMarks table octets marks
+    × IsTrue (has marks.members 0) × (common rules.denying marks.members ≡ none)

@@ -32,9 +32,9 @@ _derguard() {
         --from | --to | --message) return ;;
     esac
     case $command in
-        '') mapfile -t COMPREPLY < <(compgen -W 'check decide show run mux help --help --version' -- "$current") ;;
-        help) [ -n "$policy" ] || mapfile -t COMPREPLY < <(compgen -W 'check decide show run mux' -- "$current") ;;
-        check | run | mux | decide | show)
+        '') mapfile -t COMPREPLY < <(compgen -W 'check decide show run ask mux help --help --version' -- "$current") ;;
+        help) [ -n "$policy" ] || mapfile -t COMPREPLY < <(compgen -W 'check decide show run ask mux' -- "$current") ;;
+        check | run | ask | mux | decide | show)
             if [[ $current == -* ]]; then
                 word=--help
                 if [ "$command" = check ]; then word='--explain --help'; fi

@@ -37,10 +37,11 @@ complete -c derguard -n __fish_use_subcommand -a check -d 'say whether a policy 
 complete -c derguard -n __fish_use_subcommand -a decide -d 'say what becomes of one message, and why'
 complete -c derguard -n __fish_use_subcommand -a show -d 'show the value of one message'
 complete -c derguard -n __fish_use_subcommand -a run -d 'guard a stream of frames'
+complete -c derguard -n __fish_use_subcommand -a ask -d 'say what becomes of each frame'
 complete -c derguard -n __fish_use_subcommand -a mux -d 'guard sixteen links in one stream of records'
 complete -c derguard -n __fish_use_subcommand -a help -d 'show what a command does'
-complete -c derguard -n '__fish_seen_subcommand_from help' -a 'check decide show run mux'
-complete -c derguard -n '__fish_seen_subcommand_from check decide show run mux; and test -z (__derguard_policy)' \
+complete -c derguard -n '__fish_seen_subcommand_from help' -a 'check decide show run ask mux'
+complete -c derguard -n '__fish_seen_subcommand_from check decide show run ask mux; and test -z (__derguard_policy)' \
     -a '(__fish_complete_suffix .toml)'
 complete -c derguard -n '__fish_seen_subcommand_from check' -l explain -d 'list the rules, or show the place of a fault'
 complete -c derguard -n '__fish_seen_subcommand_from decide' -l explain -d 'show the constraint or the place of a fault'

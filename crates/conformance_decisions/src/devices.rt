@@ -95,6 +95,8 @@ pub struct Room {
     most: usize,
     room: usize,
     is_broken: bool,
+    /// How often it was asked to take some.
+    calls: u64,
 }
 
 impl Room {
@@ -105,7 +107,13 @@ impl Room {
             most,
             room,
             is_broken: false,
+            calls: 0,
         }
+    }
+
+    /// How often it was asked to take octets.
+    pub fn calls(&self) -> u64 {
+        self.calls
     }
 
     /// Room for all that comes.
@@ -118,7 +126,7 @@ impl Room {
         &self.kept
     }
 
-    /// The same, where the sink isn't needed any more.
+    /// What it took, of a sink that isn't needed any more.
     pub fn into_octets(self) -> Vec<u8> {
         self.kept
     }
@@ -130,6 +138,7 @@ impl Sink for Room {
     ghost has_failed = { λ sink. sink.is_broken };
 
     fn put(&mut self, octets: &[u8]) -> Result<usize, Failed> {
+        self.calls = self.calls.saturating_add(1);
         let count = self.most.max(1).min(self.room).min(octets.len());
         if self.is_broken || count == 0 || self.kept.extend_from_slice(&octets[..count]).is_err() {
             self.is_broken = true;

@@ -12,21 +12,24 @@ use std::alloc::{AllocError, Global};
 enum Asked {
     /// How a run ends, and what comes out.
     Run,
-    /// The same of a run whose source gives pieces of so many octets, and whose sinks take so many in one call.
+    /// How a run ends, and what comes out, where the source gives pieces of so many octets, and the sinks take so many
+    /// in one call.
     Pieces(usize),
-    /// The same of a run on each stream in two pieces, or where two of them differ.
+    /// How a run ends on each stream in two pieces, and what comes out, or where two of them differ.
     EachCut,
     /// How many runs end with F2 where the sink for frames fails after so many octets, for each number, with what the
     /// first frames report.
     EachOut,
-    /// The same where the sink for reports fails, with what the first frames put.
+    /// How many runs end with F2 where the sink for reports fails after so many octets, for each number, with what the
+    /// first frames put.
     EachReport,
     /// How many runs end with F5 where the source fails after so many octets, for each number, with the outputs of
     /// those octets.
     EachRead,
     /// How a run ends through a reader and writers of std, and what comes out.
     Through,
-    /// The same where the writer for frames has room for ten octets, and whether the source and the sinks have failed.
+    /// How a run ends through a reader and writers of std, what comes out, and whether the source and the sinks have
+    /// failed, where the writer for frames has room for ten octets.
     Ten,
     /// How a run ends, and how many octets it leaves unread.
     Left,
@@ -34,8 +37,10 @@ enum Asked {
     Errors,
     /// What a link answers to the stream, to one more octet, to its end, twice, and to one more octet.
     Link,
-    /// The same where the sink for frames has no room.
+    /// What a link answers in the same five calls where the sink for frames has no room.
     FullLink,
+    /// How often the sinks for frames and for reports of a run are asked to take octets.
+    Calls,
     /// What a sink in memory holds when it took the octets, and when it was emptied.
     Kept,
 }
@@ -383,8 +388,15 @@ fn answer_of(
         Asked::FullLink => of_link(alloc, policy, input, Room::new(alloc, usize::MAX, 0)),
         Asked::Left => left(alloc, policy, input),
         Asked::Errors => errors(alloc, policy, input),
+        Asked::Calls => calls(alloc, policy, input),
         Asked::Kept => kept(alloc, input),
     }
+}
+
+/// How often the sink for frames is asked in a run, and how often the one for reports.
+fn calls(alloc: Global, policy: &Policy, stream: &[u8]) -> Result<String, AllocError> {
+    let ran = ran_amply(alloc, policy, Pieces::whole(stream));
+    format!(in alloc; "{} {}", ran.out.calls(), ran.reports.calls())
 }
 
 /// How a run ends whose source gives pieces of so many octets, and whose sinks take so many in one call.
@@ -417,8 +429,8 @@ impl Layer for Streams {
     }
 
     /// `@ask run`, `@ask each cut`, `@ask each out`, `@ask each report`, `@ask each read`, `@ask through`,
-    /// `@ask ten`, `@ask left`, `@ask errors`, `@ask link`, `@ask full link`, `@ask kept`; `@pieces SIZE`;
-    /// `@modules` and `@policy` with the texts of the policy that decides.
+    /// `@ask ten`, `@ask left`, `@ask errors`, `@ask link`, `@ask full link`, `@ask calls`,
+    /// `@ask kept`; `@pieces SIZE`; `@modules` and `@policy` with the texts of the policy that decides.
     fn set(&mut self, alloc: Global, name: &str, text: &[u8]) -> Result<String, AllocError> {
         match name {
             "modules" => {
@@ -440,6 +452,7 @@ impl Layer for Streams {
             ("ask", "full link") => Asked::FullLink,
             ("ask", "left") => Asked::Left,
             ("ask", "errors") => Asked::Errors,
+            ("ask", "calls") => Asked::Calls,
             ("ask", "kept") => Asked::Kept,
             ("pieces", size) => match size.parse::<usize>() {
                 Ok(size) => Asked::Pieces(size),

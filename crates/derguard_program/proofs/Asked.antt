@@ -1,6 +1,6 @@
 -- Words in which nothing is wrong ask for a request.
 use Rattle.std.proofs.Common.{◌≡◌, ◌∙◌, ◌&&◌, ◌||◌, ℕ, Bool, cond, true, false, not, refl, sym, ap, arith, subst, List, [], ◌∷◌, codes, Option, Some, None, true≢false}
-use Rattle.std.specs.Prelude.{IfSome, is_some, option_and_then, option_map, slice_get, slice_index, unwrap_or}
+use Rattle.std.specs.Prelude.{IfSome, is_some, option_and_then, option_map, slice_get, slice_index, unwrap_or, nat_eq, if◌then◌else◌}
 use Rattle.std.specs.List.{find, fold}
 use Rattle.std.specs.Option.{option_map_or}
 use Rattle.std.specs.Str.{bytes_eq}
@@ -13,8 +13,8 @@ use Rattle.clap.specs.Faults.{check_fault, defaults_fault, entered_fault, fault_
 use Rattle.clap.specs.Kinds.{Kinds, or_else}
 use Rattle.clap.specs.Simple.{App, Shape, argument_words, built, built_leaf, entered, filled, help_rule, help_shape, inherited, label_of, marked_built, names_of, rows_at, subcommand_of, with_index, with_leaf_noted}
 use Rattle.clap.specs.declared.error.kind.ErrorKind.TheVariants as kind
-use Rattle.derguard_program.specs.Requests.{AbstractRequest, first, check, decide, show, run, mux}
-use Rattle.derguard_program.specs.Words.{AreFound, IsCommand, check_shape, decide_shape, flag_of, flag_rule, mux_shape, option_rule, place_rule, run_shape, show_shape, the_app}
+use Rattle.derguard_program.specs.Requests.{AbstractRequest, first, check, decide, show, run, ask, mux}
+use Rattle.derguard_program.specs.Words.{AreFound, IsCommand, ask_shape, check_shape, decide_shape, flag_of, flag_rule, mux_shape, option_rule, place_rule, run_shape, show_shape, the_app}
 use Rattle.derguard_program.proofs.Filled.{AllFill, Filled, Fills, IsFilled, both_none, finished_filled, flag_fills, help_fills, set_fills, some_kind, walk_filled}
 
 -- ---- a walk in which nothing is wrong stops at no word help
@@ -163,6 +163,9 @@ built_show = built_leaf (inherited (with_leaf_noted (marked_built the_app.top)) 
 abbrev built_run : Shape
 built_run = built_leaf (inherited (with_leaf_noted (marked_built the_app.top)) run_shape)
 
+abbrev built_ask : Shape
+built_ask = built_leaf (inherited (with_leaf_noted (marked_built the_app.top)) ask_shape)
+
 abbrev built_mux : Shape
 built_mux = built_leaf (inherited (with_leaf_noted (marked_built the_app.top)) mux_shape)
 
@@ -194,6 +197,9 @@ show_fills = (place_fills 1 (codes "policy"), (option_fills (codes "message"), (
 
 run_fills : AllFill built_run.rules
 run_fills = (place_fills 1 (codes "policy"), (help_flag_fills 2, tt))
+
+ask_fills : AllFill built_ask.rules
+ask_fills = (place_fills 1 (codes "policy"), (help_flag_fills 2, tt))
 
 mux_fills : AllFill built_mux.rules
 mux_fills = (place_fills 1 (codes "policy"), (help_flag_fills 2, tt))
@@ -227,6 +233,13 @@ run_asks words e =
     let policy = given_next _ _ (check_none built_run [] words false [] e) in
     let path = given_value (codes "policy") (rows_after built_run.rules [] words) rows policy.0 in
     (run path.0, (refl, path.1))
+
+ask_asks : (words : List Text) → level_fault built_ask [] nothing_held words false [] ≡ [] → Requests built_ask words
+ask_asks words e =
+    let rows = rows_filled built_ask [] words false [] e ask_fills in
+    let policy = given_next _ _ (check_none built_ask [] words false [] e) in
+    let path = given_value (codes "policy") (rows_after built_ask.rules [] words) rows policy.0 in
+    (ask path.0, (refl, path.1))
 
 mux_asks : (words : List Text) → level_fault built_mux [] nothing_held words false [] ≡ [] → Requests built_mux words
 mux_asks words e =
@@ -269,24 +282,36 @@ not_help_met name another met = go (bytes_eq (codes "help") name) refl met
         true≢false (sym ((bytes_eq-Decides name (codes "help")).1 (sym same)) ∙ another)
     go false e is = true≢false (sym is)
 
-by_name : (p : Text × List Text) (a b s c m d : Bool) → (d ≡ true → ⊥)
-    → option_map_or (λ s. level_fault s [] nothing_held p.1 false []) (cond a (Some built_check) (cond b (Some built_decide) (cond s (Some built_show) (cond c (Some built_run) (cond m (Some built_mux) (cond d (Some (built_leaf help_shape)) None)))))) [] ≡ []
-    → is_some (option_map (λ s. rows_at s p.1) (cond a (Some built_check) (cond b (Some built_decide) (cond s (Some built_show) (cond c (Some built_run) (cond m (Some built_mux) (cond d (Some (built_leaf help_shape)) None))))))) ≡ true
-    → Enters p (cond a (Some built_check) (cond b (Some built_decide) (cond s (Some built_show) (cond c (Some built_run) (cond m (Some built_mux) (cond d (Some (built_leaf help_shape)) None))))))
-by_name p true b s c m d another e there = as_entered p built_check (check_asks p.1 e)
-by_name p false true s c m d another e there = as_entered p built_decide (decide_asks p.1 e)
-by_name p false false true c m d another e there = as_entered p built_show (show_asks p.1 e)
-by_name p false false false true m d another e there = as_entered p built_run (run_asks p.1 e)
-by_name p false false false false true d another e there = as_entered p built_mux (mux_asks p.1 e)
-by_name p false false false false false true another e there = absurd (another refl)
-by_name p false false false false false false another e there = absurd (true≢false (sym there))
+-- a command is picked by the first of these names that the word is
+module _ (p : Text × List Text) where
+  Picks : Option Shape → Type 0
+  Picks found =
+      option_map_or (λ s. level_fault s [] nothing_held p.1 false []) found [] ≡ [] → is_some (option_map (λ s. rows_at s p.1) found) ≡ true → Enters p found
+
+  or_next : (is : Bool) (s : Shape) (rest : Option Shape) → ((words : List Text) → level_fault s [] nothing_held words false [] ≡ [] → Requests s words) → Picks rest
+      → Picks (cond is (Some s) rest)
+  unfolding Picks
+  or_next true s rest asks more e there = as_entered p s (asks p.1 e)
+  or_next false s rest asks more e there = more e there
+
+  no_help : (is : Bool) → (is ≡ true → ⊥) → Picks (cond is (Some (built_leaf help_shape)) None)
+  unfolding Picks
+  no_help true another e there = absurd (another refl)
+  no_help false another e there = absurd (true≢false (sym there))
 
 entered_asks : (stop : Option (Text × List Text)) → NotHelp stop → entered_fault ready stop ≡ [] → is_some (entered ready stop) ≡ true
     → (request : AbstractRequest) × (name : Text) × (rows : List Row) × (entered ready stop ≡ Some (name, rows)) × IsCommand name rows request
+unfolding Picks
 entered_asks None another e there = absurd (true≢false (sym there))
 entered_asks (Some p) another e there =
-    by_name p (answers_to p.0 (label_of built_check)) (answers_to p.0 (label_of built_decide)) (answers_to p.0 (label_of built_show)) (answers_to p.0 (label_of built_run)) (answers_to p.0 (label_of built_mux)) (answers_to p.0 (label_of (built_leaf help_shape)))
-    (not_help_met p.0 another) e there
+    let is : Shape → Bool = λ s. answers_to p.0 (label_of s) in
+    or_next p (is built_check) built_check _ check_asks
+    (or_next p (is built_decide) built_decide _ decide_asks
+    (or_next p (is built_show) built_show _ show_asks
+    (or_next p (is built_run) built_run _ run_asks
+    (or_next p (is built_ask) built_ask _ ask_asks
+    (or_next p (is built_mux) built_mux _ mux_asks
+    (no_help p (is (built_leaf help_shape)) (not_help_met p.0 another))))))) e there
 
 command_there : (b : Bool) (others : Kinds)
     → ◌≡◌ {A = Kinds} (cond (not b && false) (kind.DisplayHelpOnMissingArgumentOrSubcommand ∷ []) (cond (not b && true) (kind.MissingSubcommand ∷ []) others)) [] → b ≡ true
@@ -308,59 +333,53 @@ asked words e =
 same_value : {A : Type 0} (a b : A) → Some a ≡ Some b → a ≡ b
 same_value a b e = ap (λ o. unwrap_or o a) e
 
-another_name : (a b : Text) → a ≡ b → slice_index a 0 ≡ slice_index b 0
-another_name a b e = ap (λ t. slice_index t 0) e
-
 module _ (rows : List Row) where
-  same_at : (id : Text) (v w : Text) → first_of id rows ≡ Some v → first_of id rows ≡ Some w → v ≡ w
-  same_at id v w a b = same_value v w (sym a ∙ b)
+  -- what a command asks for, by the first letter of its name
+  value_of : Text → Text
+  value_of id = unwrap_or (first_of id rows) []
+
+  request_at : ℕ → AbstractRequest
+  request_at letter =
+      if nat_eq letter 99 then check (value_of (codes "policy")) (flag_of (codes "explain") rows)
+      else if nat_eq letter 100
+      then decide (value_of (codes "policy")) (record { from = value_of (codes "from"); to = value_of (codes "to"); message = value_of (codes "message") }) (value_of (codes "hex")) (flag_of (codes "explain") rows)
+      else if nat_eq letter 115 then show (value_of (codes "policy")) (value_of (codes "message")) (value_of (codes "hex"))
+      else if nat_eq letter 114 then run (value_of (codes "policy"))
+      else if nat_eq letter 97 then ask (value_of (codes "policy"))
+      else if nat_eq letter 109 then mux (value_of (codes "policy"))
+      else first
+
+  is_value : (id : Text) (v : Text) → first_of id rows ≡ Some v → v ≡ value_of id
+  unfolding value_of
+  is_value id v e = sym (ap (λ o. unwrap_or o []) e)
+
+  named_at : (name other : Text) → name ≡ other → request_at (slice_index other 0) ≡ request_at (slice_index name 0)
+  named_at name other e = ap (λ (n : Text). request_at (slice_index n 0)) (sym e)
+
+  is_request_at : (name : Text) (r : AbstractRequest) → IsCommand name rows r → r ≡ request_at (slice_index name 0)
+  unfolding request_at
+  is_request_at name first h = absurd h
+  is_request_at name (check path explain) h =
+      let p = is_value (codes "policy") path h.1 in
+      (λ i. check (p i) (h.2 i)) ∙ named_at name (codes "check") h.0
+  is_request_at name (decide path route digits explain) h =
+      let p = is_value (codes "policy") path h.1 in
+      let f = is_value (codes "from") route.from h.2 in
+      let t = is_value (codes "to") route.to h.3 in
+      let m = is_value (codes "message") route.message h.4 in
+      let d = is_value (codes "hex") digits h.5 in
+      (λ i. decide (p i) (record { from = f i; to = t i; message = m i }) (d i) (h.6 i)) ∙ named_at name (codes "decide") h.0
+  is_request_at name (show path message digits) h =
+      let p = is_value (codes "policy") path h.1 in
+      let m = is_value (codes "message") message h.2 in
+      let d = is_value (codes "hex") digits h.3 in
+      (λ i. show (p i) (m i) (d i)) ∙ named_at name (codes "show") h.0
+  is_request_at name (run path) h = ap run (is_value (codes "policy") path h.1) ∙ named_at name (codes "run") h.0
+  is_request_at name (ask path) h = ap ask (is_value (codes "policy") path h.1) ∙ named_at name (codes "ask") h.0
+  is_request_at name (mux path) h = ap mux (is_value (codes "policy") path h.1) ∙ named_at name (codes "mux") h.0
 
   one_command : (name : Text) (r s : AbstractRequest) → IsCommand name rows r → IsCommand name rows s → r ≡ s
-  one_command name first s h g = absurd h
-  one_command name (check path explain) first h g = absurd g
-  one_command name (check path explain) (check other more) h g =
-      let policy = same_at (codes "policy") path other h.1 g.1 in
-      let flag = h.2 ∙ sym g.2 in
-      λ i. check (policy i) (flag i)
-  one_command name (check path explain) (decide other route digits more) h g = absurd (let bad : 99 ≡ 100 = another_name _ _ (sym h.0 ∙ g.0) in omega arith)
-  one_command name (check path explain) (show other message digits) h g = absurd (let bad : 99 ≡ 115 = another_name _ _ (sym h.0 ∙ g.0) in omega arith)
-  one_command name (check path explain) (run other) h g = absurd (let bad : 99 ≡ 114 = another_name _ _ (sym h.0 ∙ g.0) in omega arith)
-  one_command name (check path explain) (mux other) h g = absurd (let bad : 99 ≡ 109 = another_name _ _ (sym h.0 ∙ g.0) in omega arith)
-  one_command name (decide path route digits explain) first h g = absurd g
-  one_command name (decide path route digits explain) (check other more) h g = absurd (let bad : 100 ≡ 99 = another_name _ _ (sym h.0 ∙ g.0) in omega arith)
-  one_command name (decide path route digits explain) (decide other another octets more) h g =
-      let policy = same_at (codes "policy") path other h.1 g.1 in
-      let from = same_at (codes "from") route.from another.from h.2 g.2 in
-      let to = same_at (codes "to") route.to another.to h.3 g.3 in
-      let message = same_at (codes "message") route.message another.message h.4 g.4 in
-      let hex = same_at (codes "hex") digits octets h.5 g.5 in
-      let flag = h.6 ∙ sym g.6 in
-      λ i. decide (policy i) (record { from = from i; to = to i; message = message i }) (hex i) (flag i)
-  one_command name (decide path route digits explain) (show other message octets) h g = absurd (let bad : 100 ≡ 115 = another_name _ _ (sym h.0 ∙ g.0) in omega arith)
-  one_command name (decide path route digits explain) (run other) h g = absurd (let bad : 100 ≡ 114 = another_name _ _ (sym h.0 ∙ g.0) in omega arith)
-  one_command name (decide path route digits explain) (mux other) h g = absurd (let bad : 100 ≡ 109 = another_name _ _ (sym h.0 ∙ g.0) in omega arith)
-  one_command name (show path message digits) first h g = absurd g
-  one_command name (show path message digits) (check other more) h g = absurd (let bad : 115 ≡ 99 = another_name _ _ (sym h.0 ∙ g.0) in omega arith)
-  one_command name (show path message digits) (decide other route octets more) h g = absurd (let bad : 115 ≡ 100 = another_name _ _ (sym h.0 ∙ g.0) in omega arith)
-  one_command name (show path message digits) (show other another octets) h g =
-      let policy = same_at (codes "policy") path other h.1 g.1 in
-      let called = same_at (codes "message") message another h.2 g.2 in
-      let hex = same_at (codes "hex") digits octets h.3 g.3 in
-      λ i. show (policy i) (called i) (hex i)
-  one_command name (show path message digits) (run other) h g = absurd (let bad : 115 ≡ 114 = another_name _ _ (sym h.0 ∙ g.0) in omega arith)
-  one_command name (show path message digits) (mux other) h g = absurd (let bad : 115 ≡ 109 = another_name _ _ (sym h.0 ∙ g.0) in omega arith)
-  one_command name (run path) first h g = absurd g
-  one_command name (run path) (check other more) h g = absurd (let bad : 114 ≡ 99 = another_name _ _ (sym h.0 ∙ g.0) in omega arith)
-  one_command name (run path) (decide other route digits more) h g = absurd (let bad : 114 ≡ 100 = another_name _ _ (sym h.0 ∙ g.0) in omega arith)
-  one_command name (run path) (show other message octets) h g = absurd (let bad : 114 ≡ 115 = another_name _ _ (sym h.0 ∙ g.0) in omega arith)
-  one_command name (run path) (run other) h g = ap run (same_at (codes "policy") path other h.1 g.1)
-  one_command name (run path) (mux other) h g = absurd (let bad : 114 ≡ 109 = another_name _ _ (sym h.0 ∙ g.0) in omega arith)
-  one_command name (mux path) first h g = absurd g
-  one_command name (mux path) (check other more) h g = absurd (let bad : 109 ≡ 99 = another_name _ _ (sym h.0 ∙ g.0) in omega arith)
-  one_command name (mux path) (decide other route digits more) h g = absurd (let bad : 109 ≡ 100 = another_name _ _ (sym h.0 ∙ g.0) in omega arith)
-  one_command name (mux path) (show other message octets) h g = absurd (let bad : 109 ≡ 115 = another_name _ _ (sym h.0 ∙ g.0) in omega arith)
-  one_command name (mux path) (run other) h g = absurd (let bad : 109 ≡ 114 = another_name _ _ (sym h.0 ∙ g.0) in omega arith)
-  one_command name (mux path) (mux other) h g = ap mux (same_at (codes "policy") path other h.1 g.1)
+  one_command name r s h g = is_request_at name r h ∙ sym (is_request_at name s g)
 
 -- ---- the answer
 

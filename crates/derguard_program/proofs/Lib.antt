@@ -20,6 +20,8 @@ pub mod ShownAnswers
 pub mod RecordLaws
 pub mod PassingLaws
 pub mod RecordReading
+pub mod FramesRead
+pub mod FramesAnswered
 pub mod RecordsRead
 pub mod Turning
 pub mod Doings

@@ -1,12 +1,13 @@
 -- What goes out of a link and is said of it, part by part.
-use Rattle.std.proofs.Common.{◌≡◌, ◌∙◌, ◌<◌, ◌≤◌, ◌⊎◌, inl, inr, ℕ, zero, suc, Bool, true, false, cond, List, [], ◌∷◌, ◌++◌, ap, refl, sym, subst, length, take, drop, get_or, map, nat_eq, nat_lt, arith, append_assoc, length-drop}
+use Rattle.std.proofs.Common.{◌≡◌, ◌∙◌, ◌<◌, ◌≤◌, ◌⊎◌, inl, inr, ℕ, zero, suc, Bool, true, false, cond, List, [], ◌∷◌, ◌++◌, ap, refl, sym, subst, length, take, drop, get_or, map, nat_eq, nat_lt, arith, append_assoc, length-drop, codes, decimal}
 use Rattle.std.specs.List.{concat}
 use Rattle.std.proofs.lemmas.List.{append-nil, take-append-drop, length-take-le}
 use Rattle.guard_frames.specs.Prefix.{IsProperPrefix}
 use Rattle.guard_frames.proofs.Appending.{Prefix_first, Prefix_second}
 use Rattle.derguard_program.specs.Records.{record_octets}
 use Rattle.derguard_program.specs.Records.Record.{piece}
-use Rattle.derguard_program.specs.Passing.{AreFull, InRecords, with_first, lines_of, marked, marked_line}
+use Rattle.guard_frames.specs.Calls.{EndsLine}
+use Rattle.derguard_program.specs.Passing.{AreFull, InRecords, with_first, lines_of, link_mark, marked, marked_line}
 
 -- ---- lines
 
@@ -30,21 +31,25 @@ first_line (o ∷ p ∷ text) (suc end) some within before there =
     ap (λ b. cond b ([] ∷ lines_of (p ∷ text)) (with_first o (lines_of (p ∷ text)))) (eq_false o (before 0 (omega arith)))
     ∙ ap (with_first o) (first_line (p ∷ text) end (omega arith) (omega (arith, within)) (λ k h. before (suc k) (omega (arith, h))) (λ h. there (omega (arith, h))))
 
--- such a line is marked first
-pub marked_first : (link : ℕ) (text : List ℕ) (end : ℕ) → 0 < length text → end ≤ length text → ((k : ℕ) → k < end → get_or text k 0 ≡ 10 → ⊥)
-    → (end < length text → get_or text end 0 ≡ 10) → marked link text ≡ marked_line link (take end text) ++ marked link (drop (suc end) text)
-marked_first link text end some within before there =
-    ap (λ ls. concat (map (marked_line link) ls)) (first_line text end some within before there)
-
-last_line : (text : List ℕ) → 0 < length text → ((k : ℕ) → k < length text → get_or text k 0 ≡ 10 → ⊥) → lines_of text ≡ text ∷ []
+pub last_line : (text : List ℕ) → 0 < length text → ((k : ℕ) → k < length text → get_or text k 0 ≡ 10 → ⊥) → lines_of text ≡ text ∷ []
 last_line [] some before = absurd (omega (arith, some))
 last_line (o ∷ []) some before = ap (λ b. cond b ([] ∷ []) ((o ∷ []) ∷ [])) (eq_false o (before 0 (omega arith)))
 last_line (o ∷ p ∷ text) some before =
     ap (λ b. cond b ([] ∷ lines_of (p ∷ text)) (with_first o (lines_of (p ∷ text)))) (eq_false o (before 0 (omega arith)))
     ∙ ap (with_first o) (last_line (p ∷ text) (omega arith) (λ k h. before (suc k) (omega (arith, h))))
 
-pub marked_last : (link : ℕ) (text : List ℕ) → 0 < length text → ((k : ℕ) → k < length text → get_or text k 0 ≡ 10 → ⊥) → marked link text ≡ marked_line link text ++ []
-marked_last link text some before = ap (λ ls. concat (map (marked_line link) ls)) (last_line text some before)
+-- its lines are marked one after another
+pub marked_first : (link : ℕ) (text line others : List ℕ) → lines_of text ≡ line ∷ lines_of others
+    → marked link text ≡ marked_line link line ++ marked link others
+marked_first link text line others e = ap (λ ls. concat (map (marked_line link) ls)) e
+
+-- a marked line, part by part
+pub marked_whole : (link : ℕ) (line n w₀ w₁ w₂ w₃ w₄ w₅ : List ℕ) → w₀ ≡ [] → w₁ ≡ w₀ ++ codes "link " → n ≡ decimal link → w₂ ≡ w₁ ++ n
+    → w₃ ≡ w₂ ++ codes " " → w₄ ≡ w₃ ++ line → w₅ ≡ w₄ ++ codes "\n" → w₅ ≡ marked_line link line
+marked_whole link line n w₀ w₁ w₂ w₃ w₄ w₅ e₀ e₁ e e₂ e₃ e₄ e₅ = rw (e₅, e₄, e₃, e₂, e, e₁, e₀) (simp append_assoc)
+
+pub marked_ends : (link : ℕ) (line : List ℕ) → EndsLine (marked_line link line)
+marked_ends link line = record { front = link_mark link ++ line; ends = sym (append_assoc (link_mark link) line (codes "\n")) }
 
 -- ---- lines that are out, and those that come
 

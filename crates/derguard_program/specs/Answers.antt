@@ -1,11 +1,12 @@
 -- What is answered to a request that reads no stream: what goes to standard output, and the status; or the fault.
-use Rattle.std.specs.Prelude.{◌≡◌, ◌⊎◌, ℕ, List, [], ◌∷◌, ◌++◌, codes, decimal, length, Ok, Err}
+use Rattle.std.specs.Prelude.{◌≡◌, ◌⊎◌, ℕ, nat_eq, List, [], ◌∷◌, ◌++◌, codes, decimal, length, Ok, Err, if◌then◌else◌}
 use Rattle.hex.specs.Hex.{decode_of}
 use Rattle.hex.specs.declared.error.FromHexError.{FromHexError}
 use Rattle.guard_policy.specs.Policies.{AbstractPolicy, AbstractRoute}
 use Rattle.guard_policy.specs.Verdicts.{AbstractVerdict, pass, unknown_message, undecodable, outside_type, denied_by, not_allowed, no_rule}
 use Rattle.guard_policy.specs.Decisions.{IsReason}
 use Rattle.guard_report.specs.Text.{verdict_octets}
+use Rattle.guard_frames.specs.declared.totals.Totals.{Totals}
 use Rattle.guard_frames.specs.Texts.{SayPolicy}
 use Rattle.derguard_program.specs.declared.answer.Answer.{Answer}
 use Rattle.derguard_program.specs.declared.fault.Fault.{Fault}
@@ -24,6 +25,12 @@ pub record AbstractAnswer : Type 0 where
 
 abbrev pub answer_view : Answer → AbstractAnswer
 answer_view a = record { out = a.out.items; status = a.status }
+
+-- ---- the status of a stream
+
+-- 0 where all frames passed
+abbrev pub totals_status : Totals → ℕ
+totals_status t = if nat_eq t.denied 0 then 0 else 1
 
 -- ---- the messages that are built in
 

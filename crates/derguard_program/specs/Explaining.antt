@@ -74,7 +74,8 @@ IsExplained told path (Run f) note = IsNoPolicyAt told path (Run f) × (note ≡
 IsExplained told path NoMemory note =
     IsNoPolicyAt told path NoMemory × (note ≡ explanation (sources path [] []) NoMemory)
 
--- The same of a message that isn't decided: digits that write no octets come before what is wrong with the policy.
+-- What is said with an explanation of a message that isn't decided: digits that write no octets come before what is
+-- wrong with the policy.
 abbrev pub IsUndecidedExplained : Told → List ℕ → List ℕ → Fault → List ℕ → Type 0
 IsUndecidedExplained told path digits f note =
     ((f ≡ BadHex) × ((e : FromHexError) × (decode_of digits ≡ Err e))

@@ -11,6 +11,9 @@ pub mod Answers
 -- ---- what goes to the outputs, and the status
 pub mod Devices
 pub mod Writing
+-- ---- frames that ask
+pub mod Answered
+pub mod Asking
 -- ---- many links
 pub mod Records
 pub mod Passing

@@ -1,5 +1,5 @@
 -- What it is to meet a request, by what is read, what goes out, and the status. This is the page to read first.
-use Rattle.std.specs.Prelude.{◌≡◌, ◌⊎◌, ℕ, Bool, nat_eq, true, false, List, ◌++◌, codes, Option, Result, Ok, Err, if◌then◌else◌}
+use Rattle.std.specs.Prelude.{◌≡◌, ◌⊎◌, ℕ, Bool, true, false, List, ◌++◌, codes, Option, Result, Ok, Err}
 use Rattle.clap.specs.declared.error.kind.ErrorKind.{ErrorKind}
 use Rattle.clap.specs.declared.error.kind.ErrorKind.TheVariants as code
 use Rattle.clap.specs.declared.error.kind.ErrorKind.TheVariants.{InvalidValue, UnknownArgument, InvalidSubcommand, NoEquals, ValueValidation, TooManyValues, TooFewValues, WrongNumberOfValues, ArgumentConflict, MissingRequiredArgument, MissingSubcommand, DisplayHelp, DisplayHelpOnMissingArgumentOrSubcommand, DisplayVersion, Io, Format}
@@ -15,10 +15,11 @@ use Rattle.guard_frames.specs.declared.running.RunFault.TheVariants.{FrameTooLon
 use Rattle.derguard_program.specs.declared.fault.Fault.{Fault}
 use Rattle.derguard_program.specs.declared.fault.Fault.TheVariants.{BadHex, CannotRead, Schema, Policy, Run, NoMemory}
 use Rattle.derguard_program.specs.Files.{Told}
-use Rattle.derguard_program.specs.Requests.{AbstractRequest, first, check, decide, show, run, mux}
+use Rattle.derguard_program.specs.Requests.{AbstractRequest, first, check, decide, show, run, ask, mux}
 use Rattle.derguard_program.specs.Words.{Asks, joined, the_app, version}
 use Rattle.derguard_program.specs.Reading.{IsPolicyAt, IsNoPolicyAt}
-use Rattle.derguard_program.specs.Answers.{AbstractAnswer, IsFirst, IsNoFirst, IsChecked, IsCheckedExplained, IsDecided, IsDecidedExplained, IsUndecided}
+use Rattle.derguard_program.specs.Answers.{AbstractAnswer, totals_status, IsFirst, IsNoFirst, IsChecked, IsCheckedExplained, IsDecided, IsDecidedExplained, IsUndecided}
+use Rattle.derguard_program.specs.Asking.{AsksStream}
 use Rattle.derguard_program.specs.Devices.{Input, Device, IsUnread, IsUntouched}
 use Rattle.derguard_program.specs.Explaining.{IsExplained, IsUndecidedExplained, TellsWith}
 use Rattle.derguard_program.specs.Muxing.{GuardsLinks}
@@ -39,10 +40,6 @@ AnswersExplained IsAnswer IsFault input out err status =
     IsUnread input
     × (((a : AbstractAnswer) × IsAnswer a × Writes a.out a.status out err status)
     ⊎ ((f : Fault) × (note : List ℕ) × IsFault f note × IsUntouched out × TellsWith f note err status))
-
--- 0 where all frames passed
-abbrev pub totals_status : Totals → ℕ
-totals_status t = if nat_eq t.denied 0 then 0 else 1
 
 -- What was read comes out or is reported under this policy, by the answer of the run.
 abbrev pub GuardsUnder : AbstractPolicy → Input → Device → Device → Result Totals RunFault → Type 0
@@ -107,6 +104,7 @@ Meets told (decide path route digits true) =
     AnswersExplained (IsDecidedExplained told path route digits) (IsUndecidedExplained told path digits)
 Meets told (show path message digits) = Answers (IsShownAt told path message digits) (IsUndecided told path digits)
 Meets told (run path) = GuardsStream told path
+Meets told (ask path) = AsksStream told path
 Meets told (mux path) = GuardsLinks told path
 
 -- What the reader of words says is help or the version, and no fault of the words.

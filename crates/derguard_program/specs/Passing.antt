@@ -33,6 +33,10 @@ abbrev pub lines_of : List ℕ → List (List ℕ)
 lines_of [] = []
 lines_of (o ∷ text) = if nat_eq o 10 then [] ∷ lines_of text else with_first o (lines_of text)
 
+-- of so many octets that it goes in one call
+abbrev pub IsShort : List ℕ → Type 0
+IsShort line = length line ≤ 4096
+
 abbrev pub link_mark : ℕ → List ℕ
 link_mark link = codes "link " ++ (decimal link ++ codes " ")
 

@@ -16,6 +16,8 @@ pub data AbstractRequest : Type 0 where
   show : List ℕ → List ℕ → List ℕ → AbstractRequest
   -- what comes in, by the policy at this path
   run : List ℕ → AbstractRequest
+  -- the same frames, of which it is said what becomes of them
+  ask : List ℕ → AbstractRequest
   -- the records of many links, by the policy at this path
   mux : List ℕ → AbstractRequest
 
@@ -28,4 +30,5 @@ request_view (code.Check policy explain) = check policy.now explain
 request_view (code.Decide m) = decide m.policy.now (message_route m) m.hex.now m.explain
 request_view (code.Show policy message hex) = show policy.now message.now hex.now
 request_view (code.Run policy) = run policy.now
+request_view (code.Ask policy) = ask policy.now
 request_view (code.Mux policy) = mux policy.now

@@ -5,7 +5,7 @@ use Rattle.std.specs.Option.{option_map_or}
 use Rattle.clap.specs.Words.{App, Rule, Row, Shape, Text, first_of, fault_of, new_rule, subcommand_of}
 use Rattle.clap.specs.Simple.{new_shape}
 use Rattle.clap.specs.declared.builder.action.ArgAction.TheVariants.{Set, SetTrue}
-use Rattle.derguard_program.specs.Requests.{AbstractRequest, first, check, decide, show, run, mux}
+use Rattle.derguard_program.specs.Requests.{AbstractRequest, first, check, decide, show, run, ask, mux}
 
 -- the program's version
 abbrev pub version : Text
@@ -51,6 +51,10 @@ show_shape = command_shape (codes "show")
 abbrev pub run_shape : Shape
 run_shape = command_shape (codes "run") (place_rule (codes "policy") ∷ [])
 
+-- ask POLICY
+abbrev pub ask_shape : Shape
+ask_shape = command_shape (codes "ask") (place_rule (codes "policy") ∷ [])
+
 -- mux POLICY
 abbrev pub mux_shape : Shape
 mux_shape = command_shape (codes "mux") (place_rule (codes "policy") ∷ [])
@@ -59,7 +63,7 @@ mux_shape = command_shape (codes "mux") (place_rule (codes "policy") ∷ [])
 abbrev pub the_app : App
 the_app = record {
   top = record (new_shape (codes "derguard")) { is_leaf = false; subcommand_required = true; has_version = true };
-  subs = check_shape ∷ decide_shape ∷ show_shape ∷ run_shape ∷ mux_shape ∷ [];
+  subs = check_shape ∷ decide_shape ∷ show_shape ∷ run_shape ∷ ask_shape ∷ mux_shape ∷ [];
 }
 
 -- ---- the requests
@@ -83,6 +87,7 @@ IsCommand name rows (show path message digits) =
     × (first_of (codes "message") rows ≡ Some message)
     × (first_of (codes "hex") rows ≡ Some digits)
 IsCommand name rows (run path) = (name ≡ codes "run") × (first_of (codes "policy") rows ≡ Some path)
+IsCommand name rows (ask path) = (name ≡ codes "ask") × (first_of (codes "policy") rows ≡ Some path)
 IsCommand name rows (mux path) = (name ≡ codes "mux") × (first_of (codes "policy") rows ≡ Some path)
 
 -- ---- the words

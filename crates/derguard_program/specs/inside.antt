@@ -2,5 +2,6 @@
 pub mod Doing
 pub mod Headers
 pub mod Joining
+pub mod NextFrame
 pub mod Texts
 pub mod Values

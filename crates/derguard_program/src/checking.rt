@@ -31,7 +31,8 @@ pub fn check<F: Files>(alloc: Global, path: &str, files: &mut F) -> Result<Answe
     Ok(Answer { out, status: 0 })
 }
 
-/// The same with a listing of the policy, or with what explains a fault.
+/// How many messages and rules the policy at the path has, and a listing of it; or why there is none, with what
+/// explains the fault.
 pub fn check_explained<F: Files>(
     alloc: Global,
     path: &str,

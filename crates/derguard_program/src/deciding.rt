@@ -37,7 +37,8 @@ pub fn decide<F: Files>(alloc: Global, message: &Message, files: &mut F) -> Resu
     Ok(verdict_on(alloc, &policy, &route_of(message), &octets)?)
 }
 
-/// The same, with what explains the verdict or a fault.
+/// The text of the verdict on the message, under the policy at its path, with what explains it; or why it isn't
+/// decided, with what explains the fault.
 pub fn decide_explained<F: Files>(
     alloc: Global,
     message: &Message,
@@ -55,7 +56,7 @@ pub fn decide_explained<F: Files>(
     }
 }
 
-/// The same of the octets of the message.
+/// The explained verdict on octets that were read from digits.
 fn decide_octets<F: Files>(
     alloc: Global,
     message: &Message,
@@ -73,7 +74,7 @@ fn decide_octets<F: Files>(
     }
 }
 
-/// The same over the texts of the policy.
+/// The explained verdict on octets, where the texts of the policy and its modules have been read.
 fn decide_over(
     alloc: Global,
     message: &Message,

@@ -1,7 +1,8 @@
 //! Guards the stream that comes in.
 ghost use Rattle.std.specs.Prelude.{◌≡◌, IfErr};
 ghost use Rattle.derguard_program.specs.Devices.{source_of, device_of};
-ghost use Rattle.derguard_program.specs.Meeting.{GuardsAt, GuardsStream, IsDeviceFault, totals_status};
+ghost use Rattle.derguard_program.specs.Answers.{totals_status};
+ghost use Rattle.derguard_program.specs.Meeting.{GuardsAt, GuardsStream, IsDeviceFault};
 
 use crate::fault::Fault;
 use crate::files::Files;
@@ -54,7 +55,8 @@ fn guard<F: Files, S: Source, O: Sink, E: Sink>(
     Ok(run_texts(alloc, &modules, &texts.policy, input, out, reports)?)
 }
 
-fn status_of(totals: Totals) -> u8
+/// 0 where all frames passed, and else 1.
+pub fn status_of(totals: Totals) -> u8
     ensures { result ≡ totals_status totals }
 {
     if totals.denied == 0 { 0 } else { 1 }

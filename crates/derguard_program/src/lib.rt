@@ -8,6 +8,8 @@
 //! | Is a stream of records read in one way? | `laws.rt` | `specs/Records.antt` |
 //! | What is it to meet a request? | `meeting.rt` (`program`, `meet`) | `specs/Meeting.antt` |
 //! | What is answered to `check` and `decide`? | `checking.rt`, `deciding.rt`, `answer.rt` | `specs/Answers.antt` |
+//! | What is answered to frames that ask what becomes of them? | `asking.rt`, `answering.rt` | `specs/Asking.antt`, `specs/Answered.antt` |
+//! | How is a frame read? | `frames.rt` | `specs/inside/NextFrame.antt` |
 //! | What comes of many links in one stream of records? | `muxing.rt` | `specs/Muxing.antt` (`GuardsLinks`) |
 //! | What does one record do and write? | `links.rt`, `sinks.rt` | `specs/Turns.antt`, `specs/inside/Doing.antt` |
 //! | What is a record, and how is it read? | `records.rt` | `specs/Records.antt`, `specs/inside/Headers.antt` |
@@ -26,12 +28,15 @@
 #![tactic(auto)]
 
 mod answer;
+mod answering;
+mod asking;
 mod checking;
 mod deciding;
 mod explaining;
 mod fault;
 mod files;
 mod first_run;
+mod frames;
 mod guarding;
 mod joining;
 pub mod laws;

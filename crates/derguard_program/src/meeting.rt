@@ -9,6 +9,7 @@ ghost use Rattle.clap.specs.Words.{kind_of};
 ghost use Rattle.clap.specs.declared.error.kind.ErrorKind.TheVariants.{DisplayVersion, OutOfMemory};
 
 use crate::answer::Answer;
+use crate::asking::ask;
 use crate::checking::{check, check_explained};
 use crate::deciding::{decide, decide_explained};
 use crate::explaining::Refusal;
@@ -106,6 +107,7 @@ pub fn meet<F: Files, S: Source, O: Sink, E: Sink>(
             err,
         ),
         Request::Run { policy } => run(alloc, policy, files, input, out, err),
+        Request::Ask { policy } => ask(alloc, policy, files, input, out, err),
         Request::Mux { policy } => mux(alloc, policy, files, input, out, err),
     }
 }

@@ -1,15 +1,24 @@
 //! What goes out of a link, and what is said of it.
-ghost use Rattle.std.specs.Prelude.{◌≡◌, ◌++◌, ◌<◌, ◌≤◌, ◌≢◌, ℕ, List, true, codes, decimal, length, slice_index, OnOk, OnErr};
+ghost use Rattle.std.specs.Prelude.{◌≡◌, ◌++◌, ◌∷◌, ◌+◌, ◌<◌, ◌≤◌, ◌≢◌, ℕ, List, true, codes, decimal, length, slice_index, OnOk, OnErr};
 ghost use Rattle.std.specs.Io.KnownBytes.{Appends};
+ghost use Rattle.std.specs.List.{All};
+ghost use Rattle.guard_frames.specs.Calls.{AsksLines};
 ghost use Rattle.guard_frames.specs.FaultTexts.{fault_text};
 ghost use Rattle.guard_frames.specs.Prefix.{IsProperPrefix};
 ghost use Rattle.derguard_program.specs.Records.{header, record_octets};
 ghost use Rattle.derguard_program.specs.Records.Record.{piece};
-ghost use Rattle.derguard_program.specs.Passing.{InRecords, marked, marked_line, link_mark};
+ghost use Rattle.derguard_program.specs.Passing.{InRecords, IsShort, lines_of, marked, marked_line, link_mark};
 
 use crate::records::LONGEST;
+use arrayvec::ArrayVec;
 use guard_frames::{Failed, LinkFault, Sink, put_all, put_both};
 use itoa::Buffer;
+
+/// The most octets of a line that goes in one call. A pipe and a file opened for appending take so many at once.
+const SHORT: usize = 4096;
+
+/// Room for such a line after the number of its link, with its line feed.
+type MarkedLine = ArrayVec<u8, 4112>;
 
 /// Puts the octets in records of this link, each but the last of the most octets that one may have.
 pub fn put_pieces<O: Sink>(out: &mut O, link: u16, octets: &[u8]) -> Result<(), Failed>
@@ -61,12 +70,14 @@ fn piece_header(link: u16, size: u32) -> [u8; 7]
     [0, above, link, n0, n1, n2, n3]
 }
 
-/// Puts the lines of a text, each after the number of its link. A last line that was cut short is ended.
+/// Puts the lines of a text, each after the number of its link: in one call, where it has 4,096 octets at most. A last
+/// line that was cut short is ended.
 pub fn put_lines<E: Sink>(err: &mut E, link: u16, text: &[u8]) -> Result<(), Failed>
     ensures all { OnOk result (Appends (E.taken err.old) (E.taken err.new) (marked link text.now)) }
     ensures part { OnErr result ((part : List ℕ) × IsProperPrefix part (marked link text.now)
         × Appends (E.taken err.old) (E.taken err.new) part) }
     ensures failed { OnErr result (E.has_failed err.new ≡ true) }
+    ensures lines { All IsShort (lines_of text.now) → AsksLines (E.asked err.old) (E.asked err.new) }
 {
     let mut rest = text;
     while !rest.is_empty() {
@@ -81,7 +92,7 @@ pub fn put_lines<E: Sink>(err: &mut E, link: u16, text: &[u8]) -> Result<(), Fai
 fn first_line(text: &[u8]) -> (&[u8], &[u8])
     requires { 0 < length text.now }
     ensures shorter { length result.1.now < length text.now }
-    ensures marked { (link : ℕ) → marked link text.now ≡ marked_line link result.0.now ++ marked link result.1.now }
+    ensures lines { lines_of text.now ≡ result.0.now ∷ lines_of result.1.now }
 {
     let end = line_end(text);
     if end < text.len() {
@@ -115,8 +126,52 @@ pub fn put_fault<E: Sink>(err: &mut E, link: u16, fault: LinkFault) -> Result<()
     put_line(err, link, fault.text().as_bytes())
 }
 
-/// Puts a line, after the number of its link.
+/// Puts a line, after the number of its link: in one call, where it has 4,096 octets at most.
 fn put_line<E: Sink>(err: &mut E, link: u16, line: &[u8]) -> Result<(), Failed>
+    ensures all { OnOk result (Appends (E.taken err.old) (E.taken err.new) (marked_line link line.now)) }
+    ensures part { OnErr result ((part : List ℕ) × IsProperPrefix part (marked_line link line.now)
+        × Appends (E.taken err.old) (E.taken err.new) part) }
+    ensures failed { OnErr result (E.has_failed err.new ≡ true) }
+    ensures lines { IsShort line.now → AsksLines (E.asked err.old) (E.asked err.new) }
+{
+    if line.len() > SHORT {
+        return put_long_line(err, link, line);
+    }
+    put_short_line(err, link, line)
+}
+
+/// Puts a line of at most 4,096 octets, after the number of its link, in one call.
+fn put_short_line<E: Sink>(err: &mut E, link: u16, line: &[u8]) -> Result<(), Failed>
+    requires { length line.now ≤ 4096 }
+    ensures all { OnOk result (Appends (E.taken err.old) (E.taken err.new) (marked_line link line.now)) }
+    ensures part { OnErr result ((part : List ℕ) × IsProperPrefix part (marked_line link line.now)
+        × Appends (E.taken err.old) (E.taken err.new) part) }
+    ensures failed { OnErr result (E.has_failed err.new ≡ true) }
+    ensures lines { AsksLines (E.asked err.old) (E.asked err.new) }
+{
+    let mut buffer = Buffer::new();
+    let mut whole = MarkedLine::new();
+    add(&mut whole, b"link ");
+    add(&mut whole, buffer.format(link).as_bytes());
+    add(&mut whole, b" ");
+    add(&mut whole, line);
+    add(&mut whole, b"\n");
+    put_all(err, whole.as_slice())
+}
+
+/// Appends the octets, for which there is room.
+fn add(line: &mut MarkedLine, octets: &[u8])
+    requires { length line.old.items + length octets.now ≤ 4112 }
+    ensures { line.new.items ≡ line.old.items ++ octets.now }
+{
+    match line.try_extend_from_slice(octets) {
+        Ok(()) => {}
+        Err(_) => unreachable!(),
+    }
+}
+
+/// Puts a line, after the number of its link, in parts.
+fn put_long_line<E: Sink>(err: &mut E, link: u16, line: &[u8]) -> Result<(), Failed>
     ensures all { OnOk result (Appends (E.taken err.old) (E.taken err.new) (marked_line link line.now)) }
     ensures part { OnErr result ((part : List ℕ) × IsProperPrefix part (marked_line link line.now)
         × Appends (E.taken err.old) (E.taken err.new) part) }

@@ -97,7 +97,7 @@ pub fn next_record<S: Source>(
 }
 
 /// Fills so many octets at the front of the room, or as many of them as the source has, and answers how many.
-fn fill_front<S: Source>(
+pub fn fill_front<S: Source>(
     source: &mut S,
     room: &mut [u8],
     size: usize,

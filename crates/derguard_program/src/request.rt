@@ -22,8 +22,12 @@ pub enum Request<'a> {
     Run {
         policy: &'a str,
     },
-    /// The same of the frames of many links, whose records come in.
+    /// What may pass of the frames of many links, whose records come in.
     Mux {
+        policy: &'a str,
+    },
+    /// What becomes of each frame that comes in.
+    Ask {
         policy: &'a str,
     },
 }

@@ -2,7 +2,7 @@
 ghost use Rattle.std.specs.Prelude.{◌≡◌, ℕ, List, Some, codes, false, map, string_bytes, IfOk, IfErr};
 ghost use Rattle.clap.specs.Words.{HasKind, Row, Text, app_of, fault_of, first_of, found_of, rows_of, rule_of, shape_of, subcommand_rows_of};
 ghost use Rattle.derguard_program.specs.Requests.{AbstractRequest, request_view};
-ghost use Rattle.derguard_program.specs.Words.{AreFound, IsCommand, check_shape, decide_shape, flag_of, flag_rule, mux_shape, option_rule, place_rule, required_rule, run_shape, show_shape, the_app};
+ghost use Rattle.derguard_program.specs.Words.{AreFound, IsCommand, ask_shape, check_shape, decide_shape, flag_of, flag_rule, mux_shape, option_rule, place_rule, required_rule, run_shape, show_shape, the_app};
 
 use crate::request::{Message, Request};
 use clap::{Arg, ArgAction, ArgMatches, Command, Error};
@@ -26,6 +26,8 @@ const SHOW_EXAMPLE: &str =
     "Example:\n  derguard show examples/orders.toml --message order 300B800105810101A403020107";
 
 const RUN_EXAMPLE: &str = "Example:\n  derguard run examples/orders.toml < examples/orders.frames";
+
+const ASK_EXAMPLE: &str = "Example:\n  derguard ask examples/orders.toml < examples/orders.frames";
 
 const MUX_EXAMPLE: &str =
     "Example:\n  derguard mux examples/payments/payments.toml < examples/payments/payments.mux";
@@ -58,6 +60,9 @@ fn request_of<'a>(matches: &ArgMatches<'a>) -> Request<'a>
             hex: text(found, "hex"),
         },
         Some(("run", found)) => Request::Run {
+            policy: text(found, "policy"),
+        },
+        Some(("ask", found)) => Request::Ask {
             policy: text(found, "policy"),
         },
         Some(("mux", found)) => Request::Mux {
@@ -103,6 +108,7 @@ fn command<'a>(alloc: Global) -> Result<Command<'a>, AllocError>
         .subcommand(decide(alloc)?)?
         .subcommand(show(alloc)?)?
         .subcommand(run(alloc)?)?
+        .subcommand(ask(alloc)?)?
         .subcommand(mux(alloc)?)
 }
 
@@ -165,6 +171,17 @@ fn run<'a>(alloc: Global) -> Result<Command<'a>, AllocError>
             "Guards a stream: frames from standard input, those that pass to standard output, a line for each other one to standard error.",
         )
         .after_help(RUN_EXAMPLE)
+        .arg(policy(alloc))
+}
+
+fn ask<'a>(alloc: Global) -> Result<Command<'a>, AllocError>
+    ensures { IfOk result (λ c. shape_of c ≡ ask_shape) }
+{
+    Command::new(alloc, "ask")
+        .about(
+            "Says of each frame what becomes of it: frames from standard input, a line for each to standard output before the next is read.",
+        )
+        .after_help(ASK_EXAMPLE)
         .arg(policy(alloc))
 }
 

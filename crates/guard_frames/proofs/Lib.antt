@@ -2,13 +2,16 @@
 pub mod Elements
 -- ---- devices
 pub mod Appending
+pub mod Asking
 pub mod Reading
 -- ---- streams and bodies
 pub mod Readings
 pub mod Splitting
 pub mod HeaderLaws
+pub mod NameSizes
 pub mod BodyDecisions
 pub mod Reporting
+pub mod LineOfFrame
 -- ---- frames that are decided one after another
 pub mod Going
 pub mod Counting
@@ -19,6 +22,7 @@ pub mod Holding
 -- ---- many links
 pub mod Own
 -- ---- laws
+pub mod AnsweredAlike
 pub mod GoesExactly
 -- ---- texts
 pub mod OnePolicy

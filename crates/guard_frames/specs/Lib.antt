@@ -6,7 +6,9 @@ pub mod Outcomes
 pub mod Totals
 pub mod Prefix
 pub mod Added
+pub mod Calls
 pub mod Guarding
+pub mod Answering
 -- ---- what the calls do
 pub mod ThroughView
 pub mod KeptView

@@ -21,8 +21,8 @@ is_fault (Ok done) = false
 is_fault (Err NoSuchLink) = false
 is_fault (Err (Link fault)) = true
 
--- The pieces of link k, where p is in force at first: up to the link's first end, or up to and with the piece that was
--- answered with a fault of the link.
+-- The pieces of link k, where p is in force at first, until the link ends for the first time. A piece that was answered
+-- with a fault of the link ends it too, and is the last of them.
 abbrev pub pieces_of : ℕ → AbstractPolicy → List Turn → List OwnPiece
 pieces_of k p [] = []
 pieces_of k p (t ∷ turns) = elim t.event [

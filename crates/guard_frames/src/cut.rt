@@ -62,7 +62,7 @@ pub fn first_cut(octets: &[u8]) -> Cut
 }
 
 /// These octets as a frame.
-fn frame_of(octets: &[u8]) -> Frame
+pub(crate) fn frame_of(octets: &[u8]) -> Frame
     requires { 4 ≤ length octets.now }
     ensures whole { result.octets.now ≡ octets.now }
     ensures body { result.body.now ≡ drop 4 octets.now }

@@ -2,6 +2,7 @@
 
 ghost use Rattle.std.specs.Prelude.{◌≡◌, ◌↔◌, IsTrue, IfOk};
 ghost use Rattle.guard_frames.specs.Bodies.{body_view, HasNames};
+ghost use Rattle.guard_frames.specs.Calls.{EndsLine};
 ghost use Rattle.guard_frames.specs.Outcomes.{Decision, BodyGoes};
 
 use crate::body::Body;
@@ -23,5 +24,6 @@ pub trait Decide {
     fn line(&self, alloc: Global, number: u64, body: &Body) -> Result<Vec<u8>, OutOfMemory>
         requires names { HasNames (body_view body.now) }
         requires stays { (decides self.now).Goes (body_view body.now) → ⊥ }
-        ensures { IfOk result (λ line. (decides self.now).Reports number (body_view body.now) line.items) };
+        ensures reports { IfOk result (λ line. (decides self.now).Reports number (body_view body.now) line.items) }
+        ensures ends { IfOk result (λ line. EndsLine line.items) };
 }

@@ -1,7 +1,8 @@
 //! What a link reads from and writes to.
 
-ghost use Rattle.std.specs.Prelude.{◌≡◌, ◌<◌, ◌≤◌, ◌++◌, ℕ, List, Bool, true, Option, length, take, IfOk, OnOk, OnErr, IsErr};
+ghost use Rattle.std.specs.Prelude.{◌≡◌, ◌<◌, ◌≤◌, ◌++◌, ℕ, List, Bool, true, Option, None, length, take, IfOk, OnOk, OnErr, IsErr};
 ghost use Rattle.std.specs.Io.KnownBytes.{Appends, Consumes, IsAtEnd};
+ghost use Rattle.guard_frames.specs.Calls.{Calls, Asks, EndsLine, AsksLines};
 ghost use Rattle.guard_frames.specs.Prefix.{IsProperPrefix};
 ghost use Rattle.guard_frames.specs.Totals.{WentUpBy};
 
@@ -17,6 +18,9 @@ pub trait Sink {
     /// the octets taken so far, where the sink tells them
     ghost taken: { Self → Option (List ℕ) };
 
+    /// what it was asked to take in each call so far, where the sink tells that
+    ghost asked: { Self → Calls } = { λ _. None };
+
     /// whether it has failed
     ghost has_failed: { Self → Bool };
 
@@ -27,7 +31,8 @@ pub trait Sink {
         ensures taken { IfOk result (λ n. Appends (taken self.old) (taken self.new) (take n octets.now)) }
         ensures none { OnErr result (Appends (taken self.old) (taken self.new) (take 0 octets.now)) }
         ensures failed { OnErr result (has_failed self.new ≡ true) }
-        ensures stays { has_failed self.old ≡ true → IsErr result };
+        ensures stays { has_failed self.old ≡ true → IsErr result }
+        ensures asked { Asks (asked self.old) octets.now (asked self.new) };
 
     /// Whether it has failed.
     fn failed(&self) -> bool
@@ -61,13 +66,14 @@ pub trait Source {
         ensures { result ≡ has_failed self.now };
 }
 
-/// Puts all of the octets, in as many calls as it takes.
+/// Puts all of the octets: in one call, and where the sink took only a part of them, in one for all that is left.
 #[tactic(auto, using(crate::proofs::Appending::Prefix_of))]
 pub fn put_all<S: Sink>(sink: &mut S, octets: &[u8]) -> Result<(), Failed>
     ensures all { OnOk result (Appends (S.taken sink.old) (S.taken sink.new) octets.now) }
     ensures part { OnErr result ((part : List ℕ) × IsProperPrefix part octets.now
         × Appends (S.taken sink.old) (S.taken sink.new) part) }
     ensures failed { OnErr result (S.has_failed sink.new ≡ true) }
+    ensures lines { EndsLine octets.now → AsksLines (S.asked sink.old) (S.asked sink.new) }
 {
     let mut sent = 0;
     while sent < octets.len() {

@@ -3,6 +3,7 @@
 ghost use Rattle.std.specs.Prelude.{◌≡◌, ◌≤◌, ◌++◌, ◌⊎◌, true, [], vec_capacity, IsErrOf};
 ghost use Rattle.guard_frames.specs.Frames.{IsUnfinished};
 ghost use Rattle.guard_frames.specs.Added.{Added, BothAppend};
+ghost use Rattle.guard_frames.specs.Calls.{AsksLines};
 ghost use Rattle.guard_frames.specs.inside.Closing.{Puts};
 ghost use Rattle.guard_frames.specs.declared.link.Closing.TheVariants.{WriteFailed};
 
@@ -19,6 +20,7 @@ impl Link {
     ghost use Rattle.std.specs.Prelude.{◌≡◌, ◌⊎◌, true, false, ◌++◌, Err, IsErrOf, OnOk, OnErr};
     ghost use Rattle.guard_frames.specs.LinkView.{link_view, IsShut};
     ghost use Rattle.guard_frames.specs.Added.{Added, BothAppend};
+    ghost use Rattle.guard_frames.specs.Calls.{AsksLines};
     ghost use Rattle.guard_frames.specs.Feeding.{Takes};
     ghost use Rattle.guard_frames.specs.inside.Closing.{Puts};
     ghost use Rattle.guard_frames.specs.declared.link.LinkFault.TheVariants.{Closed, WriteFailed};
@@ -42,6 +44,7 @@ impl Link {
             × (out.new ≡ out.old) × (reports.new ≡ reports.old) }
         ensures failed { IsErrOf result WriteFailed →
             (O.has_failed out.new ≡ true) ⊎ (R.has_failed reports.new ≡ true) }
+        ensures lines { AsksLines (R.asked reports.old) (R.asked reports.new) }
     {
         if self.closed {
             return Err(LinkFault::Closed);
@@ -67,6 +70,7 @@ impl Link {
         ensures closes { OnErr result (IsShut (link_view self.new)) }
         ensures failed { IsErrOf result closing.WriteFailed →
             (O.has_failed out.new ≡ true) ⊎ (R.has_failed reports.new ≡ true) }
+        ensures lines { AsksLines (R.asked reports.old) (R.asked reports.new) }
     {
         let (held, totals) = (&mut self.held, &mut self.totals);
         match put_piece(held, totals, alloc, policy, piece, out, reports) {
@@ -96,6 +100,7 @@ fn put_piece<D: Decide, O: Sink, R: Sink>(
         × Puts (D.decides policy.now) totals.old (held.old.items ++ piece.now) held.new.items totals.new result added
         × BothAppend (O.taken out.old, O.taken out.new) (R.taken reports.old, R.taken reports.new) added }
     ensures failed { IsErrOf result WriteFailed → (O.has_failed out.new ≡ true) ⊎ (R.has_failed reports.new ≡ true) }
+    ensures lines { AsksLines (R.asked reports.old) (R.asked reports.new) }
 {
     if held.is_empty() {
         return put_rest(held, totals, alloc, policy, piece, out, reports);
@@ -115,7 +120,7 @@ fn put_piece<D: Decide, O: Sink, R: Sink>(
     put_rest(held, totals, alloc, policy, &piece[used..], out, reports)
 }
 
-/// The same where nothing is held.
+/// Puts the frames that end in the piece where nothing is held, and holds what is left of it.
 fn put_rest<D: Decide, O: Sink, R: Sink>(
     held: &mut Vec<u8>,
     totals: &mut Totals,
@@ -132,6 +137,7 @@ fn put_rest<D: Decide, O: Sink, R: Sink>(
         × Puts (D.decides policy.now) totals.old piece.now held.new.items totals.new result added
         × BothAppend (O.taken out.old, O.taken out.new) (R.taken reports.old, R.taken reports.new) added }
     ensures failed { IsErrOf result WriteFailed → (O.has_failed out.new ≡ true) ⊎ (R.has_failed reports.new ≡ true) }
+    ensures lines { AsksLines (R.asked reports.old) (R.asked reports.new) }
 {
     let Ok(whole) = put_frames(alloc, policy, piece, *totals, out, reports) else {
         return Err(Closing::WriteFailed);

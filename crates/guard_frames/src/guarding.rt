@@ -4,6 +4,7 @@ ghost use Rattle.std.specs.Prelude.{◌≡◌, ◌⊎◌, true, IsErrOf};
 ghost use Rattle.guard_policy.specs.PolicyView.{policy_view};
 ghost use Rattle.std.specs.Io.KnownBytes.{IsAtEnd};
 ghost use Rattle.guard_frames.specs.Added.{Moves};
+ghost use Rattle.guard_frames.specs.Calls.{AsksLines};
 ghost use Rattle.guard_frames.specs.OfPolicy.{decision_of};
 ghost use Rattle.guard_frames.specs.Runs.{Runs, ReadToLimit};
 ghost use Rattle.guard_frames.specs.declared.running.RunFault.TheVariants.{WriteFailed, ReadFailed, OutOfMemory as NoMemory};
@@ -35,6 +36,8 @@ pub fn run<S: Source, O: Sink, R: Sink>(
     // and want of memory before anything is done.
     ensures untouched { IsErrOf result NoMemory →
         (source.new ≡ source.old) × (out.new ≡ out.old) × (reports.new ≡ reports.old) }
+    // Each report line goes in one call.
+    ensures lines { AsksLines (R.asked reports.old) (R.asked reports.new) }
 {
     decide_stream(alloc, source, out, reports, policy)
 }

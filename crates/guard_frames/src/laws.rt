@@ -1,10 +1,15 @@
 //! Laws of the definitions. The functions do nothing when they run.
 
 ghost use Rattle.std.specs.Prelude.{◌≡◌, ◌⊎◌, ℕ, List, ◌++◌, ◌↔◌, Some, true, false, slice_get};
+ghost use Rattle.guard_policy.specs.Policies.{AbstractPolicy};
+ghost use Rattle.guard_policy.specs.Verdicts.{pass};
+ghost use Rattle.guard_report.specs.Lines.{line_octets};
+ghost use Rattle.guard_frames.specs.Answering.{pass_line, AllAnswer};
 ghost use Rattle.guard_frames.specs.Bodies.{AbstractBody, IsBody, body_in};
 ghost use Rattle.guard_frames.specs.Frames.{ConsistsOf};
-ghost use Rattle.guard_frames.specs.Outcomes.{Goes, Outcome};
-ghost use Rattle.guard_frames.specs.Guarding.{Adds};
+ghost use Rattle.guard_frames.specs.OfPolicy.{route_of};
+ghost use Rattle.guard_frames.specs.Outcomes.{Goes, Outcome, frames_of};
+ghost use Rattle.guard_frames.specs.Guarding.{Adds, AllAdd};
 ghost use Rattle.guard_frames.specs.LinkView.{new_link};
 ghost use Rattle.guard_frames.specs.Gateways.{AbstractGateway};
 ghost use Rattle.guard_frames.specs.GatewaySteps.{Turn, AreSteps};
@@ -34,6 +39,18 @@ pub fn law_goes_exactly<D: Decide>(policy: &D)
         (o.goes ≡ true) ↔ Goes (D.decides policy.now) o.frame }
 {}
 
+/// Where each frame of a stream is answered, those are answered to go that go out of a run under the same decision.
+pub fn law_answers<D: Decide>(policy: &D)
+    ensures { (n m : ℕ) (outcomes answered : List Outcome) (text answers : List ℕ) →
+        AllAdd (λ _. D.decides policy.now) n outcomes text → AllAnswer (D.decides policy.now) m answered answers →
+        frames_of outcomes ≡ frames_of answered → outcomes ≡ answered }
+{}
+
+/// The line of a frame that is answered to go is that of its reason, which is to pass.
+pub fn law_pass_line()
+    ensures { (p : AbstractPolicy) (n : ℕ) (b : AbstractBody) → pass_line n b ≡ line_octets p (route_of b) n pass }
+{}
+
 /// A body that is read is there, and one that is there is read: three names, each after its length, and the message.
 pub fn law_one_header()
     ensures read { (octets : List ℕ) (body : AbstractBody) → body_in octets ≡ Some body → IsBody octets body }
@@ -41,8 +58,9 @@ pub fn law_one_header()
 {}
 
 /// Whatever else happens in a gateway, what its steps add to the sinks of a new link is what that link's own stream
-/// gives, which is its pieces up to its first end or up to and with the one that was answered with a fault: each frame
-/// decided, numbered and reported by the policy in force as its last octet came, up to a failure of a sink of the link.
+/// gives: each frame decided, numbered and reported by the policy in force as its last octet came, up to a failure of a
+/// sink of the link. Its own stream is its pieces until it ends for the first time, as it does with a piece that was
+/// answered with a fault.
 pub fn law_own_stream()
     ensures { (k : ℕ) (turns : List Turn) (before after : AbstractGateway) →
         slice_get before.links k ≡ Some new_link → AreSteps before turns after →

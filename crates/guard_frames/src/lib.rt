@@ -11,7 +11,9 @@
 //! | What goes out of octets in memory? | `putting.rt` (`put_frames`) | `specs/Guarding.antt` (`text_out`) |
 //! | What is reported of them? | `putting.rt` | `specs/Guarding.antt` (`AllAdd`), `specs/inside/Putting.antt` |
 //! | How many frames were there? | `totals.rt` (`Totals`) | `specs/Totals.antt`, `specs/Guarding.antt` (`Counts`) |
+//! | What is answered of a frame that asks what becomes of it? | `answering.rt` (`answer`) | `specs/Answering.antt` |
 //! | What is read from and written to? | `devices.rt` (`Sink`, `Source`) | the clauses of the traits |
+//! | Which lines go in one call? | `devices.rt` (`put_all`), `report.rt`, `short_line.rt` | `specs/Calls.antt` |
 //! | What does a failure leave? | `devices.rt` | `specs/Prefix.antt`, `specs/Guarding.antt` (`BreaksOff`) |
 //! | How is a file or pipe a source or a sink? | `through.rt` (`Through`) | `specs/ThroughView.antt` |
 //! | How is a list in memory a sink? | `kept.rt` (`Kept`) | `specs/KeptView.antt` |
@@ -33,6 +35,7 @@
 //! | Which frames go out? | `laws.rt` | `specs/Guarding.antt` |
 #![tactic(auto)]
 
+mod answering;
 mod body;
 mod cut;
 mod decision;
@@ -50,15 +53,19 @@ mod putting;
 mod report;
 mod running;
 mod seats;
+mod short_line;
 mod texts;
 mod through;
 mod totals;
 
+pub use answering::answer;
 pub use body::Body;
+pub use cut::body_length;
 pub use decision::Decide;
 pub use devices::{Failed, Sink, Source, put_all, put_both};
 pub use gateway::{Event, Gateway, NoRoom, StepFault};
 pub use guarding::run;
+pub use header::read_body;
 pub use kept::Kept;
 pub use link::{Link, LinkFault};
 pub use running::{RunFault, decide_stream};

@@ -73,6 +73,7 @@ pub struct Link {
 
 impl Link {
     ghost use Rattle.std.specs.Prelude.{◌≡◌, ◌<◌, [], true, false, length, IfOk, IfErr, OnOk, Ok, Err};
+    ghost use Rattle.guard_frames.specs.Frames.{IsUnfinished};
     ghost use Rattle.guard_frames.specs.LinkView.{link_view, new_link, IsShut};
     ghost use Rattle.guard_frames.specs.declared.link.LinkFault.TheVariants.{Closed, TornFrame};
     ghost use Rattle.guard_frames.specs.declared.link.Closing.TheVariants as closing;
@@ -87,6 +88,15 @@ impl Link {
             totals: Totals::none(),
             closed: false,
         })
+    }
+
+    /// How many octets it holds of a frame that has begun and isn't whole yet: 0 between two frames and once it is
+    /// closed, 1,048,579 at most.
+    pub fn pending(&self) -> usize
+        ensures held { result ≡ length (link_view self.now).held }
+        ensures unfinished { IsUnfinished (link_view self.now).held }
+    {
+        self.held.len()
     }
 
     /// The end of its stream. Whatever it answers, the link is closed then, and holds nothing.

@@ -3,6 +3,7 @@
 ghost use Rattle.std.specs.Prelude.{◌≡◌, ◌⊎◌, true, IfOk, OnErr};
 ghost use Rattle.guard_frames.specs.Totals.{next_number};
 ghost use Rattle.guard_frames.specs.Added.{Added, BothAppend};
+ghost use Rattle.guard_frames.specs.Calls.{AsksLines};
 ghost use Rattle.guard_frames.specs.Guarding.{BreaksOff};
 ghost use Rattle.guard_frames.specs.inside.Putting.{ArePut};
 
@@ -41,6 +42,7 @@ pub fn put_frames<D: Decide, O: Sink, R: Sink>(
         × BreaksOff (λ _. D.decides policy.now) (next_number totals) octets.now added
         × BothAppend (O.taken out.old, O.taken out.new) (R.taken reports.old, R.taken reports.new) added) }
     ensures failed { OnErr result ((O.has_failed out.new ≡ true) ⊎ (R.has_failed reports.new ≡ true)) }
+    ensures lines { AsksLines (R.asked reports.old) (R.asked reports.new) }
 {
     let mut totals = totals;
     let mut sent = 0;

@@ -1,16 +1,18 @@
 //! What becomes of a frame, and the line that is reported of one that stays.
 
-ghost use Rattle.std.specs.Prelude.{◌≡◌, ◌++◌, true, List, ℕ, drop, OnOk, OnErr, decimal};
+ghost use Rattle.std.specs.Prelude.{◌≡◌, ◌++◌, ◌≤◌, true, List, ℕ, drop, length, OnOk, OnErr, decimal};
 ghost use Rattle.std.specs.Io.KnownBytes.{Appends};
+ghost use Rattle.guard_frames.specs.Calls.{EndsLine, AsksLines};
 ghost use Rattle.guard_frames.specs.Prefix.{IsProperPrefix};
-ghost use Rattle.guard_frames.specs.inside.Judged.{IsJudged, IsReportOf, report_line};
+ghost use Rattle.guard_frames.specs.inside.Judged.{IsJudged, IsReportOf, ReportEnds, RulingEnds, report_line};
 ghost use Rattle.guard_frames.specs.Bodies.{body_view, HasNames};
 
 use crate::body::Body;
 use crate::cut::Frame;
 use crate::decision::Decide;
-use crate::devices::{Failed, Sink, put_all, put_both};
+use crate::devices::{Failed, Sink, put_all};
 use crate::header::read_body;
+use crate::short_line::{ShortLine, add};
 use itoa::Buffer;
 use std::alloc::Global;
 
@@ -37,7 +39,8 @@ pub(crate) enum Report {
 /// What becomes of the frame of this number. No memory is taken for one that goes.
 pub(crate) fn judge<D: Decide>(alloc: Global, policy: &D, number: u64, frame: &Frame) -> Ruling
     requires { frame.now.body.now ≡ drop 4 frame.now.octets.now }
-    ensures { IsJudged (D.decides policy.now) number frame.now.octets.now result }
+    ensures judged { IsJudged (D.decides policy.now) number frame.now.octets.now result }
+    ensures ends { RulingEnds result }
 {
     if policy.goes(frame.body) {
         return Ruling::Goes;
@@ -52,7 +55,8 @@ pub(crate) fn judge<D: Decide>(alloc: Global, policy: &D, number: u64, frame: &F
 fn report_of<D: Decide>(alloc: Global, policy: &D, number: u64, body: &Body) -> Report
     requires names { HasNames (body_view body.now) }
     requires stays { (D.decides policy.now).Goes (body_view body.now) → ⊥ }
-    ensures { IsReportOf (D.decides policy.now) number (body_view body.now) result }
+    ensures reports { IsReportOf (D.decides policy.now) number (body_view body.now) result }
+    ensures ends { ReportEnds result }
 {
     match policy.line(alloc, number, body) {
         Ok(line) => Report::Line(line),
@@ -60,12 +64,14 @@ fn report_of<D: Decide>(alloc: Global, policy: &D, number: u64, body: &Body) -> 
     }
 }
 
-/// Puts the line that says why the frame of this number stays.
+/// Puts the line that says why the frame of this number stays, in one call.
 pub(crate) fn put_report<S: Sink>(sink: &mut S, number: u64, report: &Report) -> Result<(), Failed>
+    requires { ReportEnds report.now }
     ensures all { OnOk result (Appends (S.taken sink.old) (S.taken sink.new) (report_line number report.now)) }
     ensures part { OnErr result ((part : List ℕ) × IsProperPrefix part (report_line number report.now)
         × Appends (S.taken sink.old) (S.taken sink.new) part) }
     ensures failed { OnErr result (S.has_failed sink.new ≡ true) }
+    ensures lines { AsksLines (S.asked sink.old) (S.asked sink.new) }
 {
     match report {
         Report::BadHeader => put_numbered(sink, number, b" bad-header\n"),
@@ -74,13 +80,19 @@ pub(crate) fn put_report<S: Sink>(sink: &mut S, number: u64, report: &Report) ->
     }
 }
 
-/// Puts the number in decimal, and then the octets. It takes no memory.
+/// Puts the number in decimal and then the octets, which end a line, in one call. It takes no memory.
 fn put_numbered<S: Sink>(sink: &mut S, number: u64, octets: &[u8]) -> Result<(), Failed>
+    requires short { length octets.now ≤ 20 }
+    requires ends { EndsLine octets.now }
     ensures all { OnOk result (Appends (S.taken sink.old) (S.taken sink.new) (decimal number ++ octets.now)) }
     ensures part { OnErr result ((part : List ℕ) × IsProperPrefix part (decimal number ++ octets.now)
         × Appends (S.taken sink.old) (S.taken sink.new) part) }
     ensures failed { OnErr result (S.has_failed sink.new ≡ true) }
+    ensures lines { AsksLines (S.asked sink.old) (S.asked sink.new) }
 {
     let mut buffer = Buffer::new();
-    put_both(sink, buffer.format(number).as_bytes(), octets)
+    let mut line = ShortLine::new();
+    add(&mut line, buffer.format(number).as_bytes());
+    add(&mut line, octets);
+    put_all(sink, line.as_slice())
 }

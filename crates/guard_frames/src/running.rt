@@ -3,6 +3,7 @@
 ghost use Rattle.std.specs.Prelude.{◌≡◌, ◌<◌, ◌≤◌, ◌⊎◌, true, [], length, take, IfOk, OnErr, IsErrOf};
 ghost use Rattle.std.specs.Io.KnownBytes.{Consumes, IsAtEnd};
 ghost use Rattle.guard_frames.specs.Added.{Moves};
+ghost use Rattle.guard_frames.specs.Calls.{AsksLines};
 ghost use Rattle.guard_frames.specs.Totals.{WentUpBy};
 ghost use Rattle.guard_frames.specs.Runs.{Runs, ReadToLimit};
 ghost use Rattle.guard_frames.specs.inside.Closing.{run_fault};
@@ -88,6 +89,7 @@ pub fn decide_stream<S: Source, D: Decide, O: Sink, R: Sink>(
         ⊎ ReadToLimit (S.takes source.old) (S.takes source.new) (S.tells source.old) (S.tells source.new) }
     ensures untouched { IsErrOf result NoMemory →
         (source.new ≡ source.old) × (out.new ≡ out.old) × (reports.new ≡ reports.old) }
+    ensures lines { AsksLines (R.asked reports.old) (R.asked reports.new) }
 {
     let Ok(mut link) = Link::new(alloc) else {
         return Err(RunFault::OutOfMemory);

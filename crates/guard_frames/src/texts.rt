@@ -6,6 +6,7 @@ ghost use Rattle.guard_policy.specs.Policies.{AbstractPolicy};
 ghost use Rattle.guard_policy.specs.PolicyView.{policy_view};
 ghost use Rattle.std.specs.Io.KnownBytes.{IsAtEnd};
 ghost use Rattle.guard_frames.specs.Added.{Moves};
+ghost use Rattle.guard_frames.specs.Calls.{AsksLines};
 ghost use Rattle.guard_frames.specs.Runs.{ReadToLimit};
 ghost use Rattle.guard_frames.specs.Texts.{SayPolicy, SayNone, named, of_schema, of_policy, of_run};
 ghost use Rattle.guard_frames.specs.RunsTexts.{RunsTexts, IsNoRun};
@@ -110,6 +111,8 @@ pub fn run_texts<S: Source, O: Sink, R: Sink>(
     // and where they say none, or there is no memory to begin, nothing is done.
     ensures untouched { IfErr result (λ f. IsNoRun f →
         (source.new ≡ source.old) × (out.new ≡ out.old) × (reports.new ≡ reports.old)) }
+    // Each report line goes in one call.
+    ensures lines { AsksLines (R.asked reports.old) (R.asked reports.new) }
 {
     let policy = load_texts(alloc, modules, text)?;
     Ok(run(alloc, source, out, reports, &policy)?)

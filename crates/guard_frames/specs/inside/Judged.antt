@@ -3,6 +3,7 @@ use Rattle.std.specs.Prelude.{ℕ, List, ◌++◌, codes, decimal}
 use Rattle.guard_frames.specs.Bodies.{AbstractBody}
 use Rattle.guard_frames.specs.Outcomes.{Decision, Goes, staying}
 use Rattle.guard_frames.specs.Guarding.{Adds}
+use Rattle.guard_frames.specs.Calls.{EndsLine}
 use Rattle.guard_frames.specs.declared.report.Ruling.{Ruling}
 use Rattle.guard_frames.specs.declared.report.Ruling.TheVariants as ruling
 use Rattle.guard_frames.specs.declared.report.Report.{Report}
@@ -19,6 +20,16 @@ abbrev pub IsReportOf : Decision → ℕ → AbstractBody → Report → Type 0
 IsReportOf d n b (Line line) = d.Reports n b line.items
 IsReportOf d n b NoMemory = Unit {0}
 IsReportOf d n b BadHeader = ⊥
+
+-- its line ends with a line feed
+abbrev pub ReportEnds : Report → Type 0
+ReportEnds (Line line) = EndsLine line.items
+ReportEnds NoMemory = Unit {0}
+ReportEnds BadHeader = Unit {0}
+
+abbrev pub RulingEnds : Ruling → Type 0
+RulingEnds ruling.Goes = Unit {0}
+RulingEnds (ruling.Stays report) = ReportEnds report
 
 -- the frame of this number goes, or stays and adds this report
 abbrev pub IsJudged : Decision → ℕ → List ℕ → Ruling → Type 0

@@ -20,4 +20,5 @@ returns c =
     let second = with_command _ _ _ _ _ c.in_ok-subcommand-2.ensures refl first c.in_ok-decide.ensures in
     let third = with_command _ _ _ _ _ c.in_ok-subcommand-3.ensures refl second c.in_ok-show.ensures in
     let fourth = with_command _ _ _ _ _ c.in_ok-subcommand-4.ensures refl third c.in_ok-run.ensures in
-    IfOk-weaker c.subcommand-5.result _ _ (λ r added. with_command _ _ r _ _ added refl fourth c.in_ok-mux.ensures) c.subcommand-5.ensures
+    let fifth = with_command _ _ _ _ _ c.in_ok-subcommand-5.ensures refl fourth c.in_ok-ask.ensures in
+    IfOk-weaker c.subcommand-6.result _ _ (λ r added. with_command _ _ r _ _ added refl fifth c.in_ok-mux.ensures) c.subcommand-6.ensures

@@ -1,11 +1,13 @@
 use Rattle.std.proofs.Common.{length, ◌-◌, ◌≤◌, take}
 use Rattle.std.specs.Io.KnownBytes.{Appends}
+use Rattle.guard_frames.specs.Calls.{EndsLine, AsksLines}
 use Rattle.guard_frames.proofs.devices.put_all.Given as goal
 
 abbrev pub invariant-loop-sent : goal.invariant-loop-sent
 invariant-loop-sent g l = record {
   within : l.sent ≤ length l.octets;
   taken : Appends (g.S.Sink.taken l.initial.sink) (g.S.Sink.taken l.sink) (take l.sent l.octets);
+  lines : EndsLine l.octets → AsksLines (g.S.Sink.asked l.initial.sink) (g.S.Sink.asked l.sink);
 }
 
 abbrev pub decreases-loop-sent : goal.decreases-loop-sent

@@ -4,6 +4,7 @@ use Rattle.std.proofs.lemmas.List.{take_rest}
 use Rattle.guard_frames.specs.Totals.{next_number}
 use Rattle.guard_frames.specs.inside.Closing.{Puts}
 use Rattle.guard_frames.proofs.Appending.{both_joined}
+use Rattle.guard_frames.proofs.Asking.{asks_trans}
 use Rattle.guard_frames.proofs.Holding.{not_too_long, still_unfinished, too_long_now, breaks_now, puts_left}
 use Rattle.guard_frames.proofs.Reading.{is_empty_list}
 use Rattle.guard_frames.proofs.feeding.put_piece.Goals as goal
@@ -55,3 +56,6 @@ returns-clause-puts g c =
           c.complete-used.ensures.held c.complete-used.ensures.no_more x.1 some y.1,
       both_joined _ _ _ _ _ _ x.0 y.0 x.2 y.2,
     )
+
+pub returns-clause-lines : goal.returns-clause-lines
+returns-clause-lines g c = asks_trans _ _ _ c.in-Ok.ensures.lines c.put_rest-2.ensures.lines

@@ -1,5 +1,6 @@
 use Rattle.std.proofs.Common.{◌-◌, length}
 use Rattle.guard_frames.specs.Added.{Added, BothAppend}
+use Rattle.guard_frames.specs.Calls.{AsksLines}
 use Rattle.guard_frames.proofs.Steps.{SoFar}
 use Rattle.guard_frames.proofs.putting.put_frames.Given as goal
 
@@ -7,6 +8,7 @@ abbrev pub invariant-loop-frame : goal.invariant-loop-frame
 invariant-loop-frame g l = (added : Added) × SoFar (g.D.Decide.decides l.policy) l.fn.totals l.totals l.octets l.sent l.end added
     × BothAppend (g.O.Sink.taken l.initial.out, g.O.Sink.taken l.out)
     (g.R.Sink.taken l.initial.reports, g.R.Sink.taken l.reports) added
+    × AsksLines (g.R.Sink.asked l.initial.reports) (g.R.Sink.asked l.reports)
 
 abbrev pub decreases-loop-frame : goal.decreases-loop-frame
 decreases-loop-frame g l = length l.octets - l.end

@@ -2,8 +2,8 @@ use Rattle.guard_frames.specs.Bodies.{body_view}
 use Rattle.guard_frames.proofs.Reporting.{names_are, goes_as_body, stays_there, stays_by_body, bad_by_body}
 use Rattle.guard_frames.proofs.report.judge.Goals as goal
 
-pub returns-then-goes : goal.returns-then-goes
-returns-then-goes g c =
+pub returns-then-goes-clause-judged : goal.returns-then-goes-clause-judged
+returns-then-goes-clause-judged g c =
     goes_as_body (g.D.Decide.decides c.args.policy.now) c.args.frame.now.octets.now c.args.frame.now.body.now c.requires (c.goes.ensures.0 c.if-goes.true)
 
 pub report_of-requires-clause-names : goal.report_of-requires-clause-names
@@ -13,13 +13,13 @@ pub report_of-requires-clause-stays : goal.report_of-requires-clause-stays
 report_of-requires-clause-stays g c =
     stays_there (g.D.Decide.decides c.args.policy.now) c.args.frame.now.body.now (body_view c.in-Some.body) c.goes.result c.goes.ensures c.if-goes.false c.in-Some.ensures
 
-pub returns-in-Some : goal.returns-in-Some
-returns-in-Some g c =
+pub returns-in-Some-clause-judged : goal.returns-in-Some-clause-judged
+returns-in-Some-clause-judged g c =
     let d = g.D.Decide.decides c.args.policy.now in
     let octets = c.args.frame.now.body.now in
     stays_by_body d c.args.number c.args.frame.now.octets.now octets (body_view c.in-Some.body) c.report_of.result c.requires c.in-Some.ensures
-    (stays_there d octets (body_view c.in-Some.body) c.goes.result c.goes.ensures c.if-goes.false c.in-Some.ensures) c.report_of.ensures
+    (stays_there d octets (body_view c.in-Some.body) c.goes.result c.goes.ensures c.if-goes.false c.in-Some.ensures) c.report_of.ensures.reports
 
-pub returns-in-None : goal.returns-in-None
-returns-in-None g c =
+pub returns-in-None-clause-judged : goal.returns-in-None-clause-judged
+returns-in-None-clause-judged g c =
     bad_by_body (g.D.Decide.decides c.args.policy.now) c.args.number c.args.frame.now.octets.now c.args.frame.now.body.now c.requires c.in-None.ensures

@@ -8,6 +8,7 @@ use Rattle.guard_frames.specs.Frames.{IsUnfinished}
 use Rattle.guard_frames.specs.LinkView.{AbstractLink}
 use Rattle.guard_frames.specs.Runs.{CameInPieces, IsTorn}
 use Rattle.guard_frames.proofs.Appending.{both_none, both_joined}
+use Rattle.guard_frames.proofs.Asking.{asks_none, asks_trans}
 use Rattle.guard_frames.proofs.Composing.{puts_on}
 use Rattle.guard_frames.proofs.Counting.{counts}
 use Rattle.guard_frames.proofs.Reading.{Consumes_none, Consumes_trans, Consumes_zero, no_pieces, one_more_piece}
@@ -31,6 +32,7 @@ loop-init g c =
         rw held empty_unfinished,
         no_pieces,
       );
+      lines = asks_none _;
     }
 
 pub returns-then-count-eq0-clause-runs : goal.returns-then-count-eq0-clause-runs
@@ -121,6 +123,7 @@ loop-preserved g c =
         x.1,
         one_more_piece c.loop.counter h.0 p h.6 some most,
       );
+      lines = asks_trans _ _ _ c.loop.invariant.lines c.in_ok-take.ensures.lines;
     }
 
 pub returns-clause-unread : goal.returns-clause-unread
@@ -155,3 +158,6 @@ returns-in_default-read_piece-clause-runs g c =
       taken = h.3;
       holds = runs_all _ h.0 c.loop.link.held.items c.loop.link.totals h.1 IsUnfinished h.4 h.5;
     }
+
+pub returns-in_err-take-clause-lines : goal.returns-in_err-take-clause-lines
+returns-in_err-take-clause-lines g c = asks_trans _ _ _ c.loop.invariant.lines c.in_err-take.ensures.lines

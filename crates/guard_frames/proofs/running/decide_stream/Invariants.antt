@@ -3,6 +3,7 @@ use Rattle.std.specs.Io.KnownBytes.{Consumes}
 use Rattle.guard_frames.specs.Frames.{IsUnfinished}
 use Rattle.guard_frames.specs.Totals.{no_frames, WentUpBy}
 use Rattle.guard_frames.specs.Added.{Added, BothAppend}
+use Rattle.guard_frames.specs.Calls.{AsksLines}
 use Rattle.guard_frames.specs.Feeding.{Decides}
 use Rattle.guard_frames.specs.Runs.{CameInPieces}
 use Rattle.guard_frames.proofs.running.decide_stream.Given as goal
@@ -17,4 +18,5 @@ invariant-loop g l = record {
       (g.R.Sink.taken l.initial.reports, g.R.Sink.taken l.reports) added
       × Decides (g.D.Decide.decides l.policy) no_frames read l.link.held.items l.link.totals added × IsUnfinished l.link.held.items
       × CameInPieces l.counter read;
+  lines : AsksLines (g.R.Sink.asked l.initial.reports) (g.R.Sink.asked l.reports);
 }

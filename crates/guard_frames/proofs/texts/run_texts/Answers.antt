@@ -4,6 +4,7 @@ use Rattle.std.proofs.lemmas.Result.{err_from_is_err_and}
 use Rattle.guard_policy.specs.PolicyView.{policy_view}
 use Rattle.guard_frames.specs.Added.{nothing}
 use Rattle.guard_frames.proofs.Appending.{both_none}
+use Rattle.guard_frames.proofs.Asking.{asks_none}
 use Rattle.guard_frames.proofs.Reading.{Consumes_none}
 use Rattle.guard_frames.proofs.UnderTexts.{read_failed, fault_of_texts, same_under, none_of_texts}
 use Rattle.guard_frames.proofs.texts.run_texts.Goals as goal
@@ -54,3 +55,12 @@ pub returns-in_err-run-clause-unread : goal.returns-in_err-run-clause-unread
 returns-in_err-run-clause-unread g c =
     let e = err_from_is_err_and c.from_residual-in_err-run.result c.from_residual-in_err-run.ensures.1 in
     rw (e.1, e.2) (read_failed c.in_err-run.field-0.0 _ c.in_err-run.ensures.unread)
+
+pub returns-clause-lines : goal.returns-clause-lines
+returns-clause-lines g c = c.in_ok-run.ensures.lines
+
+pub returns-in_err-policy-clause-lines : goal.returns-in_err-policy-clause-lines
+returns-in_err-policy-clause-lines g c = asks_none _
+
+pub returns-in_err-run-clause-lines : goal.returns-in_err-run-clause-lines
+returns-in_err-run-clause-lines g c = c.in_err-run.ensures.lines

@@ -1,0 +1,10 @@
+use Rattle.std.proofs.Common.{◌≡◌, ◌∙◌, ap, codes}
+use Rattle.std.proofs.lemmas.Result.{IfOk-weaker}
+use Rattle.clap.specs.Simple.{App, app_of, app_of_fields, new_app}
+use Rattle.derguard_program.proofs.Commands.{with_argument}
+use Rattle.derguard_program.proofs.words.ask.Goals as goal
+
+pub returns : goal.returns
+returns c =
+    let start : app_of c.after_help.result ≡ new_app (codes "ask") = ap app_of_fields c.after_help.ensures ∙ ap app_of_fields c.about.ensures ∙ c.new.ensures.app in
+    IfOk-weaker c.arg.result _ _ (λ r added. ap (λ (a : App). a.top) (with_argument _ r _ _ _ added c.policy.ensures.local start c.policy.ensures.rule)) c.arg.ensures

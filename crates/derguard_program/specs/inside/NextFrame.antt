@@ -1,0 +1,13 @@
+-- Why no frame could be read.
+use Rattle.std.specs.Prelude.{◌≡◌, ◌<◌, ◌⊎◌, ℕ, Bool, true, List, length}
+use Rattle.guard_frames.specs.declared.running.RunFault.{RunFault}
+use Rattle.guard_frames.specs.declared.running.RunFault.TheVariants.{FrameTooLong, WriteFailed, TornFrame, ReadFailed, OutOfMemory}
+use Rattle.guard_frames.specs.Frames.{IsTooLong, IsUnfinished}
+
+-- these octets are none, by how the source is after them, and by how often it may still be asked
+abbrev pub IsNoFrame : RunFault → List ℕ → Type 0 → Bool → ℕ → Type 0
+IsNoFrame FrameTooLong rest AtEnd failed reads = IsTooLong rest × (length rest ≡ 4)
+IsNoFrame TornFrame rest AtEnd failed reads = (0 < length rest) × IsUnfinished rest × AtEnd
+IsNoFrame ReadFailed rest AtEnd failed reads = IsUnfinished rest × ((failed ≡ true) ⊎ (reads ≡ 0))
+IsNoFrame WriteFailed rest AtEnd failed reads = ⊥
+IsNoFrame OutOfMemory rest AtEnd failed reads = ⊥

@@ -1,0 +1,92 @@
+//! Reads the frames of a stream, one after another.
+ghost use Rattle.std.specs.Prelude.{◌≡◌, ◌≤◌, ◌<◌, ◌-◌, ◌+◌, List, ℕ, [], None, length, take, drop, IfOk, IfErr, IfSome, OnErr, true, ◌⊎◌};
+ghost use Rattle.std.specs.Io.KnownBytes.{Consumes, IsAtEnd};
+ghost use Rattle.guard_frames.specs.Frames.{IsFrame};
+ghost use Rattle.guard_frames.specs.Totals.{WentUpBy};
+ghost use Rattle.derguard_program.specs.inside.NextFrame.{IsNoFrame};
+ghost use Rattle.derguard_program.specs.declared.stop.Stop.TheVariants as stop;
+
+use crate::records::fill_front;
+use crate::stop::Stop;
+use guard_frames::{RunFault, Source, body_length};
+use guard_model::OutOfMemory;
+use std::alloc::Global;
+
+/// How many octets say the length of a frame.
+const LENGTH: usize = 4;
+
+/// The longest body of a frame.
+const LONGEST_BODY: usize = 1_048_576;
+
+/// The longest frame.
+const LONGEST_FRAME: usize = 1_048_580;
+
+/// Room for a frame. (A caller that sees so many zeros as a list runs the checker out of memory.)
+pub fn new_frame_room(alloc: Global) -> Result<Vec<u8>, OutOfMemory>
+    ensures { IfOk result (λ room. length room.items ≡ 1048580) }
+{
+    let size = LONGEST_FRAME;
+    Ok(vec![in alloc; 0u8; size]?)
+}
+
+/// The size of the next frame, whose octets are the first ones in the room then; none where the source has ended.
+/// Nothing is read of what follows the frame, and of one that is too long nothing but its length.
+pub fn next_frame<S: Source>(
+    source: &mut S,
+    room: &mut [u8],
+    reads: &mut u64,
+) -> Result<Option<usize>, RunFault>
+    requires { length room.old ≡ 1048580 }
+    ensures frame { IfOk result (λ found. IfSome found (λ n. (n ≤ 1048580) × IsFrame (take n room.new)
+        × (reads.new < reads.old) × Consumes (S.tells source.old) (S.tells source.new) (take n room.new))) }
+    ensures end { IfOk result (λ found. found ≡ None →
+        Consumes (S.tells source.old) (S.tells source.new) [] × IsAtEnd (S.tells source.new)) }
+    ensures none { IfErr result (λ f. (rest : List ℕ) × Consumes (S.tells source.old) (S.tells source.new) rest
+        × IsNoFrame f rest (IsAtEnd (S.tells source.new)) (S.has_failed source.new) reads.new) }
+    ensures counted { WentUpBy (S.takes source.old) (reads.old - reads.new) (S.takes source.new) }
+    ensures fewer { reads.new ≤ reads.old }
+{
+    let count = match fill_front(source, room, LENGTH, reads) {
+        Ok(count) => count,
+        Err(_) => return Err(RunFault::ReadFailed),
+    };
+    if count == 0 {
+        return Ok(None);
+    }
+    if count < LENGTH {
+        return Err(RunFault::TornFrame);
+    }
+    let body = body_length(&room[..LENGTH]);
+    if body > LONGEST_BODY {
+        return Err(RunFault::FrameTooLong);
+    }
+    let behind = match fill_body(source, room, body, reads) {
+        Ok(behind) => behind,
+        Err(_) => return Err(RunFault::ReadFailed),
+    };
+    if behind < body {
+        return Err(RunFault::TornFrame);
+    }
+    Ok(Some(body + LENGTH))
+}
+
+/// Fills so many octets behind the first four of the room, or as many of them as the source has, and answers how many.
+fn fill_body<S: Source>(
+    source: &mut S,
+    room: &mut [u8],
+    size: usize,
+    reads: &mut u64,
+) -> Result<usize, Stop>
+    requires { size + 4 ≤ length room.old }
+    ensures within { IfOk result (λ n. n ≤ size) }
+    ensures kept { take 4 room.new ≡ take 4 room.old }
+    ensures given { IfOk result (λ n. Consumes (S.tells source.old) (S.tells source.new) (take n (drop 4 room.new))) }
+    ensures end { IfOk result (λ n. n < size → IsAtEnd (S.tells source.new)) }
+    ensures lost { OnErr result ((part : List ℕ) × (length part < size)
+        × Consumes (S.tells source.old) (S.tells source.new) part) }
+    ensures failed { IfErr result (λ f. (f ≡ stop.ReadFailed) × ((S.has_failed source.new ≡ true) ⊎ (reads.new ≡ 0))) }
+    ensures counted { WentUpBy (S.takes source.old) (reads.old - reads.new) (S.takes source.new) }
+    ensures fewer { reads.new ≤ reads.old }
+{
+    fill_front(source, &mut room[LENGTH..], size, reads)
+}

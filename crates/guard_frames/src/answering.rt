@@ -1,0 +1,85 @@
+//! Answers what becomes of a frame.
+
+ghost use Rattle.std.specs.Prelude.{◌≡◌, ◌≤◌, Bool, true, List, ℕ, length, IfOk, OnOk, OnErr};
+ghost use Rattle.std.specs.Io.KnownBytes.{Appends};
+ghost use Rattle.guard_frames.specs.Answering.{pass_line, Answers};
+ghost use Rattle.guard_frames.specs.Bodies.{body_view};
+ghost use Rattle.guard_frames.specs.Calls.{AsksLines};
+ghost use Rattle.guard_frames.specs.Outcomes.{Outcome};
+ghost use Rattle.guard_frames.specs.Prefix.{IsProperPrefix};
+
+use crate::body::Body;
+use crate::cut::frame_of;
+use crate::decision::Decide;
+use crate::devices::{Failed, Sink, put_all};
+use crate::header::read_body;
+use crate::report::{Ruling, judge, put_report};
+use crate::short_line::{ShortLine, add};
+use itoa::Buffer;
+use std::alloc::Global;
+
+/// Puts the line that says what becomes of the frame of this number, in one call: as a report has it, and with `pass`
+/// where it goes. It answers whether it goes. Memory is taken only for a line that says why a message stays; where
+/// there is none it is `N no-memory`.
+///
+/// The frame is whole, with its four octets of length.
+///
+/// # Errors
+/// The sink has failed, and took a part of the line.
+pub fn answer<D: Decide, S: Sink>(
+    alloc: Global,
+    policy: &D,
+    number: u64,
+    frame: &[u8],
+    answers: &mut S,
+) -> Result<bool, Failed>
+    requires { 4 ≤ length frame.now }
+    ensures all { IfOk result (λ goes. (line : List ℕ)
+        × Answers (D.decides policy.now) number (record { frame = frame.now; goes = goes }) line
+        × Appends (S.taken answers.old) (S.taken answers.new) line) }
+    ensures part { OnErr result ((o : Outcome) × (line : List ℕ) × (part : List ℕ) × (o.frame ≡ frame.now)
+        × Answers (D.decides policy.now) number o line
+        × IsProperPrefix part line × Appends (S.taken answers.old) (S.taken answers.new) part) }
+    ensures failed { OnErr result (S.has_failed answers.new ≡ true) }
+    ensures lines { AsksLines (S.asked answers.old) (S.asked answers.new) }
+{
+    let frame = frame_of(frame);
+    match judge(alloc, policy, number, &frame) {
+        Ruling::Goes => {
+            let Some(body) = read_body(frame.body) else {
+                unreachable!()
+            };
+            put_pass(answers, number, &body)?;
+            Ok(true)
+        }
+        Ruling::Stays(report) => {
+            put_report(answers, number, &report)?;
+            Ok(false)
+        }
+    }
+}
+
+/// Puts the line that says that the frame of this number and with this body goes, in one call. It takes no memory.
+fn put_pass<S: Sink>(answers: &mut S, number: u64, body: &Body) -> Result<(), Failed>
+    requires sender { length body.now.sender.now ≤ 63 }
+    requires receiver { length body.now.receiver.now ≤ 63 }
+    requires name { length body.now.name.now ≤ 63 }
+    ensures all { OnOk result
+        (Appends (S.taken answers.old) (S.taken answers.new) (pass_line number (body_view body.now))) }
+    ensures part { OnErr result ((part : List ℕ) × IsProperPrefix part (pass_line number (body_view body.now))
+        × Appends (S.taken answers.old) (S.taken answers.new) part) }
+    ensures failed { OnErr result (S.has_failed answers.new ≡ true) }
+    ensures lines { AsksLines (S.asked answers.old) (S.asked answers.new) }
+{
+    let mut buffer = Buffer::new();
+    let mut line = ShortLine::new();
+    add(&mut line, buffer.format(number).as_bytes());
+    add(&mut line, b" ");
+    add(&mut line, body.sender);
+    add(&mut line, b">");
+    add(&mut line, body.receiver);
+    add(&mut line, b" ");
+    add(&mut line, body.name);
+    add(&mut line, b" pass\n");
+    put_all(answers, line.as_slice())
+}

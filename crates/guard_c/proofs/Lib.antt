@@ -1,0 +1,13 @@
+-- ---- handles
+pub mod Parts
+pub mod Words
+-- ---- threads
+pub mod Sent
+-- ---- faults
+pub mod Faults
+-- ---- messages
+pub mod Saying
+pub mod Naming
+-- ---- links
+pub mod Within
+pub mod Pieces

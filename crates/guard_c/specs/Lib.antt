@@ -1,0 +1,11 @@
+-- ---- what every call says
+pub mod Statuses
+pub mod Telling
+-- ---- handles
+pub mod Owning
+pub mod Holding
+-- ---- policies
+pub mod Asking
+pub mod Policies
+-- ---- links
+pub mod Links

@@ -1,0 +1,212 @@
+//! What C calls with a handle that holds a policy.
+ghost use Rattle.guard_c.specs.Asking.{Passes, PassesOn, SaidBy, SaidOn};
+ghost use Rattle.guard_c.specs.Holding.{policy_in, policy_of};
+ghost use Rattle.guard_c.specs.Policies.{HasLoaded, HasShared, IsUnshared};
+ghost use Rattle.guard_c.specs.Statuses.{Answers, number};
+ghost use Rattle.guard_c.specs.Telling.{Tells, said_view};
+ghost use Rattle.guard_c.specs.declared.status.Status.TheVariants.{OutOfMemory};
+ghost use Rattle.guard_frames.specs.Texts.{SayPolicy};
+ghost use Rattle.guard_policy.specs.Policies.{AbstractPolicy};
+ghost use Rattle.guard_policy.specs.PolicyView.{route_view};
+ghost use Rattle.std.specs.Prelude.{◌≡◌, ◌≢◌, ◌↔◌, IsTrue, List, MatchResult, ℕ, None, Result, Some, map};
+
+use crate::asking::{passes, passes_on, say_by, say_on};
+use crate::handle::Handle;
+use crate::held::Held;
+use crate::loading::{load, refuse, share};
+use crate::status::Status;
+use crate::telling::{put, tell};
+use guard_policy::Route;
+use std::alloc::Global;
+
+/// Loads the policy that a text says over the modules of other texts, in place of what the handle held. The handle holds
+/// what it held unless this is done. `fault` is the buffer for the text of the fault where it is refused.
+#[unsafe(no_mangle)]
+pub extern "C" fn derguard_load(
+    alloc: Global,
+    policy: &mut Handle,
+    modules: &[&[u8]],
+    text: &[u8],
+    fault: &mut [u8],
+    needed: &mut usize,
+) -> u32
+    ensures answer { Answers result (HasLoaded (map (λ t. t.now) modules.now) text.now policy.old.kept policy.new.kept
+        fault.old fault.new needed.new) }
+    // What the texts say is loaded, unless memory runs out.
+    ensures only { (p : AbstractPolicy) → SayPolicy (map (λ t. t.now) modules.now) text.now p →
+        result ≢ number OutOfMemory → policy_of policy.new.kept ≡ Some p }
+{
+    match load(alloc, modules, text) {
+        Ok(loaded) => {
+            policy.fill(loaded);
+            put(b"", fault, needed);
+            Status::Done.number()
+        }
+        Err(why) => refuse(alloc, &why, fault, needed).number(),
+    }
+}
+
+/// Whether a message passes on the route of these names, which are as they lie in a frame's header: the sender's, the
+/// receiver's and the message's, each after one octet with its length. It takes no memory.
+#[unsafe(no_mangle)]
+pub extern "C" fn derguard_passes(
+    alloc: Global,
+    policy: &mut Handle,
+    names: &[u8],
+    message: &[u8],
+) -> bool
+    ensures answer { IsTrue result ↔ Passes (policy_of policy.old.kept) names.now message.now }
+    ensures same { policy.new.kept ≡ policy.old.kept }
+{
+    let Some(held) = policy.take(alloc) else {
+        return false;
+    };
+    let answer = passes(&held, names, message);
+    policy.fill(held);
+    answer
+}
+
+/// Whether a message passes from a sender to a receiver under a name. It takes no memory.
+#[unsafe(no_mangle)]
+pub extern "C" fn derguard_passes_from(
+    alloc: Global,
+    policy: &mut Handle,
+    sender: &[u8],
+    receiver: &[u8],
+    name: &[u8],
+    message: &[u8],
+) -> bool
+    ensures answer { IsTrue result ↔ PassesOn (policy_of policy.old.kept)
+        (record { from = sender.now; to = receiver.now; message = name.now }) message.now }
+    ensures same { policy.new.kept ≡ policy.old.kept }
+{
+    let Some(held) = policy.take(alloc) else {
+        return false;
+    };
+    let route = Route {
+        from: sender,
+        to: receiver,
+        message: name,
+    };
+    let answer = passes_on(&held, &route, message);
+    policy.fill(held);
+    answer
+}
+
+/// The text of the verdict on a message, on the route of these names.
+#[unsafe(no_mangle)]
+pub extern "C" fn derguard_verdict(
+    alloc: Global,
+    policy: &mut Handle,
+    names: &[u8],
+    message: &[u8],
+    out: &mut [u8],
+    needed: &mut usize,
+) -> u32
+    ensures answer { Answers result (λ status. (said : Result (List ℕ) Status)
+        × SaidBy (policy_of policy.old.kept) names.now message.now said
+        × Tells said out.old out.new needed.new status) }
+    ensures same { policy.new.kept ≡ policy.old.kept }
+{
+    let said = said_by(alloc, policy, names, message);
+    tell(said, out, needed).number()
+}
+
+fn said_by(
+    alloc: Global,
+    policy: &mut Handle,
+    names: &[u8],
+    message: &[u8],
+) -> Result<Vec<u8>, Status>
+    ensures said { SaidBy (policy_of policy.old.kept) names.now message.now (said_view result) }
+    ensures same { policy.new.kept ≡ policy.old.kept }
+{
+    let Some(held) = policy.take(alloc) else {
+        return Err(Status::NoPolicy);
+    };
+    let said = say_by(alloc, &held, names, message);
+    policy.fill(held);
+    said
+}
+
+/// The text of the verdict on a message from a sender to a receiver under a name.
+#[unsafe(no_mangle)]
+pub extern "C" fn derguard_verdict_from(
+    alloc: Global,
+    policy: &mut Handle,
+    sender: &[u8],
+    receiver: &[u8],
+    name: &[u8],
+    message: &[u8],
+    out: &mut [u8],
+    needed: &mut usize,
+) -> u32
+    ensures answer { Answers result (λ status. (said : Result (List ℕ) Status)
+        × SaidOn (policy_of policy.old.kept)
+        (record { from = sender.now; to = receiver.now; message = name.now }) message.now said
+        × Tells said out.old out.new needed.new status) }
+    ensures same { policy.new.kept ≡ policy.old.kept }
+{
+    let route = Route {
+        from: sender,
+        to: receiver,
+        message: name,
+    };
+    let said = said_on(alloc, policy, &route, message);
+    tell(said, out, needed).number()
+}
+
+fn said_on(
+    alloc: Global,
+    policy: &mut Handle,
+    route: &Route,
+    message: &[u8],
+) -> Result<Vec<u8>, Status>
+    ensures said { SaidOn (policy_of policy.old.kept) (route_view route.now) message.now (said_view result) }
+    ensures same { policy.new.kept ≡ policy.old.kept }
+{
+    let Some(held) = policy.take(alloc) else {
+        return Err(Status::NoPolicy);
+    };
+    let said = say_on(alloc, &held, route, message);
+    policy.fill(held);
+    said
+}
+
+/// Has `other` hold the policy that `policy` holds, in place of what it held. The policy is freed with the last of its
+/// handles.
+#[unsafe(no_mangle)]
+pub extern "C" fn derguard_share(alloc: Global, policy: &mut Handle, other: &mut Handle) -> u32
+    ensures answer { Answers result (HasShared (policy_of policy.old.kept) other.old.kept other.new.kept) }
+    ensures same { policy.new.kept ≡ policy.old.kept }
+{
+    match more_of(alloc, policy) {
+        Ok(more) => {
+            other.fill(more);
+            Status::Done.number()
+        }
+        Err(status) => status.number(),
+    }
+}
+
+/// One more owner of the policy that a handle holds.
+fn more_of(alloc: Global, policy: &mut Handle) -> Result<Box<Held>, Status>
+    ensures shared { MatchResult result (λ b. (policy_of policy.old.kept ≢ None)
+        × (policy_in b.value ≡ policy_of policy.old.kept)) (IsUnshared (policy_of policy.old.kept)) }
+    ensures same { policy.new.kept ≡ policy.old.kept }
+{
+    let Some(held) = policy.take(alloc) else {
+        return Err(Status::NoPolicy);
+    };
+    let shared = share(alloc, &held);
+    policy.fill(held);
+    shared
+}
+
+/// Empties a handle. The policy that it held is freed, unless other handles hold it.
+#[unsafe(no_mangle)]
+pub extern "C" fn derguard_free(alloc: Global, policy: &mut Handle)
+    ensures { policy.new.kept ≡ None }
+{
+    *policy = Handle::empty(alloc);
+}

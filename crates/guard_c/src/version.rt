@@ -1,0 +1,14 @@
+//! Which version this is.
+ghost use Rattle.guard_c.specs.Statuses.{Answers};
+ghost use Rattle.guard_c.specs.Telling.{Tells};
+ghost use Rattle.std.specs.Prelude.{Ok, codes};
+
+use crate::telling::tell_text;
+
+/// The version, as the program says it. It takes no memory.
+#[unsafe(no_mangle)]
+pub extern "C" fn derguard_version(out: &mut [u8], needed: &mut usize) -> u32
+    ensures { Answers result (Tells (Ok (codes "0.1.0")) out.old out.new needed.new) }
+{
+    tell_text(b"0.1.0", out, needed).number()
+}

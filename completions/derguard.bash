@@ -16,30 +16,38 @@ _derguard() {
     for ((number = 1; number < COMP_CWORD; number++)); do
         word=${COMP_WORDS[number]}
         case $word in
-            --from | --to | --message) ((number++)) ;;
+            --from | --to | --message | --frame | --link) ((number++)) ;;
+            --der) [ "$command" = encode ] || ((number++)) ;;
             -*) ;;
             *) if [ -z "$command" ]; then command=$word; elif [ -z "$policy" ]; then policy=$word; fi ;;
         esac
     done
-    if [[ $command == decide || $command == show ]] && [ -n "$policy" ]; then
+    if [[ $command == decide || $command == show || $command == encode ]] && [ -n "$policy" ]; then
         case $before in
             --message) mapfile -t COMPREPLY < <(compgen -W "$(_derguard_names message name "$policy")" -- "$current") ;;
             --from) mapfile -t COMPREPLY < <(compgen -W "$(_derguard_names rule from "$policy")" -- "$current") ;;
             --to) mapfile -t COMPREPLY < <(compgen -W "$(_derguard_names rule to "$policy")" -- "$current") ;;
         esac
     fi
+    if [ "$before" = --der ] && [[ $command == decide || $command == show ]]; then
+        compopt -o filenames 2> /dev/null
+        mapfile -t COMPREPLY < <(compgen -f -- "$current")
+        return
+    fi
     case $before in
-        --from | --to | --message) return ;;
+        --from | --to | --message | --frame | --link) return ;;
     esac
     case $command in
-        '') mapfile -t COMPREPLY < <(compgen -W 'check decide show run ask mux help --help --version' -- "$current") ;;
-        help) [ -n "$policy" ] || mapfile -t COMPREPLY < <(compgen -W 'check decide show run ask mux' -- "$current") ;;
-        check | run | ask | mux | decide | show)
+        '') mapfile -t COMPREPLY < <(compgen -W 'check decide show encode run ask mux help --help --version' -- "$current") ;;
+        help) [ -n "$policy" ] || mapfile -t COMPREPLY < <(compgen -W 'check decide show encode run ask mux' -- "$current") ;;
+        check | run | ask | mux | decide | show | encode)
             if [[ $current == -* ]]; then
                 word=--help
-                if [ "$command" = check ]; then word='--explain --help'; fi
-                if [ "$command" = decide ]; then word='--from --to --message --explain --help'; fi
-                if [ "$command" = show ]; then word='--message --help'; fi
+                if [ "$command" = check ]; then word='--explain --strict --help'; fi
+                if [ "$command" = run ] || [ "$command" = mux ]; then word='--verbose --help'; fi
+                if [ "$command" = decide ]; then word='--from --to --message --der --frame --link --explain --help'; fi
+                if [ "$command" = show ]; then word='--message --der --frame --link --help'; fi
+                if [ "$command" = encode ]; then word='--message --from --to --der --help'; fi
                 mapfile -t COMPREPLY < <(compgen -W "$word" -- "$current")
             elif [ -z "$policy" ]; then
                 compopt -o filenames 2> /dev/null
@@ -49,7 +57,7 @@ _derguard() {
                 )
             elif [ "$command" = decide ]; then
                 mapfile -t COMPREPLY < <(compgen -W '--from --to --message' -- "$current")
-            elif [ "$command" = show ]; then
+            elif [ "$command" = show ] || [ "$command" = encode ]; then
                 mapfile -t COMPREPLY < <(compgen -W '--message' -- "$current")
             fi
             ;;

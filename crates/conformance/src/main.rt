@@ -332,7 +332,10 @@ fn try_streams<R: Files + Print + AllocGlobal>(rt: &R, tally: &mut Tally) -> io:
         &[
             "program/words_files_streams.rows",
             "program/explained.rows",
+            "program/encoded.rows",
+            "program/found.rows",
             "program/many_links.rows",
+            "program/verbose.rows",
         ],
     )
 }

@@ -1,5 +1,5 @@
 -- Words in which nothing is wrong ask for a request.
-use Rattle.std.proofs.Common.{◌≡◌, ◌∙◌, ◌&&◌, ◌||◌, ℕ, Bool, cond, true, false, not, refl, sym, ap, arith, subst, List, [], ◌∷◌, codes, Option, Some, None, true≢false}
+use Rattle.std.proofs.Common.{◌≡◌, ◌∙◌, ◌&&◌, ◌||◌, ℕ, Bool, cond, true, false, not, refl, sym, ap, subst, List, [], ◌∷◌, codes, Option, Some, None, true≢false}
 use Rattle.std.specs.Prelude.{IfSome, is_some, option_and_then, option_map, slice_get, slice_index, unwrap_or, nat_eq, if◌then◌else◌}
 use Rattle.std.specs.List.{find, fold}
 use Rattle.std.specs.Option.{option_map_or}
@@ -13,8 +13,10 @@ use Rattle.clap.specs.Faults.{check_fault, defaults_fault, entered_fault, fault_
 use Rattle.clap.specs.Kinds.{Kinds, or_else}
 use Rattle.clap.specs.Simple.{App, Shape, argument_words, built, built_leaf, entered, filled, help_rule, help_shape, inherited, label_of, marked_built, names_of, rows_at, subcommand_of, with_index, with_leaf_noted}
 use Rattle.clap.specs.declared.error.kind.ErrorKind.TheVariants as kind
-use Rattle.derguard_program.specs.Requests.{AbstractRequest, first, check, decide, show, run, ask, mux}
-use Rattle.derguard_program.specs.Words.{AreFound, IsCommand, ask_shape, check_shape, decide_shape, flag_of, flag_rule, mux_shape, option_rule, place_rule, run_shape, show_shape, the_app}
+use Rattle.derguard_program.specs.Encodes.{AbstractEncoding}
+use Rattle.derguard_program.specs.Questions.{AbstractQuestion}
+use Rattle.derguard_program.specs.Requests.{AbstractRequest, first, check, decide, show, encode, run, ask, mux}
+use Rattle.derguard_program.specs.Words.{AreFound, IsCommand, ask_shape, check_shape, decide_shape, encode_shape, flag_of, flag_rule, free_option_rule, free_place_rule, mux_shape, option_rule, place_rule, run_shape, show_shape, the_app}
 use Rattle.derguard_program.proofs.Filled.{AllFill, Filled, Fills, IsFilled, both_none, finished_filled, flag_fills, help_fills, set_fills, some_kind, walk_filled}
 
 -- ---- a walk in which nothing is wrong stops at no word help
@@ -160,6 +162,9 @@ built_decide = built_leaf (inherited (with_leaf_noted (marked_built the_app.top)
 abbrev built_show : Shape
 built_show = built_leaf (inherited (with_leaf_noted (marked_built the_app.top)) show_shape)
 
+abbrev built_encode : Shape
+built_encode = built_leaf (inherited (with_leaf_noted (marked_built the_app.top)) encode_shape)
+
 abbrev built_run : Shape
 built_run = built_leaf (inherited (with_leaf_noted (marked_built the_app.top)) run_shape)
 
@@ -179,6 +184,12 @@ place_fills place id = set_fills (ready_rule place (place_rule id)) refl refl
 option_fills : (name : Text) → Fills (ready_rule 2 (option_rule name))
 option_fills name = set_fills (ready_rule 2 (option_rule name)) refl refl
 
+free_place_fills : (place : ℕ) (id : Text) → Fills (ready_rule place (free_place_rule id))
+free_place_fills place id = set_fills (ready_rule place (free_place_rule id)) refl refl
+
+free_option_fills : (name : Text) → Fills (ready_rule 2 (free_option_rule name))
+free_option_fills name = set_fills (ready_rule 2 (free_option_rule name)) refl refl
+
 switch_fills : (place : ℕ) (name : Text) → Fills (ready_rule place (flag_rule name))
 switch_fills place name = flag_fills (ready_rule place (flag_rule name)) refl (codes "true") refl
 
@@ -186,23 +197,28 @@ help_flag_fills : (place : ℕ) → Fills (ready_rule place help_rule)
 help_flag_fills place = help_fills (ready_rule place help_rule) refl
 
 check_fills : AllFill built_check.rules
-check_fills = (place_fills 1 (codes "policy"), (switch_fills 2 (codes "explain"), (help_flag_fills 2, tt)))
+check_fills = (place_fills 1 (codes "policy"), (switch_fills 2 (codes "explain"), (switch_fills 2 (codes "strict"), (help_flag_fills 2, tt))))
 
 decide_fills : AllFill built_decide.rules
 decide_fills =
-    (place_fills 1 (codes "policy"), (option_fills (codes "from"), (option_fills (codes "to"), (option_fills (codes "message"), (place_fills 2 (codes "hex"), (switch_fills 3 (codes "explain"), (help_flag_fills 3, tt)))))))
+    (place_fills 1 (codes "policy"), (free_option_fills (codes "from"), (free_option_fills (codes "to"), (free_option_fills (codes "message"), (free_place_fills 2 (codes "hex"), (free_option_fills (codes "der"), (free_option_fills (codes "frame"), (free_option_fills (codes "link"), (switch_fills 3 (codes "explain"), (help_flag_fills 3, tt))))))))))
 
 show_fills : AllFill built_show.rules
-show_fills = (place_fills 1 (codes "policy"), (option_fills (codes "message"), (place_fills 2 (codes "hex"), (help_flag_fills 3, tt))))
+show_fills =
+    (place_fills 1 (codes "policy"), (free_option_fills (codes "message"), (free_place_fills 2 (codes "hex"), (free_option_fills (codes "der"), (free_option_fills (codes "frame"), (free_option_fills (codes "link"), (help_flag_fills 3, tt)))))))
+
+encode_fills : AllFill built_encode.rules
+encode_fills =
+    (place_fills 1 (codes "policy"), (option_fills (codes "message"), (free_place_fills 2 (codes "value"), (free_option_fills (codes "from"), (free_option_fills (codes "to"), (switch_fills 3 (codes "der"), (help_flag_fills 3, tt)))))))
 
 run_fills : AllFill built_run.rules
-run_fills = (place_fills 1 (codes "policy"), (help_flag_fills 2, tt))
+run_fills = (place_fills 1 (codes "policy"), (switch_fills 2 (codes "verbose"), (help_flag_fills 2, tt)))
 
 ask_fills : AllFill built_ask.rules
 ask_fills = (place_fills 1 (codes "policy"), (help_flag_fills 2, tt))
 
 mux_fills : AllFill built_mux.rules
-mux_fills = (place_fills 1 (codes "policy"), (help_flag_fills 2, tt))
+mux_fills = (place_fills 1 (codes "policy"), (switch_fills 2 (codes "verbose"), (help_flag_fills 2, tt)))
 
 -- a command with these words asks for a request
 abbrev Requests : Shape → List Text → Type 0
@@ -213,26 +229,51 @@ check_asks words e =
     let rows = rows_filled built_check [] words false [] e check_fills in
     let policy = given_next _ _ (check_none built_check [] words false [] e) in
     let path = given_value (codes "policy") (rows_after built_check.rules [] words) rows policy.0 in
-    (check path.0 (flag_of (codes "explain") (rows_after built_check.rules [] words)), (refl, path.1, refl))
+    (check path.0 (flag_of (codes "explain") (rows_after built_check.rules [] words)) (flag_of (codes "strict") (rows_after built_check.rules [] words)), (refl, path.1, refl, refl))
 
 show_asks : (words : List Text) → level_fault built_show [] nothing_held words false [] ≡ [] → Requests built_show words
 show_asks words e =
     let rows = rows_after built_show.rules [] words in
     let filled = rows_filled built_show [] words false [] e show_fills in
     let policy = given_next _ _ (check_none built_show [] words false [] e) in
+    let p = given_value (codes "policy") rows filled policy.0 in
+    let asked : AbstractQuestion = record {
+      policy = p.0;
+      from = None;
+      to = None;
+      message = first_of (codes "message") rows;
+      hex = first_of (codes "hex") rows;
+      der = first_of (codes "der") rows;
+      frame = first_of (codes "frame") rows;
+      link = first_of (codes "link") rows;
+      explain = false;
+    } in
+    (show asked, (refl, p.1, refl, refl, refl, refl, refl, refl, refl, refl))
+
+encode_asks : (words : List Text) → level_fault built_encode [] nothing_held words false [] ≡ [] → Requests built_encode words
+encode_asks words e =
+    let rows = rows_after built_encode.rules [] words in
+    let filled = rows_filled built_encode [] words false [] e encode_fills in
+    let policy = given_next _ _ (check_none built_encode [] words false [] e) in
     let message = given_next _ _ policy.1 in
-    let hex = given_next _ _ message.1 in
     let p = given_value (codes "policy") rows filled policy.0 in
     let m = given_value (codes "message") rows filled message.0 in
-    let h = given_value (codes "hex") rows filled hex.0 in
-    (show p.0 m.0 h.0, (refl, p.1, m.1, h.1))
+    let asked : AbstractEncoding = record {
+      policy = p.0;
+      message = m.0;
+      value = first_of (codes "value") rows;
+      from = first_of (codes "from") rows;
+      to = first_of (codes "to") rows;
+      der = flag_of (codes "der") rows;
+    } in
+    (encode asked, (refl, p.1, m.1, refl, refl, refl, refl))
 
 run_asks : (words : List Text) → level_fault built_run [] nothing_held words false [] ≡ [] → Requests built_run words
 run_asks words e =
     let rows = rows_filled built_run [] words false [] e run_fills in
     let policy = given_next _ _ (check_none built_run [] words false [] e) in
     let path = given_value (codes "policy") (rows_after built_run.rules [] words) rows policy.0 in
-    (run path.0, (refl, path.1))
+    (run path.0 (flag_of (codes "verbose") (rows_after built_run.rules [] words)), (refl, path.1, refl))
 
 ask_asks : (words : List Text) → level_fault built_ask [] nothing_held words false [] ≡ [] → Requests built_ask words
 ask_asks words e =
@@ -246,23 +287,26 @@ mux_asks words e =
     let rows = rows_filled built_mux [] words false [] e mux_fills in
     let policy = given_next _ _ (check_none built_mux [] words false [] e) in
     let path = given_value (codes "policy") (rows_after built_mux.rules [] words) rows policy.0 in
-    (mux path.0, (refl, path.1))
+    (mux path.0 (flag_of (codes "verbose") (rows_after built_mux.rules [] words)), (refl, path.1, refl))
 
 decide_asks : (words : List Text) → level_fault built_decide [] nothing_held words false [] ≡ [] → Requests built_decide words
 decide_asks words e =
     let rows = rows_after built_decide.rules [] words in
     let filled = rows_filled built_decide [] words false [] e decide_fills in
     let policy = given_next _ _ (check_none built_decide [] words false [] e) in
-    let from = given_next _ _ policy.1 in
-    let to = given_next _ _ from.1 in
-    let message = given_next _ _ to.1 in
-    let hex = given_next _ _ message.1 in
     let p = given_value (codes "policy") rows filled policy.0 in
-    let f = given_value (codes "from") rows filled from.0 in
-    let t = given_value (codes "to") rows filled to.0 in
-    let m = given_value (codes "message") rows filled message.0 in
-    let h = given_value (codes "hex") rows filled hex.0 in
-    (decide p.0 (record { from = f.0; to = t.0; message = m.0 }) h.0 (flag_of (codes "explain") rows), (refl, p.1, f.1, t.1, m.1, h.1, refl))
+    let asked : AbstractQuestion = record {
+      policy = p.0;
+      from = first_of (codes "from") rows;
+      to = first_of (codes "to") rows;
+      message = first_of (codes "message") rows;
+      hex = first_of (codes "hex") rows;
+      der = first_of (codes "der") rows;
+      frame = first_of (codes "frame") rows;
+      link = first_of (codes "link") rows;
+      explain = flag_of (codes "explain") rows;
+    } in
+    (decide asked, (refl, p.1, refl, refl, refl, refl, refl, refl, refl, refl))
 
 -- ---- the command that the words name
 
@@ -308,10 +352,11 @@ entered_asks (Some p) another e there =
     or_next p (is built_check) built_check _ check_asks
     (or_next p (is built_decide) built_decide _ decide_asks
     (or_next p (is built_show) built_show _ show_asks
+    (or_next p (is built_encode) built_encode _ encode_asks
     (or_next p (is built_run) built_run _ run_asks
     (or_next p (is built_ask) built_ask _ ask_asks
     (or_next p (is built_mux) built_mux _ mux_asks
-    (no_help p (is (built_leaf help_shape)) (not_help_met p.0 another))))))) e there
+    (no_help p (is (built_leaf help_shape)) (not_help_met p.0 another)))))))) e there
 
 command_there : (b : Bool) (others : Kinds)
     → ◌≡◌ {A = Kinds} (cond (not b && false) (kind.DisplayHelpOnMissingArgumentOrSubcommand ∷ []) (cond (not b && true) (kind.MissingSubcommand ∷ []) others)) [] → b ≡ true
@@ -338,15 +383,51 @@ module _ (rows : List Row) where
   value_of : Text → Text
   value_of id = unwrap_or (first_of id rows) []
 
+  abbrev encoding_at : AbstractEncoding
+  encoding_at = record {
+    policy = value_of (codes "policy");
+    message = value_of (codes "message");
+    value = first_of (codes "value") rows;
+    from = first_of (codes "from") rows;
+    to = first_of (codes "to") rows;
+    der = flag_of (codes "der") rows;
+  }
+
+  abbrev decision_at : AbstractQuestion
+  decision_at = record {
+    policy = value_of (codes "policy");
+    from = first_of (codes "from") rows;
+    to = first_of (codes "to") rows;
+    message = first_of (codes "message") rows;
+    hex = first_of (codes "hex") rows;
+    der = first_of (codes "der") rows;
+    frame = first_of (codes "frame") rows;
+    link = first_of (codes "link") rows;
+    explain = flag_of (codes "explain") rows;
+  }
+
+  abbrev showing_at : AbstractQuestion
+  showing_at = record {
+    policy = value_of (codes "policy");
+    from = None;
+    to = None;
+    message = first_of (codes "message") rows;
+    hex = first_of (codes "hex") rows;
+    der = first_of (codes "der") rows;
+    frame = first_of (codes "frame") rows;
+    link = first_of (codes "link") rows;
+    explain = false;
+  }
+
   request_at : ℕ → AbstractRequest
   request_at letter =
-      if nat_eq letter 99 then check (value_of (codes "policy")) (flag_of (codes "explain") rows)
-      else if nat_eq letter 100
-      then decide (value_of (codes "policy")) (record { from = value_of (codes "from"); to = value_of (codes "to"); message = value_of (codes "message") }) (value_of (codes "hex")) (flag_of (codes "explain") rows)
-      else if nat_eq letter 115 then show (value_of (codes "policy")) (value_of (codes "message")) (value_of (codes "hex"))
-      else if nat_eq letter 114 then run (value_of (codes "policy"))
+      if nat_eq letter 99 then check (value_of (codes "policy")) (flag_of (codes "explain") rows) (flag_of (codes "strict") rows)
+      else if nat_eq letter 100 then decide decision_at
+      else if nat_eq letter 115 then show showing_at
+      else if nat_eq letter 101 then encode encoding_at
+      else if nat_eq letter 114 then run (value_of (codes "policy")) (flag_of (codes "verbose") rows)
       else if nat_eq letter 97 then ask (value_of (codes "policy"))
-      else if nat_eq letter 109 then mux (value_of (codes "policy"))
+      else if nat_eq letter 109 then mux (value_of (codes "policy")) (flag_of (codes "verbose") rows)
       else first
 
   is_value : (id : Text) (v : Text) → first_of id rows ≡ Some v → v ≡ value_of id
@@ -359,24 +440,43 @@ module _ (rows : List Row) where
   is_request_at : (name : Text) (r : AbstractRequest) → IsCommand name rows r → r ≡ request_at (slice_index name 0)
   unfolding request_at
   is_request_at name first h = absurd h
-  is_request_at name (check path explain) h =
+  is_request_at name (check path explain strict) h =
       let p = is_value (codes "policy") path h.1 in
-      (λ i. check (p i) (h.2 i)) ∙ named_at name (codes "check") h.0
-  is_request_at name (decide path route digits explain) h =
+      (λ i. check (p i) (h.2 i) (h.3 i)) ∙ named_at name (codes "check") h.0
+  is_request_at name (decide q) h =
+      let p = is_value (codes "policy") q.policy h.1 in
+      let f = sym h.2 in
+      let t = sym h.3 in
+      let m = sym h.4 in
+      let x = sym h.5 in
+      let d = sym h.6 in
+      let n = sym h.7 in
+      let l = sym h.8 in
+      (λ i. decide (record { policy = p i; from = f i; to = t i; message = m i; hex = x i; der = d i; frame = n i; link = l i; explain = h.9 i })) ∙ named_at name (codes "decide") h.0
+  is_request_at name (show q) h =
+      let p = is_value (codes "policy") q.policy h.1 in
+      let f = h.2 in
+      let t = h.3 in
+      let m = sym h.4 in
+      let x = sym h.5 in
+      let d = sym h.6 in
+      let n = sym h.7 in
+      let l = sym h.8 in
+      (λ i. show (record { policy = p i; from = f i; to = t i; message = m i; hex = x i; der = d i; frame = n i; link = l i; explain = h.9 i })) ∙ named_at name (codes "show") h.0
+  is_request_at name (encode asked) h =
+      let p = is_value (codes "policy") asked.policy h.1 in
+      let m = is_value (codes "message") asked.message h.2 in
+      let v = sym h.3 in
+      let f = sym h.4 in
+      let t = sym h.5 in
+      (λ i. encode (record { policy = p i; message = m i; value = v i; from = f i; to = t i; der = h.6 i })) ∙ named_at name (codes "encode") h.0
+  is_request_at name (run path verbose) h =
       let p = is_value (codes "policy") path h.1 in
-      let f = is_value (codes "from") route.from h.2 in
-      let t = is_value (codes "to") route.to h.3 in
-      let m = is_value (codes "message") route.message h.4 in
-      let d = is_value (codes "hex") digits h.5 in
-      (λ i. decide (p i) (record { from = f i; to = t i; message = m i }) (d i) (h.6 i)) ∙ named_at name (codes "decide") h.0
-  is_request_at name (show path message digits) h =
-      let p = is_value (codes "policy") path h.1 in
-      let m = is_value (codes "message") message h.2 in
-      let d = is_value (codes "hex") digits h.3 in
-      (λ i. show (p i) (m i) (d i)) ∙ named_at name (codes "show") h.0
-  is_request_at name (run path) h = ap run (is_value (codes "policy") path h.1) ∙ named_at name (codes "run") h.0
+      (λ i. run (p i) (h.2 i)) ∙ named_at name (codes "run") h.0
   is_request_at name (ask path) h = ap ask (is_value (codes "policy") path h.1) ∙ named_at name (codes "ask") h.0
-  is_request_at name (mux path) h = ap mux (is_value (codes "policy") path h.1) ∙ named_at name (codes "mux") h.0
+  is_request_at name (mux path verbose) h =
+      let p = is_value (codes "policy") path h.1 in
+      (λ i. mux (p i) (h.2 i)) ∙ named_at name (codes "mux") h.0
 
   one_command : (name : Text) (r s : AbstractRequest) → IsCommand name rows r → IsCommand name rows s → r ≡ s
   one_command name r s h g = is_request_at name r h ∙ sym (is_request_at name s g)

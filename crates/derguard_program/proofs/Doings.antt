@@ -1,19 +1,17 @@
 -- What the code does of one record, part by part.
-use Rattle.std.proofs.Common.{◌≡◌, ◌∙◌, ◌<◌, ◌≤◌, ◌⊎◌, inl, inr, max, ℕ, zero, suc, Bool, true, false, not, cond, nat_eq, List, [], ◌∷◌, ◌++◌, ap, refl, sym, subst, length, map, arith, get_or, slice_get, slice_set}
+use Rattle.std.proofs.Common.{◌≡◌, ◌∙◌, ◌<◌, ◌≤◌, ◌⊎◌, inl, inr, max, ℕ, zero, suc, Bool, true, false, not, cond, nat_eq, List, [], ◌∷◌, ◌++◌, ap, refl, sym, subst, length, arith, get_or, slice_get, slice_set}
 use mir.Val.{bool_byte}
 use Rattle.std.specs.Prelude.{Option, Some, None, Result, Ok, Err, OnSome, OnOk, IfErr}
 use Rattle.std.specs.List.{All}
 use Rattle.std.specs.Io.KnownBytes.{Appends}
-use Rattle.std.proofs.lemmas.List.{append-nil, length-map, length-set}
+use Rattle.std.proofs.lemmas.List.{length-map, length-set}
 use Rattle.std.proofs.lemmas.List.Elements.{All-cons}
-use Rattle.std.proofs.lemmas.Option.{same_Some, none-some, slice_get_past, slice_get_within, slice_get-get_or}
+use Rattle.std.proofs.lemmas.Option.{same_Some, none-some, slice_get-get_or}
 use Rattle.guard_frames.specs.declared.gateway.Gateway.{Gateway}
 use Rattle.guard_frames.specs.declared.gateway.StepFault.{StepFault}
 use Rattle.guard_frames.specs.declared.gateway.StepFault.TheVariants.{NoSuchLink}
 use Rattle.guard_frames.specs.declared.kept.Kept.{Kept}
 use Rattle.guard_frames.specs.declared.link.LinkFault.{LinkFault}
-use Rattle.guard_frames.specs.declared.link.LinkFault.TheVariants.{FrameTooLong, Closed, TornFrame}
-use Rattle.guard_frames.specs.declared.link.LinkFault.TheVariants as link_fault
 use Rattle.guard_frames.specs.declared.seats.Ends.{Ends}
 use Rattle.guard_frames.specs.Added.{Added, Octets, nothing}
 use Rattle.guard_frames.specs.Gateways.{AbstractGateway, AbstractEvent as event, step_answer}
@@ -39,9 +37,11 @@ use Rattle.derguard_program.specs.Muxing.{WritesPart, BreaksErr}
 use Rattle.derguard_program.specs.Passing.{InRecords, marked, fault_line}
 use Rattle.derguard_program.specs.Records.{Record}
 use Rattle.derguard_program.specs.Records.Record.{piece, end, reload}
-use Rattle.derguard_program.specs.Turns.{AbstractMux, Written, PassesOn, link_status}
+use Rattle.derguard_program.specs.Tallying.{IsSeen}
+use Rattle.derguard_program.specs.Turns.{AbstractMux, Written, PassesOn, link_status, renewed_note}
 use Rattle.derguard_program.proofs.PassingLaws.{all_records}
-use Rattle.derguard_program.specs.inside.Doing.{AreEmpty, IsReady, IsFed, ArePassed, AreCut, mux_of, IsTaken, IsCut, is_closed, Is, HadEnded}
+use Rattle.derguard_program.proofs.TallyLaws.{some_seen}
+use Rattle.derguard_program.specs.inside.Doing.{AreEmpty, added_to, IsReady, IsFed, ArePassed, AreCut, mux_of, IsTaken, IsCut, is_closed, Is, HadEnded}
 
 -- ---- one place of a list
 
@@ -188,17 +188,27 @@ module _ (path : List ℕ) (told : Told) (old : Links) (link : ℕ) (octets : Li
     status = refl;
   }
 
+  -- what the sinks of the link took is what was added
+  same_added : added_to fed.ends ≡ fed.added
+  same_added = λ i. record { out = fed.out i; reports = fed.reports i }
+
   pub piece_taken : (new : Links) (out : Octets) (e e₁ e₂ : Option (List ℕ)) → IsReady old.gateway
       → (p : ArePassed link fed.ends g new.gateway out (e, e₁))
       → Appends e₁ e₂ (fault_line link answer) → new.status ≡ max old.status (link_status fed.added.reports answer)
+      → IsSeen old.seen (added_to fed.ends) new.seen
       → IsTaken path told old (piece link octets) told new out (e, e₂)
-  piece_taken new out e e₁ e₂ ready p said status =
+  unfolding passes
+  piece_taken new out e e₁ e₂ ready p said status seen =
       let after : gateway_ends new.gateway ≡ slice_set (slice_set (gateway_ends old.gateway) link fed.ends) link
       p.emptied =
       p.others ∙ ap (λ (es : List (Ends Kept)). slice_set es link p.emptied) fed.others in
       record {
         w = written_of p.written;
-        happens = (passes p.written new.gateway p.records p.view, refl);
+        happens = (
+          passes p.written new.gateway p.records p.view,
+          refl,
+          subst (λ (a : Added). IsSeen old.seen a new.seen) same_added seen,
+        );
         sent = p.sent;
         told = Appends_trans e e₁ e₂ (marked link fed.added.reports) (fault_line link answer)
             (subst (λ (s : List ℕ). Appends e e₁ (marked link s)) fed.reports p.told) said;
@@ -215,12 +225,13 @@ module _ (path : List ℕ) (told : Told) (old : Links) (link : ℕ) (octets : Li
   pub piece_cut_passing : (s : Stop) (o o₁ e e₁ : Option (List ℕ)) (f k : Bool)
       → AreCut s link fed.ends (device o o₁ f) (device e e₁ k)
       → IsCut s path (mux_of told old) (piece link octets) (device o o₁ f) (device e e₁ k)
+  unfolding passes
   piece_cut_passing BadRecord o o₁ e e₁ f k h = h
   piece_cut_passing ReadFailed o o₁ e e₁ f k h = h
   piece_cut_passing WriteFailed o o₁ e e₁ f k h = record {
     w = written_of h.written;
-    new = record { told = told; gateway = gateway_view g };
-    happens = (passes h.written g h.records refl, refl);
+    new = record { told = told; gateway = gateway_view g; seen = (some_seen old.seen fed.added).0 };
+    happens = (passes h.written g h.records refl, refl, (some_seen old.seen fed.added).1);
     out_part = h.part;
     err_part = [];
     breaks = (h.failed, h.prefix, refl);
@@ -229,8 +240,8 @@ module _ (path : List ℕ) (told : Told) (old : Links) (link : ℕ) (octets : Li
   }
   piece_cut_passing ErrorFailed o o₁ e e₁ f k h = record {
     w = written_of h.written;
-    new = record { told = told; gateway = gateway_view g };
-    happens = (passes h.written g h.records refl, refl);
+    new = record { told = told; gateway = gateway_view g; seen = (some_seen old.seen fed.added).0 };
+    happens = (passes h.written g h.records refl, refl, (some_seen old.seen fed.added).1);
     out_part = h.written;
     err_part = h.part;
     breaks = (
@@ -248,12 +259,13 @@ module _ (path : List ℕ) (told : Told) (old : Links) (link : ℕ) (octets : Li
       → (s ≡ ErrorFailed) × (k ≡ true) × ((part : List ℕ) × IsProperPrefix part (fault_line link answer)
       × Appends e₁ e₂ part)
       → IsCut s path (mux_of told old) (piece link octets) (device o o₁ f) (device e e₂ k)
+  unfolding passes
   piece_cut_telling s new o o₁ e e₁ e₂ f k p h =
       let cut : WritesPart path (mux_of told old) (piece link octets) [] (device o o₁ f) (device e e₂ k) BreaksErr =
       record {
         w = written_of p.written;
-        new = record { told = told; gateway = gateway_view new };
-        happens = (passes p.written new p.records p.view, refl);
+        new = record { told = told; gateway = gateway_view new; seen = (some_seen old.seen fed.added).0 };
+        happens = (passes p.written new p.records p.view, refl, (some_seen old.seen fed.added).1);
         out_part = p.written;
         err_part = marked link fed.added.reports ++ h.2.0;
         breaks = (h.1, refl, Prefix_second h.2.0 (marked link fed.added.reports) (fault_line link answer) h.2.1);
@@ -317,10 +329,11 @@ module _ (old : Links) (link : ℕ) (answer : Result (Unit {0}) LinkFault) (g : 
 
   pub end_taken : (path : List ℕ) (told : Told) (new : Links) (o e e₁ : Option (List ℕ)) → new.gateway ≡ g
       → IsReady g → Appends e e₁ (fault_line link answer)
-      → new.status ≡ max old.status (link_status [] answer) → IsTaken path told old (end link) told new (o, o) (e, e₁)
-  end_taken path told new o e e₁ same ready said status = record {
+      → new.status ≡ max old.status (link_status [] answer) → new.seen ≡ old.seen
+      → IsTaken path told old (end link) told new (o, o) (e, e₁)
+  end_taken path told new o e e₁ same ready said status seen = record {
     w = ended_written;
-    happens = (end_passes new.gateway same, refl);
+    happens = (end_passes new.gateway same, refl, seen);
     sent = Appends_none o;
     told = said;
     status = status;
@@ -332,8 +345,8 @@ module _ (old : Links) (link : ℕ) (answer : Result (Unit {0}) LinkFault) (g : 
       → Appends e e₁ part → WritesPart path (mux_of told old) (end link) [] (device o o f) (device e e₁ k) BreaksErr
   end_cut path told o e e₁ f k failed part prefix said = record {
     w = ended_written;
-    new = record { told = told; gateway = gateway_view g };
-    happens = (end_passes g refl, refl);
+    new = record { told = told; gateway = gateway_view g; seen = old.seen };
+    happens = (end_passes g refl, refl, refl);
     out_part = [];
     err_part = part;
     breaks = (failed, refl, prefix);
@@ -355,7 +368,7 @@ module _ (old : Links) (link : ℕ) (answer : Result (Unit {0}) LinkFault) (g : 
   ]
 
   pub had_ended : is_closed answer ≡ true → (e : Option (List ℕ)) → IsReady g
-      → HadEnded link old (record { gateway = g; status = old.status }) (e, e)
+      → HadEnded link old (record { gateway = g; status = old.status; seen = old.seen }) (e, e)
   had_ended is e ready = elim step [
     | inl h ↦ absurd (not_answered answer h.answered)
     | inr h ↦
@@ -369,6 +382,7 @@ module _ (old : Links) (link : ℕ) (answer : Result (Unit {0}) LinkFault) (g : 
           same = h.0.others ∙ ap (λ (ls : List AbstractLink). record (gateway_view old.gateway) { links = ls }) links;
           told = refl;
           status = refl;
+          seen = refl;
           ready = ready;
         }
   ]
@@ -383,32 +397,77 @@ pub told_err : {A E : Type 0} {P Q : E → Type 0} (r : Result A E) → IfErr r 
 told_err (Ok x) p f = tt
 told_err (Err e) p f = f e p
 
+-- standard error failed, and not standard output
+write_error : WriteFailed ≡ ErrorFailed → ⊥
+write_error e = absurd cc
+
+pub is_error : {P : Stop → Type 0} (r : Result (Unit {0}) Stop) → IfErr r P → ((s : Stop) → P s → s ≡ ErrorFailed)
+    → r ≡ Err WriteFailed → ⊥
+is_error (Ok done) h is e = absurd cc
+is_error (Err BadRecord) h is e = absurd cc
+is_error (Err ReadFailed) h is e = absurd cc
+is_error (Err WriteFailed) h is e = write_error (is WriteFailed h)
+is_error (Err ErrorFailed) h is e = absurd cc
+
 pub cut_as_error : (s : Stop) (path : List ℕ) (old : AbstractMux) (r : Record) (out err : Device) → s ≡ ErrorFailed
     → WritesPart path old r [] out err BreaksErr → IsCut s path old r out err
 cut_as_error s path old r out err is h = subst (λ (x : Stop). IsCut x path old r out err) (sym is) h
 
 -- ---- a new policy
 
+abbrev renewed_written : Links → AbstractPolicy → Written
+renewed_written old p =
+    record { out = []; err = renewed_note old.seen (length p.messages) (length p.rules); status = 0 }
+
+-- standard error fails in the note
+pub renewed_cut : (path : List ℕ) (told later : Told) (old : Links) (g : Gateway Kept) (p : AbstractPolicy)
+    (answer : Result (Unit {0}) StepFault) (added : Added) (part : List ℕ) (o e e₁ : Option (List ℕ)) (b k : Bool)
+    → IsPolicyAt told path p → IsLater told later
+    → Step (gateway_view old.gateway) (event.reload p) answer added (gateway_view g) → k ≡ true
+    → IsProperPrefix part (renewed_note old.seen (length p.messages) (length p.rules)) → Appends e e₁ part
+    → WritesPart path (mux_of told old) reload [] (device o o b) (device e e₁ k) BreaksErr
+renewed_cut path told later old g p answer added part o e e₁ b k read later_is step failed prefix said = record {
+  w = renewed_written old p;
+  new = record { told = later; gateway = gateway_view g; seen = old.seen };
+  happens = (
+    inl (record {
+      policy = p;
+      read = read;
+      step = record { answered = refl; same = step.same; adds = refl };
+      noted = refl;
+    }),
+    later_is,
+    refl,
+  );
+  out_part = [];
+  err_part = part;
+  breaks = (failed, refl, prefix);
+  sent = Appends_none o;
+  told = said;
+}
+
 pub renewed : (path : List ℕ) (told later : Told) (old new : Links) (p : AbstractPolicy)
-    (answer : Result (Unit {0}) StepFault) (added : Added) (o e : Option (List ℕ))
+    (answer : Result (Unit {0}) StepFault) (added : Added) (o e e₁ : Option (List ℕ))
     → IsReady old.gateway → IsPolicyAt told path p → IsLater told later
     → Step (gateway_view old.gateway) (event.reload p) answer added (gateway_view new.gateway)
-    → gateway_ends new.gateway ≡ gateway_ends old.gateway → new.status ≡ old.status
-    → IsTaken path told old reload later new (o, o) (e, e)
-renewed path told later old new p answer added o e ready read later_is step ends status = record {
-  w = record { out = []; err = []; status = 0 };
+    → gateway_ends new.gateway ≡ gateway_ends old.gateway → new.status ≡ old.status → new.seen ≡ old.seen
+    → Appends e e₁ (renewed_note old.seen (length p.messages) (length p.rules))
+    → IsTaken path told old reload later new (o, o) (e, e₁)
+renewed path told later old new p answer added o e e₁ ready read later_is step ends status seen said = record {
+  w = renewed_written old p;
   happens = (
     inl (record {
       policy = p;
       read = read;
       step =
           record { answered = refl; same = step.same; adds = refl };
-      silent = refl;
+      noted = refl;
     }),
     later_is,
+    seen,
   );
   sent = Appends_none o;
-  told = Appends_none e;
+  told = said;
   status = omega (arith, status);
   ready = record {
     many = ap (λ (x : AbstractGateway). length x.links) step.same ∙ ready.many;
@@ -423,11 +482,15 @@ pub kept_old : (path : List ℕ) (told later : Told) (old new : Links) (f : Faul
     (o e e₁ : Option (List ℕ))
     → IsReady old.gateway → IsNoPolicyAt told path f → IsLater told later → IsFaultLine f line status
     → Appends e e₁ line
-    → new.gateway ≡ old.gateway → new.status ≡ max old.status status
+    → new.gateway ≡ old.gateway → new.status ≡ max old.status status → new.seen ≡ old.seen
     → IsTaken path told old reload later new (o, o) (e, e₁)
-kept_old path told later old new f line status o e e₁ ready none later_is is said same greatest = record {
+kept_old path told later old new f line status o e e₁ ready none later_is is said same greatest seen = record {
   w = kept_written line status;
-  happens = (inr (record { fault = f; none = none; same = ap gateway_view same; out = refl; told = is }), later_is);
+  happens = (
+    inr (record { fault = f; none = none; same = ap gateway_view same; out = refl; told = is }),
+    later_is,
+    seen,
+  );
   sent = Appends_none o;
   told = said;
   status = greatest;
@@ -441,8 +504,8 @@ pub kept_cut : (path : List ℕ) (told later : Told) (old : Links) (f : Fault) (
     → WritesPart path (mux_of told old) reload [] (device o o b) (device e e₁ k) BreaksErr
 kept_cut path told later old f line part status o e e₁ b k none later_is is failed prefix said = record {
   w = kept_written line status;
-  new = record { told = later; gateway = gateway_view old.gateway };
-  happens = (inr (record { fault = f; none = none; same = refl; out = refl; told = is }), later_is);
+  new = record { told = later; gateway = gateway_view old.gateway; seen = old.seen };
+  happens = (inr (record { fault = f; none = none; same = refl; out = refl; told = is }), later_is, refl);
   out_part = [];
   err_part = part;
   breaks = (failed, refl, prefix);

@@ -1,5 +1,5 @@
 -- The ends of the links that are open, one after another.
-use Rattle.std.proofs.Common.{◌≡◌, ◌∙◌, ◌<◌, ◌≤◌, ◌+◌, max, ℕ, suc, Bool, true, false, List, [], ◌∷◌, ◌++◌, ap, refl, sym, subst, length, drop, arith, append_assoc, add-one, inl, inr, slice_get, slice_set}
+use Rattle.std.proofs.Common.{◌≡◌, ◌∙◌, ◌≤◌, ◌+◌, max, ℕ, suc, Bool, true, false, List, [], ◌∷◌, ◌++◌, ap, refl, sym, subst, length, drop, arith, append_assoc, add-one, inl, inr}
 use Rattle.std.specs.Prelude.{Option, Some, Result}
 use Rattle.std.specs.Io.KnownBytes.{Appends}
 use Rattle.std.proofs.lemmas.List.{append-nil, drop_all}
@@ -63,8 +63,8 @@ pub closed_more : (path : List ℕ) (told : Told) (old now new : Links) (e e₁ 
 closed_more path told old now new e e₁ e₂ link h so_far = record {
   before = so_far.before;
   closed = so_far.closed;
-  in_turn = subst (λ x. InTurn path (mux_of told old) so_far.before so_far.closed
-      (record { told = told; gateway = x })) (sym h.same) so_far.in_turn;
+  in_turn = subst (λ (m : AbstractMux). InTurn path (mux_of told old) so_far.before so_far.closed m)
+      (sym (λ i. record { told = told; gateway = h.same i; seen = h.seen i })) so_far.in_turn;
   left = so_far.left ∙ ap (λ (rs : List Record). so_far.before ++ rs) (left_closed now link h.before
       ∙ ap (λ x. ends_left (suc link) (drop (suc link) x.links)) (sym h.same))
       ∙ ap (λ (n : ℕ). so_far.before ++ ends_left n (drop n (gateway_view new.gateway).links)) (sym (add-one link));

@@ -21,3 +21,8 @@ pub outside_has_value : (p : AbstractPolicy) (route : AbstractRoute) (octets : L
 outside_has_value p route octets w (inl h) = absurd (true≢false (sym (ap has_none h.1)))
 outside_has_value p route octets w (inr (t, there, inl h)) = absurd (true≢false (sym (ap has_none h.2)))
 outside_has_value p route octets w (inr (t, there, inr (v, fit, is, e))) = (t, v, there, fit, is, tt)
+
+pub pass_has_value : (p : AbstractPolicy) (route : AbstractRoute) (octets : List ℕ) → IsReason p route octets pass → HasValue p route.message octets
+pass_has_value p route octets (inl h) = absurd (true≢false (sym (ap has_none h.1)))
+pass_has_value p route octets (inr (t, there, inl h)) = absurd (true≢false (sym (ap has_none h.2)))
+pass_has_value p route octets (inr (t, there, inr (v, fit, is, e))) = (t, v, there, fit, is, tt)

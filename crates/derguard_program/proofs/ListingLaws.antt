@@ -1,5 +1,5 @@
 -- The rules and messages of a policy, one after another, as a loop over their numbers has them.
-use Rattle.std.proofs.Common.{◌≡◌, ◌∙◌, ◌+◌, ◌<◌, ℕ, zero, suc, List, [], ◌∷◌, ◌++◌, Option, Some, None, length, drop, option_map, refl, ap, sym, add-one, append_assoc, arith}
+use Rattle.std.proofs.Common.{◌≡◌, ◌∙◌, ◌+◌, ◌<◌, ℕ, Bool, zero, suc, List, [], ◌∷◌, ◌++◌, Option, Some, None, length, drop, option_map, refl, ap, sym, add-one, append_assoc, arith}
 use Rattle.std.specs.Prelude.{slice_get, unwrap_or}
 use Rattle.guard_policy.specs.Policies.{AbstractMessage, AbstractPolicy, AbstractRule}
 use Rattle.derguard_program.specs.Listing.{FoundRule, found_from, found_rule, message_lines, messages_lines}
@@ -32,22 +32,22 @@ one_found p rules i r done f all at is so_far =
 
 -- ---- messages
 
-messages_next : (rules : List FoundRule) (ms : List AbstractMessage) (i : ℕ) (name : List ℕ) → option_map (λ m. m.name) (slice_get ms i) ≡ Some name
-    → messages_lines rules (drop i ms) ≡ message_lines rules name ++ messages_lines rules (drop (suc i) ms)
-messages_next rules [] i name at = absurd cc
-messages_next rules (m ∷ ms) zero name at =
+messages_next : (strict : Bool) (rules : List FoundRule) (ms : List AbstractMessage) (i : ℕ) (name : List ℕ) → option_map (λ m. m.name) (slice_get ms i) ≡ Some name
+    → messages_lines strict rules (drop i ms) ≡ message_lines strict rules name ++ messages_lines strict rules (drop (suc i) ms)
+messages_next strict rules [] i name at = absurd cc
+messages_next strict rules (m ∷ ms) zero name at =
     let same : m.name ≡ name = ap (λ o. unwrap_or o name) at in
-    ap (λ (x : List ℕ). message_lines rules x ++ messages_lines rules ms) same
-messages_next rules (m ∷ ms) (suc i) name at = messages_next rules ms i name at
+    ap (λ (x : List ℕ). message_lines strict rules x ++ messages_lines strict rules ms) same
+messages_next strict rules (m ∷ ms) (suc i) name at = messages_next strict rules ms i name at
 
 -- the lines of one more message
-pub one_message : (rules : List FoundRule) (ms : List AbstractMessage) (i : ℕ) (name text all : List ℕ) → option_map (λ m. m.name) (slice_get ms i) ≡ Some name
-    → text ++ messages_lines rules (drop i ms) ≡ all
-    → (text ++ message_lines rules name) ++ messages_lines rules (drop (i + 1) ms) ≡ all
-one_message rules ms i name text all at so_far =
-    append_assoc text (message_lines rules name) (messages_lines rules (drop (i + 1) ms))
-    ∙ ap (λ (n : ℕ). text ++ (message_lines rules name ++ messages_lines rules (drop n ms))) (add-one i)
-    ∙ ap (λ (xs : List ℕ). text ++ xs) (sym (messages_next rules ms i name at))
+pub one_message : (strict : Bool) (rules : List FoundRule) (ms : List AbstractMessage) (i : ℕ) (name text all : List ℕ) → option_map (λ m. m.name) (slice_get ms i) ≡ Some name
+    → text ++ messages_lines strict rules (drop i ms) ≡ all
+    → (text ++ message_lines strict rules name) ++ messages_lines strict rules (drop (i + 1) ms) ≡ all
+one_message strict rules ms i name text all at so_far =
+    append_assoc text (message_lines strict rules name) (messages_lines strict rules (drop (i + 1) ms))
+    ∙ ap (λ (n : ℕ). text ++ (message_lines strict rules name ++ messages_lines strict rules (drop n ms))) (add-one i)
+    ∙ ap (λ (xs : List ℕ). text ++ xs) (sym (messages_next strict rules ms i name at))
     ∙ so_far
 
 pub no_message : (ms : List AbstractMessage) (i : ℕ) → option_map (λ m. m.name) (slice_get ms i) ≡ None → i < length ms → ⊥

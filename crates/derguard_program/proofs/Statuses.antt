@@ -1,8 +1,10 @@
 -- The status that comes of many links.
-use Rattle.std.proofs.Common.{◌≡◌, ◌∙◌, ◌≤◌, ◌⊎◌, max, inl, inr, ℕ, List, [], ◌∷◌, ◌++◌, ap, refl, sym, subst, arith}
-use Rattle.std.specs.Prelude.{Option, Result, Ok, Err}
+use Rattle.std.proofs.Common.{◌≡◌, ◌∙◌, ◌≤◌, max, inl, inr, ℕ, List, [], ◌∷◌, ◌++◌, ap, refl, sym, length, arith}
+use Rattle.std.specs.Prelude.{Option, Some, None, Result, Ok, Err}
+use Rattle.std.proofs.lemmas.Option.{none-some}
 use Rattle.std.specs.Io.KnownBytes.{Appends}
 use Rattle.guard_frames.specs.declared.link.LinkFault.{LinkFault}
+use Rattle.guard_frames.specs.Added.{Added}
 use Rattle.guard_frames.specs.Gateways.{AbstractGateway, AbstractEvent}
 use Rattle.guard_frames.proofs.Appending.{Appends_is}
 use Rattle.derguard_program.specs.declared.fault.Fault.{Fault}
@@ -16,7 +18,9 @@ use Rattle.derguard_program.specs.Muxing.{GuardsLinks, TellsStop}
 use Rattle.derguard_program.specs.Passing.{marked, fault_line}
 use Rattle.derguard_program.specs.Records.{Record}
 use Rattle.derguard_program.specs.Records.Record.{piece, end, reload}
-use Rattle.derguard_program.specs.Turns.{AbstractMux, Written, Happens, PassesOn, InTurn, all_err, status_of, link_status}
+use Rattle.derguard_program.specs.declared.seen.Seen.{Seen}
+use Rattle.derguard_program.specs.Tallying.{IsSeen}
+use Rattle.derguard_program.specs.Turns.{AbstractMux, Written, Happens, PassesOn, InTurn, all_err, status_of, link_status, renewed_note}
 use Rattle.derguard_program.specs.Writing.{IsFaultLine, TellsOctets, Tells}
 use Rattle.derguard_program.proofs.Turning.{all_err-append, status_of-append}
 
@@ -90,16 +94,30 @@ happens_most : (path : List ℕ) (r : Record) (old new : AbstractMux) (w : Writt
     → w.status ≤ 3
 happens_most path (piece link octets) old new w h = passed_most link old.gateway new.gateway _ w h.0
 happens_most path (end link) old new w h = passed_most link old.gateway new.gateway _ w h.0
-happens_most path reload old new w (inl h, later) = let is : w.status ≡ 0 =
-    ap (λ (x : Written). x.status) h.silent in omega (arith, is)
-happens_most path reload old new w (inr h, later) = line_most h.fault w.err w.status h.told
+happens_most path reload old new w (inl h, later, same) = let is : w.status ≡ 0 =
+    ap (λ (x : Written). x.status) h.noted in omega (arith, is)
+happens_most path reload old new w (inr h, later, same) = line_most h.fault w.err w.status h.told
 
+-- and no notes are asked for
 happens_silent : (path : List ℕ) (r : Record) (old new : AbstractMux) (w : Written) → Happens path old r w new
-    → w.status ≡ 0 → w.err ≡ []
-happens_silent path (piece link octets) old new w h none = passed_silent link old.gateway new.gateway _ w h.0 none
-happens_silent path (end link) old new w h none = passed_silent link old.gateway new.gateway _ w h.0 none
-happens_silent path reload old new w (inl h, later) none = ap (λ (x : Written). x.err) h.silent
-happens_silent path reload old new w (inr h, later) none = absurd (line_some h.fault w.err w.status h.told none)
+    → old.seen ≡ None → w.status ≡ 0 → w.err ≡ []
+happens_silent path (piece link octets) old new w h quiet none = passed_silent link old.gateway new.gateway _ w h.0 none
+happens_silent path (end link) old new w h quiet none = passed_silent link old.gateway new.gateway _ w h.0 none
+happens_silent path reload old new w (inl h, later, same) quiet none =
+    ap (λ (x : Written). x.err) h.noted
+    ∙ ap (λ (x : Option Seen). renewed_note x (length h.policy.messages) (length h.policy.rules)) quiet
+happens_silent path reload old new w (inr h, later, same) quiet none =
+    absurd (line_some h.fault w.err w.status h.told none)
+
+seen_none : (old new : Option Seen) (added : Added) → IsSeen old added new → old ≡ None → new ≡ None
+seen_none None new added h quiet = h
+seen_none (Some s) new added h quiet = absurd (none-some s (sym quiet))
+
+happens_quiet : (path : List ℕ) (r : Record) (old new : AbstractMux) (w : Written) → Happens path old r w new
+    → old.seen ≡ None → new.seen ≡ None
+happens_quiet path (piece link octets) old new w h quiet = seen_none old.seen new.seen h.0.added h.2 quiet
+happens_quiet path (end link) old new w h quiet = h.2 ∙ quiet
+happens_quiet path reload old new w h quiet = h.2 ∙ quiet
 
 -- ---- records in turn
 
@@ -113,13 +131,20 @@ turns_most path (r ∷ rs) old new ws h =
     omega (arith, is, one, others)
 
 turns_silent : (path : List ℕ) (rs : List Record) (old new : AbstractMux) (ws : List Written)
-    → InTurn path old rs ws new → status_of ws ≡ 0 → all_err ws ≡ []
-turns_silent path [] old new ws h none = ap all_err h.0
-turns_silent path (r ∷ rs) old new ws h none =
+    → InTurn path old rs ws new → old.seen ≡ None → status_of ws ≡ 0 → all_err ws ≡ []
+turns_silent path [] old new ws h quiet none = ap all_err h.0
+turns_silent path (r ∷ rs) old new ws h quiet none =
     let is : status_of ws ≡ max h.0.status (status_of h.1) = ap status_of h.3 in
-    let one = happens_silent path r old h.2 h.0 h.4 (omega (arith, is, none)) in
-    let others = turns_silent path rs h.2 new h.1 h.5 (omega (arith, is, none)) in
+    let one = happens_silent path r old h.2 h.0 h.4 quiet (omega (arith, is, none)) in
+    let others = turns_silent path rs h.2 new h.1 h.5 (happens_quiet path r old h.2 h.0 h.4 quiet) (omega (arith, is, none))
+    in
     ap all_err h.3 ∙ ap (λ (s : List ℕ). s ++ all_err h.1) one ∙ others
+
+turns_quiet : (path : List ℕ) (rs : List Record) (old new : AbstractMux) (ws : List Written)
+    → InTurn path old rs ws new → old.seen ≡ None → new.seen ≡ None
+turns_quiet path [] old new ws h quiet = ap (λ (m : AbstractMux). m.seen) h.1 ∙ quiet
+turns_quiet path (r ∷ rs) old new ws h quiet =
+    turns_quiet path rs h.2 new h.1 h.5 (happens_quiet path r old h.2 h.0 h.4 quiet)
 
 -- ---- the whole stream
 
@@ -150,8 +175,9 @@ links_silent told path input out err (inl h) = absurd (told_zero h.0 err 0 h.4 r
 links_silent told path input out err (inr (p, later, read, is, inl h)) =
     let both = status_of-append h.all.written h.closed in
     let all = h.greatest in
-    let first = turns_silent path h.all.records _ h.all.last h.all.written h.all.in_turn (omega (arith, all, both)) in
-    let last = turns_silent path _ h.all.last h.after h.closed h.ends (omega (arith, all, both)) in
+    let first = turns_silent path h.all.records _ h.all.last h.all.written h.all.in_turn refl (omega (arith, all, both)) in
+    let quiet = turns_quiet path h.all.records _ h.all.last h.all.written h.all.in_turn refl in
+    let last = turns_silent path _ h.all.last h.after h.closed h.ends quiet (omega (arith, all, both)) in
     Appends_is err.before err.after (all_err (h.all.written ++ h.closed)) []
     (all_err-append h.all.written h.closed ∙ ap (λ (s : List ℕ). s ++ all_err h.closed) first ∙ last) h.told
 links_silent told path input out err (inr (p, later, read, is, inr h)) =

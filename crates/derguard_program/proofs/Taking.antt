@@ -1,5 +1,5 @@
 -- The records of a stream, taken one after another, and how that ends.
-use Rattle.std.proofs.Common.{◌≡◌, ◌∙◌, ◌^◌, ◌-◌, ◌<◌, ◌≤◌, ◌⊎◌, inl, inr, max, ℕ, Bool, true, List, [], ◌∷◌, ◌++◌, ap, refl, sym, subst, length, take, map, arith}
+use Rattle.std.proofs.Common.{◌≡◌, ◌∙◌, ◌^◌, ◌-◌, ◌<◌, ◌≤◌, inl, inr, ℕ, Bool, List, [], ◌∷◌, ◌++◌, ap, refl, sym, subst, length, take, map, arith}
 use Rattle.std.specs.Prelude.{Option, Some, None, IfSome}
 use Rattle.std.specs.List.{concat, All}
 use Rattle.std.specs.Io.KnownBytes.{Appends, Consumes, IsAtEnd}
@@ -11,16 +11,17 @@ use Rattle.guard_frames.proofs.Appending.{Appends_none, Appends_trans, Appends_i
 use Rattle.guard_frames.proofs.Elements.{All_none, All_more}
 use Rattle.guard_frames.proofs.Reading.{Consumes_none, Consumes_trans}
 use Rattle.derguard_program.specs.declared.links.Links.{Links}
+use Rattle.derguard_program.specs.declared.seen.Seen.{Seen}
 use Rattle.derguard_program.specs.declared.records.Header.{Header}
 use Rattle.derguard_program.specs.declared.records.Header.TheVariants.{Piece, End, Reload}
 use Rattle.derguard_program.specs.declared.stop.Stop.{Stop}
 use Rattle.derguard_program.specs.declared.stop.Stop.TheVariants.{BadRecord, ReadFailed, WriteFailed, ErrorFailed}
 use Rattle.derguard_program.specs.Devices.{Input, Device, input_of, device}
 use Rattle.derguard_program.specs.Files.{Told}
-use Rattle.derguard_program.specs.Muxing.{Takes, Finishes, StopsAt, Stops, BreaksAtRecord, BreaksAtEnd, WritesPart, BreaksOut, BreaksErr}
-use Rattle.derguard_program.specs.Records.{Record, record_octets, IsAllowed, HasNoRecord}
+use Rattle.derguard_program.specs.Muxing.{Takes, Finishes, StopsAt, Stops, BreaksAtRecord, WritesPart, BreaksOut, BreaksErr, TellsStopWith, seen_before}
+use Rattle.derguard_program.specs.Records.{Record, record_octets, IsAllowed}
 use Rattle.derguard_program.specs.Turns.{AbstractMux, Written, InTurn, all_out, all_err, status_of}
-use Rattle.derguard_program.specs.inside.Doing.{IsReady, mux_of, IsTaken, IsCut, AreEnded, IsEndCut}
+use Rattle.derguard_program.specs.inside.Doing.{IsReady, mux_of, IsTaken, IsCut, AreEnded, IsEndCut, IsSeenBefore}
 use Rattle.derguard_program.specs.inside.Headers.{record_of, IsGood, IsNone}
 use Rattle.derguard_program.proofs.Turning.{one_more, all_out-append, all_err-append, sent_more, told_more, status_of-append, status_of-more, after}
 
@@ -59,7 +60,7 @@ allowed_of (Piece link size) room good whole =
 allowed_of (End link) room good whole = good
 allowed_of Reload room good whole = tt
 
-joined_last : (records : List Record) (r : Record)
+pub joined_last : (records : List Record) (r : Record)
     → concat (map record_octets (records ++ r ∷ [])) ≡ concat (map record_octets records) ++ record_octets r
 joined_last records r =
     ap concat (map-append record_octets records (r ∷ []))
@@ -102,7 +103,7 @@ module _ (path : List ℕ) (first : AbstractMux) (a b : Option (List ℕ)) (o o�
   }
 
   -- the ends of the links are taken after all records
-  pub finishes : (c e₂ : Option (List ℕ)) (m n : ℕ) (failed f k : Bool) (links₁ : Links) → Consumes b c []
+  abbrev pub finishes : (c e₂ : Option (List ℕ)) (m n : ℕ) (failed f k : Bool) (links₁ : Links) → Consumes b c []
       → IsAtEnd c → AreEnded path told links links₁ (e₁, e₂)
       → Finishes path first (input_of a c m n failed) (device o o₁ f) (device e e₂ k) links₁.status
   finishes c e₂ m n failed f k links₁ read at_end h =
@@ -124,13 +125,13 @@ module _ (path : List ℕ) (first : AbstractMux) (a b : Option (List ℕ)) (o o�
         greatest = omega (arith, is, was, greatest);
       }
 
-  pub stops_at : (c : Option (List ℕ)) (m n : ℕ) (failed f k : Bool) (rest : List ℕ) (IsRest : List ℕ → Type 0)
+  abbrev pub stops_at : (c : Option (List ℕ)) (m n : ℕ) (failed f k : Bool) (rest : List ℕ) (IsRest : List ℕ → Type 0)
       → Consumes b c rest → IsRest rest
       → StopsAt path first (input_of a c m n failed) (device o o₁ f) (device e e₁ k) IsRest
   stops_at c m n failed f k rest IsRest read is =
       record { rest = rest; all = takes c m n failed rest read; is = is; sent = so_far.sent; told = so_far.said }
 
-  breaks_at : (c o₂ e₂ : Option (List ℕ)) (m n : ℕ) (failed f k : Bool) (r : Record)
+  abbrev breaks_at : (c o₂ e₂ : Option (List ℕ)) (m n : ℕ) (failed f k : Bool) (r : Record)
       (Breaks : Device → Device → Written → List ℕ → List ℕ → Type 0)
       → ((w : Written) (s t : List ℕ) → Breaks (device o₁ o₂ f) (device e₁ e₂ k) w s t
       → Breaks (device o o₂ f) (device e e₂ k) w s t)
@@ -146,24 +147,32 @@ module _ (path : List ℕ) (first : AbstractMux) (a b : Option (List ℕ)) (o o�
         (after path (mux_of told links) r so_far.written [] o o₁ o₂ e e₁ e₂ f k Breaks moved so_far.sent so_far.said h);
   }
 
+  -- why they stop, and what is seen then
+  abbrev StopsSeen : Stop → Option (List ℕ) → Option (List ℕ) → Option (List ℕ) → ℕ → ℕ → Bool → Bool → Bool
+      → Option Seen → Type 0
+  StopsSeen s c o₂ e₂ m n failed f k seen =
+      (h : Stops s path first (input_of a c m n failed) (device o o₂ f) (device e e₂ k))
+      × IsSeenBefore s path first (input_of a c m n failed) (device o o₂ f) (device e e₂ k) h seen
+
   -- an output fails in what is written of a record
   pub cut_at : (s : Stop) (c o₂ e₂ : Option (List ℕ)) (m n : ℕ) (failed f k : Bool) (r : Record) → IsAllowed r
       → Consumes b c (record_octets r)
       → IsCut s path (mux_of told links) r (device o₁ o₂ f) (device e₁ e₂ k)
-      → Stops s path first (input_of a c m n failed) (device o o₂ f) (device e e₂ k)
-  cut_at BadRecord c o₂ e₂ m n failed f k r ok read h = absurd h
-  cut_at ReadFailed c o₂ e₂ m n failed f k r ok read h = absurd h
-  cut_at WriteFailed c o₂ e₂ m n failed f k r ok read h =
-      breaks_at c o₂ e₂ m n failed f k r BreaksOut (λ w s t b. b) ok read h
-  cut_at ErrorFailed c o₂ e₂ m n failed f k r ok read h =
-      inl (breaks_at c o₂ e₂ m n failed f k r BreaksErr (λ w s t b. b) ok read h)
+      → (seen : Option Seen) → (s ≡ WriteFailed → seen ≡ links.seen)
+      → StopsSeen s c o₂ e₂ m n failed f k seen
+  cut_at BadRecord c o₂ e₂ m n failed f k r ok read h seen kept = absurd h
+  cut_at ReadFailed c o₂ e₂ m n failed f k r ok read h seen kept = absurd h
+  cut_at WriteFailed c o₂ e₂ m n failed f k r ok read h seen kept =
+      (breaks_at c o₂ e₂ m n failed f k r BreaksOut (λ w s t b. b) ok read h, sym (kept refl))
+  cut_at ErrorFailed c o₂ e₂ m n failed f k r ok read h seen kept =
+      (inl (breaks_at c o₂ e₂ m n failed f k r BreaksErr (λ w s t b. b) ok read h), tt)
 
   -- or of the end of a link
   pub cut_at_end : (s : Stop) (c e₂ : Option (List ℕ)) (m n : ℕ) (failed f k : Bool) → s ≡ ErrorFailed
       → Consumes b c [] → IsAtEnd c
       → IsEndCut path told links (device o₁ o₁ f) (device e₁ e₂ k)
-      → Stops s path first (input_of a c m n failed) (device o o₁ f) (device e e₂ k)
-  cut_at_end s c e₂ m n failed f k is read at_end h =
+      → (seen : Option Seen) → StopsSeen s c o₁ e₂ m n failed f k seen
+  cut_at_end s c e₂ m n failed f k is read at_end h seen =
       let cut : Stops ErrorFailed path first (input_of a c m n failed) (device o o₁ f) (device e e₂ k) = inr (record {
         all = takes c m n failed [] read;
         at_end = at_end;
@@ -177,21 +186,21 @@ module _ (path : List ℕ) (first : AbstractMux) (a b : Option (List ℕ)) (o o�
         part = after path h.last h.next so_far.written h.closed o o₁ o₁ e e₁ e₂ f k BreaksErr
             (λ w s t b. b) so_far.sent so_far.said h.part;
       }) in
-      subst (λ (x : Stop). Stops x path first (input_of a c m n failed) (device o o₁ f) (device e e₂ k)) (sym is) cut
+      subst (λ (x : Stop). StopsSeen x c o₁ e₂ m n failed f k seen) (sym is) (cut, tt)
 
   -- no more can be read
   pub none_read : (s : Stop) (c : Option (List ℕ)) (m n reads : ℕ) (failed f k : Bool) (rest : List ℕ)
       → Consumes b c rest → IsNone s rest (IsAtEnd c) failed reads
-      → (reads ≡ 0 → WentUpBy m (2 ^ 40) n) → Stops s path first (input_of a c m n failed) (device o o₁ f)
-      (device e e₁ k)
-  none_read BadRecord c m n reads failed f k rest read why asked = stops_at c m n failed f k rest _ read why
+      → (reads ≡ 0 → WentUpBy m (2 ^ 40) n) → StopsSeen s c o₁ e₁ m n failed f k links.seen
+  none_read BadRecord c m n reads failed f k rest read why asked =
+      (stops_at c m n failed f k rest _ read why, refl)
   none_read ReadFailed c m n reads failed f k rest read why asked =
-      stops_at c m n failed f k rest _ read (why.0, elim why.1 [ inl x ↦ inl x | inr x ↦ inr (asked x) ])
+      (stops_at c m n failed f k rest _ read (why.0, elim why.1 [ inl x ↦ inl x | inr x ↦ inr (asked x) ]), refl)
   none_read WriteFailed c m n reads failed f k rest read why asked = absurd why
   none_read ErrorFailed c m n reads failed f k rest read why asked = absurd why
 
 -- the reason is reported after what standard error took, which changes nothing of which output failed
-pub stops_told : (s : Stop) (path : List ℕ) (first : AbstractMux) (input : Input) (out : Device)
+abbrev pub stops_told : (s : Stop) (path : List ℕ) (first : AbstractMux) (input : Input) (out : Device)
     (e e₁ : Option (List ℕ)) (was is : Bool) → (s ≡ ErrorFailed → is ≡ was)
     → Stops s path first input out (device e e₁ was) → Stops s path first input out (device e e₁ is)
 stops_told BadRecord path first input out e e₁ was is same h =
@@ -215,6 +224,45 @@ stops_told WriteFailed path first input out e e₁ was is same h = record {
 }
 stops_told ErrorFailed path first input out e e₁ was is same h =
     subst (λ (b : Bool). Stops ErrorFailed path first input out (device e e₁ b)) (sym (same refl)) h
+
+-- and so of records that are all taken
+abbrev pub finishes_told : (path : List ℕ) (first : AbstractMux) (input : Input) (out : Device)
+    (e e₁ : Option (List ℕ)) (was is : Bool) (status : ℕ) → Finishes path first input out (device e e₁ was) status
+    → Finishes path first input out (device e e₁ is) status
+finishes_told path first input out e e₁ was is status h = record {
+  all = h.all;
+  at_end = h.at_end;
+  closed = h.closed;
+  after = h.after;
+  ends = h.ends;
+  sent = h.sent;
+  told = h.told;
+  greatest = h.greatest;
+}
+
+-- nor of what is seen
+pub seen_told : (s : Stop) (path : List ℕ) (first : AbstractMux) (input : Input) (out : Device)
+    (e e₁ : Option (List ℕ)) (was is : Bool) (same : s ≡ ErrorFailed → is ≡ was)
+    (h : Stops s path first input out (device e e₁ was)) (seen : Option Seen)
+    → IsSeenBefore s path first input out (device e e₁ was) h seen
+    → IsSeenBefore s path first input out (device e e₁ is) (stops_told s path first input out e e₁ was is same h) seen
+seen_told BadRecord path first input out e e₁ was is same h seen x = x
+seen_told ReadFailed path first input out e e₁ was is same h seen x = x
+seen_told WriteFailed path first input out e e₁ was is same h seen x = x
+seen_told ErrorFailed path first input out e e₁ was is same h seen x = tt
+
+-- what is said of it
+pub tells_seen_before : (s : Stop) (path : List ℕ) (first : AbstractMux) (input : Input) (out err : Device)
+    (h : Stops s path first input out err) (seen : Option Seen) (told : Device) (status : ℕ)
+    → IsSeenBefore s path first input out err h seen → TellsStopWith s seen told status
+    → TellsStopWith s (seen_before s path first input out err h) told status
+tells_seen_before BadRecord path first input out err h seen told status same said =
+    subst (λ (x : Option Seen). TellsStopWith BadRecord x told status) (sym same) said
+tells_seen_before ReadFailed path first input out err h seen told status same said =
+    subst (λ (x : Option Seen). TellsStopWith ReadFailed x told status) (sym same) said
+tells_seen_before WriteFailed path first input out err h seen told status same said =
+    subst (λ (x : Option Seen). TellsStopWith WriteFailed x told status) (sym same) said
+tells_seen_before ErrorFailed path first input out err h seen told status same said = said
 
 -- ---- how often the source was asked
 

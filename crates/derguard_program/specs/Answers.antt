@@ -1,5 +1,5 @@
 -- What is answered to a request that reads no stream: what goes to standard output, and the status; or the fault.
-use Rattle.std.specs.Prelude.{◌≡◌, ◌⊎◌, ℕ, nat_eq, List, [], ◌∷◌, ◌++◌, codes, decimal, length, Ok, Err, if◌then◌else◌}
+use Rattle.std.specs.Prelude.{◌≡◌, ◌⊎◌, ℕ, nat_eq, List, [], ◌∷◌, ◌++◌, codes, decimal, length, Option, Some, None, Ok, Err, if◌then◌else◌}
 use Rattle.hex.specs.Hex.{decode_of}
 use Rattle.hex.specs.declared.error.FromHexError.{FromHexError}
 use Rattle.guard_policy.specs.Policies.{AbstractPolicy, AbstractRoute}
@@ -7,16 +7,20 @@ use Rattle.guard_policy.specs.Verdicts.{AbstractVerdict, pass, unknown_message, 
 use Rattle.guard_policy.specs.Decisions.{IsReason}
 use Rattle.guard_report.specs.Text.{verdict_octets}
 use Rattle.guard_frames.specs.declared.totals.Totals.{Totals}
+use Rattle.guard_frames.specs.Bodies.{AbstractBody}
 use Rattle.guard_frames.specs.Texts.{SayPolicy}
 use Rattle.derguard_program.specs.declared.answer.Answer.{Answer}
 use Rattle.derguard_program.specs.declared.fault.Fault.{Fault}
 use Rattle.derguard_program.specs.declared.fault.Fault.TheVariants.{BadHex, NoMemory}
-use Rattle.derguard_program.specs.Explaining.{AbstractSources, AreTextsOf, sources}
+use Rattle.derguard_program.specs.Devices.{Device, IsUntouched}
+use Rattle.derguard_program.specs.Explaining.{AbstractSources, AreTextsOf, TellsWith, sources}
 use Rattle.derguard_program.specs.Files.{Told}
 use Rattle.derguard_program.specs.FirstRun.{first_module, first_policy, IsFirstRun}
+use Rattle.derguard_program.specs.Framing.{route_body}
 use Rattle.derguard_program.specs.Listing.{listing}
 use Rattle.derguard_program.specs.Reading.{IsPolicyAt, IsNoPolicyAt, SayNothing}
 use Rattle.derguard_program.specs.Reasons.{ExplainsVerdict}
+use Rattle.derguard_program.specs.Writing.{Writes, Tells}
 
 -- what goes to standard output, and the status
 pub record AbstractAnswer : Type 0 where
@@ -25,6 +29,18 @@ pub record AbstractAnswer : Type 0 where
 
 abbrev pub answer_view : Answer → AbstractAnswer
 answer_view a = record { out = a.out.items; status = a.status }
+
+-- Such an answer is written, or such a fault is reported.
+abbrev pub Gives : (AbstractAnswer → Type 0) → (Fault → Type 0) → Device → Device → ℕ → Type 0
+Gives IsAnswer IsFault out err status =
+    ((a : AbstractAnswer) × IsAnswer a × Writes a.out a.status out err status)
+    ⊎ ((f : Fault) × IsFault f × IsUntouched out × Tells f err status)
+
+-- The same, where a fault is reported with what explains it.
+abbrev pub GivesExplained : (AbstractAnswer → Type 0) → (Fault → List ℕ → Type 0) → Device → Device → ℕ → Type 0
+GivesExplained IsAnswer IsFault out err status =
+    ((a : AbstractAnswer) × IsAnswer a × Writes a.out a.status out err status)
+    ⊎ ((f : Fault) × (note : List ℕ) × IsFault f note × IsUntouched out × TellsWith f note err status)
 
 -- ---- the status of a stream
 
@@ -79,6 +95,21 @@ IsDecided told path route digits a =
     (octets : List ℕ) × (p : AbstractPolicy) × (decode_of digits ≡ Ok octets) × IsPolicyAt told path p
     × IsVerdict p route octets a
 
+-- ---- of a message in a file or in a frame
+
+abbrev pub body_route : AbstractBody → AbstractRoute
+body_route b = record { from = b.sender; to = b.receiver; message = b.name }
+
+-- What is answered to it, by its route and its octets. A frame that isn't three names and a message is said to be none,
+-- as a report says it.
+abbrev pub OfHeld : (AbstractRoute → List ℕ → AbstractAnswer → Type 0) → Option AbstractBody → AbstractAnswer → Type 0
+OfHeld IsAnswer (Some b) a = IsAnswer (body_route b) b.message a
+OfHeld IsAnswer None a = (a.out ≡ codes "bad-header\n") × (a.status ≡ 1)
+
+-- the verdict on it, under the policy at the path
+abbrev pub IsHeldDecided : Told → List ℕ → Option AbstractBody → AbstractAnswer → Type 0
+IsHeldDecided told path held a = (p : AbstractPolicy) × IsPolicyAt told path p × OfHeld (IsVerdict p) held a
+
 -- ---- decide, explained
 
 -- the text of the reason and a line feed, and what explains it below
@@ -88,20 +119,20 @@ IsExplainedVerdict s p route octets a =
     × (a.out ≡ verdict_octets p route w ++ codes "\n" ++ note) × (a.status ≡ verdict_status w)
 
 -- under the policy that these texts say
-abbrev pub IsExplainedOver : AbstractSources → List ℕ → AbstractRoute → List ℕ → AbstractAnswer → Type 0
-IsExplainedOver s text route octets a =
-    (p : AbstractPolicy) × SayPolicy s.modules text p × IsExplainedVerdict s p route octets a
+abbrev pub IsExplainedOver : AbstractSources → List ℕ → Option AbstractBody → AbstractAnswer → Type 0
+IsExplainedOver s text held a =
+    (p : AbstractPolicy) × SayPolicy s.modules text p × OfHeld (IsExplainedVerdict s p) held a
 
 -- under the policy at the path, over the texts that say it
-abbrev pub IsDecidedOver : Told → List ℕ → AbstractRoute → List ℕ → AbstractAnswer → Type 0
-IsDecidedOver told path route octets a =
+abbrev pub IsHeldExplained : Told → List ℕ → Option AbstractBody → AbstractAnswer → Type 0
+IsHeldExplained told path held a =
     (text : List ℕ) × (files : List (List ℕ)) × (modules : List (List ℕ)) × AreTextsOf told path text files modules
-    × IsExplainedOver (sources path files modules) text route octets a
+    × IsExplainedOver (sources path files modules) text held a
 
 -- of the octets that the digits write
 abbrev pub IsDecidedExplained : Told → List ℕ → AbstractRoute → List ℕ → AbstractAnswer → Type 0
 IsDecidedExplained told path route digits a =
-    (octets : List ℕ) × (decode_of digits ≡ Ok octets) × IsDecidedOver told path route octets a
+    (octets : List ℕ) × (decode_of digits ≡ Ok octets) × IsHeldExplained told path (Some (route_body route octets)) a
 
 -- ---- nothing is decided
 

@@ -1,6 +1,7 @@
 -- ---- what is asked, and the texts that it needs
 pub mod Files
 pub mod Faults
+pub mod Questions
 pub mod Requests
 pub mod Words
 pub mod Reading
@@ -17,8 +18,17 @@ pub mod Asking
 -- ---- many links
 pub mod Records
 pub mod Passing
+pub mod Counted
+pub mod Tallying
 pub mod Turns
 pub mod Muxing
+-- ---- a message in a file, in a frame or in a frame of a link
+pub mod Numbered
+pub mod Linked
+pub mod Finding
+-- ---- a stream that is guarded with notes
+pub mod Verbose
+pub mod Watching
 -- ---- what explains a fault or a verdict
 pub mod Marking
 pub mod Notes
@@ -27,6 +37,15 @@ pub mod Reasons
 -- ---- what is listed of a policy, what is shown of a message
 pub mod Listing
 pub mod Shown
+pub mod Remarked
+pub mod Strictness
+-- ---- what encodes a value that is written
+pub mod ValueTexts
+pub mod Framing
+pub mod Intake
+pub mod Encodes
+-- ---- what decides or shows one message
+pub mod Deciding
 -- ---- what it is to meet a request
 pub mod Meeting
 -- ---- what only private contracts and proofs cite

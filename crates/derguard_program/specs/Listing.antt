@@ -1,8 +1,9 @@
 -- What `check --explain` lists of a policy that is accepted: each message with its rules in the order of the file, and
--- of each rule what keeps it from letting anything pass.
+-- of each rule what keeps it from letting anything pass; and what of it `check --strict` remarks.
 use Rattle.std.specs.Prelude.{ℕ, ◌+◌, Bool, true, false, not, ◌&&◌, ◌||◌, is_some, List, [], ◌∷◌, ◌++◌, codes, bytes_eq, Option, Some, None, if◌then◌else◌}
 use Rattle.std.specs.List.{list_any}
 use Rattle.std.specs.Option.{option_map_or}
+use Rattle.std.specs.Str.{str_eq_ignore_ascii_case}
 use Rattle.guard_model.specs.declared.site.Site.{Site}
 use Rattle.guard_model.specs.AbstractType.{AbstractType, Constraints, type_of, at, no_constraints, constraint}
 use Rattle.guard_model.specs.SameType.{same_site}
@@ -117,26 +118,74 @@ remarks rules f = barren_text f.barren ++ denied_text (denier_of rules f.rule) +
 abbrev pub rule_line : List FoundRule → FoundRule → List ℕ
 rule_line rules f = said_text f.rule ++ remarks rules f ++ codes "\n"
 
--- its line, where it speaks of the message
-abbrev pub line_of_message : List FoundRule → List ℕ → FoundRule → List ℕ
-line_of_message rules message f = if bytes_eq f.rule.message message then rule_line rules f else []
+-- something keeps it from letting anything pass
+abbrev pub has_remark : List FoundRule → FoundRule → Bool
+has_remark rules f = f.barren || is_some (denier_of rules f.rule) || is_closed rules f.rule
 
--- a line for each of these rules that speaks of the message
-abbrev pub rule_lines : List FoundRule → List ℕ → List FoundRule → List ℕ
-rule_lines rules message [] = []
-rule_lines rules message (f ∷ fs) = line_of_message rules message f ++ rule_lines rules message fs
+-- The listing has a line for each rule; strictly, only for those that are remarked.
+abbrev pub is_told : Bool → List FoundRule → FoundRule → Bool
+is_told strict rules f = not strict || has_remark rules f
+
+-- its line, where it speaks of the message and is told
+abbrev pub line_of_message : Bool → List FoundRule → List ℕ → FoundRule → List ℕ
+line_of_message strict rules message f =
+    if bytes_eq f.rule.message message && is_told strict rules f then rule_line rules f else []
+
+-- those of these rules
+abbrev pub rule_lines : Bool → List FoundRule → List ℕ → List FoundRule → List ℕ
+rule_lines strict rules message [] = []
+rule_lines strict rules message (f ∷ fs) =
+    line_of_message strict rules message f ++ rule_lines strict rules message fs
 
 abbrev pub unused_line : List ℕ → List ℕ
 unused_line message = codes "  " ++ message ++ codes ": no rule speaks of it, so nothing can pass\n"
 
-abbrev pub message_lines : List FoundRule → List ℕ → List ℕ
-message_lines rules message =
-    if list_any (λ f. bytes_eq f.rule.message message) rules then rule_lines rules message rules
+abbrev pub message_lines : Bool → List FoundRule → List ℕ → List ℕ
+message_lines strict rules message =
+    if list_any (λ f. bytes_eq f.rule.message message) rules then rule_lines strict rules message rules
     else unused_line message
 
-abbrev pub messages_lines : List FoundRule → List AbstractMessage → List ℕ
-messages_lines rules [] = []
-messages_lines rules (m ∷ ms) = message_lines rules m.name ++ messages_lines rules ms
+abbrev pub messages_lines : Bool → List FoundRule → List AbstractMessage → List ℕ
+messages_lines strict rules [] = []
+messages_lines strict rules (m ∷ ms) = message_lines strict rules m.name ++ messages_lines strict rules ms
+
+-- ---- names of parties
+
+-- the names that rules give for senders and receivers, in order
+abbrev pub parties : List FoundRule → List (List ℕ)
+parties [] = []
+parties (f ∷ fs) = f.rule.from ∷ f.rule.to ∷ parties fs
+
+-- they are one but for small and capital letters
+abbrev pub differ_in_case : List ℕ → List ℕ → Bool
+differ_in_case a b = str_eq_ignore_ascii_case a b && not (bytes_eq a b)
+
+abbrev pub case_line : List ℕ → List ℕ → List ℕ
+case_line a b = codes "  " ++ a ++ codes " and " ++ b ++ codes ": names of parties that differ in case alone\n"
+
+-- the first of the names that differs so from this one
+abbrev pub first_alike : List (List ℕ) → List ℕ → Option (List ℕ)
+first_alike [] b = None
+first_alike (a ∷ others) b = if differ_in_case a b then Some a else first_alike others b
+
+abbrev pub alike_line : Option (List ℕ) → List ℕ → List ℕ
+alike_line None b = []
+alike_line (Some a) b = case_line a b
+
+-- A name that was there before is not remarked again.
+abbrev pub case_lines_at : List (List ℕ) → List ℕ → List ℕ
+case_lines_at before b =
+    if list_any (λ a. bytes_eq a b) before then [] else alike_line (first_alike before b) b
+
+abbrev pub case_lines : List (List ℕ) → List (List ℕ) → List ℕ
+case_lines before [] = []
+case_lines before (b ∷ bs) = case_lines_at before b ++ case_lines (before ++ b ∷ []) bs
+
+-- ---- the whole
+
+-- strictly, what is remarked and no more
+abbrev pub told_lines : Bool → AbstractPolicy → List ℕ
+told_lines strict p = messages_lines strict (found_rules p) p.messages ++ case_lines [] (parties (found_rules p))
 
 -- what the remarks rest on
 abbrev pub last_line : List ℕ
@@ -145,4 +194,8 @@ last_line =
     "  Looked at: integers, sizes and the places of constraints. A rule without a remark may let nothing pass either.\n"
 
 abbrev pub listing : AbstractPolicy → List ℕ
-listing p = messages_lines (found_rules p) p.messages ++ last_line
+listing p = told_lines false p ++ last_line
+
+-- what `check --strict` remarks
+abbrev pub strict_remarks : AbstractPolicy → List ℕ
+strict_remarks p = told_lines true p

@@ -15,31 +15,29 @@ use Rattle.guard_frames.specs.declared.running.RunFault.TheVariants.{FrameTooLon
 use Rattle.derguard_program.specs.declared.fault.Fault.{Fault}
 use Rattle.derguard_program.specs.declared.fault.Fault.TheVariants.{BadHex, CannotRead, Schema, Policy, Run, NoMemory}
 use Rattle.derguard_program.specs.Files.{Told}
-use Rattle.derguard_program.specs.Requests.{AbstractRequest, first, check, decide, show, run, ask, mux}
+use Rattle.derguard_program.specs.Requests.{AbstractRequest, first, check, decide, show, encode, run, ask, mux}
 use Rattle.derguard_program.specs.Words.{Asks, joined, the_app, version}
 use Rattle.derguard_program.specs.Reading.{IsPolicyAt, IsNoPolicyAt}
-use Rattle.derguard_program.specs.Answers.{AbstractAnswer, totals_status, IsFirst, IsNoFirst, IsChecked, IsCheckedExplained, IsDecided, IsDecidedExplained, IsUndecided}
+use Rattle.derguard_program.specs.Answers.{AbstractAnswer, Gives, GivesExplained, totals_status, IsFirst, IsNoFirst, IsChecked, IsCheckedExplained}
 use Rattle.derguard_program.specs.Asking.{AsksStream}
+use Rattle.derguard_program.specs.Deciding.{Decides, ShowsAsked}
 use Rattle.derguard_program.specs.Devices.{Input, Device, IsUnread, IsUntouched}
-use Rattle.derguard_program.specs.Explaining.{IsExplained, IsUndecidedExplained, TellsWith}
-use Rattle.derguard_program.specs.Muxing.{GuardsLinks}
-use Rattle.derguard_program.specs.Shown.{IsShownAt}
+use Rattle.derguard_program.specs.Encodes.{Encodes}
+use Rattle.derguard_program.specs.Explaining.{IsExplained}
+use Rattle.derguard_program.specs.Muxing.{GuardsLinks, WatchesLinks}
+use Rattle.derguard_program.specs.Strictness.{ChecksStrictly}
+use Rattle.derguard_program.specs.Watching.{WatchesStream}
 use Rattle.derguard_program.specs.Writing.{Writes, Tells, TellsLine, TellsNoMemory}
 
 -- Such an answer is written, or such a fault is reported; nothing is read.
 abbrev pub Answers : (AbstractAnswer → Type 0) → (Fault → Type 0) → Input → Device → Device → ℕ → Type 0
-Answers IsAnswer IsFault input out err status =
-    IsUnread input
-    × (((a : AbstractAnswer) × IsAnswer a × Writes a.out a.status out err status)
-    ⊎ ((f : Fault) × IsFault f × IsUntouched out × Tells f err status))
+Answers IsAnswer IsFault input out err status = IsUnread input × Gives IsAnswer IsFault out err status
 
 -- The same, where a fault is reported with what explains it.
 abbrev pub AnswersExplained : (AbstractAnswer → Type 0) → (Fault → List ℕ → Type 0) → Input → Device → Device → ℕ
     → Type 0
 AnswersExplained IsAnswer IsFault input out err status =
-    IsUnread input
-    × (((a : AbstractAnswer) × IsAnswer a × Writes a.out a.status out err status)
-    ⊎ ((f : Fault) × (note : List ℕ) × IsFault f note × IsUntouched out × TellsWith f note err status))
+    IsUnread input × GivesExplained IsAnswer IsFault out err status
 
 -- What was read comes out or is reported under this policy, by the answer of the run.
 abbrev pub GuardsUnder : AbstractPolicy → Input → Device → Device → Result Totals RunFault → Type 0
@@ -97,15 +95,17 @@ GuardsStream told path input out err status =
 -- what is read, written and reported, and the status, by the request
 abbrev pub Meets : Told → AbstractRequest → Input → Device → Device → ℕ → Type 0
 Meets told first = Answers IsFirst IsNoFirst
-Meets told (check path false) = Answers (IsChecked told path) (IsNoPolicyAt told path)
-Meets told (check path true) = AnswersExplained (IsCheckedExplained told path) (IsExplained told path)
-Meets told (decide path route digits false) = Answers (IsDecided told path route digits) (IsUndecided told path digits)
-Meets told (decide path route digits true) =
-    AnswersExplained (IsDecidedExplained told path route digits) (IsUndecidedExplained told path digits)
-Meets told (show path message digits) = Answers (IsShownAt told path message digits) (IsUndecided told path digits)
-Meets told (run path) = GuardsStream told path
+Meets told (check path explain true) = ChecksStrictly told path explain
+Meets told (check path false false) = Answers (IsChecked told path) (IsNoPolicyAt told path)
+Meets told (check path true false) = AnswersExplained (IsCheckedExplained told path) (IsExplained told path)
+Meets told (decide q) = Decides told q
+Meets told (show q) = ShowsAsked told q
+Meets told (encode asked) = Encodes told asked
+Meets told (run path false) = GuardsStream told path
+Meets told (run path true) = WatchesStream told path
 Meets told (ask path) = AsksStream told path
-Meets told (mux path) = GuardsLinks told path
+Meets told (mux path false) = GuardsLinks told path
+Meets told (mux path true) = WatchesLinks told path
 
 -- What the reader of words says is help or the version, and no fault of the words.
 abbrev pub is_help : ErrorKind → Bool

@@ -1,5 +1,5 @@
 -- What comes of a stream of records of many links. This is the page to read of `mux`.
-use Rattle.std.specs.Prelude.{◌≡◌, ◌<◌, ◌^◌, ◌⊎◌, ℕ, true, List, [], ◌∷◌, ◌++◌, Option, length, map, replicate, codes}
+use Rattle.std.specs.Prelude.{◌≡◌, ◌<◌, ◌^◌, ◌⊎◌, ℕ, true, List, [], ◌∷◌, ◌++◌, Option, Some, None, length, map, replicate, codes}
 use Rattle.std.specs.List.{concat, All}
 use Rattle.std.specs.Io.KnownBytes.{Appends, Consumes, IsAtEnd}
 use Rattle.guard_policy.specs.Policies.{AbstractPolicy}
@@ -9,6 +9,7 @@ use Rattle.guard_frames.specs.LinkView.{new_link}
 use Rattle.guard_frames.specs.Prefix.{IsProperPrefix}
 use Rattle.guard_frames.specs.Totals.{WentUpBy}
 use Rattle.derguard_program.specs.declared.fault.Fault.{Fault}
+use Rattle.derguard_program.specs.declared.seen.Seen.{Seen}
 use Rattle.derguard_program.specs.declared.stop.Stop.{Stop}
 use Rattle.derguard_program.specs.declared.stop.Stop.TheVariants.{BadRecord, ReadFailed, WriteFailed, ErrorFailed}
 use Rattle.derguard_program.specs.Devices.{Input, Device, IsUnread, IsUntouched}
@@ -16,7 +17,8 @@ use Rattle.derguard_program.specs.Files.{Told, IsLater}
 use Rattle.derguard_program.specs.Reading.{IsPolicyAt, IsNoPolicyAt}
 use Rattle.derguard_program.specs.Records.{Record, record_octets, IsAllowed, HasNoRecord, IsBadHeader}
 use Rattle.derguard_program.specs.Turns.{AbstractMux, Written, Happens, InTurn, all_out, all_err, status_of, ends_left}
-use Rattle.derguard_program.specs.Writing.{Tells, TellsLine}
+use Rattle.derguard_program.specs.Verbose.{last_lines, nothing_seen}
+use Rattle.derguard_program.specs.Writing.{Tells, TellsLine, TellsOctets, TellsNoMemory}
 
 -- What was read is records and then this rest, and the records were taken in turn.
 pub record Takes (path : List ℕ) (first : AbstractMux) (input : Input) (rest : List ℕ) : Type 0 where
@@ -129,13 +131,58 @@ GuardsRecords path first input out err status =
     ⊎ ((s : Stop) × (reported : Option (List ℕ)) × Stops s path first input out (record err { after = reported })
     × TellsStop s (record err { before = reported }) status)
 
--- sixteen links that are open, under this policy
-abbrev pub new_mux : AbstractPolicy → Told → AbstractMux
-new_mux p told = record { told = told; gateway = record { policy = p; links = replicate 16 new_link } }
+-- sixteen links that are open, under this policy; notes are asked for where something is seen
+abbrev pub new_mux : AbstractPolicy → Told → Option Seen → AbstractMux
+new_mux p told seen =
+    record { told = told; gateway = record { policy = p; links = replicate 16 new_link }; seen = seen }
 
 -- What comes of a stream of records under the policy at the path. Where there is none, nothing is read or written.
 abbrev pub GuardsLinks : Told → List ℕ → Input → Device → Device → ℕ → Type 0
 GuardsLinks told path input out err status =
     ((f : Fault) × IsNoPolicyAt told path f × IsUnread input × IsUntouched out × Tells f err status)
     ⊎ ((p : AbstractPolicy) × (later : Told) × IsPolicyAt told path p × IsLater told later
-    × GuardsRecords path (new_mux p later) input out err status)
+    × GuardsRecords path (new_mux p later None) input out err status)
+
+-- ---- with notes
+
+-- what is seen of the records before that
+abbrev pub seen_before : (s : Stop) (path : List ℕ) (first : AbstractMux) (input : Input) (out err : Device)
+    → Stops s path first input out err → Option Seen
+seen_before BadRecord path first input out err h = h.all.last.seen
+seen_before ReadFailed path first input out err h = h.all.last.seen
+seen_before WriteFailed path first input out err h = h.all.last.seen
+seen_before ErrorFailed path first input out err h = None
+
+abbrev pub seen_lines : Option Seen → List ℕ
+seen_lines None = []
+seen_lines (Some s) = last_lines s
+
+-- The octets are said, with this status; or that there was no memory for them.
+abbrev pub TellsNotes : List ℕ → ℕ → Device → ℕ → Type 0
+TellsNotes octets status err result = TellsOctets octets status err result ⊎ TellsNoMemory err result
+
+-- Why the links aren't guarded to their ends, with what was seen. Where standard error failed nothing more is said.
+abbrev pub TellsStopWith : Stop → Option Seen → Device → ℕ → Type 0
+TellsStopWith BadRecord seen err status = TellsNotes (codes "derguard: bad record\n" ++ seen_lines seen) 3 err status
+TellsStopWith ReadFailed seen err status =
+    TellsNotes (codes "derguard: F5 ReadFailed\n" ++ seen_lines seen) 3 err status
+TellsStopWith WriteFailed seen err status =
+    TellsNotes (codes "derguard: F2 WriteFailed\nderguard: standard output failed\n" ++ seen_lines seen) 3 err status
+TellsStopWith ErrorFailed seen err status = (err.after ≡ err.before) × (status ≡ 3)
+
+-- The same of the records as without notes; then what is seen of them is said, behind the line that says why they
+-- aren't guarded to their ends.
+abbrev pub WatchesRecords : List ℕ → AbstractMux → Input → Device → Device → ℕ → Type 0
+WatchesRecords path first input out err status =
+    ((greatest : ℕ) × (reported : Option (List ℕ))
+    × (f : Finishes path first input out (record err { after = reported }) greatest)
+    × TellsNotes (seen_lines f.after.seen) greatest (record err { before = reported }) status)
+    ⊎ ((s : Stop) × (reported : Option (List ℕ)) × (h : Stops s path first input out (record err { after = reported }))
+    × TellsStopWith s (seen_before s path first input out (record err { after = reported }) h)
+    (record err { before = reported }) status)
+
+abbrev pub WatchesLinks : Told → List ℕ → Input → Device → Device → ℕ → Type 0
+WatchesLinks told path input out err status =
+    ((f : Fault) × IsNoPolicyAt told path f × IsUnread input × IsUntouched out × Tells f err status)
+    ⊎ ((p : AbstractPolicy) × (later : Told) × IsPolicyAt told path p × IsLater told later
+    × WatchesRecords path (new_mux p later (Some nothing_seen)) input out err status)

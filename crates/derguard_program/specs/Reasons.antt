@@ -1,6 +1,8 @@
 -- What comes below the text of a verdict where it is to be explained: of each constraint that the value fails its line
--- with a mark, and the part that fails it; of any other verdict that stops a message a sentence.
-use Rattle.std.specs.Prelude.{◌≡◌, ℕ, List, [], ◌∷◌, ◌++◌, codes, option_map, Option, Some, None, IsTrue}
+-- with a mark, and the part that fails it; of a denying rule the lines of its type's constraints; of any other verdict
+-- that stops a message a sentence; of a message that passes each rule that allows it.
+use Rattle.std.specs.Prelude.{◌≡◌, ℕ, ◌&&◌, List, [], ◌∷◌, ◌++◌, codes, option_map, slice_get, Option, Some, None, IsTrue, if◌then◌else◌}
+use Rattle.guard_model.specs.declared.site.Site.{Site}
 use Rattle.guard_model.specs.declared.site.Step.{Step}
 use Rattle.guard_model.specs.declared.site.Step.TheVariants.{Component, Element}
 use Rattle.guard_model.specs.AbstractType.{AbstractType}
@@ -8,12 +10,14 @@ use Rattle.guard_model.specs.AbstractValue.{AbstractValue}
 use Rattle.guard_der.specs.Der.{der}
 use Rattle.guard_der.specs.Fits.{fits}
 use Rattle.guard_eval.specs.Violations.{AbstractViolation}
-use Rattle.guard_policy.specs.Policies.{AbstractPolicy, AbstractRoute, declared_type}
+use Rattle.guard_policy.specs.Decisions.{allows, speaks_of}
+use Rattle.guard_policy.specs.Policies.{AbstractPolicy, AbstractRoute, AbstractRule, declared_type}
 use Rattle.guard_policy.specs.Verdicts.{AbstractVerdict, pass, unknown_message, undecodable, outside_type, denied_by, not_allowed, no_rule}
 use Rattle.guard_report.specs.Parts.{part_octets}
 use Rattle.guard_report.specs.Text.{component_of, type_within}
 use Rattle.derguard_program.specs.declared.notes.Place.TheVariants.{At}
 use Rattle.derguard_program.specs.Explaining.{AbstractSources, place_lines}
+use Rattle.derguard_program.specs.Listing.{places_of}
 use Rattle.derguard_program.specs.Marking.{columns}
 
 -- ---- the part of a value that fails a constraint
@@ -53,6 +57,35 @@ abbrev pub shortfall_lines : AbstractSources → AbstractType → AbstractValue 
 shortfall_lines s t v [] = []
 shortfall_lines s t v (r ∷ rs) = violation_lines s t v r.1 ++ shortfall_lines s t v rs
 
+-- ---- the rules that allow a value
+
+abbrev pub allowing_line : List ℕ → List ℕ
+allowing_line name = codes "  allowed by " ++ name ++ codes "\n"
+
+-- its line, where it speaks of the route and allows the value
+abbrev pub allowing_line_of : AbstractRoute → AbstractValue → AbstractRule → List ℕ
+allowing_line_of route v r = if speaks_of route r && allows r v then allowing_line r.name else []
+
+abbrev pub allowing_lines : AbstractRoute → AbstractValue → List AbstractRule → List ℕ
+allowing_lines route v [] = []
+allowing_lines route v (r ∷ rs) = allowing_line_of route v r ++ allowing_lines route v rs
+
+-- ---- the rule that denies a value
+
+-- the line of each of these constraints, with a mark
+abbrev pub lines_of_places : AbstractSources → List Site → List ℕ
+lines_of_places s [] = []
+lines_of_places s (site ∷ sites) = place_lines s (At site) ++ lines_of_places s sites
+
+-- of the constraints on a whole value of the rule's type
+abbrev pub type_lines : AbstractSources → Option AbstractRule → List ℕ
+type_lines s None = []
+type_lines s (Some r) = lines_of_places s (places_of r.ty)
+
+abbrev pub denied_lines : AbstractSources → Option AbstractRule → List ℕ
+denied_lines s rule =
+    type_lines s rule ++ codes "  This denying rule has the value, so no allowing rule can let it pass.\n"
+
 -- ---- a verdict
 
 -- This is said of the declared type of the message, and of the value of it that the octets encode.
@@ -63,14 +96,14 @@ OfValue p message octets Says =
 
 abbrev pub ExplainsVerdict : AbstractSources → AbstractPolicy → AbstractRoute → List ℕ → AbstractVerdict → List ℕ
     → Type 0
-ExplainsVerdict s p route octets pass note = note ≡ []
+ExplainsVerdict s p route octets pass note =
+    OfValue p route.message octets (λ t v. note ≡ allowing_lines route v p.rules)
 ExplainsVerdict s p route octets unknown_message note = note ≡ codes "  The policy declares no message of this name.\n"
 ExplainsVerdict s p route octets (undecodable b) note =
     note ≡ codes "  The octets are no DER encoding of a value of the declared type. docs/FAULTS.md has the breaches.\n"
 ExplainsVerdict s p route octets (outside_type w) note =
     OfValue p route.message octets (λ t v. note ≡ violation_lines s t v w)
-ExplainsVerdict s p route octets (denied_by i) note =
-    note ≡ codes "  This denying rule has the value, so no allowing rule can let it pass.\n"
+ExplainsVerdict s p route octets (denied_by i) note = note ≡ denied_lines s (slice_get p.rules i)
 ExplainsVerdict s p route octets (not_allowed rs) note =
     OfValue p route.message octets (λ t v. note ≡ shortfall_lines s t v rs)
 ExplainsVerdict s p route octets no_rule note = note ≡ codes "  No rule of the policy allows anything on this route.\n"

@@ -1,5 +1,5 @@
 -- What each record of many links does, and what is written of it.
-use Rattle.std.specs.Prelude.{◌≡◌, ◌⊎◌, ℕ, zero, suc, max, List, [], ◌∷◌, ◌++◌, map, if◌then◌else◌, Result, Ok, Err}
+use Rattle.std.specs.Prelude.{◌≡◌, ◌⊎◌, ℕ, suc, max, List, [], ◌∷◌, ◌++◌, map, length, codes, decimal, if◌then◌else◌, Option, Some, None, Result, Ok, Err}
 use Rattle.std.specs.List.{concat}
 use Rattle.guard_policy.specs.Policies.{AbstractPolicy}
 use Rattle.guard_frames.specs.declared.link.LinkFault.{LinkFault}
@@ -8,17 +8,21 @@ use Rattle.guard_frames.specs.Gateways.{AbstractGateway, AbstractEvent, Abstract
 use Rattle.guard_frames.specs.GatewaySteps.{Step}
 use Rattle.guard_frames.specs.LinkView.{AbstractLink}
 use Rattle.derguard_program.specs.declared.fault.Fault.{Fault}
+use Rattle.derguard_program.specs.declared.seen.Seen.{Seen}
 use Rattle.derguard_program.specs.Files.{Told, IsLater}
 use Rattle.derguard_program.specs.Passing.{InRecords, marked, fault_line}
 use Rattle.derguard_program.specs.Reading.{IsPolicyAt, IsNoPolicyAt}
 use Rattle.derguard_program.specs.Records.{Record}
 use Rattle.derguard_program.specs.Records.Record.{piece, end, reload}
+use Rattle.derguard_program.specs.Tallying.{IsSeen}
 use Rattle.derguard_program.specs.Writing.{IsFaultLine}
 
--- what lies between two records: what reads of files to come find, and the links under the policy in force
+-- what lies between two records: what reads of files to come find, the links under the policy in force, and what is
+-- seen of their frames, where notes are asked for
 pub record AbstractMux : Type 0 where
   pub told : Told
   pub gateway : AbstractGateway
+  pub seen : Option Seen
 
 -- what is written of a record to standard output and to standard error, and the status that comes of it
 pub record Written : Type 0 where
@@ -45,12 +49,21 @@ pub record PassesOn (link : ℕ) (old : AbstractGateway) (event : AbstractEvent)
   pub err : w.err ≡ marked link added.reports ++ fault_line link answer
   pub status : w.status ≡ link_status added.reports answer
 
--- The policy at the path is in force from now on, and nothing is written.
+-- what is noted of a new policy of so many messages and rules
+abbrev pub renewed_line : ℕ → ℕ → List ℕ
+renewed_line messages rules =
+    codes "derguard: policy read again, messages " ++ decimal messages ++ codes ", rules " ++ decimal rules ++ codes "\n"
+
+abbrev pub renewed_note : Option Seen → ℕ → ℕ → List ℕ
+renewed_note None messages rules = []
+renewed_note (Some s) messages rules = renewed_line messages rules
+
+-- The policy at the path is in force from now on, and nothing is written but a note.
 pub record Renews (path : List ℕ) (old : AbstractMux) (w : Written) (new : AbstractMux) : Type 0 where
   pub policy : AbstractPolicy
   pub read : IsPolicyAt old.told path policy
   pub step : Step old.gateway (event.reload policy) (Ok tt) nothing new.gateway
-  pub silent : w ≡ record { out = []; err = []; status = 0 }
+  pub noted : w ≡ record { out = []; err = renewed_note old.seen (length policy.messages) (length policy.rules); status = 0 }
 
 -- There is no policy at the path, which is reported, and the old one stays in force.
 pub record KeepsOld (path : List ℕ) (old : AbstractMux) (w : Written) (new : AbstractMux) : Type 0 where
@@ -63,10 +76,12 @@ pub record KeepsOld (path : List ℕ) (old : AbstractMux) (w : Written) (new : A
 -- what a record does, where the policy is that at the path, and what is written of it
 abbrev pub Happens : List ℕ → AbstractMux → Record → Written → AbstractMux → Type 0
 Happens path old (piece link octets) w new =
-    PassesOn link old.gateway (event.piece link octets) w new.gateway × (new.told ≡ old.told)
-Happens path old (end link) w new = PassesOn link old.gateway (event.end link) w new.gateway × (new.told ≡ old.told)
+    (p : PassesOn link old.gateway (event.piece link octets) w new.gateway) × (new.told ≡ old.told)
+    × IsSeen old.seen p.added new.seen
+Happens path old (end link) w new =
+    PassesOn link old.gateway (event.end link) w new.gateway × (new.told ≡ old.told) × (new.seen ≡ old.seen)
 Happens path old reload w new =
-    (Renews path old w new ⊎ KeepsOld path old w new) × IsLater old.told new.told
+    (Renews path old w new ⊎ KeepsOld path old w new) × IsLater old.told new.told × (new.seen ≡ old.seen)
 
 -- ---- records one after another
 

@@ -1,11 +1,11 @@
 -- Which words of the command line are which request, in the terms of `clap`: its definitions say what is found in words
 -- of a command, and what is wrong with them.
-use Rattle.std.specs.Prelude.{◌≡◌, Bool, ◌||◌, true, false, List, [], ◌∷◌, ◌++◌, Some, codes, bytes_eq, if◌then◌else◌}
+use Rattle.std.specs.Prelude.{◌≡◌, Bool, ◌||◌, true, false, List, [], ◌∷◌, ◌++◌, Some, None, codes, bytes_eq, if◌then◌else◌}
 use Rattle.std.specs.Option.{option_map_or}
 use Rattle.clap.specs.Words.{App, Rule, Row, Shape, Text, first_of, fault_of, new_rule, subcommand_of}
 use Rattle.clap.specs.Simple.{new_shape}
 use Rattle.clap.specs.declared.builder.action.ArgAction.TheVariants.{Set, SetTrue}
-use Rattle.derguard_program.specs.Requests.{AbstractRequest, first, check, decide, show, run, ask, mux}
+use Rattle.derguard_program.specs.Requests.{AbstractRequest, first, check, decide, show, encode, run, ask, mux}
 
 -- the program's version
 abbrev pub version : Text
@@ -25,6 +25,16 @@ place_rule id = record (required_rule id) { value_names = 1 }
 abbrev pub option_rule : Text → Rule
 option_rule name = record (required_rule name) { long = Some name }
 
+-- the same, where they may be left out
+abbrev pub free_rule : Text → Rule
+free_rule id = record (new_rule id) { action = Some Set }
+
+abbrev pub free_place_rule : Text → Rule
+free_place_rule id = record (free_rule id) { value_names = 1 }
+
+abbrev pub free_option_rule : Text → Rule
+free_option_rule name = record (free_rule name) { long = Some name }
+
 -- `--name` alone, which may be left out
 abbrev pub flag_rule : Text → Rule
 flag_rule name = record (new_rule name) { long = Some name; action = Some SetTrue }
@@ -32,38 +42,47 @@ flag_rule name = record (new_rule name) { long = Some name; action = Some SetTru
 abbrev pub command_shape : Text → List Rule → Shape
 command_shape name arguments = record (new_shape name) { rules = arguments }
 
--- check POLICY [--explain]
+-- check POLICY [--explain] [--strict]
 abbrev pub check_shape : Shape
-check_shape = command_shape (codes "check") (place_rule (codes "policy") ∷ flag_rule (codes "explain") ∷ [])
+check_shape = command_shape (codes "check")
+    (place_rule (codes "policy") ∷ flag_rule (codes "explain") ∷ flag_rule (codes "strict") ∷ [])
 
--- decide POLICY --from FROM --to TO --message MESSAGE HEX [--explain]
+-- decide POLICY [--from FROM] [--to TO] [--message MESSAGE] [HEX] [--der FILE] [--frame NUMBER] [--link NUMBER] [--explain]
 abbrev pub decide_shape : Shape
 decide_shape = command_shape (codes "decide")
-    (place_rule (codes "policy") ∷ option_rule (codes "from") ∷ option_rule (codes "to") ∷ option_rule (codes "message")
-    ∷ place_rule (codes "hex") ∷ flag_rule (codes "explain") ∷ [])
+    (place_rule (codes "policy") ∷ free_option_rule (codes "from") ∷ free_option_rule (codes "to")
+    ∷ free_option_rule (codes "message") ∷ free_place_rule (codes "hex") ∷ free_option_rule (codes "der")
+    ∷ free_option_rule (codes "frame") ∷ free_option_rule (codes "link") ∷ flag_rule (codes "explain") ∷ [])
 
--- show POLICY --message MESSAGE HEX
+-- show POLICY [--message MESSAGE] [HEX] [--der FILE] [--frame NUMBER] [--link NUMBER]
 abbrev pub show_shape : Shape
 show_shape = command_shape (codes "show")
-    (place_rule (codes "policy") ∷ option_rule (codes "message") ∷ place_rule (codes "hex") ∷ [])
+    (place_rule (codes "policy") ∷ free_option_rule (codes "message") ∷ free_place_rule (codes "hex")
+    ∷ free_option_rule (codes "der") ∷ free_option_rule (codes "frame") ∷ free_option_rule (codes "link") ∷ [])
 
--- run POLICY
+-- encode POLICY --message MESSAGE [VALUE] [--from FROM] [--to TO] [--der]
+abbrev pub encode_shape : Shape
+encode_shape = command_shape (codes "encode")
+    (place_rule (codes "policy") ∷ option_rule (codes "message") ∷ free_place_rule (codes "value")
+    ∷ free_option_rule (codes "from") ∷ free_option_rule (codes "to") ∷ flag_rule (codes "der") ∷ [])
+
+-- run POLICY [--verbose]
 abbrev pub run_shape : Shape
-run_shape = command_shape (codes "run") (place_rule (codes "policy") ∷ [])
+run_shape = command_shape (codes "run") (place_rule (codes "policy") ∷ flag_rule (codes "verbose") ∷ [])
 
 -- ask POLICY
 abbrev pub ask_shape : Shape
 ask_shape = command_shape (codes "ask") (place_rule (codes "policy") ∷ [])
 
--- mux POLICY
+-- mux POLICY [--verbose]
 abbrev pub mux_shape : Shape
-mux_shape = command_shape (codes "mux") (place_rule (codes "policy") ∷ [])
+mux_shape = command_shape (codes "mux") (place_rule (codes "policy") ∷ flag_rule (codes "verbose") ∷ [])
 
 -- one of these commands, after the program's name; or `--version`
 abbrev pub the_app : App
 the_app = record {
   top = record (new_shape (codes "derguard")) { is_leaf = false; subcommand_required = true; has_version = true };
-  subs = check_shape ∷ decide_shape ∷ show_shape ∷ run_shape ∷ ask_shape ∷ mux_shape ∷ [];
+  subs = check_shape ∷ decide_shape ∷ show_shape ∷ encode_shape ∷ run_shape ∷ ask_shape ∷ mux_shape ∷ [];
 }
 
 -- ---- the requests
@@ -75,20 +94,30 @@ flag_of id rows = option_map_or (λ value. bytes_eq value (codes "true")) (first
 -- what a command with these values asks for
 abbrev pub IsCommand : Text → List Row → AbstractRequest → Type 0
 IsCommand name rows first = ⊥
-IsCommand name rows (check path explain) =
+IsCommand name rows (check path explain strict) =
     (name ≡ codes "check") × (first_of (codes "policy") rows ≡ Some path) × (explain ≡ flag_of (codes "explain") rows)
-IsCommand name rows (decide path route digits explain) =
-    (name ≡ codes "decide") × (first_of (codes "policy") rows ≡ Some path)
-    × (first_of (codes "from") rows ≡ Some route.from) × (first_of (codes "to") rows ≡ Some route.to)
-    × (first_of (codes "message") rows ≡ Some route.message) × (first_of (codes "hex") rows ≡ Some digits)
-    × (explain ≡ flag_of (codes "explain") rows)
-IsCommand name rows (show path message digits) =
-    (name ≡ codes "show") × (first_of (codes "policy") rows ≡ Some path)
-    × (first_of (codes "message") rows ≡ Some message)
-    × (first_of (codes "hex") rows ≡ Some digits)
-IsCommand name rows (run path) = (name ≡ codes "run") × (first_of (codes "policy") rows ≡ Some path)
+    × (strict ≡ flag_of (codes "strict") rows)
+IsCommand name rows (decide q) =
+    (name ≡ codes "decide") × (first_of (codes "policy") rows ≡ Some q.policy) × (first_of (codes "from") rows ≡ q.from)
+    × (first_of (codes "to") rows ≡ q.to) × (first_of (codes "message") rows ≡ q.message)
+    × (first_of (codes "hex") rows ≡ q.hex) × (first_of (codes "der") rows ≡ q.der)
+    × (first_of (codes "frame") rows ≡ q.frame) × (first_of (codes "link") rows ≡ q.link)
+    × (q.explain ≡ flag_of (codes "explain") rows)
+IsCommand name rows (show q) =
+    (name ≡ codes "show") × (first_of (codes "policy") rows ≡ Some q.policy) × (q.from ≡ None) × (q.to ≡ None)
+    × (first_of (codes "message") rows ≡ q.message) × (first_of (codes "hex") rows ≡ q.hex)
+    × (first_of (codes "der") rows ≡ q.der) × (first_of (codes "frame") rows ≡ q.frame)
+    × (first_of (codes "link") rows ≡ q.link) × (q.explain ≡ false)
+IsCommand name rows (encode asked) =
+    (name ≡ codes "encode") × (first_of (codes "policy") rows ≡ Some asked.policy)
+    × (first_of (codes "message") rows ≡ Some asked.message) × (first_of (codes "value") rows ≡ asked.value)
+    × (first_of (codes "from") rows ≡ asked.from) × (first_of (codes "to") rows ≡ asked.to)
+    × (asked.der ≡ flag_of (codes "der") rows)
+IsCommand name rows (run path verbose) =
+    (name ≡ codes "run") × (first_of (codes "policy") rows ≡ Some path) × (verbose ≡ flag_of (codes "verbose") rows)
 IsCommand name rows (ask path) = (name ≡ codes "ask") × (first_of (codes "policy") rows ≡ Some path)
-IsCommand name rows (mux path) = (name ≡ codes "mux") × (first_of (codes "policy") rows ≡ Some path)
+IsCommand name rows (mux path verbose) =
+    (name ≡ codes "mux") × (first_of (codes "policy") rows ≡ Some path) × (verbose ≡ flag_of (codes "verbose") rows)
 
 -- ---- the words
 

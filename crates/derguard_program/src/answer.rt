@@ -6,3 +6,11 @@ pub struct Answer {
     pub out: Vec<u8>,
     pub status: u8,
 }
+
+/// The same with remarks, which go to standard error.
+#[derive(Drop)]
+pub struct Remarked {
+    pub out: Vec<u8>,
+    pub remarks: Vec<u8>,
+    pub status: u8,
+}

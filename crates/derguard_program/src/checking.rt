@@ -51,7 +51,7 @@ pub fn check_explained<F: Files>(
 }
 
 /// The counts, and below them the listing.
-fn listed(alloc: Global, policy: &Policy) -> Result<Vec<u8>, OutOfMemory>
+pub fn listed(alloc: Global, policy: &Policy) -> Result<Vec<u8>, OutOfMemory>
     ensures { IfOk result (λ out. out.items
         ≡ counts_text (policy_view policy.now) ++ listing (policy_view policy.now)) }
 {
@@ -61,7 +61,8 @@ fn listed(alloc: Global, policy: &Policy) -> Result<Vec<u8>, OutOfMemory>
     Ok(out)
 }
 
-fn counts(alloc: Global, policy: &Policy) -> Result<Vec<u8>, AllocError>
+/// How many messages and rules the policy has.
+pub fn counts(alloc: Global, policy: &Policy) -> Result<Vec<u8>, AllocError>
     ensures { IfOk result (λ out. out.items ≡ counts_text (policy_view policy.now)) }
 {
     let (messages, rules) = (policy.messages(), policy.rules());

@@ -1,13 +1,13 @@
 //! What becomes of one message.
-ghost use Rattle.std.specs.Prelude.{◌≡◌, ◌⊎◌, ◌++◌, [], codes, map, string_bytes, Ok, Err, IfOk, IfErr};
+ghost use Rattle.std.specs.Prelude.{◌≡◌, ◌⊎◌, [], map, option_map, string_bytes, Ok, Err, IfOk, IfErr};
 ghost use Rattle.hex.specs.Hex.{decode_of};
 ghost use Rattle.hex.specs.declared.error.FromHexError.{FromHexError};
 ghost use Rattle.guard_policy.specs.PolicyView.{policy_view, route_view};
 ghost use Rattle.guard_policy.specs.Verdicts.{verdict_view};
-ghost use Rattle.derguard_program.specs.Answers.{answer_view, verdict_status, IsVerdict, IsDecided, IsUndecided, IsExplainedVerdict, IsDecidedOver, IsExplainedOver, IsDecidedExplained};
+ghost use Rattle.guard_frames.specs.Bodies.{body_view};
+ghost use Rattle.derguard_program.specs.Answers.{answer_view, verdict_status, IsVerdict, IsDecided, IsUndecided, IsExplainedVerdict, IsHeldExplained, IsExplainedOver, IsDecidedExplained, OfHeld};
 ghost use Rattle.derguard_program.specs.Explaining.{IsExplained, IsUndecidedExplained, explanation, sources, sources_view};
 ghost use Rattle.derguard_program.specs.Reading.{SayNothing};
-ghost use Rattle.derguard_program.specs.Requests.{message_route};
 ghost use Rattle.derguard_program.specs.declared.fault.Fault.TheVariants.{BadHex, NoMemory};
 
 use crate::answer::Answer;
@@ -15,88 +15,113 @@ use crate::checking::{load, said_explained};
 use crate::explaining::{Refusal, Sources};
 use crate::fault::Fault;
 use crate::files::Files;
+use crate::holding::{bad_header, body_of, route_in};
 use crate::octets::add;
 use crate::reasons::verdict_note;
-use crate::request::Message;
 use crate::texts::Texts;
+use guard_frames::Body;
 use guard_model::OutOfMemory;
 use guard_policy::{Policy, Route, Verdict};
 use guard_report::verdict_text;
 use hex::FromHexError;
 use std::alloc::Global;
 
-/// The text of the verdict on the message, under the policy at its path; or why it isn't decided. Bad digits come
-/// before all that is wrong with the policy.
-pub fn decide<F: Files>(alloc: Global, message: &Message, files: &mut F) -> Result<Answer, Fault>
-    ensures decided { IfOk result (λ a. IsDecided (F.told files.old) message.now.policy.now
-        (message_route message.now) message.now.hex.now (answer_view a)) }
-    ensures undecided { IfErr result (IsUndecided (F.told files.old) message.now.policy.now message.now.hex.now) }
+/// The text of the verdict on a message whose octets the digits write, under the policy at the path; or why it isn't
+/// decided. Bad digits come before all that is wrong with the policy.
+pub fn decide<F: Files>(
+    alloc: Global,
+    path: &str,
+    route: &Route,
+    digits: &str,
+    files: &mut F,
+) -> Result<Answer, Fault>
+    ensures decided { IfOk result (λ a. IsDecided (F.told files.old) path.now (route_view route.now) digits.now
+        (answer_view a)) }
+    ensures undecided { IfErr result (IsUndecided (F.told files.old) path.now digits.now) }
 {
-    let octets = octets_of(alloc, message.hex)?;
-    let policy = load(alloc, message.policy, files)?;
-    Ok(verdict_on(alloc, &policy, &route_of(message), &octets)?)
+    let octets = octets_of(alloc, digits)?;
+    let policy = load(alloc, path, files)?;
+    Ok(verdict_on(alloc, &policy, route, &octets)?)
 }
 
-/// The text of the verdict on the message, under the policy at its path, with what explains it; or why it isn't
-/// decided, with what explains the fault.
+/// The same text, with what explains it; or why it isn't decided, with what explains the fault.
 pub fn decide_explained<F: Files>(
     alloc: Global,
-    message: &Message,
+    path: &str,
+    route: &Route,
+    digits: &str,
     files: &mut F,
 ) -> Result<Answer, Refusal>
-    ensures decided { IfOk result (λ a. IsDecidedExplained (F.told files.old) message.now.policy.now
-        (message_route message.now) message.now.hex.now (answer_view a)) }
+    ensures decided { IfOk result (λ a. IsDecidedExplained (F.told files.old) path.now (route_view route.now) digits.now
+        (answer_view a)) }
     ensures undecided { IfErr result
-        (λ r. IsUndecidedExplained (F.told files.old) message.now.policy.now message.now.hex.now r.fault
-        (string_bytes r.note)) }
+        (λ r. IsUndecidedExplained (F.told files.old) path.now digits.now r.fault (string_bytes r.note)) }
 {
-    match octets_of(alloc, message.hex) {
-        Ok(octets) => decide_octets(alloc, message, &octets, files),
-        Err(fault) => Err(Refusal::new(alloc, &Sources::of_path(message.policy), fault)),
+    match octets_of(alloc, digits) {
+        Ok(octets) => {
+            let body = body_of(route.from, route.to, route.message, &octets);
+            explain_held(alloc, path, Some(body), files)
+        }
+        Err(fault) => Err(Refusal::new(alloc, &Sources::of_path(path), fault)),
     }
 }
 
-/// The explained verdict on octets that were read from digits.
-fn decide_octets<F: Files>(
+/// The explained verdict on a message that is held.
+pub fn explain_held<F: Files>(
     alloc: Global,
-    message: &Message,
-    octets: &[u8],
+    path: &str,
+    held: Option<Body>,
     files: &mut F,
 ) -> Result<Answer, Refusal>
-    ensures decided { IfOk result (λ a. IsDecidedOver (F.told files.old) message.now.policy.now
-        (message_route message.now) octets.now (answer_view a)) }
+    ensures decided { IfOk result (λ a. IsHeldExplained (F.told files.old) path.now (option_map body_view held.entry)
+        (answer_view a)) }
     ensures undecided { IfErr result
-        (λ r. IsExplained (F.told files.old) message.now.policy.now r.fault (string_bytes r.note)) }
+        (λ r. IsExplained (F.told files.old) path.now r.fault (string_bytes r.note)) }
 {
-    match Texts::read(alloc, message.policy, files) {
-        Ok(texts) => decide_over(alloc, message, octets, &texts),
-        Err(fault) => Err(Refusal::new(alloc, &Sources::of_path(message.policy), fault)),
+    match Texts::read(alloc, path, files) {
+        Ok(texts) => explain_over(alloc, path, held, &texts),
+        Err(fault) => Err(Refusal::new(alloc, &Sources::of_path(path), fault)),
     }
 }
 
-/// The explained verdict on octets, where the texts of the policy and its modules have been read.
-fn decide_over(
+/// The explained verdict on a message that is held, where the texts of the policy and its modules have been read.
+fn explain_over(
     alloc: Global,
-    message: &Message,
-    octets: &[u8],
+    path: &str,
+    held: Option<Body>,
     texts: &Texts,
 ) -> Result<Answer, Refusal>
     ensures decided { IfOk result (λ a. IsExplainedOver
-        (sources message.now.policy.now (map string_bytes texts.now.files.items)
+        (sources path.now (map string_bytes texts.now.files.items)
         (map (λ text. text.items) texts.now.modules.items))
-        texts.now.policy.items (message_route message.now) octets.now (answer_view a)) }
+        texts.now.policy.items (option_map body_view held.entry) (answer_view a)) }
     ensures undecided { IfErr result
         (λ r. (SayNothing (map (λ text. text.items) texts.now.modules.items) texts.now.policy.items r.fault
-        × (string_bytes r.note ≡ explanation (sources message.now.policy.now (map string_bytes texts.now.files.items)
+        × (string_bytes r.note ≡ explanation (sources path.now (map string_bytes texts.now.files.items)
         (map (λ text. text.items) texts.now.modules.items)) r.fault))
         ⊎ ((r.fault ≡ NoMemory) × (string_bytes r.note ≡ []))) }
 {
-    let policy = said_explained(alloc, message.policy, texts)?;
-    let sources = Sources::of_texts(message.policy, texts);
-    let route = route_of(message);
-    match explained_verdict(alloc, &sources, &policy, &route, octets) {
+    let policy = said_explained(alloc, path, texts)?;
+    let sources = Sources::of_texts(path, texts);
+    match explained_answer(alloc, &sources, &policy, held) {
         Ok(answer) => Ok(answer),
         Err(_) => Err(Refusal::no_memory(alloc)),
+    }
+}
+
+/// The explained verdict on a message that is held, under the policy.
+fn explained_answer(
+    alloc: Global,
+    sources: &Sources,
+    policy: &Policy,
+    held: Option<Body>,
+) -> Result<Answer, OutOfMemory>
+    ensures { IfOk result (λ a. OfHeld (IsExplainedVerdict (sources_view sources.now) (policy_view policy.now))
+        (option_map body_view held.entry) (answer_view a)) }
+{
+    match held {
+        Some(body) => explained_verdict(alloc, sources, policy, &route_in(&body), body.message),
+        None => bad_header(alloc),
     }
 }
 
@@ -122,18 +147,8 @@ fn explained_verdict(
     })
 }
 
-fn route_of<'a>(message: &Message<'a>) -> Route<'a>
-    ensures { route_view result ≡ message_route message.now }
-{
-    Route {
-        from: message.from.as_bytes(),
-        to: message.to.as_bytes(),
-        message: message.message.as_bytes(),
-    }
-}
-
 /// The text of the verdict and a line feed, with status 1 where the message doesn't pass.
-fn verdict_on(
+pub fn verdict_on(
     alloc: Global,
     policy: &Policy,
     route: &Route,

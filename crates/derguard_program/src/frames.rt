@@ -3,7 +3,7 @@ ghost use Rattle.std.specs.Prelude.{◌≡◌, ◌≤◌, ◌<◌, ◌-◌, ◌+
 ghost use Rattle.std.specs.Io.KnownBytes.{Consumes, IsAtEnd};
 ghost use Rattle.guard_frames.specs.Frames.{IsFrame};
 ghost use Rattle.guard_frames.specs.Totals.{WentUpBy};
-ghost use Rattle.derguard_program.specs.inside.NextFrame.{IsNoFrame};
+ghost use Rattle.derguard_program.specs.inside.NextFrame.{IsNoFrame, IsLeft};
 ghost use Rattle.derguard_program.specs.declared.stop.Stop.TheVariants as stop;
 
 use crate::records::fill_front;
@@ -13,10 +13,10 @@ use guard_model::OutOfMemory;
 use std::alloc::Global;
 
 /// How many octets say the length of a frame.
-const LENGTH: usize = 4;
+pub const LENGTH: usize = 4;
 
 /// The longest body of a frame.
-const LONGEST_BODY: usize = 1_048_576;
+pub const LONGEST_BODY: usize = 1_048_576;
 
 /// The longest frame.
 const LONGEST_FRAME: usize = 1_048_580;
@@ -28,6 +28,20 @@ pub fn new_frame_room(alloc: Global) -> Result<Vec<u8>, OutOfMemory>
     let size = LONGEST_FRAME;
     Ok(vec![in alloc; 0u8; size]?)
 }
+
+/// Why there is no next frame, and how much of one there is: the length that is too long, or how many octets came of a
+/// frame that is torn.
+#[derive(Clone, Copy, Debug, PartialEq, Eq)]
+pub struct NoFrame {
+    pub fault: RunFault,
+    pub left: usize,
+}
+
+/// The source failed, or was asked too often.
+const UNREAD: NoFrame = NoFrame {
+    fault: RunFault::ReadFailed,
+    left: 0,
+};
 
 /// The size of the next frame, whose octets are the first ones in the room then; none where the source has ended.
 /// Nothing is read of what follows the frame, and of one that is too long nothing but its length.
@@ -46,26 +60,58 @@ pub fn next_frame<S: Source>(
     ensures counted { WentUpBy (S.takes source.old) (reads.old - reads.new) (S.takes source.new) }
     ensures fewer { reads.new ≤ reads.old }
 {
+    match frame_or_rest(source, room, reads) {
+        Ok(found) => Ok(found),
+        Err(none) => Err(none.fault),
+    }
+}
+
+/// The same, with how much of a frame there is where there is none.
+pub fn frame_or_rest<S: Source>(
+    source: &mut S,
+    room: &mut [u8],
+    reads: &mut u64,
+) -> Result<Option<usize>, NoFrame>
+    requires { length room.old ≡ 1048580 }
+    ensures frame { IfOk result (λ found. IfSome found (λ n. (n ≤ 1048580) × IsFrame (take n room.new)
+        × (reads.new < reads.old) × Consumes (S.tells source.old) (S.tells source.new) (take n room.new))) }
+    ensures end { IfOk result (λ found. found ≡ None →
+        Consumes (S.tells source.old) (S.tells source.new) [] × IsAtEnd (S.tells source.new)) }
+    ensures none { IfErr result (λ f. (rest : List ℕ) × Consumes (S.tells source.old) (S.tells source.new) rest
+        × IsNoFrame f.fault rest (IsAtEnd (S.tells source.new)) (S.has_failed source.new) reads.new
+        × IsLeft f.fault rest f.left) }
+    ensures counted { WentUpBy (S.takes source.old) (reads.old - reads.new) (S.takes source.new) }
+    ensures fewer { reads.new ≤ reads.old }
+{
     let count = match fill_front(source, room, LENGTH, reads) {
         Ok(count) => count,
-        Err(_) => return Err(RunFault::ReadFailed),
+        Err(_) => return Err(UNREAD),
     };
     if count == 0 {
         return Ok(None);
     }
     if count < LENGTH {
-        return Err(RunFault::TornFrame);
+        return Err(NoFrame {
+            fault: RunFault::TornFrame,
+            left: count,
+        });
     }
     let body = body_length(&room[..LENGTH]);
     if body > LONGEST_BODY {
-        return Err(RunFault::FrameTooLong);
+        return Err(NoFrame {
+            fault: RunFault::FrameTooLong,
+            left: body,
+        });
     }
     let behind = match fill_body(source, room, body, reads) {
         Ok(behind) => behind,
-        Err(_) => return Err(RunFault::ReadFailed),
+        Err(_) => return Err(UNREAD),
     };
     if behind < body {
-        return Err(RunFault::TornFrame);
+        return Err(NoFrame {
+            fault: RunFault::TornFrame,
+            left: behind + LENGTH,
+        });
     }
     Ok(Some(body + LENGTH))
 }

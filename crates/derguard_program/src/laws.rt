@@ -1,5 +1,5 @@
 //! Laws of the definitions. The functions do nothing when they run.
-ghost use Rattle.std.specs.Prelude.{◌≡◌, ◌≤◌, ℕ, List, []};
+ghost use Rattle.std.specs.Prelude.{◌≡◌, ◌≤◌, ℕ, List, [], Some, IsTrue, length};
 ghost use Rattle.std.specs.Io.KnownBytes.{Appends};
 ghost use Rattle.clap.specs.Words.{Text, fault_of};
 ghost use Rattle.derguard_program.specs.Devices.{Input, Device};
@@ -8,6 +8,18 @@ ghost use Rattle.derguard_program.specs.Muxing.{GuardsLinks};
 ghost use Rattle.derguard_program.specs.Records.{Record, AreRecords, HasNoRecord};
 ghost use Rattle.derguard_program.specs.Requests.{AbstractRequest};
 ghost use Rattle.derguard_program.specs.Words.{Asks, joined, the_app};
+ghost use Rattle.derguard_program.specs.Encodes.{IsEncoding};
+ghost use Rattle.guard_der.specs.Der.{der};
+ghost use Rattle.guard_der.specs.Fits.{fits};
+ghost use Rattle.guard_der.specs.ProperConstraints.{is_short};
+ghost use Rattle.guard_der.specs.Sound.{is_sound};
+ghost use Rattle.guard_lexer.specs.Lexing.{longest_text};
+ghost use Rattle.guard_model.specs.AbstractType.{AbstractType};
+ghost use Rattle.guard_model.specs.AbstractValue.{AbstractValue};
+ghost use Rattle.guard_report.specs.Shown.{value_shown};
+ghost use Rattle.reads_back.specs.Names.{HasNames, is_seen};
+
+use reads_back::laws::{law_one_value_of_text, law_shown_reads_back};
 
 /// Words in which nothing is wrong ask for a request, and for one alone.
 pub fn law_one_request()
@@ -33,3 +45,20 @@ pub fn law_status_of_links()
     ensures silent { (told : Told) (path : List ℕ) (input : Input) (out err : Device) →
         GuardsLinks told path input out err 0 → Appends err.before err.after [] }
 {}
+
+/// What `show` prints of a value is encoded as the octets that were shown, and as no others. Left out are values with a
+/// hidden character, and those whose text or encoding is longer than what is read.
+pub fn law_shown_encodes()
+    ensures there { (t : AbstractType) (octets : List ℕ) (v : AbstractValue) → IsTrue (is_sound t) → HasNames t
+        → IsTrue (fits t v) → IsTrue (is_seen v) → IsTrue (is_short (der t v))
+        → length (value_shown t octets v) ≤ longest_text → der t v ≡ Some octets
+        → IsEncoding t (value_shown t octets v) v octets }
+    ensures one { (t : AbstractType) (octets : List ℕ) (v : AbstractValue) → IsTrue (is_sound t) → HasNames t
+        → IsTrue (fits t v) → IsTrue (is_seen v) → IsTrue (is_short (der t v))
+        → length (value_shown t octets v) ≤ longest_text → der t v ≡ Some octets
+        → (w : AbstractValue) (encoded : List ℕ) → IsEncoding t (value_shown t octets v) w encoded
+        → encoded ≡ octets }
+{
+    law_shown_reads_back();
+    law_one_value_of_text();
+}

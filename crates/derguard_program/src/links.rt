@@ -5,8 +5,9 @@ ghost use Rattle.derguard_program.specs.inside.Doing.{is_closed};
 use crate::checking::load;
 use crate::files::Files;
 use crate::outputs::{FAILED, report};
-use crate::passing::put_fault;
+use crate::passing::{put_fault, put_renewed};
 use crate::records::LINKS;
+use crate::seen::Seen;
 use crate::sinks::{end_link, feed_link, new_sinks, pass_on};
 use crate::stop::Stop;
 use guard_frames::{Event, Gateway, Kept, LinkFault, Sink};
@@ -21,31 +22,38 @@ pub struct Links {
     /// 0 where all frames passed, 1 where a line was reported, 2 where a policy couldn't be read again, 3 where a link
     /// has a fault or memory ran out; the greatest of these.
     status: u8,
+    /// What is seen of their frames, where notes are asked for.
+    seen: Option<Seen>,
 }
 
 impl Links {
-    ghost use Rattle.std.specs.Prelude.{◌≡◌, ◌≤◌, ◌⊎◌, Option, List, [], ℕ, Bool, true, false, max, IfOk, OnOk, IfErr};
+    ghost use Rattle.std.specs.Prelude.{◌≡◌, ◌≤◌, ◌⊎◌, Option, List, [], ℕ, Bool, true, false, max, Err, IfOk, OnOk, IfErr};
     ghost use Rattle.std.specs.Io.KnownBytes.{Appends};
     ghost use Rattle.guard_frames.specs.Prefix.{IsProperPrefix};
-    ghost use Rattle.derguard_program.specs.declared.stop.Stop.TheVariants.{ErrorFailed};
+    ghost use Rattle.derguard_program.specs.declared.stop.Stop.TheVariants.{WriteFailed, ErrorFailed};
     ghost use Rattle.guard_policy.specs.PolicyView.{policy_view};
     ghost use Rattle.derguard_program.specs.Devices.{device, device_of};
     ghost use Rattle.derguard_program.specs.Files.{Told};
     ghost use Rattle.derguard_program.specs.Records.Record.{piece, end, reload};
     ghost use Rattle.derguard_program.specs.Muxing.{new_mux, WritesPart, BreaksErr};
     ghost use Rattle.derguard_program.specs.Passing.{fault_line};
-    ghost use Rattle.derguard_program.specs.Turns.{link_status};
+    ghost use Rattle.derguard_program.specs.Turns.{link_status, renewed_note};
     ghost use Rattle.derguard_program.specs.inside.Doing.{IsReady, mux_of, IsTaken, IsCut, Is, HadEnded, AreEnded, IsEndCut};
 
-    /// Sixteen open links under this policy.
-    pub fn new(alloc: Global, policy: Policy) -> Result<Links, OutOfMemory>
-        ensures open { IfOk result (λ links. (told : Told) → mux_of told links ≡ new_mux (policy_view policy) told) }
+    /// Sixteen open links under this policy. Notes are asked for where something is seen.
+    pub fn new(alloc: Global, policy: Policy, seen: Option<Seen>) -> Result<Links, OutOfMemory>
+        ensures open { IfOk result (λ links. (told : Told)
+            → mux_of told links ≡ new_mux (policy_view policy) told seen) }
         ensures ready { IfOk result (λ links. IsReady links.gateway) }
         ensures status { IfOk result (λ links. links.status ≡ 0) }
     {
         let ends = new_sinks(alloc, LINKS)?;
         match Gateway::new(alloc, policy, ends) {
-            Ok(gateway) => Ok(Links { gateway, status: 0 }),
+            Ok(gateway) => Ok(Links {
+                gateway,
+                status: 0,
+                seen,
+            }),
             Err(_) => Err(OutOfMemory),
         }
     }
@@ -55,6 +63,13 @@ impl Links {
         ensures { result ≡ self.now.status }
     {
         self.status
+    }
+
+    /// What is seen so far.
+    pub fn seen(&self) -> Option<Seen>
+        ensures { result ≡ self.now.seen }
+    {
+        self.seen
     }
 
     /// A piece of a link's stream. What it lets out is written, then what is reported, and then the link's fault.
@@ -75,9 +90,10 @@ impl Links {
             → IsCut s path (mux_of told self.old) (piece link octets.now)
             (device_of O.taken O.has_failed out.old out.new)
             (device_of E.taken E.has_failed err.old err.new)) }
+        ensures kept { result ≡ Err WriteFailed → self.new.seen ≡ self.old.seen }
     {
         let answer = feed_link(&mut self.gateway, alloc, link, octets);
-        let is_reported = pass_on(&mut self.gateway, link, out, err)?;
+        let is_reported = pass_on(&mut self.gateway, link, &mut self.seen, out, err)?;
         self.status = self.status.max(u8::from(is_reported));
         self.tell_answer(link, answer, err)
     }
@@ -91,6 +107,7 @@ impl Links {
         ensures cut { IfErr result (λ s. (path : List ℕ) (told : Told) (out : Option (List ℕ)) (failed : Bool) →
             IsCut s path (mux_of told self.old) (end link) (device out out failed)
             (device_of E.taken E.has_failed err.old err.new)) }
+        ensures seen { self.new.seen ≡ self.old.seen }
     {
         let answer = end_link(&mut self.gateway, alloc, link);
         self.tell_answer(link, answer, err)
@@ -136,7 +153,8 @@ impl Links {
         self.tell_answer(link, answer, err)
     }
 
-    /// Reads the policy at the path again. Where there is none, that is reported, and the policy in force stays.
+    /// Reads the policy at the path again, and notes that where notes are asked for. Where there is none, that is
+    /// reported, and the policy in force stays.
     pub fn reload<F: Files, E: Sink>(
         &mut self,
         alloc: Global,
@@ -151,11 +169,13 @@ impl Links {
         ensures cut { IfErr result (λ s. (out : Option (List ℕ)) (failed : Bool)
             → IsCut s path.now (mux_of (F.told files.old) self.old) reload
             (device out out failed) (device_of E.taken E.has_failed err.old err.new)) }
+        ensures seen { self.new.seen ≡ self.old.seen }
     {
         match load(alloc, path, files) {
             Ok(policy) => {
+                let (messages, rules) = (policy.messages(), policy.rules());
                 let _ = self.gateway.step(alloc, Event::Reload(policy));
-                Ok(())
+                self.note_policy(messages, rules, err)
             }
             Err(fault) => match report(alloc, &fault, err) {
                 Ok(status) => {
@@ -164,6 +184,23 @@ impl Links {
                 }
                 Err(_) => Err(Stop::ErrorFailed),
             },
+        }
+    }
+
+    /// Notes a new policy of so many messages and rules, where notes are asked for.
+    fn note_policy<E: Sink>(&self, messages: usize, rules: usize, err: &mut E) -> Result<(), Stop>
+        ensures all { OnOk result (Appends (E.taken err.old) (E.taken err.new)
+            (renewed_note self.now.seen messages rules)) }
+        ensures part { IfErr result (λ s. (s ≡ ErrorFailed) × (E.has_failed err.new ≡ true) × ((part : List ℕ)
+            × IsProperPrefix part (renewed_note self.now.seen messages rules)
+            × Appends (E.taken err.old) (E.taken err.new) part)) }
+    {
+        if self.seen.is_none() {
+            return Ok(());
+        }
+        match put_renewed(err, messages, rules) {
+            Ok(()) => Ok(()),
+            Err(_) => Err(Stop::ErrorFailed),
         }
     }
 
@@ -179,6 +216,7 @@ impl Links {
             × IsProperPrefix part (fault_line link answer) × Appends (E.taken err.old) (E.taken err.new) part)) }
         ensures status { self.new.status ≡ max self.old.status (link_status [] answer) }
         ensures gateway { self.new.gateway ≡ self.old.gateway }
+        ensures seen { self.new.seen ≡ self.old.seen }
     {
         let Err(fault) = answer else {
             return Ok(());

@@ -5,9 +5,10 @@ ghost use Rattle.guard_model.specs.SameType.{same_site};
 ghost use Rattle.guard_model.specs.TypeView.{type_view, constraint_view, constraints_of};
 ghost use Rattle.guard_policy.specs.PolicyView.{policy_view, route_view, said_view};
 ghost use Rattle.guard_report.specs.Lines.{route_text};
-ghost use Rattle.derguard_program.specs.Listing.{places_in, begins, has_all_of, found_view, is_whole, found_rule, found_rules, denies_all_of, first_denier, may_let_pass, is_closed, effect_text, barren_text, denied_text, closed_text, denier_of, said_text, remarks, rule_line, line_of_message, rule_lines, unused_line, message_lines, messages_lines, listing};
+ghost use Rattle.derguard_program.specs.Listing.{places_in, begins, has_all_of, found_view, is_whole, found_rule, found_rules, denies_all_of, first_denier, may_let_pass, is_closed, effect_text, barren_text, denied_text, closed_text, denier_of, said_text, remarks, rule_line, line_of_message, rule_lines, unused_line, message_lines, messages_lines, has_remark, is_told, told_lines, listing, strict_remarks};
 
 use crate::octets::add;
+use crate::parties::{add_case_lines, parties};
 use guard_model::{Cons, OutOfMemory, Site, Ty};
 use guard_policy::{Effect, Policy, Route, SaidRule, is_anyone};
 use std::alloc::Global;
@@ -31,10 +32,26 @@ pub struct Found<'a> {
 pub fn listing(alloc: Global, policy: &Policy) -> Result<Vec<u8>, OutOfMemory>
     ensures { IfOk result (λ text. text.items ≡ listing (policy_view policy.now)) }
 {
+    let mut text = told_lines(alloc, policy, false)?;
+    add(&mut text, LAST_LINE)?;
+    Ok(text)
+}
+
+/// What is remarked of the policy and no more. Its one refusal is want of memory.
+pub fn strict_remarks(alloc: Global, policy: &Policy) -> Result<Vec<u8>, OutOfMemory>
+    ensures { IfOk result (λ text. text.items ≡ strict_remarks (policy_view policy.now)) }
+{
+    told_lines(alloc, policy, true)
+}
+
+fn told_lines(alloc: Global, policy: &Policy, strict: bool) -> Result<Vec<u8>, OutOfMemory>
+    ensures { IfOk result (λ text. text.items ≡ told_lines strict (policy_view policy.now)) }
+{
     let rules = found_rules(alloc, policy)?;
     let mut text = Vec::new(alloc);
-    add_messages(&mut text, policy, &rules)?;
-    add(&mut text, LAST_LINE)?;
+    add_messages(&mut text, policy, &rules, strict)?;
+    let parties = parties(alloc, &rules)?;
+    add_case_lines(&mut text, &parties)?;
     Ok(text)
 }
 
@@ -181,25 +198,36 @@ fn denier_of<'a>(rules: &[Found<'a>], rule: &SaidRule) -> Option<&'a str>
 
 // ---- the text
 
-fn add_messages(text: &mut Vec<u8>, policy: &Policy, rules: &[Found]) -> Result<(), OutOfMemory>
+fn add_messages(
+    text: &mut Vec<u8>,
+    policy: &Policy,
+    rules: &[Found],
+    strict: bool,
+) -> Result<(), OutOfMemory>
     ensures { OnOk result (text.new.items
-        ≡ text.old.items ++ messages_lines (map found_view rules.now) (policy_view policy.now).messages) }
+        ≡ text.old.items ++ messages_lines strict (map found_view rules.now) (policy_view policy.now).messages) }
 {
     for place in 0..policy.messages() {
         let Some(message) = policy.message_name(place) else {
             unreachable!();
         };
-        add_message(text, rules, message)?;
+        add_message(text, rules, message, strict)?;
     }
     Ok(())
 }
 
 /// Adds the lines of a message.
-fn add_message(text: &mut Vec<u8>, rules: &[Found], message: &str) -> Result<(), OutOfMemory>
-    ensures { OnOk result (text.new.items ≡ text.old.items ++ message_lines (map found_view rules.now) message.now) }
+fn add_message(
+    text: &mut Vec<u8>,
+    rules: &[Found],
+    message: &str,
+    strict: bool,
+) -> Result<(), OutOfMemory>
+    ensures { OnOk result (text.new.items
+        ≡ text.old.items ++ message_lines strict (map found_view rules.now) message.now) }
 {
     if has_rule(rules, message) {
-        add_rules(text, rules, message)
+        add_rules(text, rules, message, strict)
     } else {
         add_unused(text, message)
     }
@@ -224,31 +252,50 @@ fn has_rule(rules: &[Found], message: &str) -> bool
     false
 }
 
-fn add_rules(text: &mut Vec<u8>, rules: &[Found], message: &str) -> Result<(), OutOfMemory>
+fn add_rules(
+    text: &mut Vec<u8>,
+    rules: &[Found],
+    message: &str,
+    strict: bool,
+) -> Result<(), OutOfMemory>
     ensures { OnOk result (text.new.items
-        ≡ text.old.items ++ rule_lines (map found_view rules.now) message.now (map found_view rules.now)) }
+        ≡ text.old.items ++ rule_lines strict (map found_view rules.now) message.now (map found_view rules.now)) }
 {
     for found in rules {
-        add_rule_of(text, rules, message, found)?;
+        add_rule_of(text, rules, message, found, strict)?;
     }
     Ok(())
 }
 
-/// Adds the line of a rule if it speaks of the message.
+/// Adds the line of a rule if it speaks of the message and is told.
 fn add_rule_of(
     text: &mut Vec<u8>,
     rules: &[Found],
     message: &str,
     found: &Found,
+    strict: bool,
 ) -> Result<(), OutOfMemory>
     ensures { OnOk result (text.new.items
-        ≡ text.old.items ++ line_of_message (map found_view rules.now) message.now (found_view found.now)) }
+        ≡ text.old.items ++ line_of_message strict (map found_view rules.now) message.now (found_view found.now)) }
 {
-    if found.rule.message == message {
+    if found.rule.message == message && is_told(rules, found, strict) {
         add_rule(text, rules, found)
     } else {
         Ok(())
     }
+}
+
+/// Whether its line is told: in any case, or strictly only where it is remarked.
+fn is_told(rules: &[Found], found: &Found, strict: bool) -> bool
+    ensures { result ≡ is_told strict (map found_view rules.now) (found_view found.now) }
+{
+    !strict || has_remark(rules, found)
+}
+
+fn has_remark(rules: &[Found], found: &Found) -> bool
+    ensures { result ≡ has_remark (map found_view rules.now) (found_view found.now) }
+{
+    found.barren || denier_of(rules, &found.rule).is_some() || is_closed(rules, &found.rule)
 }
 
 /// Adds the line of a rule.

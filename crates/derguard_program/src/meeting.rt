@@ -1,27 +1,27 @@
 //! The program over any files, source and sinks.
 ghost use Rattle.std.specs.Prelude.{◌≡◌, ◌≤◌, ◌∷◌, [], length, map, string_bytes, true, false, IfOk, IfErr};
-ghost use Rattle.derguard_program.specs.Requests.{request_view, first};
+ghost use Rattle.derguard_program.specs.Requests.{request_view, first, run, mux};
 ghost use Rattle.derguard_program.specs.Devices.{source_of, device_of, IsUntouched};
-ghost use Rattle.derguard_program.specs.Explaining.{TellsWith};
-ghost use Rattle.derguard_program.specs.Writing.{Writes, Tells, TellsNoMemory};
+ghost use Rattle.derguard_program.specs.Writing.{TellsNoMemory};
 ghost use Rattle.derguard_program.specs.Meeting.{Meets, Programs, Shows, is_help, version_line};
 ghost use Rattle.clap.specs.Words.{kind_of};
 ghost use Rattle.clap.specs.declared.error.kind.ErrorKind.TheVariants.{DisplayVersion, OutOfMemory};
 
-use crate::answer::Answer;
 use crate::asking::ask;
 use crate::checking::{check, check_explained};
-use crate::deciding::{decide, decide_explained};
-use crate::explaining::Refusal;
-use crate::fault::Fault;
+use crate::encoding::encode;
 use crate::files::Files;
 use crate::first_run::first_run;
+use crate::giving::{give, give_explained};
 use crate::guarding::run;
 use crate::joining::joined;
+use crate::looking::{decide_asked, show_asked};
 use crate::muxing::mux;
-use crate::outputs::{tell, tell_no_memory, tell_text, tell_with, write};
+use crate::outputs::{tell_no_memory, tell_text, write};
 use crate::request::Request;
-use crate::values::show_message;
+use crate::strictness::check_strictly;
+use crate::verbose::run_verbosely;
+use crate::watching_links::mux_verbosely;
 use crate::words::{VERSION, request_in};
 use clap::Error;
 use clap::error::ErrorKind;
@@ -82,70 +82,73 @@ pub fn meet<F: Files, S: Source, O: Sink, E: Sink>(
 {
     match request {
         Request::First => give(alloc, first_run(alloc), out, err),
-        Request::Check { policy, explain } => {
-            if *explain {
+        Request::Check {
+            policy,
+            explain,
+            strict,
+        } => {
+            if *strict {
+                check_strictly(alloc, policy, *explain, files, out, err)
+            } else if *explain {
                 give_explained(alloc, check_explained(alloc, policy, files), out, err)
             } else {
                 give(alloc, check(alloc, policy, files), out, err)
             }
         }
-        Request::Decide(message) => {
-            if message.explain {
-                give_explained(alloc, decide_explained(alloc, message, files), out, err)
-            } else {
-                give(alloc, decide(alloc, message, files), out, err)
-            }
+        Request::Decide(question) => decide_asked(alloc, question, files, input, out, err),
+        Request::Show(question) => show_asked(alloc, question, files, input, out, err),
+        Request::Encode(asked) => encode(alloc, asked, files, input, out, err),
+        Request::Run { policy, verbose } => {
+            guard_stream(alloc, policy, *verbose, files, input, out, err)
         }
-        Request::Show {
-            policy,
-            message,
-            hex,
-        } => give(
-            alloc,
-            show_message(alloc, policy, message, hex, files),
-            out,
-            err,
-        ),
-        Request::Run { policy } => run(alloc, policy, files, input, out, err),
         Request::Ask { policy } => ask(alloc, policy, files, input, out, err),
-        Request::Mux { policy } => mux(alloc, policy, files, input, out, err),
+        Request::Mux { policy, verbose } => {
+            guard_links(alloc, policy, *verbose, files, input, out, err)
+        }
     }
 }
 
-/// Writes the answer, or reports the fault.
-fn give<O: Sink, E: Sink>(
+/// Guards the stream that comes in, with notes where they are asked for.
+fn guard_stream<F: Files, S: Source, O: Sink, E: Sink>(
     alloc: Global,
-    found: Result<Answer, Fault>,
+    policy: &str,
+    verbose: bool,
+    files: &mut F,
+    input: &mut S,
     out: &mut O,
     err: &mut E,
 ) -> u8
-    ensures written { IfOk found (λ a. Writes a.out.items a.status (device_of O.taken O.has_failed out.old out.new)
-        (device_of E.taken E.has_failed err.old err.new) result) }
-    ensures told { IfErr found (λ f. (O.taken out.new ≡ O.taken out.old)
-        × Tells f (device_of E.taken E.has_failed err.old err.new) result) }
+    ensures { Meets (F.told files.old) (run policy.now verbose)
+        (source_of S.tells S.takes S.has_failed input.old input.new)
+        (device_of O.taken O.has_failed out.old out.new)
+        (device_of E.taken E.has_failed err.old err.new) result }
 {
-    match found {
-        Ok(answer) => write(&answer.out, answer.status, out, err),
-        Err(fault) => tell(alloc, &fault, err),
+    if verbose {
+        run_verbosely(alloc, policy, files, input, out, err)
+    } else {
+        run(alloc, policy, files, input, out, err)
     }
 }
 
-/// Writes the answer, or reports the fault with what explains it.
-fn give_explained<O: Sink, E: Sink>(
+/// Guards the links of the records that come in, with notes where they are asked for.
+fn guard_links<F: Files, S: Source, O: Sink, E: Sink>(
     alloc: Global,
-    found: Result<Answer, Refusal>,
+    policy: &str,
+    verbose: bool,
+    files: &mut F,
+    input: &mut S,
     out: &mut O,
     err: &mut E,
 ) -> u8
-    ensures written { IfOk found (λ a. Writes a.out.items a.status (device_of O.taken O.has_failed out.old out.new)
-        (device_of E.taken E.has_failed err.old err.new) result) }
-    ensures told { IfErr found (λ r. (O.taken out.new ≡ O.taken out.old)
-        × TellsWith r.fault (string_bytes r.note) (device_of E.taken E.has_failed err.old err.new)
-        result) }
+    ensures { Meets (F.told files.old) (mux policy.now verbose)
+        (source_of S.tells S.takes S.has_failed input.old input.new)
+        (device_of O.taken O.has_failed out.old out.new)
+        (device_of E.taken E.has_failed err.old err.new) result }
 {
-    match found {
-        Ok(answer) => write(&answer.out, answer.status, out, err),
-        Err(refusal) => tell_with(alloc, &refusal.fault, &refusal.note, err),
+    if verbose {
+        mux_verbosely(alloc, policy, files, input, out, err)
+    } else {
+        mux(alloc, policy, files, input, out, err)
     }
 }
 

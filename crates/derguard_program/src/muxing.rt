@@ -1,10 +1,11 @@
 //! Guards the links of a stream of records.
-ghost use Rattle.std.specs.Prelude.{◌≡◌, length, OnOk, IfErr};
+ghost use Rattle.std.specs.Prelude.{◌≡◌, Err, length, OnOk, IfErr};
 ghost use Rattle.derguard_program.specs.Devices.{source_of, device_of};
 ghost use Rattle.derguard_program.specs.Muxing.{GuardsLinks, Finishes, Stops, TellsStop};
-ghost use Rattle.derguard_program.specs.inside.Doing.{IsReady, mux_of, IsTaken, IsCut};
+ghost use Rattle.derguard_program.specs.inside.Doing.{IsReady, mux_of, IsTaken, IsCut, IsSeenBefore};
 ghost use Rattle.derguard_program.specs.inside.Headers.{IsGood, record_of};
 ghost use Rattle.derguard_program.specs.declared.stop.Stop.TheVariants as stop;
+ghost use Rattle.derguard_program.specs.declared.stop.Stop.TheVariants.{WriteFailed};
 
 use crate::checking::load;
 use crate::files::Files;
@@ -36,7 +37,7 @@ pub fn mux<F: Files, S: Source, O: Sink, E: Sink>(
         Ok(policy) => policy,
         Err(fault) => return tell(alloc, &fault, err),
     };
-    let Ok(mut links) = Links::new(alloc, policy) else {
+    let Ok(mut links) = Links::new(alloc, policy, None) else {
         return tell_no_memory(err);
     };
     let Ok(mut room) = new_room(alloc) else {
@@ -72,7 +73,7 @@ fn tell_stop<E: Sink>(reason: Stop, err: &mut E) -> u8
 }
 
 /// Takes each record of the stream, and then the end of each link that wasn't ended.
-fn guard<F: Files, S: Source, O: Sink, E: Sink>(
+pub fn guard<F: Files, S: Source, O: Sink, E: Sink>(
     alloc: Global,
     path: &str,
     files: &mut F,
@@ -85,14 +86,18 @@ fn guard<F: Files, S: Source, O: Sink, E: Sink>(
     requires room { length room.old ≡ 1048576 }
     requires ready { IsReady links.old.gateway }
     requires first { links.old.status ≡ 0 }
-    ensures done { OnOk result (Finishes path.now (mux_of (F.told files.old) links.old)
+    ensures done { OnOk result ((f : Finishes path.now (mux_of (F.told files.old) links.old)
         (source_of S.tells S.takes S.has_failed input.old input.new)
         (device_of O.taken O.has_failed out.old out.new)
-        (device_of E.taken E.has_failed err.old err.new) links.new.status) }
-    ensures stops { IfErr result (λ s. Stops s path.now (mux_of (F.told files.old) links.old)
+        (device_of E.taken E.has_failed err.old err.new) links.new.status)
+        × (f.after.seen ≡ links.new.seen)) }
+    ensures stops { IfErr result (λ s. (h : Stops s path.now (mux_of (F.told files.old) links.old)
         (source_of S.tells S.takes S.has_failed input.old input.new)
         (device_of O.taken O.has_failed out.old out.new)
-        (device_of E.taken E.has_failed err.old err.new)) }
+        (device_of E.taken E.has_failed err.old err.new)) × IsSeenBefore s path.now (mux_of (F.told files.old) links.old)
+        (source_of S.tells S.takes S.has_failed input.old input.new)
+        (device_of O.taken O.has_failed out.old out.new)
+        (device_of E.taken E.has_failed err.old err.new) h links.new.seen) }
 {
     let mut reads = MOST_READS;
     for _ in 0..MOST_READS {
@@ -124,6 +129,7 @@ fn take_record<F: Files, O: Sink, E: Sink>(
     ensures cut { IfErr result (λ s. IsCut s path.now (mux_of (F.told files.old) links.old) (record_of header room.now)
         (device_of O.taken O.has_failed out.old out.new)
         (device_of E.taken E.has_failed err.old err.new)) }
+    ensures kept { result ≡ Err WriteFailed → links.new.seen ≡ links.old.seen }
 {
     match header {
         Header::Piece(link, size) => links.piece(alloc, link, &room[..size], out, err),

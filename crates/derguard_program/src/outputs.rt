@@ -6,7 +6,9 @@ ghost use Rattle.derguard_program.specs.Devices.{device_of};
 ghost use Rattle.derguard_program.specs.Explaining.{TellsWith};
 ghost use Rattle.derguard_program.specs.Faults.{IsText};
 ghost use Rattle.derguard_program.specs.Writing.{line_of, IsFaultLine, TellsOctets, TellsLine, TellsNoMemory, TellsText, Tells, Writes};
+ghost use Rattle.derguard_program.specs.Remarked.{WritesRemarked, remarked_view};
 
+use crate::answer::Remarked;
 use crate::fault::Fault;
 use guard_frames::{Failed, Sink, put_all};
 use std::alloc::{AllocError, Global};
@@ -31,6 +33,18 @@ pub fn write<O: Sink, E: Sink>(octets: &[u8], status: u8, out: &mut O, err: &mut
 {
     match put_all(out, octets) {
         Ok(()) => status,
+        Err(_) => tell_failed_write(err),
+    }
+}
+
+/// Writes the octets to standard output, and then the remarks to standard error, and answers the status. Where one of
+/// them fails the status is 3; a failure of standard output is reported, and nothing is remarked then.
+pub fn write_remarked<O: Sink, E: Sink>(answer: &Remarked, out: &mut O, err: &mut E) -> u8
+    ensures { WritesRemarked (remarked_view answer.now) (device_of O.taken O.has_failed out.old out.new)
+        (device_of E.taken E.has_failed err.old err.new) result }
+{
+    match put_all(out, &answer.out) {
+        Ok(()) => tell_line(&answer.remarks, answer.status, err),
         Err(_) => tell_failed_write(err),
     }
 }
@@ -132,7 +146,8 @@ fn line(alloc: Global, text: &str) -> Result<String, AllocError>
     format!(in alloc; "derguard: {text}\n")
 }
 
-fn tell_line<E: Sink>(line: &[u8], status: u8, err: &mut E) -> u8
+/// Reports a line as it is, with this status.
+pub fn tell_line<E: Sink>(line: &[u8], status: u8, err: &mut E) -> u8
     ensures { TellsOctets line.now status (device_of E.taken E.has_failed err.old err.new) result }
 {
     match put_all(err, line) {

@@ -7,6 +7,7 @@ ghost use Rattle.guard_frames.specs.FaultTexts.{fault_text};
 ghost use Rattle.guard_frames.specs.Prefix.{IsProperPrefix};
 ghost use Rattle.derguard_program.specs.Records.{header, record_octets};
 ghost use Rattle.derguard_program.specs.Records.Record.{piece};
+ghost use Rattle.derguard_program.specs.Turns.{renewed_line};
 ghost use Rattle.derguard_program.specs.Passing.{InRecords, IsShort, lines_of, marked, marked_line, link_mark};
 
 use crate::records::LONGEST;
@@ -89,7 +90,7 @@ pub fn put_lines<E: Sink>(err: &mut E, link: u16, text: &[u8]) -> Result<(), Fai
 }
 
 /// The octets before the first line feed, and those after it.
-fn first_line(text: &[u8]) -> (&[u8], &[u8])
+pub fn first_line(text: &[u8]) -> (&[u8], &[u8])
     requires { 0 < length text.now }
     ensures shorter { length result.1.now < length text.now }
     ensures lines { lines_of text.now ≡ result.0.now ∷ lines_of result.1.now }
@@ -124,6 +125,25 @@ pub fn put_fault<E: Sink>(err: &mut E, link: u16, fault: LinkFault) -> Result<()
     ensures failed { OnErr result (E.has_failed err.new ≡ true) }
 {
     put_line(err, link, fault.text().as_bytes())
+}
+
+/// Puts the note of a new policy of so many messages and rules, in one call.
+pub fn put_renewed<E: Sink>(err: &mut E, messages: usize, rules: usize) -> Result<(), Failed>
+    ensures all { OnOk result (Appends (E.taken err.old) (E.taken err.new) (renewed_line messages rules)) }
+    ensures part { OnErr result ((part : List ℕ) × IsProperPrefix part (renewed_line messages rules)
+        × Appends (E.taken err.old) (E.taken err.new) part) }
+    ensures failed { OnErr result (E.has_failed err.new ≡ true) }
+    ensures lines { AsksLines (E.asked err.old) (E.asked err.new) }
+{
+    let mut first = Buffer::new();
+    let mut second = Buffer::new();
+    let mut whole = MarkedLine::new();
+    add(&mut whole, b"derguard: policy read again, messages ");
+    add(&mut whole, first.format(messages).as_bytes());
+    add(&mut whole, b", rules ");
+    add(&mut whole, second.format(rules).as_bytes());
+    add(&mut whole, b"\n");
+    put_all(err, whole.as_slice())
 }
 
 /// Puts a line, after the number of its link: in one call, where it has 4,096 octets at most.

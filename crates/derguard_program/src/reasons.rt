@@ -1,27 +1,30 @@
 //! What comes below the text of a verdict where it is to be explained.
 ghost use Rattle.std.specs.Prelude.{◌≡◌, ◌++◌, Some, codes, map, option_map, IfOk, OnOk, IsTrue};
-ghost use Rattle.guard_model.specs.TypeView.{type_view};
+ghost use Rattle.guard_model.specs.TypeView.{type_view, constraint_view, constraints_of};
 ghost use Rattle.guard_model.specs.ValueView.{value_view};
 ghost use Rattle.guard_der.specs.Der.{der};
 ghost use Rattle.guard_der.specs.Fits.{fits};
 ghost use Rattle.guard_eval.specs.Violations.{violation_view, shortfall_view};
 ghost use Rattle.guard_policy.specs.Decisions.{IsReason};
 ghost use Rattle.guard_policy.specs.Policies.{declared_type};
-ghost use Rattle.guard_policy.specs.PolicyView.{policy_view, route_view};
+ghost use Rattle.guard_policy.specs.PolicyView.{policy_view, route_view, said_view};
 ghost use Rattle.guard_policy.specs.Verdicts.{verdict_view};
-ghost use Rattle.derguard_program.specs.Explaining.{sources_view};
+ghost use Rattle.derguard_program.specs.Explaining.{place_lines, sources_view};
+ghost use Rattle.derguard_program.specs.Listing.{places_in};
 ghost use Rattle.derguard_program.specs.Marking.{columns};
-ghost use Rattle.derguard_program.specs.Reasons.{step_name, name_at, name_before, part_shown, part_line, violation_lines, shortfall_lines, OfValue, ExplainsVerdict};
+ghost use Rattle.derguard_program.specs.Reasons.{step_name, name_at, name_before, part_shown, part_line, violation_lines, shortfall_lines, allowing_lines, lines_of_places, type_lines, denied_lines, OfValue, ExplainsVerdict};
+ghost use Rattle.derguard_program.specs.declared.notes.Place.TheVariants.{At};
 ghost use Rattle.derguard_program.specs.inside.Values.{HasValue};
 
+use crate::allowing::allowing_lines;
 use crate::explaining::{Sources, place_lines};
 use crate::marking::columns;
 use crate::notes::Place;
 use crate::octets::add;
 use guard_der::{DecodeFault, decode};
 use guard_eval::Violation;
-use guard_model::{OutOfMemory, Step, Ty, Value};
-use guard_policy::{Policy, Route, Verdict};
+use guard_model::{Cons, OutOfMemory, Site, Step, Ty, Value};
+use guard_policy::{Policy, Route, SaidRule, Verdict};
 use guard_report::{part_text, type_at};
 use std::alloc::Global;
 
@@ -39,7 +42,7 @@ pub fn verdict_note(
         (route_view route.now) octets.now (verdict_view verdict.now) note.items) }
 {
     match verdict {
-        Verdict::Pass => Ok(Vec::new(alloc)),
+        Verdict::Pass => pass_note(alloc, policy, route, octets),
         Verdict::UnknownMessage => sentence(
             alloc,
             "  The policy declares no message of this name.\n",
@@ -51,10 +54,7 @@ pub fn verdict_note(
         Verdict::OutsideType(violation) => {
             outside_note(alloc, sources, policy, route, octets, violation)
         }
-        Verdict::DeniedBy(_) => sentence(
-            alloc,
-            "  This denying rule has the value, so no allowing rule can let it pass.\n",
-        ),
+        Verdict::DeniedBy(number) => denied_note(alloc, sources, policy.rule(*number)),
         Verdict::NotAllowed(shortfalls) => {
             not_allowed_note(alloc, sources, policy, route, octets, shortfalls)
         }
@@ -69,6 +69,21 @@ fn sentence(alloc: Global, text: &str) -> Result<Vec<u8>, OutOfMemory>
     ensures { IfOk result (λ note. note.items ≡ text.now) }
 {
     Ok(Vec::from_slice(alloc, text.as_bytes())?)
+}
+
+/// The rules that allow the value.
+fn pass_note(
+    alloc: Global,
+    policy: &Policy,
+    route: &Route,
+    octets: &[u8],
+) -> Result<Vec<u8>, OutOfMemory>
+    requires { HasValue (policy_view policy.now) (route_view route.now).message octets.now }
+    ensures { IfOk result (λ note. OfValue (policy_view policy.now) (route_view route.now).message octets.now
+        (λ t v. note.items ≡ allowing_lines (route_view route.now) v (policy_view policy.now).rules)) }
+{
+    let (_, value) = value_of(alloc, policy, route.message, octets)?;
+    allowing_lines(alloc, policy, route, &value)
 }
 
 /// What is shown of the constraint of the declared type that fails.
@@ -129,6 +144,65 @@ fn value_of<'a>(
         Err(DecodeFault::Breach(_)) => unreachable!(),
         Err(DecodeFault::OutOfMemory) => Err(OutOfMemory),
     }
+}
+
+/// The lines of the constraints of the denying rule's type, and what follows for the value.
+fn denied_note(
+    alloc: Global,
+    sources: &Sources,
+    rule: Option<SaidRule>,
+) -> Result<Vec<u8>, OutOfMemory>
+    ensures { IfOk result (λ note. note.items
+        ≡ denied_lines (sources_view sources.now) (option_map said_view rule.entry)) }
+{
+    let mut note = type_lines(alloc, sources, rule)?;
+    add(
+        &mut note,
+        b"  This denying rule has the value, so no allowing rule can let it pass.\n",
+    )?;
+    Ok(note)
+}
+
+fn type_lines(
+    alloc: Global,
+    sources: &Sources,
+    rule: Option<SaidRule>,
+) -> Result<Vec<u8>, OutOfMemory>
+    ensures { IfOk result (λ lines. lines.items
+        ≡ type_lines (sources_view sources.now) (option_map said_view rule.entry)) }
+{
+    match rule {
+        Some(rule) => constraint_lines(alloc, sources, &rule.ty.cons),
+        None => Ok(Vec::new(alloc)),
+    }
+}
+
+/// The line of each of the constraints, with a mark.
+fn constraint_lines(
+    alloc: Global,
+    sources: &Sources,
+    constraints: &[Cons],
+) -> Result<Vec<u8>, OutOfMemory>
+    ensures { IfOk result (λ lines. lines.items ≡ lines_of_places (sources_view sources.now)
+        (places_in (constraints_of (map constraint_view constraints.now)))) }
+{
+    let mut lines = Vec::new(alloc);
+    for constraint in constraints {
+        add_place(alloc, &mut lines, sources, &constraint.site)?;
+    }
+    Ok(lines)
+}
+
+fn add_place(
+    alloc: Global,
+    lines: &mut Vec<u8>,
+    sources: &Sources,
+    site: &Site,
+) -> Result<(), OutOfMemory>
+    ensures { OnOk result (lines.new.items ≡ lines.old.items ++ place_lines (sources_view sources.now) (At site.now)) }
+{
+    let place = place_lines(alloc, sources, Place::At(*site))?;
+    add(lines, place.as_bytes())
 }
 
 fn add_shortfalls(

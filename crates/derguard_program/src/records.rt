@@ -118,7 +118,7 @@ pub fn fill_front<S: Source>(
 }
 
 /// Fills the buffer, or as much of it as the source has, and answers how many octets that are.
-fn fill<S: Source>(source: &mut S, buffer: &mut [u8], reads: &mut u64) -> Result<usize, Stop>
+pub fn fill<S: Source>(source: &mut S, buffer: &mut [u8], reads: &mut u64) -> Result<usize, Stop>
     ensures within { IfOk result (λ n. n ≤ length buffer.new) }
     ensures given { IfOk result (λ n. Consumes (S.tells source.old) (S.tells source.new) (take n buffer.new)) }
     ensures end { IfOk result (λ n. n < length buffer.new → IsAtEnd (S.tells source.new)) }

@@ -1,5 +1,5 @@
 //! A gateway over sinks in memory, which are emptied after each event.
-ghost use Rattle.std.specs.Prelude.{◌≡◌, ◌≤◌, Some, Err, List, ℕ, not, nat_eq, true, length, slice_get, OnOk, IfOk, IfErr};
+ghost use Rattle.std.specs.Prelude.{◌≡◌, ◌≤◌, Some, Err, List, ℕ, not, nat_eq, true, length, slice_get, OnOk, OnErr, IfOk, IfErr};
 ghost use Rattle.std.specs.List.{All};
 ghost use Rattle.std.specs.Io.KnownBytes.{Appends};
 ghost use Rattle.guard_frames.specs.declared.seats.Ends.{Ends};
@@ -13,10 +13,13 @@ ghost use Rattle.guard_frames.specs.declared.gateway.StepFault.TheVariants.{NoSu
 ghost use Rattle.guard_frames.specs.KeptView.{kept_octets};
 ghost use Rattle.derguard_program.specs.Devices.{device_of};
 ghost use Rattle.derguard_program.specs.Passing.{InRecords, marked};
-ghost use Rattle.derguard_program.specs.inside.Doing.{AreEmpty, IsReady, IsFed, ArePassed, AreCut};
+ghost use Rattle.derguard_program.specs.inside.Doing.{AreEmpty, IsReady, IsFed, ArePassed, AreCut, added_to};
+ghost use Rattle.derguard_program.specs.Tallying.{IsSeen};
 
 use crate::passing::{put_lines, put_pieces};
+use crate::seen::Seen;
 use crate::stop::Stop;
+use crate::tallying::tallied;
 use guard_frames::{Ends, Event, Gateway, Kept, LinkFault, Sink, StepFault};
 use guard_model::OutOfMemory;
 use std::alloc::Global;
@@ -72,10 +75,12 @@ fn answer_of(answer: Result<(), StepFault>) -> Result<(), LinkFault>
     }
 }
 
-/// Writes what the sinks of a link took, and empties them; answers whether anything was reported.
+/// Writes what the sinks of a link took, and empties them; answers whether anything was reported. Where notes are asked
+/// for it is seen what they took.
 pub fn pass_on<O: Sink, E: Sink>(
     gateway: &mut Gateway<Kept>,
     link: u16,
+    seen: &mut Option<Seen>,
     out: &mut O,
     err: &mut E,
 ) -> Result<bool, Stop>
@@ -87,11 +92,15 @@ pub fn pass_on<O: Sink, E: Sink>(
         → AreCut s link ends
         (device_of O.taken O.has_failed out.old out.new)
         (device_of E.taken E.has_failed err.old err.new)) }
+    ensures seen { IfOk result (λ any. (ends : Ends Kept) → slice_get (gateway_ends gateway.old) link ≡ Some ends
+        → IsSeen seen.old (added_to ends) seen.new) }
+    ensures same { OnErr result (seen.new ≡ seen.old) }
 {
     let Some(ends) = gateway.ends_mut(link) else {
         return Ok(false);
     };
     put_ends(link, ends, out, err)?;
+    see(seen, ends);
     let is_reported = !ends.reports.octets().is_empty();
     empty(ends);
     Ok(is_reported)
@@ -117,6 +126,15 @@ fn put_ends<O: Sink, E: Sink>(
         return Err(Stop::ErrorFailed);
     }
     Ok(())
+}
+
+/// Sees what the sinks of a link took, where notes are asked for.
+fn see(seen: &mut Option<Seen>, ends: &Ends<Kept>)
+    ensures { IsSeen seen.old (added_to ends.now) seen.new }
+{
+    if let Some(old) = *seen {
+        *seen = Some(tallied(old, ends.out.octets(), ends.reports.octets()));
+    }
 }
 
 /// Empties both.

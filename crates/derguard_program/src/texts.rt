@@ -78,7 +78,7 @@ fn read_modules<F: Files>(
 }
 
 /// The text at a path. What can't be read is named.
-fn read<F: Files>(alloc: Global, path: &str, files: &mut F) -> Result<Vec<u8>, Fault>
+pub fn read<F: Files>(alloc: Global, path: &str, files: &mut F) -> Result<Vec<u8>, Fault>
     ensures text { IfOk result (λ text. HasText (F.told files.old) path.now text.items) }
     ensures missing { IfErr result (CannotBeRead (F.told files.old) path.now) }
     ensures next { F.told files.new ≡ after_read (F.told files.old) }

@@ -21,7 +21,7 @@ use std::alloc::Global;
 pub fn show_message<F: Files>(
     alloc: Global,
     path: &str,
-    message: &str,
+    message: &[u8],
     hex: &str,
     files: &mut F,
 ) -> Result<Answer, Fault>
@@ -30,11 +30,11 @@ pub fn show_message<F: Files>(
 {
     let octets = octets_of(alloc, hex)?;
     let policy = load(alloc, path, files)?;
-    Ok(show_octets(alloc, &policy, message.as_bytes(), &octets)?)
+    Ok(show_octets(alloc, &policy, message, &octets)?)
 }
 
 /// What is shown of the octets of a message of this name.
-fn show_octets(
+pub fn show_octets(
     alloc: Global,
     policy: &Policy,
     message: &[u8],

@@ -1,10 +1,12 @@
 //! The words of the command line. `clap` splits them.
-ghost use Rattle.std.specs.Prelude.{◌≡◌, ℕ, List, Some, codes, false, map, string_bytes, IfOk, IfErr};
+ghost use Rattle.std.specs.Prelude.{◌≡◌, ℕ, List, Some, codes, false, map, option_map, string_bytes, IfOk, IfErr};
 ghost use Rattle.clap.specs.Words.{HasKind, Row, Text, app_of, fault_of, first_of, found_of, rows_of, rule_of, shape_of, subcommand_rows_of};
 ghost use Rattle.derguard_program.specs.Requests.{AbstractRequest, request_view};
-ghost use Rattle.derguard_program.specs.Words.{AreFound, IsCommand, ask_shape, check_shape, decide_shape, flag_of, flag_rule, mux_shape, option_rule, place_rule, required_rule, run_shape, show_shape, the_app};
+ghost use Rattle.derguard_program.specs.Words.{AreFound, IsCommand, ask_shape, check_shape, decide_shape, encode_shape, flag_of, flag_rule, free_option_rule, free_place_rule, free_rule, mux_shape, option_rule, place_rule, required_rule, run_shape, show_shape, the_app};
 
-use crate::request::{Message, Request};
+use crate::encoding::Encoding;
+use crate::question::Question;
+use crate::request::Request;
 use clap::{Arg, ArgAction, ArgMatches, Command, Error};
 use std::alloc::{AllocError, Global};
 
@@ -25,12 +27,28 @@ const DECIDE_EXAMPLE: &str =
 const SHOW_EXAMPLE: &str =
     "Example:\n  derguard show examples/orders.toml --message order 300B800105810101A403020107";
 
+const ENCODE_EXAMPLE: &str =
+    "Example:\n  derguard encode examples/orders.toml --message order '{id 5, kind sell, lines {7}}'";
+
 const RUN_EXAMPLE: &str = "Example:\n  derguard run examples/orders.toml < examples/orders.frames";
+
+const VERBOSE: &str =
+    "Says on standard error at the end how many frames there were and how many lines give each reason.";
 
 const ASK_EXAMPLE: &str = "Example:\n  derguard ask examples/orders.toml < examples/orders.frames";
 
 const MUX_EXAMPLE: &str =
     "Example:\n  derguard mux examples/payments/payments.toml < examples/payments/payments.mux";
+
+const MESSAGE_NAME: &str = "The message's name in the policy.";
+
+const IN_FILE: &str = "In place of HEX: a file that has the octets; - is standard input.";
+
+const IN_FRAME: &str =
+    "In place of HEX and of all names: the number of a frame from standard input, from 1.";
+
+const IN_LINK: &str =
+    "With --frame: the number of the frame's link, 0 to 15, where standard input is records.";
 
 /// What the words ask for, in which the options of a message are joined with their values; the first word is the
 /// program's name. Help is an error of `clap` too, of its own kind.
@@ -42,7 +60,7 @@ pub fn request_in<'a>(alloc: Global, words: &'a [String]) -> Result<Request<'a>,
     Ok(request_of(&matches))
 }
 
-/// What was matched. A command and each of its arguments is required, so they are there.
+/// What was matched. A command and its policy are required, so they are there.
 fn request_of<'a>(matches: &ArgMatches<'a>) -> Request<'a>
     requires { (name : Text) × (rows : List Row) × (subcommand_rows_of matches.now ≡ Some (name, rows)) }
     ensures { (name : Text) (rows : List Row) (request : AbstractRequest)
@@ -53,27 +71,47 @@ fn request_of<'a>(matches: &ArgMatches<'a>) -> Request<'a>
         Some(("check", found)) => Request::Check {
             policy: text(found, "policy"),
             explain: flag(found, "explain"),
+            strict: flag(found, "strict"),
         },
-        Some(("show", found)) => Request::Show {
+        Some(("show", found)) => Request::Show(Question {
+            policy: text(found, "policy"),
+            from: None,
+            to: None,
+            message: given(found, "message"),
+            hex: given(found, "hex"),
+            der: given(found, "der"),
+            frame: given(found, "frame"),
+            link: given(found, "link"),
+            explain: false,
+        }),
+        Some(("encode", found)) => Request::Encode(Encoding {
             policy: text(found, "policy"),
             message: text(found, "message"),
-            hex: text(found, "hex"),
-        },
+            value: given(found, "value"),
+            from: given(found, "from"),
+            to: given(found, "to"),
+            der: flag(found, "der"),
+        }),
         Some(("run", found)) => Request::Run {
             policy: text(found, "policy"),
+            verbose: flag(found, "verbose"),
         },
         Some(("ask", found)) => Request::Ask {
             policy: text(found, "policy"),
         },
         Some(("mux", found)) => Request::Mux {
             policy: text(found, "policy"),
+            verbose: flag(found, "verbose"),
         },
-        Some((_, found)) => Request::Decide(Message {
+        Some((_, found)) => Request::Decide(Question {
             policy: text(found, "policy"),
-            from: text(found, "from"),
-            to: text(found, "to"),
-            message: text(found, "message"),
-            hex: text(found, "hex"),
+            from: given(found, "from"),
+            to: given(found, "to"),
+            message: given(found, "message"),
+            hex: given(found, "hex"),
+            der: given(found, "der"),
+            frame: given(found, "frame"),
+            link: given(found, "link"),
             explain: flag(found, "explain"),
         }),
         None => unreachable!(),
@@ -84,6 +122,13 @@ fn text<'a>(matches: &ArgMatches<'a>, id: &str) -> &'a str
     ensures { (value : List ℕ) → first_of id.now (rows_of (found_of matches.now)) ≡ Some value → result.now ≡ value }
 {
     matches.get_str(id).unwrap_or("")
+}
+
+/// The value, where it was given.
+fn given<'a>(matches: &ArgMatches<'a>, id: &str) -> Option<&'a str>
+    ensures { option_map (λ text. text.now) result ≡ first_of id.now (rows_of (found_of matches.now)) }
+{
+    matches.get_str(id)
 }
 
 /// Whether the flag was given.
@@ -107,6 +152,7 @@ fn command<'a>(alloc: Global) -> Result<Command<'a>, AllocError>
         .subcommand(check(alloc)?)?
         .subcommand(decide(alloc)?)?
         .subcommand(show(alloc)?)?
+        .subcommand(encode(alloc)?)?
         .subcommand(run(alloc)?)?
         .subcommand(ask(alloc)?)?
         .subcommand(mux(alloc)?)
@@ -123,6 +169,11 @@ fn check<'a>(alloc: Global) -> Result<Command<'a>, AllocError>
             alloc,
             "explain",
             "Lists the rules, or shows the place of a fault and what to do.",
+        ))?
+        .arg(switch(
+            alloc,
+            "strict",
+            "Says what is remarked on standard error, with status 1 if anything is.",
         ))
 }
 
@@ -133,14 +184,13 @@ fn decide<'a>(alloc: Global) -> Result<Command<'a>, AllocError>
         .about("Says what becomes of one message, and why.")
         .after_help(DECIDE_EXAMPLE)
         .arg(policy(alloc))?
-        .arg(option(alloc, "from", "The sender's name."))?
-        .arg(option(alloc, "to", "The receiver's name."))?
-        .arg(option(alloc, "message", "The message's name in the policy."))?
-        .arg(
-            required(alloc, "hex")
-                .value_name("HEX")
-                .help("The message's octets, in hexadecimal digits."),
-        )?
+        .arg(free_option(alloc, "from", "The sender's name."))?
+        .arg(free_option(alloc, "to", "The receiver's name."))?
+        .arg(free_option(alloc, "message", MESSAGE_NAME))?
+        .arg(digits(alloc))?
+        .arg(free_option(alloc, "der", IN_FILE))?
+        .arg(free_option(alloc, "frame", IN_FRAME))?
+        .arg(free_option(alloc, "link", IN_LINK))?
         .arg(switch(
             alloc,
             "explain",
@@ -155,12 +205,29 @@ fn show<'a>(alloc: Global) -> Result<Command<'a>, AllocError>
         .about("Shows the value of one message, as ASN.1 writes it.")
         .after_help(SHOW_EXAMPLE)
         .arg(policy(alloc))?
-        .arg(option(alloc, "message", "The message's name in the policy."))?
+        .arg(free_option(alloc, "message", MESSAGE_NAME))?
+        .arg(digits(alloc))?
+        .arg(free_option(alloc, "der", IN_FILE))?
+        .arg(free_option(alloc, "frame", IN_FRAME))?
+        .arg(free_option(alloc, "link", IN_LINK))
+}
+
+fn encode<'a>(alloc: Global) -> Result<Command<'a>, AllocError>
+    ensures { IfOk result (λ c. shape_of c ≡ encode_shape) }
+{
+    Command::new(alloc, "encode")
+        .about("Prints the octets of a value, written as ASN.1 writes it.")
+        .after_help(ENCODE_EXAMPLE)
+        .arg(policy(alloc))?
+        .arg(option(alloc, "message", MESSAGE_NAME))?
         .arg(
-            required(alloc, "hex")
-                .value_name("HEX")
-                .help("The message's octets, in hexadecimal digits."),
-        )
+            free(alloc, "value")
+                .value_name("VALUE")
+                .help("The value; without it, what standard input gives."),
+        )?
+        .arg(free_option(alloc, "from", "The sender's name, for a frame."))?
+        .arg(free_option(alloc, "to", "The receiver's name, for a frame."))?
+        .arg(switch(alloc, "der", "Writes the octets themselves."))
 }
 
 fn run<'a>(alloc: Global) -> Result<Command<'a>, AllocError>
@@ -171,7 +238,8 @@ fn run<'a>(alloc: Global) -> Result<Command<'a>, AllocError>
             "Guards a stream: frames from standard input, those that pass to standard output, a line for each other one to standard error.",
         )
         .after_help(RUN_EXAMPLE)
-        .arg(policy(alloc))
+        .arg(policy(alloc))?
+        .arg(switch(alloc, "verbose", VERBOSE))
 }
 
 fn ask<'a>(alloc: Global) -> Result<Command<'a>, AllocError>
@@ -193,7 +261,8 @@ fn mux<'a>(alloc: Global) -> Result<Command<'a>, AllocError>
             "Guards sixteen links in one stream of records: pieces and ends of links, and new policies, from standard input; what passes in records to standard output, lines to standard error.",
         )
         .after_help(MUX_EXAMPLE)
-        .arg(policy(alloc))
+        .arg(policy(alloc))?
+        .arg(switch(alloc, "verbose", VERBOSE))
 }
 
 fn policy<'a>(alloc: Global) -> Arg<'a>
@@ -205,12 +274,30 @@ fn policy<'a>(alloc: Global) -> Arg<'a>
     )
 }
 
+/// The octets of a message, which may be elsewhere.
+fn digits<'a>(alloc: Global) -> Arg<'a>
+    ensures rule { rule_of result ≡ free_place_rule (codes "hex") }
+    ensures local { result.global ≡ false }
+{
+    free(alloc, "hex")
+        .value_name("HEX")
+        .help("The message's octets, in hexadecimal digits.")
+}
+
 /// An option with one value.
 fn option<'a>(alloc: Global, name: &'a str, help: &'a str) -> Arg<'a>
     ensures rule { rule_of result ≡ option_rule name.entry.now }
     ensures local { result.global ≡ false }
 {
     required(alloc, name).long(name).help(help)
+}
+
+/// An option with one value, which may be left out.
+fn free_option<'a>(alloc: Global, name: &'a str, help: &'a str) -> Arg<'a>
+    ensures rule { rule_of result ≡ free_option_rule name.entry.now }
+    ensures local { result.global ≡ false }
+{
+    free(alloc, name).long(name).help(help)
 }
 
 /// An option without a value, which may be left out.
@@ -222,6 +309,14 @@ fn switch<'a>(alloc: Global, name: &'a str, help: &'a str) -> Arg<'a>
         .long(name)
         .action(ArgAction::SetTrue)
         .help(help)
+}
+
+/// An argument with one value, which may be left out.
+fn free<'a>(alloc: Global, name: &'a str) -> Arg<'a>
+    ensures rule { rule_of result ≡ free_rule name.entry.now }
+    ensures local { result.global ≡ false }
+{
+    Arg::new(alloc, name).action(ArgAction::Set)
 }
 
 fn required<'a>(alloc: Global, name: &'a str) -> Arg<'a>

@@ -1,5 +1,5 @@
 -- What the code does of one record, with what it wrote.
-use Rattle.std.specs.Prelude.{◌≡◌, ℕ, Bool, max, true, false, List, [], ◌∷◌, ◌++◌, length, Some, slice_get, slice_set, Result, Ok, Err}
+use Rattle.std.specs.Prelude.{◌≡◌, ℕ, Bool, max, true, false, List, [], ◌∷◌, ◌++◌, length, Option, Some, slice_get, slice_set, Result, Ok, Err}
 use Rattle.std.specs.List.{All}
 use Rattle.std.specs.Io.KnownBytes.{Appends}
 use Rattle.guard_frames.specs.declared.gateway.Gateway.{Gateway}
@@ -18,9 +18,10 @@ use Rattle.guard_frames.specs.Prefix.{IsProperPrefix}
 use Rattle.derguard_program.specs.declared.links.Links.{Links}
 use Rattle.derguard_program.specs.declared.stop.Stop.{Stop}
 use Rattle.derguard_program.specs.declared.stop.Stop.TheVariants.{BadRecord, ReadFailed, WriteFailed, ErrorFailed}
-use Rattle.derguard_program.specs.Devices.{Device}
+use Rattle.derguard_program.specs.declared.seen.Seen.{Seen}
+use Rattle.derguard_program.specs.Devices.{Input, Device}
 use Rattle.derguard_program.specs.Files.{Told}
-use Rattle.derguard_program.specs.Muxing.{WritesPart, BreaksOut, BreaksErr}
+use Rattle.derguard_program.specs.Muxing.{WritesPart, BreaksOut, BreaksErr, Stops}
 use Rattle.derguard_program.specs.Passing.{InRecords, marked}
 use Rattle.derguard_program.specs.Records.{Record}
 use Rattle.derguard_program.specs.Turns.{AbstractMux, Written, Happens, InTurn, all_out, all_err, status_of, ends_left}
@@ -31,6 +32,10 @@ use Rattle.derguard_program.specs.Turns.{AbstractMux, Written, Happens, InTurn, 
 pub record AreEmpty (ends : Ends Kept) : Type 0 where
   pub out : kept_octets ends.out ≡ []
   pub reports : kept_octets ends.reports ≡ []
+
+-- what they took since then
+abbrev pub added_to : Ends Kept → Added
+added_to ends = record { out = kept_octets ends.out; reports = kept_octets ends.reports }
 
 -- There are sixteen links, and nothing lies in their sinks.
 pub record IsReady (g : Gateway Kept) : Type 0 where
@@ -87,9 +92,9 @@ AreCut ErrorFailed link ends out err = IsErrCut link ends out err
 
 -- ---- one record
 
--- the links, and what reads of files to come find
+-- the links, what reads of files to come find, and what is seen
 abbrev pub mux_of : Told → Links → AbstractMux
-mux_of told l = record { told = told; gateway = gateway_view l.gateway }
+mux_of told l = record { told = told; gateway = gateway_view l.gateway; seen = l.seen }
 
 -- The record was taken, and all that is written of it is out.
 pub record IsTaken (path : List ℕ) (told_old : Told) (old : Links) (r : Record) (told_new : Told) (new : Links)
@@ -107,6 +112,15 @@ IsCut BadRecord path old r out err = ⊥
 IsCut ReadFailed path old r out err = ⊥
 IsCut WriteFailed path old r out err = WritesPart path old r [] out err BreaksOut
 IsCut ErrorFailed path old r out err = WritesPart path old r [] out err BreaksErr
+
+-- What is seen of the records before the one at which standard output failed, or before what is at fault. Where standard
+-- error failed nothing is said of it.
+abbrev pub IsSeenBefore : (s : Stop) (path : List ℕ) (first : AbstractMux) (input : Input) (out err : Device)
+    → Stops s path first input out err → Option Seen → Type 0
+IsSeenBefore BadRecord path first input out err h seen = h.all.last.seen ≡ seen
+IsSeenBefore ReadFailed path first input out err h seen = h.all.last.seen ≡ seen
+IsSeenBefore WriteFailed path first input out err h seen = h.all.last.seen ≡ seen
+IsSeenBefore ErrorFailed path first input out err h seen = Unit {0}
 
 -- the answer of a link that takes no more
 abbrev pub is_closed : Result (Unit {0}) LinkFault → Bool
@@ -128,6 +142,7 @@ pub record HadEnded (link : ℕ) (old new : Links) (err : Octets) : Type 0 where
   pub same : gateway_view new.gateway ≡ gateway_view old.gateway
   pub told : err.1 ≡ err.0
   pub status : new.status ≡ old.status
+  pub seen : new.seen ≡ old.seen
   pub ready : IsReady new.gateway
 
 -- ---- the ends of the links that are open

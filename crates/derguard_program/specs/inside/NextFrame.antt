@@ -2,7 +2,7 @@
 use Rattle.std.specs.Prelude.{◌≡◌, ◌<◌, ◌⊎◌, ℕ, Bool, true, List, length}
 use Rattle.guard_frames.specs.declared.running.RunFault.{RunFault}
 use Rattle.guard_frames.specs.declared.running.RunFault.TheVariants.{FrameTooLong, WriteFailed, TornFrame, ReadFailed, OutOfMemory}
-use Rattle.guard_frames.specs.Frames.{IsTooLong, IsUnfinished}
+use Rattle.guard_frames.specs.Frames.{IsTooLong, IsUnfinished, stated_length}
 
 -- these octets are none, by how the source is after them, and by how often it may still be asked
 abbrev pub IsNoFrame : RunFault → List ℕ → Type 0 → Bool → ℕ → Type 0
@@ -11,3 +11,11 @@ IsNoFrame TornFrame rest AtEnd failed reads = (0 < length rest) × IsUnfinished 
 IsNoFrame ReadFailed rest AtEnd failed reads = IsUnfinished rest × ((failed ≡ true) ⊎ (reads ≡ 0))
 IsNoFrame WriteFailed rest AtEnd failed reads = ⊥
 IsNoFrame OutOfMemory rest AtEnd failed reads = ⊥
+
+-- how much of a frame there is: the length that is too long, or how many octets of one that is torn
+abbrev pub IsLeft : RunFault → List ℕ → ℕ → Type 0
+IsLeft FrameTooLong rest left = left ≡ stated_length rest
+IsLeft TornFrame rest left = left ≡ length rest
+IsLeft ReadFailed rest left = Unit {0}
+IsLeft WriteFailed rest left = Unit {0}
+IsLeft OutOfMemory rest left = Unit {0}

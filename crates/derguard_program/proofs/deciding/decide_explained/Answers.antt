@@ -1,15 +1,17 @@
-use Rattle.std.proofs.Common.{ℕ, List, subst}
+use Rattle.std.proofs.Common.{◌∙◌, ap, Some, subst}
 use Rattle.std.proofs.lemmas.Result.{IfOk-weaker}
-use Rattle.derguard_program.specs.Answers.{answer_view, IsDecidedOver}
-use Rattle.derguard_program.specs.Requests.{message_route}
+use Rattle.guard_frames.specs.Bodies.{AbstractBody}
+use Rattle.guard_policy.specs.PolicyView.{route_view}
+use Rattle.derguard_program.specs.Answers.{answer_view, IsHeldExplained}
+use Rattle.derguard_program.specs.Framing.{route_body}
 use Rattle.derguard_program.proofs.deciding.decide_explained.Goals as goal
 
 pub returns-in-Ok-clause-decided : goal.returns-in-Ok-clause-decided
 returns-in-Ok-clause-decided g c =
     let told = g.F.Files.told c.args.files.now in
-    let message = c.args.message.now in
-    IfOk-weaker c.decide_octets.result _ _ (λ a h. (
+    let held = c.body_of-body.ensures ∙ ap (route_body (route_view c.args.route.now)) c.deref.ensures.value in
+    IfOk-weaker c.explain_held.result _ _ (λ a h. (
       c.in-Ok.octets.items,
       c.in-Ok.ensures.octets,
-      subst (λ (o : List ℕ). IsDecidedOver told message.policy.now (message_route message) o (answer_view a)) c.deref.ensures.value h,
-    )) c.decide_octets.ensures.decided
+      subst (λ (b : AbstractBody). IsHeldExplained told c.args.path.now (Some b) (answer_view a)) held h,
+    )) c.explain_held.ensures.decided

@@ -18,7 +18,7 @@ loop-place-preserved c =
     let p = policy_view c.args.policy.now in
     let rules = map found_view c.args.rules.now in
     rw c.in_ok-add_message.ensures
-    (one_message rules p.messages c.loop-place.place c.in-Some.message.now c.loop-place.text.items (c.args.text.now.items ++ messages_lines rules p.messages)
+    (one_message c.args.strict rules p.messages c.loop-place.place c.in-Some.message.now c.loop-place.text.items (c.args.text.now.items ++ messages_lines c.args.strict rules p.messages)
     (sym c.in-Some.ensures) c.loop-place.invariant)
 
 pub returns : goal.returns
@@ -29,5 +29,5 @@ returns c =
     let many = c.messages-place-end.ensures in
     let all : length p.messages ≤ c.loop-place.place = omega (arith, past, many) in
     sym (append-nil c.loop-place.text.items)
-    ∙ ap (λ (rest : List AbstractMessage). c.loop-place.text.items ++ messages_lines rules rest) (sym (drop_all c.loop-place.place p.messages all))
+    ∙ ap (λ (rest : List AbstractMessage). c.loop-place.text.items ++ messages_lines c.args.strict rules rest) (sym (drop_all c.loop-place.place p.messages all))
     ∙ c.loop-place.invariant

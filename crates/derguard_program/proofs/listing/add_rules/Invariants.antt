@@ -4,5 +4,5 @@ use Rattle.derguard_program.proofs.listing.add_rules.Given as goal
 
 abbrev pub invariant-loop-found : goal.invariant-loop-found
 invariant-loop-found l =
-    l.text.items ++ rule_lines (map found_view l.rules) l.message (map found_view (drop l.found-index l.rules))
-    ≡ l.initial.text.items ++ rule_lines (map found_view l.rules) l.message (map found_view l.rules)
+    l.text.items ++ rule_lines l.strict (map found_view l.rules) l.message (map found_view (drop l.found-index l.rules))
+    ≡ l.initial.text.items ++ rule_lines l.strict (map found_view l.rules) l.message (map found_view l.rules)

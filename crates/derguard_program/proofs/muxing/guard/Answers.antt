@@ -1,4 +1,4 @@
-use Rattle.std.proofs.Common.{◌∙◌, ◌≡◌, ◌≤◌, ◌^◌, [], inr, arith}
+use Rattle.std.proofs.Common.{◌∙◌, ◌≡◌, ◌≤◌, ◌^◌, [], Err, ap, inr, refl, arith}
 use Rattle.std.proofs.lemmas.Result.{err_from_is_err_and}
 use Rattle.guard_frames.proofs.Reading.{Consumes_none}
 use Rattle.derguard_program.specs.inside.Headers.{record_of}
@@ -30,9 +30,11 @@ pub returns-in_default-clause-done : goal.returns-in_default-clause-done
 returns-in_default-clause-done g c =
     let i = c.loop.invariant in
     let n = c.in_ok-header.ensures.end c.in_default.is in
-    told_ok c.end_all.result c.end_all.ensures.done (λ h.
-    finishes _ _ _ _ _ _ _ _ _ _ i.taken _ _ _ _ _ _ _ c.end_all.new.self n.0 n.1
-    (h c.args.path.now (g.F.Files.told c.loop.files)))
+    told_ok c.end_all.result c.end_all.ensures.done (λ h. (
+      finishes _ _ _ _ _ _ _ _ _ _ i.taken _ _ _ _ _ _ _ c.end_all.new.self n.0 n.1
+          (h c.args.path.now (g.F.Files.told c.loop.files)),
+      refl,
+    ))
 
 pub returns-in_default-clause-stops : goal.returns-in_default-clause-stops
 returns-in_default-clause-stops g c =
@@ -41,7 +43,7 @@ returns-in_default-clause-stops g c =
     told_err c.end_all.result c.end_all.ensures.cut (λ s cut.
     cut_at_end _ _ _ _ _ _ _ _ _ _ i.taken s _ _ _ _ _ _ _ cut.0 n.0 n.1
     (cut.1 c.args.path.now (g.F.Files.told c.loop.files) (g.O.Sink.taken c.loop.out)
-    (g.O.Sink.has_failed c.loop.out)))
+    (g.O.Sink.has_failed c.loop.out)) _)
 
 pub returns-in_err-take_record-clause-stops : goal.returns-in_err-take_record-clause-stops
 returns-in_err-take_record-clause-stops g c =
@@ -53,7 +55,8 @@ returns-in_err-take_record-clause-stops g c =
     rw (e.1, e.2) (cut_at _ _ _ _ _ _ _ _ _ _ i.taken c.in_err-take_record.field-0.0 _ _ _ _ _ _ _ _
     (record_of c.in-Some.header c.next_record.new.room)
     (allowed_of c.in-Some.header c.next_record.new.room n.0 (c.next_record.auto.room ∙ c.loop.auto.room
-    ∙ c.requires.room)) n.2 c.in_err-take_record.ensures.cut)
+    ∙ c.requires.room)) n.2 c.in_err-take_record.ensures.cut _
+    (λ is. c.take_record.ensures.kept (c.in_err-take_record.was ∙ ap Err is)))
 
 pub loop-preserved : goal.loop-preserved
 loop-preserved g c =
@@ -72,6 +75,8 @@ loop-preserved g c =
 pub returns-clause-stops : goal.returns-clause-stops
 returns-clause-stops g c =
     let i = c.loop.invariant in
-    let none : c.loop.reads ≡ 0 = omega (arith, i.left, c.loop-test.false) in
-    stops_at _ _ _ _ _ _ _ _ _ _ i.taken _ _ _ _ _ _ [] _ (Consumes_none _)
-    (short_none [] (omega arith), inr (omega (arith, i.asked, none)))
+    let none : c.loop.reads ≡ 0 = omega (arith, i.left, c.loop-test.false) in (
+      stops_at _ _ _ _ _ _ _ _ _ _ i.taken _ _ _ _ _ _ [] _ (Consumes_none _)
+          (short_none [] (omega arith), inr (omega (arith, i.asked, none))),
+      refl,
+    )

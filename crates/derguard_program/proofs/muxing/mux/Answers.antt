@@ -1,4 +1,4 @@
-use Rattle.std.proofs.Common.{◌∙◌, ap, inl, inr, refl, subst}
+use Rattle.std.proofs.Common.{ap, inl, inr, refl, subst}
 use Rattle.guard_policy.specs.PolicyView.{policy_view}
 use Rattle.derguard_program.specs.Devices.{input_of, device}
 use Rattle.derguard_program.specs.Muxing.{Finishes, Stops}
@@ -30,7 +30,7 @@ returns-in-Ok-guarded g c =
       c.in-Ok.ensures.there,
       c.in-Ok.ensures.later,
       inl (rw c.status.ensures (subst (λ (m : AbstractMux). Finishes c.args.path.now m input out err
-          c.guard-guarded.new.links.status) (c.in-Ok-new.ensures.open later) c.in-Ok-guarded.ensures.done)),
+          c.guard-guarded.new.links.status) (c.in-Ok-new.ensures.open later) c.in-Ok-guarded.ensures.done.0)),
     )
 
 pub returns : goal.returns
@@ -56,7 +56,7 @@ returns g c =
         stops_told s c.args.path.now _ input out (g.E.Sink.taken c.args.err.now) reported
             (g.E.Sink.has_failed c.guard-guarded.new.err) (g.E.Sink.has_failed c.tell_stop.new.err)
             (λ same. ap g.E.Sink.has_failed (c.tell_stop.ensures.silent same))
-            (subst (λ (m : AbstractMux). Stops s c.args.path.now m input out err) (c.in-Ok-new.ensures.open later) e.stops),
+            (subst (λ (m : AbstractMux). Stops s c.args.path.now m input out err) (c.in-Ok-new.ensures.open later) e.stops.0),
         c.tell_stop.ensures.told,
       ),
     )

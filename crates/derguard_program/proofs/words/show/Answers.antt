@@ -1,7 +1,5 @@
 use Rattle.std.proofs.Common.{◌≡◌, ◌∙◌, ap, codes}
 use Rattle.std.proofs.lemmas.Result.{IfOk-weaker}
-use Rattle.clap.specs.declared.builder.arg.Arg.{Arg}
-use Rattle.clap.specs.Walk.{Rule, rule_of}
 use Rattle.clap.specs.Simple.{App, app_of, app_of_fields, new_app}
 use Rattle.derguard_program.proofs.Commands.{with_argument}
 use Rattle.derguard_program.proofs.words.show.Goals as goal
@@ -10,7 +8,8 @@ pub returns : goal.returns
 returns c =
     let start : app_of c.after_help.result ≡ new_app (codes "show") = ap app_of_fields c.after_help.ensures ∙ ap app_of_fields c.about.ensures ∙ c.new.ensures.app in
     let first = with_argument _ _ _ _ _ c.in_ok-arg.ensures c.policy.ensures.local start c.policy.ensures.rule in
-    let second = with_argument _ _ _ _ _ c.in_ok-arg-2.ensures c.option.ensures.local first c.option.ensures.rule in
-    let hex_is = ap rule_of c.help.ensures ∙ ap rule_of c.value_name.ensures ∙ ap (λ (r : Rule). record r { value_names = 1 }) c.required.ensures.rule in
-    let local = ap (λ (a : Arg). a.global) c.help.ensures ∙ ap (λ (a : Arg). a.global) c.value_name.ensures ∙ c.required.ensures.local in
-    IfOk-weaker c.arg-3.result _ _ (λ r added. ap (λ (a : App). a.top) (with_argument _ r _ _ _ added local second hex_is)) c.arg-3.ensures
+    let second = with_argument _ _ _ _ _ c.in_ok-arg-2.ensures c.free_option.ensures.local first c.free_option.ensures.rule in
+    let third = with_argument _ _ _ _ _ c.in_ok-arg-3.ensures c.digits.ensures.local second c.digits.ensures.rule in
+    let fourth = with_argument _ _ _ _ _ c.in_ok-arg-4.ensures c.free_option-2.ensures.local third c.free_option-2.ensures.rule in
+    let fifth = with_argument _ _ _ _ _ c.in_ok-arg-5.ensures c.free_option-3.ensures.local fourth c.free_option-3.ensures.rule in
+    IfOk-weaker c.arg-6.result _ _ (λ r added. ap (λ (a : App). a.top) (with_argument _ r _ _ _ added c.free_option-4.ensures.local fifth c.free_option-4.ensures.rule)) c.arg-6.ensures

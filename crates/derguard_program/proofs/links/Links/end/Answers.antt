@@ -10,7 +10,7 @@ returns-clause-done g c =
     told_ok t.result t.ensures.all (λ said path told out. end_taken c.args.self.now c.args.link
     c.end_link-answer.result c.end_link-answer.new.gateway c.end_link-answer.ensures.step
     path told t.new.self out (g.E.Sink.taken c.args.err.now) (g.E.Sink.taken t.new.err) t.ensures.gateway
-    c.end_link-answer.ensures.ready said t.ensures.status)
+    c.end_link-answer.ensures.ready said t.ensures.status t.ensures.seen)
 
 pub returns-clause-cut : goal.returns-clause-cut
 returns-clause-cut g c =

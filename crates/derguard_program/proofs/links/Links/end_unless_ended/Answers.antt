@@ -18,7 +18,7 @@ returns-clause-done g c =
       λ path told out. end_taken c.args.self.now c.args.link e.result e.new.gateway e.ensures.step path told
           t.new.self out
           (g.E.Sink.taken c.args.err.now) (g.E.Sink.taken t.new.err) t.ensures.gateway e.ensures.ready said
-          t.ensures.status,
+          t.ensures.status t.ensures.seen,
     ))
 
 pub returns-clause-cut : goal.returns-clause-cut

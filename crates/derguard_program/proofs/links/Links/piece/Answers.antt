@@ -1,7 +1,11 @@
-use Rattle.std.proofs.Common.{◌≡◌, ◌∙◌, ℕ, List, ap, length, max, not, nat_eq}
+use Rattle.std.proofs.Common.{◌≡◌, ◌∙◌, ℕ, List, ap, length, max, not, nat_eq, subst, sym}
+use Rattle.std.specs.Prelude.{Option}
 use Rattle.std.proofs.lemmas.Result.{err_from_is_err_and}
-use Rattle.derguard_program.proofs.Doings.{piece_taken, piece_cut_passing, piece_cut_telling, status_after, told_ok, told_err, passed_there}
+use Rattle.derguard_program.proofs.Doings.{piece_taken, piece_cut_passing, piece_cut_telling, status_after, told_ok, told_err, passed_there, is_error}
+use Rattle.derguard_program.specs.declared.seen.Seen.{Seen}
+use Rattle.derguard_program.specs.Tallying.{IsSeen}
 use Rattle.derguard_program.specs.Turns.{link_status}
+use Rattle.derguard_program.specs.inside.Doing.{added_to}
 use Rattle.derguard_program.proofs.links.Links.piece.Goals as goal
 
 pub returns-in_err-is_reported-clause-cut : goal.returns-in_err-is_reported-clause-cut
@@ -27,7 +31,9 @@ returns-clause-done g c =
     t.new.self (g.O.Sink.taken c.args.out.now, g.O.Sink.taken c.pass_on.new.out) (g.E.Sink.taken c.args.err.now)
     (g.E.Sink.taken c.pass_on.new.err) (g.E.Sink.taken t.new.err)
     c.requires.ready (passed_there c.args.link f.ensures.ends f.new.gateway c.pass_on.new.gateway t.new.self.gateway
-    _ _ t.ensures.gateway p.0) said greatest)
+    _ _ t.ensures.gateway p.0) said greatest
+    (subst (λ (x : Option Seen). IsSeen c.args.self.now.seen (added_to f.ensures.ends) x) (sym t.ensures.seen)
+    (c.in_ok-is_reported.ensures.seen f.ensures.ends f.ensures.there)))
 
 pub returns-clause-cut : goal.returns-clause-cut
 returns-clause-cut g c =
@@ -37,3 +43,9 @@ returns-clause-cut g c =
     told_err t.result t.ensures.part (λ s cut path told. piece_cut_telling path told c.args.self.now c.args.link
     c.args.octets.now f.result f.new.gateway f.ensures
     s c.pass_on.new.gateway _ _ _ _ _ _ _ p.0 cut)
+
+pub returns-clause-kept : goal.returns-clause-kept
+returns-clause-kept g c is = absurd (is_error c.tell_answer.result c.tell_answer.ensures.part (λ s h. h.0) is)
+
+pub returns-in_err-is_reported-clause-kept : goal.returns-in_err-is_reported-clause-kept
+returns-in_err-is_reported-clause-kept g c is = c.in_err-is_reported.ensures.same

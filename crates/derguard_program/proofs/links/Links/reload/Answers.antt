@@ -1,25 +1,37 @@
 use Rattle.std.proofs.Common.{refl}
 use Rattle.guard_policy.specs.PolicyView.{policy_view}
-use Rattle.derguard_program.specs.declared.links.Links.{Links}
-use Rattle.derguard_program.proofs.Doings.{renewed, kept_old, kept_cut}
+use Rattle.derguard_program.proofs.Doings.{renewed, renewed_cut, kept_old, kept_cut, told_ok, told_err, cut_as_error}
 use Rattle.derguard_program.proofs.links.Links.reload.Goals as goal
 
 pub returns-in-Ok-clause-done : goal.returns-in-Ok-clause-done
-returns-in-Ok-clause-done g c = λ out.
+returns-in-Ok-clause-done g c =
+    let n = c.note_policy in
+    told_ok n.result n.ensures.all (λ said out.
     renewed c.args.path.now (g.F.Files.told c.args.files.now) (g.F.Files.told c.load.new.files) c.args.self.now
-    (record { gateway = c.step.new.self; status = c.args.self.now.status })
+    (record { gateway = c.step.new.self; status = c.args.self.now.status; seen = c.args.self.now.seen })
     (policy_view c.in-Ok.policy) c.step.result c.step.ensures.added out
-    (g.E.Sink.taken c.args.err.now) c.requires.ready c.in-Ok.ensures.there c.in-Ok.ensures.later
-    c.step.ensures.step c.step.ensures.took refl
+    (g.E.Sink.taken c.args.err.now) (g.E.Sink.taken n.new.err) c.requires.ready c.in-Ok.ensures.there c.in-Ok.ensures.later
+    c.step.ensures.step c.step.ensures.took refl refl (rw (← c.messages-messages.ensures, ← c.rules-rules.ensures) said))
+
+pub returns-in-Ok-clause-cut : goal.returns-in-Ok-clause-cut
+returns-in-Ok-clause-cut g c =
+    let n = c.note_policy in
+    told_err n.result n.ensures.part (λ s p out failed.
+    cut_as_error s _ _ _ _ _ p.0
+    (renewed_cut c.args.path.now (g.F.Files.told c.args.files.now) (g.F.Files.told c.load.new.files) c.args.self.now
+    c.step.new.self (policy_view c.in-Ok.policy) c.step.result c.step.ensures.added p.2.0 out
+    (g.E.Sink.taken c.args.err.now) (g.E.Sink.taken n.new.err) failed (g.E.Sink.has_failed n.new.err)
+    c.in-Ok.ensures.there c.in-Ok.ensures.later c.step.ensures.step p.1
+    (rw (← c.messages-messages.ensures, ← c.rules-rules.ensures) p.2.1) p.2.2))
 
 pub returns-in-Ok-report-clause-done : goal.returns-in-Ok-report-clause-done
 returns-in-Ok-report-clause-done g c = λ out. (
     let r = c.in-Ok-report.ensures.all in
     kept_old c.args.path.now (g.F.Files.told c.args.files.now) (g.F.Files.told c.load.new.files) c.args.self.now
-    (record { gateway = c.args.self.now.gateway; status = c.max-self.result })
+    (record { gateway = c.args.self.now.gateway; status = c.max-self.result; seen = c.args.self.now.seen })
     c.in-Err.fault r.0 c.in-Ok-report.status out (g.E.Sink.taken c.args.err.now)
     (g.E.Sink.taken c.report.new.err) c.requires.ready c.in-Err.ensures.none c.in-Err.ensures.later r.1 r.2
-    refl c.max-self.ensures)
+    refl c.max-self.ensures refl)
 
 pub returns-clause-cut : goal.returns-clause-cut
 returns-clause-cut g c = λ out failed. (

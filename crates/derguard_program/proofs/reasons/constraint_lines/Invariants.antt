@@ -1,0 +1,12 @@
+use Rattle.std.proofs.Common.{◌≡◌, ◌++◌, drop, map}
+use Rattle.guard_model.specs.TypeView.{constraint_view, constraints_of}
+use Rattle.derguard_program.specs.Explaining.{sources_view}
+use Rattle.derguard_program.specs.Listing.{places_in}
+use Rattle.derguard_program.specs.Reasons.{lines_of_places}
+use Rattle.derguard_program.proofs.reasons.constraint_lines.Given as goal
+
+-- what is written, with the lines of those that are left, is the lines of all
+abbrev pub invariant-loop-constraint : goal.invariant-loop-constraint
+invariant-loop-constraint l =
+    l.lines.items ++ lines_of_places (sources_view l.sources) (places_in (constraints_of (map constraint_view (drop l.constraint-index l.constraints))))
+    ≡ lines_of_places (sources_view l.sources) (places_in (constraints_of (map constraint_view l.constraints)))

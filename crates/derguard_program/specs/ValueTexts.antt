@@ -1,0 +1,70 @@
+-- The value of a type that a text alone writes, in the notation of X.680 17, or why it writes none.
+use Rattle.std.specs.Prelude.{◌≡◌, ℕ, List, [], ◌∷◌, ◌++◌, codes, None}
+use Rattle.std.specs.Option.{option_map_or}
+use Rattle.guard_model.specs.declared.site.Site.{Site}
+use Rattle.guard_model.specs.AbstractType.{AbstractType}
+use Rattle.guard_lexer.specs.Lexing.{Lexes, FirstFault}
+use Rattle.guard_lexer.specs.declared.token.Token.{Token}
+use Rattle.guard_syntax.specs.Grammar.{IsValue, most_levels}
+use Rattle.guard_syntax.specs.Lexemes.{lexemes_of, sites_of}
+use Rattle.guard_syntax.specs.Sites.{sited_value}
+use Rattle.guard_syntax.specs.TokensOf.{value_then}
+use Rattle.guard_syntax.specs.Trees.{WrittenValue}
+use Rattle.guard_values.specs.FirstFault.{IsFirstFault}
+use Rattle.guard_values.specs.Meanings.{Meaning}
+use Rattle.guard_schema.specs.declared.fault.SchemaFault.{SchemaFault}
+use Rattle.guard_schema.specs.declared.fault.SchemaFault.TheVariants.{Lex, Syntax, Name, Tag, Clash, Cons, Value, DefaultOutside, TooLarge, OutOfMemory}
+use Rattle.derguard_program.specs.declared.fault.Fault.{Fault}
+use Rattle.derguard_program.specs.declared.fault.Fault.TheVariants.{BadHex, CannotRead, Schema, Policy, Run, NoMemory}
+use Rattle.derguard_program.specs.Explaining.{AbstractSources, sources, place_lines}
+use Rattle.derguard_program.specs.Notes.{note_of}
+
+-- A text that stands alone has no module around it, so no name in it means the value of one.
+abbrev pub no_values : Meaning
+no_values name = None
+
+-- The tokens of the text, which is number 1, write this tree of the grammar, in which each node has the site of its
+-- first token.
+pub record IsWrittenAs (text : List ℕ) (tree : WrittenValue) : Type 0 where
+  pub tokens : List Token
+  pub lexed : Lexes 1 text tokens
+  pub grammar : IsValue most_levels tree
+  pub written : value_then tree [] ≡ lexemes_of text tokens
+  pub behind : List Site
+  pub sited : (sited_value tree (sites_of tokens ++ behind)).0 ≡ tree
+
+-- no tree of the grammar is written with these tokens
+abbrev pub HaveNoTree : List ℕ → List Token → Type 0
+HaveNoTree text tokens =
+    (tree : WrittenValue) → IsValue most_levels tree → value_then tree [] ≡ lexemes_of text tokens → ⊥
+
+-- Why a text writes no value of the type: it has no tokens; the grammar has no value with them; or the tree denotes no
+-- value of the type.
+abbrev pub IsNoValue : AbstractType → List ℕ → SchemaFault → Type 0
+IsNoValue t text (Lex f) = FirstFault 1 text f
+IsNoValue t text (Syntax f) = (tokens : List Token) × Lexes 1 text tokens × HaveNoTree text tokens
+IsNoValue t text (Value f) = (tree : WrittenValue) × IsWrittenAs text tree × IsFirstFault no_values t tree f
+IsNoValue t text OutOfMemory = ⊥
+IsNoValue t text (Name f) = ⊥
+IsNoValue t text (Tag f) = ⊥
+IsNoValue t text (Clash site clash) = ⊥
+IsNoValue t text (Cons f) = ⊥
+IsNoValue t text (DefaultOutside site) = ⊥
+IsNoValue t text (TooLarge site) = ⊥
+
+-- the fault is one of a text, of which this holds; or memory ran out
+abbrev pub OfText : (SchemaFault → Type 0) → Fault → Type 0
+OfText Is (Schema f) = Is f
+OfText Is NoMemory = Unit {0}
+OfText Is BadHex = ⊥
+OfText Is (CannotRead file) = ⊥
+OfText Is (Policy f) = ⊥
+OfText Is (Run f) = ⊥
+
+-- the text, as the lines that show a place in it name it
+abbrev pub value_sources : List ℕ → AbstractSources
+value_sources text = sources [] (codes "value" ∷ []) (text ∷ [])
+
+-- what comes after the line of such a fault: its place, and the line with a mark under the column
+abbrev pub value_note : List ℕ → Fault → List ℕ
+value_note text f = option_map_or (λ n. place_lines (value_sources text) n.place) (note_of f) []

@@ -1,0 +1,204 @@
+//! The octets of a message that is in a file or comes in.
+ghost use Rattle.std.specs.Prelude.{◌≡◌, ◌≤◌, ◌⊎◌, drop, length, IfOk, IfErr};
+ghost use Rattle.guard_frames.specs.declared.running.RunFault.TheVariants.{ReadFailed};
+ghost use Rattle.derguard_program.specs.Devices.{source_of, device_of};
+ghost use Rattle.derguard_program.specs.Files.{Told};
+ghost use Rattle.derguard_program.specs.Intake.{IsRead, IsLost};
+ghost use Rattle.derguard_program.specs.Finding.{is_input, IsKeptBy, IsNotKeptBy, IsFound, IsUnfound, TellsUnfound};
+ghost use Rattle.derguard_program.specs.Questions.{spot_view, kept, framed, linked};
+ghost use Rattle.derguard_program.specs.declared.fault.Fault.TheVariants.{Run, NoMemory};
+ghost use Rattle.derguard_program.specs.declared.finding.Unfound.TheVariants as unfound;
+ghost use Rattle.derguard_program.specs.inside.Passed.{unfound_of};
+
+use crate::fault::Fault;
+use crate::files::Files;
+use crate::frames::{LENGTH, new_frame_room};
+use crate::intake::{Unread, read_all};
+use crate::linked::{Unlinked, linked_frame};
+use crate::numbered::{natural_in, nth_frame, number_in};
+use crate::outputs::{tell, tell_bad_record, tell_text};
+use crate::question::Spot;
+use crate::records::new_room;
+use crate::texts::read;
+use guard_frames::{RunFault, Sink, Source};
+use guard_model::OutOfMemory;
+use std::alloc::Global;
+
+/// The most octets of a message.
+const MOST: usize = 1_048_576;
+
+/// Why the octets of a message can't be had.
+#[derive(Debug, Drop)]
+pub enum Unfound {
+    /// The file can't be read, standard input failed or isn't frames, or memory ran out.
+    Faulty(Fault),
+    /// There are more than 1,048,576.
+    TooLong,
+    /// No frame that comes in has the number.
+    NoSuchFrame,
+    /// What comes in is no record, or is cut short by the end.
+    BadRecord,
+}
+
+impl From<Fault> for Unfound {
+    ghost from_gives = { λ f e. e ≡ unfound.Faulty f };
+
+    fn from(fault: Fault) -> Unfound {
+        Unfound::Faulty(fault)
+    }
+}
+
+impl From<OutOfMemory> for Unfound {
+    ghost from_gives = { λ _ e. e ≡ unfound.Faulty NoMemory };
+
+    fn from(_e: OutOfMemory) -> Unfound {
+        Unfound::Faulty(Fault::NoMemory)
+    }
+}
+
+/// The octets at the spot; of a frame those behind its length.
+pub fn find<F: Files, S: Source>(
+    alloc: Global,
+    spot: &Spot,
+    files: &mut F,
+    input: &mut S,
+) -> Result<Vec<u8>, Unfound>
+    ensures found { IfOk result (λ octets. IsFound (F.told files.old) (spot_view spot.now)
+        (source_of S.tells S.takes S.has_failed input.old input.new) octets.items (F.told files.new)) }
+    ensures unfound { IfErr result (IsUnfound (F.told files.old) (spot_view spot.now)
+        (source_of S.tells S.takes S.has_failed input.old input.new)) }
+{
+    match spot {
+        Spot::Kept(path) => kept_octets(alloc, path, files, input),
+        Spot::Framed(number) => framed_octets(alloc, number, input),
+        Spot::Linked(link, number) => linked_octets(alloc, link, number, input),
+    }
+}
+
+/// All octets at the path, unless there are too many.
+fn kept_octets<F: Files, S: Source>(
+    alloc: Global,
+    path: &str,
+    files: &mut F,
+    input: &mut S,
+) -> Result<Vec<u8>, Unfound>
+    ensures found { IfOk result (λ octets. IsFound (F.told files.old) (kept path.now)
+        (source_of S.tells S.takes S.has_failed input.old input.new) octets.items (F.told files.new)) }
+    ensures unfound { IfErr result (IsUnfound (F.told files.old) (kept path.now)
+        (source_of S.tells S.takes S.has_failed input.old input.new)) }
+{
+    let octets = all_at(alloc, path, files, input)?;
+    if octets.len() > MOST {
+        return Err(Unfound::TooLong);
+    }
+    Ok(octets)
+}
+
+/// All octets at the path; of standard input one more than a message has, where there are more.
+fn all_at<F: Files, S: Source>(
+    alloc: Global,
+    path: &str,
+    files: &mut F,
+    input: &mut S,
+) -> Result<Vec<u8>, Fault>
+    ensures there { IfOk result (λ octets. IsKeptBy (is_input path.now) (F.told files.old) path.now
+        (source_of S.tells S.takes S.has_failed input.old input.new) octets.items (F.told files.new)) }
+    ensures none { IfErr result (λ f. IsNotKeptBy (is_input path.now) (F.told files.old) path.now
+        (source_of S.tells S.takes S.has_failed input.old input.new) f ⊎ (f ≡ NoMemory)) }
+{
+    if path == "-" {
+        read_input(alloc, input)
+    } else {
+        read(alloc, path, files)
+    }
+}
+
+/// All that standard input gives, to one octet more than a message has.
+fn read_input<S: Source>(alloc: Global, input: &mut S) -> Result<Vec<u8>, Fault>
+    ensures read { IfOk result (λ octets.
+        IsRead (source_of S.tells S.takes S.has_failed input.old input.new) octets.items) }
+    ensures lost { IfErr result (λ f. ((f ≡ Run ReadFailed)
+        × IsLost (source_of S.tells S.takes S.has_failed input.old input.new)) ⊎ (f ≡ NoMemory)) }
+{
+    match read_all(alloc, input) {
+        Ok(octets) => Ok(octets),
+        Err(Unread::Lost) => Err(Fault::Run(RunFault::ReadFailed)),
+        Err(Unread::NoMemory) => Err(Fault::NoMemory),
+    }
+}
+
+/// What follows the length of the frame of this number.
+fn framed_octets<S: Source>(alloc: Global, word: &str, input: &mut S) -> Result<Vec<u8>, Unfound>
+    ensures found { (told : Told) → IfOk result (λ octets. IsFound told (framed word.now)
+        (source_of S.tells S.takes S.has_failed input.old input.new) octets.items told) }
+    ensures unfound { (told : Told) → IfErr result (IsUnfound told (framed word.now)
+        (source_of S.tells S.takes S.has_failed input.old input.new)) }
+{
+    let Some(number) = number_in(word) else {
+        return Err(Unfound::NoSuchFrame);
+    };
+    let mut room = new_frame_room(alloc)?;
+    match nth_frame(input, room.as_mut_slice(), number) {
+        Ok(Some(size)) => Ok(body_in(alloc, &room[..size])?),
+        Ok(None) => Err(Unfound::NoSuchFrame),
+        Err(fault) => Err(Unfound::Faulty(Fault::Run(fault))),
+    }
+}
+
+/// What follows the length of the frame of this number of the link.
+fn linked_octets<S: Source>(
+    alloc: Global,
+    number: &str,
+    word: &str,
+    input: &mut S,
+) -> Result<Vec<u8>, Unfound>
+    ensures found { (told : Told) → IfOk result (λ octets. IsFound told (linked number.now word.now)
+        (source_of S.tells S.takes S.has_failed input.old input.new) octets.items told) }
+    ensures unfound { (told : Told) → IfErr result (IsUnfound told (linked number.now word.now)
+        (source_of S.tells S.takes S.has_failed input.old input.new)) }
+{
+    let Some(link) = natural_in(number) else {
+        return Err(Unfound::NoSuchFrame);
+    };
+    let Some(number) = number_in(word) else {
+        return Err(Unfound::NoSuchFrame);
+    };
+    let mut room = new_room(alloc)?;
+    match linked_frame(alloc, input, room.as_mut_slice(), link, number) {
+        Ok(frame) => Ok(body_in(alloc, &frame)?),
+        Err(reason) => Err(unfound_of(reason)),
+    }
+}
+
+fn unfound_of(reason: Unlinked) -> Unfound
+    ensures { result ≡ unfound_of reason }
+{
+    match reason {
+        Unlinked::Fewer => Unfound::NoSuchFrame,
+        Unlinked::Torn => Unfound::Faulty(Fault::Run(RunFault::TornFrame)),
+        Unlinked::TooLong => Unfound::Faulty(Fault::Run(RunFault::FrameTooLong)),
+        Unlinked::BadRecord => Unfound::BadRecord,
+        Unlinked::Lost => Unfound::Faulty(Fault::Run(RunFault::ReadFailed)),
+        Unlinked::NoMemory => Unfound::Faulty(Fault::NoMemory),
+    }
+}
+
+/// What follows the length of a frame.
+fn body_in(alloc: Global, frame: &[u8]) -> Result<Vec<u8>, OutOfMemory>
+    requires { 4 ≤ length frame.now }
+    ensures { IfOk result (λ body. body.items ≡ drop 4 frame.now) }
+{
+    Ok(Vec::from_slice(alloc, &frame[LENGTH..])?)
+}
+
+/// Reports why the octets can't be had, and answers the status.
+pub fn tell_unfound<E: Sink>(alloc: Global, reason: &Unfound, err: &mut E) -> u8
+    ensures { TellsUnfound reason.now (device_of E.taken E.has_failed err.old err.new) result }
+{
+    match reason {
+        Unfound::Faulty(fault) => tell(alloc, fault, err),
+        Unfound::TooLong => tell_text(alloc, "message too long", 2, err),
+        Unfound::NoSuchFrame => tell_text(alloc, "no such frame", 2, err),
+        Unfound::BadRecord => tell_bad_record(err),
+    }
+}

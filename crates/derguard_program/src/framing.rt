@@ -1,0 +1,55 @@
+//! The frame that holds a message.
+ghost use Rattle.std.specs.Prelude.{◌≡◌, ◌++◌, None, true, IfOk, IfSome, OnOk};
+ghost use Rattle.guard_policy.specs.Names.{is_name, is_plain};
+ghost use Rattle.guard_policy.specs.PolicyView.{route_view};
+ghost use Rattle.guard_frames.specs.Bodies.{named};
+ghost use Rattle.derguard_program.specs.Framing.{IsFrameOf, HasNoFrame, body_octets, route_body};
+
+use crate::octets::add;
+use guard_model::OutOfMemory;
+use guard_policy::Route;
+use std::alloc::Global;
+
+/// The most octets of a body.
+const LONGEST_BODY: usize = 1_048_576;
+
+/// The frame that holds the message on the route; none where one of the names of the route is none, or the body would
+/// have more than 1,048,576 octets. Its one refusal is want of memory.
+pub fn frame(alloc: Global, route: &Route, message: &[u8]) -> Result<Option<Vec<u8>>, OutOfMemory>
+    ensures made { IfOk result (λ found. IfSome found (λ frame. IsFrameOf
+        (route_body (route_view route.now) message.now) frame.items)) }
+    ensures none { IfOk result (λ found. found ≡ None → HasNoFrame (route_body (route_view route.now) message.now)) }
+{
+    if !route.is_plain() {
+        return Ok(None);
+    }
+    let body = body(alloc, route, message)?;
+    if body.len() > LONGEST_BODY {
+        return Ok(None);
+    }
+    let mut frame = Vec::from_slice(alloc, &(body.len() as u32).to_be_bytes())?;
+    add(&mut frame, &body)?;
+    Ok(Some(frame))
+}
+
+/// The body of the frame. Each of the names has 63 octets at most.
+fn body(alloc: Global, route: &Route, message: &[u8]) -> Result<Vec<u8>, OutOfMemory>
+    requires { is_plain (route_view route.now) ≡ true }
+    ensures { IfOk result (λ body. body.items ≡ body_octets (route_body (route_view route.now) message.now)) }
+{
+    let mut body = Vec::new(alloc);
+    add_name(&mut body, route.from)?;
+    add_name(&mut body, route.to)?;
+    add_name(&mut body, route.message)?;
+    add(&mut body, message)?;
+    Ok(body)
+}
+
+/// Appends a name after its length.
+fn add_name(text: &mut Vec<u8>, name: &[u8]) -> Result<(), OutOfMemory>
+    requires { is_name name.now ≡ true }
+    ensures { OnOk result (text.new.items ≡ text.old.items ++ named name.now) }
+{
+    text.push(name.len() as u8)?;
+    add(text, name)
+}

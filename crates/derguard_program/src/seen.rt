@@ -1,0 +1,137 @@
+//! What is seen of a stream, and the notes that end it.
+ghost use Rattle.std.specs.Prelude.{◌≡◌, ◌++◌, ℕ, List, IfOk, OnOk, decimal};
+ghost use Rattle.derguard_program.specs.Faults.{IsText};
+ghost use Rattle.derguard_program.specs.Verbose.{nothing_seen, totals_line, count_line, count_lines, last_lines, frame_line, fault_line, fault_lines};
+ghost use Rattle.derguard_program.specs.Writing.{line_of};
+ghost use Rattle.derguard_program.specs.declared.fault.Fault.TheVariants.{Run};
+
+use crate::counts::Counts;
+use crate::fault::Fault;
+use crate::octets::add;
+use guard_frames::{RunFault, Totals};
+use guard_model::OutOfMemory;
+use itoa::Buffer;
+use std::alloc::Global;
+
+/// How many frames there were, how often each reason was reported, and what a fault leaves of the frame after them: the
+/// length that is too long, or how many octets of it there are.
+#[derive(Clone, Copy, Debug, PartialEq, Eq)]
+pub struct Seen {
+    pub totals: Totals,
+    pub counts: Counts,
+    pub left: usize,
+}
+
+impl Seen {
+    /// Before the first frame.
+    pub fn nothing() -> Seen
+        ensures { result ≡ nothing_seen }
+    {
+        Seen {
+            totals: Totals::none(),
+            counts: Counts::none(),
+            left: 0,
+        }
+    }
+}
+
+/// The notes that end a stream. Their one refusal is want of memory.
+pub fn last_notes(alloc: Global, seen: &Seen) -> Result<Vec<u8>, OutOfMemory>
+    ensures { IfOk result (λ text. text.items ≡ last_lines seen.now) }
+{
+    let mut text = Vec::new(alloc);
+    add_last(&mut text, seen)?;
+    Ok(text)
+}
+
+/// The line of a fault and the notes behind it. Their one refusal is want of memory.
+pub fn fault_notes(alloc: Global, fault: RunFault, seen: &Seen) -> Result<Vec<u8>, OutOfMemory>
+    ensures { IfOk result (λ text. (said : List ℕ) × IsText (Run fault) said
+        × (text.items ≡ line_of said ++ fault_lines fault seen.now)) }
+{
+    let said = Fault::Run(fault).text(alloc)?;
+    let mut text = Vec::new(alloc);
+    add(&mut text, b"derguard: ")?;
+    add(&mut text, said.as_bytes())?;
+    add(&mut text, b"\n")?;
+    add_fault(&mut text, fault, seen)?;
+    add_last(&mut text, seen)?;
+    Ok(text)
+}
+
+/// Appends the notes that end a stream.
+pub fn add_last(text: &mut Vec<u8>, seen: &Seen) -> Result<(), OutOfMemory>
+    ensures { OnOk result (text.new.items ≡ text.old.items ++ last_lines seen.now) }
+{
+    add_totals(text, seen.totals)?;
+    add_counts(text, &seen.counts)
+}
+
+fn add_totals(text: &mut Vec<u8>, totals: Totals) -> Result<(), OutOfMemory>
+    ensures { OnOk result (text.new.items ≡ text.old.items ++ totals_line totals) }
+{
+    add(text, b"derguard: frames ")?;
+    add_number(text, totals.frames)?;
+    add(text, b", passed ")?;
+    add_number(text, totals.passed)?;
+    add(text, b", denied ")?;
+    add_number(text, totals.denied)?;
+    add(text, b"\n")
+}
+
+fn add_counts(text: &mut Vec<u8>, counts: &Counts) -> Result<(), OutOfMemory>
+    ensures { OnOk result (text.new.items ≡ text.old.items ++ count_lines counts.now) }
+{
+    add_count(text, b"bad-header", counts.bad_header)?;
+    add_count(text, b"unknown-message", counts.unknown_message)?;
+    add_count(text, b"undecodable", counts.undecodable)?;
+    add_count(text, b"outside-type", counts.outside_type)?;
+    add_count(text, b"denied-by", counts.denied_by)?;
+    add_count(text, b"not-allowed", counts.not_allowed)?;
+    add_count(text, b"no-rule", counts.no_rule)?;
+    add_count(text, b"no-memory", counts.no_memory)
+}
+
+fn add_count(text: &mut Vec<u8>, reason: &[u8], count: u64) -> Result<(), OutOfMemory>
+    ensures { OnOk result (text.new.items ≡ text.old.items ++ count_line reason.now count) }
+{
+    if count == 0 {
+        return Ok(());
+    }
+    add(text, b"derguard: ")?;
+    add(text, reason)?;
+    add(text, b" ")?;
+    add_number(text, count)?;
+    add(text, b"\n")
+}
+
+fn add_fault(text: &mut Vec<u8>, fault: RunFault, seen: &Seen) -> Result<(), OutOfMemory>
+    ensures { OnOk result (text.new.items ≡ text.old.items ++ fault_line fault seen.now) }
+{
+    let number = seen.totals.next_number();
+    match fault {
+        RunFault::FrameTooLong => add_frame(text, number, b"length", seen.left),
+        RunFault::TornFrame => add_frame(text, number, b"octets", seen.left),
+        RunFault::WriteFailed => add(text, b"derguard: standard output failed\n"),
+        RunFault::ReadFailed | RunFault::OutOfMemory => Ok(()),
+    }
+}
+
+fn add_frame(text: &mut Vec<u8>, number: u64, word: &[u8], count: usize) -> Result<(), OutOfMemory>
+    ensures { OnOk result (text.new.items ≡ text.old.items ++ frame_line number word.now count) }
+{
+    add(text, b"derguard: frame ")?;
+    add_number(text, number)?;
+    add(text, b", ")?;
+    add(text, word)?;
+    add(text, b" ")?;
+    add_number(text, count as u64)?;
+    add(text, b"\n")
+}
+
+fn add_number(text: &mut Vec<u8>, number: u64) -> Result<(), OutOfMemory>
+    ensures { OnOk result (text.new.items ≡ text.old.items ++ decimal number) }
+{
+    let mut buffer = Buffer::new();
+    add(text, buffer.format(number).as_bytes())
+}

@@ -1,0 +1,107 @@
+//! Guards the links of a stream of records, with notes.
+ghost use Rattle.std.specs.Prelude.{◌≡◌, ◌++◌, IfOk};
+ghost use Rattle.derguard_program.specs.Devices.{source_of, device_of};
+ghost use Rattle.derguard_program.specs.Muxing.{WatchesLinks, TellsNotes, TellsStopWith, seen_lines};
+ghost use Rattle.derguard_program.specs.declared.stop.Stop.TheVariants as stop;
+
+use crate::checking::load;
+use crate::files::Files;
+use crate::links::Links;
+use crate::muxing::guard;
+use crate::octets::add;
+use crate::outputs::{FAILED, tell, tell_line, tell_no_memory};
+use crate::records::new_room;
+use crate::seen::{Seen, add_last};
+use crate::stop::Stop;
+use guard_frames::{Sink, Source};
+use guard_model::OutOfMemory;
+use std::alloc::Global;
+
+const BAD_RECORD: &[u8] = b"derguard: bad record\n";
+
+const READ_FAILED: &[u8] = b"derguard: F5 ReadFailed\n";
+
+const WRITE_FAILED: &[u8] = b"derguard: F2 WriteFailed\nderguard: standard output failed\n";
+
+/// Guards the links of the stream under the policy at the path, and answers the status, as `mux` does. New policies are
+/// noted as they come; behind all else, and behind the line that says why the links aren't guarded to their ends, it is
+/// said how many frames there were and how often each reason was reported. Where there is no memory for that, it says
+/// so, and the status is 3.
+pub fn mux_verbosely<F: Files, S: Source, O: Sink, E: Sink>(
+    alloc: Global,
+    path: &str,
+    files: &mut F,
+    input: &mut S,
+    out: &mut O,
+    err: &mut E,
+) -> u8
+    ensures { WatchesLinks (F.told files.old) path.now (source_of S.tells S.takes S.has_failed input.old input.new)
+        (device_of O.taken O.has_failed out.old out.new)
+        (device_of E.taken E.has_failed err.old err.new) result }
+{
+    let policy = match load(alloc, path, files) {
+        Ok(policy) => policy,
+        Err(fault) => return tell(alloc, &fault, err),
+    };
+    let Ok(mut links) = Links::new(alloc, policy, Some(Seen::nothing())) else {
+        return tell_no_memory(err);
+    };
+    let Ok(mut room) = new_room(alloc) else {
+        return tell_no_memory(err);
+    };
+    let guarded = guard(
+        alloc,
+        path,
+        files,
+        room.as_mut_slice(),
+        &mut links,
+        input,
+        out,
+        err,
+    );
+    match guarded {
+        Ok(()) => tell_notes(alloc, b"", links.seen(), links.status(), err),
+        Err(reason) => tell_stop(alloc, reason, links.seen(), err),
+    }
+}
+
+/// Tells why the links weren't guarded to their ends, and what was seen of them.
+fn tell_stop<E: Sink>(alloc: Global, reason: Stop, seen: Option<Seen>, err: &mut E) -> u8
+    ensures told { TellsStopWith reason seen (device_of E.taken E.has_failed err.old err.new) result }
+    ensures silent { reason ≡ stop.ErrorFailed → err.new ≡ err.old }
+{
+    match reason {
+        Stop::BadRecord => tell_notes(alloc, BAD_RECORD, seen, FAILED, err),
+        Stop::ReadFailed => tell_notes(alloc, READ_FAILED, seen, FAILED, err),
+        Stop::WriteFailed => tell_notes(alloc, WRITE_FAILED, seen, FAILED, err),
+        Stop::ErrorFailed => FAILED,
+    }
+}
+
+/// Tells some lines, and then what was seen, with this status.
+fn tell_notes<E: Sink>(
+    alloc: Global,
+    first: &[u8],
+    seen: Option<Seen>,
+    status: u8,
+    err: &mut E,
+) -> u8
+    ensures { TellsNotes (first.now ++ seen_lines seen) status (device_of E.taken E.has_failed err.old err.new)
+        result }
+{
+    match notes(alloc, first, seen) {
+        Ok(text) => tell_line(text.as_slice(), status, err),
+        Err(_) => tell_no_memory(err),
+    }
+}
+
+fn notes(alloc: Global, first: &[u8], seen: Option<Seen>) -> Result<Vec<u8>, OutOfMemory>
+    ensures { IfOk result (λ text. text.items ≡ first.now ++ seen_lines seen) }
+{
+    let mut text = Vec::new(alloc);
+    add(&mut text, first)?;
+    if let Some(seen) = seen {
+        add_last(&mut text, &seen)?;
+    }
+    Ok(text)
+}

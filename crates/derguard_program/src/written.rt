@@ -1,0 +1,210 @@
+//! The value that a text alone writes, and its encoding.
+//!
+//! The grammar has values only where modules assign them. So the tokens of the text are read among those of a module
+//! that assigns their value and nothing else.
+ghost use Rattle.std.specs.Prelude.{◌≡◌, Some, List, IfOk, IfErr, IsTrue};
+ghost use Rattle.guard_model.specs.declared.site.Site.{Site};
+ghost use Rattle.guard_model.specs.TypeView.{type_view};
+ghost use Rattle.guard_model.specs.ValueView.{value_view};
+ghost use Rattle.guard_der.specs.Der.{der};
+ghost use Rattle.guard_der.specs.Fits.{fits};
+ghost use Rattle.guard_der.specs.ProperConstraints.{is_short};
+ghost use Rattle.guard_der.specs.Sound.{is_sound};
+ghost use Rattle.guard_lexer.specs.Lexing.{Lexes};
+ghost use Rattle.guard_syntax.specs.Lexemes.{lexemes_of, sites_of};
+ghost use Rattle.guard_syntax.specs.ModuleViews.{module_view};
+ghost use Rattle.guard_syntax.specs.Parses.{IsWritten, HasSites};
+ghost use Rattle.guard_syntax.specs.Sites.{sited};
+ghost use Rattle.guard_syntax.specs.Trees.{WrittenValue, WrittenModule};
+ghost use Rattle.guard_syntax.specs.Views as trees;
+ghost use Rattle.guard_values.specs.Denotes.{Denotes};
+ghost use Rattle.reads_back.specs.ReadingBack.{IsReadAs};
+ghost use Rattle.derguard_program.specs.Encodes.{IsEncoding};
+ghost use Rattle.derguard_program.specs.ValueTexts.{no_values, IsNoValue, OfText};
+ghost use Rattle.derguard_program.specs.inside.Assigned.{assigned, sites_around, AssignsOne, IsLexFault, IsSyntaxFault, IsUnexpected, IsValueFault, syntax_refusal, value_refusal};
+
+use crate::ends::end_of;
+use crate::fault::Fault;
+use guard_der::{EncodeFault, encode};
+use guard_lexer::{LexFault, Mark, Reserved, Token, TokenKind, tokens};
+use guard_model::{OutOfMemory, Site, Ty, Value};
+use guard_names::resolve;
+use guard_schema::SchemaFault;
+use guard_syntax::{Module, SyntaxFault, ValueTree, parse};
+use guard_values::{Known, ValueFault, value};
+use std::alloc::{AllocError, Global};
+
+/// The number of the text in a site.
+const PLACE: u32 = 1;
+
+/// The value of the type that the text writes, and its encoding.
+///
+/// It refuses with Schema where the text has no tokens (L1 to L7), the grammar has no value with them (P1 to P3), or the
+/// tree denotes no value of the type (V1 to V8).
+pub fn encoded(alloc: Global, ty: &Ty, text: &[u8]) -> Result<(Value, Vec<u8>), Fault>
+    requires { IsTrue (is_sound (type_view ty.now)) }
+    ensures encoding { IfOk result (λ p. IsEncoding (type_view ty.now) text.now (value_view p.0) p.1.items) }
+    ensures fits { IfOk result (λ p. IsTrue (fits (type_view ty.now) (value_view p.0))) }
+    ensures none { IfErr result (OfText (IsNoValue (type_view ty.now) text.now)) }
+{
+    let value = value_in(alloc, ty, text)?;
+    let octets = encoding_of(alloc, ty, &value)?;
+    Ok((value, octets))
+}
+
+/// The encoding of a value that has a short one.
+fn encoding_of(alloc: Global, ty: &Ty, value: &Value) -> Result<Vec<u8>, OutOfMemory>
+    requires fits { IsTrue (fits (type_view ty.now) (value_view value.now)) }
+    requires short { IsTrue (is_short (der (type_view ty.now) (value_view value.now))) }
+    ensures { IfOk result (λ octets. der (type_view ty.now) (value_view value.now) ≡ Some octets.items) }
+{
+    match encode(alloc, ty, value) {
+        Ok(octets) => Ok(octets),
+        Err(EncodeFault::OutOfMemory) => Err(OutOfMemory),
+        Err(EncodeFault::TooLong) => unreachable!(),
+    }
+}
+
+/// The value that the text writes.
+fn value_in(alloc: Global, ty: &Ty, text: &[u8]) -> Result<Value, Fault>
+    requires { IsTrue (is_sound (type_view ty.now)) }
+    ensures read { IfOk result (λ v. IsReadAs no_values (type_view ty.now) text.now (value_view v)) }
+    ensures fits { IfOk result (λ v. IsTrue (fits (type_view ty.now) (value_view v))) }
+    ensures short { IfOk result (λ v. IsTrue (is_short (der (type_view ty.now) (value_view v)))) }
+    ensures none { IfErr result (OfText (IsNoValue (type_view ty.now) text.now)) }
+{
+    let tokens = tokens_in(alloc, text)?;
+    let module = module_with(alloc, text, &tokens)?;
+    let tree = assigned(&module)?;
+    value_of(alloc, ty, tree)
+}
+
+fn tokens_in(alloc: Global, text: &[u8]) -> Result<Vec<Token>, Fault>
+    ensures lexed { IfOk result (λ tokens. Lexes 1 text.now tokens.items) }
+    ensures none { IfErr result (OfText (IsLexFault text.now)) }
+{
+    match tokens(alloc, PLACE, text) {
+        Ok(tokens) => Ok(tokens),
+        Err(LexFault::OutOfMemory) => Err(Fault::NoMemory),
+        Err(fault) => Err(Fault::Schema(SchemaFault::Lex(fault))),
+    }
+}
+
+/// The value of the type that the tree denotes where no name means a value.
+fn value_of(alloc: Global, ty: &Ty, tree: &ValueTree) -> Result<Value, Fault>
+    requires { IsTrue (is_sound (type_view ty.now)) }
+    ensures denoted { IfOk result (λ v. Denotes no_values (type_view ty.now) (trees.value_view tree.now) (value_view v)) }
+    ensures fits { IfOk result (λ v. IsTrue (fits (type_view ty.now) (value_view v))) }
+    ensures none { IfErr result (OfText (IsValueFault (type_view ty.now) (trees.value_view tree.now))) }
+{
+    // Of no modules nothing but memory can be wanting.
+    let Ok(names) = resolve(alloc, &[]) else {
+        return Err(Fault::NoMemory);
+    };
+    let known = Known {
+        types: Vec::new(alloc),
+        values: Vec::new(alloc),
+    };
+    match value(alloc, &names, &known, 0, ty, tree) {
+        Ok(value) => Ok(value),
+        Err(fault) => Err(refused_value(fault)),
+    }
+}
+
+/// Want of memory is no fault of the text.
+fn refused_value(fault: ValueFault) -> Fault
+    ensures { result ≡ value_refusal fault }
+{
+    match fault {
+        ValueFault::OutOfMemory => Fault::NoMemory,
+        fault => Fault::Schema(SchemaFault::Value(fault)),
+    }
+}
+
+// ---- the module that assigns the value
+
+/// The module that assigns the value which the tokens of the text write.
+fn module_with<'a>(alloc: Global, text: &'a [u8], tokens: &[Token]) -> Result<Module<'a>, Fault>
+    ensures written { IfOk result (λ m. IsWritten (module_view m) (assigned (lexemes_of text.now tokens.now))) }
+    ensures sites { IfOk result (λ m. (end : Site) × HasSites (module_view m) (sites_around (sites_of tokens.now) end)) }
+    ensures only { IfOk result (λ m. (w : WrittenModule) → IsWritten w (assigned (lexemes_of text.now tokens.now))
+        → (ss : List Site) × (module_view m ≡ sited w ss)) }
+    ensures none { IfErr result (OfText (IsSyntaxFault text.now tokens.now)) }
+{
+    let around = tokens_around(alloc, text, tokens)?;
+    match parse(alloc, PLACE, text, &around) {
+        Ok(module) => Ok(module),
+        Err(fault) => Err(refused_syntax(fault)),
+    }
+}
+
+/// Want of memory is no fault of the text.
+fn refused_syntax(fault: SyntaxFault) -> Fault
+    ensures { result ≡ syntax_refusal fault }
+{
+    match fault {
+        SyntaxFault::OutOfMemory => Fault::NoMemory,
+        fault => Fault::Schema(SchemaFault::Syntax(fault)),
+    }
+}
+
+/// The tokens of that module. Those that aren't of the text have no octets there; the last is where the text ends.
+fn tokens_around(alloc: Global, text: &[u8], tokens: &[Token]) -> Result<Vec<Token>, AllocError>
+    ensures lexemes { IfOk result (λ around. lexemes_of text.now around.items
+        ≡ assigned (lexemes_of text.now tokens.now)) }
+    ensures sites { IfOk result (λ around. (end : Site)
+        × (sites_of around.items ≡ sites_around (sites_of tokens.now) end)) }
+{
+    let start = Site {
+        text: PLACE,
+        line: 1,
+        column: 1,
+    };
+    let before = [
+        token(TokenKind::UpperName, start),
+        token(TokenKind::Reserved(Reserved::Definitions), start),
+        token(TokenKind::Mark(Mark::Assignment), start),
+        token(TokenKind::Reserved(Reserved::Begin), start),
+        token(TokenKind::LowerName, start),
+        token(TokenKind::Reserved(Reserved::Null), start),
+        token(TokenKind::Mark(Mark::Assignment), start),
+    ];
+    let mut around = Vec::from_slice(alloc, &before)?;
+    around.extend_from_slice(tokens)?;
+    around.push(token(TokenKind::Reserved(Reserved::End), end_of(PLACE, text)))?;
+    Ok(around)
+}
+
+/// A token without octets.
+fn token(kind: TokenKind, site: Site) -> Token
+    ensures { result ≡ record { kind = kind; start = 0; end = 0; site = site } }
+{
+    Token {
+        kind,
+        start: 0,
+        end: 0,
+        site,
+    }
+}
+
+/// The one value that the module assigns. With a second assignment the value is written before its first token.
+fn assigned<'m, 'a>(whole: &'m Module<'a>) -> Result<&'m ValueTree<'a>, Fault>
+    ensures one { IfOk result (λ tree. AssignsOne (module_view whole.now) (trees.value_view tree.now)) }
+    ensures none { IfErr result (λ f. OfText IsUnexpected f
+        × ((tree : WrittenValue) → AssignsOne (module_view whole.now) tree → ⊥)) }
+{
+    match whole.assignments.as_slice() {
+        [only] => match &only.value {
+            Some(tree) => Ok(tree),
+            None => Err(unexpected(only.site)),
+        },
+        [_, second, ..] => Err(unexpected(second.site)),
+        [] => Err(unexpected(whole.site)),
+    }
+}
+
+fn unexpected(site: Site) -> Fault
+    ensures { OfText IsUnexpected result }
+{
+    Fault::Schema(SchemaFault::Syntax(SyntaxFault::Unexpected(site)))
+}

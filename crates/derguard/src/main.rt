@@ -3,10 +3,12 @@
 //! What it does is the library `derguard_program`; where its files come from is `real_files.rt`.
 #![tactic(auto)]
 
+mod noting;
 mod real_files;
 
 use derguard_program::{program, tell_no_memory, tell_text};
 use guard_frames::{Sink, Through};
+use noting::{Noting, System};
 use real_files::RealFiles;
 use std::alloc::{AllocError, Global};
 use std::io::ErrorKind;
@@ -20,7 +22,7 @@ const BAD_WORDS: u8 = 2;
 fn main(rt: HostRuntime) -> ExitCode {
     let mut err = Through::new(rt.stderr());
     let status = match words_of(&rt) {
-        Ok(words) => started(&rt, &words, &mut err),
+        Ok(words) => started(&rt, &words, &System::new(), &mut err),
         Err(e) if e.kind() == ErrorKind::OutOfMemory => tell_no_memory(&mut err),
         Err(_) => tell_text(rt.alloc(), "bad words", BAD_WORDS, &mut err),
     };
@@ -32,19 +34,29 @@ fn words_of(rt: &HostRuntime) -> io::Result<Vec<String>> {
     Ok(env::args(rt)?.collect(rt.alloc())?)
 }
 
-fn started<E: Sink>(rt: &HostRuntime, words: &[String], err: &mut E) -> u8 {
+fn started<E: Sink>(rt: &HostRuntime, words: &[String], system: &System, err: &mut E) -> u8 {
     let Ok(words) = texts_of(rt.alloc(), words) else {
         return tell_no_memory(err);
     };
-    let mut input = Through::new(rt.stdin());
-    let mut out = Through::new(rt.stdout());
+    let mut source = Through::new(Noting {
+        inner: rt.stdin(),
+        last: &system.input,
+    });
+    let mut out = Through::new(Noting {
+        inner: rt.stdout(),
+        last: &system.output,
+    });
     program(
         rt.alloc(),
         &words,
-        &mut RealFiles { rt },
-        &mut input,
+        &mut RealFiles {
+            rt,
+            last: &system.file,
+        },
+        &mut source,
         &mut out,
         err,
+        system,
     )
 }
 

@@ -15,8 +15,8 @@ use Rattle.clap.specs.Simple.{App, Shape, argument_words, built, built_leaf, ent
 use Rattle.clap.specs.declared.error.kind.ErrorKind.TheVariants as kind
 use Rattle.derguard_program.specs.Encodes.{AbstractEncoding}
 use Rattle.derguard_program.specs.Questions.{AbstractQuestion}
-use Rattle.derguard_program.specs.Requests.{AbstractRequest, first, check, decide, show, encode, run, ask, mux}
-use Rattle.derguard_program.specs.Words.{AreFound, IsCommand, ask_shape, check_shape, decide_shape, encode_shape, flag_of, flag_rule, free_option_rule, free_place_rule, mux_shape, option_rule, place_rule, run_shape, show_shape, the_app}
+use Rattle.derguard_program.specs.Requests.{AbstractRequest, first, check, decide, show, encode, test, run, ask, mux}
+use Rattle.derguard_program.specs.Words.{AreFound, IsCommand, ask_shape, check_shape, decide_shape, encode_shape, flag_of, flag_rule, free_option_rule, free_place_rule, mux_shape, option_rule, place_rule, run_shape, show_shape, test_shape, the_app}
 use Rattle.derguard_program.proofs.Filled.{AllFill, Filled, Fills, IsFilled, both_none, finished_filled, flag_fills, help_fills, set_fills, some_kind, walk_filled}
 
 -- ---- a walk in which nothing is wrong stops at no word help
@@ -165,6 +165,9 @@ built_show = built_leaf (inherited (with_leaf_noted (marked_built the_app.top)) 
 abbrev built_encode : Shape
 built_encode = built_leaf (inherited (with_leaf_noted (marked_built the_app.top)) encode_shape)
 
+abbrev built_test : Shape
+built_test = built_leaf (inherited (with_leaf_noted (marked_built the_app.top)) test_shape)
+
 abbrev built_run : Shape
 built_run = built_leaf (inherited (with_leaf_noted (marked_built the_app.top)) run_shape)
 
@@ -210,6 +213,9 @@ show_fills =
 encode_fills : AllFill built_encode.rules
 encode_fills =
     (place_fills 1 (codes "policy"), (option_fills (codes "message"), (free_place_fills 2 (codes "value"), (free_option_fills (codes "from"), (free_option_fills (codes "to"), (switch_fills 3 (codes "der"), (help_flag_fills 3, tt)))))))
+
+test_fills : AllFill built_test.rules
+test_fills = (place_fills 1 (codes "policy"), (free_place_fills 2 (codes "cases"), (switch_fills 3 (codes "cover"), (help_flag_fills 3, tt))))
 
 run_fills : AllFill built_run.rules
 run_fills = (place_fills 1 (codes "policy"), (switch_fills 2 (codes "verbose"), (help_flag_fills 2, tt)))
@@ -267,6 +273,14 @@ encode_asks words e =
       der = flag_of (codes "der") rows;
     } in
     (encode asked, (refl, p.1, m.1, refl, refl, refl, refl))
+
+test_asks : (words : List Text) → level_fault built_test [] nothing_held words false [] ≡ [] → Requests built_test words
+test_asks words e =
+    let rows = rows_after built_test.rules [] words in
+    let filled = rows_filled built_test [] words false [] e test_fills in
+    let policy = given_next _ _ (check_none built_test [] words false [] e) in
+    let p = given_value (codes "policy") rows filled policy.0 in
+    (test p.0 (first_of (codes "cases") rows) (flag_of (codes "cover") rows), (refl, p.1, refl, refl))
 
 run_asks : (words : List Text) → level_fault built_run [] nothing_held words false [] ≡ [] → Requests built_run words
 run_asks words e =
@@ -353,10 +367,11 @@ entered_asks (Some p) another e there =
     (or_next p (is built_decide) built_decide _ decide_asks
     (or_next p (is built_show) built_show _ show_asks
     (or_next p (is built_encode) built_encode _ encode_asks
+    (or_next p (is built_test) built_test _ test_asks
     (or_next p (is built_run) built_run _ run_asks
     (or_next p (is built_ask) built_ask _ ask_asks
     (or_next p (is built_mux) built_mux _ mux_asks
-    (no_help p (is (built_leaf help_shape)) (not_help_met p.0 another)))))))) e there
+    (no_help p (is (built_leaf help_shape)) (not_help_met p.0 another))))))))) e there
 
 command_there : (b : Bool) (others : Kinds)
     → ◌≡◌ {A = Kinds} (cond (not b && false) (kind.DisplayHelpOnMissingArgumentOrSubcommand ∷ []) (cond (not b && true) (kind.MissingSubcommand ∷ []) others)) [] → b ≡ true
@@ -425,6 +440,7 @@ module _ (rows : List Row) where
       else if nat_eq letter 100 then decide decision_at
       else if nat_eq letter 115 then show showing_at
       else if nat_eq letter 101 then encode encoding_at
+      else if nat_eq letter 116 then test (value_of (codes "policy")) (first_of (codes "cases") rows) (flag_of (codes "cover") rows)
       else if nat_eq letter 114 then run (value_of (codes "policy")) (flag_of (codes "verbose") rows)
       else if nat_eq letter 97 then ask (value_of (codes "policy"))
       else if nat_eq letter 109 then mux (value_of (codes "policy")) (flag_of (codes "verbose") rows)
@@ -470,6 +486,10 @@ module _ (rows : List Row) where
       let f = sym h.4 in
       let t = sym h.5 in
       (λ i. encode (record { policy = p i; message = m i; value = v i; from = f i; to = t i; der = h.6 i })) ∙ named_at name (codes "encode") h.0
+  is_request_at name (test path cases cover) h =
+      let p = is_value (codes "policy") path h.1 in
+      let f = sym h.2 in
+      (λ i. test (p i) (f i) (h.3 i)) ∙ named_at name (codes "test") h.0
   is_request_at name (run path verbose) h =
       let p = is_value (codes "policy") path h.1 in
       (λ i. run (p i) (h.2 i)) ∙ named_at name (codes "run") h.0

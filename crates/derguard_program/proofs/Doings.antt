@@ -27,11 +27,14 @@ use Rattle.guard_policy.specs.Policies.{AbstractPolicy}
 use Rattle.guard_frames.specs.Lending.{HasEnds}
 use Rattle.derguard_program.specs.declared.fault.Fault.{Fault}
 use Rattle.derguard_program.specs.declared.links.Links.{Links}
+use Rattle.derguard_program.specs.declared.seen.Seen.{Seen}
 use Rattle.derguard_program.specs.declared.stop.Stop.{Stop}
 use Rattle.derguard_program.specs.declared.stop.Stop.TheVariants.{BadRecord, ReadFailed, WriteFailed, ErrorFailed}
+use Rattle.derguard_program.specs.AtFault.{IsFaultNote}
 use Rattle.derguard_program.specs.Devices.{Device, device}
 use Rattle.derguard_program.specs.Files.{Told, IsLater}
 use Rattle.derguard_program.specs.Reading.{IsPolicyAt, IsNoPolicyAt}
+use Rattle.derguard_program.specs.Saying.{IsUnreadNote}
 use Rattle.derguard_program.specs.Writing.{IsFaultLine}
 use Rattle.derguard_program.specs.Muxing.{WritesPart, BreaksErr}
 use Rattle.derguard_program.specs.Passing.{InRecords, marked, fault_line}
@@ -40,6 +43,7 @@ use Rattle.derguard_program.specs.Records.Record.{piece, end, reload}
 use Rattle.derguard_program.specs.Tallying.{IsSeen}
 use Rattle.derguard_program.specs.Turns.{AbstractMux, Written, PassesOn, link_status, renewed_note}
 use Rattle.derguard_program.proofs.PassingLaws.{all_records}
+use Rattle.derguard_program.proofs.SaidLaws.{none_of_fault}
 use Rattle.derguard_program.proofs.TallyLaws.{some_seen}
 use Rattle.derguard_program.specs.inside.Doing.{AreEmpty, added_to, IsReady, IsFed, ArePassed, AreCut, mux_of, IsTaken, IsCut, is_closed, Is, HadEnded}
 
@@ -71,7 +75,7 @@ is_there (x ∷ xs) i few many none =
 
 -- ---- the answers of links that are there
 
-not_answered : (answer : Result (Unit {0}) LinkFault) → step_answer answer ≡ Err NoSuchLink → ⊥
+pub not_answered : (answer : Result (Unit {0}) LinkFault) → step_answer answer ≡ Err NoSuchLink → ⊥
 not_answered (Ok done) e = absurd cc
 not_answered (Err f) e = absurd cc
 
@@ -166,24 +170,30 @@ some_of (Some y) x e p = p
 
 module _ (path : List ℕ) (told : Told) (old : Links) (link : ℕ) (octets : List ℕ)
     (answer : Result (Unit {0}) LinkFault) (g : Gateway Kept)
-    (fed : IsFed link old.gateway octets answer g) where
+    (fed : IsFed link old.gateway octets answer g) (note : List ℕ)
+    (noted : IsFaultNote old.seen (gateway_view old.gateway) link (event.piece link octets) answer note) where
+  abbrev pub answered : List ℕ
+  answered = fault_line link answer ++ note
+
   abbrev written_of : List ℕ → Written
   written_of out = record {
     out = out;
-    err = marked link fed.added.reports ++ fault_line link answer;
+    err = marked link fed.added.reports ++ answered;
     status =
         link_status fed.added.reports answer;
   }
 
   passes : (out : List ℕ) (new : Gateway Kept) → InRecords link (kept_octets fed.ends.out) out
       → gateway_view new ≡ gateway_view g
-      → PassesOn link (gateway_view old.gateway) (event.piece link octets) (written_of out) (gateway_view new)
+      → PassesOn link old.seen (gateway_view old.gateway) (event.piece link octets) (written_of out) (gateway_view new)
   passes out new records view = record {
     answer = answer;
     added = fed.added;
     step = subst (λ (x : AbstractGateway). Step (gateway_view old.gateway) (event.piece link octets)
         (step_answer answer) fed.added x) (sym view) fed.step;
     out = subst (λ (s : List ℕ). InRecords link s out) fed.out records;
+    note = note;
+    noted = noted;
     err = refl;
     status = refl;
   }
@@ -194,7 +204,7 @@ module _ (path : List ℕ) (told : Told) (old : Links) (link : ℕ) (octets : Li
 
   pub piece_taken : (new : Links) (out : Octets) (e e₁ e₂ : Option (List ℕ)) → IsReady old.gateway
       → (p : ArePassed link fed.ends g new.gateway out (e, e₁))
-      → Appends e₁ e₂ (fault_line link answer) → new.status ≡ max old.status (link_status fed.added.reports answer)
+      → Appends e₁ e₂ answered → new.status ≡ max old.status (link_status fed.added.reports answer)
       → IsSeen old.seen (added_to fed.ends) new.seen
       → IsTaken path told old (piece link octets) told new out (e, e₂)
   unfolding passes
@@ -210,7 +220,7 @@ module _ (path : List ℕ) (told : Told) (old : Links) (link : ℕ) (octets : Li
           subst (λ (a : Added). IsSeen old.seen a new.seen) same_added seen,
         );
         sent = p.sent;
-        told = Appends_trans e e₁ e₂ (marked link fed.added.reports) (fault_line link answer)
+        told = Appends_trans e e₁ e₂ (marked link fed.added.reports) answered
             (subst (λ (s : List ℕ). Appends e e₁ (marked link s)) fed.reports p.told) said;
         status = status;
         ready = record {
@@ -247,7 +257,7 @@ module _ (path : List ℕ) (told : Told) (old : Links) (link : ℕ) (octets : Li
     breaks = (
       h.failed,
       refl,
-      Prefix_first h.part (marked link fed.added.reports) (fault_line link answer)
+      Prefix_first h.part (marked link fed.added.reports) answered
           (subst (λ (s : List ℕ). IsProperPrefix h.part (marked link s)) fed.reports h.prefix),
     );
     sent = h.sent;
@@ -256,7 +266,7 @@ module _ (path : List ℕ) (told : Told) (old : Links) (link : ℕ) (octets : Li
 
   pub piece_cut_telling : (s : Stop) (new : Gateway Kept) (o o₁ e e₁ e₂ : Option (List ℕ)) (f k : Bool)
       → ArePassed link fed.ends g new (o, o₁) (e, e₁)
-      → (s ≡ ErrorFailed) × (k ≡ true) × ((part : List ℕ) × IsProperPrefix part (fault_line link answer)
+      → (s ≡ ErrorFailed) × (k ≡ true) × ((part : List ℕ) × IsProperPrefix part answered
       × Appends e₁ e₂ part)
       → IsCut s path (mux_of told old) (piece link octets) (device o o₁ f) (device e e₂ k)
   unfolding passes
@@ -268,7 +278,7 @@ module _ (path : List ℕ) (told : Told) (old : Links) (link : ℕ) (octets : Li
         happens = (passes p.written new p.records p.view, refl, (some_seen old.seen fed.added).1);
         out_part = p.written;
         err_part = marked link fed.added.reports ++ h.2.0;
-        breaks = (h.1, refl, Prefix_second h.2.0 (marked link fed.added.reports) (fault_line link answer) h.2.1);
+        breaks = (h.1, refl, Prefix_second h.2.0 (marked link fed.added.reports) answered h.2.1);
         sent = p.sent;
         told = Appends_trans e e₁ e₂ (marked link fed.added.reports) h.2.0
             (subst (λ (s : List ℕ). Appends e e₁ (marked link s)) fed.reports p.told) h.2.2;
@@ -278,7 +288,7 @@ module _ (path : List ℕ) (told : Told) (old : Links) (link : ℕ) (octets : Li
 
 -- ---- a link is ended
 
-same_answer : (a b : Result (Unit {0}) LinkFault) → step_answer a ≡ step_answer b → a ≡ b
+pub same_answer : (a b : Result (Unit {0}) LinkFault) → step_answer a ≡ step_answer b → a ≡ b
 same_answer (Ok done) (Ok other) e = refl
 same_answer (Ok done) (Err f) e = absurd cc
 same_answer (Err f) (Ok done) e = absurd cc
@@ -289,7 +299,7 @@ set_same [] i x h = absurd (none-some x h)
 set_same (y ∷ ys) zero x h = ap (λ z. z ∷ ys) (sym (same_Some y x h))
 set_same (y ∷ ys) (suc i) x h = ap (λ zs. y ∷ zs) (set_same ys i x h)
 
-not_both : (b : Bool) → b ≡ true → b ≡ false → ⊥
+pub not_both : (b : Bool) → b ≡ true → b ≡ false → ⊥
 not_both b p q = cc
 
 -- it is open before, where it answers anything but that it takes no more
@@ -298,7 +308,7 @@ closes_open : (l l₁ : AbstractLink) (answer : Result (Unit {0}) LinkFault) →
 closes_open l l₁ answer is (inl h) = absurd (not_both (is_closed answer) (ap is_closed h.answered) is)
 closes_open l l₁ answer is (inr h) = h.open_before
 
-held_some : (held : List ℕ) → (held ≡ []) ⊎ (0 < length held)
+pub held_some : (held : List ℕ) → (held ≡ []) ⊎ (0 < length held)
 held_some [] = inl refl
 held_some (o ∷ held) = inr (omega arith)
 
@@ -311,11 +321,12 @@ closed_stays l l₁ answer is (inr h) = elim (held_some l.held) [
 ]
 
 module _ (old : Links) (link : ℕ) (answer : Result (Unit {0}) LinkFault) (g : Gateway Kept)
-    (step : Step (gateway_view old.gateway) (event.end link) (step_answer answer) nothing (gateway_view g)) where
+    (step : Step (gateway_view old.gateway) (event.end link) (step_answer answer) nothing (gateway_view g))
+    (note : List ℕ) (noted : IsFaultNote old.seen (gateway_view old.gateway) link (event.end link) answer note) where
   abbrev ended_written : Written
-  ended_written = record { out = []; err = fault_line link answer; status = link_status [] answer }
+  ended_written = record { out = []; err = fault_line link answer ++ note; status = link_status [] answer }
 
-  end_passes : (new : Gateway Kept) → new ≡ g → PassesOn link (gateway_view old.gateway)
+  end_passes : (new : Gateway Kept) → new ≡ g → PassesOn link old.seen (gateway_view old.gateway)
       (event.end link) ended_written (gateway_view new)
   end_passes new same = record {
     answer = answer;
@@ -323,12 +334,14 @@ module _ (old : Links) (link : ℕ) (answer : Result (Unit {0}) LinkFault) (g : 
     step = subst (λ (x : Gateway Kept). Step (gateway_view old.gateway) (event.end link)
         (step_answer answer) nothing (gateway_view x)) (sym same) step;
     out = all_records link [] refl;
+    note = note;
+    noted = noted;
     err = refl;
     status = refl;
   }
 
   pub end_taken : (path : List ℕ) (told : Told) (new : Links) (o e e₁ : Option (List ℕ)) → new.gateway ≡ g
-      → IsReady g → Appends e e₁ (fault_line link answer)
+      → IsReady g → Appends e e₁ (fault_line link answer ++ note)
       → new.status ≡ max old.status (link_status [] answer) → new.seen ≡ old.seen
       → IsTaken path told old (end link) told new (o, o) (e, e₁)
   end_taken path told new o e e₁ same ready said status seen = record {
@@ -341,7 +354,7 @@ module _ (old : Links) (link : ℕ) (answer : Result (Unit {0}) LinkFault) (g : 
   }
 
   pub end_cut : (path : List ℕ) (told : Told) (o e e₁ : Option (List ℕ)) (f k : Bool) → k ≡ true → (part : List ℕ)
-      → IsProperPrefix part (fault_line link answer)
+      → IsProperPrefix part (fault_line link answer ++ note)
       → Appends e e₁ part → WritesPart path (mux_of told old) (end link) [] (device o o f) (device e e₁ k) BreaksErr
   end_cut path told o e e₁ f k failed part prefix said = record {
     w = ended_written;
@@ -354,6 +367,8 @@ module _ (old : Links) (link : ℕ) (answer : Result (Unit {0}) LinkFault) (g : 
     told = said;
   }
 
+module _ (old : Links) (link : ℕ) (answer : Result (Unit {0}) LinkFault) (g : Gateway Kept)
+    (step : Step (gateway_view old.gateway) (event.end link) (step_answer answer) nothing (gateway_view g)) where
   pub was_open : is_closed answer ≡ false → Is false link old
   was_open is = elim step [
     | inl h ↦ absurd (not_answered answer h.answered)
@@ -368,7 +383,7 @@ module _ (old : Links) (link : ℕ) (answer : Result (Unit {0}) LinkFault) (g : 
   ]
 
   pub had_ended : is_closed answer ≡ true → (e : Option (List ℕ)) → IsReady g
-      → HadEnded link old (record { gateway = g; status = old.status; seen = old.seen }) (e, e)
+      → HadEnded link old (record { gateway = g; status = old.status; seen = old.seen; begun = old.begun }) (e, e)
   had_ended is e ready = elim step [
     | inl h ↦ absurd (not_answered answer h.answered)
     | inr h ↦
@@ -478,37 +493,66 @@ renewed path told later old new p answer added o e e₁ ready read later_is step
 abbrev kept_written : List ℕ → ℕ → Written
 kept_written line status = record { out = []; err = line; status = status }
 
-pub kept_old : (path : List ℕ) (told later : Told) (old new : Links) (f : Fault) (line : List ℕ) (status : ℕ)
-    (o e e₁ : Option (List ℕ))
+pub kept_old : (path : List ℕ) (told later : Told) (old new : Links) (f : Fault) (line note : List ℕ) (status : ℕ)
+    (o e e₁ e₂ : Option (List ℕ))
     → IsReady old.gateway → IsNoPolicyAt told path f → IsLater told later → IsFaultLine f line status
-    → Appends e e₁ line
+    → IsUnreadNote old.seen f note → Appends e e₁ line → Appends e₁ e₂ note
     → new.gateway ≡ old.gateway → new.status ≡ max old.status status → new.seen ≡ old.seen
-    → IsTaken path told old reload later new (o, o) (e, e₁)
-kept_old path told later old new f line status o e e₁ ready none later_is is said same greatest seen = record {
-  w = kept_written line status;
+    → IsTaken path told old reload later new (o, o) (e, e₂)
+kept_old path told later old new f line note status o e e₁ e₂ ready none later_is is noted said more same greatest seen = record {
+  w = kept_written (line ++ note) status;
   happens = (
-    inr (record { fault = f; none = none; same = ap gateway_view same; out = refl; told = is }),
+    inr (record {
+      fault = f;
+      none = none;
+      same = ap gateway_view same;
+      out = refl;
+      line = line;
+      told = is;
+      note = note;
+      noted = noted;
+      err = refl;
+    }),
     later_is,
     seen,
   );
   sent = Appends_none o;
-  told = said;
+  told = Appends_trans e e₁ e₂ line note said more;
   status = greatest;
   ready = subst IsReady (sym same) ready;
 }
 
-pub kept_cut : (path : List ℕ) (told later : Told) (old : Links) (f : Fault) (line part : List ℕ) (status : ℕ)
+pub kept_cut : (path : List ℕ) (told later : Told) (old : Links) (f : Fault) (line note part : List ℕ) (status : ℕ)
     (o e e₁ : Option (List ℕ)) (b k : Bool)
-    → IsNoPolicyAt told path f → IsLater told later → IsFaultLine f line status → k ≡ true
-    → IsProperPrefix part line → Appends e e₁ part
+    → IsNoPolicyAt told path f → IsLater told later → IsFaultLine f line status → IsUnreadNote old.seen f note
+    → k ≡ true → IsProperPrefix part (line ++ note) → Appends e e₁ part
     → WritesPart path (mux_of told old) reload [] (device o o b) (device e e₁ k) BreaksErr
-kept_cut path told later old f line part status o e e₁ b k none later_is is failed prefix said = record {
-  w = kept_written line status;
+kept_cut path told later old f line note part status o e e₁ b k none later_is is noted failed prefix said = record {
+  w = kept_written (line ++ note) status;
   new = record { told = later; gateway = gateway_view old.gateway; seen = old.seen };
-  happens = (inr (record { fault = f; none = none; same = refl; out = refl; told = is }), later_is, refl);
+  happens = (
+    inr (record {
+      fault = f;
+      none = none;
+      same = refl;
+      out = refl;
+      line = line;
+      told = is;
+      note = note;
+      noted = noted;
+      err = refl;
+    }),
+    later_is,
+    refl,
+  );
   out_part = [];
   err_part = part;
   breaks = (failed, refl, prefix);
   sent = Appends_none o;
   told = said;
 }
+
+-- nothing need be noted of a policy that can't be read again
+pub unread_none : (seen : Option Seen) (f : Fault) → IsUnreadNote seen f []
+unread_none None f = refl
+unread_none (Some s) f = none_of_fault f

@@ -1,23 +1,60 @@
--- A fault that comes before the modules is explained by the path alone.
-use Rattle.std.proofs.Common.{◌≡◌, ◌⊎◌, ℕ, List, [], inl, inr, refl}
+-- Which texts a fault is explained over.
+use Rattle.std.proofs.Common.{◌≡◌, ◌⊎◌, ℕ, List, [], inl, inr, refl, subst, sym}
+use Rattle.guard_notes.specs.Sources.{sources}
 use Rattle.derguard_program.specs.declared.fault.Fault.{Fault}
 use Rattle.derguard_program.specs.declared.fault.Fault.TheVariants.{BadHex, CannotRead, Schema, Policy, Run, NoMemory}
-use Rattle.derguard_program.specs.Explaining.{explanation, sources, IsExplained}
-use Rattle.derguard_program.specs.Files.{Told}
-use Rattle.derguard_program.specs.Reading.{IsNoPolicyAt}
-use Rattle.derguard_program.specs.inside.Texts.{IsBeforeModules}
+use Rattle.derguard_program.specs.Explaining.{AreTextsOf, IsExplained, IsExplanation}
+use Rattle.derguard_program.specs.Files.{Told, HasText}
+use Rattle.derguard_program.specs.Reading.{IsNoPolicyAt, SayNothing}
+use Rattle.derguard_program.specs.inside.Texts.{CannotBeRead, IsBeforeModules}
+use Rattle.derguard_program.proofs.Refusals.{policy_unread}
 
-by_path : (told : Told) (path : List ℕ) (f : Fault) → IsBeforeModules f → IsNoPolicyAt told path f
-    → IsExplained told path f (explanation (sources path [] []) f)
-by_path told path (Schema f) before missing = absurd before
-by_path told path (Policy f) before missing = (missing, refl)
-by_path told path (CannotRead file) before missing = (missing, refl)
-by_path told path BadHex before missing = (missing, refl)
-by_path told path (Run f) before missing = (missing, refl)
-by_path told path NoMemory before missing = (missing, refl)
+module _ (told : Told) (path note : List ℕ) where
+  -- nothing is said of want of memory
+  silent : (r : Fault) → (r ≡ NoMemory) × (note ≡ []) → IsExplained told path r note
+  silent r h = subst (λ (x : Fault). IsExplained told path x note) (sym h.0) (inr (inr refl), h.1)
 
-pub explained : (told : Told) (path : List ℕ) (f r : Fault) (note : List ℕ) → IsBeforeModules f → IsNoPolicyAt told path f
-    → ((r ≡ f) × (note ≡ explanation (sources path [] []) f)) ⊎ ((r ≡ NoMemory) × (note ≡ []))
-    → IsExplained told path r note
-explained told path f r note before missing (inl h) = rw (h.0, h.1) (by_path told path f before missing)
-explained told path f r note before missing (inr h) = rw (h.0, h.1) (by_path told path NoMemory tt (inr (inr refl)))
+  unread : (f : Fault) → CannotBeRead told path f → IsExplanation (sources path [] []) [] f note → IsExplained told path f note
+  unread (CannotRead file) h e = (policy_unread told path (CannotRead file) h, e)
+  unread NoMemory h e = (inr (inr refl), e)
+  unread BadHex h e = absurd h
+  unread (Schema f) h e = absurd h
+  unread (Policy f) h e = absurd h
+  unread (Run f) h e = absurd h
+
+  -- the policy's file
+  pub unread_explained : (f r : Fault) → CannotBeRead told path f
+      → ((r ≡ f) × IsExplanation (sources path [] []) [] f note) ⊎ ((r ≡ NoMemory) × (note ≡ [])) → IsExplained told path r note
+  unread_explained f r h (inl e) = subst (λ (x : Fault). IsExplained told path x note) (sym e.0) (unread f h e.1)
+  unread_explained f r h (inr e) = silent r e
+
+  module _ (text : List ℕ) (has : HasText told path text) where
+    beside : (f : Fault) → IsBeforeModules f → IsNoPolicyAt told path f → IsExplanation (sources path [] []) text f note → IsExplained told path f note
+    beside (Schema f) before missing e = absurd before
+    beside (Policy f) before missing e = (text, has, missing, e)
+    beside (CannotRead file) before missing e = (missing, e)
+    beside BadHex before missing e = (missing, e)
+    beside (Run f) before missing e = (missing, e)
+    beside NoMemory before missing e = (missing, e)
+
+    -- the files that its text lists
+    pub beside_explained : (f r : Fault) → IsBeforeModules f → IsNoPolicyAt told path f
+        → ((r ≡ f) × IsExplanation (sources path [] []) text f note) ⊎ ((r ≡ NoMemory) × (note ≡ [])) → IsExplained told path r note
+    beside_explained f r before missing (inl e) = subst (λ (x : Fault). IsExplained told path x note) (sym e.0) (beside f before missing e.1)
+    beside_explained f r before missing (inr e) = silent r e
+
+  -- ---- texts that say no policy
+
+  module _ (text : List ℕ) (files modules : List (List ℕ)) (are : AreTextsOf told path text files modules) where
+    said_none : (f : Fault) → SayNothing modules text f → IsExplanation (sources path files modules) text f note → IsExplained told path f note
+    said_none (Schema f) none e = (text, files, modules, are, none, e)
+    said_none (Policy f) none e = (text, are.0, inr (inl (text, modules, (are.0, (files, are.1, are.2)), none)), e)
+    said_none BadHex none e = absurd none
+    said_none (CannotRead file) none e = absurd none
+    said_none (Run f) none e = absurd none
+    said_none NoMemory none e = absurd none
+
+    pub said_explained : (f : Fault) → (SayNothing modules text f × IsExplanation (sources path files modules) text f note) ⊎ ((f ≡ NoMemory) × (note ≡ []))
+        → IsExplained told path f note
+    said_explained f (inl h) = said_none f h.0 h.1
+    said_explained f (inr h) = silent f h

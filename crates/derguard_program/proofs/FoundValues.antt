@@ -1,5 +1,5 @@
 -- A verdict that speaks of a value has one.
-use Rattle.std.proofs.Common.{◌≡◌, ℕ, List, Bool, true, false, inl, inr, ap, sym, true≢false}
+use Rattle.std.proofs.Common.{ℕ, List, Bool, true, false, inl, inr, ap, sym, true≢false}
 use Rattle.guard_eval.specs.Violations.{AbstractViolation}
 use Rattle.guard_policy.specs.Decisions.{IsReason}
 use Rattle.guard_policy.specs.Policies.{AbstractPolicy, AbstractRoute}

@@ -1,5 +1,5 @@
 -- The frames of a stream, answered one after another, and how that ends.
-use Rattle.std.proofs.Common.{◌≡◌, ◌∙◌, ◌+◌, ◌<◌, ◌≤◌, ◌^◌, ◌⊎◌, inl, inr, ℕ, Bool, true, List, [], ◌∷◌, ◌++◌, ap, refl, sym, subst, length, arith, append_assoc}
+use Rattle.std.proofs.Common.{◌≡◌, ◌∙◌, ◌<◌, ◌^◌, ◌⊎◌, inl, inr, ℕ, Bool, true, List, [], ◌∷◌, ◌++◌, ap, refl, sym, subst, length, arith, append_assoc}
 use Rattle.std.specs.Prelude.{Option, Some, None, IfSome}
 use Rattle.std.specs.List.{concat, All}
 use Rattle.std.specs.Io.KnownBytes.{Appends, Consumes, IsAtEnd}

@@ -1,5 +1,5 @@
 -- The rules and messages of a policy, one after another, as a loop over their numbers has them.
-use Rattle.std.proofs.Common.{◌≡◌, ◌∙◌, ◌+◌, ◌<◌, ℕ, Bool, zero, suc, List, [], ◌∷◌, ◌++◌, Option, Some, None, length, drop, option_map, refl, ap, sym, add-one, append_assoc, arith}
+use Rattle.std.proofs.Common.{◌≡◌, ◌∙◌, ◌+◌, ◌<◌, ℕ, Bool, zero, suc, List, [], ◌∷◌, ◌++◌, Some, None, length, drop, option_map, ap, sym, add-one, append_assoc, arith}
 use Rattle.std.specs.Prelude.{slice_get, unwrap_or}
 use Rattle.guard_policy.specs.Policies.{AbstractMessage, AbstractPolicy, AbstractRule}
 use Rattle.derguard_program.specs.Listing.{FoundRule, found_from, found_rule, message_lines, messages_lines}

@@ -1,5 +1,5 @@
 -- What goes out of a link and is said of it, part by part.
-use Rattle.std.proofs.Common.{◌≡◌, ◌∙◌, ◌<◌, ◌≤◌, ◌⊎◌, inl, inr, ℕ, zero, suc, Bool, true, false, cond, List, [], ◌∷◌, ◌++◌, ap, refl, sym, subst, length, take, drop, get_or, map, nat_eq, nat_lt, arith, append_assoc, length-drop, codes, decimal}
+use Rattle.std.proofs.Common.{◌≡◌, ◌∙◌, ◌<◌, ◌≤◌, ◌⊎◌, inl, inr, ℕ, zero, suc, Bool, true, false, List, [], ◌∷◌, ◌++◌, ap, refl, sym, subst, length, take, drop, map, nat_eq, nat_lt, arith, append_assoc, length-drop, codes, decimal}
 use Rattle.std.specs.List.{concat}
 use Rattle.std.proofs.lemmas.List.{append-nil, take-append-drop, length-take-le}
 use Rattle.guard_frames.specs.Prefix.{IsProperPrefix}
@@ -7,36 +7,9 @@ use Rattle.guard_frames.proofs.Appending.{Prefix_first, Prefix_second}
 use Rattle.derguard_program.specs.Records.{record_octets}
 use Rattle.derguard_program.specs.Records.Record.{piece}
 use Rattle.guard_frames.specs.Calls.{EndsLine}
-use Rattle.derguard_program.specs.Passing.{AreFull, InRecords, with_first, lines_of, link_mark, marked, marked_line}
+use Rattle.derguard_program.specs.Passing.{AreFull, InRecords, lines_of, link_mark, marked, marked_line}
 
 -- ---- lines
-
-eq_true : (o : ℕ) → o ≡ 10 → nat_eq o 10 ≡ true
-eq_true o e = subst (λ (n : ℕ). nat_eq n 10 ≡ true) (sym e) refl
-
-eq_false : (o : ℕ) → (o ≡ 10 → ⊥) → nat_eq o 10 ≡ false
-eq_false o ne = grind arith
-
--- the octets before the place are no line feeds, and the one there is
-pub first_line : (text : List ℕ) (end : ℕ) → 0 < length text → end ≤ length text → ((k : ℕ) → k < end → get_or text k 0 ≡ 10 → ⊥)
-    → (end < length text → get_or text end 0 ≡ 10) → lines_of text ≡ take end text ∷ lines_of (drop (suc end) text)
-first_line [] end some within before there = absurd (omega (arith, some))
-first_line (o ∷ text) zero some within before there =
-    ap (λ b. cond b ([] ∷ lines_of text) (with_first o (lines_of text))) (eq_true o (there (omega arith)))
-first_line (o ∷ []) (suc end) some within before there =
-    let none : end ≡ 0 = omega (arith, within) in
-    ap (λ b. cond b ([] ∷ []) ((o ∷ []) ∷ [])) (eq_false o (before 0 (omega arith)))
-    ∙ subst (λ (e : ℕ). (o ∷ []) ∷ [] ≡ take (suc e) (o ∷ []) ∷ lines_of (drop (suc (suc e)) (o ∷ []))) (sym none) refl
-first_line (o ∷ p ∷ text) (suc end) some within before there =
-    ap (λ b. cond b ([] ∷ lines_of (p ∷ text)) (with_first o (lines_of (p ∷ text)))) (eq_false o (before 0 (omega arith)))
-    ∙ ap (with_first o) (first_line (p ∷ text) end (omega arith) (omega (arith, within)) (λ k h. before (suc k) (omega (arith, h))) (λ h. there (omega (arith, h))))
-
-pub last_line : (text : List ℕ) → 0 < length text → ((k : ℕ) → k < length text → get_or text k 0 ≡ 10 → ⊥) → lines_of text ≡ text ∷ []
-last_line [] some before = absurd (omega (arith, some))
-last_line (o ∷ []) some before = ap (λ b. cond b ([] ∷ []) ((o ∷ []) ∷ [])) (eq_false o (before 0 (omega arith)))
-last_line (o ∷ p ∷ text) some before =
-    ap (λ b. cond b ([] ∷ lines_of (p ∷ text)) (with_first o (lines_of (p ∷ text)))) (eq_false o (before 0 (omega arith)))
-    ∙ ap (with_first o) (last_line (p ∷ text) (omega arith) (λ k h. before (suc k) (omega (arith, h))))
 
 -- its lines are marked one after another
 pub marked_first : (link : ℕ) (text line others : List ℕ) → lines_of text ≡ line ∷ lines_of others

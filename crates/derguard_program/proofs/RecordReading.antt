@@ -1,12 +1,10 @@
 -- How octets are read as records: in one way.
-use Rattle.std.proofs.Common.{◌≡◌, ◌∙◌, ◌<◌, ◌≤◌, ◌⊎◌, ◌+◌, inl, inr, ℕ, zero, suc, List, [], ◌∷◌, ◌++◌, ap, refl, sym, subst, length, take, drop, get_or, map, arith, append_assoc, length-append}
+use Rattle.std.proofs.Common.{◌≡◌, ◌∙◌, ◌<◌, ◌≤◌, ◌⊎◌, ◌+◌, ℕ, List, [], ◌∷◌, ◌++◌, ap, refl, sym, subst, length, take, drop, get_or, map, arith, append_assoc, length-append}
 use Rattle.std.specs.Prelude.{Option, Bool, true}
 use Rattle.std.specs.Io.KnownBytes.{Consumes}
 use Rattle.std.specs.Int.{w16, w32, to_be_bytes, from_be_bytes}
 use Rattle.std.specs.List.{concat, All}
-use Rattle.std.proofs.lemmas.List.{append_cancel_left}
 use Rattle.std.proofs.lemmas.Nat.{from_be_bytes-to_be_bytes_2, from_be_bytes-to_be_bytes_4}
-use Rattle.std.proofs.Math.Seq.{take-append_seam, drop-append_seam}
 use Rattle.guard_frames.proofs.Reading.{Consumes_trans}
 use Rattle.guard_frames.proofs.Elements.{All_first, All_rest}
 use Rattle.derguard_program.specs.declared.records.Header.{Header}

@@ -11,6 +11,7 @@ use Rattle.derguard_program.specs.declared.fault.Fault.{Fault}
 use Rattle.derguard_program.specs.declared.fault.Fault.TheVariants.{BadHex, CannotRead, Schema, Policy, Run, NoMemory}
 use Rattle.derguard_program.specs.declared.stop.Stop.{Stop}
 use Rattle.derguard_program.specs.declared.stop.Stop.TheVariants.{BadRecord, ReadFailed, WriteFailed, ErrorFailed}
+use Rattle.derguard_program.specs.AtFault.{IsFaultNote}
 use Rattle.derguard_program.specs.Devices.{Input, Device}
 use Rattle.derguard_program.specs.Faults.{fault_status}
 use Rattle.derguard_program.specs.Files.{Told}
@@ -66,21 +67,28 @@ link_most [] (Err f) = omega arith
 link_most (o ∷ reports) (Err f) = omega arith
 
 -- nothing is said where the status is 0
-link_silent : (link : ℕ) (reports : List ℕ) (answer : Result (Unit {0}) LinkFault) → link_status reports answer ≡ 0
-    → marked link reports ++ fault_line link answer ≡ []
-link_silent link [] (Ok done) none = refl
-link_silent link (o ∷ reports) (Ok done) none = absurd (omega arith)
-link_silent link [] (Err f) none = absurd (omega arith)
-link_silent link (o ∷ reports) (Err f) none = absurd (omega arith)
+done_silent : (seen : Option Seen) (g : AbstractGateway) (link : ℕ) (e : AbstractEvent) (note : List ℕ)
+    → IsFaultNote seen g link e (Ok tt) note → note ≡ []
+done_silent None g link e note h = h
+done_silent (Some s) g link e note h = h
 
-passed_most : (link : ℕ) (g new : AbstractGateway) (e : AbstractEvent) (w : Written) → PassesOn link g e w new
-    → w.status ≤ 3
-passed_most link g new e w h = let most = link_most h.added.reports h.answer in let is =
+link_silent : (seen : Option Seen) (g : AbstractGateway) (link : ℕ) (e : AbstractEvent) (reports note : List ℕ)
+    (answer : Result (Unit {0}) LinkFault) → IsFaultNote seen g link e answer note → link_status reports answer ≡ 0
+    → marked link reports ++ (fault_line link answer ++ note) ≡ []
+link_silent seen g link e [] note (Ok done) noted none = done_silent seen g link e note noted
+link_silent seen g link e (o ∷ reports) note (Ok done) noted none = absurd (omega arith)
+link_silent seen g link e [] note (Err f) noted none = absurd (omega arith)
+link_silent seen g link e (o ∷ reports) note (Err f) noted none = absurd (omega arith)
+
+passed_most : (link : ℕ) (seen : Option Seen) (g new : AbstractGateway) (e : AbstractEvent) (w : Written)
+    → PassesOn link seen g e w new → w.status ≤ 3
+passed_most link seen g new e w h = let most = link_most h.added.reports h.answer in let is =
     h.status in omega (arith, is, most)
 
-passed_silent : (link : ℕ) (g new : AbstractGateway) (e : AbstractEvent) (w : Written) → PassesOn link g e w new
-    → w.status ≡ 0 → w.err ≡ []
-passed_silent link g new e w h none = h.err ∙ link_silent link h.added.reports h.answer (sym h.status ∙ none)
+passed_silent : (link : ℕ) (seen : Option Seen) (g new : AbstractGateway) (e : AbstractEvent) (w : Written)
+    → PassesOn link seen g e w new → w.status ≡ 0 → w.err ≡ []
+passed_silent link seen g new e w h none =
+    h.err ∙ link_silent seen g link e h.added.reports h.note h.answer h.noted (sym h.status ∙ none)
 
 line_most : (f : Fault) (line : List ℕ) (status : ℕ) → IsFaultLine f line status → status ≤ 3
 line_most f line status (inl (text, is, same, greatest)) = let most = fault_most f in omega (arith, greatest, most)
@@ -92,22 +100,22 @@ line_some f line status (inr (same, greatest)) none = omega arith
 
 happens_most : (path : List ℕ) (r : Record) (old new : AbstractMux) (w : Written) → Happens path old r w new
     → w.status ≤ 3
-happens_most path (piece link octets) old new w h = passed_most link old.gateway new.gateway _ w h.0
-happens_most path (end link) old new w h = passed_most link old.gateway new.gateway _ w h.0
+happens_most path (piece link octets) old new w h = passed_most link old.seen old.gateway new.gateway _ w h.0
+happens_most path (end link) old new w h = passed_most link old.seen old.gateway new.gateway _ w h.0
 happens_most path reload old new w (inl h, later, same) = let is : w.status ≡ 0 =
     ap (λ (x : Written). x.status) h.noted in omega (arith, is)
-happens_most path reload old new w (inr h, later, same) = line_most h.fault w.err w.status h.told
+happens_most path reload old new w (inr h, later, same) = line_most h.fault h.line w.status h.told
 
 -- and no notes are asked for
 happens_silent : (path : List ℕ) (r : Record) (old new : AbstractMux) (w : Written) → Happens path old r w new
     → old.seen ≡ None → w.status ≡ 0 → w.err ≡ []
-happens_silent path (piece link octets) old new w h quiet none = passed_silent link old.gateway new.gateway _ w h.0 none
-happens_silent path (end link) old new w h quiet none = passed_silent link old.gateway new.gateway _ w h.0 none
+happens_silent path (piece link octets) old new w h quiet none = passed_silent link old.seen old.gateway new.gateway _ w h.0 none
+happens_silent path (end link) old new w h quiet none = passed_silent link old.seen old.gateway new.gateway _ w h.0 none
 happens_silent path reload old new w (inl h, later, same) quiet none =
     ap (λ (x : Written). x.err) h.noted
     ∙ ap (λ (x : Option Seen). renewed_note x (length h.policy.messages) (length h.policy.rules)) quiet
 happens_silent path reload old new w (inr h, later, same) quiet none =
-    absurd (line_some h.fault w.err w.status h.told none)
+    absurd (line_some h.fault h.line w.status h.told none)
 
 seen_none : (old new : Option Seen) (added : Added) → IsSeen old added new → old ≡ None → new ≡ None
 seen_none None new added h quiet = h

@@ -9,11 +9,12 @@ use Rattle.guard_report.specs.Text.{verdict_octets}
 use Rattle.guard_frames.specs.declared.totals.Totals.{Totals}
 use Rattle.guard_frames.specs.Bodies.{AbstractBody}
 use Rattle.guard_frames.specs.Texts.{SayPolicy}
+use Rattle.guard_notes.specs.Sources.{AbstractSources, sources}
 use Rattle.derguard_program.specs.declared.answer.Answer.{Answer}
 use Rattle.derguard_program.specs.declared.fault.Fault.{Fault}
 use Rattle.derguard_program.specs.declared.fault.Fault.TheVariants.{BadHex, NoMemory}
 use Rattle.derguard_program.specs.Devices.{Device, IsUntouched}
-use Rattle.derguard_program.specs.Explaining.{AbstractSources, AreTextsOf, TellsWith, sources}
+use Rattle.derguard_program.specs.Explaining.{AreTextsOf, TellsWith}
 use Rattle.derguard_program.specs.Files.{Told}
 use Rattle.derguard_program.specs.FirstRun.{first_module, first_policy, IsFirstRun}
 use Rattle.derguard_program.specs.Framing.{route_body}

@@ -20,6 +20,7 @@ pub mod Records
 pub mod Passing
 pub mod Counted
 pub mod Tallying
+pub mod AtFault
 pub mod Turns
 pub mod Muxing
 -- ---- a message in a file, in a frame or in a frame of a link
@@ -27,11 +28,10 @@ pub mod Numbered
 pub mod Linked
 pub mod Finding
 -- ---- a stream that is guarded with notes
+pub mod Saying
 pub mod Verbose
 pub mod Watching
 -- ---- what explains a fault or a verdict
-pub mod Marking
-pub mod Notes
 pub mod Explaining
 pub mod Reasons
 -- ---- what is listed of a policy, what is shown of a message
@@ -44,6 +44,10 @@ pub mod ValueTexts
 pub mod Framing
 pub mod Intake
 pub mod Encodes
+-- ---- cases that are kept beside a policy
+pub mod Cases
+pub mod Reached
+pub mod Testing
 -- ---- what decides or shows one message
 pub mod Deciding
 -- ---- what it is to meet a request

@@ -15,7 +15,7 @@ use Rattle.guard_frames.specs.declared.running.RunFault.TheVariants.{FrameTooLon
 use Rattle.derguard_program.specs.declared.fault.Fault.{Fault}
 use Rattle.derguard_program.specs.declared.fault.Fault.TheVariants.{BadHex, CannotRead, Schema, Policy, Run, NoMemory}
 use Rattle.derguard_program.specs.Files.{Told}
-use Rattle.derguard_program.specs.Requests.{AbstractRequest, first, check, decide, show, encode, run, ask, mux}
+use Rattle.derguard_program.specs.Requests.{AbstractRequest, first, check, decide, show, encode, test, run, ask, mux}
 use Rattle.derguard_program.specs.Words.{Asks, joined, the_app, version}
 use Rattle.derguard_program.specs.Reading.{IsPolicyAt, IsNoPolicyAt}
 use Rattle.derguard_program.specs.Answers.{AbstractAnswer, Gives, GivesExplained, totals_status, IsFirst, IsNoFirst, IsChecked, IsCheckedExplained}
@@ -26,6 +26,7 @@ use Rattle.derguard_program.specs.Encodes.{Encodes}
 use Rattle.derguard_program.specs.Explaining.{IsExplained}
 use Rattle.derguard_program.specs.Muxing.{GuardsLinks, WatchesLinks}
 use Rattle.derguard_program.specs.Strictness.{ChecksStrictly}
+use Rattle.derguard_program.specs.Testing.{Tests}
 use Rattle.derguard_program.specs.Watching.{WatchesStream}
 use Rattle.derguard_program.specs.Writing.{Writes, Tells, TellsLine, TellsNoMemory}
 
@@ -101,6 +102,7 @@ Meets told (check path true false) = AnswersExplained (IsCheckedExplained told p
 Meets told (decide q) = Decides told q
 Meets told (show q) = ShowsAsked told q
 Meets told (encode asked) = Encodes told asked
+Meets told (test path cases cover) = Tests told path cases cover
 Meets told (run path false) = GuardsStream told path
 Meets told (run path true) = WatchesStream told path
 Meets told (ask path) = AsksStream told path

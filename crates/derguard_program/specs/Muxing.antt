@@ -17,6 +17,7 @@ use Rattle.derguard_program.specs.Files.{Told, IsLater}
 use Rattle.derguard_program.specs.Reading.{IsPolicyAt, IsNoPolicyAt}
 use Rattle.derguard_program.specs.Records.{Record, record_octets, IsAllowed, HasNoRecord, IsBadHeader}
 use Rattle.derguard_program.specs.Turns.{AbstractMux, Written, Happens, InTurn, all_out, all_err, status_of, ends_left}
+use Rattle.derguard_program.specs.Saying.{IsSaid, TellsUnread}
 use Rattle.derguard_program.specs.Verbose.{last_lines, nothing_seen}
 use Rattle.derguard_program.specs.Writing.{Tells, TellsLine, TellsOctets, TellsNoMemory}
 
@@ -165,9 +166,12 @@ TellsNotes octets status err result = TellsOctets octets status err result ⊎ T
 abbrev pub TellsStopWith : Stop → Option Seen → Device → ℕ → Type 0
 TellsStopWith BadRecord seen err status = TellsNotes (codes "derguard: bad record\n" ++ seen_lines seen) 3 err status
 TellsStopWith ReadFailed seen err status =
-    TellsNotes (codes "derguard: F5 ReadFailed\n" ++ seen_lines seen) 3 err status
+    (said : List ℕ) × IsSaid (codes "standard input") said
+    × TellsNotes (codes "derguard: F5 ReadFailed\n" ++ said ++ seen_lines seen) 3 err status
 TellsStopWith WriteFailed seen err status =
-    TellsNotes (codes "derguard: F2 WriteFailed\nderguard: standard output failed\n" ++ seen_lines seen) 3 err status
+    (said : List ℕ) × IsSaid (codes "standard output") said
+    × TellsNotes (codes "derguard: F2 WriteFailed\nderguard: standard output failed\n" ++ said ++ seen_lines seen) 3 err
+    status
 TellsStopWith ErrorFailed seen err status = (err.after ≡ err.before) × (status ≡ 3)
 
 -- The same of the records as without notes; then what is seen of them is said, behind the line that says why they
@@ -183,6 +187,6 @@ WatchesRecords path first input out err status =
 
 abbrev pub WatchesLinks : Told → List ℕ → Input → Device → Device → ℕ → Type 0
 WatchesLinks told path input out err status =
-    ((f : Fault) × IsNoPolicyAt told path f × IsUnread input × IsUntouched out × Tells f err status)
+    ((f : Fault) × IsNoPolicyAt told path f × IsUnread input × IsUntouched out × TellsUnread f err status)
     ⊎ ((p : AbstractPolicy) × (later : Told) × IsPolicyAt told path p × IsLater told later
     × WatchesRecords path (new_mux p later (Some nothing_seen)) input out err status)

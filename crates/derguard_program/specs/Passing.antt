@@ -1,6 +1,7 @@
 -- What goes out of a link in records, and how its lines are marked.
-use Rattle.std.specs.Prelude.{◌≡◌, ◌<◌, ◌≤◌, ℕ, nat_eq, List, [], ◌∷◌, ◌++◌, length, map, if◌then◌else◌, codes, decimal, Result, Ok, Err}
+use Rattle.std.specs.Prelude.{◌≡◌, ◌<◌, ◌≤◌, ℕ, List, [], ◌∷◌, ◌++◌, length, map, codes, decimal, Result, Ok, Err}
 use Rattle.std.specs.List.{concat}
+pub use Rattle.guard_notes.specs.Lines.{lines_of, with_first}
 use Rattle.guard_frames.specs.declared.link.LinkFault.{LinkFault}
 use Rattle.guard_frames.specs.FaultTexts.{fault_text}
 use Rattle.derguard_program.specs.Records.{record_octets}
@@ -22,16 +23,6 @@ pub record InRecords (link : ℕ) (octets written : List ℕ) : Type 0 where
   pub records : written ≡ concat (map (λ part. record_octets (piece link part)) parts)
 
 -- ---- standard error
-
--- one octet before the first of some lines
-abbrev pub with_first : ℕ → List (List ℕ) → List (List ℕ)
-with_first o [] = (o ∷ []) ∷ []
-with_first o (line ∷ lines) = (o ∷ line) ∷ lines
-
--- the lines of a text, without the line feed, 10, that ends each; the last one may lack it
-abbrev pub lines_of : List ℕ → List (List ℕ)
-lines_of [] = []
-lines_of (o ∷ text) = if nat_eq o 10 then [] ∷ lines_of text else with_first o (lines_of text)
 
 -- of so many octets that it goes in one call
 abbrev pub IsShort : List ℕ → Type 0

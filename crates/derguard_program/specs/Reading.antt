@@ -1,6 +1,6 @@
 -- The texts that a policy at a path needs, what they say, and why they can't be had or say nothing.
-use Rattle.std.specs.Prelude.{◌≡◌, ◌⊎◌, ℕ, nat_eq, List, [], ◌∷◌, ◌++◌, string_bytes, IsSomeAnd, if◌then◌else◌}
-use Rattle.std.specs.List.{list_any}
+use Rattle.std.specs.Prelude.{◌≡◌, ◌⊎◌, ℕ, List, [], ◌∷◌, ◌++◌, string_bytes, IsSomeAnd}
+pub use Rattle.guard_notes.specs.Sources.{folder}
 use Rattle.guard_policy.specs.Policies.{AbstractPolicy}
 use Rattle.guard_policy.specs.Loads.{ListsFiles, ListsNoFiles}
 use Rattle.guard_policy.specs.PolicyFaults as policy
@@ -9,11 +9,6 @@ use Rattle.guard_frames.specs.declared.texts.TextsFault.TheVariants as texts
 use Rattle.derguard_program.specs.declared.fault.Fault.{Fault}
 use Rattle.derguard_program.specs.declared.fault.Fault.TheVariants.{BadHex, CannotRead, Schema, Policy, Run, NoMemory}
 use Rattle.derguard_program.specs.Files.{Told, after_read, HasText, HasNone}
-
--- the path up to and with its last `/`, which is 47; nothing where it has none
-abbrev pub folder : List ℕ → List ℕ
-folder [] = []
-folder (o ∷ path) = if list_any (nat_eq 47) (o ∷ path) then o ∷ folder path else []
 
 -- the texts at these names in a folder, read in order
 abbrev pub HaveTexts : Told → List ℕ → List (List ℕ) → List (List ℕ) → Type 0

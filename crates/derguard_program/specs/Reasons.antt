@@ -15,10 +15,10 @@ use Rattle.guard_policy.specs.Policies.{AbstractPolicy, AbstractRoute, AbstractR
 use Rattle.guard_policy.specs.Verdicts.{AbstractVerdict, pass, unknown_message, undecodable, outside_type, denied_by, not_allowed, no_rule}
 use Rattle.guard_report.specs.Parts.{part_octets}
 use Rattle.guard_report.specs.Text.{component_of, type_within}
-use Rattle.derguard_program.specs.declared.notes.Place.TheVariants.{At}
-use Rattle.derguard_program.specs.Explaining.{AbstractSources, place_lines}
+use Rattle.guard_notes.specs.Marking.{columns}
+use Rattle.guard_notes.specs.Sources.{AbstractSources, place_lines}
+use Rattle.guard_notes.specs.declared.notes.Place.TheVariants.{At}
 use Rattle.derguard_program.specs.Listing.{places_of}
-use Rattle.derguard_program.specs.Marking.{columns}
 
 -- ---- the part of a value that fails a constraint
 

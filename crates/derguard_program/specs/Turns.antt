@@ -9,11 +9,13 @@ use Rattle.guard_frames.specs.GatewaySteps.{Step}
 use Rattle.guard_frames.specs.LinkView.{AbstractLink}
 use Rattle.derguard_program.specs.declared.fault.Fault.{Fault}
 use Rattle.derguard_program.specs.declared.seen.Seen.{Seen}
+use Rattle.derguard_program.specs.AtFault.{IsFaultNote}
 use Rattle.derguard_program.specs.Files.{Told, IsLater}
 use Rattle.derguard_program.specs.Passing.{InRecords, marked, fault_line}
 use Rattle.derguard_program.specs.Reading.{IsPolicyAt, IsNoPolicyAt}
 use Rattle.derguard_program.specs.Records.{Record}
 use Rattle.derguard_program.specs.Records.Record.{piece, end, reload}
+use Rattle.derguard_program.specs.Saying.{IsUnreadNote}
 use Rattle.derguard_program.specs.Tallying.{IsSeen}
 use Rattle.derguard_program.specs.Writing.{IsFaultLine}
 
@@ -39,14 +41,16 @@ link_status (o ∷ reports) (Ok done) = 1
 link_status reports (Err f) = 3
 
 -- The gateway takes an event of this link. What it adds goes out in records, and is reported after the link's number;
--- then comes the link's fault.
-pub record PassesOn (link : ℕ) (old : AbstractGateway) (event : AbstractEvent) (w : Written)
+-- then comes the link's fault, and the note of it.
+pub record PassesOn (link : ℕ) (seen : Option Seen) (old : AbstractGateway) (event : AbstractEvent) (w : Written)
     (new : AbstractGateway) : Type 0 where
   pub answer : Result (Unit {0}) LinkFault
   pub added : Added
   pub step : Step old event (step_answer answer) added new
   pub out : InRecords link added.out w.out
-  pub err : w.err ≡ marked link added.reports ++ fault_line link answer
+  pub note : List ℕ
+  pub noted : IsFaultNote seen old link event answer note
+  pub err : w.err ≡ marked link added.reports ++ (fault_line link answer ++ note)
   pub status : w.status ≡ link_status added.reports answer
 
 -- what is noted of a new policy of so many messages and rules
@@ -65,21 +69,25 @@ pub record Renews (path : List ℕ) (old : AbstractMux) (w : Written) (new : Abs
   pub step : Step old.gateway (event.reload policy) (Ok tt) nothing new.gateway
   pub noted : w ≡ record { out = []; err = renewed_note old.seen (length policy.messages) (length policy.rules); status = 0 }
 
--- There is no policy at the path, which is reported, and the old one stays in force.
+-- There is no policy at the path, which is reported with what the system says of it, and the old one stays in force.
 pub record KeepsOld (path : List ℕ) (old : AbstractMux) (w : Written) (new : AbstractMux) : Type 0 where
   pub fault : Fault
   pub none : IsNoPolicyAt old.told path fault
   pub same : new.gateway ≡ old.gateway
   pub out : w.out ≡ []
-  pub told : IsFaultLine fault w.err w.status
+  pub line : List ℕ
+  pub told : IsFaultLine fault line w.status
+  pub note : List ℕ
+  pub noted : IsUnreadNote old.seen fault note
+  pub err : w.err ≡ line ++ note
 
 -- what a record does, where the policy is that at the path, and what is written of it
 abbrev pub Happens : List ℕ → AbstractMux → Record → Written → AbstractMux → Type 0
 Happens path old (piece link octets) w new =
-    (p : PassesOn link old.gateway (event.piece link octets) w new.gateway) × (new.told ≡ old.told)
+    (p : PassesOn link old.seen old.gateway (event.piece link octets) w new.gateway) × (new.told ≡ old.told)
     × IsSeen old.seen p.added new.seen
 Happens path old (end link) w new =
-    PassesOn link old.gateway (event.end link) w new.gateway × (new.told ≡ old.told) × (new.seen ≡ old.seen)
+    PassesOn link old.seen old.gateway (event.end link) w new.gateway × (new.told ≡ old.told) × (new.seen ≡ old.seen)
 Happens path old reload w new =
     (Renews path old w new ⊎ KeepsOld path old w new) × IsLater old.told new.told × (new.seen ≡ old.seen)
 

@@ -14,10 +14,10 @@ use Rattle.guard_values.specs.FirstFault.{IsFirstFault}
 use Rattle.guard_values.specs.Meanings.{Meaning}
 use Rattle.guard_schema.specs.declared.fault.SchemaFault.{SchemaFault}
 use Rattle.guard_schema.specs.declared.fault.SchemaFault.TheVariants.{Lex, Syntax, Name, Tag, Clash, Cons, Value, DefaultOutside, TooLarge, OutOfMemory}
+use Rattle.guard_notes.specs.Notes.{schema_note}
+use Rattle.guard_notes.specs.Sources.{AbstractSources, sources, place_lines}
 use Rattle.derguard_program.specs.declared.fault.Fault.{Fault}
 use Rattle.derguard_program.specs.declared.fault.Fault.TheVariants.{BadHex, CannotRead, Schema, Policy, Run, NoMemory}
-use Rattle.derguard_program.specs.Explaining.{AbstractSources, sources, place_lines}
-use Rattle.derguard_program.specs.Notes.{note_of}
 
 -- A text that stands alone has no module around it, so no name in it means the value of one.
 abbrev pub no_values : Meaning
@@ -67,4 +67,9 @@ value_sources text = sources [] (codes "value" ∷ []) (text ∷ [])
 
 -- what comes after the line of such a fault: its place, and the line with a mark under the column
 abbrev pub value_note : List ℕ → Fault → List ℕ
-value_note text f = option_map_or (λ n. place_lines (value_sources text) n.place) (note_of f) []
+value_note text (Schema f) = option_map_or (λ n. place_lines (value_sources text) n.place) (schema_note f) []
+value_note text BadHex = []
+value_note text (CannotRead file) = []
+value_note text (Policy f) = []
+value_note text (Run f) = []
+value_note text NoMemory = []

@@ -48,8 +48,9 @@ fault_line WriteFailed s = codes "derguard: standard output failed\n"
 fault_line ReadFailed s = []
 fault_line OutOfMemory s = []
 
-abbrev pub fault_lines : RunFault → Seen → List ℕ
-fault_lines f s = fault_line f s ++ last_lines s
+-- with what the system says in between
+abbrev pub fault_lines : RunFault → List ℕ → Seen → List ℕ
+fault_lines f said s = fault_line f s ++ said ++ last_lines s
 
 -- before the first frame
 abbrev pub nothing_seen : Seen

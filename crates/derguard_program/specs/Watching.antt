@@ -22,8 +22,9 @@ use Rattle.derguard_program.specs.Explaining.{TellsWith}
 use Rattle.derguard_program.specs.Files.{Told}
 use Rattle.derguard_program.specs.Passing.{lines_of}
 use Rattle.derguard_program.specs.Reading.{IsPolicyAt, IsNoPolicyAt}
+use Rattle.derguard_program.specs.Saying.{IsSaidOfRun, TellsUnread}
 use Rattle.derguard_program.specs.Verbose.{last_lines, fault_lines}
-use Rattle.derguard_program.specs.Writing.{TellsOctets, TellsNoMemory, Tells}
+use Rattle.derguard_program.specs.Writing.{TellsOctets, TellsNoMemory}
 
 -- ---- what is guarded, and what is seen of it
 
@@ -72,7 +73,8 @@ abbrev pub TellsSeen : Result (Unit {0}) RunFault → Seen → Device → ℕ �
 TellsSeen (Ok done) s err status =
     TellsOctets (last_lines s) (totals_status s.totals) err status ⊎ TellsNoMemory err status
 TellsSeen (Err f) s err status =
-    ((err.failed ≡ true) × IsUntouched err × (status ≡ 3)) ⊎ TellsWith (Run f) (fault_lines f s) err status
+    ((err.failed ≡ true) × IsUntouched err × (status ≡ 3))
+    ⊎ ((said : List ℕ) × IsSaidOfRun f said × TellsWith (Run f) (fault_lines f said s) err status)
 
 -- ---- the whole stream
 
@@ -88,5 +90,5 @@ pub record WatchesUnder (p : AbstractPolicy) (input : Input) (out err : Device) 
 -- What comes of a stream under the policy at the path. Where there is none, nothing is read or written.
 abbrev pub WatchesStream : Told → List ℕ → Input → Device → Device → ℕ → Type 0
 WatchesStream told path input out err status =
-    ((f : Fault) × IsNoPolicyAt told path f × IsUnread input × IsUntouched out × Tells f err status)
+    ((f : Fault) × IsNoPolicyAt told path f × IsUnread input × IsUntouched out × TellsUnread f err status)
     ⊎ ((p : AbstractPolicy) × IsPolicyAt told path p × WatchesUnder p input out err status)

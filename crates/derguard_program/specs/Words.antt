@@ -5,7 +5,7 @@ use Rattle.std.specs.Option.{option_map_or}
 use Rattle.clap.specs.Words.{App, Rule, Row, Shape, Text, first_of, fault_of, new_rule, subcommand_of}
 use Rattle.clap.specs.Simple.{new_shape}
 use Rattle.clap.specs.declared.builder.action.ArgAction.TheVariants.{Set, SetTrue}
-use Rattle.derguard_program.specs.Requests.{AbstractRequest, first, check, decide, show, encode, run, ask, mux}
+use Rattle.derguard_program.specs.Requests.{AbstractRequest, first, check, decide, show, encode, test, run, ask, mux}
 
 -- the program's version
 abbrev pub version : Text
@@ -66,6 +66,11 @@ encode_shape = command_shape (codes "encode")
     (place_rule (codes "policy") ∷ option_rule (codes "message") ∷ free_place_rule (codes "value")
     ∷ free_option_rule (codes "from") ∷ free_option_rule (codes "to") ∷ flag_rule (codes "der") ∷ [])
 
+-- test POLICY [CASES] [--cover]
+abbrev pub test_shape : Shape
+test_shape = command_shape (codes "test")
+    (place_rule (codes "policy") ∷ free_place_rule (codes "cases") ∷ flag_rule (codes "cover") ∷ [])
+
 -- run POLICY [--verbose]
 abbrev pub run_shape : Shape
 run_shape = command_shape (codes "run") (place_rule (codes "policy") ∷ flag_rule (codes "verbose") ∷ [])
@@ -82,7 +87,7 @@ mux_shape = command_shape (codes "mux") (place_rule (codes "policy") ∷ flag_ru
 abbrev pub the_app : App
 the_app = record {
   top = record (new_shape (codes "derguard")) { is_leaf = false; subcommand_required = true; has_version = true };
-  subs = check_shape ∷ decide_shape ∷ show_shape ∷ encode_shape ∷ run_shape ∷ ask_shape ∷ mux_shape ∷ [];
+  subs = check_shape ∷ decide_shape ∷ show_shape ∷ encode_shape ∷ test_shape ∷ run_shape ∷ ask_shape ∷ mux_shape ∷ [];
 }
 
 -- ---- the requests
@@ -113,6 +118,9 @@ IsCommand name rows (encode asked) =
     × (first_of (codes "message") rows ≡ Some asked.message) × (first_of (codes "value") rows ≡ asked.value)
     × (first_of (codes "from") rows ≡ asked.from) × (first_of (codes "to") rows ≡ asked.to)
     × (asked.der ≡ flag_of (codes "der") rows)
+IsCommand name rows (test path cases cover) =
+    (name ≡ codes "test") × (first_of (codes "policy") rows ≡ Some path) × (first_of (codes "cases") rows ≡ cases)
+    × (cover ≡ flag_of (codes "cover") rows)
 IsCommand name rows (run path verbose) =
     (name ≡ codes "run") × (first_of (codes "policy") rows ≡ Some path) × (verbose ≡ flag_of (codes "verbose") rows)
 IsCommand name rows (ask path) = (name ≡ codes "ask") × (first_of (codes "policy") rows ≡ Some path)

@@ -1,5 +1,7 @@
 -- What only private contracts and proofs cite.
 pub mod Assigned
+pub mod Begun
+pub mod Caseless
 pub mod Doing
 pub mod Encoded
 pub mod Headers

@@ -1,12 +1,13 @@
 //! The rules that allow a value on a route.
-ghost use Rattle.std.specs.Prelude.{◌≡◌, ◌++◌, OnOk, IfOk, IsTrue};
+ghost use Rattle.std.specs.Prelude.{◌≡◌, ◌&&◌, ◌++◌, codes, OnOk, IfOk, IsTrue};
 ghost use Rattle.guard_model.specs.ValueView.{value_view};
 ghost use Rattle.guard_der.specs.Fits.{fits};
 ghost use Rattle.guard_der.specs.Sound.{is_sound};
-ghost use Rattle.guard_policy.specs.Decisions.{speaks_of};
+ghost use Rattle.guard_policy.specs.Decisions.{allows, rules_of, speaks_of};
 ghost use Rattle.guard_policy.specs.PolicyView.{policy_view, route_view, said_view};
 ghost use Rattle.guard_policy.specs.inside.Applicable.{AreApplicable};
-ghost use Rattle.derguard_program.specs.Reasons.{allowing_line, allowing_line_of, allowing_lines};
+ghost use Rattle.derguard_program.specs.Reached.{allowing};
+ghost use Rattle.derguard_program.specs.Reasons.{allowing_line_of, allowing_lines};
 
 use crate::octets::add;
 use guard_eval::member;
@@ -48,17 +49,52 @@ fn add_allowing(
     ensures { OnOk result (text.new.items ≡ text.old.items
         ++ allowing_line_of (route_view route.now) (value_view value.now) (said_view rule.now)) }
 {
-    if rule.speaks_of(route) && rule.effect == Effect::Allow && member(rule.ty, value) {
-        add_line(text, rule.name)
+    if allows(route, value, rule) {
+        add_line(text, b"  allowed by ", rule.name)
     } else {
         Ok(())
     }
 }
 
-fn add_line(text: &mut Vec<u8>, name: &str) -> Result<(), OutOfMemory>
-    ensures { OnOk result (text.new.items ≡ text.old.items ++ allowing_line name.now) }
+/// Whether the rule speaks of the route and allows the value.
+fn allows(route: &Route, value: &Value, rule: &SaidRule) -> bool
+    requires sound { IsTrue (is_sound (said_view rule.now).ty) }
+    requires fits { IsTrue (speaks_of (route_view route.now) (said_view rule.now))
+        → IsTrue (fits (said_view rule.now).ty (value_view value.now)) }
+    ensures { result ≡ (speaks_of (route_view route.now) (said_view rule.now)
+        && allows (said_view rule.now) (value_view value.now)) }
 {
-    add(text, b"  allowed by ")?;
+    rule.speaks_of(route) && rule.effect == Effect::Allow && member(rule.ty, value)
+}
+
+/// Adds a line of this name, behind how it begins.
+pub fn add_line(text: &mut Vec<u8>, start: &[u8], name: &str) -> Result<(), OutOfMemory>
+    ensures { OnOk result (text.new.items ≡ text.old.items ++ (start.now ++ name.now ++ codes "\n")) }
+{
+    add(text, start)?;
     add(text, name.as_bytes())?;
     add(text, b"\n")
+}
+
+/// The numbers of the rules that allow the value on the route, in the order of the file.
+pub fn allowing(
+    alloc: Global,
+    policy: &Policy,
+    route: &Route,
+    value: &Value,
+) -> Result<Vec<usize>, OutOfMemory>
+    requires { AreApplicable (route_view route.now) (value_view value.now) (policy_view policy.now).rules }
+    ensures { IfOk result (λ numbers. numbers.items
+        ≡ allowing (rules_of (policy_view policy.now) (route_view route.now)) (value_view value.now)) }
+{
+    let mut numbers = Vec::new(alloc);
+    for number in 0..policy.rules() {
+        let Some(rule) = policy.rule(number) else {
+            unreachable!();
+        };
+        if allows(route, value, &rule) {
+            numbers.push(number)?;
+        }
+    }
+    Ok(numbers)
 }

@@ -2,20 +2,21 @@
 ghost use Rattle.std.specs.Prelude.{◌≡◌, ◌⊎◌, ◌++◌, [], codes, decimal, map, string_bytes, IfOk, IfErr};
 ghost use Rattle.guard_frames.specs.Texts.{SayPolicy};
 ghost use Rattle.guard_policy.specs.PolicyView.{policy_view};
+ghost use Rattle.guard_notes.specs.Sources.{sources};
 ghost use Rattle.derguard_program.specs.Answers.{answer_view, counts_text, IsChecked, IsCheckedExplained};
-ghost use Rattle.derguard_program.specs.Explaining.{IsExplained, explanation, sources};
-ghost use Rattle.derguard_program.specs.Files.{IsLater};
+ghost use Rattle.derguard_program.specs.Explaining.{AreTextsOf, IsExplained, IsExplanation};
+ghost use Rattle.derguard_program.specs.Files.{Told, HasText, after_read, IsLater};
 ghost use Rattle.derguard_program.specs.Listing.{listing};
 ghost use Rattle.derguard_program.specs.Reading.{IsPolicyAt, IsNoPolicyAt, SayNothing};
 ghost use Rattle.derguard_program.specs.declared.fault.Fault.TheVariants.{NoMemory};
 
 use crate::answer::Answer;
-use crate::explaining::{Refusal, Sources};
+use crate::explaining::{Refusal, sources_of, sources_of_path};
 use crate::fault::Fault;
 use crate::files::Files;
 use crate::listing::listing;
 use crate::octets::add;
-use crate::texts::Texts;
+use crate::texts::{Texts, beside_policy, read};
 use guard_frames::load_texts;
 use guard_model::OutOfMemory;
 use guard_policy::Policy;
@@ -89,9 +90,44 @@ pub fn load_explained<F: Files>(alloc: Global, path: &str, files: &mut F) -> Res
     ensures there { IfOk result (λ p. IsPolicyAt (F.told files.old) path.now (policy_view p)) }
     ensures none { IfErr result (λ r. IsExplained (F.told files.old) path.now r.fault (string_bytes r.note)) }
 {
-    match Texts::read(alloc, path, files) {
+    match read_explained(alloc, path, files) {
         Ok(texts) => said_explained(alloc, path, &texts),
-        Err(fault) => Err(Refusal::new(alloc, &Sources::of_path(path), fault)),
+        Err(refusal) => Err(refusal),
+    }
+}
+
+/// The texts of the policy at the path and of its modules; or why they can't be had, with what explains it.
+pub fn read_explained<F: Files>(alloc: Global, path: &str, files: &mut F) -> Result<Texts, Refusal>
+    ensures listed { IfOk result (λ texts. AreTextsOf (F.told files.old) path.now texts.policy.items
+        (map string_bytes texts.files.items) (map (λ text. text.items) texts.modules.items)) }
+    ensures none { IfErr result (λ r. IsExplained (F.told files.old) path.now r.fault (string_bytes r.note)) }
+{
+    match read(alloc, path, files) {
+        Ok(policy) => read_beside(alloc, path, policy, files),
+        Err(fault) => Err(Refusal::new(alloc, &sources_of_path(path), &[], fault)),
+    }
+}
+
+/// The texts, where the policy's has been read.
+fn read_beside<F: Files>(
+    alloc: Global,
+    path: &str,
+    policy: Vec<u8>,
+    files: &mut F,
+) -> Result<Texts, Refusal>
+    ensures listed { (told : Told) → HasText told path.now policy.items → F.told files.old ≡ after_read told
+        → IfOk result (λ texts. AreTextsOf told path.now texts.policy.items
+        (map string_bytes texts.files.items) (map (λ text. text.items) texts.modules.items)) }
+    ensures none { (told : Told) → HasText told path.now policy.items → F.told files.old ≡ after_read told
+        → IfErr result (λ r. IsExplained told path.now r.fault (string_bytes r.note)) }
+{
+    match beside_policy(alloc, path, &policy, files) {
+        Ok((listed, modules)) => Ok(Texts {
+            policy,
+            files: listed,
+            modules,
+        }),
+        Err(fault) => Err(Refusal::new(alloc, &sources_of_path(path), &policy, fault)),
     }
 }
 
@@ -101,13 +137,13 @@ pub fn said_explained(alloc: Global, path: &str, texts: &Texts) -> Result<Policy
         (map (λ text. text.items) texts.now.modules.items) texts.now.policy.items (policy_view p)) }
     ensures none { IfErr result (λ r.
         (SayNothing (map (λ text. text.items) texts.now.modules.items) texts.now.policy.items r.fault
-        × (string_bytes r.note ≡ explanation (sources path.now (map string_bytes texts.now.files.items)
-        (map (λ text. text.items) texts.now.modules.items)) r.fault))
+        × IsExplanation (sources path.now (map string_bytes texts.now.files.items)
+        (map (λ text. text.items) texts.now.modules.items)) texts.now.policy.items r.fault (string_bytes r.note))
         ⊎ ((r.fault ≡ NoMemory) × (string_bytes r.note ≡ []))) }
 {
     match said_by(alloc, texts) {
         Ok(policy) => Ok(policy),
-        Err(fault) => Err(Refusal::new(alloc, &Sources::of_texts(path, texts), fault)),
+        Err(fault) => Err(Refusal::new(alloc, &sources_of(path, texts), &texts.policy, fault)),
     }
 }
 

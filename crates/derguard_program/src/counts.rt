@@ -4,7 +4,7 @@ ghost use Rattle.std.specs.List.{list_any};
 ghost use Rattle.derguard_program.specs.Counted.{first_word, after_word, reason_of, more, no_counts, count_one, counts_after};
 ghost use Rattle.derguard_program.specs.Passing.{lines_of};
 
-use crate::passing::first_line;
+use guard_notes::first_line;
 
 /// How many lines of a report give each reason. Each number stays at the greatest of 64 bits.
 #[derive(Clone, Copy, Debug, PartialEq, Eq)]
@@ -100,7 +100,7 @@ fn is_route(word: &[u8]) -> bool
 }
 
 /// The octets before the first space.
-fn first_word(text: &[u8]) -> &[u8]
+pub fn first_word(text: &[u8]) -> &[u8]
     ensures { result.now ≡ first_word text.now }
 {
     &text[..word_end(text)]

@@ -5,14 +5,15 @@ ghost use Rattle.hex.specs.declared.error.FromHexError.{FromHexError};
 ghost use Rattle.guard_policy.specs.PolicyView.{policy_view, route_view};
 ghost use Rattle.guard_policy.specs.Verdicts.{verdict_view};
 ghost use Rattle.guard_frames.specs.Bodies.{body_view};
+ghost use Rattle.guard_notes.specs.Sources.{sources, sources_view};
 ghost use Rattle.derguard_program.specs.Answers.{answer_view, verdict_status, IsVerdict, IsDecided, IsUndecided, IsExplainedVerdict, IsHeldExplained, IsExplainedOver, IsDecidedExplained, OfHeld};
-ghost use Rattle.derguard_program.specs.Explaining.{IsExplained, IsUndecidedExplained, explanation, sources, sources_view};
+ghost use Rattle.derguard_program.specs.Explaining.{IsExplained, IsUndecidedExplained, IsExplanation};
 ghost use Rattle.derguard_program.specs.Reading.{SayNothing};
 ghost use Rattle.derguard_program.specs.declared.fault.Fault.TheVariants.{BadHex, NoMemory};
 
 use crate::answer::Answer;
-use crate::checking::{load, said_explained};
-use crate::explaining::{Refusal, Sources};
+use crate::checking::{load, read_explained, said_explained};
+use crate::explaining::{Refusal, sources_of, sources_of_path};
 use crate::fault::Fault;
 use crate::files::Files;
 use crate::holding::{bad_header, body_of, route_in};
@@ -21,6 +22,7 @@ use crate::reasons::verdict_note;
 use crate::texts::Texts;
 use guard_frames::Body;
 use guard_model::OutOfMemory;
+use guard_notes::Sources;
 use guard_policy::{Policy, Route, Verdict};
 use guard_report::verdict_text;
 use hex::FromHexError;
@@ -62,7 +64,7 @@ pub fn decide_explained<F: Files>(
             let body = body_of(route.from, route.to, route.message, &octets);
             explain_held(alloc, path, Some(body), files)
         }
-        Err(fault) => Err(Refusal::new(alloc, &Sources::of_path(path), fault)),
+        Err(fault) => Err(Refusal::new(alloc, &sources_of_path(path), &[], fault)),
     }
 }
 
@@ -78,9 +80,9 @@ pub fn explain_held<F: Files>(
     ensures undecided { IfErr result
         (λ r. IsExplained (F.told files.old) path.now r.fault (string_bytes r.note)) }
 {
-    match Texts::read(alloc, path, files) {
+    match read_explained(alloc, path, files) {
         Ok(texts) => explain_over(alloc, path, held, &texts),
-        Err(fault) => Err(Refusal::new(alloc, &Sources::of_path(path), fault)),
+        Err(refusal) => Err(refusal),
     }
 }
 
@@ -97,12 +99,12 @@ fn explain_over(
         texts.now.policy.items (option_map body_view held.entry) (answer_view a)) }
     ensures undecided { IfErr result
         (λ r. (SayNothing (map (λ text. text.items) texts.now.modules.items) texts.now.policy.items r.fault
-        × (string_bytes r.note ≡ explanation (sources path.now (map string_bytes texts.now.files.items)
-        (map (λ text. text.items) texts.now.modules.items)) r.fault))
+        × IsExplanation (sources path.now (map string_bytes texts.now.files.items)
+        (map (λ text. text.items) texts.now.modules.items)) texts.now.policy.items r.fault (string_bytes r.note))
         ⊎ ((r.fault ≡ NoMemory) × (string_bytes r.note ≡ []))) }
 {
     let policy = said_explained(alloc, path, texts)?;
-    let sources = Sources::of_texts(path, texts);
+    let sources = sources_of(path, texts);
     match explained_answer(alloc, &sources, &policy, held) {
         Ok(answer) => Ok(answer),
         Err(_) => Err(Refusal::no_memory(alloc)),

@@ -19,12 +19,10 @@ ghost use Rattle.derguard_program.specs.inside.Encoded.{IsUnencoded};
 
 use crate::answer::Remarked;
 use crate::checking::load;
-use crate::explaining::{Sources, place_lines};
 use crate::fault::Fault;
 use crate::files::Files;
 use crate::framing::frame;
 use crate::intake::{Unread, read_all};
-use crate::notes::note_of;
 use crate::octets::add;
 use crate::outputs::{
     tell, tell_failed_read, tell_line, tell_no_memory, tell_text, tell_with, write_remarked,
@@ -33,6 +31,7 @@ use crate::written::encoded;
 use guard_eval::{Violation, first_violation};
 use guard_frames::{Sink, Source};
 use guard_model::{OutOfMemory, Ty, Value};
+use guard_notes::{Sources, place_lines, schema_note};
 use guard_policy::{Policy, Route, Verdict};
 use guard_report::verdict_text;
 use std::alloc::Global;
@@ -173,7 +172,10 @@ fn tell_no_value<E: Sink>(alloc: Global, text: &[u8], fault: &Fault, err: &mut E
 fn value_note(alloc: Global, text: &[u8], fault: &Fault) -> Result<String, OutOfMemory>
     ensures { IfOk result (λ note. string_bytes note ≡ value_note text.now fault.now) }
 {
-    let Some(note) = note_of(fault) else {
+    let Fault::Schema(fault) = fault else {
+        return Ok(String::new(alloc));
+    };
+    let Some(note) = schema_note(fault) else {
         return Ok(String::new(alloc));
     };
     let files = vec![in alloc; String::from_str(alloc, "value")?]?;

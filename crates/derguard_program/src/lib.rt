@@ -20,20 +20,22 @@
 //! | What comes of a stream? | `guarding.rt` | `specs/Meeting.antt` (`GuardsStream`) |
 //! | What comes of a stream with notes? | `verbose.rt`, `watching.rt` | `specs/Watching.antt` |
 //! | What is noted? | `seen.rt`, `counts.rt` | `specs/Verbose.antt`, `specs/Counted.antt` |
+//! | What is said of a device that failed? | `saying.rt` | `specs/Saying.antt` |
 //! | What comes of many links with notes? | `watching_links.rt` | `specs/Muxing.antt` (`WatchesLinks`) |
 //! | What is seen of a link's frames? | `tallying.rt` | `specs/Tallying.antt` |
+//! | At which frame of its stream is a link's fault? | `begun.rt` | `specs/AtFault.antt`, `specs/inside/Begun.antt` |
 //! | What line has a frame that stays? | `reported.rt` | `specs/Watching.antt` (`Sees`) |
 //! | Which texts does a policy at a path need? | `texts.rt`, `files.rt` | `specs/Reading.antt`, `specs/Files.antt` |
-//! | What is shown of a fault where it is to be explained? | `explaining.rt` | `specs/Explaining.antt` |
-//! | What is said of each numbered fault? | `notes.rt` | `specs/Notes.antt` |
+//! | What is shown of a fault where it is to be explained? | `explaining.rt`, `guard_notes` | `specs/Explaining.antt` |
 //! | What is listed of a policy that is accepted? | `listing.rt` | `specs/Listing.antt` |
 //! | What is remarked of it where that counts? | `strictness.rt`, `parties.rt` | `specs/Strictness.antt`, `specs/Remarked.antt` |
 //! | What is shown of a message? | `values.rt` | `specs/Shown.antt` |
 //! | Which octets has a value that is written? | `encoding.rt`, `framing.rt` | `specs/Encodes.antt`, `specs/Framing.antt` |
 //! | Which value does a text write, and why none? | `written.rt` | `specs/ValueTexts.antt` |
+//! | Which cases does a text say, and which come out as they should? | `cases.rt`, `testing.rt` | `specs/Cases.antt`, `specs/Testing.antt` |
+//! | Which rules does no case reach? | `reached.rt`, `allowing.rt` | `specs/Reached.antt` |
 //! | What is all that a source gives? | `intake.rt` | `specs/Intake.antt` |
 //! | What is shown below a verdict where it is to be explained? | `reasons.rt`, `allowing.rt` | `specs/Reasons.antt` |
-//! | How is a line shown with a mark under a column? | `marking.rt` | `specs/Marking.antt` |
 //! | Which line and status has a fault? | `fault.rt`, `outputs.rt` | `specs/Faults.antt`, `specs/Writing.antt` |
 //! | Which policy is built in? | `first_run.rt` | `specs/FirstRun.antt` |
 //! | What is printed for its messages? | `first_run.rt` | `specs/Printing.antt` |
@@ -43,11 +45,12 @@ mod allowing;
 mod answer;
 mod answering;
 mod asking;
+mod begun;
+mod cases;
 mod checking;
 mod counts;
 mod deciding;
 mod encoding;
-mod ends;
 mod explaining;
 mod fault;
 mod files;
@@ -65,25 +68,26 @@ mod linked;
 mod links;
 mod listing;
 mod looking;
-mod marking;
 mod meeting;
 mod muxing;
-mod notes;
 mod numbered;
 mod octets;
 mod outputs;
 mod parties;
 mod passing;
 mod question;
+mod reached;
 mod reasons;
 mod records;
 mod reported;
 mod request;
+mod saying;
 mod seen;
 mod sinks;
 mod stop;
 mod strictness;
 mod tallying;
+mod testing;
 mod texts;
 mod values;
 mod verbose;
@@ -95,3 +99,4 @@ mod written;
 pub use files::{Files, FilesFault};
 pub use meeting::program;
 pub use outputs::{tell_no_memory, tell_text};
+pub use saying::{Failing, Says};

@@ -2,15 +2,18 @@
 ghost use Rattle.std.specs.Prelude.{◌≡◌};
 ghost use Rattle.derguard_program.specs.inside.Doing.{is_closed};
 
+use crate::begun::{Begun, bring, first_frames};
 use crate::checking::load;
+use crate::fault::Fault;
 use crate::files::Files;
 use crate::outputs::{FAILED, report};
 use crate::passing::{put_fault, put_renewed};
 use crate::records::LINKS;
+use crate::saying::{Says, said_of_fault};
 use crate::seen::Seen;
 use crate::sinks::{end_link, feed_link, new_sinks, pass_on};
 use crate::stop::Stop;
-use guard_frames::{Event, Gateway, Kept, LinkFault, Sink};
+use guard_frames::{Event, Gateway, Kept, LinkFault, Sink, put_all};
 use guard_model::OutOfMemory;
 use guard_policy::Policy;
 use std::alloc::Global;
@@ -24,10 +27,12 @@ pub struct Links {
     status: u8,
     /// What is seen of their frames, where notes are asked for.
     seen: Option<Seen>,
+    /// The frame that each of them has begun, where notes are asked for, and else its first one.
+    begun: Vec<Begun>,
 }
 
 impl Links {
-    ghost use Rattle.std.specs.Prelude.{◌≡◌, ◌≤◌, ◌⊎◌, Option, List, [], ℕ, Bool, true, false, max, Err, IfOk, OnOk, IfErr};
+    ghost use Rattle.std.specs.Prelude.{◌≡◌, ◌≤◌, ◌⊎◌, Option, List, [], ℕ, Bool, true, false, max, Err, IfOk, IfSome, OnOk, IfErr};
     ghost use Rattle.std.specs.Io.KnownBytes.{Appends};
     ghost use Rattle.guard_frames.specs.Prefix.{IsProperPrefix};
     ghost use Rattle.derguard_program.specs.declared.stop.Stop.TheVariants.{WriteFailed, ErrorFailed};
@@ -36,9 +41,10 @@ impl Links {
     ghost use Rattle.derguard_program.specs.Files.{Told};
     ghost use Rattle.derguard_program.specs.Records.Record.{piece, end, reload};
     ghost use Rattle.derguard_program.specs.Muxing.{new_mux, WritesPart, BreaksErr};
-    ghost use Rattle.derguard_program.specs.Passing.{fault_line};
+    ghost use Rattle.derguard_program.specs.Saying.{IsUnreadNote};
     ghost use Rattle.derguard_program.specs.Turns.{link_status, renewed_note};
-    ghost use Rattle.derguard_program.specs.inside.Doing.{IsReady, mux_of, IsTaken, IsCut, Is, HadEnded, AreEnded, IsEndCut};
+    ghost use Rattle.derguard_program.specs.inside.Begun.{IsSound, answer_lines};
+    ghost use Rattle.derguard_program.specs.inside.Doing.{IsReady, IsKept, mux_of, IsTaken, IsCut, Is, HadEnded, AreEnded, IsEndCut};
 
     /// Sixteen open links under this policy. Notes are asked for where something is seen.
     pub fn new(alloc: Global, policy: Policy, seen: Option<Seen>) -> Result<Links, OutOfMemory>
@@ -46,13 +52,16 @@ impl Links {
             → mux_of told links ≡ new_mux (policy_view policy) told seen) }
         ensures ready { IfOk result (λ links. IsReady links.gateway) }
         ensures status { IfOk result (λ links. links.status ≡ 0) }
+        ensures kept { IfOk result IsKept }
     {
         let ends = new_sinks(alloc, LINKS)?;
+        let begun = first_frames(alloc, LINKS)?;
         match Gateway::new(alloc, policy, ends) {
             Ok(gateway) => Ok(Links {
                 gateway,
                 status: 0,
                 seen,
+                begun,
             }),
             Err(_) => Err(OutOfMemory),
         }
@@ -83,6 +92,7 @@ impl Links {
     ) -> Result<(), Stop>
         requires link { link ≤ 15 }
         requires ready { IsReady self.old.gateway }
+        requires kept { IsKept self.old }
         ensures done { OnOk result ((path : List ℕ) (told : Told)
             → IsTaken path told self.old (piece link octets.now) told self.new
             (O.taken out.old, O.taken out.new) (E.taken err.old, E.taken err.new)) }
@@ -90,32 +100,38 @@ impl Links {
             → IsCut s path (mux_of told self.old) (piece link octets.now)
             (device_of O.taken O.has_failed out.old out.new)
             (device_of E.taken E.has_failed err.old err.new)) }
-        ensures kept { result ≡ Err WriteFailed → self.new.seen ≡ self.old.seen }
+        ensures unseen { result ≡ Err WriteFailed → self.new.seen ≡ self.old.seen }
+        ensures kept { OnOk result (IsKept self.new) }
     {
         let answer = feed_link(&mut self.gateway, alloc, link, octets);
+        let begun = bring(&mut self.begun, self.seen, link, octets);
         let is_reported = pass_on(&mut self.gateway, link, &mut self.seen, out, err)?;
         self.status = self.status.max(u8::from(is_reported));
-        self.tell_answer(link, answer, err)
+        self.tell_answer(link, answer, begun, err)
     }
 
     /// The end of a link's stream.
     pub fn end<E: Sink>(&mut self, alloc: Global, link: u16, err: &mut E) -> Result<(), Stop>
         requires link { link ≤ 15 }
         requires ready { IsReady self.old.gateway }
+        requires kept { IsKept self.old }
         ensures done { OnOk result ((path : List ℕ) (told : Told) (out : Option (List ℕ)) →
             IsTaken path told self.old (end link) told self.new (out, out) (E.taken err.old, E.taken err.new)) }
         ensures cut { IfErr result (λ s. (path : List ℕ) (told : Told) (out : Option (List ℕ)) (failed : Bool) →
             IsCut s path (mux_of told self.old) (end link) (device out out failed)
             (device_of E.taken E.has_failed err.old err.new)) }
         ensures seen { self.new.seen ≡ self.old.seen }
+        ensures kept { OnOk result (IsKept self.new) }
     {
         let answer = end_link(&mut self.gateway, alloc, link);
-        self.tell_answer(link, answer, err)
+        let begun = bring(&mut self.begun, self.seen, link, &[]);
+        self.tell_answer(link, answer, begun, err)
     }
 
     /// The end of each link's stream that hasn't ended, in order.
     pub fn end_all<E: Sink>(&mut self, alloc: Global, err: &mut E) -> Result<(), Stop>
         requires ready { IsReady self.old.gateway }
+        requires kept { IsKept self.old }
         ensures done { OnOk result ((path : List ℕ) (told : Told) →
             AreEnded path told self.old self.new (E.taken err.old, E.taken err.new)) }
         ensures cut { IfErr result (λ s. (s ≡ ErrorFailed)
@@ -138,6 +154,7 @@ impl Links {
     ) -> Result<(), Stop>
         requires link { link ≤ 15 }
         requires ready { IsReady self.old.gateway }
+        requires kept { IsKept self.old }
         ensures done { OnOk result (HadEnded link self.old self.new (E.taken err.old, E.taken err.new)
             ⊎ (Is false link self.old × ((path : List ℕ) (told : Told) (out : Option (List ℕ)) →
             IsTaken path told self.old (end link) told self.new (out, out) (E.taken err.old, E.taken err.new)))) }
@@ -145,24 +162,28 @@ impl Links {
             × ((path : List ℕ) (told : Told) (out : Option (List ℕ)) (failed : Bool)
             → WritesPart path (mux_of told self.old) (end link) []
             (device out out failed) (device_of E.taken E.has_failed err.old err.new) BreaksErr)) }
+        ensures kept { OnOk result (IsKept self.new) }
     {
         let answer = end_link(&mut self.gateway, alloc, link);
         if is_closed(answer) {
             return Ok(());
         }
-        self.tell_answer(link, answer, err)
+        let begun = bring(&mut self.begun, self.seen, link, &[]);
+        self.tell_answer(link, answer, begun, err)
     }
 
     /// Reads the policy at the path again, and notes that where notes are asked for. Where there is none, that is
-    /// reported, and the policy in force stays.
-    pub fn reload<F: Files, E: Sink>(
+    /// reported, with what the system says of it where notes are asked for, and the policy in force stays.
+    pub fn reload<F: Files, E: Sink, T: Says>(
         &mut self,
         alloc: Global,
         path: &str,
         files: &mut F,
         err: &mut E,
+        system: &T,
     ) -> Result<(), Stop>
         requires ready { IsReady self.old.gateway }
+        requires kept { IsKept self.old }
         ensures done { OnOk result ((out : Option (List ℕ))
             → IsTaken path.now (F.told files.old) self.old reload (F.told files.new) self.new
             (out, out) (E.taken err.old, E.taken err.new)) }
@@ -170,6 +191,7 @@ impl Links {
             → IsCut s path.now (mux_of (F.told files.old) self.old) reload
             (device out out failed) (device_of E.taken E.has_failed err.old err.new)) }
         ensures seen { self.new.seen ≡ self.old.seen }
+        ensures kept { OnOk result (IsKept self.new) }
     {
         match load(alloc, path, files) {
             Ok(policy) => {
@@ -180,7 +202,7 @@ impl Links {
             Err(fault) => match report(alloc, &fault, err) {
                 Ok(status) => {
                     self.status = self.status.max(status);
-                    Ok(())
+                    self.note_unread(alloc, &fault, err, system)
                 }
                 Err(_) => Err(Stop::ErrorFailed),
             },
@@ -204,25 +226,55 @@ impl Links {
         }
     }
 
-    /// Tells the fault of a link, where it answered with one.
+    /// Notes what the system says of a policy that can't be read again, where notes are asked for and there is memory
+    /// for that.
+    fn note_unread<E: Sink, T: Says>(
+        &self,
+        alloc: Global,
+        fault: &Fault,
+        err: &mut E,
+        system: &T,
+    ) -> Result<(), Stop>
+        ensures all { OnOk result ((note : List ℕ) × IsUnreadNote self.now.seen fault.now note
+            × Appends (E.taken err.old) (E.taken err.new) note) }
+        ensures part { IfErr result (λ s. (s ≡ ErrorFailed) × (E.has_failed err.new ≡ true) × ((note : List ℕ)
+            × (part : List ℕ) × IsUnreadNote self.now.seen fault.now note × IsProperPrefix part note
+            × Appends (E.taken err.old) (E.taken err.new) part)) }
+    {
+        if self.seen.is_none() {
+            return Ok(());
+        }
+        let Ok(note) = said_of_fault(alloc, fault, system) else {
+            return Ok(());
+        };
+        match put_all(err, note.as_slice()) {
+            Ok(()) => Ok(()),
+            Err(_) => Err(Stop::ErrorFailed),
+        }
+    }
+
+    /// Tells the fault of a link, where it answered with one, and notes at which frame it is, where that has begun.
     fn tell_answer<E: Sink>(
         &mut self,
         link: u16,
         answer: Result<(), LinkFault>,
+        begun: Option<Begun>,
         err: &mut E,
     ) -> Result<(), Stop>
-        ensures all { OnOk result (Appends (E.taken err.old) (E.taken err.new) (fault_line link answer)) }
+        requires { IfSome begun IsSound }
+        ensures all { OnOk result (Appends (E.taken err.old) (E.taken err.new) (answer_lines begun link answer)) }
         ensures part { IfErr result (λ s. (s ≡ ErrorFailed) × (E.has_failed err.new ≡ true) × ((part : List ℕ)
-            × IsProperPrefix part (fault_line link answer) × Appends (E.taken err.old) (E.taken err.new) part)) }
+            × IsProperPrefix part (answer_lines begun link answer) × Appends (E.taken err.old) (E.taken err.new) part)) }
         ensures status { self.new.status ≡ max self.old.status (link_status [] answer) }
         ensures gateway { self.new.gateway ≡ self.old.gateway }
         ensures seen { self.new.seen ≡ self.old.seen }
+        ensures begun { self.new.begun ≡ self.old.begun }
     {
         let Err(fault) = answer else {
             return Ok(());
         };
         self.status = self.status.max(FAILED);
-        match put_fault(err, link, fault) {
+        match put_fault(err, link, fault, begun) {
             Ok(()) => Ok(()),
             Err(_) => Err(Stop::ErrorFailed),
         }

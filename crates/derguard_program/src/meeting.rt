@@ -19,7 +19,9 @@ use crate::looking::{decide_asked, show_asked};
 use crate::muxing::mux;
 use crate::outputs::{tell_no_memory, tell_text, write};
 use crate::request::Request;
+use crate::saying::Says;
 use crate::strictness::check_strictly;
+use crate::testing::test;
 use crate::verbose::run_verbosely;
 use crate::watching_links::mux_verbosely;
 use crate::words::{VERSION, request_in};
@@ -35,13 +37,14 @@ use std::alloc::{AllocError, Global};
 ///
 /// Faults are looked for in this order: the words, the hexadecimal digits, the policy's file and its top, the files of
 /// the modules in listed order, the modules, the policy, the stream.
-pub fn program<F: Files, S: Source, O: Sink, E: Sink>(
+pub fn program<F: Files, S: Source, O: Sink, E: Sink, T: Says>(
     alloc: Global,
     words: &[&str],
     files: &mut F,
     input: &mut S,
     out: &mut O,
     err: &mut E,
+    system: &T,
 ) -> u8
     ensures words { 2 ≤ length words.now
         → Programs (map (λ w. w.now) words.now) (F.told files.old)
@@ -55,25 +58,26 @@ pub fn program<F: Files, S: Source, O: Sink, E: Sink>(
         (device_of E.taken E.has_failed err.old err.new) result }
 {
     if words.len() <= 1 {
-        return meet(alloc, &Request::First, files, input, out, err);
+        return meet(alloc, &Request::First, files, input, out, err, system);
     }
     let Ok(words) = joined(alloc, words) else {
         return tell_no_memory(err);
     };
     match request_in(alloc, &words) {
-        Ok(request) => meet(alloc, &request, files, input, out, err),
+        Ok(request) => meet(alloc, &request, files, input, out, err, system),
         Err(e) => show(alloc, &e, out, err),
     }
 }
 
 /// Meets the request, and answers the status.
-pub fn meet<F: Files, S: Source, O: Sink, E: Sink>(
+pub fn meet<F: Files, S: Source, O: Sink, E: Sink, T: Says>(
     alloc: Global,
     request: &Request,
     files: &mut F,
     input: &mut S,
     out: &mut O,
     err: &mut E,
+    system: &T,
 ) -> u8
     ensures { Meets (F.told files.old) (request_view request.now)
         (source_of S.tells S.takes S.has_failed input.old input.new)
@@ -98,18 +102,23 @@ pub fn meet<F: Files, S: Source, O: Sink, E: Sink>(
         Request::Decide(question) => decide_asked(alloc, question, files, input, out, err),
         Request::Show(question) => show_asked(alloc, question, files, input, out, err),
         Request::Encode(asked) => encode(alloc, asked, files, input, out, err),
+        Request::Test {
+            policy,
+            cases,
+            cover,
+        } => test(alloc, policy, *cases, *cover, files, out, err),
         Request::Run { policy, verbose } => {
-            guard_stream(alloc, policy, *verbose, files, input, out, err)
+            guard_stream(alloc, policy, *verbose, files, input, out, err, system)
         }
         Request::Ask { policy } => ask(alloc, policy, files, input, out, err),
         Request::Mux { policy, verbose } => {
-            guard_links(alloc, policy, *verbose, files, input, out, err)
+            guard_links(alloc, policy, *verbose, files, input, out, err, system)
         }
     }
 }
 
 /// Guards the stream that comes in, with notes where they are asked for.
-fn guard_stream<F: Files, S: Source, O: Sink, E: Sink>(
+fn guard_stream<F: Files, S: Source, O: Sink, E: Sink, T: Says>(
     alloc: Global,
     policy: &str,
     verbose: bool,
@@ -117,6 +126,7 @@ fn guard_stream<F: Files, S: Source, O: Sink, E: Sink>(
     input: &mut S,
     out: &mut O,
     err: &mut E,
+    system: &T,
 ) -> u8
     ensures { Meets (F.told files.old) (run policy.now verbose)
         (source_of S.tells S.takes S.has_failed input.old input.new)
@@ -124,14 +134,14 @@ fn guard_stream<F: Files, S: Source, O: Sink, E: Sink>(
         (device_of E.taken E.has_failed err.old err.new) result }
 {
     if verbose {
-        run_verbosely(alloc, policy, files, input, out, err)
+        run_verbosely(alloc, policy, files, input, out, err, system)
     } else {
         run(alloc, policy, files, input, out, err)
     }
 }
 
 /// Guards the links of the records that come in, with notes where they are asked for.
-fn guard_links<F: Files, S: Source, O: Sink, E: Sink>(
+fn guard_links<F: Files, S: Source, O: Sink, E: Sink, T: Says>(
     alloc: Global,
     policy: &str,
     verbose: bool,
@@ -139,6 +149,7 @@ fn guard_links<F: Files, S: Source, O: Sink, E: Sink>(
     input: &mut S,
     out: &mut O,
     err: &mut E,
+    system: &T,
 ) -> u8
     ensures { Meets (F.told files.old) (mux policy.now verbose)
         (source_of S.tells S.takes S.has_failed input.old input.new)
@@ -146,7 +157,7 @@ fn guard_links<F: Files, S: Source, O: Sink, E: Sink>(
         (device_of E.taken E.has_failed err.old err.new) result }
 {
     if verbose {
-        mux_verbosely(alloc, policy, files, input, out, err)
+        mux_verbosely(alloc, policy, files, input, out, err, system)
     } else {
         mux(alloc, policy, files, input, out, err)
     }

@@ -2,7 +2,7 @@
 ghost use Rattle.std.specs.Prelude.{◌≡◌, Err, length, OnOk, IfErr};
 ghost use Rattle.derguard_program.specs.Devices.{source_of, device_of};
 ghost use Rattle.derguard_program.specs.Muxing.{GuardsLinks, Finishes, Stops, TellsStop};
-ghost use Rattle.derguard_program.specs.inside.Doing.{IsReady, mux_of, IsTaken, IsCut, IsSeenBefore};
+ghost use Rattle.derguard_program.specs.inside.Doing.{IsReady, IsKept, mux_of, IsTaken, IsCut, IsSeenBefore};
 ghost use Rattle.derguard_program.specs.inside.Headers.{IsGood, record_of};
 ghost use Rattle.derguard_program.specs.declared.stop.Stop.TheVariants as stop;
 ghost use Rattle.derguard_program.specs.declared.stop.Stop.TheVariants.{WriteFailed};
@@ -14,6 +14,7 @@ use crate::outputs::{
     FAILED, tell, tell_bad_record, tell_failed_read, tell_failed_write, tell_no_memory,
 };
 use crate::records::{Header, MOST_READS, new_room, next_record};
+use crate::saying::{Says, Silent};
 use crate::stop::Stop;
 use guard_frames::{Sink, Source};
 use std::alloc::Global;
@@ -52,6 +53,7 @@ pub fn mux<F: Files, S: Source, O: Sink, E: Sink>(
         input,
         out,
         err,
+        &Silent,
     );
     match guarded {
         Ok(()) => links.status(),
@@ -73,7 +75,7 @@ fn tell_stop<E: Sink>(reason: Stop, err: &mut E) -> u8
 }
 
 /// Takes each record of the stream, and then the end of each link that wasn't ended.
-pub fn guard<F: Files, S: Source, O: Sink, E: Sink>(
+pub fn guard<F: Files, S: Source, O: Sink, E: Sink, T: Says>(
     alloc: Global,
     path: &str,
     files: &mut F,
@@ -82,9 +84,11 @@ pub fn guard<F: Files, S: Source, O: Sink, E: Sink>(
     input: &mut S,
     out: &mut O,
     err: &mut E,
+    system: &T,
 ) -> Result<(), Stop>
     requires room { length room.old ≡ 1048576 }
     requires ready { IsReady links.old.gateway }
+    requires kept { IsKept links.old }
     requires first { links.old.status ≡ 0 }
     ensures done { OnOk result ((f : Finishes path.now (mux_of (F.told files.old) links.old)
         (source_of S.tells S.takes S.has_failed input.old input.new)
@@ -104,13 +108,13 @@ pub fn guard<F: Files, S: Source, O: Sink, E: Sink>(
         let Some(header) = next_record(input, room, &mut reads)? else {
             return links.end_all(alloc, err);
         };
-        take_record(alloc, path, files, header, room, links, out, err)?;
+        take_record(alloc, path, files, header, room, links, out, err, system)?;
     }
     Err(Stop::ReadFailed)
 }
 
 /// Takes one record, whose octets are the first ones in the room.
-fn take_record<F: Files, O: Sink, E: Sink>(
+fn take_record<F: Files, O: Sink, E: Sink, T: Says>(
     alloc: Global,
     path: &str,
     files: &mut F,
@@ -119,21 +123,24 @@ fn take_record<F: Files, O: Sink, E: Sink>(
     links: &mut Links,
     out: &mut O,
     err: &mut E,
+    system: &T,
 ) -> Result<(), Stop>
     requires good { IsGood header }
     requires room { length room.now ≡ 1048576 }
     requires ready { IsReady links.old.gateway }
+    requires kept { IsKept links.old }
     ensures done { OnOk result (IsTaken path.now (F.told files.old) links.old (record_of header room.now)
         (F.told files.new) links.new
         (O.taken out.old, O.taken out.new) (E.taken err.old, E.taken err.new)) }
     ensures cut { IfErr result (λ s. IsCut s path.now (mux_of (F.told files.old) links.old) (record_of header room.now)
         (device_of O.taken O.has_failed out.old out.new)
         (device_of E.taken E.has_failed err.old err.new)) }
-    ensures kept { result ≡ Err WriteFailed → links.new.seen ≡ links.old.seen }
+    ensures unseen { result ≡ Err WriteFailed → links.new.seen ≡ links.old.seen }
+    ensures kept { OnOk result (IsKept links.new) }
 {
     match header {
         Header::Piece(link, size) => links.piece(alloc, link, &room[..size], out, err),
         Header::End(link) => links.end(alloc, link, err),
-        Header::Reload => links.reload(alloc, path, files, err),
+        Header::Reload => links.reload(alloc, path, files, err, system),
     }
 }

@@ -43,7 +43,7 @@ fn add_case_lines_at(text: &mut Vec<u8>, before: &[&str], name: &str) -> Result<
     }
 }
 
-fn is_among(before: &[&str], name: &str) -> bool
+pub fn is_among(before: &[&str], name: &str) -> bool
     ensures { result ≡ list_any (λ a. bytes_eq a name.now) (map (λ name. name.now) before.now) }
 {
     for other in before {

@@ -1,5 +1,5 @@
 //! What goes out of a link, and what is said of it.
-ghost use Rattle.std.specs.Prelude.{◌≡◌, ◌++◌, ◌∷◌, ◌+◌, ◌<◌, ◌≤◌, ◌≢◌, ℕ, List, true, codes, decimal, length, slice_index, OnOk, OnErr};
+ghost use Rattle.std.specs.Prelude.{◌≡◌, ◌++◌, ◌∷◌, ◌+◌, ◌<◌, ◌≤◌, ◌≢◌, ℕ, List, true, codes, decimal, length, slice_index, Err, OnOk, OnErr, IfSome};
 ghost use Rattle.std.specs.Io.KnownBytes.{Appends};
 ghost use Rattle.std.specs.List.{All};
 ghost use Rattle.guard_frames.specs.Calls.{AsksLines};
@@ -8,11 +8,15 @@ ghost use Rattle.guard_frames.specs.Prefix.{IsProperPrefix};
 ghost use Rattle.derguard_program.specs.Records.{header, record_octets};
 ghost use Rattle.derguard_program.specs.Records.Record.{piece};
 ghost use Rattle.derguard_program.specs.Turns.{renewed_line};
+ghost use Rattle.derguard_program.specs.AtFault.{begun_line};
+ghost use Rattle.derguard_program.specs.inside.Begun.{IsSound, begun_note, answer_lines};
 ghost use Rattle.derguard_program.specs.Passing.{InRecords, IsShort, lines_of, marked, marked_line, link_mark};
 
+use crate::begun::Begun;
 use crate::records::LONGEST;
 use arrayvec::ArrayVec;
-use guard_frames::{Failed, LinkFault, Sink, put_all, put_both};
+use guard_frames::{Failed, LinkFault, Sink, body_length, put_all, put_both};
+use guard_notes::first_line;
 use itoa::Buffer;
 
 /// The most octets of a line that goes in one call. A pipe and a file opened for appending take so many at once.
@@ -89,42 +93,94 @@ pub fn put_lines<E: Sink>(err: &mut E, link: u16, text: &[u8]) -> Result<(), Fai
     Ok(())
 }
 
-/// The octets before the first line feed, and those after it.
-pub fn first_line(text: &[u8]) -> (&[u8], &[u8])
-    requires { 0 < length text.now }
-    ensures shorter { length result.1.now < length text.now }
-    ensures lines { lines_of text.now ≡ result.0.now ∷ lines_of result.1.now }
+/// Puts the line of a link's fault, and then the note of the frame at which it is, where one has begun.
+pub fn put_fault<E: Sink>(
+    err: &mut E,
+    link: u16,
+    fault: LinkFault,
+    begun: Option<Begun>,
+) -> Result<(), Failed>
+    requires { IfSome begun IsSound }
+    ensures all { OnOk result (Appends (E.taken err.old) (E.taken err.new) (answer_lines begun link (Err fault))) }
+    ensures part { OnErr result ((part : List ℕ) × IsProperPrefix part (answer_lines begun link (Err fault))
+        × Appends (E.taken err.old) (E.taken err.new) part) }
+    ensures failed { OnErr result (E.has_failed err.new ≡ true) }
 {
-    let end = line_end(text);
-    if end < text.len() {
-        (&text[..end], &text[end + 1..])
-    } else {
-        (text, &[])
-    }
-}
-
-/// Where the first line feed is, or where the text ends.
-pub fn line_end(text: &[u8]) -> usize
-    ensures within { result ≤ length text.now }
-    ensures before { (k : ℕ) → k < result → slice_index text.now k ≢ 10 }
-    ensures there { result < length text.now → slice_index text.now result ≡ 10 }
-{
-    for (place, octet) in text.iter().enumerate() {
-        if *octet == b'\n' {
-            return place;
-        }
-    }
-    text.len()
+    put_fault_line(err, link, fault)?;
+    put_begun(err, link, fault, begun)?;
+    Ok(())
 }
 
 /// Puts the line of a link's fault.
-pub fn put_fault<E: Sink>(err: &mut E, link: u16, fault: LinkFault) -> Result<(), Failed>
+fn put_fault_line<E: Sink>(err: &mut E, link: u16, fault: LinkFault) -> Result<(), Failed>
     ensures all { OnOk result (Appends (E.taken err.old) (E.taken err.new) (marked_line link (fault_text fault))) }
     ensures part { OnErr result ((part : List ℕ) × IsProperPrefix part (marked_line link (fault_text fault))
         × Appends (E.taken err.old) (E.taken err.new) part) }
     ensures failed { OnErr result (E.has_failed err.new ≡ true) }
 {
     put_line(err, link, fault.text().as_bytes())
+}
+
+/// Puts the note of a frame that a fault of a link is at.
+fn put_begun<E: Sink>(
+    err: &mut E,
+    link: u16,
+    fault: LinkFault,
+    begun: Option<Begun>,
+) -> Result<(), Failed>
+    requires { IfSome begun IsSound }
+    ensures all { OnOk result (Appends (E.taken err.old) (E.taken err.new) (begun_note begun link (Err fault))) }
+    ensures part { OnErr result ((part : List ℕ) × IsProperPrefix part (begun_note begun link (Err fault))
+        × Appends (E.taken err.old) (E.taken err.new) part) }
+    ensures failed { OnErr result (E.has_failed err.new ≡ true) }
+{
+    let Some(begun) = begun else {
+        return Ok(());
+    };
+    match fault {
+        LinkFault::FrameTooLong => {
+            put_frame(
+                err,
+                link,
+                begun.number,
+                b"length",
+                body_length(&begun.front),
+            )
+        }
+        LinkFault::TornFrame => put_frame(err, link, begun.number, b"octets", begun.came),
+        LinkFault::WriteFailed | LinkFault::Closed => Ok(()),
+    }
+}
+
+/// Puts the note of a frame of a link, with a number of its octets behind the word, in one call.
+fn put_frame<E: Sink>(
+    err: &mut E,
+    link: u16,
+    number: u64,
+    word: &[u8],
+    count: usize,
+) -> Result<(), Failed>
+    requires { length word.now ≤ 6 }
+    ensures all { OnOk result (Appends (E.taken err.old) (E.taken err.new) (begun_line link number word.now count)) }
+    ensures part { OnErr result ((part : List ℕ) × IsProperPrefix part (begun_line link number word.now count)
+        × Appends (E.taken err.old) (E.taken err.new) part) }
+    ensures failed { OnErr result (E.has_failed err.new ≡ true) }
+    ensures lines { AsksLines (E.asked err.old) (E.asked err.new) }
+{
+    let mut first = Buffer::new();
+    let mut second = Buffer::new();
+    let mut third = Buffer::new();
+    let mut whole = MarkedLine::new();
+    add(&mut whole, b"derguard: link ");
+    add(&mut whole, first.format(link).as_bytes());
+    add(&mut whole, b", frame ");
+    add(&mut whole, second.format(number).as_bytes());
+    add(&mut whole, b", ");
+    add(&mut whole, word);
+    add(&mut whole, b" ");
+    add(&mut whole, third.format(count).as_bytes());
+    add(&mut whole, b"\n");
+    put_all(err, whole.as_slice())
 }
 
 /// Puts the note of a new policy of so many messages and rules, in one call.

@@ -9,21 +9,19 @@ ghost use Rattle.guard_policy.specs.Decisions.{IsReason};
 ghost use Rattle.guard_policy.specs.Policies.{declared_type};
 ghost use Rattle.guard_policy.specs.PolicyView.{policy_view, route_view, said_view};
 ghost use Rattle.guard_policy.specs.Verdicts.{verdict_view};
-ghost use Rattle.derguard_program.specs.Explaining.{place_lines, sources_view};
+ghost use Rattle.guard_notes.specs.Sources.{place_lines, sources_view};
 ghost use Rattle.derguard_program.specs.Listing.{places_in};
-ghost use Rattle.derguard_program.specs.Marking.{columns};
+ghost use Rattle.guard_notes.specs.Marking.{columns};
 ghost use Rattle.derguard_program.specs.Reasons.{step_name, name_at, name_before, part_shown, part_line, violation_lines, shortfall_lines, allowing_lines, lines_of_places, type_lines, denied_lines, OfValue, ExplainsVerdict};
-ghost use Rattle.derguard_program.specs.declared.notes.Place.TheVariants.{At};
+ghost use Rattle.guard_notes.specs.declared.notes.Place.TheVariants.{At};
 ghost use Rattle.derguard_program.specs.inside.Values.{HasValue};
 
 use crate::allowing::allowing_lines;
-use crate::explaining::{Sources, place_lines};
-use crate::marking::columns;
-use crate::notes::Place;
 use crate::octets::add;
 use guard_der::{DecodeFault, decode};
 use guard_eval::Violation;
 use guard_model::{Cons, OutOfMemory, Site, Step, Ty, Value};
+use guard_notes::{Place, Sources, columns, place_lines};
 use guard_policy::{Policy, Route, SaidRule, Verdict};
 use guard_report::{part_text, type_at};
 use std::alloc::Global;
@@ -125,7 +123,7 @@ fn not_allowed_note(
 }
 
 /// The declared type of the message, and the value of it that the octets encode.
-fn value_of<'a>(
+pub fn value_of<'a>(
     alloc: Global,
     policy: &'a Policy,
     message: &[u8],

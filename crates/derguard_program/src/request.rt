@@ -19,6 +19,12 @@ pub enum Request<'a> {
     Show(Question<'a>),
     /// The octets of a value that is written.
     Encode(Encoding<'a>),
+    /// Which cases come out as they should. Their file may be given, and the rules that none reaches asked for.
+    Test {
+        policy: &'a str,
+        cases: Option<&'a str>,
+        cover: bool,
+    },
     /// What may pass of the frames that come in. Notes may be asked for.
     Run {
         policy: &'a str,

@@ -44,18 +44,34 @@ pub fn last_notes(alloc: Global, seen: &Seen) -> Result<Vec<u8>, OutOfMemory>
     Ok(text)
 }
 
-/// The line of a fault and the notes behind it. Their one refusal is want of memory.
-pub fn fault_notes(alloc: Global, fault: RunFault, seen: &Seen) -> Result<Vec<u8>, OutOfMemory>
-    ensures { IfOk result (λ text. (said : List ℕ) × IsText (Run fault) said
-        × (text.items ≡ line_of said ++ fault_lines fault seen.now)) }
+/// The line of a fault and the notes behind it, with what the system says of it. Their one refusal is want of memory.
+pub fn fault_notes(
+    alloc: Global,
+    fault: RunFault,
+    said: &[u8],
+    seen: &Seen,
+) -> Result<Vec<u8>, OutOfMemory>
+    ensures { IfOk result (λ text. (name : List ℕ) × IsText (Run fault) name
+        × (text.items ≡ line_of name ++ fault_lines fault said.now seen.now)) }
 {
-    let said = Fault::Run(fault).text(alloc)?;
+    let mut text = line_with(alloc, &Fault::Run(fault), b"")?;
+    add_fault(&mut text, fault, seen)?;
+    add(&mut text, said)?;
+    add_last(&mut text, seen)?;
+    Ok(text)
+}
+
+/// The line of a fault and what comes after it. Their one refusal is want of memory.
+pub fn line_with(alloc: Global, fault: &Fault, note: &[u8]) -> Result<Vec<u8>, OutOfMemory>
+    ensures { IfOk result (λ text. (name : List ℕ) × IsText fault.now name
+        × (text.items ≡ line_of name ++ note.now)) }
+{
+    let name = fault.text(alloc)?;
     let mut text = Vec::new(alloc);
     add(&mut text, b"derguard: ")?;
-    add(&mut text, said.as_bytes())?;
+    add(&mut text, name.as_bytes())?;
     add(&mut text, b"\n")?;
-    add_fault(&mut text, fault, seen)?;
-    add_last(&mut text, seen)?;
+    add(&mut text, note)?;
     Ok(text)
 }
 

@@ -5,9 +5,9 @@ ghost use Rattle.derguard_program.specs.Passing.{lines_of};
 ghost use Rattle.derguard_program.specs.Tallying.{Tallies, totals_after};
 
 use crate::frames::{LENGTH, LONGEST_BODY};
-use crate::passing::first_line;
 use crate::seen::Seen;
 use guard_frames::{Totals, body_length};
+use guard_notes::first_line;
 
 /// What is seen after an event that added these octets to the sinks of a link.
 pub fn tallied(seen: Seen, out: &[u8], reports: &[u8]) -> Seen

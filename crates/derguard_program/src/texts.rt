@@ -1,12 +1,14 @@
 //! The texts of a policy and of its modules.
 ghost use Rattle.std.specs.Prelude.{◌≡◌, ◌++◌, map, string_bytes, IfOk, IfErr};
-ghost use Rattle.derguard_program.specs.Files.{HasText, after_read, IsLater};
+ghost use Rattle.guard_policy.specs.Loads.{ListsFiles};
+ghost use Rattle.derguard_program.specs.Files.{Told, HasText, after_read, IsLater};
 ghost use Rattle.derguard_program.specs.Reading.{folder, HaveTexts, AreTexts, IsNoPolicyAt};
 ghost use Rattle.derguard_program.specs.Explaining.{AreTextsOf};
 ghost use Rattle.derguard_program.specs.inside.Texts.{CannotBeRead, CannotAllBeRead, IsBeforeModules};
 
 use crate::fault::Fault;
 use crate::files::{Files, FilesFault};
+use guard_notes::beside;
 use guard_policy::module_files;
 use std::alloc::{AllocError, Global};
 
@@ -29,12 +31,10 @@ impl Texts {
         ensures listed { IfOk result (λ texts. AreTextsOf (F.told files.old) path.now texts.policy.items
             (map string_bytes texts.files.items) (map (λ text. text.items) texts.modules.items)) }
         ensures missing { IfErr result (IsNoPolicyAt (F.told files.old) path.now) }
-        ensures before { IfErr result IsBeforeModules }
         ensures later { IsLater (F.told files.old) (F.told files.new) }
     {
         let policy = read(alloc, path, files)?;
-        let listed = module_files(alloc, &policy)?;
-        let modules = read_modules(alloc, path, &listed, files)?;
+        let (listed, modules) = beside_policy(alloc, path, &policy, files)?;
         Ok(Texts {
             policy,
             files: listed,
@@ -53,6 +53,26 @@ impl Texts {
         }
         Ok(slices)
     }
+}
+
+/// The files that the policy's text lists, and their texts beside the policy at the path, which was read before.
+pub fn beside_policy<F: Files>(
+    alloc: Global,
+    path: &str,
+    policy: &[u8],
+    files: &mut F,
+) -> Result<(Vec<String>, Vec<Vec<u8>>), Fault>
+    ensures listed { IfOk result (λ p. ListsFiles policy.now (map string_bytes p.0.items)) }
+    ensures read { IfOk result (λ p. HaveTexts (F.told files.old) (folder path.now) (map string_bytes p.0.items)
+        (map (λ text. text.items) p.1.items)) }
+    ensures missing { (told : Told) → HasText told path.now policy.now → F.told files.old ≡ after_read told
+        → IfErr result (IsNoPolicyAt told path.now) }
+    ensures before { IfErr result IsBeforeModules }
+    ensures later { IsLater (F.told files.old) (F.told files.new) }
+{
+    let listed = module_files(alloc, policy)?;
+    let modules = read_modules(alloc, path, &listed, files)?;
+    Ok((listed, modules))
 }
 
 /// The texts of these files, beside the policy at the path.
@@ -87,16 +107,5 @@ pub fn read<F: Files>(alloc: Global, path: &str, files: &mut F) -> Result<Vec<u8
         Ok(text) => Ok(text),
         Err(FilesFault::CannotRead) => Err(Fault::CannotRead(String::from_str(alloc, path)?)),
         Err(FilesFault::OutOfMemory) => Err(Fault::NoMemory),
-    }
-}
-
-/// The path of a file of this name in the folder of the other path: that one up to and with its last `/`, and then the
-/// name.
-pub fn beside(alloc: Global, path: &str, name: &str) -> Result<String, AllocError>
-    ensures { IfOk result (λ place. string_bytes place ≡ folder path.now ++ name.now) }
-{
-    match path.rsplit_once('/') {
-        Some((folder, _)) => format!(in alloc; "{folder}/{name}"),
-        None => String::from_str(alloc, name),
     }
 }

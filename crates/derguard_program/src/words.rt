@@ -2,7 +2,7 @@
 ghost use Rattle.std.specs.Prelude.{◌≡◌, ℕ, List, Some, codes, false, map, option_map, string_bytes, IfOk, IfErr};
 ghost use Rattle.clap.specs.Words.{HasKind, Row, Text, app_of, fault_of, first_of, found_of, rows_of, rule_of, shape_of, subcommand_rows_of};
 ghost use Rattle.derguard_program.specs.Requests.{AbstractRequest, request_view};
-ghost use Rattle.derguard_program.specs.Words.{AreFound, IsCommand, ask_shape, check_shape, decide_shape, encode_shape, flag_of, flag_rule, free_option_rule, free_place_rule, free_rule, mux_shape, option_rule, place_rule, required_rule, run_shape, show_shape, the_app};
+ghost use Rattle.derguard_program.specs.Words.{AreFound, IsCommand, ask_shape, check_shape, decide_shape, encode_shape, flag_of, flag_rule, free_option_rule, free_place_rule, free_rule, mux_shape, option_rule, place_rule, required_rule, run_shape, show_shape, test_shape, the_app};
 
 use crate::encoding::Encoding;
 use crate::question::Question;
@@ -17,7 +17,7 @@ const ABOUT: &str =
     "Lets through the DER messages that a policy over ASN.1 types allows, and says why it stops others. Without words it decides four messages that are built in.";
 
 const EXAMPLE: &str =
-    "Example:\n  derguard check examples/orders.toml\n\nStatuses: 0 all passed, 1 something was denied, 2 bad words, policy, modules or hexadecimal digits, or a file that can't be read, 3 a stream or a device failed, or no memory.";
+    "Example:\n  derguard check examples/orders.toml\n\nStatuses: 0 all passed, was accepted, shown or encoded; 1 something was stopped or remarked, show has no value, or encode's value is outside its type or its message isn't declared; 2 bad words, policy, modules, digits or text of a value, a file that can't be read, a message that is too long, or a frame that isn't there or can't be made; 3 a stream, link, record or device failed, or no memory.";
 
 const CHECK_EXAMPLE: &str = "Example:\n  derguard check examples/orders.toml --explain";
 
@@ -29,6 +29,8 @@ const SHOW_EXAMPLE: &str =
 
 const ENCODE_EXAMPLE: &str =
     "Example:\n  derguard encode examples/orders.toml --message order '{id 5, kind sell, lines {7}}'";
+
+const TEST_EXAMPLE: &str = "Example:\n  derguard test examples/orders.toml";
 
 const RUN_EXAMPLE: &str = "Example:\n  derguard run examples/orders.toml < examples/orders.frames";
 
@@ -92,6 +94,11 @@ fn request_of<'a>(matches: &ArgMatches<'a>) -> Request<'a>
             to: given(found, "to"),
             der: flag(found, "der"),
         }),
+        Some(("test", found)) => Request::Test {
+            policy: text(found, "policy"),
+            cases: given(found, "cases"),
+            cover: flag(found, "cover"),
+        },
         Some(("run", found)) => Request::Run {
             policy: text(found, "policy"),
             verbose: flag(found, "verbose"),
@@ -153,6 +160,7 @@ fn command<'a>(alloc: Global) -> Result<Command<'a>, AllocError>
         .subcommand(decide(alloc)?)?
         .subcommand(show(alloc)?)?
         .subcommand(encode(alloc)?)?
+        .subcommand(test(alloc)?)?
         .subcommand(run(alloc)?)?
         .subcommand(ask(alloc)?)?
         .subcommand(mux(alloc)?)
@@ -228,6 +236,21 @@ fn encode<'a>(alloc: Global) -> Result<Command<'a>, AllocError>
         .arg(free_option(alloc, "from", "The sender's name, for a frame."))?
         .arg(free_option(alloc, "to", "The receiver's name, for a frame."))?
         .arg(switch(alloc, "der", "Writes the octets themselves."))
+}
+
+fn test<'a>(alloc: Global) -> Result<Command<'a>, AllocError>
+    ensures { IfOk result (λ c. shape_of c ≡ test_shape) }
+{
+    Command::new(alloc, "test")
+        .about("Says which cases that are kept beside a policy don't come out as they should.")
+        .after_help(TEST_EXAMPLE)
+        .arg(policy(alloc))?
+        .arg(
+            free(alloc, "cases").value_name("CASES").help(
+                "The file of cases; without it, tests.toml beside the policy.",
+            ),
+        )?
+        .arg(switch(alloc, "cover", "Lists the rules that no case reaches."))
 }
 
 fn run<'a>(alloc: Global) -> Result<Command<'a>, AllocError>

@@ -23,12 +23,12 @@ ghost use Rattle.derguard_program.specs.Encodes.{IsEncoding};
 ghost use Rattle.derguard_program.specs.ValueTexts.{no_values, IsNoValue, OfText};
 ghost use Rattle.derguard_program.specs.inside.Assigned.{assigned, sites_around, AssignsOne, IsLexFault, IsSyntaxFault, IsUnexpected, IsValueFault, syntax_refusal, value_refusal};
 
-use crate::ends::end_of;
 use crate::fault::Fault;
 use guard_der::{EncodeFault, encode};
 use guard_lexer::{LexFault, Mark, Reserved, Token, TokenKind, tokens};
 use guard_model::{OutOfMemory, Site, Ty, Value};
 use guard_names::resolve;
+use guard_notes::end_of;
 use guard_schema::SchemaFault;
 use guard_syntax::{Module, SyntaxFault, ValueTree, parse};
 use guard_values::{Known, ValueFault, value};

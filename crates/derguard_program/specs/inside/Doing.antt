@@ -24,6 +24,7 @@ use Rattle.derguard_program.specs.Files.{Told}
 use Rattle.derguard_program.specs.Muxing.{WritesPart, BreaksOut, BreaksErr, Stops}
 use Rattle.derguard_program.specs.Passing.{InRecords, marked}
 use Rattle.derguard_program.specs.Records.{Record}
+use Rattle.derguard_program.specs.inside.Begun.{AreKept}
 use Rattle.derguard_program.specs.Turns.{AbstractMux, Written, Happens, InTurn, all_out, all_err, status_of, ends_left}
 
 -- ---- the sinks of a link
@@ -95,6 +96,10 @@ AreCut ErrorFailed link ends out err = IsErrCut link ends out err
 -- the links, what reads of files to come find, and what is seen
 abbrev pub mux_of : Told → Links → AbstractMux
 mux_of told l = record { told = told; gateway = gateway_view l.gateway; seen = l.seen }
+
+-- What is known of the frames that the links have begun is so.
+abbrev pub IsKept : Links → Type 0
+IsKept l = AreKept l.seen l.begun.items (gateway_view l.gateway).links
 
 -- The record was taken, and all that is written of it is out.
 pub record IsTaken (path : List ℕ) (told_old : Told) (old : Links) (r : Record) (told_new : Told) (new : Links)

@@ -8,7 +8,7 @@ returns c =
     let old = c.args.text.now.items in
     let end : List ℕ = codes "\n" in
     on_ok_weaker c.add-3.result
-    (λ e. three_added old (codes "  allowed by ") c.as_bytes.result.now end c.add.new.text.items c.add-2.new.text.items c.add-3.new.text.items
+    (λ e. three_added old c.args.start.now c.as_bytes.result.now end c.add.new.text.items c.add-2.new.text.items c.add-3.new.text.items
     c.in_ok-add.ensures c.in_ok-add-2.ensures e
-    ∙ ap (λ (name : List ℕ). old ++ ((codes "  allowed by " ++ name) ++ end)) c.as_bytes.ensures.value)
+    ∙ ap (λ (name : List ℕ). old ++ ((c.args.start.now ++ name) ++ end)) c.as_bytes.ensures.value)
     c.add-3.ensures

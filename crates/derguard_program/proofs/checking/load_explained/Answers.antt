@@ -1,8 +1,11 @@
-use Rattle.std.specs.Prelude.{string_bytes}
-use Rattle.derguard_program.proofs.ExplainedFaults.{explained}
+use Rattle.std.proofs.Common.{map, string_bytes}
+use Rattle.std.proofs.lemmas.Result.{IfErr-weaker}
+use Rattle.derguard_program.proofs.ExplainedFaults as laws
 use Rattle.derguard_program.proofs.checking.load_explained.Goals as goal
 
-pub returns-in-Err-clause-none : goal.returns-in-Err-clause-none
-returns-in-Err-clause-none g c =
-    explained (g.F.Files.told c.args.files.now) c.args.path.now c.in-Err.fault c.new.result.fault
-    (string_bytes c.new.result.note) c.in-Err.ensures.before c.in-Err.ensures.missing (rw c.of_path.ensures at c.new.ensures)
+pub returns-in-Ok-clause-none : goal.returns-in-Ok-clause-none
+returns-in-Ok-clause-none g c =
+    let t = c.in-Ok.texts in
+    IfErr-weaker c.said_explained.result _ _ (λ r h.
+    laws.said_explained (g.F.Files.told c.args.files.now) c.args.path.now (string_bytes r.note) t.policy.items (map string_bytes t.files.items) (map (λ text. text.items) t.modules.items)
+    c.in-Ok.ensures.listed r.fault h) c.said_explained.ensures.none

@@ -1,6 +1,6 @@
 use Rattle.std.proofs.Common.{map, string_bytes}
-use Rattle.std.proofs.lemmas.Result.{IfOk-weaker}
-use Rattle.derguard_program.proofs.ExplainedFaults.{explained}
+use Rattle.std.proofs.lemmas.Result.{IfOk-weaker, IfErr-weaker}
+use Rattle.derguard_program.proofs.ExplainedFaults as laws
 use Rattle.derguard_program.proofs.deciding.explain_held.Goals as goal
 
 pub returns-in-Ok-clause-decided : goal.returns-in-Ok-clause-decided
@@ -13,7 +13,9 @@ returns-in-Ok-clause-decided g c =
       h,
     )) c.explain_over.ensures.decided
 
-pub returns-in-Err-clause-undecided : goal.returns-in-Err-clause-undecided
-returns-in-Err-clause-undecided g c =
-    explained (g.F.Files.told c.args.files.now) c.args.path.now c.in-Err.fault c.new.result.fault
-    (string_bytes c.new.result.note) c.in-Err.ensures.before c.in-Err.ensures.missing (rw c.of_path.ensures at c.new.ensures)
+pub returns-in-Ok-clause-undecided : goal.returns-in-Ok-clause-undecided
+returns-in-Ok-clause-undecided g c =
+    let t = c.in-Ok.texts in
+    IfErr-weaker c.explain_over.result _ _ (λ r h.
+    laws.said_explained (g.F.Files.told c.args.files.now) c.args.path.now (string_bytes r.note) t.policy.items (map string_bytes t.files.items) (map (λ text. text.items) t.modules.items)
+    c.in-Ok.ensures.listed r.fault h) c.explain_over.ensures.undecided

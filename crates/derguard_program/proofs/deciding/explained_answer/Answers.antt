@@ -3,7 +3,7 @@ use Rattle.std.specs.Prelude.{IfOk}
 use Rattle.guard_policy.specs.Policies.{AbstractRoute}
 use Rattle.guard_policy.specs.PolicyView.{policy_view}
 use Rattle.derguard_program.specs.Answers.{answer_view, IsExplainedVerdict}
-use Rattle.derguard_program.specs.Explaining.{sources_view}
+use Rattle.guard_notes.specs.Sources.{sources_view}
 use Rattle.derguard_program.proofs.deciding.explained_answer.Goals as goal
 
 pub returns-in-Some : goal.returns-in-Some

@@ -1,8 +1,7 @@
-use Rattle.std.proofs.Common.{◌≡◌, ◌∙◌, Bool, refl, subst, sym, inl, inr, true, false}
+use Rattle.std.proofs.Common.{◌≡◌, ◌∙◌, Bool, refl, subst, sym, inl, inr, true}
 use Rattle.std.proofs.lemmas.Result.{IfOk-weaker, IfErr-weaker}
 use Rattle.derguard_program.specs.Devices.{input_of}
 use Rattle.derguard_program.specs.Finding.{is_input, IsKeptBy, IsNotKeptBy}
-use Rattle.derguard_program.proofs.KeptOctets.{not_kept}
 use Rattle.derguard_program.proofs.finding.all_at.Goals as goal
 
 pub returns-then-eq-clause-there : goal.returns-then-eq-clause-there

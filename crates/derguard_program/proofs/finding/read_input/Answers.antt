@@ -1,4 +1,4 @@
-use Rattle.std.proofs.Common.{inl, inr, refl}
+use Rattle.std.proofs.Common.{inl, refl}
 use Rattle.derguard_program.proofs.finding.read_input.Goals as goal
 
 pub returns-in-Err-Lost-clause-lost : goal.returns-in-Err-Lost-clause-lost

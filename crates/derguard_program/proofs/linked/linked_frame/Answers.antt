@@ -1,6 +1,5 @@
-use Rattle.std.proofs.Common.{◌∙◌, ◌≤◌, ◌^◌, arith, [], inr}
+use Rattle.std.proofs.Common.{◌∙◌, ◌≤◌, ◌^◌, arith}
 use Rattle.std.proofs.lemmas.Result.{err_from_is_err_and}
-use Rattle.guard_frames.proofs.Reading.{Consumes_none}
 use Rattle.derguard_program.specs.inside.Headers.{record_of}
 use Rattle.derguard_program.specs.inside.Passed.{Completes}
 use Rattle.derguard_program.proofs.FramesAnswered.{found_size}

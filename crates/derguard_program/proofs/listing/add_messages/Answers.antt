@@ -1,4 +1,4 @@
-use Rattle.std.proofs.Common.{◌≡◌, ◌≤◌, ◌∙◌, ◌++◌, List, length, map, drop, sym, ap, arith}
+use Rattle.std.proofs.Common.{◌≤◌, ◌∙◌, ◌++◌, List, length, map, sym, ap, arith}
 use Rattle.std.proofs.lemmas.List.{drop_all, append-nil}
 use Rattle.guard_policy.specs.Policies.{AbstractMessage}
 use Rattle.guard_policy.specs.PolicyView.{policy_view}

@@ -1,6 +1,6 @@
-use Rattle.std.proofs.Common.{◌≡◌, ◌∙◌, ap, inl, inr, refl, subst}
-use Rattle.std.specs.Prelude.{Option, option_map}
-use Rattle.guard_frames.specs.Bodies.{AbstractBody, body_view}
+use Rattle.std.proofs.Common.{◌∙◌, ap, inl, subst}
+use Rattle.std.specs.Prelude.{Option}
+use Rattle.guard_frames.specs.Bodies.{AbstractBody}
 use Rattle.derguard_program.specs.Devices.{device}
 use Rattle.guard_policy.specs.Policies.{AbstractRoute}
 use Rattle.derguard_program.specs.Questions.{asked_route, question_view, spot_view}

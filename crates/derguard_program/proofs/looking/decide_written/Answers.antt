@@ -1,5 +1,5 @@
-use Rattle.std.proofs.Common.{Bool, subst, sym, string_bytes}
-use Rattle.std.specs.Prelude.{IfOk, IfErr}
+use Rattle.std.proofs.Common.{Bool, subst, sym}
+use Rattle.std.specs.Prelude.{IfOk}
 use Rattle.guard_policy.specs.Policies.{AbstractRoute}
 use Rattle.derguard_program.specs.Answers.{answer_view, IsDecided, IsDecidedExplained, IsUndecided}
 use Rattle.derguard_program.specs.Deciding.{GivesWritten}

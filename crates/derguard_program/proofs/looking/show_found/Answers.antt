@@ -1,4 +1,4 @@
-use Rattle.std.proofs.Common.{◌≡◌, ◌∙◌, ap, inl, inr, refl, subst}
+use Rattle.std.proofs.Common.{◌∙◌, ap, inl, subst}
 use Rattle.std.specs.Prelude.{Option, option_map}
 use Rattle.guard_frames.specs.Bodies.{AbstractBody, body_view}
 use Rattle.derguard_program.specs.Devices.{device}

@@ -1,4 +1,4 @@
-use Rattle.std.proofs.Common.{Bool, false, refl, subst, sym, true}
+use Rattle.std.proofs.Common.{Bool, false, refl, subst, sym}
 use Rattle.derguard_program.specs.declared.request.Request.{Request}
 use Rattle.derguard_program.specs.Answers.{IsFirst, IsNoFirst, IsChecked, IsCheckedExplained}
 use Rattle.derguard_program.specs.Devices.{input_of, device}
@@ -74,3 +74,11 @@ returns-in-Encode g c =
     let out = device (g.O.Sink.taken c.args.out.now) (g.O.Sink.taken c.encode.new.out) (g.O.Sink.has_failed c.encode.new.out) in
     let err = device (g.E.Sink.taken c.args.err.now) (g.E.Sink.taken c.encode.new.err) (g.E.Sink.has_failed c.encode.new.err) in
     subst (λ (r : Request). Meets told (request_view r) input out err c.encode.result) (sym c.in-Encode.is) c.encode.ensures
+
+pub returns-in-Test : goal.returns-in-Test
+returns-in-Test g c =
+    let told = g.F.Files.told c.args.files.now in
+    let input = input_of (g.S.Source.tells c.args.input.now) (g.S.Source.tells c.args.input.now) (g.S.Source.takes c.args.input.now) (g.S.Source.takes c.args.input.now) (g.S.Source.has_failed c.args.input.now) in
+    let out = device (g.O.Sink.taken c.args.out.now) (g.O.Sink.taken c.test.new.out) (g.O.Sink.has_failed c.test.new.out) in
+    let err = device (g.E.Sink.taken c.args.err.now) (g.E.Sink.taken c.test.new.err) (g.E.Sink.has_failed c.test.new.err) in
+    subst (λ (r : Request). Meets told (request_view r) input out err c.test.result) (sym c.in-Test.is) ((refl, refl), c.test.ensures)

@@ -13,6 +13,7 @@ loop-init g c = record {
   taken = none_taken c.args.path.now _ _ _ (g.F.Files.told c.args.files.now) c.args.links.now c.requires.first
       c.requires.ready;
   asked = omega arith;
+  kept = c.requires.kept;
   left = omega arith;
 }
 
@@ -56,7 +57,7 @@ returns-in_err-take_record-clause-stops g c =
     (record_of c.in-Some.header c.next_record.new.room)
     (allowed_of c.in-Some.header c.next_record.new.room n.0 (c.next_record.auto.room ∙ c.loop.auto.room
     ∙ c.requires.room)) n.2 c.in_err-take_record.ensures.cut _
-    (λ is. c.take_record.ensures.kept (c.in_err-take_record.was ∙ ap Err is)))
+    (λ is. c.take_record.ensures.unseen (c.in_err-take_record.was ∙ ap Err is)))
 
 pub loop-preserved : goal.loop-preserved
 loop-preserved g c =
@@ -69,6 +70,7 @@ loop-preserved g c =
           ∙ c.requires.room)) n.2 c.in_ok-take_record.ensures.done;
       asked = asked_more _ _ _ (2 ^ 40) c.loop.reads c.next_record.new.reads
           (omega (arith, i.left)) c.in_ok-header.ensures.fewer i.asked c.in_ok-header.ensures.counted;
+      kept = c.in_ok-take_record.ensures.kept;
       left = omega (arith, i.left, n.1);
     }
 

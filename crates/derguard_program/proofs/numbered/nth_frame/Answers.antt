@@ -1,10 +1,9 @@
-use Rattle.std.proofs.Common.{◌≡◌, ◌<◌, ◌≤◌, ◌^◌, ◌-◌, [], take, ℕ, arith}
-use Rattle.std.specs.Prelude.{Option, Some, None, IfSome, IfOk}
+use Rattle.std.proofs.Common.{◌<◌, ◌≤◌, ◌^◌, take, ℕ, arith}
 use Rattle.std.specs.Io.KnownBytes.{Consumes}
 use Rattle.std.proofs.lemmas.Result.{err_from_is_err_and}
 use Rattle.guard_frames.specs.Frames.{IsFrame}
 use Rattle.derguard_program.proofs.FramesAnswered.{found_size}
-use Rattle.derguard_program.proofs.FramesPassed.{none_passed, one_passed, nth_is, has_fewer, stops_before}
+use Rattle.derguard_program.proofs.FramesPassed.{none_passed, one_passed, stops_before}
 use Rattle.derguard_program.proofs.RecordLaws.{asked_more}
 use Rattle.derguard_program.proofs.Taking.{asked_all}
 use Rattle.derguard_program.proofs.numbered.nth_frame.Goals as goal

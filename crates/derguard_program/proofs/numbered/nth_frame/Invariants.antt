@@ -1,4 +1,4 @@
-use Rattle.std.proofs.Common.{◌≡◌, ◌+◌, ◌-◌, ◌≤◌, ◌<◌, ◌^◌}
+use Rattle.std.proofs.Common.{◌-◌, ◌≤◌, ◌<◌, ◌^◌}
 use Rattle.guard_frames.specs.Totals.{WentUpBy}
 use Rattle.derguard_program.proofs.FramesPassed.{PassedSoFar}
 use Rattle.derguard_program.proofs.numbered.nth_frame.Given as goal

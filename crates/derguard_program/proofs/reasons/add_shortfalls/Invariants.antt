@@ -2,7 +2,7 @@ use Rattle.std.proofs.Common.{◌≡◌, ◌++◌, drop, map}
 use Rattle.guard_model.specs.TypeView.{type_view}
 use Rattle.guard_model.specs.ValueView.{value_view}
 use Rattle.guard_eval.specs.Violations.{shortfall_view}
-use Rattle.derguard_program.specs.Explaining.{sources_view}
+use Rattle.guard_notes.specs.Sources.{sources_view}
 use Rattle.derguard_program.specs.Reasons.{shortfall_lines}
 use Rattle.derguard_program.proofs.reasons.add_shortfalls.Given as goal
 

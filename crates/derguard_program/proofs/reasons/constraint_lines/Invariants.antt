@@ -1,6 +1,6 @@
 use Rattle.std.proofs.Common.{◌≡◌, ◌++◌, drop, map}
 use Rattle.guard_model.specs.TypeView.{constraint_view, constraints_of}
-use Rattle.derguard_program.specs.Explaining.{sources_view}
+use Rattle.guard_notes.specs.Sources.{sources_view}
 use Rattle.derguard_program.specs.Listing.{places_in}
 use Rattle.derguard_program.specs.Reasons.{lines_of_places}
 use Rattle.derguard_program.proofs.reasons.constraint_lines.Given as goal

@@ -1,4 +1,4 @@
-use Rattle.std.proofs.Common.{◌≡◌, ◌∙◌, List, Some, Option, Bor, option_map, ℕ, ap, sym}
+use Rattle.std.proofs.Common.{◌∙◌, List, Some, Option, Bor, option_map, ℕ, ap, sym}
 use Rattle.guard_model.specs.AbstractType.{AbstractType}
 use Rattle.guard_model.specs.TypeView.{type_view}
 use Rattle.derguard_program.specs.Reasons.{step_name, name_at}

@@ -1,5 +1,4 @@
-use Rattle.std.proofs.Common.{◌-◌, ℕ, ◌<◌, ◌≤◌, arith}
-use Rattle.guard_frames.specs.Totals.{WentUpBy}
+use Rattle.std.proofs.Common.{arith}
 use Rattle.derguard_program.proofs.RecordLaws.{Consumes_more, asked_once}
 use Rattle.derguard_program.proofs.records.fill.Goals as goal
 

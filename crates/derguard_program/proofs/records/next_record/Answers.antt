@@ -1,4 +1,4 @@
-use Rattle.std.proofs.Common.{arith, length, inr}
+use Rattle.std.proofs.Common.{arith, inr}
 use Rattle.std.proofs.lemmas.List.{length-take}
 use Rattle.std.proofs.lemmas.Result.{err_from_is_err_and}
 use Rattle.derguard_program.proofs.RecordReading.{piece_lost, lost_none, whole_piece, header_read, good_piece}

@@ -1,4 +1,4 @@
-use Rattle.std.proofs.Common.{◌≡◌, ◌∙◌, true, false, inl, inr, refl, subst, sym, Result}
+use Rattle.std.proofs.Common.{[], ◌≡◌, ◌∙◌, true, false, inl, inr, refl, subst, sym, Result}
 use Rattle.guard_policy.specs.PolicyView.{policy_view}
 use Rattle.guard_frames.specs.declared.running.RunFault.{RunFault}
 use Rattle.derguard_program.specs.Devices.{device}
@@ -8,10 +8,10 @@ use Rattle.derguard_program.proofs.FramesWatched.{ok_no_failure, another_failed}
 use Rattle.derguard_program.proofs.verbose.run_verbosely.Goals as goal
 
 pub returns-in-Err : goal.returns-in-Err
-returns-in-Err g c = inl (c.in-Err.fault, c.in-Err.ensures.none, (refl, refl), refl, c.tell.ensures)
+returns-in-Err g c = inl (c.in-Err.fault, c.in-Err.ensures.none, (refl, refl), refl, c.tell_unread.ensures)
 
 pub returns-in_default : goal.returns-in_default
-returns-in_default g c = inl (NoMemory, inr (inr refl), (refl, refl), refl, inr c.tell_no_memory.ensures)
+returns-in_default g c = inl (NoMemory, inr (inr refl), (refl, refl), refl, ([], refl, inr c.tell_no_memory.ensures))
 
 pub returns-in-Ok-watch_all : goal.returns-in-Ok-watch_all
 returns-in-Ok-watch_all g c =

@@ -1,4 +1,4 @@
-use Rattle.std.proofs.Common.{◌∙◌, ◌≡◌, ap, inl, inr, refl, subst, sym}
+use Rattle.std.proofs.Common.{[], ◌∙◌, ◌≡◌, ap, inl, inr, refl, subst, sym}
 use Rattle.std.specs.Prelude.{Option, Some}
 use Rattle.guard_policy.specs.PolicyView.{policy_view}
 use Rattle.derguard_program.specs.Devices.{input_of, device}
@@ -12,11 +12,11 @@ use Rattle.derguard_program.proofs.Taking.{stops_told, finishes_told, seen_told,
 use Rattle.derguard_program.proofs.watching_links.mux_verbosely.Goals as goal
 
 pub returns-in_default : goal.returns-in_default
-returns-in_default g c = inl (NoMemory, inr (inr refl), (refl, refl), refl, inr c.tell_no_memory.ensures)
+returns-in_default g c = inl (NoMemory, inr (inr refl), (refl, refl), refl, ([], refl, inr c.tell_no_memory.ensures))
 
 pub returns-in_default-new_room : goal.returns-in_default-new_room
 returns-in_default-new_room g c =
-    inl (NoMemory, inr (inr refl), (refl, refl), refl, inr c.tell_no_memory-in_default-new_room.ensures)
+    inl (NoMemory, inr (inr refl), (refl, refl), refl, ([], refl, inr c.tell_no_memory-in_default-new_room.ensures))
 
 pub returns-in-Ok-guarded : goal.returns-in-Ok-guarded
 returns-in-Ok-guarded g c =

@@ -1,0 +1,169 @@
+-- What comes of `test`: each case that doesn't come out as it should, how many, and the rules that no case reaches.
+use Rattle.std.specs.Prelude.{◌≡◌, ◌⊎◌, ℕ, ◌+◌, Bool, ◌||◌, bytes_eq, nat_eq, List, [], ◌∷◌, ◌++◌, codes, decimal, string_bytes, unwrap_or, Option, Some, None, Ok, Err, if◌then◌else◌}
+use Rattle.hex.specs.Hex.{decode_of}
+use Rattle.hex.specs.declared.error.FromHexError.{FromHexError}
+use Rattle.toml.specs.Data.{Items, no_items, item}
+use Rattle.guard_model.specs.AbstractType.{AbstractType}
+use Rattle.guard_model.specs.AbstractValue.{AbstractValue}
+use Rattle.guard_policy.specs.Decisions.{IsReason}
+use Rattle.guard_policy.specs.Policies.{AbstractPolicy, AbstractRoute, declared_type}
+use Rattle.guard_policy.specs.Verdicts.{AbstractVerdict}
+use Rattle.guard_report.specs.Text.{verdict_octets}
+use Rattle.derguard_program.specs.declared.fault.Fault.{Fault}
+use Rattle.derguard_program.specs.declared.fault.Fault.TheVariants.{BadHex, CannotRead, Schema, Policy, Run, NoMemory}
+use Rattle.derguard_program.specs.declared.testing.Came.{Came}
+use Rattle.derguard_program.specs.Answers.{AbstractAnswer}
+use Rattle.derguard_program.specs.Cases.{AbstractCase, case_in, case_text, members_in, IsCasesFault, SaysCases}
+use Rattle.derguard_program.specs.Counted.{first_word}
+use Rattle.derguard_program.specs.Devices.{Input, Device, IsUnread, IsUntouched}
+use Rattle.derguard_program.specs.Encodes.{IsEncoding}
+use Rattle.derguard_program.specs.Faults.{IsText}
+use Rattle.derguard_program.specs.Files.{Told, HasText, HasNone, IsLater}
+use Rattle.derguard_program.specs.Reading.{IsPolicyAt, IsNoPolicyAt, folder}
+use Rattle.derguard_program.specs.Reached.{Reaches, cover_lines}
+use Rattle.derguard_program.specs.ValueTexts.{IsNoValue, OfText}
+use Rattle.derguard_program.specs.Writing.{Writes, Tells, TellsText, TellsNoMemory}
+
+-- ---- what comes of a case
+
+abbrev pub case_route : AbstractCase → AbstractRoute
+case_route c = record { from = c.from; to = c.to; message = c.message }
+
+-- a text, and the numbers of the rules that the case reaches
+pub record AbstractCame : Type 0 where
+  pub text : List ℕ
+  pub reached : List ℕ
+
+abbrev pub came_view : Came → AbstractCame
+came_view c = record { text = c.text.items; reached = c.reached.items }
+
+-- a text in place of a verdict
+abbrev pub only : List ℕ → AbstractCame
+only text = record { text = text; reached = [] }
+
+-- the text of the verdict on the octets, and the rules that they reach by it
+abbrev pub CameOfOctets : AbstractPolicy → AbstractRoute → List ℕ → AbstractCame → Type 0
+CameOfOctets p route octets came =
+    (w : AbstractVerdict) × IsReason p route octets w × (came.text ≡ verdict_octets p route w)
+    × Reaches p route octets w came.reached
+
+-- blanks and the ends of lines
+abbrev pub is_blank : ℕ → Bool
+is_blank o = nat_eq o 32 || nat_eq o 9 || nat_eq o 10 || nat_eq o 13
+
+abbrev pub digits_in : List ℕ → List ℕ
+digits_in [] = []
+digits_in (o ∷ text) = if is_blank o then digits_in text else o ∷ digits_in text
+
+-- on the octets that the digits write, between which blanks may stand; or they write none
+abbrev pub CameOfDigits : AbstractPolicy → AbstractRoute → List ℕ → AbstractCame → Type 0
+CameOfDigits p route text came =
+    ((octets : List ℕ) × (decode_of (digits_in text) ≡ Ok octets) × CameOfOctets p route octets came)
+    ⊎ ((e : FromHexError) × (decode_of (digits_in text) ≡ Err e) × (came ≡ only (codes "bad hex")))
+
+-- on the encoding of the value of this type that the text writes; or the fault for which it writes none
+abbrev pub CameOfValue : AbstractPolicy → AbstractRoute → AbstractType → List ℕ → AbstractCame → Type 0
+CameOfValue p route t text came =
+    ((v : AbstractValue) × (octets : List ℕ) × IsEncoding t text v octets × CameOfOctets p route octets came)
+    ⊎ ((f : Fault) × OfText (IsNoValue t text) f × (f ≡ NoMemory → ⊥) × IsText f came.text × (came.reached ≡ []))
+
+-- by the declared type of the message
+abbrev pub CameOfText : AbstractPolicy → AbstractRoute → Option AbstractType → List ℕ → AbstractCame → Type 0
+CameOfText p route None text came = came ≡ only (codes "unknown-message")
+CameOfText p route (Some t) text came = CameOfValue p route t text came
+
+-- one of the two is given
+abbrev pub CameOf : AbstractPolicy → AbstractRoute → Option (List ℕ) → Option (List ℕ) → AbstractCame → Type 0
+CameOf p route (Some digits) value came = CameOfDigits p route digits came
+CameOf p route None value came = CameOfText p route (declared_type p route.message) (unwrap_or value []) came
+
+abbrev pub IsCame : AbstractPolicy → AbstractCase → AbstractCame → Type 0
+IsCame p c came = CameOf p (case_route c) c.octets c.value came
+
+-- ---- what is written
+
+-- what came is what is wanted, or its first word is
+abbrev pub is_wanted : List ℕ → List ℕ → Bool
+is_wanted wanted came = bytes_eq wanted came || bytes_eq wanted (first_word came)
+
+abbrev pub name_text : Option (List ℕ) → List ℕ
+name_text None = []
+name_text (Some name) = codes " (" ++ name ++ codes ")"
+
+abbrev pub differing_line : ℕ → AbstractCase → List ℕ → List ℕ
+differing_line number c came =
+    case_text number ++ name_text c.name ++ codes ": wanted " ++ c.verdict ++ codes ", came " ++ came ++ codes "\n"
+
+abbrev pub case_line : ℕ → AbstractCase → List ℕ → List ℕ
+case_line number c came = if is_wanted c.verdict came then [] else differing_line number c came
+
+abbrev pub failures : AbstractCase → List ℕ → ℕ
+failures c came = if is_wanted c.verdict came then 0 else 1
+
+-- the lines of these cases, from this number on, how many fail, and the rules that they reach
+abbrev pub AreTried : AbstractPolicy → ℕ → Items → List ℕ → ℕ → List ℕ → Type 0
+AreTried p number no_items lines failed reached = (lines ≡ []) × (failed ≡ 0) × (reached ≡ [])
+AreTried p number (item d ds) lines failed reached =
+    (came : AbstractCame) × (rest : List ℕ) × (others : ℕ) × (more : List ℕ) × IsCame p (case_in (members_in d)) came
+    × AreTried p (number + 1) ds rest others more
+    × (lines ≡ case_line number (case_in (members_in d)) came.text ++ rest)
+    × (failed ≡ failures (case_in (members_in d)) came.text + others)
+    × (reached ≡ came.reached ++ more)
+
+abbrev pub count : Items → ℕ
+count no_items = 0
+count (item d ds) = 1 + count ds
+
+abbrev pub last_text : ℕ → ℕ → List ℕ
+last_text all failed =
+    if nat_eq failed 0 then codes "ok: cases " ++ decimal all ++ codes "\n"
+    else codes "failed: " ++ (decimal failed ++ (codes " of " ++ (decimal all ++ codes "\n")))
+
+abbrev pub tested_status : ℕ → ℕ
+tested_status failed = if nat_eq failed 0 then 0 else 1
+
+-- and to cover the cases the rules that none of them reaches
+abbrev pub IsTested : AbstractPolicy → Bool → Items → AbstractAnswer → Type 0
+IsTested p cover ds a =
+    (lines : List ℕ) × (failed : ℕ) × (reached : List ℕ) × AreTried p 1 ds lines failed reached
+    × (a.out ≡ lines ++ last_text (count ds) failed ++ cover_lines cover p reached)
+    × (a.status ≡ tested_status failed)
+
+-- ---- the whole
+
+-- the path of the file of cases: `tests.toml` beside the policy where none is given
+abbrev pub cases_path : List ℕ → Option (List ℕ) → List ℕ
+cases_path policy None = folder policy ++ codes "tests.toml"
+cases_path policy (Some path) = path
+
+-- The cases of the text are tried; or it says none, which is reported.
+abbrev pub TestsText : AbstractPolicy → Bool → List ℕ → Device → Device → ℕ → Type 0
+TestsText p cover text out err status =
+    ((ds : Items) × (a : AbstractAnswer) × SaysCases text ds × IsTested p cover ds a
+    × Writes a.out a.status out err status)
+    ⊎ ((fault : List ℕ) × IsCasesFault text fault × IsUntouched out × TellsText fault 2 err status)
+    ⊎ (IsUntouched out × TellsNoMemory err status)
+
+-- nothing can be read at the path, which is named; or memory ran out
+abbrev pub IsUnreadable : Told → List ℕ → Fault → Type 0
+IsUnreadable told path (CannotRead file) = HasNone told path × (string_bytes file ≡ path)
+IsUnreadable told path NoMemory = Unit {0}
+IsUnreadable told path BadHex = ⊥
+IsUnreadable told path (Schema f) = ⊥
+IsUnreadable told path (Policy f) = ⊥
+IsUnreadable told path (Run f) = ⊥
+
+-- of the file at the path; or it can't be read
+abbrev pub TestsFile : AbstractPolicy → Bool → Told → List ℕ → Device → Device → ℕ → Type 0
+TestsFile p cover told path out err status =
+    ((text : List ℕ) × HasText told path text × TestsText p cover text out err status)
+    ⊎ ((f : Fault) × IsUnreadable told path f × IsUntouched out × Tells f err status)
+    ⊎ (IsUntouched out × TellsNoMemory err status)
+
+-- under the policy at its path, which is read first; or why there is none
+abbrev pub Tests : Told → List ℕ → Option (List ℕ) → Bool → Input → Device → Device → ℕ → Type 0
+Tests told path cases cover input out err status =
+    IsUnread input
+    × (((p : AbstractPolicy) × (later : Told) × IsPolicyAt told path p × IsLater told later
+    × TestsFile p cover later (cases_path path cases) out err status)
+    ⊎ ((f : Fault) × IsNoPolicyAt told path f × IsUntouched out × Tells f err status))

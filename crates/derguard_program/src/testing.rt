@@ -1,0 +1,405 @@
+//! Which cases that are kept beside a policy come out as they should.
+ghost use Rattle.std.specs.Prelude.{◌≡◌, ◌⊎◌, ◌++◌, codes, option_map, string_bytes, Ok, Err, IfOk, IfErr, OnOk, IsTrue};
+ghost use Rattle.hex.specs.Hex.{decode_of};
+ghost use Rattle.hex.specs.declared.error.FromHexError.{FromHexError};
+ghost use Rattle.toml.specs.Data.{Items};
+ghost use Rattle.toml.specs.View.{items_view};
+ghost use Rattle.guard_der.specs.Sound.{is_sound};
+ghost use Rattle.guard_model.specs.TypeView.{type_view};
+ghost use Rattle.guard_policy.specs.Policies.{AbstractPolicy, declared_type};
+ghost use Rattle.guard_policy.specs.PolicyView.{policy_view, route_view};
+ghost use Rattle.derguard_program.specs.Answers.{answer_view};
+ghost use Rattle.derguard_program.specs.Cases.{case_view, SaysCases, IsCasesFault};
+ghost use Rattle.derguard_program.specs.Devices.{device_of, IsUntouched};
+ghost use Rattle.derguard_program.specs.Files.{Told, IsLater};
+ghost use Rattle.derguard_program.specs.Reading.{IsPolicyAt, IsNoPolicyAt};
+ghost use Rattle.derguard_program.specs.Testing.{AreTried, CameOfDigits, CameOfOctets, CameOfText, CameOfValue, IsCame, IsTested, TestsFile, TestsText, came_view, case_line, case_route, cases_path, differing_line, digits_in, failures, is_blank, is_wanted, last_text, name_text, only, tested_status};
+ghost use Rattle.derguard_program.specs.Writing.{Tells};
+ghost use Rattle.derguard_program.specs.inside.Caseless.{OfFault};
+
+use crate::answer::Answer;
+use crate::cases::{Case, Untested, case_in, case_text, cases_of, document};
+use crate::checking::load;
+use crate::counts::first_word;
+use crate::fault::Fault;
+use crate::files::Files;
+use crate::octets::add;
+use crate::outputs::{tell, tell_no_memory, tell_text, write};
+use crate::reached::{cover_lines, reached};
+use crate::texts::read;
+use crate::written::encoded;
+use guard_frames::Sink;
+use guard_model::{OutOfMemory, Ty};
+use guard_notes::beside;
+use guard_policy::{Policy, Route};
+use guard_report::verdict_text;
+use hex::FromHexError;
+use std::alloc::{AllocError, Global};
+use toml::Value;
+
+/// The file of cases, where none is given.
+const CASES: &str = "tests.toml";
+
+/// Writes a line for each case that doesn't come out as it should, how many there are, and to cover them a line for each
+/// rule that none reaches. It answers the status: 0; 1 where some cases don't; 2 where there is no policy at the path, or
+/// no cases at theirs; 3 where a device failed or memory ran out.
+pub fn test<F: Files, O: Sink, E: Sink>(
+    alloc: Global,
+    path: &str,
+    cases: Option<&str>,
+    cover: bool,
+    files: &mut F,
+    out: &mut O,
+    err: &mut E,
+) -> u8
+    ensures { ((p : AbstractPolicy) × (later : Told) × IsPolicyAt (F.told files.old) path.now p
+        × IsLater (F.told files.old) later
+        × TestsFile p cover later (cases_path path.now (option_map (λ cases. cases.now) cases.entry))
+        (device_of O.taken O.has_failed out.old out.new)
+        (device_of E.taken E.has_failed err.old err.new) result)
+        ⊎ ((f : Fault) × IsNoPolicyAt (F.told files.old) path.now f
+        × IsUntouched (device_of O.taken O.has_failed out.old out.new)
+        × Tells f (device_of E.taken E.has_failed err.old err.new) result) }
+{
+    match load(alloc, path, files) {
+        Ok(policy) => test_beside(alloc, &policy, path, cases, cover, files, out, err),
+        Err(fault) => tell(alloc, &fault, err),
+    }
+}
+
+fn test_beside<F: Files, O: Sink, E: Sink>(
+    alloc: Global,
+    policy: &Policy,
+    path: &str,
+    cases: Option<&str>,
+    cover: bool,
+    files: &mut F,
+    out: &mut O,
+    err: &mut E,
+) -> u8
+    ensures { TestsFile (policy_view policy.now) cover (F.told files.old)
+        (cases_path path.now (option_map (λ cases. cases.now) cases.entry))
+        (device_of O.taken O.has_failed out.old out.new)
+        (device_of E.taken E.has_failed err.old err.new) result }
+{
+    match cases_path(alloc, path, cases) {
+        Ok(place) => test_file(alloc, policy, &place, cover, files, out, err),
+        Err(_) => tell_no_memory(err),
+    }
+}
+
+/// The path of the file of cases: beside the policy where none is given.
+fn cases_path(alloc: Global, policy: &str, cases: Option<&str>) -> Result<String, AllocError>
+    ensures { IfOk result (λ path. string_bytes path
+        ≡ cases_path policy.now (option_map (λ cases. cases.now) cases.entry)) }
+{
+    match cases {
+        Some(path) => String::from_str(alloc, path),
+        None => beside(alloc, policy, CASES),
+    }
+}
+
+fn test_file<F: Files, O: Sink, E: Sink>(
+    alloc: Global,
+    policy: &Policy,
+    path: &str,
+    cover: bool,
+    files: &mut F,
+    out: &mut O,
+    err: &mut E,
+) -> u8
+    ensures { TestsFile (policy_view policy.now) cover (F.told files.old) path.now
+        (device_of O.taken O.has_failed out.old out.new)
+        (device_of E.taken E.has_failed err.old err.new) result }
+{
+    match read(alloc, path, files) {
+        Ok(text) => test_text(alloc, policy, &text, cover, out, err),
+        Err(fault) => tell(alloc, &fault, err),
+    }
+}
+
+fn test_text<O: Sink, E: Sink>(
+    alloc: Global,
+    policy: &Policy,
+    text: &[u8],
+    cover: bool,
+    out: &mut O,
+    err: &mut E,
+) -> u8
+    ensures { TestsText (policy_view policy.now) cover text.now
+        (device_of O.taken O.has_failed out.old out.new)
+        (device_of E.taken E.has_failed err.old err.new) result }
+{
+    match tested(alloc, policy, text, cover) {
+        Ok(answer) => write(&answer.out, answer.status, out, err),
+        Err(Untested::Faulty(fault)) => tell_text(alloc, &fault, 2, err),
+        Err(Untested::NoMemory) => tell_no_memory(err),
+    }
+}
+
+/// What is answered to the cases that the text says.
+fn tested(alloc: Global, policy: &Policy, text: &[u8], cover: bool) -> Result<Answer, Untested>
+    ensures tested { IfOk result (λ a. (ds : Items) × SaysCases text.now ds
+        × IsTested (policy_view policy.now) cover ds (answer_view a)) }
+    ensures none { IfErr result (OfFault (IsCasesFault text.now)) }
+{
+    let top = document(alloc, text)?;
+    let items = cases_of(alloc, &top)?;
+    match answer_of(alloc, policy, items, cover) {
+        Ok(answer) => Ok(answer),
+        Err(_) => Err(Untested::NoMemory),
+    }
+}
+
+fn answer_of(
+    alloc: Global,
+    policy: &Policy,
+    items: &[Value],
+    cover: bool,
+) -> Result<Answer, OutOfMemory>
+    ensures { IfOk result (λ a. IsTested (policy_view policy.now) cover (items_view items.now) (answer_view a)) }
+{
+    let tried = tried(alloc, policy, items)?;
+    let last = last_text(alloc, items.len(), tried.failed)?;
+    let unreached = cover_lines(alloc, cover, policy, &tried.reached)?;
+    let mut out = tried.lines;
+    add(&mut out, last.as_bytes())?;
+    add(&mut out, &unreached)?;
+    Ok(Answer {
+        out,
+        status: tested_status(tried.failed),
+    })
+}
+
+/// What comes of cases: the lines of those that fail, how many these are, and the numbers of the rules that are reached.
+#[derive(Drop)]
+pub struct Outcome {
+    pub lines: Vec<u8>,
+    pub failed: usize,
+    pub reached: Vec<usize>,
+}
+
+fn tried(alloc: Global, policy: &Policy, items: &[Value]) -> Result<Outcome, OutOfMemory>
+    ensures { IfOk result (λ r. AreTried (policy_view policy.now) 1 (items_view items.now) r.lines.items r.failed
+        r.reached.items) }
+{
+    let mut lines = Vec::new(alloc);
+    let mut failed = 0;
+    let mut reached = Vec::new(alloc);
+    for (place, item) in items.iter().enumerate() {
+        let case = case_in(item);
+        let came = came_of(alloc, policy, &case)?;
+        failed += add_case(alloc, &mut lines, place + 1, &case, &came.text)?;
+        reached.extend_from_slice(&came.reached)?;
+    }
+    Ok(Outcome {
+        lines,
+        failed,
+        reached,
+    })
+}
+
+fn last_text(alloc: Global, all: usize, failed: usize) -> Result<String, AllocError>
+    ensures { IfOk result (λ text. string_bytes text ≡ last_text all failed) }
+{
+    if failed == 0 {
+        format!(in alloc; "ok: cases {all}\n")
+    } else {
+        format!(in alloc; "failed: {failed} of {all}\n")
+    }
+}
+
+fn tested_status(failed: usize) -> u8
+    ensures { result ≡ tested_status failed }
+{
+    if failed == 0 { 0 } else { 1 }
+}
+
+// ---- a line
+
+/// Adds the line of a case that fails, and answers how many do.
+fn add_case(
+    alloc: Global,
+    lines: &mut Vec<u8>,
+    number: usize,
+    case: &Case,
+    came: &[u8],
+) -> Result<usize, OutOfMemory>
+    ensures line { OnOk result (lines.new.items ≡ lines.old.items ++ case_line number (case_view case.now) came.now) }
+    ensures failures { IfOk result (λ n. n ≡ failures (case_view case.now) came.now) }
+{
+    if is_wanted(case.verdict.as_bytes(), came) {
+        return Ok(0);
+    }
+    add_differing(alloc, lines, number, case, came)?;
+    Ok(1)
+}
+
+fn add_differing(
+    alloc: Global,
+    lines: &mut Vec<u8>,
+    number: usize,
+    case: &Case,
+    came: &[u8],
+) -> Result<(), OutOfMemory>
+    ensures { OnOk result (lines.new.items
+        ≡ lines.old.items ++ differing_line number (case_view case.now) came.now) }
+{
+    let start = case_text(alloc, number)?;
+    add(lines, start.as_bytes())?;
+    add_name(lines, case.name)?;
+    add(lines, b": wanted ")?;
+    add(lines, case.verdict.as_bytes())?;
+    add(lines, b", came ")?;
+    add(lines, came)?;
+    add(lines, b"\n")
+}
+
+fn add_name(lines: &mut Vec<u8>, name: Option<&str>) -> Result<(), OutOfMemory>
+    ensures { OnOk result (lines.new.items ≡ lines.old.items ++ name_text (option_map (λ name. name.now) name.entry)) }
+{
+    match name {
+        Some(name) => add_bracketed(lines, name),
+        None => Ok(()),
+    }
+}
+
+fn add_bracketed(lines: &mut Vec<u8>, name: &str) -> Result<(), OutOfMemory>
+    ensures { OnOk result (lines.new.items ≡ lines.old.items ++ (codes " (" ++ name.now ++ codes ")")) }
+{
+    add(lines, b" (")?;
+    add(lines, name.as_bytes())?;
+    add(lines, b")")
+}
+
+/// What came is what is wanted, or its first word is.
+fn is_wanted(wanted: &[u8], came: &[u8]) -> bool
+    ensures { result ≡ is_wanted wanted.now came.now }
+{
+    wanted == came || wanted == first_word(came)
+}
+
+// ---- what comes of a case
+
+/// A text, and the numbers of the rules that the case reaches.
+#[derive(Drop)]
+pub struct Came {
+    pub text: Vec<u8>,
+    pub reached: Vec<usize>,
+}
+
+/// A text in place of a verdict.
+fn only(alloc: Global, text: Vec<u8>) -> Came
+    ensures { came_view result ≡ only text.items }
+{
+    Came {
+        text,
+        reached: Vec::new(alloc),
+    }
+}
+
+fn came_of(alloc: Global, policy: &Policy, case: &Case) -> Result<Came, OutOfMemory>
+    ensures { IfOk result (λ came. IsCame (policy_view policy.now) (case_view case.now) (came_view came)) }
+{
+    let route = route_of(case);
+    match case.octets {
+        Some(digits) => came_of_digits(alloc, policy, &route, digits),
+        None => came_of_text(alloc, policy, &route, case.value.unwrap_or("")),
+    }
+}
+
+fn route_of<'a>(case: &Case<'a>) -> Route<'a>
+    ensures { route_view result ≡ case_route (case_view case.now) }
+{
+    Route {
+        from: case.from.as_bytes(),
+        to: case.to.as_bytes(),
+        message: case.message.as_bytes(),
+    }
+}
+
+fn came_of_digits(
+    alloc: Global,
+    policy: &Policy,
+    route: &Route,
+    digits: &str,
+) -> Result<Came, OutOfMemory>
+    ensures { IfOk result (λ came. CameOfDigits (policy_view policy.now) (route_view route.now) digits.now
+        (came_view came)) }
+{
+    let digits = digits_in(alloc, digits)?;
+    match hex::decode(alloc, &digits) {
+        Ok(octets) => came_of_octets(alloc, policy, route, &octets),
+        Err(FromHexError::OutOfMemory) => Err(OutOfMemory),
+        Err(_) => Ok(only(alloc, Vec::from_slice(alloc, b"bad hex")?)),
+    }
+}
+
+/// The text without blanks and the ends of lines.
+fn digits_in(alloc: Global, text: &str) -> Result<Vec<u8>, AllocError>
+    ensures { IfOk result (λ digits. digits.items ≡ digits_in text.now) }
+{
+    let octets = text.as_bytes();
+    let mut digits = Vec::new(alloc);
+    for octet in octets {
+        if !is_blank(*octet) {
+            digits.push(*octet)?;
+        }
+    }
+    Ok(digits)
+}
+
+fn is_blank(octet: u8) -> bool
+    ensures { result ≡ is_blank octet }
+{
+    octet == b' ' || octet == b'\t' || octet == b'\n' || octet == b'\r'
+}
+
+fn came_of_text(
+    alloc: Global,
+    policy: &Policy,
+    route: &Route,
+    text: &str,
+) -> Result<Came, OutOfMemory>
+    ensures { IfOk result (λ came. CameOfText (policy_view policy.now) (route_view route.now)
+        (declared_type (policy_view policy.now) (route_view route.now).message) text.now (came_view came)) }
+{
+    match policy.declared(route.message) {
+        Some(ty) => came_of_value(alloc, policy, route, ty, text.as_bytes()),
+        None => Ok(only(alloc, Vec::from_slice(alloc, b"unknown-message")?)),
+    }
+}
+
+fn came_of_value(
+    alloc: Global,
+    policy: &Policy,
+    route: &Route,
+    ty: &Ty,
+    text: &[u8],
+) -> Result<Came, OutOfMemory>
+    requires { IsTrue (is_sound (type_view ty.now)) }
+    ensures { IfOk result (λ came. CameOfValue (policy_view policy.now) (route_view route.now) (type_view ty.now)
+        text.now (came_view came)) }
+{
+    match encoded(alloc, ty, text) {
+        Ok((_, octets)) => came_of_octets(alloc, policy, route, &octets),
+        Err(Fault::NoMemory) => Err(OutOfMemory),
+        Err(fault) => Ok(only(alloc, fault.text(alloc)?.into_bytes())),
+    }
+}
+
+/// The text of the verdict on the octets, and the rules that they reach.
+fn came_of_octets(
+    alloc: Global,
+    policy: &Policy,
+    route: &Route,
+    octets: &[u8],
+) -> Result<Came, OutOfMemory>
+    ensures { IfOk result (λ came. CameOfOctets (policy_view policy.now) (route_view route.now) octets.now
+        (came_view came)) }
+{
+    let verdict = policy.verdict(alloc, route, octets)?;
+    let reached = reached(alloc, policy, route, octets, &verdict)?;
+    let text = verdict_text(alloc, &verdict, route, policy)?;
+    Ok(Came { text, reached })
+}

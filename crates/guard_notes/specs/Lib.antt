@@ -1,0 +1,11 @@
+-- ---- lines and places
+pub mod Lines
+pub mod Marking
+pub mod Sources
+-- ---- what is said of each fault, and what more
+pub mod Notes
+pub mod PolicyNotes
+pub mod TextNotes
+pub mod TokenNotes
+-- ---- all of it
+pub mod Explaining

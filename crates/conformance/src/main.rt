@@ -332,7 +332,9 @@ fn try_streams<R: Files + Print + AllocGlobal>(rt: &R, tally: &mut Tally) -> io:
         &[
             "program/words_files_streams.rows",
             "program/explained.rows",
+            "program/faults.rows",
             "program/encoded.rows",
+            "program/tested.rows",
             "program/found.rows",
             "program/many_links.rows",
             "program/verbose.rows",

@@ -2,7 +2,7 @@
 use crate::memory::{Entries, Reads};
 use conformance_decisions::{Pieces, Room};
 use conformance_rows::{Layer, octets_in, text_of};
-use derguard_program::program;
+use derguard_program::{Failing, Says, program};
 use std::alloc::{AllocError, Global};
 
 /// What is reported of a standard output that fails.
@@ -34,6 +34,21 @@ pub struct Programs {
     out: usize,
     /// and standard error.
     err: usize,
+}
+
+/// What a system says in the rows.
+#[derive(Clone, Copy)]
+struct Told;
+
+impl Says for Told {
+    fn said(&self, alloc: Global, failing: Failing) -> Result<Option<String>, AllocError> {
+        let text = match failing {
+            Failing::Input => "the line is cut\nand not this",
+            Failing::Output => "no room is left",
+            Failing::File => "no such file",
+        };
+        Ok(Some(String::from_str(alloc, text)?))
+    }
 }
 
 /// What a run ended with.
@@ -118,7 +133,9 @@ impl Programs {
         let mut input = Pieces::failing(&self.input, self.size, self.reads);
         let mut out = Room::new(alloc, usize::MAX, room);
         let mut err = Room::new(alloc, usize::MAX, err_room);
-        let status = program(alloc, words, &mut files, &mut input, &mut out, &mut err);
+        let status = program(
+            alloc, words, &mut files, &mut input, &mut out, &mut err, &Told,
+        );
         let left = input.left().len();
         Ok(Ending {
             status,

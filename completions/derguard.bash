@@ -38,9 +38,9 @@ _derguard() {
         --from | --to | --message | --frame | --link) return ;;
     esac
     case $command in
-        '') mapfile -t COMPREPLY < <(compgen -W 'check decide show encode run ask mux help --help --version' -- "$current") ;;
-        help) [ -n "$policy" ] || mapfile -t COMPREPLY < <(compgen -W 'check decide show encode run ask mux' -- "$current") ;;
-        check | run | ask | mux | decide | show | encode)
+        '') mapfile -t COMPREPLY < <(compgen -W 'check decide show encode test run ask mux help --help --version' -- "$current") ;;
+        help) [ -n "$policy" ] || mapfile -t COMPREPLY < <(compgen -W 'check decide show encode test run ask mux' -- "$current") ;;
+        check | run | ask | mux | decide | show | encode | test)
             if [[ $current == -* ]]; then
                 word=--help
                 if [ "$command" = check ]; then word='--explain --strict --help'; fi
@@ -48,8 +48,9 @@ _derguard() {
                 if [ "$command" = decide ]; then word='--from --to --message --der --frame --link --explain --help'; fi
                 if [ "$command" = show ]; then word='--message --der --frame --link --help'; fi
                 if [ "$command" = encode ]; then word='--message --from --to --der --help'; fi
+                if [ "$command" = test ]; then word='--cover --help'; fi
                 mapfile -t COMPREPLY < <(compgen -W "$word" -- "$current")
-            elif [ -z "$policy" ]; then
+            elif [ -z "$policy" ] || [ "$command" = test ]; then
                 compopt -o filenames 2> /dev/null
                 mapfile -t COMPREPLY < <(
                     compgen -f -X '!*.toml' -- "$current"

@@ -41,12 +41,13 @@ complete -c derguard -n __fish_use_subcommand -a check -d 'say whether a policy 
 complete -c derguard -n __fish_use_subcommand -a decide -d 'say what becomes of one message, and why'
 complete -c derguard -n __fish_use_subcommand -a show -d 'show the value of one message'
 complete -c derguard -n __fish_use_subcommand -a encode -d 'print the octets of a value'
+complete -c derguard -n __fish_use_subcommand -a test -d 'try the cases that are kept beside a policy'
 complete -c derguard -n __fish_use_subcommand -a run -d 'guard a stream of frames'
 complete -c derguard -n __fish_use_subcommand -a ask -d 'say what becomes of each frame'
 complete -c derguard -n __fish_use_subcommand -a mux -d 'guard sixteen links in one stream of records'
 complete -c derguard -n __fish_use_subcommand -a help -d 'show what a command does'
-complete -c derguard -n '__fish_seen_subcommand_from help' -a 'check decide show encode run ask mux'
-complete -c derguard -n '__fish_seen_subcommand_from check decide show encode run ask mux; and test -z (__derguard_policy)' \
+complete -c derguard -n '__fish_seen_subcommand_from help' -a 'check decide show encode test run ask mux'
+complete -c derguard -n '__fish_seen_subcommand_from check decide show encode test run ask mux; and test -z (__derguard_policy)' \
     -a '(__fish_complete_suffix .toml)'
 complete -c derguard -n '__fish_seen_subcommand_from check' -l explain -d 'list the rules, or show the place of a fault'
 complete -c derguard -n '__fish_seen_subcommand_from decide' -l explain -d 'show the constraint or the place of a fault'
@@ -60,5 +61,6 @@ complete -c derguard -n '__fish_seen_subcommand_from decide show' -l der -r -F -
 complete -c derguard -n '__fish_seen_subcommand_from decide show' -l frame -x -d 'the number of a frame on standard input'
 complete -c derguard -n '__fish_seen_subcommand_from decide show' -l link -x -d 'the number of its link, where standard input is records'
 complete -c derguard -n '__fish_seen_subcommand_from encode' -l der -d 'write the octets themselves'
+complete -c derguard -n '__fish_seen_subcommand_from test' -l cover -d 'list the rules that no case reaches'
 complete -c derguard -n '__fish_seen_subcommand_from check' -l strict -d 'say what is remarked, with status 1 if anything is'
 complete -c derguard -n '__fish_seen_subcommand_from run mux' -l verbose -d 'count frames and reasons at the end'

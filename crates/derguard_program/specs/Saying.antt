@@ -37,7 +37,7 @@ IsSaidOfFault (Policy f) line = line ≡ []
 IsSaidOfFault (Run f) line = line ≡ []
 IsSaidOfFault NoMemory line = line ≡ []
 
--- the same, where notes are asked for
+-- of a file that can't be read again while a stream runs, where notes are asked for
 abbrev pub IsUnreadNote : Option Seen → Fault → List ℕ → Type 0
 IsUnreadNote None f note = note ≡ []
 IsUnreadNote (Some s) f note = IsSaidOfFault f note

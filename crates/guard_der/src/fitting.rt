@@ -18,7 +18,7 @@ const MOST_ITEMS: usize = 4_294_967_295;
 
 /// Whether the value is one of the type's, constraints aside: it is of the kind and within its limits, has a value at
 /// each component that isn't OPTIONAL, and all that is inside it fits. The elements of a SET OF have encodings, none of
-/// which descends to the next (X.690 11.6). Its one refusal is want of memory.
+/// which descends to the next (X.690 11.6). It fails only where memory runs out.
 #[cycle(fitting)]
 pub fn fits(alloc: Global, ty: &Ty, value: &Value) -> Result<bool, OutOfMemory>
     ensures exact { IfOk result (λ b. b ≡ fits (type_view ty.now) (value_view value.now)) }

@@ -6,6 +6,7 @@ ghost use Rattle.guard_der.specs.Reading.{same_form};
 
 use guard_model::Kind;
 
+/// Whether the contents octets of values of this kind are encodings themselves.
 pub fn is_constructed(kind: &Kind) -> bool
     ensures { result ≡ constructed (kind_view kind.now) }
 {

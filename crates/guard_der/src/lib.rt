@@ -4,6 +4,7 @@
 //! | question | code | definition |
 //! |---|---|---|
 //! | What is the encoding of a value? | `encoding.rt` (`encode`), folder | `specs/Der.antt`, `specs/Encoding.antt` |
+//! | Which kinds have constructed encodings? | `forms.rt` (`is_constructed`) | `specs/Der.antt` |
 //! | What are its octets? | `encoding/element.rt`, `encoding/simple.rt` | `specs/Element.antt`, `specs/Contents.antt` |
 //! | Which values does a type have, constraints aside? | `fitting.rt` (`fits`) | `specs/Fits.antt` |
 //! | Of which types do encodings tell the values? | `sound_types.rt` (`sound`) | `specs/Sound.antt` |
@@ -43,6 +44,8 @@ pub use decoding::decode;
 pub use element::Header;
 pub use encoding::{EncodeFault, encode, encode_contents, encode_tagged, outermost};
 pub use fitting::fits;
+pub use forms::is_constructed;
 pub use head::{class_of, header};
+pub use presence::is_left_out;
 pub use sound_types::sound;
 pub use tags::follows;

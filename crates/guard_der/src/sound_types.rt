@@ -32,7 +32,7 @@ use std::alloc::Global;
 /// and inside SIZE to INTEGER; single values are as defaults, contained types sound and of the same base, and parts
 /// that are named by their places exist (51.2 to 51.8). So components and alternatives are distinguished by their tags
 /// in contained types too, at every depth: of each `law_distinct_tags` says that the test is true exactly where all
-/// tags that must differ do. Its one refusal is want of memory.
+/// tags that must differ do. It fails only where memory runs out.
 pub fn sound(alloc: Global, ty: &Ty) -> Result<bool, OutOfMemory>
     ensures exact { IfOk result (λ b. b ≡ is_sound (type_view ty.now)) }
     // Of a sound type all tags that must differ do.

@@ -21,4 +21,5 @@ mod violation;
 
 pub use elements::{are_permitted, is_in_some};
 pub use members::{holds, holds_on_kind, member, proper_member};
+pub use presence::{element_kind, is_optional, is_ruled_out, kind_at, part_at};
 pub use violation::{Violation, first_violation};

@@ -7,7 +7,7 @@ ghost use Rattle.guard_eval.specs.Presence.{element_kind, kind_at, has_parts, fi
 
 use guard_model::{Comp, Kind, Part, Presence, Value, Word};
 
-/// The kind of the elements of an OF type.
+/// The kind of the elements of an OF type; of another kind itself.
 pub fn element_kind(kind: &Kind) -> &Kind
     ensures { kind_view result.now ≡ element_kind (kind_view kind.now) }
 {
@@ -18,7 +18,7 @@ pub fn element_kind(kind: &Kind) -> &Kind
     }
 }
 
-/// The kind of the component or alternative at this place.
+/// The kind of the component or alternative at this place; where there is none the whole's own.
 pub fn kind_at(kind: &Kind, at: u8) -> &Kind
     ensures { kind_view result.now ≡ kind_at at (kind_view kind.now) }
 {
@@ -79,7 +79,8 @@ pub fn is_as_said(partial: bool, comp: &Comp, word: Option<Word>, there: bool) -
     }
 }
 
-fn is_optional(presence: &Presence) -> bool
+/// Whether a component of which this is said is OPTIONAL.
+pub fn is_optional(presence: &Presence) -> bool
     ensures { result ≡ may_be_absent (presence_view presence.now) }
 {
     match presence {
@@ -107,7 +108,7 @@ pub fn first_intruder(partial: bool, parts: &[Part], kind: &Kind, value: &Value)
 }
 
 /// What a full list doesn't name must be absent, if it is an OPTIONAL component or an alternative.
-fn is_ruled_out(parts: &[Part], kind: &Kind, at: usize, presence: &Presence) -> bool
+pub fn is_ruled_out(parts: &[Part], kind: &Kind, at: usize, presence: &Presence) -> bool
     ensures { result ≡ is_ruled_out (kind_view kind.now) (parts_of (map part_view parts.now)) at (presence_view presence.now) }
 {
     !is_listed(parts, at) && (kind.is_choice() || is_optional(presence))

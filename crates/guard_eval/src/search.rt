@@ -111,8 +111,8 @@ fn some_allows(path: &mut Path, cons: &[Cons], kind: &Kind, value: &Value) -> bo
     false
 }
 
-/// Of an intersection the first failing part is blamed, of EXCEPT its left side or else itself, of WITH COMPONENT and
-/// WITH COMPONENTS what fails in a part of the value; all others are blamed themselves.
+/// An intersection blames its first failing part, EXCEPT its left side or else itself, WITH COMPONENT and WITH
+/// COMPONENTS what fails in a part of the value; all others are blamed themselves.
 #[cycle(search)]
 pub fn failure_by(path: &mut Path, cons: &Cons, kind: &Kind, value: &Value) -> Option<Site>
     ensures { found_by path.new.items result ≡ failure_by (constraint_view cons.now) (kind_view kind.now) (value_view value.now) }

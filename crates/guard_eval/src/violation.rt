@@ -18,9 +18,9 @@ pub struct Violation {
     pub path: Path,
 }
 
-/// Of the constraints that the value fails the first: those of the type itself in written order, then those of its
-/// components in written order, of the chosen alternative, or of its elements in turn. None where the value is a
-/// member.
+/// The first constraint that the value fails: first those of the type itself are looked at, in written order, then
+/// those of its components in written order, of the chosen alternative, or of its elements in turn. None where the
+/// value is a member.
 pub fn first_violation(ty: &Ty, value: &Value) -> Option<Violation>
     requires sound { IsTrue (is_sound (type_view ty.now)) }
     requires fits { IsTrue (fits (type_view ty.now) (value_view value.now)) }

@@ -41,14 +41,15 @@ impl IntSet {
         }
     }
 
-    /// All integers from -2^127 to 2^127-1. Its one refusal is want of memory.
+    /// All integers from -2^127 to 2^127-1. It fails only where memory runs out.
     pub fn all(alloc: Global) -> Result<IntSet, OutOfMemory>
         ensures { IfOk result (λ set. (x : ℤ) → holds set x ≡ fits_128_bits x) }
     {
         IntSet::none(alloc).complement(alloc)
     }
 
-    /// The integers from `low` to `high`, both in: none where `low` is above `high`. Its one refusal is want of memory.
+    /// The integers from `low` to `high`, both in: none where `low` is the greater one. It fails only where memory runs
+    /// out.
     pub fn range(alloc: Global, low: i128, high: i128) -> Result<IntSet, OutOfMemory>
         ensures { IfOk result (λ set. (x : ℤ) → holds set x ≡ (fits_128_bits x && (int_le low x && int_le x high))) }
     {
@@ -59,7 +60,7 @@ impl IntSet {
         Ok(IntSet { ranges })
     }
 
-    /// The integers that one of the two sets holds. Its one refusal is want of memory.
+    /// The integers that one of the two sets holds. It fails only where memory runs out.
     pub fn union(&self, alloc: Global, other: &IntSet) -> Result<IntSet, OutOfMemory>
         ensures { IfOk result (λ set. (x : ℤ) → holds set x ≡ (holds self.now x || holds other.now x)) }
     {
@@ -69,7 +70,7 @@ impl IntSet {
         neither.complement(alloc)
     }
 
-    /// The integers that one of these sets holds. Its one refusal is want of memory.
+    /// The integers that one of these sets holds. It fails only where memory runs out.
     pub fn union_of(alloc: Global, sets: &[IntSet]) -> Result<IntSet, OutOfMemory>
         ensures { IfOk result (λ set. (x : ℤ) → holds set x ≡ some_holds sets.now x) }
     {
@@ -84,7 +85,7 @@ impl IntSet {
         }
     }
 
-    /// The integers that both sets hold. Its one refusal is want of memory.
+    /// The integers that both sets hold. It fails only where memory runs out.
     pub fn intersection(&self, alloc: Global, other: &IntSet) -> Result<IntSet, OutOfMemory>
         ensures { IfOk result (λ set. (x : ℤ) → holds set x ≡ (holds self.now x && holds other.now x)) }
     {
@@ -92,14 +93,14 @@ impl IntSet {
         Ok(IntSet { ranges })
     }
 
-    /// The integers of this set that the other one doesn't hold. Its one refusal is want of memory.
+    /// The integers of this set that the other one doesn't hold. It fails only where memory runs out.
     pub fn minus(&self, alloc: Global, other: &IntSet) -> Result<IntSet, OutOfMemory>
         ensures { IfOk result (λ set. (x : ℤ) → holds set x ≡ (holds self.now x && not (holds other.now x))) }
     {
         self.intersection(alloc, &other.complement(alloc)?)
     }
 
-    /// The integers from -2^127 to 2^127-1 that this set doesn't hold. Its one refusal is want of memory.
+    /// The integers from -2^127 to 2^127-1 that this set doesn't hold. It fails only where memory runs out.
     pub fn complement(&self, alloc: Global) -> Result<IntSet, OutOfMemory>
         ensures { IfOk result (λ set. (x : ℤ) → holds set x ≡ (fits_128_bits x && not (holds self.now x))) }
     {

@@ -12,4 +12,5 @@ pub mod Characters
 -- ---- equality of values and of types
 pub mod Sameness
 pub mod SameTypes
+mod Compared
 mod DifferentLengths

@@ -1,4 +1,4 @@
 -- What only private contracts and proofs cite.
 pub mod Each
 pub mod Octets
-pub mod BareView
+pub mod Compared

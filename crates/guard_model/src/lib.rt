@@ -7,7 +7,8 @@
 //! | what are they to the definitions | `specs/AbstractType.antt`, `specs/AbstractValue.antt` |
 //! | which abstract type or value is one of the code | `specs/TypeView.antt`, `specs/ValueView.antt` |
 //! | when are two values the same | `same.rt`, `specs/Same.antt` |
-//! | when have two types the same base | `same_base.rt`, `specs/SameBase.antt` |
+//! | when are two types the same | `same_base.rt`, `specs/SameType.antt` |
+//! | when have they the same base | `same_base.rt`, `specs/SameBase.antt` |
 //! | what is inside a kind | `kinds.rt`, `specs/Kinds.antt`, `specs/Components.antt` |
 //! | which elements of constraints apply to a kind | `kinds.rt`, `specs/Kinds.antt` |
 //! | how is a value or type copied | `copying.rt` |

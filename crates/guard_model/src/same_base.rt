@@ -1,13 +1,16 @@
-//! Whether two types have the same base.
-ghost use Rattle.guard_model.specs.inside.BareView.{bare_components_view, bare_constraints_view, bare_parts_view, same_component, same_part};
-ghost use Rattle.guard_model.specs.SameBase.{HasSameBase, bare, bare_constraint, bare_element, bare_kind, bare_names};
-ghost use Rattle.guard_model.specs.SameType.{same_base, same_components, same_constraint, same_constraints, same_element, same_kind, same_limit, same_named, same_parts, same_presence, same_range, same_type};
+//! Whether two types are the same, or have the same base. One comparison serves both; it is told whether the whole
+//! counts.
+ghost use Rattle.guard_model.specs.inside.Compared.{bits_compared, compared, constraint_compared, element_compared, kind_compared, names_compared, site_compared};
+ghost use Rattle.guard_model.specs.inside.Compared.{components_in_view, constraints_in_view, parts_in_view, same_component, same_part};
+ghost use Rattle.guard_model.specs.SameBase.{HasSameBase, bare_names};
+ghost use Rattle.guard_model.specs.SameType.{same_base, same_components, same_constraint, same_constraints, same_element, same_kind, same_limit, same_named, same_parts, same_presence, same_range, same_site, same_type};
 ghost use Rattle.guard_model.specs.Tags.{same_tag};
 ghost use Rattle.guard_model.specs.TypeView.{component_view, constraint_view, element_view, kind_view, named_view, part_view, presence_view, type_view};
 ghost use Rattle.std.specs.Bool.{Decides};
 ghost use Rattle.std.specs.Cmp.Lexicographic.{pointwise};
 ghost use Rattle.std.specs.Prelude.{◌≡◌, map};
 
+use crate::site::Site;
 use crate::tag::Tag;
 use crate::ty::{Comp, Cons, Kind, Limit, Named, Part, Presence, Rule, Ty};
 
@@ -20,16 +23,25 @@ impl Ty {
         ensures test { result ≡ same_base (type_view self.now) (type_view other.now) }
         ensures equal { Decides result (HasSameBase (type_view self.now) (type_view other.now)) }
     {
-        self.kind.is_same(&other.kind)
+        self.kind.is_same(&other.kind, false)
     }
 
-    #[cycle(same_types)]
-    fn is_same(&self, other: &Ty) -> bool
-        ensures { result ≡ same_type (bare (type_view self.now)) (bare (type_view other.now)) }
+    /// Whether both are one and the same type, with all names and sites.
+    pub fn same(&self, other: &Ty) -> bool
+        ensures test { result ≡ same_type (type_view self.now) (type_view other.now) }
+        ensures equal { Decides result (type_view self.now ≡ type_view other.now) }
     {
-        are_same_tags(&self.tags, &other.tags)
-            && self.kind.is_same(&other.kind)
-            && are_same_constraints(&self.cons, &other.cons)
+        self.is_same(other, true)
+    }
+
+    /// Constraints come first: types that rules have beside each other mostly differ there, and kinds are large.
+    #[cycle(same_types)]
+    fn is_same(&self, other: &Ty, whole: bool) -> bool
+        ensures { result ≡ same_type (compared whole (type_view self.now)) (compared whole (type_view other.now)) }
+    {
+        are_same_constraints(&self.cons, &other.cons, whole)
+            && are_same_tags(&self.tags, &other.tags)
+            && self.kind.is_same(&other.kind, whole)
     }
 }
 
@@ -41,25 +53,49 @@ fn are_same_tags(tags: &[Tag], others: &[Tag]) -> bool
 
 impl Kind {
     #[cycle(same_types)]
-    fn is_same(&self, other: &Kind) -> bool
-        ensures { result ≡ same_kind (bare_kind (kind_view self.now)) (bare_kind (kind_view other.now)) }
+    fn is_same(&self, other: &Kind, whole: bool) -> bool
+        ensures { result ≡ same_kind (kind_compared whole (kind_view self.now)) (kind_compared whole (kind_view other.now)) }
     {
         match (self, other) {
             (Kind::Bool, Kind::Bool) => true,
-            (Kind::Int(_), Kind::Int(_)) => true,
-            (Kind::Bits(one), Kind::Bits(two)) => are_both_named(one, two),
+            (Kind::Int(one), Kind::Int(two)) => are_same_names(one, two, whole),
+            (Kind::Bits(one), Kind::Bits(two)) => are_same_bits(one, two, whole),
             (Kind::Octets, Kind::Octets) => true,
             (Kind::Null, Kind::Null) => true,
             (Kind::Oid, Kind::Oid) => true,
             (Kind::Enumerated(one), Kind::Enumerated(two)) => are_same_items(one, two),
             (Kind::Chars(one), Kind::Chars(two)) => one == two,
-            (Kind::Sequence(one), Kind::Sequence(two)) => are_same_components(one, two),
-            (Kind::Set(one), Kind::Set(two)) => are_same_components(one, two),
-            (Kind::Choice(one), Kind::Choice(two)) => are_same_components(one, two),
-            (Kind::SequenceOf(one), Kind::SequenceOf(two)) => one.is_same(two),
-            (Kind::SetOf(one), Kind::SetOf(two)) => one.is_same(two),
+            (Kind::Sequence(one), Kind::Sequence(two)) => are_same_components(one, two, whole),
+            (Kind::Set(one), Kind::Set(two)) => are_same_components(one, two, whole),
+            (Kind::Choice(one), Kind::Choice(two)) => are_same_components(one, two, whole),
+            (Kind::SequenceOf(one), Kind::SequenceOf(two)) => one.is_same(two, whole),
+            (Kind::SetOf(one), Kind::SetOf(two)) => one.is_same(two, whole),
             _ => false,
         }
+    }
+}
+
+/// Named numbers of an INTEGER.
+fn are_same_names(names: &[Named], others: &[Named], whole: bool) -> bool
+    ensures { result ≡ pointwise same_named (names_compared whole (map named_view names.now))
+        (names_compared whole (map named_view others.now)) }
+{
+    if whole {
+        are_same_items(names, others)
+    } else {
+        true
+    }
+}
+
+/// Names of bits.
+fn are_same_bits(names: &[Named], others: &[Named], whole: bool) -> bool
+    ensures { result ≡ pointwise same_named (bits_compared whole (map named_view names.now))
+        (bits_compared whole (map named_view others.now)) }
+{
+    if whole {
+        are_same_items(names, others)
+    } else {
+        are_both_named(names, others)
     }
 }
 
@@ -93,14 +129,14 @@ impl Named {
 }
 
 #[cycle(same_types)]
-fn are_same_components(comps: &[Comp], others: &[Comp]) -> bool
-    ensures { result ≡ same_components (bare_components_view comps.now) (bare_components_view others.now) }
+fn are_same_components(comps: &[Comp], others: &[Comp], whole: bool) -> bool
+    ensures { result ≡ same_components (components_in_view whole comps.now) (components_in_view whole others.now) }
 {
     if comps.len() != others.len() {
         return false;
     }
     for (comp, other) in comps.iter().zip(others) {
-        if !comp.is_same(other) {
+        if !comp.is_same(other, whole) {
             return false;
         }
     }
@@ -109,11 +145,11 @@ fn are_same_components(comps: &[Comp], others: &[Comp]) -> bool
 
 impl Comp {
     #[cycle(same_types)]
-    fn is_same(&self, other: &Comp) -> bool
-        ensures { result ≡ same_component (component_view self.now) (component_view other.now) }
+    fn is_same(&self, other: &Comp, whole: bool) -> bool
+        ensures { result ≡ same_component whole (component_view self.now) (component_view other.now) }
     {
         self.name.as_str() == other.name.as_str()
-            && self.ty.is_same(&other.ty)
+            && self.ty.is_same(&other.ty, whole)
             && self.presence.is_same(&other.presence)
     }
 }
@@ -133,14 +169,14 @@ impl Presence {
 }
 
 #[cycle(same_types)]
-fn are_same_constraints(constraints: &[Cons], others: &[Cons]) -> bool
-    ensures { result ≡ same_constraints (bare_constraints_view constraints.now) (bare_constraints_view others.now) }
+fn are_same_constraints(constraints: &[Cons], others: &[Cons], whole: bool) -> bool
+    ensures { result ≡ same_constraints (constraints_in_view whole constraints.now) (constraints_in_view whole others.now) }
 {
     if constraints.len() != others.len() {
         return false;
     }
     for (constraint, other) in constraints.iter().zip(others) {
-        if !constraint.is_same(other) {
+        if !constraint.is_same(other, whole) {
             return false;
         }
     }
@@ -149,36 +185,50 @@ fn are_same_constraints(constraints: &[Cons], others: &[Cons]) -> bool
 
 impl Cons {
     #[cycle(same_types)]
-    fn is_same(&self, other: &Cons) -> bool
-        ensures { result ≡ same_constraint (bare_constraint (constraint_view self.now)) (bare_constraint (constraint_view other.now)) }
+    fn is_same(&self, other: &Cons, whole: bool) -> bool
+        ensures { result ≡ same_constraint (constraint_compared whole (constraint_view self.now))
+            (constraint_compared whole (constraint_view other.now)) }
     {
-        self.rule.is_same(&other.rule)
+        self.site.is_same(&other.site, whole) && self.rule.is_same(&other.rule, whole)
+    }
+}
+
+impl Site {
+    fn is_same(&self, other: &Site, whole: bool) -> bool
+        ensures { result ≡ same_site (site_compared whole self.now) (site_compared whole other.now) }
+    {
+        if whole {
+            self.text == other.text && self.line == other.line && self.column == other.column
+        } else {
+            true
+        }
     }
 }
 
 impl Rule {
     #[cycle(same_types)]
-    fn is_same(&self, other: &Rule) -> bool
-        ensures { result ≡ same_element (bare_element (element_view self.now)) (bare_element (element_view other.now)) }
+    fn is_same(&self, other: &Rule, whole: bool) -> bool
+        ensures { result ≡ same_element (element_compared whole (element_view self.now))
+            (element_compared whole (element_view other.now)) }
     {
         match (self, other) {
             (Rule::One(one), Rule::One(two)) => one.same(two),
-            (Rule::Inside(one), Rule::Inside(two)) => one.is_same(two),
+            (Rule::Inside(one), Rule::Inside(two)) => one.is_same(two, whole),
             (Rule::Range(low, high), Rule::Range(lower, higher)) => {
                 low.is_same(lower) && high.is_same(higher)
             }
-            (Rule::Size(one), Rule::Size(two)) => one.is_same(two),
+            (Rule::Size(one), Rule::Size(two)) => one.is_same(two, whole),
             (Rule::Alphabet(one), Rule::Alphabet(two)) => are_same_ranges(one, two),
-            (Rule::Each(one), Rule::Each(two)) => one.is_same(two),
+            (Rule::Each(one), Rule::Each(two)) => one.is_same(two, whole),
             (Rule::Parts(partial, one), Rule::Parts(open, two)) => {
-                partial == open && are_same_parts(one, two)
+                partial == open && are_same_parts(one, two, whole)
             }
-            (Rule::Any(one), Rule::Any(two)) => are_same_constraints(one, two),
-            (Rule::Both(one), Rule::Both(two)) => are_same_constraints(one, two),
+            (Rule::Any(one), Rule::Any(two)) => are_same_constraints(one, two, whole),
+            (Rule::Both(one), Rule::Both(two)) => are_same_constraints(one, two, whole),
             (Rule::Minus(one, less), Rule::Minus(two, without)) => {
-                one.is_same(two) && less.is_same(without)
+                one.is_same(two, whole) && less.is_same(without, whole)
             }
-            (Rule::Other(one), Rule::Other(two)) => one.is_same(two),
+            (Rule::Other(one), Rule::Other(two)) => one.is_same(two, whole),
             _ => false,
         }
     }
@@ -204,14 +254,14 @@ fn are_same_ranges(ranges: &[(u32, u32)], others: &[(u32, u32)]) -> bool
 }
 
 #[cycle(same_types)]
-fn are_same_parts(parts: &[Part], others: &[Part]) -> bool
-    ensures { result ≡ same_parts (bare_parts_view parts.now) (bare_parts_view others.now) }
+fn are_same_parts(parts: &[Part], others: &[Part], whole: bool) -> bool
+    ensures { result ≡ same_parts (parts_in_view whole parts.now) (parts_in_view whole others.now) }
 {
     if parts.len() != others.len() {
         return false;
     }
     for (part, other) in parts.iter().zip(others) {
-        if !part.is_same(other) {
+        if !part.is_same(other, whole) {
             return false;
         }
     }
@@ -220,14 +270,17 @@ fn are_same_parts(parts: &[Part], others: &[Part]) -> bool
 
 impl Part {
     #[cycle(same_types)]
-    fn is_same(&self, other: &Part) -> bool
-        ensures { result ≡ same_part (part_view self.now) (part_view other.now) }
+    fn is_same(&self, other: &Part, whole: bool) -> bool
+        ensures { result ≡ same_part whole (part_view self.now) (part_view other.now) }
     {
         let within = match (&self.cons, &other.cons) {
-            (Some(one), Some(two)) => one.is_same(two),
+            (Some(one), Some(two)) => one.is_same(two, whole),
             (None, None) => true,
             _ => false,
         };
-        self.at == other.at && within && self.word == other.word
+        self.site.is_same(&other.site, whole)
+            && self.at == other.at
+            && within
+            && self.word == other.word
     }
 }

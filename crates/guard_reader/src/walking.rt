@@ -52,7 +52,7 @@ fn decide(table: &Nodes, octets: &[u8], failed: &mut Slots) -> bool
     }
 }
 
-/// The same by what is at the front, of a message of any kind.
+/// Whether the octets are an encoding of a message of any kind, by what is at the front.
 #[inline(never)]
 #[tactic(auto, unfolding(crate::specs::Judging::message_judged))]
 fn decide_by_front(table: &Nodes, octets: &[u8], failed: &mut Slots) -> bool
@@ -76,7 +76,7 @@ fn within_tag(table: &Nodes, at: usize, inside: &[u8], failed: &mut Slots) -> bo
     within_node(table, at, &table.hots[at], inside, failed)
 }
 
-/// The same of a node that was looked up.
+/// What is inside the outermost tag of a node that was looked up.
 #[cycle(walking)]
 #[inline(always)]
 fn within_node(table: &Nodes, at: usize, node: &Hot, inside: &[u8], failed: &mut Slots) -> bool
@@ -90,7 +90,7 @@ fn within_node(table: &Nodes, at: usize, node: &Hot, inside: &[u8], failed: &mut
     node_contents(table, at, node, inside, failed)
 }
 
-/// The same of a node in front of another one.
+/// What is inside the outermost tag of a node that has another one inside.
 #[cycle(walking)]
 #[cold]
 #[inline(never)]
@@ -114,7 +114,7 @@ fn contents(table: &Nodes, at: usize, inside: &[u8], failed: &mut Slots) -> bool
     node_contents(table, at, &table.hots[at], inside, failed)
 }
 
-/// The same of a node that was looked up.
+/// Contents octets of a node that was looked up.
 #[cycle(walking)]
 #[inline(always)]
 fn node_contents(table: &Nodes, at: usize, node: &Hot, inside: &[u8], failed: &mut Slots) -> bool
@@ -136,7 +136,7 @@ fn node_contents(table: &Nodes, at: usize, node: &Hot, inside: &[u8], failed: &m
     }
 }
 
-/// The same of a node that has another one in front. Called from here alone, so that the call of `contents` above can
+/// Contents octets of the node that is inside another one. Called from here alone, so that the call of `contents` above can
 /// be compiled into each caller.
 #[cycle(walking)]
 #[cold]

@@ -1,120 +1,120 @@
--- What is given out to a part are the tests that speak of it, and these alone say what is asked of it.
-use Rattle.std.proofs.Common.{◌≡◌, ℕ, zero, suc, ◌<◌, ◌≤◌, Bool, true, false, cond, eqb, List, [], ◌∷◌, ◌++◌, length, replicate, get_or, set, refl, sym, ap, ◌∙◌, append_assoc, arith, inl, inr}
-use Rattle.std.specs.Prelude.{◌||◌}
-use Rattle.std.specs.Global.{Vec}
+-- What is given out to a part is what the terms ask of it.
+use Rattle.std.proofs.Common.{◌≡◌, ℕ, zero, suc, ◌<◌, ◌≤◌, Bool, true, false, cond, eqb, List, [], ◌∷◌, ◌++◌, length, replicate, get_or, set, refl, sym, ap, subst, ◌∙◌, append_assoc, arith, inl, inr}
 use Rattle.std.proofs.Math.Arith.{lt_of_le-ne}
-use Rattle.std.proofs.lemmas.Bool.{eq-eqb, ne_eqb, eqb-true, eqb-false}
+use Rattle.std.proofs.lemmas.Bool.{ne_eqb}
 use Rattle.std.proofs.lemmas.Bool.Decides.{eqb_tells}
-use Rattle.std.proofs.lemmas.List.{append-nil, map-append, length-map}
+use Rattle.std.proofs.lemmas.List.{append-nil, length-map}
 use Rattle.guard_tables.specs.declared.slots.Slots.{Slots}
-use Rattle.guard_tables.specs.declared.asks.Term as code
-use Rattle.guard_tables.specs.Demands.{Ask, Atom, scalar, equals, sized, spelled, each, within, sent, unsent, Term}
-use Rattle.guard_tables.specs.Handed.{within_in, within_of}
-use Rattle.guard_tables.specs.Lay.{added_if, slots_where, is_sent, absent_of, is_unsent, present_of, is_unchosen, chosen_of}
-use Rattle.guard_tables.specs.inside.AskViews.{term_view, terms_view}
-use Rattle.guard_tables.specs.inside.Giving.{given_view, given, given_below, give, give_out}
+use Rattle.guard_tables.specs.declared.giving.PartAsks as code
+use Rattle.guard_tables.specs.Slots.{added, none}
+use Rattle.guard_tables.specs.Demands.{Demand, Ask, Atom, scalar, equals, sized, spelled, each, within, sent, unsent, Term}
+use Rattle.guard_tables.specs.Handed.{ask, within_in, within_of}
+use Rattle.guard_tables.specs.Lay.{added_if, slots_where, is_sent, is_unsent, absent_of}
+use Rattle.guard_tables.specs.inside.Giving.{PartAsked, part_asked, parts_asked, nothing_asked, asked_at, with_term, given, given_below, give, give_out}
+use Rattle.guard_tables.proofs.SlotSums.{added_none, none_added, added_again, added_turned}
 
-abbrev Lists : Type 0
-Lists = List (List Term)
+abbrev asked : List Ask → Slots → Slots → PartAsked
+asked asks absent present = record { asks = asks; absent = absent; present = present }
 
-abbrev list_at : Lists → ℕ → List Term
-list_at [] i = []
-list_at (p ∷ ps) zero = p
-list_at (p ∷ ps) (suc i) = list_at ps i
+abbrev at_place : List PartAsked → ℕ → PartAsked
+at_place [] i = nothing_asked
+at_place (p ∷ ps) zero = p
+at_place (p ∷ ps) (suc i) = at_place ps i
 
--- whether a test speaks of the part at this place
-abbrev speaks_of : Bool → ℕ → Atom → Bool
-speaks_of exclusive i (within j d) = eqb j i
-speaks_of exclusive i (unsent j) = eqb j i
-speaks_of exclusive i (sent j) = exclusive || eqb j i
-speaks_of exclusive i (each d) = false
-speaks_of exclusive i (scalar own c) = false
-speaks_of exclusive i (equals w) = false
-speaks_of exclusive i (sized c) = false
-speaks_of exclusive i (spelled ranges) = false
+-- ---- one part changed
 
-abbrev only_if : Bool → Term → List Term
-only_if b t = cond b (t ∷ []) []
+given_long : (j : ℕ) (f : PartAsked → PartAsked) (ps : List PartAsked) → length (given j f ps) ≡ length ps
+given_long j f [] = refl
+given_long zero f (p ∷ ps) = refl
+given_long (suc j) f (p ∷ ps) = ap suc (given_long j f ps)
 
-abbrev pub own_terms : Bool → ℕ → List Term → List Term
-own_terms exclusive i [] = []
-own_terms exclusive i (t ∷ ts) = only_if (speaks_of exclusive i t.atom) t ++ own_terms exclusive i ts
+given_there : (j : ℕ) (f : PartAsked → PartAsked) (ps : List PartAsked) → j < length ps → at_place (given j f ps) j ≡ f (at_place ps j)
+given_there j f [] lt = absurd (omega (arith, lt))
+given_there zero f (p ∷ ps) lt = refl
+given_there (suc j) f (p ∷ ps) lt = given_there j f ps (omega (arith, lt))
 
--- ---- one given
+given_apart : (j : ℕ) (f : PartAsked → PartAsked) (ps : List PartAsked) (i : ℕ) → (j ≡ i → ⊥) → at_place (given j f ps) i ≡ at_place ps i
+given_apart j f [] i ne = refl
+given_apart zero f (p ∷ ps) zero ne = absurd (ne refl)
+given_apart zero f (p ∷ ps) (suc i) ne = refl
+given_apart (suc j) f (p ∷ ps) zero ne = refl
+given_apart (suc j) f (p ∷ ps) (suc i) ne = given_apart j f ps i (λ e. ne (ap suc e))
 
-given_long : (j : ℕ) (t : Term) (ps : Lists) → length (given j t ps) ≡ length ps
-given_long j t [] = refl
-given_long zero t (p ∷ ps) = refl
-given_long (suc j) t (p ∷ ps) = ap suc (given_long j t ps)
-
-both_further : (a b : ℕ) → eqb (suc a) (suc b) ≡ eqb a b
-both_further a b = elim (eqb_tells a b) [
-  | inl h ↦ eq-eqb (suc a) (suc b) (ap suc h.1) ∙ sym h.0
-  | inr h ↦ ne_eqb (suc a) (suc b) (λ e. h.1 (omega (arith, e))) ∙ sym h.0
+-- the part of which the term speaks, where it changes no other
+given_law : (exclusive : Bool) (j : ℕ) (t : Term) (ps : List PartAsked) (i : ℕ) → i < length ps → ((j ≡ i → ⊥) → with_term exclusive i t (at_place ps i) ≡ at_place ps i)
+    → at_place (given j (with_term exclusive j t) ps) i ≡ with_term exclusive i t (at_place ps i)
+given_law exclusive j t ps i lt silent = elim (eqb_tells j i) [
+  | inl h ↦ subst (λ (k : ℕ). at_place (given j (with_term exclusive j t) ps) k ≡ with_term exclusive k t (at_place ps k)) h.1 (given_there j (with_term exclusive j t) ps (omega (arith, lt, h.1)))
+  | inr h ↦ given_apart j (with_term exclusive j t) ps i h.1 ∙ sym (silent h.1)
 ]
 
-given_law : (j : ℕ) (t : Term) (ps : Lists) (i : ℕ) → i < length ps → list_at (given j t ps) i ≡ list_at ps i ++ only_if (eqb j i) t
-given_law j t [] i lt = absurd (omega (arith, lt))
-given_law zero t (p ∷ ps) zero lt = refl
-given_law zero t (p ∷ ps) (suc i) lt = sym (ap (λ (b : Bool). list_at ps i ++ only_if b t) (ne_eqb 0 (suc i) (λ e. absurd (omega (arith, e)))) ∙ append-nil (list_at ps i))
-given_law (suc j) t (p ∷ ps) zero lt = sym (ap (λ (b : Bool). p ++ only_if b t) (ne_eqb (suc j) 0 (λ e. absurd (omega (arith, e)))) ∙ append-nil p)
-given_law (suc j) t (p ∷ ps) (suc i) lt = given_law j t ps i (omega (arith, lt)) ∙ ap (λ (b : Bool). list_at ps i ++ only_if b t) (sym (both_further j i))
-
-below_long : (n : ℕ) (t : Term) (ps : Lists) → length (given_below n t ps) ≡ length ps
+below_long : (n : ℕ) (t : Term) (ps : List PartAsked) → length (given_below n t ps) ≡ length ps
 below_long zero t ps = refl
-below_long (suc n) t ps = below_long n t (given n t ps) ∙ given_long n t ps
-
-given_other : (j : ℕ) (t : Term) (ps : Lists) (i : ℕ) → i < length ps → eqb j i ≡ false → list_at (given j t ps) i ≡ list_at ps i
-given_other j t ps i lt e = given_law j t ps i lt ∙ ap (λ (b : Bool). list_at ps i ++ only_if b t) e ∙ append-nil (list_at ps i)
-
-given_same : (j : ℕ) (t : Term) (ps : Lists) (i : ℕ) → i < length ps → eqb j i ≡ true → list_at (given j t ps) i ≡ list_at ps i ++ t ∷ []
-given_same j t ps i lt e = given_law j t ps i lt ∙ ap (λ (b : Bool). list_at ps i ++ only_if b t) e
+below_long (suc n) t ps = below_long n t (given n (with_term true n t) ps) ∙ given_long n (with_term true n t) ps
 
 -- those from n on have what they had
-below_apart : (n : ℕ) (t : Term) (ps : Lists) (i : ℕ) → i < length ps → n ≤ i → list_at (given_below n t ps) i ≡ list_at ps i
-below_apart zero t ps i lt le = refl
-below_apart (suc n) t ps i lt le =
-    below_apart n t (given n t ps) i (omega (arith, lt, given_long n t ps)) (omega (arith, le))
-    ∙ given_other n t ps i lt (ne_eqb n i (λ e. absurd (omega (arith, le, e))))
+below_apart : (n : ℕ) (t : Term) (ps : List PartAsked) (i : ℕ) → n ≤ i → at_place (given_below n t ps) i ≡ at_place ps i
+below_apart zero t ps i le = refl
+below_apart (suc n) t ps i le =
+    below_apart n t (given n (with_term true n t) ps) i (omega (arith, le))
+    ∙ given_apart n (with_term true n t) ps i (λ e. absurd (omega (arith, le, e)))
 
-below_law : (n : ℕ) (t : Term) (ps : Lists) (i : ℕ) → i < length ps → i < n → list_at (given_below n t ps) i ≡ list_at ps i ++ t ∷ []
+below_law : (n : ℕ) (t : Term) (ps : List PartAsked) (i : ℕ) → i < length ps → i < n → at_place (given_below n t ps) i ≡ with_term true i t (at_place ps i)
 below_law zero t ps i lt le = absurd (omega (arith, le))
-below_law (suc n) t ps i lt le =
-    let f = λ (b : Bool). eqb n i ≡ b → list_at (given_below n t (given n t ps)) i ≡ list_at ps i ++ t ∷ [] in
-    (elim (eqb n i) as f [
-      | true ↦ λ e.
-          below_apart n t (given n t ps) i (omega (arith, lt, given_long n t ps)) (omega (arith, eqb-true n i e))
-          ∙ given_same n t ps i lt e
-      | false ↦ λ e.
-          below_law n t (given n t ps) i (omega (arith, lt, given_long n t ps)) (lt_of_le-ne (omega (arith, le)) (λ same. eqb-false n i e (sym same)))
-          ∙ ap (λ (own : List Term). own ++ t ∷ []) (given_other n t ps i lt e)
-    ]) refl
+below_law (suc n) t ps i lt le = elim (eqb_tells n i) [
+  | inl h ↦
+      below_apart n t (given n (with_term true n t) ps) i (omega (arith, h.1))
+      ∙ subst (λ (k : ℕ). at_place (given n (with_term true n t) ps) k ≡ with_term true k t (at_place ps k)) h.1 (given_there n (with_term true n t) ps (omega (arith, lt, h.1)))
+  | inr h ↦
+      below_law n t (given n (with_term true n t) ps) i (omega (arith, lt, given_long n (with_term true n t) ps)) (lt_of_le-ne (omega (arith, le)) (λ e. h.1 (sym e)))
+      ∙ ap (with_term true i t) (given_apart n (with_term true n t) ps i h.1)
+]
+
+-- ---- a term says nothing of parts of which it doesn't speak
+
+silent_within : (j i : ℕ) (k : Slots) (d : Demand) (p : PartAsked) → (j ≡ i → ⊥) → asked (p.asks ++ within_in i k (within j d)) p.absent p.present ≡ p
+silent_within j i k d p ne =
+    ap (λ (b : Bool). asked (p.asks ++ cond b (ask k d ∷ []) []) p.absent p.present) (ne_eqb j i ne)
+    ∙ ap (λ (asks : List Ask). asked asks p.absent p.present) (append-nil p.asks)
+
+silent_sent : (j i : ℕ) (k : Slots) (p : PartAsked) → (j ≡ i → ⊥) → asked (p.asks ++ []) (added_if (eqb j i) k p.absent) p.present ≡ p
+silent_sent j i k p ne =
+    ap (λ (b : Bool). asked (p.asks ++ []) (added_if b k p.absent) p.present) (ne_eqb j i ne)
+    ∙ ap (λ (asks : List Ask). asked asks p.absent p.present) (append-nil p.asks)
+
+silent_unsent : (j i : ℕ) (k : Slots) (p : PartAsked) → (j ≡ i → ⊥) → asked (p.asks ++ []) p.absent (added_if (eqb j i) k p.present) ≡ p
+silent_unsent j i k p ne =
+    ap (λ (b : Bool). asked (p.asks ++ []) p.absent (added_if b k p.present)) (ne_eqb j i ne)
+    ∙ ap (λ (asks : List Ask). asked asks p.absent p.present) (append-nil p.asks)
+
+silent : (p : PartAsked) → p ≡ asked (p.asks ++ []) p.absent p.present
+silent p = sym (ap (λ (asks : List Ask). asked asks p.absent p.present) (append-nil p.asks))
 
 -- ---- all given
 
-sent_law : (exclusive : Bool) (j : ℕ) (k : Slots) (ps : Lists) (i : ℕ) → i < length ps
-    → list_at (give exclusive (record { slots = k; atom = sent j }) ps) i ≡ list_at ps i ++ only_if (exclusive || eqb j i) (record { slots = k; atom = sent j })
+sent_law : (exclusive : Bool) (j : ℕ) (k : Slots) (ps : List PartAsked) (i : ℕ) → i < length ps
+    → at_place (give exclusive (record { slots = k; atom = sent j }) ps) i ≡ with_term exclusive i (record { slots = k; atom = sent j }) (at_place ps i)
 sent_law true j k ps i lt = below_law (length ps) (record { slots = k; atom = sent j }) ps i lt lt
-sent_law false j k ps i lt = given_law j (record { slots = k; atom = sent j }) ps i lt
+sent_law false j k ps i lt = given_law false j (record { slots = k; atom = sent j }) ps i lt (silent_sent j i k (at_place ps i))
 
-atom_law : (exclusive : Bool) (a : Atom) (k : Slots) (ps : Lists) (i : ℕ) → i < length ps
-    → list_at (give exclusive (record { slots = k; atom = a }) ps) i ≡ list_at ps i ++ only_if (speaks_of exclusive i a) (record { slots = k; atom = a })
-atom_law exclusive (within j d) k ps i lt = given_law j (record { slots = k; atom = within j d }) ps i lt
-atom_law exclusive (unsent j) k ps i lt = given_law j (record { slots = k; atom = unsent j }) ps i lt
+atom_law : (exclusive : Bool) (a : Atom) (k : Slots) (ps : List PartAsked) (i : ℕ) → i < length ps
+    → at_place (give exclusive (record { slots = k; atom = a }) ps) i ≡ with_term exclusive i (record { slots = k; atom = a }) (at_place ps i)
+atom_law exclusive (within j d) k ps i lt = given_law exclusive j (record { slots = k; atom = within j d }) ps i lt (silent_within j i k d (at_place ps i))
+atom_law exclusive (unsent j) k ps i lt = given_law exclusive j (record { slots = k; atom = unsent j }) ps i lt (silent_unsent j i k (at_place ps i))
 atom_law exclusive (sent j) k ps i lt = sent_law exclusive j k ps i lt
-atom_law exclusive (each d) k ps i lt = sym (append-nil (list_at ps i))
-atom_law exclusive (scalar own c) k ps i lt = sym (append-nil (list_at ps i))
-atom_law exclusive (equals w) k ps i lt = sym (append-nil (list_at ps i))
-atom_law exclusive (sized c) k ps i lt = sym (append-nil (list_at ps i))
-atom_law exclusive (spelled ranges) k ps i lt = sym (append-nil (list_at ps i))
+atom_law exclusive (each d) k ps i lt = silent (at_place ps i)
+atom_law exclusive (scalar own c) k ps i lt = silent (at_place ps i)
+atom_law exclusive (equals w) k ps i lt = silent (at_place ps i)
+atom_law exclusive (sized c) k ps i lt = silent (at_place ps i)
+atom_law exclusive (spelled ranges) k ps i lt = silent (at_place ps i)
 
-sent_long : (exclusive : Bool) (j : ℕ) (k : Slots) (ps : Lists) → length (give exclusive (record { slots = k; atom = sent j }) ps) ≡ length ps
+sent_long : (exclusive : Bool) (j : ℕ) (k : Slots) (ps : List PartAsked) → length (give exclusive (record { slots = k; atom = sent j }) ps) ≡ length ps
 sent_long true j k ps = below_long (length ps) (record { slots = k; atom = sent j }) ps
-sent_long false j k ps = given_long j (record { slots = k; atom = sent j }) ps
+sent_long false j k ps = given_long j (with_term false j (record { slots = k; atom = sent j })) ps
 
-atom_long : (exclusive : Bool) (a : Atom) (k : Slots) (ps : Lists) → length (give exclusive (record { slots = k; atom = a }) ps) ≡ length ps
-atom_long exclusive (within j d) k ps = given_long j (record { slots = k; atom = within j d }) ps
-atom_long exclusive (unsent j) k ps = given_long j (record { slots = k; atom = unsent j }) ps
+atom_long : (exclusive : Bool) (a : Atom) (k : Slots) (ps : List PartAsked) → length (give exclusive (record { slots = k; atom = a }) ps) ≡ length ps
+atom_long exclusive (within j d) k ps = given_long j (with_term exclusive j (record { slots = k; atom = within j d })) ps
+atom_long exclusive (unsent j) k ps = given_long j (with_term exclusive j (record { slots = k; atom = unsent j })) ps
 atom_long exclusive (sent j) k ps = sent_long exclusive j k ps
 atom_long exclusive (each d) k ps = refl
 atom_long exclusive (scalar own c) k ps = refl
@@ -122,131 +122,78 @@ atom_long exclusive (equals w) k ps = refl
 atom_long exclusive (sized c) k ps = refl
 atom_long exclusive (spelled ranges) k ps = refl
 
-all_long : (exclusive : Bool) (ts : List Term) (ps : Lists) → length (give_out exclusive ts ps) ≡ length ps
+all_long : (exclusive : Bool) (ts : List Term) (ps : List PartAsked) → length (give_out exclusive ts ps) ≡ length ps
 all_long exclusive [] ps = refl
 all_long exclusive (t ∷ ts) ps = all_long exclusive ts (give exclusive t ps) ∙ atom_long exclusive t.atom t.slots ps
 
-all_law : (exclusive : Bool) (ts : List Term) (ps : Lists) (i : ℕ) → i < length ps → list_at (give_out exclusive ts ps) i ≡ list_at ps i ++ own_terms exclusive i ts
-all_law exclusive [] ps i lt = sym (append-nil (list_at ps i))
+abbrev with_all : Bool → ℕ → List Term → PartAsked → PartAsked
+with_all exclusive i [] p = p
+with_all exclusive i (t ∷ ts) p = with_all exclusive i ts (with_term exclusive i t p)
+
+all_law : (exclusive : Bool) (ts : List Term) (ps : List PartAsked) (i : ℕ) → i < length ps → at_place (give_out exclusive ts ps) i ≡ with_all exclusive i ts (at_place ps i)
+all_law exclusive [] ps i lt = refl
 all_law exclusive (t ∷ ts) ps i lt =
     all_law exclusive ts (give exclusive t ps) i (omega (arith, lt, atom_long exclusive t.atom t.slots ps))
-    ∙ ap (λ (own : List Term). own ++ own_terms exclusive i ts) (atom_law exclusive t.atom t.slots ps i lt)
-    ∙ append_assoc (list_at ps i) (only_if (speaks_of exclusive i t.atom) t) (own_terms exclusive i ts)
+    ∙ ap (with_all exclusive i ts) (atom_law exclusive t.atom t.slots ps i lt)
 
-empty_at : (n i : ℕ) → list_at (replicate n []) i ≡ []
+-- ---- what one part has then
+
+all_three : {xs ys : List Ask} {k l m n : Slots} → xs ≡ ys → k ≡ l → m ≡ n → asked xs k m ≡ asked ys l n
+all_three p q r = λ i. asked (p i) (q i) (r i)
+
+put_between : (b : Bool) (k m r : Slots) → added (added_if b k m) r ≡ added m (added_if b k r)
+put_between true k m r = added_again m k r ∙ ap (added m) (added_turned k r)
+put_between false k m r = refl
+
+asked_law : (exclusive : Bool) (i : ℕ) (ts : List Term) (p : PartAsked)
+    → with_all exclusive i ts p ≡ asked (p.asks ++ within_of i ts) (added p.absent (absent_of i ts)) (added p.present (slots_where (is_unsent exclusive i) ts))
+asked_law exclusive i [] p = sym (all_three (append-nil p.asks) (added_none p.absent) (added_none p.present))
+asked_law exclusive i (t ∷ ts) p =
+    asked_law exclusive i ts (with_term exclusive i t p)
+    ∙ all_three (append_assoc p.asks (within_in i t.slots t.atom) (within_of i ts)) (put_between (is_sent i t.atom) t.slots p.absent (absent_of i ts))
+    (put_between (is_unsent exclusive i t.atom) t.slots p.present (slots_where (is_unsent exclusive i) ts))
+
+empty_at : (n i : ℕ) → at_place (replicate n nothing_asked) i ≡ nothing_asked
 empty_at zero i = refl
 empty_at (suc n) zero = refl
 empty_at (suc n) (suc i) = empty_at n i
 
-empty_long : (n : ℕ) → length (replicate {A = List Term} n []) ≡ n
+empty_long : (n : ℕ) → length (replicate n nothing_asked) ≡ n
 empty_long zero = refl
 empty_long (suc n) = ap suc (empty_long n)
 
--- ---- what they say of the part
-
-by_own : {X : Type 0} (f : List Term → X) (b : Bool) (t : Term) (ts : List Term) → (b ≡ false → f ts ≡ f (t ∷ ts)) → f (only_if b t ++ ts) ≡ f (t ∷ ts)
-by_own f true t ts h = refl
-by_own f false t ts h = h refl
-
-silent_within : (exclusive : Bool) (i : ℕ) (k : Slots) (a : Atom) → speaks_of exclusive i a ≡ false → [] ≡ within_in i k a
-silent_within exclusive i k (within j d) e = sym (ap (λ (b : Bool). cond b (record { slots = k; demand = d } ∷ []) []) e)
-silent_within exclusive i k (unsent j) e = refl
-silent_within exclusive i k (sent j) e = refl
-silent_within exclusive i k (each d) e = refl
-silent_within exclusive i k (scalar own c) e = refl
-silent_within exclusive i k (equals w) e = refl
-silent_within exclusive i k (sized c) e = refl
-silent_within exclusive i k (spelled ranges) e = refl
-
-pub own_within : (exclusive : Bool) (i : ℕ) (ts : List Term) → within_of i (own_terms exclusive i ts) ≡ within_of i ts
-own_within exclusive i [] = refl
-own_within exclusive i (t ∷ ts) =
-    by_own (within_of i) (speaks_of exclusive i t.atom) t (own_terms exclusive i ts)
-    (λ e. ap (λ (first : List Ask). first ++ within_of i (own_terms exclusive i ts)) (silent_within exclusive i t.slots t.atom e))
-    ∙ ap (λ (rest : List Ask). within_in i t.slots t.atom ++ rest) (own_within exclusive i ts)
-
-no_sent : (a b : Bool) → (a || b) ≡ false → b ≡ false
-no_sent true b e = absurd cc
-no_sent false b e = e
-
-own_slots : (test : Atom → Bool) (exclusive : Bool) (i : ℕ) → ((a : Atom) → speaks_of exclusive i a ≡ false → test a ≡ false) → (ts : List Term) → slots_where test (own_terms exclusive i ts) ≡ slots_where test ts
-own_slots test exclusive i silent [] = refl
-own_slots test exclusive i silent (t ∷ ts) =
-    by_own (slots_where test) (speaks_of exclusive i t.atom) t (own_terms exclusive i ts) (λ e. sym (ap (λ (b : Bool). added_if b t.slots (slots_where test (own_terms exclusive i ts))) (silent t.atom e)))
-    ∙ ap (λ (m : Slots). added_if (test t.atom) t.slots m) (own_slots test exclusive i silent ts)
-
-silent_sent : (exclusive : Bool) (i : ℕ) (a : Atom) → speaks_of exclusive i a ≡ false → is_sent i a ≡ false
-silent_sent exclusive i (sent j) e = no_sent exclusive (eqb j i) e
-silent_sent exclusive i (unsent j) e = refl
-silent_sent exclusive i (within j d) e = refl
-silent_sent exclusive i (each d) e = refl
-silent_sent exclusive i (scalar own c) e = refl
-silent_sent exclusive i (equals w) e = refl
-silent_sent exclusive i (sized c) e = refl
-silent_sent exclusive i (spelled ranges) e = refl
-
-silent_unsent : (exclusive : Bool) (i : ℕ) (a : Atom) → speaks_of exclusive i a ≡ false → is_unsent i a ≡ false
-silent_unsent exclusive i (unsent j) e = e
-silent_unsent exclusive i (sent j) e = refl
-silent_unsent exclusive i (within j d) e = refl
-silent_unsent exclusive i (each d) e = refl
-silent_unsent exclusive i (scalar own c) e = refl
-silent_unsent exclusive i (equals w) e = refl
-silent_unsent exclusive i (sized c) e = refl
-silent_unsent exclusive i (spelled ranges) e = refl
-
-silent_chosen : (i : ℕ) (a : Atom) → speaks_of true i a ≡ false → is_unchosen i a ≡ false
-silent_chosen i (unsent j) e = e
-silent_chosen i (sent j) e = absurd cc
-silent_chosen i (within j d) e = refl
-silent_chosen i (each d) e = refl
-silent_chosen i (scalar own c) e = refl
-silent_chosen i (equals w) e = refl
-silent_chosen i (sized c) e = refl
-silent_chosen i (spelled ranges) e = refl
-
-pub own_absent : (exclusive : Bool) (i : ℕ) (ts : List Term) → absent_of i (own_terms exclusive i ts) ≡ absent_of i ts
-own_absent exclusive i ts = own_slots (is_sent i) exclusive i (silent_sent exclusive i) ts
-
-pub own_present : (exclusive : Bool) (i : ℕ) (ts : List Term) → present_of i (own_terms exclusive i ts) ≡ present_of i ts
-own_present exclusive i ts = own_slots (is_unsent i) exclusive i (silent_unsent exclusive i) ts
-
-pub own_chosen : (i : ℕ) (ts : List Term) → chosen_of i (own_terms true i ts) ≡ chosen_of i ts
-own_chosen i ts = own_slots (is_unchosen i) true i (silent_chosen i) ts
-
 -- ---- in the lists of the code
 
-pub one_more_given : (ps : List (Vec code.Term)) (place : ℕ) (old new : Vec code.Term) (t : code.Term) → place < length ps → old ≡ get_or ps place old → new.items ≡ old.items ++ t ∷ []
-    → given_view (set ps place new) ≡ given place (term_view t) (given_view ps)
-one_more_given [] place old new t lt is more = absurd (omega (arith, lt))
-one_more_given (p ∷ ps) zero old new t lt is more =
-    ap (λ (own : List Term). own ∷ given_view ps)
-    (ap terms_view more ∙ map-append term_view old.items (t ∷ []) ∙ ap (λ (v : Vec code.Term). terms_view v.items ++ term_view t ∷ []) is)
-one_more_given (p ∷ ps) (suc place) old new t lt is more = ap (λ (rest : Lists). terms_view p.items ∷ rest) (one_more_given ps place old new t (omega (arith, lt)) is more)
+pub one_more_given : (ps : List code.PartAsks) (place : ℕ) (old new : code.PartAsks) (f : PartAsked → PartAsked) → place < length ps → old ≡ get_or ps place old → part_asked new ≡ f (part_asked old)
+    → parts_asked (set ps place new) ≡ given place f (parts_asked ps)
+one_more_given [] place old new f lt is more = absurd (omega (arith, lt))
+one_more_given (p ∷ ps) zero old new f lt is more = ap (λ (q : PartAsked). q ∷ parts_asked ps) (more ∙ ap (λ (q : code.PartAsks). f (part_asked q)) is)
+one_more_given (p ∷ ps) (suc place) old new f lt is more = ap (λ (rest : List PartAsked). part_asked p ∷ rest) (one_more_given ps place old new f (omega (arith, lt)) is more)
 
-none_there : (place : ℕ) (t : Term) (ps : Lists) → length ps ≤ place → given place t ps ≡ ps
-none_there place t [] le = refl
-none_there zero t (p ∷ ps) le = absurd (omega (arith, le))
-none_there (suc place) t (p ∷ ps) le = ap (λ (rest : Lists). p ∷ rest) (none_there place t ps (omega (arith, le)))
+none_there : (place : ℕ) (f : PartAsked → PartAsked) (ps : List PartAsked) → length ps ≤ place → given place f ps ≡ ps
+none_there place f [] le = refl
+none_there zero f (p ∷ ps) le = absurd (omega (arith, le))
+none_there (suc place) f (p ∷ ps) le = ap (λ (rest : List PartAsked). p ∷ rest) (none_there place f ps (omega (arith, le)))
 
-pub not_given : (ps : List (Vec code.Term)) (place : ℕ) (t : Term) → length ps ≤ place → given_view ps ≡ given place t (given_view ps)
-not_given ps place t le = sym (none_there place t (given_view ps) (omega (arith, le, length-map ps (λ list. terms_view list.items))))
+pub not_given : (ps : List code.PartAsks) (place : ℕ) (f : PartAsked → PartAsked) → length ps ≤ place → parts_asked ps ≡ given place f (parts_asked ps)
+not_given ps place f le = sym (none_there place f (parts_asked ps) (omega (arith, le, length-map ps part_asked)))
 
-list_read : (vs : List (Vec code.Term)) (place : ℕ) (v : Vec code.Term) → place < length vs → v ≡ get_or vs place v → terms_view v.items ≡ list_at (given_view vs) place
-list_read [] place v lt is = absurd (omega (arith, lt))
-list_read (x ∷ xs) zero v lt is = ap (λ (w : Vec code.Term). terms_view w.items) is
-list_read (x ∷ xs) (suc place) v lt is = list_read xs place v (omega (arith, lt)) is
+part_read : (vs : List code.PartAsks) (place : ℕ) (v : code.PartAsks) → place < length vs → v ≡ get_or vs place v → part_asked v ≡ at_place (parts_asked vs) place
+part_read [] place v lt is = absurd (omega (arith, lt))
+part_read (x ∷ xs) zero v lt is = ap part_asked is
+part_read (x ∷ xs) (suc place) v lt is = part_read xs place v (omega (arith, lt)) is
 
-pub all_given : (exclusive : Bool) (all : List Term) (n : ℕ) (vs : List (Vec code.Term)) → given_view vs ≡ give_out exclusive all (replicate n []) → length vs ≡ n
-all_given exclusive all n vs is = sym (length-map vs (λ list. terms_view list.items)) ∙ ap (λ (ps : Lists). length ps) is ∙ all_long exclusive all (replicate n []) ∙ empty_long n
+pub all_given : (exclusive : Bool) (all : List Term) (n : ℕ) (vs : List code.PartAsks) → parts_asked vs ≡ give_out exclusive all (replicate n nothing_asked) → length vs ≡ n
+all_given exclusive all n vs is =
+    sym (length-map vs part_asked) ∙ ap (λ (ps : List PartAsked). length ps) is ∙ all_long exclusive all (replicate n nothing_asked) ∙ empty_long n
 
-pub own_read : (exclusive : Bool) (all : List Term) (n : ℕ) (vs : List (Vec code.Term)) (place : ℕ) (v : Vec code.Term) → given_view vs ≡ give_out exclusive all (replicate n []) → place < n → v ≡ get_or vs place v
-    → terms_view v.items ≡ own_terms exclusive place all
-own_read exclusive all n vs place v is lt at =
-    list_read vs place v (omega (arith, lt, all_given exclusive all n vs is)) at
-    ∙ ap (λ (ps : Lists). list_at ps place) is
-    ∙ all_law exclusive all (replicate n []) place (omega (arith, lt, empty_long n))
-    ∙ ap (λ (own : List Term). own ++ own_terms exclusive place all) (empty_at n place)
-
-pub given_told : (vs : List (Vec code.Term)) (all : List Term) (b exclusive : Bool) → b ≡ exclusive → (n m : ℕ) → n ≡ m → given_view vs ≡ give_out b all (replicate n []) → given_view vs ≡ give_out exclusive all (replicate m [])
-given_told vs all b exclusive same n m many is = is ∙ ap (λ (b : Bool). give_out b all (replicate n [])) same ∙ ap (λ (k : ℕ). give_out exclusive all (replicate k [])) many
+pub asked_read : (exclusive : Bool) (all : List Term) (n : ℕ) (vs : List code.PartAsks) (place : ℕ) (v : code.PartAsks) → parts_asked vs ≡ give_out exclusive all (replicate n nothing_asked) → place < n → v ≡ get_or vs place v
+    → part_asked v ≡ asked_at exclusive place all
+asked_read exclusive all n vs place v is lt at =
+    part_read vs place v (omega (arith, lt, all_given exclusive all n vs is)) at
+    ∙ ap (λ (ps : List PartAsked). at_place ps place) is
+    ∙ all_law exclusive all (replicate n nothing_asked) place (omega (arith, lt, empty_long n))
+    ∙ ap (with_all exclusive place all) (empty_at n place)
+    ∙ asked_law exclusive place all nothing_asked
+    ∙ ap (λ (m : Slots). asked (within_of place all) m (added none (slots_where (is_unsent exclusive place) all))) (none_added (absent_of place all))
+    ∙ ap (λ (m : Slots). asked (within_of place all) (absent_of place all) m) (none_added (slots_where (is_unsent exclusive place) all))

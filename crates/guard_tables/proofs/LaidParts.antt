@@ -22,7 +22,7 @@ use Rattle.guard_tables.specs.Marking.{absence_marked, items_marked}
 use Rattle.guard_tables.specs.Demands.{Demand, Ask, Atom, scalar, equals, sized, spelled, each, within, sent, unsent, Term, meets, ask_fails, asks_fail}
 use Rattle.guard_tables.specs.Apt.{AreApt, IsAptFor, Speaks, AllSpeak}
 use Rattle.guard_tables.specs.Handed.{ask, each_in, each_of, within_in, within_of}
-use Rattle.guard_tables.specs.Lay.{added_if, is_sent, absent_of, is_unsent, present_of, is_unchosen, chosen_of, side_for}
+use Rattle.guard_tables.specs.Lay.{added_if, is_sent, absent_of, is_unsent, present_of, chosen_of, side_for}
 use Rattle.guard_tables.proofs.SlotSets.{none_law, added_law}
 use Rattle.guard_tables.proofs.Truths.{or_no, and_yes, and_no, or_again, crossed, nothing_more, has_added_if}
 use Rattle.guard_tables.proofs.OwnTests.{inside_passes, inside_fails, inside_fail}
@@ -150,7 +150,7 @@ other_atom : (k m : Slots) (slot : ℕ) → (has m slot || false) ≡ (has m slo
 other_atom k m slot = or_no (has m slot) ∙ nothing_more (has m slot) (has k slot)
 
 chosen_step : (kind : AbstractKind) → element_of kind ≡ None → (i : ℕ) (k m : Slots) (a : Atom) → Speaks kind a → (v : AbstractValue) (slot : ℕ)
-    → (has (added_if (is_unchosen i a) k m) slot || asks_fail slot v (within_in i k a)) ≡ (has m slot || (has k slot && not (inside_passes a (value.chosen i v))))
+    → (has (added_if (is_unsent true i a) k m) slot || asks_fail slot v (within_in i k a)) ≡ (has m slot || (has k slot && not (inside_passes a (value.chosen i v))))
 chosen_step kind e i k m (within j d) s v slot = within_chosen (eqb j i) k m d v slot
 chosen_step kind e i k m (sent j) s v slot = sent_chosen (eqb j i) k m v slot
 chosen_step kind e i k m (unsent j) s v slot = unsent_chosen (eqb j i) k m v slot
@@ -178,8 +178,8 @@ chosen_fails kind e i (t ∷ ts) s v slot =
     let g : Slots = chosen_of i ts in
     let w : Bool = asks_fail slot v (within_of i ts) in
     let f : Bool = inside_fails slot (value.chosen i v) t in
-    ap (λ (x : Bool). has (added_if (is_unchosen i t.atom) t.slots g) slot || x) (list_any-append (ask_fails slot v) (within_in i t.slots t.atom) (within_of i ts))
-    ∙ regrouped (has (added_if (is_unchosen i t.atom) t.slots g) slot) (asks_fail slot v (within_in i t.slots t.atom)) w f (has g slot) (chosen_step kind e i t.slots g t.atom s.0 v slot)
+    ap (λ (x : Bool). has (added_if (is_unsent true i t.atom) t.slots g) slot || x) (list_any-append (ask_fails slot v) (within_in i t.slots t.atom) (within_of i ts))
+    ∙ regrouped (has (added_if (is_unsent true i t.atom) t.slots g) slot) (asks_fail slot v (within_in i t.slots t.atom)) w f (has g slot) (chosen_step kind e i t.slots g t.atom s.0 v slot)
     ∙ ap (λ (x : Bool). x || f) (chosen_fails kind e i ts s.1 v slot)
     ∙ or_turned (inside_fail slot (value.chosen i v) ts) f
   where
@@ -264,7 +264,7 @@ sent_there true i j fs v k m slot e there =
 sent_there false i j fs v k m slot e there = refl
 
 there_step : (kind : AbstractKind) → element_of kind ≡ None → (i : ℕ) (k m : Slots) (a : Atom) → Speaks kind a → (fs : Fields) (v : AbstractValue) (slot : ℕ) → field_at i fs ≡ Some v
-    → (has (added_if (is_unsent i a) k m) slot || asks_fail slot v (within_in i k a)) ≡ (has m slot || (eqb (place_of a) i && (has k slot && not (inside_passes a (value.fields fs)))))
+    → (has (added_if (is_unsent false i a) k m) slot || asks_fail slot v (within_in i k a)) ≡ (has m slot || (eqb (place_of a) i && (has k slot && not (inside_passes a (value.fields fs)))))
 there_step kind e i k m (within j d) s fs v slot there = within_there (eqb j i) i j fs v k m d slot refl there
 there_step kind e i k m (sent j) s fs v slot there = sent_there (eqb j i) i j fs v k m slot refl there
 there_step kind e i k m (unsent j) s fs v slot there = unsent_there (eqb j i) i j fs v k m slot refl there
@@ -296,8 +296,8 @@ there_fails kind e i (t ∷ ts) s fs v slot there =
     let f : Bool = has k slot && not (inside_passes a (value.fields fs)) in
     let y : Bool = eqb (place_of a) i && f in
     let z : Bool = leb (suc i) (place_of a) && f in
-    ap (λ (x : Bool). (has (added_if (is_unsent i a) k g) slot || x) || (z || r)) (list_any-append (ask_fails slot v) (within_in i k a) (within_of i ts))
-    ∙ ap (λ (x : Bool). x || (z || r)) (regrouped (has (added_if (is_unsent i a) k g) slot) (asks_fail slot v (within_in i k a)) w y (has g slot) (there_step kind e i k g a s.0 fs v slot there))
+    ap (λ (x : Bool). (has (added_if (is_unsent false i a) k g) slot || x) || (z || r)) (list_any-append (ask_fails slot v) (within_in i k a) (within_of i ts))
+    ∙ ap (λ (x : Bool). x || (z || r)) (regrouped (has (added_if (is_unsent false i a) k g) slot) (asks_fail slot v (within_in i k a)) w y (has g slot) (there_step kind e i k g a s.0 fs v slot there))
     ∙ shuffled (has g slot) y w z r
     ∙ ap (λ (x : Bool). x || ((has g slot || w) || r)) (here_or_on i (place_of a) f)
     ∙ ap (λ (x : Bool). (leb i (place_of a) && f) || x) (there_fails kind e i ts s.1 fs v slot there)

@@ -26,14 +26,13 @@ use Rattle.guard_tables.specs.Demands.{Ask, Term}
 use Rattle.guard_tables.specs.Forms.{forms_of}
 use Rattle.guard_tables.specs.Formulas as formulas
 use Rattle.guard_tables.specs.Handed.{within_of, terms_at}
-use Rattle.guard_tables.specs.declared.slots.Slots.{Slots}
-use Rattle.guard_tables.specs.Lay.{lay, lay_kind, lay_parts, lay_alternatives, absent_of, present_of, chosen_of, side_for, side_chosen, raised_of}
+use Rattle.guard_tables.specs.Lay.{lay, lay_kind, lay_parts, lay_alternatives, raised_of}
 use Rattle.guard_tables.specs.Plan.{Side, Plan, Body, Parts, plan, no_parts, part, body_in, tags_in, form_in}
 use Rattle.guard_tables.specs.NodesView.{spots_in, root_of}
 use Rattle.guard_tables.specs.TableNodes.{Spot, spot_of, spots_of, spot_at, own_tags, parts_between, IsNode}
 use Rattle.guard_tables.specs.inside.Aside.{spots_at, AreNodes, parts_then}
 use Rattle.guard_tables.specs.inside.Laid.{spots_so_far, Grows, Stacks, Lays, MayBeLaid, PartsMayBeLaid, LaysParts, WithPart, Extends, MayCome, plan_in, parts_in, body_of_group, body_of_elements, parts_of_group, side_of_part, is_exclusive}
-use Rattle.guard_tables.proofs.GivenOut.{own_terms, own_within, own_absent, own_present, own_chosen}
+use Rattle.guard_tables.specs.inside.Giving.{PartAsked, asked_at}
 use Rattle.guard_tables.proofs.Comings.{all_kept, all_stay, grown_on, laid_as, laid_on, nodes_last, parts_last, run, so_many, spots_length}
 
 -- ---- parts
@@ -63,7 +62,7 @@ still_aside old after are g =
     (all_kept old.nodes.items (spots_so_far old.builder) g.more (length old.builder.hots.items) (length after.hots.items) (omega (arith, so_many old.builder)) (longer old.builder after g) are)
 
 one_part : (g : Group) (place : ℕ) (name : List ℕ) (t : AbstractType) (presence : AbstractPresence) (rest : Components) (terms : List Term)
-    → part (side_of_part g place (record { name = name; ty = t; presence = presence }) terms (lay t (within_of place terms))) (lay t (within_of place terms)) (parts_of_group g (suc place) rest terms)
+    → part (side_of_part g (record { name = name; ty = t; presence = presence }) (asked_at (is_exclusive g) place terms) (lay t (within_of place terms))) (lay t (within_of place terms)) (parts_of_group g (suc place) rest terms)
     ≡ parts_of_group g place (component name t presence rest) terms
 one_part group.Series place name t presence rest terms = refl
 one_part group.Set place name t presence rest terms = refl
@@ -87,43 +86,28 @@ extends old new l p s side are laid same with =
           ∙ ap (λ (aside : List Spot). parts_then aside (part side p ps)) (sym (all_stay ns ss laid.grows.more k (omega (arith, so_many old.builder)) are));
     }
 
--- ---- of which only its own tests speak
-
-side_own : (g : Group) (place : ℕ) (c : OneComponent) (own all : List Term) (p : Plan) → own ≡ own_terms (is_exclusive g) place all → side_of_part g place c own p ≡ side_of_part g place c all p
-side_own group.Series place c own all p is =
-    ap (λ (m : Slots). side_for c.ty c.presence p m (present_of place own)) (ap (absent_of place) is ∙ own_absent false place all)
-    ∙ ap (λ (m : Slots). side_for c.ty c.presence p (absent_of place all) m) (ap (present_of place) is ∙ own_present false place all)
-side_own group.Set place c own all p is =
-    ap (λ (m : Slots). side_for c.ty c.presence p m (present_of place own)) (ap (absent_of place) is ∙ own_absent false place all)
-    ∙ ap (λ (m : Slots). side_for c.ty c.presence p (absent_of place all) m) (ap (present_of place) is ∙ own_present false place all)
-side_own group.Choice place c own all p is = ap side_chosen (ap (chosen_of place) is ∙ own_chosen place all)
-
-pub within_own : (g : Group) (place : ℕ) (own all : List Term) → own ≡ own_terms (is_exclusive g) place all → within_of place own ≡ within_of place all
-within_own g place own all is = ap (within_of place) is ∙ own_within (is_exclusive g) place all
-
 -- with one part more it is the parts of all
-pub part_more : (old new : LaidParts) (g : Group) (comps : List Comp) (place : ℕ) (comp : Comp) (own all : List Term) → place < length comps → comp ≡ get_or comps place comp → own ≡ own_terms (is_exclusive g) place all
-    → Extends old new (side_of_part g place (component_view comp) own (lay (component_view comp).ty (within_of place own))) (lay (component_view comp).ty (within_of place own))
+pub part_more : (old new : LaidParts) (g : Group) (comps : List Comp) (place : ℕ) (comp : Comp) (own : PartAsked) (all : List Term) → place < length comps → comp ≡ get_or comps place comp → own ≡ asked_at (is_exclusive g) place all
+    → Extends old new (side_of_part g (component_view comp) own (lay (component_view comp).ty own.asks)) (lay (component_view comp).ty own.asks)
     → (ps : Parts) → parts_in old (parts_of_group g place (left comps place) all) ≡ ps → parts_in new (parts_of_group g (place + 1) (left comps (place + 1)) all) ≡ ps
 part_more old new g comps place comp own all lt at is more ps so_far =
+    let one : PartAsked → OneComponent → Parts → Parts = λ asked c rest. part (side_of_part g c asked (lay c.ty asked.asks)) (lay c.ty asked.asks) rest in
+    let asked : PartAsked = asked_at (is_exclusive g) place all in
     let c : OneComponent = component_view comp in
-    let asks : within_of place own ≡ within_of place all = within_own g place own all is in
-    let rest : Parts = parts_of_group g (place + 1) (left comps (place + 1)) all in
-    more.stand rest
-    ∙ ap (λ (asks : List Ask). parts_in old (part (side_of_part g place c own (lay c.ty asks)) (lay c.ty asks) rest)) asks
-    ∙ ap (λ (s : Side). parts_in old (part s (lay c.ty (within_of place all)) rest)) (side_own g place c own all (lay c.ty (within_of place all)) is)
-    ∙ ap (λ (i : ℕ). parts_in old (part (side_of_part g place c all (lay c.ty (within_of place all))) (lay c.ty (within_of place all)) (parts_of_group g i (left comps (place + 1)) all))) (add-one place)
-    ∙ ap (λ (c : OneComponent). parts_in old (part (side_of_part g place c all (lay c.ty (within_of place all))) (lay c.ty (within_of place all)) (parts_of_group g (suc place) (left comps (place + 1)) all))) (component_view_is comp)
+    more.stand (parts_of_group g (place + 1) (left comps (place + 1)) all)
+    ∙ ap (λ (own : PartAsked). parts_in old (one own c (parts_of_group g (place + 1) (left comps (place + 1)) all))) is
+    ∙ ap (λ (i : ℕ). parts_in old (one asked c (parts_of_group g i (left comps (place + 1)) all))) (add-one place)
+    ∙ ap (λ (c : OneComponent). parts_in old (one asked c (parts_of_group g (suc place) (left comps (place + 1)) all))) (component_view_is comp)
     ∙ ap (λ (ps : Parts). parts_in old ps) (one_part g place (opened comp).name (opened comp).ty (opened comp).presence (left comps (place + 1)) all)
     ∙ ap (λ (cs : Components). parts_in old (parts_of_group g place cs all)) (sym (left_is comps place comp lt at))
     ∙ so_far
 
--- what is asked of the part by its own tests may be laid
-pub part_may : (g : Group) (comps : List Comp) (place : ℕ) (comp : Comp) (own all : List Term) → place < length comps → comp ≡ get_or comps place comp → own ≡ own_terms (is_exclusive g) place all
-    → PartsMayBeLaid place (left comps place) all → MayBeLaid (component_view comp).ty (within_of place own)
+-- what is asked of the part may be laid
+pub part_may : (g : Group) (comps : List Comp) (place : ℕ) (comp : Comp) (own : PartAsked) (all : List Term) → place < length comps → comp ≡ get_or comps place comp → own ≡ asked_at (is_exclusive g) place all
+    → PartsMayBeLaid place (left comps place) all → MayBeLaid (component_view comp).ty own.asks
 part_may g comps place comp own all lt at is may =
     let here : PartsMayBeLaid place (component (opened comp).name (opened comp).ty (opened comp).presence (left comps (place + 1))) all = subst (λ (cs : Components). PartsMayBeLaid place cs all) (left_is comps place comp lt at) may in
-    subst (λ (asks : List Ask). MayBeLaid (component_view comp).ty asks) (sym (within_own g place own all is))
+    subst (λ (own : PartAsked). MayBeLaid (component_view comp).ty own.asks) (sym is)
     (subst (λ (c : OneComponent). MayBeLaid c.ty (within_of place all)) (sym (component_view_is comp)) here.0)
 
 pub part_proper : (comps : List Comp) (place : ℕ) (comp : Comp) (all : List Term) → place < length comps → comp ≡ get_or comps place comp

@@ -17,7 +17,7 @@ use Rattle.guard_tables.specs.Demands.{Ask, Atom, Term, meets, ask_fails, asks_f
 use Rattle.guard_tables.specs.Forms.{forms_of}
 use Rattle.guard_tables.specs.Apt.{AreApt}
 use Rattle.guard_tables.specs.Handed.{each_of, within_of, terms_at}
-use Rattle.guard_tables.specs.Lay.{tests_of, conditions_in, conditions_of, added_if, slots_where, is_sent, absent_of, is_unsent, present_of, is_unchosen, chosen_of, side_for, lay, lay_kind, lay_parts, lay_alternatives, raised_of}
+use Rattle.guard_tables.specs.Lay.{tests_of, conditions_in, conditions_of, added_if, slots_where, is_sent, absent_of, is_unsent, present_of, chosen_of, side_for, lay, lay_kind, lay_parts, lay_alternatives, raised_of}
 use Rattle.guard_tables.specs.inside.SideViews.{asks_marked}
 use Rattle.guard_tables.specs.inside.SlotWords.{InWords, AsksIn}
 use Rattle.guard_tables.proofs.SlotWords.{none_in, added_in, same_slots}
@@ -192,13 +192,13 @@ mutual
       let g : Slots = (side_for t presence q (absent_of i ts) (present_of i ts)).present in
       keeps_fields cs (suc i) ts h fs (type_marked t q v (added m g))
       (keeps_type t asks (within_asks i ts h) v (added m g)
-      (added_in m g p (keeps_there t presence q (absent_of i ts) (present_of i ts) (where_words (is_unsent i) ts h))))
+      (added_in m g p (keeps_there t presence q (absent_of i ts) (present_of i ts) (where_words (is_unsent false i) ts h))))
   keeps_fields (component name t presence cs) i ts h (value.absent fs) m p =
       let asks : List Ask = within_of i ts in
       let q : Plan = lay t asks in
       keeps_fields cs (suc i) ts h fs
       (absence_marked (side_for t presence q (absent_of i ts) (present_of i ts)).absent m)
-      (keeps_gone t presence q (absent_of i ts) (present_of i ts) (where_words (is_sent i) ts h) (where_words (is_unsent i) ts h)
+      (keeps_gone t presence q (absent_of i ts) (present_of i ts) (where_words (is_sent i) ts h) (where_words (is_unsent false i) ts h)
       (λ v m r. keeps_type t asks (within_asks i ts h) v m r) m p)
 
   keeps_alternative : (cs : Components) (i j : ℕ) (ts : List Term) → TermsIn ts → (v : AbstractValue)
@@ -206,7 +206,7 @@ mutual
   keeps_alternative no_components i j ts h v m p = p
   keeps_alternative (component name t presence cs) i zero ts h v m p =
       keeps_type t (within_of i ts) (within_asks i ts h) v (added m (chosen_of i ts))
-      (added_in m (chosen_of i ts) p (where_words (is_unchosen i) ts h))
+      (added_in m (chosen_of i ts) p (where_words (is_unsent true i) ts h))
   keeps_alternative (component name t presence cs) i (suc j) ts h v m p = keeps_alternative cs (suc i) j ts h v m p
 
 -- ---- what a value fails is what it doesn't meet

@@ -47,7 +47,6 @@ pub mod FormRooms
 pub mod SlotOfTypes
 pub mod ReadsBack
 pub mod LaidStanding
-pub mod DifferentLengths
 pub mod SharedTypes
 pub mod SharedSlots
 pub mod OfTables

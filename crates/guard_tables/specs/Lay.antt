@@ -99,36 +99,26 @@ is_sent i (equals w) = false
 is_sent i (sized c) = false
 is_sent i (spelled ranges) = false
 
--- what its presence fails
-abbrev pub is_unsent : ℕ → Atom → Bool
-is_unsent i (unsent j) = nat_eq j i
-is_unsent i (sent j) = false
-is_unsent i (each d) = false
-is_unsent i (within j d) = false
-is_unsent i (scalar own c) = false
-is_unsent i (equals w) = false
-is_unsent i (sized c) = false
-is_unsent i (spelled ranges) = false
-
--- what the choice of the alternative at this place fails: then no other is there
-abbrev pub is_unchosen : ℕ → Atom → Bool
-is_unchosen i (unsent j) = nat_eq j i
-is_unchosen i (sent j) = not (nat_eq j i)
-is_unchosen i (each d) = false
-is_unchosen i (within j d) = false
-is_unchosen i (scalar own c) = false
-is_unchosen i (equals w) = false
-is_unchosen i (sized c) = false
-is_unchosen i (spelled ranges) = false
+-- What its presence fails. Where only one part is there, as in a CHOICE, its presence is the absence of all others.
+abbrev pub is_unsent : Bool → ℕ → Atom → Bool
+is_unsent exclusive i (unsent j) = nat_eq j i
+is_unsent exclusive i (sent j) = exclusive && not (nat_eq j i)
+is_unsent exclusive i (each d) = false
+is_unsent exclusive i (within j d) = false
+is_unsent exclusive i (scalar own c) = false
+is_unsent exclusive i (equals w) = false
+is_unsent exclusive i (sized c) = false
+is_unsent exclusive i (spelled ranges) = false
 
 abbrev pub absent_of : ℕ → List Term → Slots
 absent_of i terms = slots_where (is_sent i) terms
 
 abbrev pub present_of : ℕ → List Term → Slots
-present_of i terms = slots_where (is_unsent i) terms
+present_of i terms = slots_where (is_unsent false i) terms
 
+-- what the choice of the alternative at this place fails
 abbrev pub chosen_of : ℕ → List Term → Slots
-chosen_of i terms = slots_where (is_unchosen i) terms
+chosen_of i terms = slots_where (is_unsent true i) terms
 
 -- ---- plans
 

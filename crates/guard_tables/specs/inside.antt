@@ -13,6 +13,5 @@ pub mod Aside
 pub mod Bare
 pub mod Laid
 pub mod Giving
-pub mod SameParts
 pub mod Sharing
 pub mod SharedTypes

@@ -4,10 +4,12 @@ ghost use Rattle.std.specs.Prelude.{◌≡◌, ◌++◌, ◌∷◌, [], OnOk};
 use crate::slots::Slots;
 use guard_model::{Cons, Kind, OutOfMemory, Ty, Value};
 
-/// Membership in a type, or in a constraint on a type of this kind.
+/// What may be asked of a value.
 #[derive(Clone, Copy)]
 pub enum Demand<'a> {
+    /// Membership in this type.
     Type(&'a Ty),
+    /// Membership in a constraint on a type of this kind.
     Constraint(&'a Kind, &'a Cons),
 }
 

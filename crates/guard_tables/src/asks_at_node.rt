@@ -59,7 +59,7 @@ fn conjoined<'a>(
 {
     let mut besides = Vec::new(alloc);
     for ask in asks {
-        form(ask.demand, alloc, ask.slots, tests, &mut besides)?;
+        form(alloc, ask.demand, ask.slots, tests, &mut besides)?;
     }
     Ok(besides)
 }
@@ -75,7 +75,7 @@ fn forms_from<'a>(alloc: Global, asks: &[Ask<'a>]) -> Result<Formulas<'a>, OutOf
     let mut raises = Vec::new(alloc);
     let mut tests = nothing_yet(alloc, asks.len());
     for (place, ask) in asks.iter().enumerate() {
-        let where_failed = form_with(ask.demand, alloc, slot_at(place), &mut tests)?;
+        let where_failed = form_with(alloc, ask.demand, slot_at(place), &mut tests)?;
         raises.push(Raise {
             slots: ask.slots,
             where_failed,
@@ -89,8 +89,8 @@ fn forms_from<'a>(alloc: Global, asks: &[Ask<'a>]) -> Result<Formulas<'a>, OutOf
 
 /// With this slot: where it fails, by the slots of the node.
 fn form_with<'a>(
-    demand: Demand<'a>,
     alloc: Global,
+    demand: Demand<'a>,
     own: u8,
     tests: &mut Tests<'a>,
 ) -> Result<Form, OutOfMemory>
@@ -99,6 +99,6 @@ fn form_with<'a>(
     ensures form { IfOk result (λ w. form_view w ≡ own_form own (form (only own) (demand_view demand.entry) (formula_of tests.old [])).besides) }
 {
     let mut besides = Vec::new(alloc);
-    form(demand, alloc, Slots::only(own), tests, &mut besides)?;
+    form(alloc, demand, Slots::only(own), tests, &mut besides)?;
     own_form(alloc, own, besides)
 }

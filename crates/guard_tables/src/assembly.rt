@@ -40,8 +40,8 @@ pub(crate) fn with_last(laid: Laid) -> Result<Stacked, OutOfMemory>
 
 /// What is asked of a value that has parts as a whole; where that is nothing no node comes in front.
 pub(crate) fn with_conditions(
-    laid: Laid,
     alloc: Global,
+    laid: Laid,
     conditions: Conditions,
 ) -> Result<Laid, OutOfMemory>
     ensures { IfOk result (λ l. Lays laid.builder l (plans.plan (tags_in (plan_in laid)) (form_in (plan_in laid))
@@ -65,8 +65,8 @@ pub(crate) fn with_conditions(
 
 /// Formulas over what fails there; where they raise nothing no node comes in front.
 pub(crate) fn with_formulas(
-    laid: Laid,
     alloc: Global,
+    laid: Laid,
     raises: Vec<Raise>,
 ) -> Result<Laid, OutOfMemory>
     ensures { IfOk result (λ l. Lays laid.builder l (plans.plan (tags_in (plan_in laid)) (form_in (plan_in laid))
@@ -89,7 +89,7 @@ pub(crate) fn with_formulas(
 }
 
 /// An explicit tag round it.
-fn wrapped(laid: Laid, alloc: Global, tag: Tag) -> Result<Laid, OutOfMemory>
+fn wrapped(alloc: Global, laid: Laid, tag: Tag) -> Result<Laid, OutOfMemory>
     requires { 0 < length (tags_in (plan_in laid)) }
     ensures { IfOk result (λ l. Lays laid.builder l (plans.plan (tag ∷ tags_in (plan_in laid)) (form_in (plan_in laid)) (body_in (plan_in laid)))) }
 {
@@ -114,7 +114,7 @@ pub(crate) fn innermost(tags: &[Tag]) -> Option<Tag>
 }
 
 /// All tags but the last round it, from the inside out.
-pub(crate) fn with_tags(laid: Laid, alloc: Global, tags: &[Tag]) -> Result<Laid, OutOfMemory>
+pub(crate) fn with_tags(alloc: Global, laid: Laid, tags: &[Tag]) -> Result<Laid, OutOfMemory>
     requires { tags_in (plan_in laid) ≡ drop (length tags.now - 1) tags.now }
     ensures { IfOk result (λ l. Lays laid.builder l (plans.plan tags.now (form_in (plan_in laid)) (body_in (plan_in laid)))) }
 {
@@ -122,7 +122,7 @@ pub(crate) fn with_tags(laid: Laid, alloc: Global, tags: &[Tag]) -> Result<Laid,
     let mut left = tags.len().saturating_sub(1);
     while left > 0 {
         left -= 1;
-        whole = wrapped(whole, alloc, tags[left])?;
+        whole = wrapped(alloc, whole, tags[left])?;
     }
     Ok(whole)
 }
@@ -131,8 +131,8 @@ pub(crate) fn with_tags(laid: Laid, alloc: Global, tags: &[Tag]) -> Result<Laid,
 
 /// A list of such elements.
 pub(crate) fn as_elements(
-    element: Laid,
     alloc: Global,
+    element: Laid,
     elements: Elements,
     tag: Option<Tag>,
 ) -> Result<Laid, OutOfMemory>
@@ -150,8 +150,8 @@ pub(crate) fn as_elements(
 
 /// A node that has these parts.
 pub(crate) fn as_parts(
-    parts: LaidParts,
     alloc: Global,
+    parts: LaidParts,
     group: Group,
     tag: Option<Tag>,
 ) -> Result<Laid, OutOfMemory>

@@ -36,7 +36,7 @@ fn of_type(ty: &Ty, way: &[usize]) -> usize
     of_kind(&ty.kind, way).saturating_add(of_constraints(&ty.cons, way))
 }
 
-/// One of the type itself; of each part what its type lays.
+/// One of the type itself, and what the type of each part lays.
 #[cycle(conditions)]
 fn of_kind(kind: &Kind, way: &[usize]) -> usize
     ensures { result ≡ counted (of_kind (kind_view kind.now) way.now) }
@@ -53,7 +53,7 @@ fn of_kind(kind: &Kind, way: &[usize]) -> usize
     }
 }
 
-/// Of the component or alternative at this place.
+/// Those of the component or alternative at this place.
 #[cycle(conditions)]
 fn of_component(comps: &[Comp], place: usize, way: &[usize]) -> usize
     ensures { result ≡ counted (of_component (components_of (map component_view comps.now)) place way.now) }
@@ -133,7 +133,7 @@ fn of_parts(parts: &[Part], place: usize, way: &[usize]) -> usize
     count
 }
 
-/// Of one part of WITH COMPONENTS, where it is the one at this place.
+/// Those of one part of WITH COMPONENTS, where it is the one at this place.
 #[cycle(conditions)]
 fn of_part(part: &Part, place: usize, way: &[usize]) -> usize
     ensures { result ≡ counted (of_part (part_view part.now) place way.now) }

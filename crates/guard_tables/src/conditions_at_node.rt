@@ -83,8 +83,8 @@ fn test_of(alloc: Global, kind: &Kind, atom: &Atom<'_>) -> Result<Option<Test>, 
     match atom {
         Atom::Scalar(own, constraint) => scalar_test(alloc, kind, own, constraint),
         Atom::Equals(value) => Ok(Some(stored_test(alloc, kind, value)?)),
-        Atom::Sized(constraint) => Ok(Some(size_test(constraint, alloc)?)),
-        Atom::Spelled(ranges) => Ok(Some(spelling_test(ranges, alloc)?)),
+        Atom::Sized(constraint) => Ok(Some(size_test(alloc, constraint)?)),
+        Atom::Spelled(ranges) => Ok(Some(spelling_test(alloc, ranges)?)),
         Atom::Each(_) => Ok(None),
         Atom::Within(_, _) => Ok(None),
         Atom::Sent(_) => Ok(None),
@@ -116,7 +116,7 @@ fn scalar_test(
 {
     match kind {
         Kind::Bool => truth_test(alloc, kind, own, constraint),
-        Kind::Int(_) => Ok(Some(number_test(constraint, alloc)?)),
+        Kind::Int(_) => Ok(Some(number_test(alloc, constraint)?)),
         Kind::Enumerated(items) => Ok(Some(item_test(alloc, kind, items, own, constraint)?)),
         Kind::Null if is_met(Demand::Constraint(own, constraint), kind, &Value::Null) => Ok(None),
         Kind::Null => Ok(Some(no_value(alloc))),

@@ -44,7 +44,7 @@ impl Conditions {
         Ok(Conditions { list, segments })
     }
 
-    /// What fails of them for this number; None where one of them isn't on a number.
+    /// Which slots fail for this number; None where one of them isn't on a number.
     pub fn failed_at(&self, number: i128) -> Option<Slots>
         ensures numbers { is_some result ≡ are_on_numbers (map condition_view self.now.list.items) }
         ensures failed { IfSome result (λ slots. (f : Facts) (m : Slots) → f.number ≡ Some number

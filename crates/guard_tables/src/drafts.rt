@@ -127,7 +127,7 @@ pub(crate) fn simple_node(
     with_plain(asking_node(alloc, kind, items, conditions, tag))
 }
 
-/// Of which it isn't said yet which numbers are plain there.
+/// The node before it is said which numbers are plain there.
 fn asking_node(
     alloc: Global,
     kind: SimpleKind,
@@ -154,7 +154,7 @@ fn asking_node(
     node
 }
 
-/// With the numbers that are plain there.
+/// The node with the numbers that are plain there.
 fn with_plain(node: Node) -> Node
     ensures node { (spots : List Spot) (k : ℕ) → IsNode node.hot node.cold spots k → IsNode result.hot result.cold spots k }
     ensures spot { (spots : List Spot) → spot_of result.hot result.cold spots ≡ spot_of node.hot node.cold spots }
@@ -190,7 +190,7 @@ pub(crate) fn group_node(
     node
 }
 
-/// As a component of which this is said.
+/// The node as a component of which this is said.
 pub(crate) fn with_side(node: Node, side: PartSide) -> Node
     ensures node { (spots : List Spot) (k : ℕ) → IsNode node.hot node.cold spots k → IsNode result.hot result.cold spots k }
     ensures spot { (spots : List Spot) → spot_of result.hot result.cold spots

@@ -10,8 +10,9 @@ ghost use Rattle.guard_tables.specs.inside.FormViews.{formula_of};
 use crate::asks::{Atom, Demand, Term, push};
 use crate::form_trees::{all_of, own_form, unless};
 use crate::node::Form;
-use crate::parts::{element_kind, is_scalar, push_kind, push_parts};
+use crate::parts::{is_scalar, push_kind, push_parts};
 use crate::slots::Slots;
+use guard_eval::element_kind;
 use guard_model::{Cons, Kind, OutOfMemory, Rule, Ty};
 use std::alloc::Global;
 
@@ -24,8 +25,8 @@ pub(crate) struct Tests<'a> {
 
 /// With these slots. A node has no more than 256.
 pub(crate) fn form<'a>(
-    demand: Demand<'a>,
     alloc: Global,
+    demand: Demand<'a>,
     slots: Slots,
     tests: &mut Tests<'a>,
     besides: &mut Vec<Form>,
@@ -35,17 +36,17 @@ pub(crate) fn form<'a>(
         ≡ form slots (demand_view demand.entry) (formula_of tests.old besides.old.items)) }
 {
     match demand {
-        Demand::Type(ty) => form_type(ty, alloc, slots, tests, besides),
+        Demand::Type(ty) => form_type(alloc, ty, slots, tests, besides),
         Demand::Constraint(kind, constraint) => {
-            form_one(constraint, kind, alloc, slots, tests, besides)
+            form_one(alloc, constraint, kind, slots, tests, besides)
         }
     }
 }
 
 #[cycle(formulas)]
 fn form_type<'a>(
-    ty: &'a Ty,
     alloc: Global,
+    ty: &'a Ty,
     slots: Slots,
     tests: &mut Tests<'a>,
     besides: &mut Vec<Form>,
@@ -54,16 +55,16 @@ fn form_type<'a>(
     ensures { OnOk result (formula_of tests.new besides.new.items
         ≡ form_type slots (type_view ty.now) (formula_of tests.old besides.old.items)) }
 {
-    form_all(&ty.cons, &ty.kind, alloc, slots, tests, besides)?;
+    form_all(alloc, &ty.cons, &ty.kind, slots, tests, besides)?;
     push_kind(&ty.kind, slots, &mut tests.terms)
 }
 
 /// All of these, with the same slots.
 #[cycle(formulas)]
 fn form_all<'a>(
+    alloc: Global,
     constraints: &'a [Cons],
     kind: &'a Kind,
-    alloc: Global,
     slots: Slots,
     tests: &mut Tests<'a>,
     besides: &mut Vec<Form>,
@@ -73,7 +74,7 @@ fn form_all<'a>(
         ≡ form_all slots (kind_view kind.now) (constraints_of (map constraint_view constraints.now)) (formula_of tests.old besides.old.items)) }
 {
     for constraint in constraints {
-        form_one(constraint, kind, alloc, slots, tests, besides)?;
+        form_one(alloc, constraint, kind, slots, tests, besides)?;
     }
     Ok(())
 }
@@ -81,9 +82,9 @@ fn form_all<'a>(
 /// Each of these with a slot of its own, as members of a union.
 #[cycle(formulas)]
 fn form_each<'a>(
+    alloc: Global,
     constraints: &'a [Cons],
     kind: &'a Kind,
-    alloc: Global,
     tests: &mut Tests<'a>,
     besides: &mut Vec<Form>,
 ) -> Result<(), OutOfMemory>
@@ -92,7 +93,7 @@ fn form_each<'a>(
         ≡ form_each (kind_view kind.now) (constraints_of (map constraint_view constraints.now)) (formula_of tests.old besides.old.items)) }
 {
     for constraint in constraints {
-        form_own(constraint, kind, alloc, false, tests, besides)?;
+        form_own(alloc, constraint, kind, false, tests, besides)?;
     }
     Ok(())
 }
@@ -101,9 +102,9 @@ fn form_each<'a>(
 /// the set is taken away, where it doesn't.
 #[cycle(formulas)]
 fn form_own<'a>(
+    alloc: Global,
     constraint: &'a Cons,
     kind: &'a Kind,
-    alloc: Global,
     taken: bool,
     tests: &mut Tests<'a>,
     besides: &mut Vec<Form>,
@@ -116,22 +117,22 @@ fn form_own<'a>(
     tests.next += 1;
     let mut inner = Vec::new(alloc);
     form_one(
+        alloc,
         constraint,
         kind,
-        alloc,
         Slots::only(slot),
         tests,
         &mut inner,
     )?;
     let form = own_form(alloc, slot, inner)?;
-    push_form(form, alloc, taken, besides)
+    push_form(alloc, form, taken, besides)
 }
 
 #[cycle(formulas)]
 fn form_one<'a>(
+    alloc: Global,
     constraint: &'a Cons,
     kind: &'a Kind,
-    alloc: Global,
     slots: Slots,
     tests: &mut Tests<'a>,
     besides: &mut Vec<Form>,
@@ -143,15 +144,15 @@ fn form_one<'a>(
     if is_scalar(kind) {
         return push(&mut tests.terms, slots, Atom::Scalar(kind, constraint));
     }
-    form_rule(&constraint.rule, kind, alloc, slots, tests, besides)
+    form_rule(alloc, &constraint.rule, kind, slots, tests, besides)
 }
 
-/// Of a kind that isn't scalar. A range is on INTEGER alone.
+/// On a kind that isn't scalar; a range is on INTEGER alone.
 #[cycle(formulas)]
 fn form_rule<'a>(
+    alloc: Global,
     rule: &'a Rule,
     kind: &'a Kind,
-    alloc: Global,
     slots: Slots,
     tests: &mut Tests<'a>,
     besides: &mut Vec<Form>,
@@ -162,7 +163,7 @@ fn form_rule<'a>(
 {
     match rule {
         Rule::One(value) => push(&mut tests.terms, slots, Atom::Equals(value)),
-        Rule::Inside(ty) => form_type(ty, alloc, slots, tests, besides),
+        Rule::Inside(ty) => form_type(alloc, ty, slots, tests, besides),
         Rule::Range(_, _) => Ok(()),
         Rule::Size(size) => push(&mut tests.terms, slots, Atom::Sized(size)),
         Rule::Alphabet(ranges) => push(&mut tests.terms, slots, Atom::Spelled(ranges)),
@@ -175,22 +176,22 @@ fn form_rule<'a>(
         }
         Rule::Any(constraints) => {
             let mut members = Vec::new(alloc);
-            form_each(constraints, kind, alloc, tests, &mut members)?;
+            form_each(alloc, constraints, kind, tests, &mut members)?;
             let form = all_of(alloc, members)?;
-            push_form(form, alloc, false, besides)
+            push_form(alloc, form, false, besides)
         }
-        Rule::Both(constraints) => form_all(constraints, kind, alloc, slots, tests, besides),
+        Rule::Both(constraints) => form_all(alloc, constraints, kind, slots, tests, besides),
         Rule::Minus(kept, taken) => {
-            form_one(kept, kind, alloc, slots, tests, besides)?;
-            form_own(taken, kind, alloc, true, tests, besides)
+            form_one(alloc, kept, kind, slots, tests, besides)?;
+            form_own(alloc, taken, kind, true, tests, besides)
         }
-        Rule::Other(other) => form_own(other, kind, alloc, true, tests, besides),
+        Rule::Other(other) => form_own(alloc, other, kind, true, tests, besides),
     }
 }
 
 fn push_form(
-    form: Form,
     alloc: Global,
+    form: Form,
     taken: bool,
     forms: &mut Vec<Form>,
 ) -> Result<(), OutOfMemory>

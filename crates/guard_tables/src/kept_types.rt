@@ -8,11 +8,11 @@ use std::marker::Model;
 
 /// The declared type and the types of the rules; contracts see these two alone, and not how they are kept.
 #[derive(Drop)]
-pub struct KeptTypes {
+pub(crate) struct KeptTypes {
     declared: Ty,
     /// The types of rules that aren't the declared one, each once.
     others: Vec<Ty>,
-    /// Of each rule the place of its type: 0 is the declared one's, and i + 1 that of the other at i.
+    /// The place of each rule's type: 0 is the declared one's, and i + 1 that of the other at i.
     places: Vec<usize>,
 }
 
@@ -34,7 +34,7 @@ impl KeptTypes {
     ghost use Rattle.std.specs.Prelude.{◌≡◌, length, slice_get, option_map};
     ghost use Rattle.guard_tables.specs.inside.SharedTypes.{type_at, types_at};
 
-    /// Of each rule the type at its place.
+    /// Each rule has the type at its place.
     pub(crate) fn new(declared: Ty, others: Vec<Ty>, places: Vec<usize>) -> KeptTypes
         ensures { result ≡ (declared, types_at declared others.items places.items) }
     {

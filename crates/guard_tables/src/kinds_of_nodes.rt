@@ -10,7 +10,7 @@ use crate::node::SimpleKind;
 use guard_model::{Kind, Named, OutOfMemory};
 use std::alloc::Global;
 
-/// Of a kind that has no parts, the kind of node.
+/// The kind of node for a kind that has no parts.
 pub(crate) fn simple_kind(kind: &Kind) -> SimpleKind
     requires { der.is_constructed (kind_view kind.now) ≡ false }
     ensures { views.kind_view result (item_numbers (kind_view kind.now)) ≡ nameless (kind_view kind.now) }
@@ -29,7 +29,7 @@ pub(crate) fn simple_kind(kind: &Kind) -> SimpleKind
     }
 }
 
-/// The numbers of the items of an ENUMERATED; of another kind none.
+/// The numbers of the items of an ENUMERATED; none of another kind.
 pub(crate) fn item_numbers(alloc: Global, kind: &Kind) -> Result<Vec<i128>, OutOfMemory>
     ensures { IfOk result (λ numbers. numbers.items ≡ item_numbers (kind_view kind.now)) }
 {

@@ -9,7 +9,7 @@ ghost use Rattle.guard_model.specs.Limits.{most_components};
 ghost use Rattle.guard_model.specs.TypeView.{type_view, kind_view, component_view, components_of};
 ghost use Rattle.guard_tables.specs.Apt.{AreApt, AllSpeak};
 ghost use Rattle.guard_tables.specs.Forms.{forms_of};
-ghost use Rattle.guard_tables.specs.Handed.{each_of, within_of, terms_at, NeedsFew};
+ghost use Rattle.guard_tables.specs.Handed.{each_of, terms_at, NeedsFew};
 ghost use Rattle.guard_tables.specs.Lay as plan;
 ghost use Rattle.guard_tables.specs.NodeViews.{condition_view};
 ghost use Rattle.guard_tables.specs.NodesView.{root_of};
@@ -17,6 +17,7 @@ ghost use Rattle.guard_tables.specs.Plan as plans;
 ghost use Rattle.guard_tables.specs.Plan.{asked_of};
 ghost use Rattle.guard_tables.specs.TableNodes.{own_tags};
 ghost use Rattle.guard_tables.specs.inside.AskViews.{asks_view, terms_view};
+ghost use Rattle.guard_tables.specs.inside.Giving.{part_asked};
 ghost use Rattle.guard_tables.specs.inside.Laid.{Lays, LaysParts, Extends, MayCome, MayBeLaid, AskedMayBeLaid, KindMayBeLaid, PartsMayBeLaid, body_of_group, parts_of_group, body_of_elements, side_of_part};
 ghost use Rattle.guard_tables.specs.inside.SideViews.{part_side_view};
 
@@ -29,12 +30,10 @@ use crate::assembly::{
 use crate::conditions_at_node::conditions_of;
 use crate::conditions_list::Conditions;
 use crate::drafts::{Elements, Group, simple_node};
-use crate::gathering::{each_of, within_of};
-use crate::giving::give_out;
+use crate::giving::{PartAsks, each_of, give_out};
 use crate::kinds_of_nodes::{item_numbers, simple_kind};
 use crate::laid::{Laid, LaidParts};
 use crate::node_list::{Builder, Nodes};
-use crate::presence::{Event, slots_where};
 use crate::sides::{PartSide, side_chosen, side_for};
 use guard_model::{Comp, Kind, OutOfMemory, Tag, Ty};
 use std::alloc::Global;
@@ -50,27 +49,27 @@ pub(crate) fn lay_nodes(
     requires room { NeedsFew (type_view declared.now) (asks_view asks.now) }
     ensures { IfOk result (λ n. root_of n ≡ plan.lay (type_view declared.now) (asks_view asks.now)) }
 {
-    let laid = lay(declared, alloc, asks, Builder::new(alloc))?;
+    let laid = lay(alloc, declared, asks, Builder::new(alloc))?;
     let whole = with_last(laid)?;
     Ok(whole.builder.finish())
 }
 
 /// The node of a type, and what is inside it.
 #[cycle(layout)]
-fn lay(ty: &Ty, alloc: Global, asks: &[Ask<'_>], builder: Builder) -> Result<Laid, OutOfMemory>
+fn lay(alloc: Global, ty: &Ty, asks: &[Ask<'_>], builder: Builder) -> Result<Laid, OutOfMemory>
     requires { MayBeLaid (type_view ty.now) (asks_view asks.now) }
     ensures { IfOk result (λ l. Lays builder l (plan.lay (type_view ty.now) (asks_view asks.now))) }
 {
     let tag = innermost(&ty.tags);
-    let laid = lay_asked(&ty.kind, alloc, asks, tag, builder)?;
-    with_tags(laid, alloc, &ty.tags)
+    let laid = lay_asked(alloc, &ty.kind, asks, tag, builder)?;
+    with_tags(alloc, laid, &ty.tags)
 }
 
 /// Without the tags that are round it.
 #[cycle(layout)]
 fn lay_asked(
-    kind: &Kind,
     alloc: Global,
+    kind: &Kind,
     asks: &[Ask<'_>],
     tag: Option<Tag>,
     builder: Builder,
@@ -80,15 +79,15 @@ fn lay_asked(
         (plan.raised_of (forms_of (asks_view asks.now)).raises (plan.lay_kind (kind_view kind.now) (terms_at (asks_view asks.now)))))) }
 {
     let formulas = forms_of(alloc, asks)?;
-    let laid = lay_kind(kind, alloc, &formulas.terms, tag, builder)?;
-    with_formulas(laid, alloc, formulas.raises)
+    let laid = lay_kind(alloc, kind, &formulas.terms, tag, builder)?;
+    with_formulas(alloc, laid, formulas.raises)
 }
 
 /// Where demands are tests of the node and of its parts.
 #[cycle(layout)]
 fn lay_kind(
-    kind: &Kind,
     alloc: Global,
+    kind: &Kind,
     terms: &[Term<'_>],
     tag: Option<Tag>,
     builder: Builder,
@@ -101,18 +100,18 @@ fn lay_kind(
     let conditions = conditions_of(alloc, kind, terms)?;
     match kind {
         Kind::Sequence(comps) => lay_group(
-            comps,
             alloc,
+            comps,
             Group::Series,
             terms,
             tag,
             conditions,
             builder,
         ),
-        Kind::Set(comps) => lay_group(comps, alloc, Group::Set, terms, tag, conditions, builder),
+        Kind::Set(comps) => lay_group(alloc, comps, Group::Set, terms, tag, conditions, builder),
         Kind::Choice(comps) => lay_group(
-            comps,
             alloc,
+            comps,
             Group::Choice,
             terms,
             tag,
@@ -120,8 +119,8 @@ fn lay_kind(
             builder,
         ),
         Kind::SequenceOf(element) => lay_elements(
-            element,
             alloc,
+            element,
             Elements::List,
             terms,
             tag,
@@ -129,22 +128,22 @@ fn lay_kind(
             builder,
         ),
         Kind::SetOf(element) => lay_elements(
-            element,
             alloc,
+            element,
             Elements::SetOf,
             terms,
             tag,
             conditions,
             builder,
         ),
-        _ => lay_simple(kind, alloc, tag, conditions, builder),
+        _ => lay_simple(alloc, kind, tag, conditions, builder),
     }
 }
 
 /// A kind whose contents octets spell the value alone.
 fn lay_simple(
-    kind: &Kind,
     alloc: Global,
+    kind: &Kind,
     tag: Option<Tag>,
     conditions: Conditions,
     builder: Builder,
@@ -161,8 +160,8 @@ fn lay_simple(
 /// SEQUENCE OF and SET OF: one node for all elements.
 #[cycle(layout)]
 fn lay_elements(
-    element: &Ty,
     alloc: Global,
+    element: &Ty,
     elements: Elements,
     terms: &[Term<'_>],
     tag: Option<Tag>,
@@ -174,16 +173,16 @@ fn lay_elements(
         (body_of_elements elements (plan.lay (type_view element.now) (each_of (terms_view terms.now))))))) }
 {
     let asks = each_of(alloc, terms)?;
-    let laid = lay(element, alloc, &asks, builder)?;
-    let whole = as_elements(laid, alloc, elements, tag)?;
-    with_conditions(whole, alloc, conditions)
+    let laid = lay(alloc, element, &asks, builder)?;
+    let whole = as_elements(alloc, laid, elements, tag)?;
+    with_conditions(alloc, whole, conditions)
 }
 
 /// SEQUENCE, SET and CHOICE.
 #[cycle(layout)]
 fn lay_group(
-    comps: &[Comp],
     alloc: Global,
+    comps: &[Comp],
     group: Group,
     terms: &[Term<'_>],
     tag: Option<Tag>,
@@ -195,16 +194,16 @@ fn lay_group(
     ensures { IfOk result (λ l. Lays builder l (plans.plan (own_tags tag) true (asked_of (map condition_view conditions.list.items)
         (body_of_group group (parts_of_group group 0 (components_of (map component_view comps.now)) (terms_view terms.now)))))) }
 {
-    let parts = lay_each(comps, alloc, group, terms, builder)?;
-    let whole = as_parts(parts, alloc, group, tag)?;
-    with_conditions(whole, alloc, conditions)
+    let parts = lay_each(alloc, comps, group, terms, builder)?;
+    let whole = as_parts(alloc, parts, group, tag)?;
+    with_conditions(alloc, whole, conditions)
 }
 
 /// What is inside the parts, and the parts' own nodes aside.
 #[cycle(layout)]
 fn lay_each(
-    comps: &[Comp],
     alloc: Global,
+    comps: &[Comp],
     group: Group,
     terms: &[Term<'_>],
     builder: Builder,
@@ -218,51 +217,53 @@ fn lay_each(
     };
     let given = give_out(alloc, group.is_exclusive(), terms, comps.len())?;
     for (place, comp) in comps.iter().enumerate() {
-        parts = lay_part(comp, alloc, group, place, &given[place], parts)?;
+        parts = lay_part(alloc, comp, group, &given[place], parts)?;
     }
     Ok(parts)
 }
 
-/// With one component or alternative more, of which these tests speak.
+/// With one component or alternative more, of which this is asked.
 #[cycle(layout)]
 fn lay_part(
-    comp: &Comp,
     alloc: Global,
+    comp: &Comp,
     group: Group,
-    place: usize,
-    terms: &[Term<'_>],
+    asked: &PartAsks<'_>,
     parts: LaidParts,
 ) -> Result<LaidParts, OutOfMemory>
     requires nodes { MayCome parts }
-    requires laid { MayBeLaid (component_view comp.now).ty (within_of place (terms_view terms.now)) }
+    requires laid { MayBeLaid (component_view comp.now).ty (part_asked asked.now).asks }
     requires proper { IsTrue (is_proper_presence (component_view comp.now).ty (component_view comp.now).presence) }
     ensures { IfOk result (λ l. Extends parts l
-        (side_of_part group place (component_view comp.now) (terms_view terms.now) (plan.lay (component_view comp.now).ty (within_of place (terms_view terms.now))))
-        (plan.lay (component_view comp.now).ty (within_of place (terms_view terms.now)))) }
+        (side_of_part group (component_view comp.now) (part_asked asked.now) (plan.lay (component_view comp.now).ty (part_asked asked.now).asks))
+        (plan.lay (component_view comp.now).ty (part_asked asked.now).asks)) }
 {
-    let asks = within_of(alloc, place, terms)?;
-    let side = side_of(comp, alloc, group, place, terms, &asks)?;
-    let laid = lay(&comp.ty, alloc, &asks, parts.builder)?;
+    let side = side_of(alloc, comp, group, asked)?;
+    let laid = lay(alloc, &comp.ty, &asked.asks, parts.builder)?;
     with_part(laid, parts.nodes, side)
 }
 
 /// What is said of a component or alternative, beside its type.
 fn side_of(
-    comp: &Comp,
     alloc: Global,
+    comp: &Comp,
     group: Group,
-    place: usize,
-    terms: &[Term<'_>],
-    asks: &[Ask<'_>],
+    asked: &PartAsks<'_>,
 ) -> Result<PartSide, OutOfMemory>
-    requires laid { MayBeLaid (component_view comp.now).ty (asks_view asks.now) }
+    requires laid { MayBeLaid (component_view comp.now).ty (part_asked asked.now).asks }
     requires proper { IsTrue (is_proper_presence (component_view comp.now).ty (component_view comp.now).presence) }
-    ensures { IfOk result (λ s. part_side_view s ≡ side_of_part group place (component_view comp.now) (terms_view terms.now) (plan.lay (component_view comp.now).ty (asks_view asks.now))) }
+    ensures { IfOk result (λ s. part_side_view s ≡ side_of_part group (component_view comp.now) (part_asked asked.now)
+        (plan.lay (component_view comp.now).ty (part_asked asked.now).asks)) }
 {
     if let Group::Choice = group {
-        return Ok(side_chosen(slots_where(Event::Chosen, place, terms)));
+        return Ok(side_chosen(asked.present));
     }
-    let absent = slots_where(Event::Absent, place, terms);
-    let present = slots_where(Event::Present, place, terms);
-    side_for(alloc, &comp.ty, &comp.presence, asks, absent, present)
+    side_for(
+        alloc,
+        &comp.ty,
+        &comp.presence,
+        &asked.asks,
+        asked.absent,
+        asked.present,
+    )
 }

@@ -5,7 +5,6 @@
 //! | What is a table, and which types make one? | `table.rt` (`Table::compile`) | `TableView.antt`, `Tables.antt` |
 //! | Why do types make none, and which reason comes first? | `fault.rt` | `Tables.antt` |
 //! | Which types does a table keep? | `kept_types.rt`, each once `sharing.rt` | `SharedTypes.antt`, `Sharing.antt` |
-//! | When are two types one and the same? | `same_types.rt` | `SameParts.antt` |
 //! | How many conditions has a node, and how many are too many? | `conditions.rt` | `Conditions.antt`, `Counting.antt` |
 //! | At which nodes is that looked at? | `nodes.rt` | `Conditions.antt`, `Search.antt` |
 //! | Which slots have failed? | `slots.rt` | `Slots.antt` |
@@ -28,8 +27,8 @@
 //! | To which terms do the parts of a type and of WITH COMPONENTS come? | `parts.rt` | `Terms.antt`, `OnePart.antt` |
 //! | To which terms and formulas does a demand come? | `formulas.rt`, `form_trees.rt` | `Forms.antt`, `FormViews.antt` |
 //! | And all that is asked at a node? | `asks_at_node.rt` | `Forms.antt` |
-//! | What do the terms of a node ask of each of its parts? | `giving.rt`, `gathering.rt` | `Handed.antt`, `Giving.antt` |
-//! | And of a component's presence? | `presence.rt` | `Lay.antt` |
+//! | What do the terms of a node ask of each of its parts? | `giving.rt` | `Handed.antt`, `Giving.antt` |
+//! | And of a part's presence? | `giving.rt` | `Lay.antt` |
 //! | Which numbers does a constraint have? | `number_sets.rt` | `NumberSets.antt` |
 //! | Which sizes and characters? | `simple_tests.rt` | `Lay.antt` |
 //! | How are permitted characters kept? | `alphabet.rt` | `Alphabets.antt` |
@@ -49,7 +48,6 @@ mod encoded;
 mod fault;
 mod form_trees;
 mod formulas;
-mod gathering;
 mod giving;
 mod identifiers;
 mod kept_types;
@@ -64,8 +62,6 @@ mod nodes;
 mod number_sets;
 mod parts;
 mod plain_interval;
-mod presence;
-mod same_types;
 mod segments;
 mod sharing;
 mod sides;
@@ -74,11 +70,11 @@ mod slots;
 mod table;
 
 pub use alphabet::Alphabet;
+pub use asks::Demand;
 pub use conditions_list::Conditions;
 pub use fault::TableFault;
-pub use kept_types::KeptTypes;
 pub use node::{Cold, Condition, Form, Hot, Kind, Need, Raise, SimpleKind, Test};
-pub use node_list::{Builder, Nodes};
+pub use node_list::Nodes;
 pub use number_sets::{numbers_of, numbers_of_type};
 pub use slots::Slots;
 pub use table::Table;

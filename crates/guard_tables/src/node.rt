@@ -80,7 +80,7 @@ pub struct Cold {
     /// What fails where it isn't there, and where it is.
     pub absent: Slots,
     pub present: Slots,
-    /// Of its default the octets inside the outermost tag.
+    /// The octets of its default inside the outermost tag.
     pub default: Option<Vec<u8>>,
     /// What the formulas over the other node's slots raise.
     pub raises: Vec<Raise>,

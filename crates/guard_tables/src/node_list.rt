@@ -19,7 +19,7 @@ pub struct Nodes {
 
 /// Nodes to which others may be added.
 #[derive(Drop)]
-pub struct Builder {
+pub(crate) struct Builder {
     pub hots: Vec<Hot>,
     pub colds: Vec<Cold>,
     pub ghost built: { IsBuilt hots.items colds.items } by { Prim.hlevel (props, integers_set) },

@@ -18,14 +18,14 @@ pub(crate) fn has_crowded_node(
     ensures { IfOk result (λ found. found
         ≡ has_crowded_node (type_view declared.now ∷ types_view rules.now) (type_view declared.now)) }
 {
-    is_crowded_from(declared, alloc, declared, rules, &[])
+    is_crowded_from(alloc, declared, declared, rules, &[])
 }
 
 /// Whether they do so at this type, to which the way leads, or inside it.
 #[cycle(nodes)]
 fn is_crowded_from(
-    ty: &Ty,
     alloc: Global,
+    ty: &Ty,
     declared: &Ty,
     rules: &[&Ty],
     way: &[usize],
@@ -36,13 +36,13 @@ fn is_crowded_from(
     if is_crowded(declared, rules, way) {
         return Ok(true);
     }
-    is_crowded_inside(&ty.kind, alloc, declared, rules, way)
+    is_crowded_inside(alloc, &ty.kind, declared, rules, way)
 }
 
 #[cycle(nodes)]
 fn is_crowded_inside(
-    kind: &Kind,
     alloc: Global,
+    kind: &Kind,
     declared: &Ty,
     rules: &[&Ty],
     way: &[usize],
@@ -52,10 +52,10 @@ fn is_crowded_inside(
 {
     match kind {
         Kind::Sequence(comps) | Kind::Set(comps) | Kind::Choice(comps) => {
-            is_crowded_among(comps, alloc, declared, rules, way)
+            is_crowded_among(alloc, comps, declared, rules, way)
         }
         Kind::SequenceOf(element) | Kind::SetOf(element) => {
-            is_crowded_at(element, alloc, declared, rules, 0, way)
+            is_crowded_at(alloc, element, declared, rules, 0, way)
         }
         _ => Ok(false),
     }
@@ -63,8 +63,8 @@ fn is_crowded_inside(
 
 #[cycle(nodes)]
 fn is_crowded_among(
-    comps: &[Comp],
     alloc: Global,
+    comps: &[Comp],
     declared: &Ty,
     rules: &[&Ty],
     way: &[usize],
@@ -73,7 +73,7 @@ fn is_crowded_among(
         ≡ crowded_among (type_view declared.now ∷ types_view rules.now) way.now 0 (components_of (map component_view comps.now))) }
 {
     for (place, comp) in comps.iter().enumerate() {
-        if is_crowded_at(&comp.ty, alloc, declared, rules, place, way)? {
+        if is_crowded_at(alloc, &comp.ty, declared, rules, place, way)? {
             return Ok(true);
         }
     }
@@ -83,8 +83,8 @@ fn is_crowded_among(
 /// At a part, with its place at the end of the way.
 #[cycle(nodes)]
 fn is_crowded_at(
-    ty: &Ty,
     alloc: Global,
+    ty: &Ty,
     declared: &Ty,
     rules: &[&Ty],
     place: usize,
@@ -95,5 +95,5 @@ fn is_crowded_at(
 {
     let mut inner = Vec::from_slice(alloc, way)?;
     inner.push(place)?;
-    is_crowded_from(ty, alloc, declared, rules, &inner)
+    is_crowded_from(alloc, ty, declared, rules, &inner)
 }

@@ -14,72 +14,72 @@ use guard_integers::IntSet;
 use guard_model::{Cons, Limit, OutOfMemory, Rule, Ty, Value};
 use std::alloc::Global;
 
-/// The integers that the constraint allows. Its one refusal is want of memory.
+/// The integers that the constraint allows. It fails only where memory runs out.
 #[cycle(number_sets)]
-pub fn numbers_of(constraint: &Cons, alloc: Global) -> Result<IntSet, OutOfMemory>
+pub fn numbers_of(alloc: Global, constraint: &Cons) -> Result<IntSet, OutOfMemory>
     ensures { IfOk result (λ set. HasNumbers set (λ kind z. holds (constraint_view constraint.now) kind (abstract.integer z))) }
 {
-    numbers_of_rule(&constraint.rule, alloc)
+    numbers_of_rule(alloc, &constraint.rule)
 }
 
 #[cycle(number_sets)]
-fn numbers_of_rule(rule: &Rule, alloc: Global) -> Result<IntSet, OutOfMemory>
+fn numbers_of_rule(alloc: Global, rule: &Rule) -> Result<IntSet, OutOfMemory>
     ensures { IfOk result (λ set. HasNumbers set (λ kind z. holds_element (element_view rule.now) kind (abstract.integer z))) }
 {
     match rule {
-        Rule::One(value) => number_alone(value, alloc),
-        Rule::Inside(ty) => numbers_of_type(ty, alloc),
-        Rule::Range(low, high) => numbers_between(*low, *high, alloc),
-        Rule::Any(constraints) => numbers_of_some(constraints, alloc),
-        Rule::Both(constraints) => numbers_of_all(constraints, alloc),
+        Rule::One(value) => number_alone(alloc, value),
+        Rule::Inside(ty) => numbers_of_type(alloc, ty),
+        Rule::Range(low, high) => numbers_between(alloc, *low, *high),
+        Rule::Any(constraints) => numbers_of_some(alloc, constraints),
+        Rule::Both(constraints) => numbers_of_all(alloc, constraints),
         Rule::Minus(kept, taken) => {
-            let numbers = numbers_of(kept, alloc)?;
-            numbers.minus(alloc, &numbers_of(taken, alloc)?)
+            let numbers = numbers_of(alloc, kept)?;
+            numbers.minus(alloc, &numbers_of(alloc, taken)?)
         }
-        Rule::Other(other) => numbers_of(other, alloc)?.complement(alloc),
+        Rule::Other(other) => numbers_of(alloc, other)?.complement(alloc),
         _ => Ok(IntSet::none(alloc)),
     }
 }
 
 /// The integers that all of these allow.
 #[cycle(number_sets)]
-fn numbers_of_all(constraints: &[Cons], alloc: Global) -> Result<IntSet, OutOfMemory>
+fn numbers_of_all(alloc: Global, constraints: &[Cons]) -> Result<IntSet, OutOfMemory>
     ensures { IfOk result (λ set. HasNumbers set (λ kind z.
         all_hold (constraints_of (map constraint_view constraints.now)) kind (abstract.integer z))) }
 {
     let mut left = IntSet::all(alloc)?;
     for constraint in constraints {
-        left = left.intersection(alloc, &numbers_of(constraint, alloc)?)?;
+        left = left.intersection(alloc, &numbers_of(alloc, constraint)?)?;
     }
     Ok(left)
 }
 
 /// The integers that one of these allows.
 #[cycle(number_sets)]
-fn numbers_of_some(constraints: &[Cons], alloc: Global) -> Result<IntSet, OutOfMemory>
+fn numbers_of_some(alloc: Global, constraints: &[Cons]) -> Result<IntSet, OutOfMemory>
     ensures { IfOk result (λ set. HasNumbers set (λ kind z.
         some_hold (constraints_of (map constraint_view constraints.now)) kind (abstract.integer z))) }
 {
     let mut sets = Vec::new(alloc);
     for constraint in constraints {
-        sets.push(numbers_of(constraint, alloc)?)?;
+        sets.push(numbers_of(alloc, constraint)?)?;
     }
     IntSet::union_of(alloc, &sets)
 }
 
-/// The integers that are members of the type: none where it is no INTEGER. Its one refusal is want of memory.
+/// The integers that are members of the type: none where it is no INTEGER. It fails only where memory runs out.
 #[cycle(number_sets)]
-pub fn numbers_of_type(ty: &Ty, alloc: Global) -> Result<IntSet, OutOfMemory>
+pub fn numbers_of_type(alloc: Global, ty: &Ty) -> Result<IntSet, OutOfMemory>
     ensures { IfOk result (λ set. HasNumbers set (λ kind z. is_member (type_view ty.now) (abstract.integer z))) }
 {
     if ty.kind.is_integer() {
-        return numbers_of_all(&ty.cons, alloc);
+        return numbers_of_all(alloc, &ty.cons);
     }
     Ok(IntSet::none(alloc))
 }
 
 /// A single value, where it is a number.
-fn number_alone(value: &Value, alloc: Global) -> Result<IntSet, OutOfMemory>
+fn number_alone(alloc: Global, value: &Value) -> Result<IntSet, OutOfMemory>
     ensures { IfOk result (λ set. HasNumbers set (λ kind z. same (value_view value.now) (abstract.integer z))) }
 {
     match value {
@@ -89,7 +89,7 @@ fn number_alone(value: &Value, alloc: Global) -> Result<IntSet, OutOfMemory>
 }
 
 /// A range: none where the low end is above the high one.
-fn numbers_between(low: Limit, high: Limit, alloc: Global) -> Result<IntSet, OutOfMemory>
+fn numbers_between(alloc: Global, low: Limit, high: Limit) -> Result<IntSet, OutOfMemory>
     ensures { IfOk result (λ set. HasNumbers set (λ kind z. is_between low high (abstract.integer z))) }
 {
     match (lowest(low), highest(high)) {

@@ -2,14 +2,13 @@
 ghost use Rattle.std.specs.Prelude.{◌≡◌, ◌++◌, map, option_map, OnOk};
 ghost use Rattle.guard_model.specs.Components.{components_in, component_at};
 ghost use Rattle.guard_model.specs.TypeView.{kind_view, type_view, component_view, components_of, part_view, parts_of, presence_view};
-ghost use Rattle.guard_der.specs.Fits.{may_be_absent};
-ghost use Rattle.guard_eval.specs.Presence.{element_kind, kind_at, is_listed, is_ruled_out};
 ghost use Rattle.guard_tables.specs.Terms.{is_scalar, parts_from, kind_terms, listed_terms, placed, unlisted};
 ghost use Rattle.guard_tables.specs.inside.OnePart.{inner_terms, part_terms, ruled_out_terms};
 ghost use Rattle.guard_tables.specs.inside.AskViews.{terms_view};
 
 use crate::asks::{Atom, Demand, Term, push};
 use crate::slots::Slots;
+use guard_eval::{is_optional, is_ruled_out, kind_at};
 use guard_model::{Comp, Kind, OutOfMemory, Part, Presence, Word};
 
 /// Whether its values are truth values or numbers, or there is one value.
@@ -22,27 +21,6 @@ pub(crate) fn is_scalar(kind: &Kind) -> bool
         Kind::Null => true,
         Kind::Enumerated(_) => true,
         _ => false,
-    }
-}
-
-/// The kind of the elements of an OF type; of another kind itself.
-pub(crate) fn element_kind(kind: &Kind) -> &Kind
-    ensures { kind_view result.now ≡ element_kind (kind_view kind.now) }
-{
-    match kind {
-        Kind::SequenceOf(element) => &element.kind,
-        Kind::SetOf(element) => &element.kind,
-        _ => kind,
-    }
-}
-
-/// The kind of the component or alternative at this place; where there is none the whole's own.
-fn kind_at(kind: &Kind, at: u8) -> &Kind
-    ensures { kind_view result.now ≡ kind_at at (kind_view kind.now) }
-{
-    match kind.component(at) {
-        Some(comp) => &comp.ty.kind,
-        None => kind,
     }
 }
 
@@ -192,17 +170,6 @@ fn push_said<'a>(
     }
 }
 
-fn is_optional(presence: &Presence) -> bool
-    ensures { result ≡ may_be_absent (presence_view presence.now) }
-{
-    match presence {
-        Presence::Mandatory => false,
-        Presence::Optional => true,
-        Presence::Pending => false,
-        Presence::Default(_) => false,
-    }
-}
-
 // ---- of what isn't listed
 
 /// A full list makes each OPTIONAL component and each alternative absent that it doesn't list.
@@ -241,21 +208,4 @@ fn push_ruled_out<'a>(
         return push(terms, slots, Atom::Unsent(place));
     }
     Ok(())
-}
-
-fn is_ruled_out(parts: &[Part], kind: &Kind, at: usize, presence: &Presence) -> bool
-    ensures { result ≡ is_ruled_out (kind_view kind.now) (parts_of (map part_view parts.now)) at (presence_view presence.now) }
-{
-    !is_listed(parts, at) && (kind.is_choice() || is_optional(presence))
-}
-
-fn is_listed(parts: &[Part], at: usize) -> bool
-    ensures { result ≡ is_listed at (parts_of (map part_view parts.now)) }
-{
-    for part in parts {
-        if usize::from(part.at) == at {
-            return true;
-        }
-    }
-    false
 }

@@ -12,7 +12,7 @@ use crate::node::{Cold, Condition, Hot, Kind, SimpleKind, Test};
 use crate::slots::Slots;
 use guard_integers::IntSet;
 
-/// Of a set with more runs of numbers only the first are looked at.
+/// So many runs of a set's numbers are looked at, from the first on.
 const MOST_RUNS: usize = 1024;
 
 /// Numbers from the first to the second, both in; none where the second is below the first.
@@ -23,7 +23,7 @@ pub(crate) struct Interval {
 }
 
 /// Numbers such that contents octets that spell one of them are lawful at this node, fail nothing there, and
-/// aren't a default's. Of a node that has a default, or where presence costs something, it finds none.
+/// aren't a default's. It finds none at a node that has a default, or where presence fails something.
 pub(crate) fn plain_interval(hot: &Hot, cold: &Cold) -> Interval
     ensures { (spots : List Spot) (os : List ℕ) → integer_fault os ≡ None → result.low ≤ℤ twos_complement os
         → twos_complement os ≤ℤ result.high → IsFree (spot_of hot.now cold.now spots) os }
@@ -58,7 +58,7 @@ fn is_unwatched(cold: &Cold) -> bool
     cold.present == Slots::none() && cold.default.is_none()
 }
 
-/// Of a kind whose contents octets spell numbers.
+/// Where the kind's contents octets spell numbers.
 fn numbers_passed(kind: SimpleKind, cold: &Cold) -> Interval
     ensures { (os : List ℕ) → integer_fault os ≡ None → IsWithin result (twos_complement os) → IsPassed kind cold.now os }
 {
@@ -95,7 +95,7 @@ fn passed_of(passed: Interval, test: &Test) -> Interval
     }
 }
 
-/// Of what the set holds too, the most that lies together.
+/// The longest run of them that the set holds too.
 fn widest(passed: Interval, set: &IntSet) -> Interval
     ensures { (z : ℤ) → IsWithin result z → IsWithin passed z × (holds set.now z ≡ true) }
 {

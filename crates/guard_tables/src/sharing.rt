@@ -8,12 +8,11 @@ ghost use Rattle.guard_tables.specs.inside.AskViews.{asks_view};
 ghost use Rattle.guard_tables.specs.inside.Sharing.{place_of, shared, places_of, slots_for, asks_by, Takes};
 
 use crate::asks::{Ask, Demand};
-use crate::same_types::are_same_types;
 use crate::slots::Slots;
 use guard_model::{OutOfMemory, Ty};
 use std::alloc::Global;
 
-/// The types beside the declared one, each once, and of each rule the place of its type: 0 is the declared one's.
+/// The types beside the declared one, each once, and the place of each rule's type: 0 is the declared one's.
 #[derive(Drop)]
 pub(crate) struct Sharing<'a> {
     pub others: Vec<&'a Ty>,
@@ -64,7 +63,7 @@ fn with_rule<'a>(
 fn place_of(declared: &Ty, others: &[&Ty], ty: &Ty) -> usize
     ensures { result ≡ place_of (type_view declared.now ∷ types_view others.now) (type_view ty.now) }
 {
-    if are_same_types(declared, ty) {
+    if declared.same(ty) {
         return 0;
     }
     1 + place_among(others, ty)
@@ -75,7 +74,7 @@ fn place_among(types: &[&Ty], ty: &Ty) -> usize
     ensures within { result ≤ length types.now }
 {
     for (place, other) in types.iter().enumerate() {
-        if are_same_types(other, ty) {
+        if other.same(ty) {
             return place;
         }
     }
@@ -122,7 +121,7 @@ fn declared_slots(places: &[usize]) -> Slots
     slots
 }
 
-/// Of the rules that have the type at this place.
+/// The slots of the rules that have the type at this place.
 fn slots_of(at: usize, places: &[usize]) -> Slots
     requires { length places.now ≤ most_rules }
     ensures { result ≡ slots_for at 1 places.now }

@@ -4,7 +4,6 @@ ghost use Rattle.guard_model.specs.AbstractType as type;
 ghost use Rattle.guard_model.specs.Kinds.{kind_of};
 ghost use Rattle.guard_model.specs.TypeView.{type_view, kind_view, presence_view};
 ghost use Rattle.guard_model.specs.ValueView.{value_view};
-ghost use Rattle.guard_der.specs.Der.{is_constructed};
 ghost use Rattle.guard_der.specs.Fits.{fits, fits_kind};
 ghost use Rattle.guard_der.specs.Sound.{is_sound, is_proper_presence};
 ghost use Rattle.guard_tables.specs.Apt.{IsApt, AreApt};
@@ -17,23 +16,24 @@ ghost use Rattle.guard_tables.specs.inside.SideViews.{part_side_view};
 use crate::asks::{Ask, Demand};
 use crate::encoded::if_short;
 use crate::slots::Slots;
-use guard_der::{encode_contents, encode_tagged};
+use guard_der::{encode_contents, encode_tagged, is_constructed};
 use guard_eval::{holds_on_kind, proper_member};
 use guard_model::{Kind, OutOfMemory, Presence, Ty, Value};
 use std::alloc::Global;
 
-/// Of a part, that is of a component or an alternative.
+/// What is said of a part: of a component, or of an alternative.
 #[derive(Drop)]
 pub struct PartSide {
     /// What fails where it isn't there; none where it has to be there.
     pub absent: Option<Slots>,
     /// What fails where it is there.
     pub present: Slots,
-    /// Of its default the octets inside the outermost tag.
+    /// The octets of its default inside the outermost tag.
     pub default: Option<Vec<u8>>,
 }
 
-/// Of a component of which all this is asked. Where its default isn't sent, the same fails as where it is there.
+/// What is said of a component of which all this is asked. A default that isn't sent fails what it fails where it is
+/// there.
 pub(crate) fn side_for(
     alloc: Global,
     ty: &Ty,
@@ -64,7 +64,7 @@ pub(crate) fn side_for(
     }
 }
 
-/// Of an alternative.
+/// What is said of an alternative.
 pub(crate) fn side_chosen(present: Slots) -> PartSide
     ensures { part_side_view result ≡ side_chosen present }
 {
@@ -124,17 +124,4 @@ fn default_octets(alloc: Global, ty: &Ty, value: &Value) -> Result<Option<Vec<u8
         return Ok(Some(contents));
     };
     if_short(encode_tagged(alloc, inner, is_constructed(&ty.kind), contents))
-}
-
-fn is_constructed(kind: &Kind) -> bool
-    ensures { result ≡ is_constructed (kind_view kind.now) }
-{
-    match kind {
-        Kind::Sequence(_) => true,
-        Kind::Set(_) => true,
-        Kind::Choice(_) => true,
-        Kind::SequenceOf(_) => true,
-        Kind::SetOf(_) => true,
-        _ => false,
-    }
 }

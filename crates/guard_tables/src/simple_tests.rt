@@ -20,23 +20,23 @@ use guard_model::{Cons, OutOfMemory};
 use std::alloc::Global;
 
 /// The number is one that the constraint on an INTEGER has.
-pub(crate) fn number_test(constraint: &Cons, alloc: Global) -> Result<Test, OutOfMemory>
+pub(crate) fn number_test(alloc: Global, constraint: &Cons) -> Result<Test, OutOfMemory>
     ensures { IfOk result (λ t. (kind : AbstractKind) → IsTrue (is_integer kind) → test_view t
         ≡ numbers (λ z. fits_128_bits z && holds (constraint_view constraint.now) kind (abstract.integer z))) }
 {
-    Ok(Test::Numbers(numbers_of(constraint, alloc)?))
+    Ok(Test::Numbers(numbers_of(alloc, constraint)?))
 }
 
 /// The size is one of the numbers that the constraint has.
-pub(crate) fn size_test(constraint: &Cons, alloc: Global) -> Result<Test, OutOfMemory>
+pub(crate) fn size_test(alloc: Global, constraint: &Cons) -> Result<Test, OutOfMemory>
     ensures { IfOk result (λ t. test_view t ≡ sizes (λ n. fits_128_bits (pos n)
         && holds (constraint_view constraint.now) (type.integer []) (abstract.integer (pos n)))) }
 {
-    Ok(Test::Sizes(numbers_of(constraint, alloc)?))
+    Ok(Test::Sizes(numbers_of(alloc, constraint)?))
 }
 
 /// Each character lies in one of these ranges.
-pub(crate) fn spelling_test(ranges: &[(u32, u32)], alloc: Global) -> Result<Test, OutOfMemory>
+pub(crate) fn spelling_test(alloc: Global, ranges: &[(u32, u32)]) -> Result<Test, OutOfMemory>
     ensures { IfOk result (λ t. test_view t ≡ spelled (is_in_some ranges.now)) }
 {
     Ok(Test::Spelled(Alphabet::of(alloc, ranges)?))

@@ -1,5 +1,7 @@
 //! Tables.
+ghost use Rattle.std.specs.Cmp.Lexicographic.{pointwise};
 ghost use Rattle.std.specs.Prelude.{◌≡◌, ◌≤◌, ◌&&◌, ◌∷◌, None, Some, All, length, map, slice_get, option_map, IsTrue, IfOk, OnOk, IfErr, IfSome};
+ghost use Rattle.guard_model.specs.Tags.{same_tag};
 ghost use Rattle.guard_model.specs.TypeView.{type_view};
 ghost use Rattle.guard_der.specs.Sound.{is_sound};
 ghost use Rattle.guard_tables.specs.Alike.{AreConsistent};
@@ -12,9 +14,8 @@ use crate::kept_types::KeptTypes;
 use crate::layout::lay_nodes;
 use crate::node_list::Nodes;
 use crate::nodes::has_crowded_node;
-use crate::same_types::are_same_tags;
 use crate::sharing::{asks_of, share};
-use guard_model::{OutOfMemory, Ty};
+use guard_model::{OutOfMemory, Tag, Ty};
 use std::alloc::Global;
 
 /// How many rules a message may have.
@@ -24,7 +25,7 @@ const MOST_RULES: usize = 255;
 /// them at once, the declared type with slot 0 and rule i with slot i + 1.
 #[derive(Drop)]
 pub struct Table {
-    pub types: KeptTypes,
+    types: KeptTypes,
     pub nodes: Nodes,
     pub ghost consistent: { AreConsistent (type_view types.0) (map type_view types.1) },
     pub ghost stands: { ∥ StandsFor nodes (type_view types.0) (map type_view types.1) ∥₁ },
@@ -148,6 +149,12 @@ fn is_match(declared: &Ty, rule: &Ty) -> bool
     ensures { result ≡ is_match (type_view declared.now) (type_view rule.now) }
 {
     are_same_tags(&declared.tags, &rule.tags) && declared.same_base(rule)
+}
+
+fn are_same_tags(tags: &[Tag], others: &[Tag]) -> bool
+    ensures { result ≡ pointwise same_tag tags.now others.now }
+{
+    tags == others
 }
 
 fn copy_of_types(alloc: Global, types: &[&Ty]) -> Result<Vec<Ty>, OutOfMemory>

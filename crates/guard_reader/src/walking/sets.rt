@@ -32,7 +32,7 @@ pub fn set(table: &Nodes, at: usize, octets: &[u8], failed: &mut Slots) -> bool
     members(table, at, octets, failed)
 }
 
-/// The same of components in another order, or of which one has several tags.
+/// Components of a node that aren't listed in the order of their tags, or of which one may begin with several tags.
 #[cycle(walking)]
 #[inline(never)]
 fn members(table: &Nodes, at: usize, octets: &[u8], failed: &mut Slots) -> bool

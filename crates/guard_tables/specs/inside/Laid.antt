@@ -19,10 +19,11 @@ use Rattle.guard_tables.specs.declared.node_list.Builder.{Builder}
 use Rattle.guard_tables.specs.Apt.{AreApt, AllSpeak}
 use Rattle.guard_tables.specs.Demands.{Ask, Term}
 use Rattle.guard_tables.specs.Handed.{each_of, within_of, terms_at, NeedsFew}
-use Rattle.guard_tables.specs.Lay.{lay_parts, lay_alternatives, side_for, side_chosen, absent_of, present_of, chosen_of}
+use Rattle.guard_tables.specs.Lay.{lay_parts, lay_alternatives, side_for, side_chosen}
 use Rattle.guard_tables.specs.Plan.{Plan, Body, Parts, Side, series, set, choice, list, set_of, no_parts, part}
 use Rattle.guard_tables.specs.TableNodes.{Spot, spots_of, spot_at}
 use Rattle.guard_tables.specs.inside.FormViews.{RoomFor}
+use Rattle.guard_tables.specs.inside.Giving.{PartAsked}
 use Rattle.guard_tables.specs.inside.Aside.{plan_of_node, spots_at, AreNodes, parts_then}
 
 -- what the nodes so far stand for
@@ -99,11 +100,11 @@ pub record Extends (old new : LaidParts) (side : Side) (p : Plan) : Type 0 where
   pub nodes : MayCome new
   pub stand : (ps : Parts) → parts_in new ps ≡ parts_in old (part side p ps)
 
--- what is said of the part at this place
-abbrev pub side_of_part : Group → ℕ → OneComponent → List Term → Plan → Side
-side_of_part group.Series i c terms p = side_for c.ty c.presence p (absent_of i terms) (present_of i terms)
-side_of_part group.Set i c terms p = side_for c.ty c.presence p (absent_of i terms) (present_of i terms)
-side_of_part group.Choice i c terms p = side_chosen (chosen_of i terms)
+-- what is said of a part of which this is asked
+abbrev pub side_of_part : Group → OneComponent → PartAsked → Plan → Side
+side_of_part group.Series c asked p = side_for c.ty c.presence p asked.absent asked.present
+side_of_part group.Set c asked p = side_for c.ty c.presence p asked.absent asked.present
+side_of_part group.Choice c asked p = side_chosen asked.present
 
 -- the numbers of the items of an ENUMERATED
 abbrev pub item_numbers : AbstractKind → List ℤ

@@ -1,13 +1,10 @@
 -- What is said of a component, without where it lies in memory; and what an absent default fails.
-use Rattle.std.specs.Prelude.{ℕ, Bool, List, [], ◌∷◌, option_map}
+use Rattle.std.specs.Prelude.{List, [], ◌∷◌, option_map}
 use Rattle.guard_model.specs.AbstractValue.{AbstractValue}
-use Rattle.guard_tables.specs.declared.presence.Event.{Event}
-use Rattle.guard_tables.specs.declared.presence.Event.TheVariants as event
 use Rattle.guard_tables.specs.declared.sides.PartSide.{PartSide}
 use Rattle.guard_tables.specs.declared.slots.Slots.{Slots}
-use Rattle.guard_tables.specs.Demands.{Ask, Atom, meets}
+use Rattle.guard_tables.specs.Demands.{Ask, meets}
 use Rattle.guard_tables.specs.Formulas.{failed_unless}
-use Rattle.guard_tables.specs.Lay.{is_sent, is_unsent, is_unchosen}
 use Rattle.guard_tables.specs.Plan.{Side}
 
 abbrev pub part_side_view : PartSide → Side
@@ -17,9 +14,3 @@ part_side_view s = record { absent = s.absent; present = s.present; default = op
 abbrev pub asks_marked : AbstractValue → List Ask → Slots → Slots
 asks_marked v [] m = m
 asks_marked v (a ∷ asks) m = asks_marked v asks (failed_unless (meets a.demand v) a.slots m)
-
--- which terms this fails at the part with this place
-abbrev pub fails_at : Event → ℕ → Atom → Bool
-fails_at event.Absent i = is_sent i
-fails_at event.Present i = is_unsent i
-fails_at event.Chosen i = is_unchosen i

@@ -1,12 +1,12 @@
-use Rattle.std.proofs.Common.{arith, ◌≡◌, ℕ, ◌<◌, Bool, true, List, [], length, replicate, get_or, map, refl, rules, ap, subst, ◌∙◌}
+use Rattle.std.proofs.Common.{arith, ◌≡◌, ℕ, ◌<◌, Bool, true, List, length, replicate, get_or, map, refl, rules, ap, subst, ◌∙◌}
 use Rattle.guard_model.specs.AbstractType.{AbstractKind}
 use Rattle.guard_model.specs.Kinds.{kind_of}
 use Rattle.guard_model.specs.TypeView.{type_view, kind_view, component_view, components_of}
 use Rattle.guard_model.specs.declared.ty.Kind.{the_lemmas}
 use Rattle.guard_model.proofs.TypeViews.{type_view_is, component_view_is}
 use Rattle.guard_der.specs.Der.{is_constructed}
-use Rattle.guard_tables.specs.Demands.{Ask}
-use Rattle.guard_tables.specs.Handed.{each_of, within_of}
+use Rattle.guard_tables.specs.Demands.{Term}
+use Rattle.guard_tables.specs.Handed.{each_of}
 use Rattle.guard_tables.specs.Lay.{lay, raised_of}
 use Rattle.guard_tables.specs.NodeViews.{condition_view, raise_view}
 use Rattle.guard_tables.specs.Plan.{Body, plan, asked_of}
@@ -17,12 +17,10 @@ use Rattle.guard_tables.specs.inside.SideViews.{part_side_view}
 use Rattle.guard_tables.proofs.Comings.{laid_as, grown_on}
 use Rattle.guard_tables.proofs.LaidSteps.{tags_laid, formulas_laid, elements_laid, group_laid, nodes_few, extended, formulas_are, still_aside, part_may, part_proper, part_more, rest_may}
 use Rattle.guard_tables.proofs.LaidTypes.{asked_may}
-use Rattle.std.specs.Global.{Vec}
-use Rattle.guard_model.specs.declared.ty.Comp.{Comp}
-use Rattle.guard_tables.specs.declared.asks.Term as code
-use Rattle.guard_tables.specs.Demands as asked
-use Rattle.guard_tables.specs.inside.Giving.{given_view, give_out}
-use Rattle.guard_tables.proofs.GivenOut.{own_terms, own_read, given_told, all_given}
+use Rattle.guard_tables.specs.declared.drafts.Group.{Group}
+use Rattle.guard_tables.specs.declared.giving.PartAsks as code
+use Rattle.guard_tables.specs.inside.Giving.{part_asked, parts_asked, nothing_asked, asked_at, give_out}
+use Rattle.guard_tables.proofs.GivenOut.{asked_read, all_given}
 use Rattle.guard_tables.proofs.layout.+layout.Goals as goal
 
 pub lay-lay_asked-requires : goal.lay-lay_asked-requires
@@ -69,18 +67,16 @@ lay_part-with_part-requires t c = still_aside c.args.parts c.in_ok-laid.laid.bui
 
 pub lay_part-returns : goal.lay_part-returns
 lay_part-returns t c =
-    let own = terms_view c.args.terms.now in
-    let p = lay (component_view c.args.comp.now).ty (within_of c.args.place own) in
-    extended c.args.parts c.in_ok-laid.laid p (part_side_view c.in_ok-side.side) (side_of_part c.args.group c.args.place (component_view c.args.comp.now) own p) c.requires.nodes
-    (laid_as c.args.parts.builder c.in_ok-laid.laid _ p (rw (c.deref-2.ensures.value, c.in_ok-asks.ensures, component_view_is c.args.comp.now) refl) c.in_ok-laid.ensures)
-    (c.in_ok-side.ensures ∙ ap (λ (asks : List Ask). side_of_part c.args.group c.args.place (component_view c.args.comp.now) own (lay (component_view c.args.comp.now).ty asks)) (ap asks_view c.deref.ensures.value ∙ c.in_ok-asks.ensures))
-    c.with_part.result c.with_part.ensures
+    let asked = part_asked c.args.asked.now in
+    let p = lay (component_view c.args.comp.now).ty asked.asks in
+    extended c.args.parts c.in_ok-laid.laid p (part_side_view c.in_ok-side.side) (side_of_part c.args.group (component_view c.args.comp.now) asked p) c.requires.nodes
+    (laid_as c.args.parts.builder c.in_ok-laid.laid _ p (rw (c.deref.ensures.value, component_view_is c.args.comp.now) refl) c.in_ok-laid.ensures)
+    c.in_ok-side.ensures c.with_part.result c.with_part.ensures
 
--- the tests that are given to the part
-own_given : (exclusive : Bool) (all : List asked.Term) (comps : List Comp) (vs : List (Vec code.Term)) (place : ℕ) (v : Vec code.Term) (ts : List code.Term) → ts ≡ v.items → (b : Bool) → b ≡ exclusive
-    → given_view vs ≡ give_out b all (replicate (length comps) []) → place < length comps → v ≡ get_or vs place v → terms_view ts ≡ own_terms exclusive place all
-own_given exclusive all comps vs place v ts read b same is lt at =
-    ap terms_view read ∙ own_read exclusive all (length comps) vs place v (given_told vs all b exclusive same (length comps) (length comps) refl is) lt at
+-- what is given out to the part
+own_asked : (group : Group) (all : List Term) (n : ℕ) (vs : List code.PartAsks) (place : ℕ) (v : code.PartAsks) (exclusive : Bool) → exclusive ≡ is_exclusive group
+    → parts_asked vs ≡ give_out exclusive all (replicate n nothing_asked) → place < n → v ≡ get_or vs place v → part_asked v ≡ asked_at (is_exclusive group) place all
+own_asked group all n vs place v exclusive same is lt at = asked_read exclusive all n vs place v is lt at ∙ ap (λ (b : Bool). asked_at b place all) same
 
 pub lay_each-index-requires : goal.lay_each-index-requires
 lay_each-index-requires t c =
@@ -95,9 +91,8 @@ lay_each-lay_part-requires t c =
       (
         c.loop-place.invariant.nodes,
         (
-          part_may c.args.group comps place c.index-comps-place.result (terms_view c.deref.result.now) all c.loop-place-test.true c.index-comps-place.is
-              (own_given (is_exclusive c.args.group) all comps c.in_ok-given.given.items place c.index.result.now c.deref.result.now c.deref.ensures.value
-              c.is_exclusive.result c.is_exclusive.ensures c.in_ok-given.ensures c.loop-place-test.true c.index.ensures)
+          part_may c.args.group comps place c.index-comps-place.result (part_asked c.index.result.now) all c.loop-place-test.true c.index-comps-place.is
+              (own_asked c.args.group all (length comps) c.in_ok-given.given.items place c.index.result.now c.is_exclusive.result c.is_exclusive.ensures c.in_ok-given.ensures c.loop-place-test.true c.index.ensures)
               c.loop-place.invariant.rest,
           part_proper comps place c.index-comps-place.result all c.loop-place-test.true c.index-comps-place.is c.loop-place.invariant.rest,
         ),
@@ -112,9 +107,8 @@ lay_each-loop-place-preserved t c =
     record {
       grows = grown_on c.args.builder c.loop-place.parts.builder c.in_ok-parts.parts.builder c.loop-place.invariant.grows c.in_ok-parts.ensures.grows;
       nodes = c.in_ok-parts.ensures.nodes;
-      stand = part_more c.loop-place.parts c.in_ok-parts.parts c.args.group comps place c.index-comps-place.result (terms_view c.deref.result.now) all c.loop-place-test.true c.index-comps-place.is
-          (own_given (is_exclusive c.args.group) all comps c.in_ok-given.given.items place c.index.result.now c.deref.result.now c.deref.ensures.value
-          c.is_exclusive.result c.is_exclusive.ensures c.in_ok-given.ensures c.loop-place-test.true c.index.ensures)
+      stand = part_more c.loop-place.parts c.in_ok-parts.parts c.args.group comps place c.index-comps-place.result (part_asked c.index.result.now) all c.loop-place-test.true c.index-comps-place.is
+          (own_asked c.args.group all (length comps) c.in_ok-given.given.items place c.index.result.now c.is_exclusive.result c.is_exclusive.ensures c.in_ok-given.ensures c.loop-place-test.true c.index.ensures)
           c.in_ok-parts.ensures _ c.loop-place.invariant.stand;
       rest = rest_may comps place c.index-comps-place.result all c.loop-place-test.true c.index-comps-place.is c.loop-place.invariant.rest;
     }

@@ -1,4 +1,4 @@
-//! How sites, paths and want of memory print.
+//! How sites, paths and OutOfMemory print.
 use conformance_rows::{Layer, not_read, text_of, unknown};
 use guard_constraints::ConsFault;
 use guard_der::{DecodeFault, EncodeFault};

@@ -1,7 +1,6 @@
 -- What loops and single calls of the code read, as the definitions have it.
 pub mod PushedReadings
 pub mod ValueAnswers
-pub mod ComponentsByName
 pub mod RepeatedParts
 pub mod TypeParts
 pub mod KeptTrees

@@ -12,10 +12,11 @@ use Rattle.guard_model.specs.Kinds.{is_integer, has_size, type_of_size, is_strin
 use Rattle.guard_syntax.specs.Trees as written
 use Rattle.guard_syntax.specs.Trees.{WrittenValue, WrittenRange, WrittenSet, WrittenSetForm, WrittenUnited, WrittenIntersection, WrittenMet, WrittenDifference, WrittenElement, WrittenElementForm, WrittenConstraint, WrittenParts, set_node, all_except, union, none_united, united, intersection, none_met, met, element_alone, element_except, element_node, constraint, no_parts, part, part_in}
 use Rattle.guard_values.specs.Denotes as values
+use Rattle.guard_values.specs.Places.{Located}
 use Rattle.guard_constraints.specs.Visible.{Visible, has_base_of}
 use Rattle.guard_constraints.specs.RangeEnds.{has_proper_ends, LimitDenotes}
 use Rattle.guard_constraints.specs.PermittedAlphabets.{AlphabetItem, items_of, first_bad, ranges_of}
-use Rattle.guard_constraints.specs.ListedParts.{Placed, heads, word_of, named_in}
+use Rattle.guard_constraints.specs.ListedParts.{heads, word_of, named_in}
 use Rattle.guard_constraints.specs.PartFaults.{part_fault}
 
 -- ---- elements without a constraint inside
@@ -133,9 +134,9 @@ abbrev mutual
   pub ListedDenote : Visible → AbstractKind → WrittenParts → Parts → Type 0
   ListedDenote names kind no_parts qs = qs ≡ type.no_parts
   ListedDenote names kind (part site name presence others) qs =
-      (p : Placed) × (more : Parts) × (named_in kind name ≡ Some p) × ListedDenote names kind others more
+      (p : Located) × (more : Parts) × (named_in kind name ≡ Some p) × ListedDenote names kind others more
       × (qs ≡ type.part site p.place (option_map word_of presence) more)
   ListedDenote names kind (part_in site name inner presence others) qs =
-      (p : Placed) × (d : Constraint) × (more : Parts) × (named_in kind name ≡ Some p) × Denotes names p.one.ty inner d
+      (p : Located) × (d : Constraint) × (more : Parts) × (named_in kind name ≡ Some p) × Denotes names p.ty inner d
       × ListedDenote names kind others more
       × (qs ≡ type.part_within site p.place d (option_map word_of presence) more)

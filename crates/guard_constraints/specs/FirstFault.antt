@@ -10,12 +10,13 @@ use Rattle.guard_syntax.specs.Trees.{WrittenValue, WrittenEnd, WrittenSet, Writt
 use Rattle.guard_values.specs.declared.fault.ValueFault.{ValueFault}
 use Rattle.guard_values.specs.FirstFault.{IsFirstFault}
 use Rattle.guard_values.specs.Meanings.{Meaning}
+use Rattle.guard_values.specs.Places.{Located}
 use Rattle.guard_constraints.specs.declared.fault.ConsFault.{ConsFault}
 use Rattle.guard_constraints.specs.declared.fault.ConsFault.TheVariants as fault
 use Rattle.guard_constraints.specs.Visible.{Visible}
 use Rattle.guard_constraints.specs.RangeEnds.{value_of_end}
 use Rattle.guard_constraints.specs.PermittedAlphabets.{items_of}
-use Rattle.guard_constraints.specs.ListedParts.{Placed, named_in}
+use Rattle.guard_constraints.specs.ListedParts.{named_in}
 use Rattle.guard_constraints.specs.Faults.{own_fault, items_fault, named_bits_fault}
 
 -- ---- checks
@@ -50,8 +51,8 @@ abbrev pub checks_on : (AbstractType → List Check) → Option AbstractType →
 checks_on found None = []
 checks_on found (Some u) = found u
 
-abbrev pub type_there : Option Placed → Option AbstractType
-type_there found = option_map (λ p. p.one.ty) found
+abbrev pub type_there : Option Located → Option AbstractType
+type_there found = option_map (λ p. p.ty) found
 
 abbrev mutual
   pub checks : Visible → AbstractType → WrittenConstraint → List Check

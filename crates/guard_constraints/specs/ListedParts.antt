@@ -1,18 +1,19 @@
 -- What WITH COMPONENTS lists (X.680 51.8.5 to 51.8.9): components or alternatives by name, perhaps with a presence
 -- word.
-use Rattle.std.specs.Prelude.{ℕ, suc, Bool, true, false, ◌||◌, not, List, [], ◌∷◌, ◌++◌, bytes_eq, Option, Some, None, if◌then◌else◌}
-use Rattle.std.specs.Option.{is_none, option_map}
+use Rattle.std.specs.Prelude.{ℕ, Bool, true, false, ◌||◌, not, List, [], ◌∷◌, ◌++◌, bytes_eq, Option, Some, None, if◌then◌else◌}
+use Rattle.std.specs.Option.{is_none, option_and_then}
 use Rattle.guard_model.specs.declared.site.Site.{Site}
 use Rattle.guard_model.specs.declared.ty.Word.{Word}
 use Rattle.guard_model.specs.declared.ty.Word.TheVariants as word
-use Rattle.guard_model.specs.AbstractType.{AbstractKind, AbstractPresence, Components, no_components, component}
-use Rattle.guard_model.specs.Components.{components_in}
+use Rattle.guard_model.specs.AbstractType.{AbstractKind, AbstractPresence}
+use Rattle.guard_model.specs.Components.{components_in, component_at}
 use Rattle.guard_model.specs.TypeView.{OneComponent}
 use Rattle.guard_model.specs.Kinds.{is_choice}
 use Rattle.guard_der.specs.Fits.{may_be_absent}
 use Rattle.guard_syntax.specs.declared.tree.PresenceWord.{PresenceWord}
 use Rattle.guard_syntax.specs.declared.tree.PresenceWord.TheVariants.{Present, Absent, Optional}
 use Rattle.guard_syntax.specs.Trees.{WrittenParts, WrittenPart, no_parts, part, part_in}
+use Rattle.guard_values.specs.Places.{Located, located}
 
 -- ---- parts
 
@@ -38,23 +39,13 @@ word_of Optional = word.Optional
 
 -- ---- what they name
 
--- a component or alternative, and its place in the list, from 0
-pub record Placed : Type 0 where
-  pub place : ℕ
-  pub one : OneComponent
+-- the place and the type of the component or alternative with this name
+abbrev pub named_in : AbstractKind → List ℕ → Option Located
+named_in kind name = located name (components_in kind)
 
-abbrev pub further : Placed → Placed
-further p = record { place = suc p.place; one = p.one }
-
--- the first with this name
-abbrev pub component_named : List ℕ → Components → Option Placed
-component_named name no_components = None
-component_named name (component other t presence others) =
-    if bytes_eq name other then Some (record { place = 0; one = record { name = other; ty = t; presence = presence } })
-    else option_map further (component_named name others)
-
-abbrev pub named_in : AbstractKind → List ℕ → Option Placed
-named_in kind name = component_named name (components_in kind)
+-- the component or alternative itself
+abbrev pub component_named : AbstractKind → List ℕ → Option OneComponent
+component_named kind name = option_and_then (λ l. component_at l.place (components_in kind)) (named_in kind name)
 
 -- ---- which presence words there may be
 
@@ -70,12 +61,12 @@ may_say false presence (Some Absent) = may_be_absent presence
 may_say false presence (Some Optional) = may_be_absent presence
 
 -- a word at a component or alternative that it can't speak of
-abbrev pub is_misused : Bool → Option PresenceWord → Option Placed → Bool
+abbrev pub is_misused : Bool → Option PresenceWord → Option OneComponent → Bool
 is_misused choice presence None = false
-is_misused choice presence (Some p) = not (may_say choice p.one.presence presence)
+is_misused choice presence (Some c) = not (may_say choice c.presence presence)
 
 abbrev pub has_bad_word : AbstractKind → PartHead → Bool
-has_bad_word kind h = is_misused (is_choice kind) h.presence (named_in kind h.name)
+has_bad_word kind h = is_misused (is_choice kind) h.presence (component_named kind h.name)
 
 abbrev pub is_unknown : AbstractKind → PartHead → Bool
 is_unknown kind h = is_none (named_in kind h.name)

@@ -1,10 +1,5 @@
 -- What the code's results and arguments mean.
 use Rattle.std.specs.Prelude.{ℕ, Option, Some, None, IsTrue, IfSome}
-use Rattle.std.specs.Borrow.{Bor}
-use Rattle.guard_model.specs.AbstractType.{AbstractType}
-use Rattle.guard_model.specs.TypeView.{type_view, component_view}
-use Rattle.guard_model.specs.declared.ty.Comp.{Comp}
-use Rattle.guard_model.specs.declared.ty.Ty.{Ty}
 use Rattle.guard_syntax.specs.SetViews.{part_view}
 use Rattle.guard_syntax.specs.declared.tree.ComponentConsTree.{ComponentConsTree}
 use Rattle.guard_values.specs.declared.fault.ValueFault.{ValueFault}
@@ -22,7 +17,7 @@ use Rattle.guard_constraints.specs.declared.alphabets.Item.{Item}
 use Rattle.guard_constraints.specs.declared.alphabets.Item.TheVariants as item
 use Rattle.guard_constraints.specs.Visible.{Visible}
 use Rattle.guard_constraints.specs.PermittedAlphabets.{CodeEnd, open_end, character, AlphabetItem, all_of, between}
-use Rattle.guard_constraints.specs.ListedParts.{PartHead, head_of, Placed}
+use Rattle.guard_constraints.specs.ListedParts.{PartHead, head_of}
 
 -- ---- faults
 
@@ -63,9 +58,3 @@ item_view (item.Between low high) = between (code_view low) (code_view high)
 
 abbrev pub head_view : ComponentConsTree → PartHead
 head_view p = head_of (part_view p)
-
-abbrev pub placed_view : ℕ × Bor Comp → Placed
-placed_view x = record { place = x.0; one = component_view x.1.now }
-
-abbrev pub located_view : ℕ × Bor Ty → ℕ × AbstractType
-located_view x = (x.0, type_view x.1.now)

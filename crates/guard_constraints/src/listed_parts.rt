@@ -1,30 +1,27 @@
 //! What WITH COMPONENTS lists (X.680 51.8.5 to 51.8.9), the constraints in it aside.
-ghost use Rattle.std.specs.Prelude.{◌≡◌, ◌<◌, [], length, map, option_map, IsTrue, IfOk, IfSome};
+ghost use Rattle.std.specs.Prelude.{◌≡◌, [], map, option_map, IsTrue, IfOk};
 ghost use Rattle.guard_model.specs.Answer.{Gives};
-ghost use Rattle.guard_model.specs.TypeView.{type_view, kind_view, component_view, components_of, presence_view};
+ghost use Rattle.guard_model.specs.TypeView.{type_view, kind_view, component_view, presence_view};
 ghost use Rattle.guard_der.specs.Fits.{may_be_absent};
 ghost use Rattle.guard_model.specs.Kinds.{kind_of};
 ghost use Rattle.guard_der.specs.Sound.{is_sound};
 ghost use Rattle.guard_constraints.specs.ListedParts as listing;
 ghost use Rattle.guard_constraints.specs.PartFaults.{part_fault};
 ghost use Rattle.guard_constraints.specs.inside.Reading as reading;
-ghost use Rattle.guard_constraints.specs.Views.{named, head_view, placed_view, located_view};
+ghost use Rattle.guard_values.specs.Views.{located_view};
+ghost use Rattle.guard_constraints.specs.Views.{named, head_view};
 
 use crate::fault::ConsFault;
 use guard_model::{Comp, Kind, Presence, Site, Ty, Word};
 use guard_syntax::{ComponentConsTree, PresenceWord};
 
-/// The first component or alternative with this name: its place, and itself.
-fn component_named<'a>(name: &[u8], comps: &'a [Comp]) -> Option<(usize, &'a Comp)>
-    ensures found { option_map placed_view result ≡ listing.component_named name.now (components_of (map component_view comps.now)) }
-    ensures within { IfSome result (λ x. x.0 < length comps.now) }
+/// The component or alternative with this name.
+fn component_named<'a>(kind: &'a Kind, name: &[u8]) -> Option<&'a Comp>
+    ensures { option_map (λ c. component_view c.now) result ≡ listing.component_named (kind_view kind.now) name.now }
 {
-    for index in 0..comps.len() {
-        if name == comps[index].name.as_bytes() {
-            return Some((index, &comps[index]));
-        }
-    }
-    None
+    let comps = kind.components();
+    let (place, _) = guard_values::located(name, comps)?;
+    comps.get(place)
 }
 
 /// The presence word, where there is one.
@@ -44,8 +41,8 @@ pub fn located<'a>(name: &[u8], ty: &'a Ty, site: Site) -> Result<(u8, &'a Ty), 
     ensures sound { IfOk result (λ x. IsTrue (is_sound (type_view x.1.now))) }
     ensures given { Gives located_view named result (reading.located site (kind_of (type_view ty.now)) name.now) }
 {
-    match component_named(name, ty.kind.components()) {
-        Some((place, comp)) => Ok((place as u8, &comp.ty)),
+    match guard_values::located(name, ty.kind.components()) {
+        Some((place, inside)) => Ok((place as u8, inside)),
         None => Err(ConsFault::UnknownComponent(site)),
     }
 }
@@ -96,8 +93,8 @@ fn first_bad_word(kind: &Kind, parts: &[ComponentConsTree]) -> Option<Site>
 fn has_bad_word(kind: &Kind, part: &ComponentConsTree) -> bool
     ensures { result ≡ listing.has_bad_word (kind_view kind.now) (head_view part.now) }
 {
-    match component_named(part.name, kind.components()) {
-        Some((_, comp)) => !may_say(kind.is_choice(), &comp.presence, part.presence),
+    match component_named(kind, part.name) {
+        Some(comp) => !may_say(kind.is_choice(), &comp.presence, part.presence),
         None => false,
     }
 }
@@ -129,7 +126,7 @@ fn first_unknown(kind: &Kind, parts: &[ComponentConsTree]) -> Option<Site>
     ensures { result ≡ listing.first_where (listing.is_unknown (kind_view kind.now)) (map head_view parts.now) }
 {
     for part in parts {
-        if component_named(part.name, kind.components()).is_none() {
+        if guard_values::located(part.name, kind.components()).is_none() {
             return Some(part.site);
         }
     }

@@ -6,6 +6,7 @@ pub mod Lengths
 pub mod CommentsAndStrings
 pub mod LongestMarks
 pub mod NumberValues
+pub mod WordTexts
 pub mod LongestItems
 -- what follows for the whole text
 pub mod OneCut

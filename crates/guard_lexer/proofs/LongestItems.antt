@@ -95,27 +95,8 @@ ByTable m after =
 
 by_table : (m : Mark) (after : List ℕ) → ByTable m after
 unfolding ByTable
-by_table mark.Assignment after = inl refl
-by_table mark.Ellipsis after = inl refl
-by_table mark.RangeSeparator after = inl refl
-by_table mark.LeftVersionBrackets after = inl refl
-by_table mark.RightVersionBrackets after = inl refl
-by_table mark.LeftBrace after = inl refl
-by_table mark.RightBrace after = inl refl
-by_table mark.LeftParenthesis after = inl refl
-by_table mark.RightParenthesis after = inl refl
-by_table mark.LeftBracket after = inl refl
-by_table mark.RightBracket after = inl refl
-by_table mark.Comma after = inl refl
-by_table mark.Semicolon after = inl refl
-by_table mark.Colon after = inl refl
-by_table mark.Bar after = inl refl
-by_table mark.Caret after = inl refl
-by_table mark.LessThan after = inl refl
 by_table mark.Minus after = minus after
-by_table mark.FullStop after = inl refl
-by_table mark.Exclamation after = inl refl
-by_table mark.CommercialAt after = inl refl
+by_table m after = inl refl
 
 covers-mark : (m : Mark) (after : List ℕ) → Covers (item.Mark m) (mark_spelling m) (item_at (mark_spelling m ++ after))
 unfolding ByTable

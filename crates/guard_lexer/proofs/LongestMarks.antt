@@ -17,26 +17,7 @@ mark_len m = length (mark_spelling m)
 
 pub mark-nonempty : (m : Mark) → 0 < mark_len m
 mark-nonempty mark.Assignment = omega arith
-mark-nonempty mark.Ellipsis = omega arith
-mark-nonempty mark.RangeSeparator = omega arith
-mark-nonempty mark.LeftVersionBrackets = omega arith
-mark-nonempty mark.RightVersionBrackets = omega arith
-mark-nonempty mark.LeftBrace = omega arith
-mark-nonempty mark.RightBrace = omega arith
-mark-nonempty mark.LeftParenthesis = omega arith
-mark-nonempty mark.RightParenthesis = omega arith
-mark-nonempty mark.LeftBracket = omega arith
-mark-nonempty mark.RightBracket = omega arith
-mark-nonempty mark.Comma = omega arith
-mark-nonempty mark.Semicolon = omega arith
-mark-nonempty mark.Colon = omega arith
-mark-nonempty mark.Bar = omega arith
-mark-nonempty mark.Caret = omega arith
-mark-nonempty mark.LessThan = omega arith
-mark-nonempty mark.Minus = omega arith
-mark-nonempty mark.FullStop = omega arith
-mark-nonempty mark.Exclamation = omega arith
-mark-nonempty mark.CommercialAt = omega arith
+mark-nonempty m = omega arith
 
 -- no mark is longer than one before it
 descending : List Mark → Bool
@@ -88,52 +69,14 @@ marks-descend = refl
 
 mark-in : (m : Mark) → has_spelling (mark_spelling m) marks ≡ true
 mark-in mark.Assignment = refl
-mark-in mark.Ellipsis = refl
-mark-in mark.RangeSeparator = refl
-mark-in mark.LeftVersionBrackets = refl
-mark-in mark.RightVersionBrackets = refl
-mark-in mark.LeftBrace = refl
-mark-in mark.RightBrace = refl
-mark-in mark.LeftParenthesis = refl
-mark-in mark.RightParenthesis = refl
-mark-in mark.LeftBracket = refl
-mark-in mark.RightBracket = refl
-mark-in mark.Comma = refl
-mark-in mark.Semicolon = refl
-mark-in mark.Colon = refl
-mark-in mark.Bar = refl
-mark-in mark.Caret = refl
-mark-in mark.LessThan = refl
-mark-in mark.Minus = refl
-mark-in mark.FullStop = refl
-mark-in mark.Exclamation = refl
-mark-in mark.CommercialAt = refl
+mark-in m = refl
 
 abbrev spelled_mark : List ℕ → Option Mark
 spelled_mark octets = find (λ m. bytes_eq (mark_spelling m) octets) marks
 
 mark-back : (m : Mark) → spelled_mark (mark_spelling m) ≡ Some m
 mark-back mark.Assignment = refl
-mark-back mark.Ellipsis = refl
-mark-back mark.RangeSeparator = refl
-mark-back mark.LeftVersionBrackets = refl
-mark-back mark.RightVersionBrackets = refl
-mark-back mark.LeftBrace = refl
-mark-back mark.RightBrace = refl
-mark-back mark.LeftParenthesis = refl
-mark-back mark.RightParenthesis = refl
-mark-back mark.LeftBracket = refl
-mark-back mark.RightBracket = refl
-mark-back mark.Comma = refl
-mark-back mark.Semicolon = refl
-mark-back mark.Colon = refl
-mark-back mark.Bar = refl
-mark-back mark.Caret = refl
-mark-back mark.LessThan = refl
-mark-back mark.Minus = refl
-mark-back mark.FullStop = refl
-mark-back mark.Exclamation = refl
-mark-back mark.CommercialAt = refl
+mark-back m = refl
 
 -- no two marks are spelled alike
 pub same_mark : (m n : Mark) → mark_spelling m ≡ mark_spelling n → m ≡ n

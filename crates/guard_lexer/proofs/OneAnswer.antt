@@ -44,16 +44,10 @@ one_fault place text a b (inr (inr x)) (inl y) = absurd (omega (arith, x.0.short
 one_fault place text a b (inr (inr x)) (inr (inl y)) = absurd (y.1 x.0.utf8)
 one_fault place text a b (inr (inr x)) (inr (inr y)) = one_fault_at place text a b x.1 y.1
 
--- a refusal that is no want of memory names its fault
+-- a refusal names its fault, unless it says that memory ran out
 pub refuses : {Y : Type 0} (e : LexFault) (answer : Result Y LexFault) → ((e ≡ faults.OutOfMemory → ⊥) → answer ≡ Err e) → Refuses (fault_named e) answer
 refuses faults.OutOfMemory answer h = tt
-refuses (faults.BadCharacter site) answer h = h (λ e. cc)
-refuses (faults.BadString site) answer h = h (λ e. cc)
-refuses (faults.OpenComment site) answer h = h (λ e. cc)
-refuses (faults.BadHyphen site) answer h = h (λ e. cc)
-refuses (faults.NumberTooLarge site) answer h = h (λ e. cc)
-refuses (faults.NotUtf8 place) answer h = h (λ e. cc)
-refuses (faults.TextTooLong place) answer h = h (λ e. cc)
+refuses _ answer h = h (λ e. cc)
 
 -- ---- what follows of an answer that is right
 

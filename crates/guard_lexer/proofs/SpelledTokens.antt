@@ -28,53 +28,7 @@ use Rattle.guard_lexer.specs.declared.token.TokenKind.TheVariants as kind
 
 reserved-back : (r : Reserved) → reserved_word (reserved_spelling r) ≡ Some r
 reserved-back word.Absent = refl
-reserved-back word.All = refl
-reserved-back word.Application = refl
-reserved-back word.Automatic = refl
-reserved-back word.Begin = refl
-reserved-back word.Bit = refl
-reserved-back word.Boolean = refl
-reserved-back word.Choice = refl
-reserved-back word.Component = refl
-reserved-back word.Components = refl
-reserved-back word.Default = refl
-reserved-back word.Definitions = refl
-reserved-back word.End = refl
-reserved-back word.Enumerated = refl
-reserved-back word.Except = refl
-reserved-back word.Explicit = refl
-reserved-back word.Exports = refl
-reserved-back word.False = refl
-reserved-back word.From = refl
-reserved-back word.Ia5String = refl
-reserved-back word.Identifier = refl
-reserved-back word.Implicit = refl
-reserved-back word.Imports = refl
-reserved-back word.Includes = refl
-reserved-back word.Integer = refl
-reserved-back word.Intersection = refl
-reserved-back word.Max = refl
-reserved-back word.Min = refl
-reserved-back word.Null = refl
-reserved-back word.NumericString = refl
-reserved-back word.Object = refl
-reserved-back word.Octet = refl
-reserved-back word.Of = refl
-reserved-back word.Optional = refl
-reserved-back word.Present = refl
-reserved-back word.Private = refl
-reserved-back word.PrintableString = refl
-reserved-back word.Sequence = refl
-reserved-back word.Set = refl
-reserved-back word.Size = refl
-reserved-back word.String = refl
-reserved-back word.Tags = refl
-reserved-back word.True = refl
-reserved-back word.Union = refl
-reserved-back word.Universal = refl
-reserved-back word.Utf8String = refl
-reserved-back word.VisibleString = refl
-reserved-back word.With = refl
+reserved-back r = refl
 
 found-spelled : (octets : List ℕ) (table : List Reserved) (r : Reserved) → find (λ w. bytes_eq octets (reserved_spelling w)) table ≡ Some r → octets ≡ reserved_spelling r
 found-spelled octets [] r e = absurd (none-some r e)
@@ -113,9 +67,6 @@ word-spelled octets w = word-from octets (reserved_word octets) refl w
 -- ---- all kinds
 
 spelled : (s : ItemKind) (octets after : List ℕ) (k : TokenKind) → IsItem s octets after → item_fault s octets after ≡ None → kind_of s octets ≡ Some k → IsSpelled k octets
-spelled item.WhiteSpace octets after k is fine e = absurd (none-some k e)
-spelled item.LineComment octets after k is fine e = absurd (none-some k e)
-spelled item.BlockComment octets after k is fine e = absurd (none-some k e)
 spelled item.Word octets after k is fine e = subst (λ (x : TokenKind). IsSpelled x octets) (same_Some (word_kind octets) k e) (word-spelled octets is)
 spelled item.Number octets after k is fine e =
     subst (λ (x : TokenKind). IsSpelled x octets) (same_Some kind.Number k e) (
@@ -129,6 +80,7 @@ spelled item.CharacterString octets after k is fine e = subst (λ (x : TokenKind
 spelled item.BitString octets after k is fine e = subst (λ (x : TokenKind). IsSpelled x octets) (same_Some kind.BitString k e) is
 spelled item.HexadecimalString octets after k is fine e = subst (λ (x : TokenKind). IsSpelled x octets) (same_Some kind.HexadecimalString k e) is
 spelled (item.Mark m) octets after k is fine e = subst (λ (x : TokenKind). IsSpelled x octets) (same_Some (kind.Mark m) k e) is
+spelled s octets after k is fine e = absurd (none-some k e)
 
 -- ---- spans
 

@@ -104,7 +104,7 @@ abbrev pub BeginsNone : List ℕ → Type 0
 BeginsNone text =
     (item : Item) (after : List ℕ) → text ≡ item.octets ++ after → ¬ (IsItem item.kind item.octets after)
 
--- What is wrong where no item begins: a string that is none, a comment that isn't closed, else the first character.
+-- What is wrong where no item begins: what looks like a string, a comment that isn't closed, else the first character.
 abbrev pub no_item_fault : List ℕ → OffsetFault
 no_item_fault left =
     if begins is_quote left || begins is_apostrophe left then bad_string

@@ -6,14 +6,14 @@ use guard_model::Site;
 use std::alloc::{AllocError, AllocFailed};
 use thiserror::Error;
 
-/// Why a text has no tokens: the first fault of the text, or want of memory in place of any other answer. A text
-/// that is too long comes before one that isn't UTF-8, and this before all others, of which the leftmost is named.
+/// Why a text has no tokens: the first fault of the text. In place of any other answer it may say that memory ran out.
+/// That a text is too long comes before that it isn't UTF-8, and this before all others, of which the leftmost is named.
 #[derive(Clone, Copy, Debug, PartialEq, Eq, Error)]
 pub enum LexFault {
     /// Here no token, comment or white space begins, or a digit comes directly after the number 0.
     #[error("L1 BadCharacter {0}")]
     BadCharacter(Site),
-    /// The string that begins here is none: it isn't closed, it can't have one of its characters, or a line ends in it.
+    /// What begins here is no string: it isn't closed, it can't have one of its characters, or a line ends in it.
     #[error("L2 BadString {0}")]
     BadString(Site),
     /// The comment that `/*` opens here isn't closed.

@@ -20,7 +20,7 @@ use std::str;
 /// The greatest number of octets of a text.
 pub const LONGEST_TEXT: usize = 1_048_576;
 
-/// The tokens of a text, in order; white space and comments are none. `place` is the place of the text in the list
+/// The tokens of a text, in order. White space and comments are no tokens. `place` is the place of the text in the list
 /// that was handed in, from 1, and only the sites show it.
 ///
 /// It refuses a text of more than 1,048,576 octets (TextTooLong), else one that isn't UTF-8 (NotUtf8), else one with
@@ -39,7 +39,8 @@ pub fn tokens(alloc: Global, place: u32, text: &[u8]) -> Result<Vec<Token>, LexF
     read(alloc, place, text)
 }
 
-/// The same: what else `tokens` ensures follows from these two clauses by laws on the definitions.
+/// The tokens of a text, or its first fault. What else `tokens` ensures follows from these two clauses by laws on the
+/// definitions.
 fn read(alloc: Global, place: u32, text: &[u8]) -> Result<Vec<Token>, LexFault>
     ensures tokens { IfOk result (λ v. Lexes place text.now v.items) }
     ensures fault { IfErr result (λ f. (f ≡ OutOfMemory) ⊎ FirstFault place text.now f) }

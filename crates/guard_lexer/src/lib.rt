@@ -7,7 +7,7 @@
 //! | Why has a text no tokens? | `fault.rt`, `item_faults.rt` | `specs/Lexing.antt` |
 //! | Which item begins here? | `item.rt`, and a file for each kind | `specs/Items.antt`, `specs/Words.antt` |
 //! | Which octets are letters, digits, white space? | `octet.rt` | `specs/Octets.antt` |
-//! | In which line and column does it begin? | `site.rt` | `specs/Sites.antt` |
+//! | In which line and column does it begin? | `site.rt` (`site_behind`) | `specs/Sites.antt` |
 //! | Which number do digits write? | `number.rt` (`magnitude`) | `specs/Items.antt` (`number_value`) |
 //! | What holds for every text? | `laws.rt` | `specs/Laws.antt` |
 #![tactic(auto)]
@@ -30,4 +30,5 @@ mod word;
 pub use fault::LexFault;
 pub use lexer::{LONGEST_TEXT, tokens};
 pub use number::magnitude;
+pub use site::site_behind;
 pub use token::{Mark, Reserved, Token, TokenKind};

@@ -5,7 +5,7 @@ ghost use Rattle.guard_lexer.specs.Sites.{site_after};
 use guard_model::Site;
 
 /// The site after octets that begin at a site.
-pub(crate) fn site_behind(site: Site, octets: &[u8]) -> Site
+pub fn site_behind(site: Site, octets: &[u8]) -> Site
     requires line { site.line + length octets.now < 2 ^ 32 }
     requires column { site.column + length octets.now < 2 ^ 32 }
     ensures { (before : List ℕ) → site ≡ site_after site.text before → result ≡ site_after site.text (before ++ octets.now) }

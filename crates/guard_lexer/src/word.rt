@@ -1,9 +1,8 @@
 //! Words: how long one is, and which token.
-ghost use Rattle.std.specs.Prelude.{◌≡◌, ◌≤◌, length, find, bytes_eq};
+ghost use Rattle.std.specs.Prelude.{◌≡◌, ◌≤◌, length, bytes_eq};
 ghost use Rattle.std.specs.List.{list_any};
-ghost use Rattle.guard_lexer.specs.Spelling.{reserved_spelling};
 ghost use Rattle.guard_lexer.specs.Words.{reserved_word, is_unsupported, word_kind};
-ghost use Rattle.guard_lexer.specs.inside.Reading.{word_len};
+ghost use Rattle.guard_lexer.specs.inside.Reading.{word_len, value_at};
 
 use crate::octet::is_of_word;
 use crate::spelling::{RESERVED, UNSUPPORTED};
@@ -42,11 +41,11 @@ fn reserved_word(word: &[u8]) -> Option<Reserved>
     find_reserved(word, &RESERVED)
 }
 
-fn find_reserved(word: &[u8], table: &[Reserved]) -> Option<Reserved>
-    ensures { result ≡ find (λ reserved. bytes_eq word.now (reserved_spelling reserved)) table.now }
+fn find_reserved(word: &[u8], table: &[(&[u8], Reserved)]) -> Option<Reserved>
+    ensures { result ≡ value_at (λ spelling. bytes_eq word.now spelling.now) table.now }
 {
-    for reserved in table {
-        if word == reserved.spelling() {
+    for (spelling, reserved) in table {
+        if word == *spelling {
             return Some(*reserved);
         }
     }

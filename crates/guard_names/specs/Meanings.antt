@@ -28,7 +28,7 @@ Means ms home name number = IsAssigned ms home name number ⊎ IsImported ms hom
 abbrev pub number_meant : List WrittenModule → Numbers
 number_meant ms = definition_of (origin_there (declarations ms))
 
--- The same where the name is written in the definition of a number.
+-- What a name means that is written in the definition of a number.
 abbrev pub number_meant_from : List WrittenModule → ℕ → List ℕ → Option ℕ
 number_meant_from ms number name = option_and_then (λ d. number_meant ms d.home.name name) (slice_get (definitions ms) number)
 

@@ -13,6 +13,6 @@ place_in (n ∷ ns) number = if nat_eq number n then Some 0 else option_map suc 
 abbrev pub place_meant : List WrittenModule → List ℕ → List ℕ → List ℕ → Option ℕ
 place_meant ms order home name = option_and_then (place_in order) (number_meant ms home name)
 
--- What is known of that definition, where so much is known of the first definitions in the order.
+-- What is known of that definition, where `known` is what is known of the first definitions in the order.
 abbrev pub known_meant : {A : Type 0} → List WrittenModule → List ℕ → List A → List ℕ → List ℕ → Option A
 known_meant ms order known home name = option_and_then (slice_get known) (place_meant ms order home name)

@@ -6,7 +6,8 @@ use guard_model::Site;
 use std::alloc::{AllocError, AllocFailed};
 use thiserror::Error;
 
-/// Why the names in modules don't all mean something: the first fault, or want of memory in place of any other answer.
+/// Why the names in modules don't all mean something: the first fault. In place of any other answer it may say that
+/// memory ran out.
 #[derive(Clone, Copy, Debug, PartialEq, Eq, Error)]
 pub enum NameFault {
     /// The name here is declared before: in this module, or as the name of another one.

@@ -22,7 +22,7 @@ use std::alloc::{AllocError, Global};
 pub struct Names<'m, 'a> {
     modules: &'m [Module<'a>],
     meanings: Meanings<'m, 'a>,
-    /// By modules, which number each name has.
+    /// The number of each module's name, by which names in the module are looked up.
     numbers: Vec<Option<usize>>,
     order: Vec<Id>,
     /// The place of each definition in the order, by definitions.
@@ -77,7 +77,8 @@ impl<'m, 'a> Names<'m, 'a> {
             .find(name.as_bytes())
     }
 
-    /// The same of a name that is written in this definition, as it is in its tree. The name of the module isn't read.
+    /// The definition that a name means which is written in this definition, as it is in its tree. The name of the
+    /// module isn't read again.
     pub fn meaning_from(&self, id: Id, name: &[u8]) -> Option<Id>
         ensures { result ≡ number_meant_from (modules_of self.now) id name.now }
     {

@@ -26,7 +26,7 @@ pub struct Waiting {
 pub struct Queue {
     /// Those that are listed.
     order: Vec<Id>,
-    /// Of each whether it is listed.
+    /// Whether each definition is listed.
     listed: Vec<bool>,
     /// Those whose uses are all listed.
     ready: BinaryHeap<Reverse<Id>>,

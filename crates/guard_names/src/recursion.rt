@@ -41,11 +41,11 @@ pub struct Pending {
 /// A search through chains of uses. Along its path a chain leads from each definition to the next one.
 #[derive(Drop)]
 pub struct Search {
-    /// By definitions.
+    /// One for each definition.
     marks: Vec<Mark>,
     path: Vec<Id>,
     parts: Vec<Part>,
-    /// By places, the later ones last.
+    /// In the order of places, the later ones last.
     pending: Vec<Pending>,
     /// The first of the definitions that are left and use themselves.
     first: Option<Id>,

@@ -45,7 +45,8 @@ pub fn resolve<'m, 'a>(alloc: Global, modules: &'m [Module<'a>]) -> Result<Names
     by_uses(alloc, modules, meanings, &uses)
 }
 
-/// The same by what the names mean and what each definition uses. Of the faults, a definition that uses itself is left.
+/// The answer of `resolve`, from what the names mean and what each definition uses. A definition that uses itself is the
+/// one fault that may be left.
 fn by_uses<'m, 'a>(
     alloc: Global,
     modules: &'m [Module<'a>],
@@ -80,7 +81,8 @@ fn meanings_and_uses<'m, 'a>(
     by_table(alloc, modules, declared, &table)
 }
 
-/// The same by where the declared names come from. Of the faults of names, one that is undefined is left.
+/// What the declared names mean and what each definition uses, from where the declared names come from. A name that is
+/// undefined is the one fault that may be left.
 fn by_table<'m, 'a>(
     alloc: Global,
     modules: &'m [Module<'a>],

@@ -15,7 +15,7 @@ use guard_syntax::Module;
 use indexmap::IndexMap;
 use std::alloc::Global;
 
-/// By which a declaration is looked up.
+/// What a declaration is looked up by.
 #[derive(Clone, Copy, PartialEq, Eq, Hash)]
 pub struct Key<'a> {
     /// The number of the module in which it is declared. The name of a module itself is declared in none.
@@ -30,7 +30,7 @@ pub struct Table<'m, 'a> {
     origins: IndexMap<Key<'a>, Origin<'a>>,
 }
 
-/// By which the declaration is looked up.
+/// What the declaration is looked up by.
 pub fn key_of<'a>(declaration: &Declaration<'a>) -> Key<'a>
     ensures name { result.name ≡ declaration.now.name }
     ensures scope { result.scope ≡ option_map (λ home. home.number) declaration.now.scope }

@@ -165,8 +165,7 @@ default_complete : (d : Option TagDefault) (ls : List Lexeme) (ss : List Site) �
 unfolding read_tag_default read_token
 default_complete None ls ss = refl
 default_complete (Some tag_default.Explicit) ls ss = refl
-default_complete (Some tag_default.Implicit) ls ss = refl
-default_complete (Some tag_default.Automatic) ls ss = refl
+default_complete d ls ss = refl
 
 -- what comes before the exports
 head_complete : (name : List ℕ) (id : List WrittenIdentifierPart) (d : Option TagDefault) (ls : List Lexeme) (ss : List Site) → let behind_id = sited_identifier id (past ss) in let h : WrittenHead = record { name = name; identifier = behind_id.0; tag_default = d } in

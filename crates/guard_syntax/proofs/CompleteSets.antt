@@ -14,7 +14,7 @@ use Rattle.guard_syntax.specs.declared.tree.PresenceWord.TheVariants as presence
 use Rattle.guard_syntax.specs.declared.tree.StringKind.TheVariants as string
 use Rattle.guard_syntax.specs.Kinds.{same_kind}
 use Rattle.guard_syntax.specs.Lexemes.{Lexeme, word, mark}
-use Rattle.guard_syntax.specs.Trees.{WrittenNumber, WrittenValue, value_node, boolean, null, integer, text, reference, chosen, list, arcs, WrittenEndForm, end_integer, end_reference, end_characters, WrittenEnd, WrittenRange, WrittenSet, set_node, WrittenSetForm, all_except, union, WrittenUnited, none_united, united, WrittenJoinedIntersection, united_of, WrittenIntersection, intersection, WrittenMet, none_met, met, WrittenJoinedDifference, met_of, WrittenDifference, element_alone, element_except, WrittenElement, element_node, parentheses, value, contained, range, size, from, with_component, with_components, WrittenConstraint, constraint, WrittenParts, no_parts, part, part_in, WrittenPart, parts_of}
+use Rattle.guard_syntax.specs.Trees.{WrittenNumber, WrittenValue, value_node, boolean, integer, text, reference, WrittenEndForm, end_integer, end_reference, end_characters, WrittenEnd, WrittenRange, WrittenSet, set_node, WrittenSetForm, all_except, union, WrittenUnited, none_united, united, WrittenJoinedIntersection, united_of, WrittenIntersection, intersection, WrittenMet, none_met, met, WrittenJoinedDifference, met_of, WrittenDifference, element_alone, element_except, WrittenElement, element_node, parentheses, value, contained, range, size, from, with_component, with_components, WrittenConstraint, constraint, WrittenParts, no_parts, part, part_in, WrittenPart, parts_of}
 use Rattle.guard_syntax.specs.TokensOf.{each_then, parted_then, if_there_then, number_then, value_then, end_form_then, end_or_then, range_then, union_mark, intersection_mark, presence_word_then, set_then, set_form_then, united_then, intersection_then, met_then, difference_then, element_then, element_form_then, constraint_then}
 use Rattle.guard_syntax.specs.Sites.{first, past, sited_each, sited_number, sited_value, sited_end_form, sited_end_or, sited_range, sited_set, sited_set_form, sited_intersection, sited_difference, sited_element, sited_element_form, sited_constraint}
 use Rattle.guard_syntax.specs.Grammar.{MayFollowSign, AreEach, IsPerhaps, IsValue, IsEndForm, IsEnd, HasParts, IsSet, IsSetForm, AreUnited, IsIntersection, AreMet, IsDifference, IsElement, IsElementForm, IsConstraint, AreParts}
@@ -108,16 +108,9 @@ number_not_all n false ls ss e = rw e refl
 
 value_not_all : (v : WrittenValue) (ls : List Lexeme) (ss : List Site) → begins_with (Reserved All) (place (value_then v ls) ss) ≡ false
 value_not_all (value_node site (boolean true)) ls ss = refl
-value_not_all (value_node site (boolean false)) ls ss = refl
-value_not_all (value_node site null) ls ss = refl
-value_not_all (value_node site (integer n)) ls ss = number_not_all n n.minus ls ss refl
 value_not_all (value_node site (text string.Characters spelling)) ls ss = refl
-value_not_all (value_node site (text string.Bits spelling)) ls ss = refl
-value_not_all (value_node site (text string.Hexadecimal spelling)) ls ss = refl
-value_not_all (value_node site (reference name)) ls ss = refl
-value_not_all (value_node site (chosen name v)) ls ss = refl
-value_not_all (value_node site (list es)) ls ss = refl
-value_not_all (value_node site (arcs all)) ls ss = refl
+value_not_all (value_node site (integer n)) ls ss = number_not_all n n.minus ls ss refl
+value_not_all v ls ss = refl
 
 end_not_all : (f : WrittenEndForm) (ls : List Lexeme) (ss : List Site) → begins_with (Reserved All) (place (end_form_then f ls) ss) ≡ false
 end_not_all (end_integer n) ls ss = number_not_all n n.minus ls ss refl
@@ -129,15 +122,10 @@ low_not_all None ls ss = refl
 low_not_all (Some e) ls ss = end_not_all e.form ls ss
 
 element_not_all : (e : WrittenElement) (ls : List Lexeme) (ss : List Site) → begins_with (Reserved All) (place (element_then e ls) ss) ≡ false
-element_not_all (element_node site (parentheses s)) ls ss = refl
-element_not_all (element_node site (value v)) ls ss = value_not_all v ls ss
 element_not_all (element_node site (contained true at name)) ls ss = refl
-element_not_all (element_node site (contained false at name)) ls ss = refl
+element_not_all (element_node site (value v)) ls ss = value_not_all v ls ss
 element_not_all (element_node site (range r)) ls ss = low_not_all r.low (if_there_then r.above_low (mark LessThan) (mark RangeSeparator ∷ if_there_then r.below_high (mark LessThan) (end_or_then Max r.high ls))) ss
-element_not_all (element_node site (size c)) ls ss = refl
-element_not_all (element_node site (from c)) ls ss = refl
-element_not_all (element_node site (with_component c)) ls ss = refl
-element_not_all (element_node site (with_components partial ps)) ls ss = refl
+element_not_all e ls ss = refl
 
 intersection_not_all : (i : WrittenIntersection) (ls : List Lexeme) (ss : List Site) → begins_with (Reserved All) (place (intersection_then i ls) ss) ≡ false
 intersection_not_all (intersection site (element_alone t e) others) ls ss = element_not_all e (met_then others ls) ss
@@ -161,16 +149,10 @@ module _ (levels : ℕ) {values : Reader WrittenValue} {sets : Reader WrittenSet
       → read_element_form values sets (place (value_then v ls) ss) ≡ (values (place (value_then v ls) ss) >>= λ v. Ok (value v.0, v.1))
   unfolding read_element_form read_range_or_value
   value_shown (value_node site (boolean true)) ls ss after = refl
-  value_shown (value_node site (boolean false)) ls ss after = refl
-  value_shown (value_node site null) ls ss after = refl
   value_shown (value_node site (integer n)) ls ss after = integer_shown n n.minus ls ss refl after
   value_shown (value_node site (text string.Characters spelling)) ls ss after = rw (after (past ss)).1 refl
-  value_shown (value_node site (text string.Bits spelling)) ls ss after = refl
-  value_shown (value_node site (text string.Hexadecimal spelling)) ls ss after = refl
   value_shown (value_node site (reference name)) ls ss after = rw (after (past ss)).1 refl
-  value_shown (value_node site (chosen name v)) ls ss after = refl
-  value_shown (value_node site (list es)) ls ss after = refl
-  value_shown (value_node site (arcs all)) ls ss after = refl
+  value_shown v ls ss after = refl
 
   integer_range_shown : (site : Site) (minus : Bool) (digits : List ℕ) (above : Bool) (ls : List Lexeme) (ss : List Site) → MayFollowSign minus digits → let n : WrittenNumber = record { site = site; minus = minus; digits = digits } in
       let ps = place (number_then n (if_there_then above (mark LessThan) (mark RangeSeparator ∷ ls))) ss in

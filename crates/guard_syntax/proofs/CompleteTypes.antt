@@ -15,16 +15,17 @@ use Rattle.guard_syntax.specs.declared.tree.Collection.{Collection}
 use Rattle.guard_syntax.specs.declared.tree.Collection.TheVariants as collection
 use Rattle.guard_syntax.specs.Lexemes.{Lexeme, word, mark}
 use Rattle.guard_syntax.specs.Trees.{WrittenNumber, WrittenValue, WrittenSet, WrittenConstraint, constraint, WrittenTag, WrittenNamed, WrittenItem, WrittenOfConstraint, mandatory, optional, default, WrittenType, type_node, WrittenBase, plain, numbers, named_bits, enumerated, structure, choice, of_type, named_type, WrittenComponents, no_components, component, components_from, WrittenComponentForm, named, components_of_type, WrittenComponent, components_of, WrittenAlternatives, no_alternatives, alternative, WrittenAlternative, alternatives_of}
-use Rattle.guard_syntax.specs.TokensOf.{each_then, parted_then, comma_before, perhaps_then, value_then, set_then, constraint_then, tag_then, parenthesised_then, named_then, item_then, numbers_then, plain_then, of_constraint_then, type_then, base_then, components_then, alternatives_then}
-use Rattle.guard_syntax.specs.Sites.{first, past, sited_each, sited_parted, sited_value, sited_set, sited_constraint, sited_tag, sited_parenthesised, sited_named, sited_item, sited_numbers, sited_of_constraint, sited_type, sited_base}
-use Rattle.guard_syntax.specs.Grammar.{Any, IsNumber, IsUnsigned, AreEach, AreSome, IsPerhaps, IsValue, IsSet, IsConstraint, IsNamed, IsNamedBit, IsItem, IsOfConstraint, MayConstrain, HasAlternatives, IsType, IsBase, AreComponents, AreAlternatives}
-use Rattle.guard_syntax.specs.inside.ReadTokens.{Placed, Reader, begins_with, site_at, read_token, read_spelling, read_each}
+use Rattle.guard_syntax.specs.TokensOf.{each_then, parted_then, comma_before, perhaps_then, number_then, value_then, set_then, constraint_then, tag_then, parenthesised_then, named_then, item_then, numbers_then, plain_then, of_constraint_then, type_then, base_then, components_then, alternatives_then}
+use Rattle.guard_syntax.specs.Sites.{first, past, sited_each, sited_parted, sited_number, sited_value, sited_set, sited_constraint, sited_tag, sited_parenthesised, sited_named, sited_item, sited_numbers, sited_of_constraint, sited_type, sited_base}
+use Rattle.guard_syntax.specs.Grammar.{Any, IsNumber, IsUnsigned, AreEach, AreSome, IsPerhaps, IsValue, IsSet, IsConstraint, IsItem, IsOfConstraint, MayConstrain, HasAlternatives, IsType, IsBase, AreComponents, AreAlternatives}
+use Rattle.guard_syntax.specs.inside.ReadTokens.{Placed, Reader, begins_with, site_at, read_token, read_spelling, read_each, read_number, read_unsigned}
 use Rattle.guard_syntax.specs.inside.ReadSets.{read_constraint}
-use Rattle.guard_syntax.specs.inside.ReadTypes.{mode_at, read_tag, begins_tag, begins_constraint, read_in_parentheses, read_named, read_bit_number, read_bit, read_item_number, read_item, read_numbers, read_items, read_two_words, read_presence, read_component_form, read_component, read_components, read_alternative, read_choice, read_structure, read_of_constraint, read_of, read_collection, read_word_or_name, read_bit_string, read_simple, read_base, is_of, read_constraints, read_inner_type, read_type}
+use Rattle.guard_syntax.specs.inside.ReadTypes.{mode_at, read_tag, begins_tag, begins_constraint, read_in_parentheses, read_named, read_item_number, read_item, read_numbers, read_items, read_two_words, read_presence, read_component_form, read_component, read_components, read_alternative, read_choice, read_structure, read_of_constraint, read_of, read_collection, read_word_or_name, read_bit_string, read_simple, read_base, is_of, read_constraints, read_inner_type, read_type}
 use Rattle.guard_syntax.proofs.SoundSteps.{Sound}
+use Rattle.guard_syntax.proofs.SoundLists.{number_sound}
 use Rattle.guard_syntax.proofs.SoundValues.{value_sound}
 use Rattle.guard_syntax.proofs.SoundSets.{constraint_sound, set_sound}
-use Rattle.guard_syntax.proofs.SoundTypes.{tag_sound, named_sound, bit_sound, item_sound, component_form_then, component_then, sited_component_form, sited_component, IsComponentForm, IsComponent, components_print, components_sited, alternative_then, sited_alternative, IsAlternative, alternatives_print, alternatives_sited, component_sound, alternative_sound, type_sound}
+use Rattle.guard_syntax.proofs.SoundTypes.{tag_sound, unsigned_sound, named_sound, item_sound, component_form_then, component_then, sited_component_form, sited_component, IsComponentForm, IsComponent, components_print, components_sited, alternative_then, sited_alternative, IsAlternative, alternatives_print, alternatives_sited, component_sound, alternative_sound, type_sound}
 use Rattle.guard_syntax.proofs.CompleteLists.{place, Complete, Whatever, NotBefore, number_complete, each_complete, parted_complete}
 use Rattle.guard_syntax.proofs.CompleteValues.{AfterValue, value_complete}
 use Rattle.guard_syntax.proofs.CompleteSets.{AfterSet, constraints_complete, set_complete}
@@ -72,47 +73,21 @@ tags_any (t ∷ ts) = (tt, tags_any ts)
 -- what a base begins with is no part of a tag
 plain_first : (p : PlainType) (ls : List Lexeme) (ss : List Site) → (begins_tag (place (plain_then p ls) ss) ≡ false) × (mode_at (place (plain_then p ls) ss) ≡ None) × (site_at (place (plain_then p ls) ss) ≡ first ss)
 plain_first plain_type.Boolean ls ss = (refl, refl, refl)
-plain_first plain_type.OctetString ls ss = (refl, refl, refl)
-plain_first plain_type.Null ls ss = (refl, refl, refl)
-plain_first plain_type.ObjectIdentifier ls ss = (refl, refl, refl)
-plain_first plain_type.Utf8String ls ss = (refl, refl, refl)
-plain_first plain_type.NumericString ls ss = (refl, refl, refl)
-plain_first plain_type.PrintableString ls ss = (refl, refl, refl)
-plain_first plain_type.Ia5String ls ss = (refl, refl, refl)
-plain_first plain_type.VisibleString ls ss = (refl, refl, refl)
+plain_first p ls ss = (refl, refl, refl)
 
 base_first : (b : WrittenBase) (ls : List Lexeme) (ss : List Site) → (begins_tag (place (base_then b ls) ss) ≡ false) × (mode_at (place (base_then b ls) ss) ≡ None) × (site_at (place (base_then b ls) ss) ≡ first ss)
 base_first (plain p) ls ss = plain_first p ls ss
-base_first (numbers ns) ls ss = (refl, refl, refl)
-base_first (named_bits bs) ls ss = (refl, refl, refl)
-base_first (enumerated is) ls ss = (refl, refl, refl)
 base_first (structure collection.Sequence cs) ls ss = (refl, refl, refl)
-base_first (structure collection.Set cs) ls ss = (refl, refl, refl)
-base_first (choice all) ls ss = (refl, refl, refl)
 base_first (of_type collection.Sequence c ty) ls ss = (refl, refl, refl)
-base_first (of_type collection.Set c ty) ls ss = (refl, refl, refl)
-base_first (named_type site name) ls ss = (refl, refl, refl)
+base_first b ls ss = (refl, refl, refl)
 
 plain_some : (p : PlainType) (ls : List Lexeme) → 1 ≤ length (plain_then p ls)
 plain_some plain_type.Boolean ls = omega arith
-plain_some plain_type.OctetString ls = omega arith
-plain_some plain_type.Null ls = omega arith
-plain_some plain_type.ObjectIdentifier ls = omega arith
-plain_some plain_type.Utf8String ls = omega arith
-plain_some plain_type.NumericString ls = omega arith
-plain_some plain_type.PrintableString ls = omega arith
-plain_some plain_type.Ia5String ls = omega arith
-plain_some plain_type.VisibleString ls = omega arith
+plain_some p ls = omega arith
 
 base_some : (b : WrittenBase) (ls : List Lexeme) → 1 ≤ length (base_then b ls)
 base_some (plain p) ls = plain_some p ls
-base_some (numbers ns) ls = omega arith
-base_some (named_bits bs) ls = omega arith
-base_some (enumerated is) ls = omega arith
-base_some (structure k cs) ls = omega arith
-base_some (choice all) ls = omega arith
-base_some (of_type k c ty) ls = omega arith
-base_some (named_type site name) ls = omega arith
+base_some b ls = omega arith
 
 type_first : (tags : List WrittenTag) (b : WrittenBase) (ls : List Lexeme) (ss : List Site) → site_at (place (each_then tag_then tags (base_then b ls)) ss) ≡ first ss
 type_first [] b ls ss = (base_first b ls ss).2
@@ -120,43 +95,40 @@ type_first (t ∷ ts) b ls ss = refl
 
 -- ---- named numbers, named bits and items
 
-in_parentheses_complete : Complete parenthesised_then sited_parenthesised IsNumber Whatever read_in_parentheses
-unfolding read_in_parentheses read_token
-in_parentheses_complete n ls ss h after = rw (number_complete n (mark RightParenthesis ∷ ls) (past ss) h tt) refl
+unsigned_complete_at : (site : Site) (minus : Bool) (digits : List ℕ) (ls : List Lexeme) (ss : List Site) → minus ≡ false → let n : WrittenNumber = record { site = site; minus = minus; digits = digits } in
+    read_unsigned (place (number_then n ls) ss) ≡ Ok ((sited_number n ss).0, place ls (sited_number n ss).1)
+unfolding read_unsigned read_spelling
+unsigned_complete_at site true digits ls ss h = absurd cc
+unsigned_complete_at site false digits ls ss h = refl
 
-named_complete : Complete named_then sited_named IsNamed Whatever read_named
-unfolding read_named read_spelling
-named_complete n ls ss h after = rw (in_parentheses_complete n.number ls (past ss) h tt) refl
+unsigned_complete : Complete number_then sited_number IsUnsigned Whatever read_unsigned
+unsigned_complete n ls ss h after = unsigned_complete_at n.site n.minus n.digits ls ss h
 
-bit_number_complete_at : (site : Site) (minus : Bool) (digits : List ℕ) (ls : List Lexeme) (ss : List Site) → minus ≡ false → let n : WrittenNumber = record { site = site; minus = minus; digits = digits } in
-    read_bit_number (place (parenthesised_then n ls) ss) ≡ Ok ((sited_parenthesised n ss).0, place ls (sited_parenthesised n ss).1)
-unfolding read_bit_number read_spelling read_token
-bit_number_complete_at site true digits ls ss h = absurd cc
-bit_number_complete_at site false digits ls ss h = refl
+module _ {Is : WrittenNumber → Type 0} (read : Reader WrittenNumber) (one_complete : Complete number_then sited_number Is Whatever read) where
+  in_parentheses_complete : Complete parenthesised_then sited_parenthesised Is Whatever (read_in_parentheses read)
+  unfolding read_in_parentheses read_token
+  in_parentheses_complete n ls ss h after = rw (one_complete n (mark RightParenthesis ∷ ls) (past ss) h tt) refl
 
-bit_number_complete : Complete parenthesised_then sited_parenthesised IsUnsigned Whatever read_bit_number
-bit_number_complete n ls ss h after = bit_number_complete_at n.site n.minus n.digits ls ss h
-
-bit_complete : Complete named_then sited_named IsNamedBit Whatever read_bit
-unfolding read_bit read_spelling
-bit_complete n ls ss h after = rw (bit_number_complete n.number ls (past ss) h tt) refl
+  named_complete : Complete named_then sited_named (λ n. Is n.number) Whatever (read_named read)
+  unfolding read_named read_spelling
+  named_complete n ls ss h after = rw (in_parentheses_complete n.number ls (past ss) h tt) refl
 
 item_complete_at : (site : Site) (name : List ℕ) (n : Option WrittenNumber) (ls : List Lexeme) (ss : List Site) → IsPerhaps IsNumber n → NotBefore (Mark LeftParenthesis) ls → let i : WrittenItem = record { site = site; name = name; number = n } in
     read_item (place (item_then i ls) ss) ≡ Ok ((sited_item i ss).0, place ls (sited_item i ss).1)
 unfolding read_item read_item_number read_spelling
 item_complete_at site name None ls ss h after = rw (after (past ss)) refl
-item_complete_at site name (Some n) ls ss h after = rw (in_parentheses_complete n ls (past ss) h tt) refl
+item_complete_at site name (Some n) ls ss h after = rw (in_parentheses_complete read_number number_complete n ls (past ss) h tt) refl
 
 item_complete : Complete item_then sited_item IsItem (NotBefore (Mark LeftParenthesis)) read_item
 item_complete i ls ss h after = item_complete_at i.site i.name i.number ls ss h after
 
-numbers_complete : {Is : WrittenNamed → Type 0} {read : Reader WrittenNamed} (one_sound : Sound named_then sited_named Is read) (one_complete : Complete named_then sited_named Is Whatever read) (ns : List WrittenNamed) (ls : List Lexeme) (ss : List Site)
-    → AreEach Is ns → NotBefore (Mark LeftBrace) ls → read_numbers read (place (numbers_then ns ls) ss) ≡ Ok ((sited_numbers ns ss).0, place ls (sited_numbers ns ss).1)
+numbers_complete : {Is : WrittenNumber → Type 0} {read : Reader WrittenNumber} (one_sound : Sound number_then sited_number Is read) (one_complete : Complete number_then sited_number Is Whatever read) (ns : List WrittenNamed) (ls : List Lexeme) (ss : List Site)
+    → AreEach (λ n. Is n.number) ns → NotBefore (Mark LeftBrace) ls → read_numbers read (place (numbers_then ns ls) ss) ≡ Ok ((sited_numbers ns ss).0, place ls (sited_numbers ns ss).1)
 unfolding read_numbers read_token
 numbers_complete one_sound one_complete [] ls ss h after = rw (after ss) refl
-numbers_complete one_sound one_complete (n ∷ ns) ls ss h after =
+numbers_complete {read} one_sound one_complete (n ∷ ns) ls ss h after =
     let inside = place (parted_then named_then (n ∷ ns) (mark RightBrace ∷ ls)) (past ss) in
-    rw (parted_complete one_sound one_complete (λ more. tt) (n ∷ ns) (length inside) (mark RightBrace ∷ ls) (past ss) h tt (λ ts. refl) (omega arith)) refl
+    rw (parted_complete (named_sound one_sound) (named_complete read one_complete) (λ more. tt) (n ∷ ns) (length inside) (mark RightBrace ∷ ls) (past ss) h tt (λ ts. refl) (omega arith)) refl
 
 items_complete : (is : List WrittenItem) (ls : List Lexeme) (ss : List Site) → AreSome IsItem is → read_items (place (mark LeftBrace ∷ parted_then item_then is (mark RightBrace ∷ ls)) ss) ≡ Ok ((sited_parted sited_item is (past ss)).0, place ls (past (sited_parted sited_item is (past ss)).1))
 unfolding read_items read_token
@@ -310,20 +282,13 @@ module _ (levels : ℕ) {values : Reader WrittenValue} {sets : Reader WrittenSet
   plain_complete : (p : PlainType) (ls : List Lexeme) (ss : List Site) → read_base values sets types (place (plain_then p ls) ss) ≡ Ok ((sited_base (plain p) ss).0, place ls (sited_base (plain p) ss).1)
   unfolding read_base read_simple read_two_words read_word_or_name read_token
   plain_complete plain_type.Boolean ls ss = refl
-  plain_complete plain_type.OctetString ls ss = refl
-  plain_complete plain_type.Null ls ss = refl
-  plain_complete plain_type.ObjectIdentifier ls ss = refl
-  plain_complete plain_type.Utf8String ls ss = refl
-  plain_complete plain_type.NumericString ls ss = refl
-  plain_complete plain_type.PrintableString ls ss = refl
-  plain_complete plain_type.Ia5String ls ss = refl
-  plain_complete plain_type.VisibleString ls ss = refl
+  plain_complete p ls ss = refl
 
   base_complete : (b : WrittenBase) (ls : List Lexeme) (ss : List Site) → IsBase levels b → AfterBase b ls → read_base values sets types (place (base_then b ls) ss) ≡ Ok ((sited_base b ss).0, place ls (sited_base b ss).1)
   unfolding read_base read_simple read_bit_string read_word_or_name read_spelling read_token AfterBase
   base_complete (plain p) ls ss h after = plain_complete p ls ss
-  base_complete (numbers ns) ls ss h after = rw (numbers_complete named_sound named_complete ns ls (past ss) h after) refl
-  base_complete (named_bits bs) ls ss h after = rw (numbers_complete bit_sound bit_complete bs ls (past (past ss)) h after) refl
+  base_complete (numbers ns) ls ss h after = rw (numbers_complete number_sound number_complete ns ls (past ss) h after) refl
+  base_complete (named_bits bs) ls ss h after = rw (numbers_complete unsigned_sound unsigned_complete bs ls (past (past ss)) h after) refl
   base_complete (enumerated is) ls ss h after = rw (items_complete is ls (past ss) h) refl
   base_complete (structure collection.Sequence cs) ls ss h after = structure_complete collection.Sequence cs ls ss h
   base_complete (structure collection.Set cs) ls ss h after = structure_complete collection.Set cs ls ss h
@@ -351,14 +316,8 @@ module _ (levels : ℕ) {values : Reader WrittenValue} {sets : Reader WrittenSet
 
   may_constrain_complete : (b : WrittenBase) (cs : List WrittenConstraint) (ls : List Lexeme) (ts ss : List Site) → MayConstrain levels b cs → AfterType ls
       → read_constraints sets (is_of (sited_base b ts).0) (place (each_then constraint_then cs ls) ss) ≡ Ok ((sited_each sited_constraint cs ss).0, place ls (sited_each sited_constraint cs ss).1)
-  may_constrain_complete (plain p) cs ls ts ss h after = each_constraint_complete cs ls ss h after
-  may_constrain_complete (numbers ns) cs ls ts ss h after = each_constraint_complete cs ls ss h after
-  may_constrain_complete (named_bits bs) cs ls ts ss h after = each_constraint_complete cs ls ss h after
-  may_constrain_complete (enumerated is) cs ls ts ss h after = each_constraint_complete cs ls ss h after
-  may_constrain_complete (structure k ds) cs ls ts ss h after = each_constraint_complete cs ls ss h after
-  may_constrain_complete (choice all) cs ls ts ss h after = each_constraint_complete cs ls ss h after
   may_constrain_complete (of_type k c ty) cs ls ts ss h after = no_constraint_complete k c ty cs ls ts ss h
-  may_constrain_complete (named_type site name) cs ls ts ss h after = each_constraint_complete cs ls ss h after
+  may_constrain_complete b cs ls ts ss h after = each_constraint_complete cs ls ss h after
 
   not_brace_behind : (cs : List WrittenConstraint) (ls : List Lexeme) → NotBefore (Mark LeftBrace) ls → NotBefore (Mark LeftBrace) (each_then constraint_then cs ls)
   not_brace_behind [] ls h = h
@@ -366,15 +325,9 @@ module _ (levels : ℕ) {values : Reader WrittenValue} {sets : Reader WrittenSet
 
   after_base : (b : WrittenBase) (cs : List WrittenConstraint) (ls : List Lexeme) → MayConstrain levels b cs → AfterType ls → AfterBase b (each_then constraint_then cs ls)
   unfolding AfterBase
-  after_base (plain p) cs ls h after = not_brace_behind cs ls after.not_brace
-  after_base (numbers ns) cs ls h after = not_brace_behind cs ls after.not_brace
-  after_base (named_bits bs) cs ls h after = not_brace_behind cs ls after.not_brace
-  after_base (enumerated is) cs ls h after = not_brace_behind cs ls after.not_brace
-  after_base (structure k ds) cs ls h after = not_brace_behind cs ls after.not_brace
-  after_base (choice all) cs ls h after = not_brace_behind cs ls after.not_brace
   after_base (of_type k c ty) [] ls h after = after
   after_base (of_type k c ty) (d ∷ ds) ls h after = absurd h
-  after_base (named_type site name) cs ls h after = not_brace_behind cs ls after.not_brace
+  after_base b cs ls h after = not_brace_behind cs ls after.not_brace
 
   -- ---- types
 

@@ -8,7 +8,7 @@ use Rattle.guard_lexer.specs.declared.token.Mark.TheVariants.{Colon, LeftBrace, 
 use Rattle.guard_syntax.specs.Kinds.{same_kind}
 use Rattle.guard_syntax.specs.declared.tree.StringKind.TheVariants as string
 use Rattle.guard_syntax.specs.Lexemes.{Lexeme, mark}
-use Rattle.guard_syntax.specs.Trees.{WrittenNumber, WrittenArc, WrittenValue, value_node, WrittenValueForm, boolean, null, integer, text, reference, chosen, list, arcs, WrittenEntries, no_entries, entry, WrittenEntry, entries_of}
+use Rattle.guard_syntax.specs.Trees.{WrittenNumber, WrittenArc, WrittenValue, value_node, WrittenValueForm, boolean, integer, text, reference, chosen, list, arcs, WrittenEntries, no_entries, entry, WrittenEntry, entries_of}
 use Rattle.guard_syntax.specs.TokensOf.{number_then, arc_form_then, arc_then, each_then, parted_then, comma_before, entry_name_then, entries_comma, value_then, value_form_then, entries_then}
 use Rattle.guard_syntax.specs.Sites.{past, sited_arc, sited_each, sited_parted, sited_number, sited_value, sited_value_form}
 use Rattle.guard_syntax.specs.Grammar.{MayFollowSign, Any, AreEach, AreArcs, IsValue, IsValueForm, AreEntries}
@@ -34,16 +34,9 @@ number_begins n false ls ss e = rw e refl
 
 form_begins : (f : WrittenValueForm) (ls : List Lexeme) (ss : List Site) → begins_value (place (value_form_then f ls) ss) ≡ true
 form_begins (boolean true) ls ss = refl
-form_begins (boolean false) ls ss = refl
-form_begins null ls ss = refl
-form_begins (integer n) ls ss = number_begins n n.minus ls ss refl
 form_begins (text string.Characters spelling) ls ss = refl
-form_begins (text string.Bits spelling) ls ss = refl
-form_begins (text string.Hexadecimal spelling) ls ss = refl
-form_begins (reference name) ls ss = refl
-form_begins (chosen name v) ls ss = refl
-form_begins (list es) ls ss = refl
-form_begins (arcs all) ls ss = refl
+form_begins (integer n) ls ss = number_begins n n.minus ls ss refl
+form_begins f ls ss = refl
 
 pub value_begins : (v : WrittenValue) (ls : List Lexeme) (ss : List Site) → begins_value (place (value_then v ls) ss) ≡ true
 value_begins (value_node site f) ls ss = form_begins f ls ss
@@ -58,16 +51,11 @@ number_not m h n false ls ss e = rw e refl
 
 pub value_not : (m : Sign) → BeginsNone m → (v : WrittenValue) (ls : List Lexeme) (ss : List Site) → begins_with (Mark m) (place (value_then v ls) ss) ≡ false
 value_not m h (value_node site (boolean true)) ls ss = refl
-value_not m h (value_node site (boolean false)) ls ss = refl
-value_not m h (value_node site null) ls ss = refl
-value_not m h (value_node site (integer n)) ls ss = number_not m h n n.minus ls ss refl
 value_not m h (value_node site (text string.Characters spelling)) ls ss = refl
-value_not m h (value_node site (text string.Bits spelling)) ls ss = refl
-value_not m h (value_node site (text string.Hexadecimal spelling)) ls ss = refl
-value_not m h (value_node site (reference name)) ls ss = refl
-value_not m h (value_node site (chosen name v)) ls ss = refl
+value_not m h (value_node site (integer n)) ls ss = number_not m h n n.minus ls ss refl
 value_not m h (value_node site (list es)) ls ss = h.0
 value_not m h (value_node site (arcs all)) ls ss = h.0
+value_not m h v ls ss = refl
 
 -- ---- arcs
 
@@ -133,16 +121,10 @@ number_no_arcs n false ls ss e a b = rw (e, a, b) refl
 
 value_no_arcs : (v : WrittenValue) (ls : List Lexeme) (ss : List Site) → ((ts : List Site) → (begins_with Number (place ls ts) ≡ false) × (begins_with LowerName (place ls ts) ≡ false) × (begins_with (Mark LeftParenthesis) (place ls ts) ≡ false)) → begins_arcs (place (value_then v ls) ss) ≡ false
 value_no_arcs (value_node site (boolean true)) ls ss h = refl
-value_no_arcs (value_node site (boolean false)) ls ss h = refl
-value_no_arcs (value_node site null) ls ss h = refl
-value_no_arcs (value_node site (integer n)) ls ss h = number_no_arcs n n.minus ls ss refl (h (past ss)).0 (h (past ss)).1
 value_no_arcs (value_node site (text string.Characters spelling)) ls ss h = refl
-value_no_arcs (value_node site (text string.Bits spelling)) ls ss h = refl
-value_no_arcs (value_node site (text string.Hexadecimal spelling)) ls ss h = refl
+value_no_arcs (value_node site (integer n)) ls ss h = number_no_arcs n n.minus ls ss refl (h (past ss)).0 (h (past ss)).1
 value_no_arcs (value_node site (reference name)) ls ss h = (h (past ss)).2
-value_no_arcs (value_node site (chosen name v)) ls ss h = refl
-value_no_arcs (value_node site (list es)) ls ss h = refl
-value_no_arcs (value_node site (arcs all)) ls ss h = refl
+value_no_arcs v ls ss h = refl
 
 entries_no_arcs : (es : WrittenEntries) (ls : List Lexeme) (ss : List Site) → begins_arcs (place (entries_then es (mark RightBrace ∷ ls)) ss) ≡ false
 entries_no_arcs no_entries ls ss = refl
@@ -163,16 +145,10 @@ module _ (levels : ℕ) {values : Reader WrittenValue} (inside_sound : Sound val
   name_missing : (v : WrittenValue) (ls : List Lexeme) (ss : List Site) → AfterEntry ls → read_entry_name (place (value_then v ls) ss) ≡ Ok (None, place (value_then v ls) ss)
   unfolding read_entry_name
   name_missing (value_node site (boolean true)) ls ss after = refl
-  name_missing (value_node site (boolean false)) ls ss after = refl
-  name_missing (value_node site null) ls ss after = refl
-  name_missing (value_node site (integer n)) ls ss after = sign_name_missing n n.minus ls ss refl
   name_missing (value_node site (text string.Characters spelling)) ls ss after = refl
-  name_missing (value_node site (text string.Bits spelling)) ls ss after = refl
-  name_missing (value_node site (text string.Hexadecimal spelling)) ls ss after = refl
+  name_missing (value_node site (integer n)) ls ss after = sign_name_missing n n.minus ls ss refl
   name_missing (value_node site (reference name)) ls ss after = rw (after (past ss)).1 refl
-  name_missing (value_node site (chosen name v)) ls ss after = refl
-  name_missing (value_node site (list es)) ls ss after = refl
-  name_missing (value_node site (arcs all)) ls ss after = refl
+  name_missing v ls ss after = refl
 
   entry_complete_at : (site : Site) (name : Option (List ℕ)) (v : WrittenValue) (ls : List Lexeme) (ss : List Site) → IsValue levels v → AfterEntry ls
       → let e : WrittenEntry = record { site = site; name = name; value = v } in read_entry values (place (entry_then e ls) ss) ≡ Ok ((sited_entry e ss).0, place ls (sited_entry e ss).1)
@@ -214,16 +190,13 @@ module _ (levels : ℕ) {values : Reader WrittenValue} (inside_sound : Sound val
   form_complete : Complete value_form_then sited_value_form (IsValueForm levels) AfterValue (read_value_form levels values)
   unfolding read_value_form read_integer_form read_string read_name read_braces read_spelling read_token
   form_complete (boolean true) ls ss h after = refl
-  form_complete (boolean false) ls ss h after = refl
-  form_complete null ls ss h after = refl
-  form_complete (integer n) ls ss h after = integer_complete_at n.site n.minus n.digits ls ss h
   form_complete (text string.Characters spelling) ls ss h after = refl
-  form_complete (text string.Bits spelling) ls ss h after = refl
-  form_complete (text string.Hexadecimal spelling) ls ss h after = refl
+  form_complete (integer n) ls ss h after = integer_complete_at n.site n.minus n.digits ls ss h
   form_complete (reference name) ls ss h after = rw (after (past ss)) refl
   form_complete (chosen name v) ls ss h after = rw (inside_complete v ls (past (past ss)) h after) refl
   form_complete (list es) ls ss h after = list_complete es ls ss h
   form_complete (arcs all) ls ss h after = rw (arcs_begin all (mark RightBrace ∷ ls) (past ss) h, arcs_complete all ls (past ss) h) refl
+  form_complete _ ls ss h after = refl
 
 pub value_complete : (levels : ℕ) → Complete value_then sited_value (IsValue levels) AfterValue (read_value levels)
 unfolding read_value

@@ -16,3 +16,6 @@ pub mod CompleteTypes
 pub mod CompleteModule
 -- ---- both, for the tokens of a text
 pub mod SoundAndComplete
+-- ---- what holds of all lexemes that a tree writes
+pub mod Following
+pub mod SpelledNames

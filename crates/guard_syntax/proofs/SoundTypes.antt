@@ -13,13 +13,13 @@ use Rattle.guard_syntax.specs.declared.tree.PlainType.TheVariants as plain_type
 use Rattle.guard_syntax.specs.declared.tree.Collection.{Collection}
 use Rattle.guard_syntax.specs.declared.tree.Collection.TheVariants as collection
 use Rattle.guard_syntax.specs.Lexemes.{Lexeme, word, mark, lower_name}
-use Rattle.guard_syntax.specs.Trees.{WrittenNumber, WrittenValue, WrittenSet, WrittenConstraint, WrittenNamed, WrittenItem, WrittenPresence, WrittenType, WrittenBase, plain, numbers, named_bits, enumerated, structure, choice, of_type, named_type, WrittenComponents, WrittenComponentForm, named, components_of_type, WrittenComponent, component_before, components_of, WrittenAlternatives, alternative, WrittenAlternative, alternatives_of}
-use Rattle.guard_syntax.specs.TokensOf.{each_then, parted_then, value_then, set_then, constraint_then, class_then, mode_then, tag_then, parenthesised_then, named_then, item_then, numbers_then, plain_then, collection_word, of_constraint_then, presence_then, components_comma, type_then, base_then, components_then, alternatives_then}
+use Rattle.guard_syntax.specs.Trees.{WrittenNumber, WrittenValue, WrittenSet, WrittenConstraint, WrittenNamed, WrittenItem, WrittenPresence, WrittenType, WrittenBase, plain, enumerated, of_type, WrittenComponents, WrittenComponentForm, named, components_of_type, WrittenComponent, component_before, components_of, WrittenAlternatives, alternative, WrittenAlternative, alternatives_of}
+use Rattle.guard_syntax.specs.TokensOf.{each_then, parted_then, number_then, value_then, set_then, constraint_then, class_then, mode_then, tag_then, parenthesised_then, named_then, item_then, numbers_then, plain_then, collection_word, of_constraint_then, presence_then, components_comma, type_then, base_then, components_then, alternatives_then}
 use Rattle.guard_syntax.specs.Sites.{first, past, sited_each, sited_parted, sited_number, sited_value, sited_set, sited_constraint, sited_tag, sited_parenthesised, sited_named, sited_item, sited_numbers, past_plain, sited_of_constraint, sited_presence, past_components_comma, sited_type, sited_base, sited_components, sited_alternatives}
-use Rattle.guard_syntax.specs.Grammar.{Any, IsNumber, IsUnsigned, AreEach, AreSome, IsValue, IsSet, IsConstraint, IsNamed, IsNamedBit, IsItem, IsOfConstraint, IsPresence, MayConstrain, HasAlternatives, IsType, IsBase, AreComponents, AreAlternatives}
-use Rattle.guard_syntax.specs.inside.ReadTokens.{Placed, Reader, begins_with, behind, behind_if}
+use Rattle.guard_syntax.specs.Grammar.{Any, IsNumber, IsUnsigned, AreEach, AreSome, IsValue, IsSet, IsConstraint, IsItem, IsOfConstraint, IsPresence, MayConstrain, HasAlternatives, IsType, IsBase, AreComponents, AreAlternatives}
+use Rattle.guard_syntax.specs.inside.ReadTokens.{Placed, Reader, begins_with, behind, behind_if, read_unsigned}
 use Rattle.guard_syntax.specs.inside.ReadValues.{is_there}
-use Rattle.guard_syntax.specs.inside.ReadTypes.{read_bit_string, class_at, mode_at, read_tag, begins_tag, begins_constraint, read_in_parentheses, read_named, read_bit_number, read_bit, read_item_number, read_item, read_numbers, read_items, single_word_at, begins_two_words, read_two_words, read_presence, read_component_form, read_component, read_components, read_alternative, read_choice, read_structure, read_of_constraint, read_of, read_collection, plain_or_name, read_word_or_name, read_simple, read_base, is_of, read_constraints, begins_type, read_inner_type, read_type}
+use Rattle.guard_syntax.specs.inside.ReadTypes.{read_bit_string, class_at, mode_at, read_tag, begins_tag, begins_constraint, read_in_parentheses, read_named, read_item_number, read_item, read_numbers, read_items, single_word_at, begins_two_words, read_two_words, read_presence, read_component_form, read_component, read_components, read_alternative, read_choice, read_structure, read_of_constraint, read_of, read_collection, plain_or_name, read_word_or_name, read_simple, read_base, is_of, read_constraints, begins_type, read_inner_type, read_type}
 use Rattle.guard_syntax.proofs.SoundSteps.{lexemes, sites, Holds, then_holds, ok_holds, err_holds, if_holds, so_holds, Took, took, took_mark, took_word, took_spelled, IsRead, Sound}
 use Rattle.guard_syntax.proofs.SoundLists.{some_each, passed, WordRead, word_sound, no_word_sound, PerhapsRead, there_sound, missing_sound, number_sound, each_sound, parted_sound}
 use Rattle.guard_syntax.proofs.SoundValues.{value_sound}
@@ -57,65 +57,50 @@ tag_sound ps =
 
 -- ---- named numbers, named bits and items
 
-in_parentheses_sound : Sound parenthesised_then sited_parenthesised IsNumber read_in_parentheses
-unfolding read_in_parentheses
-in_parentheses_sound ps =
-    then_holds _ (took_mark LeftParenthesis ps) (λ o opening.
-    then_holds _ (number_sound o) (λ a n.
-    then_holds _ (took_mark RightParenthesis a.1) (λ d closing.
-    let from : List Site → WrittenNumber × List Site = λ ss. ((sited_number a.0 ss).0, past (sited_number a.0 ss).1) in
-    let behind_number : WrittenNumber × List Site → WrittenNumber × List Site = λ m. (m.0, past m.1) in
-    let behind_closing : List Site → WrittenNumber × List Site = λ ss. (a.0, ss) in
-    ok_holds _ (record {
-      lexemes_are = rw (opening.lexemes_are, n.lexemes_are, closing.lexemes_are) refl;
-      sites_are = ap from opening.sites_are ∙ ap behind_number n.sites_are ∙ ap behind_closing closing.sites_are;
-      shorter = omega (arith, opening.shorter, n.shorter, closing.shorter);
-      lawful = n.lawful;
-    }))))
-
-pub named_sound : Sound named_then sited_named IsNamed read_named
-unfolding read_named
-named_sound ps =
-    then_holds _ (took_spelled LowerName ps) (λ a name.
-    then_holds _ (in_parentheses_sound a.1) (λ b n.
-    let from : List Site → WrittenNamed × List Site = λ ss. (record { site = first (sites ps); name = a.0; number = (sited_parenthesised b.0 ss).0 }, (sited_parenthesised b.0 ss).1) in
-    let with_number : WrittenNumber × List Site → WrittenNamed × List Site = λ m. (record { site = first (sites ps); name = a.0; number = m.0 }, m.1) in
-    ok_holds _ (record {
-      lexemes_are = rw (name.lexemes_are, n.lexemes_are) refl;
-      sites_are = ap from name.sites_are ∙ ap with_number n.sites_are;
-      shorter = omega (arith, name.shorter, n.shorter);
-      lawful = n.lawful;
-    })))
-
-bit_number_sound : Sound parenthesised_then sited_parenthesised IsUnsigned read_bit_number
-unfolding read_bit_number
-bit_number_sound ps =
-    then_holds _ (took_mark LeftParenthesis ps) (λ o opening.
-    then_holds _ (took_spelled Number o) (λ a digits.
-    then_holds _ (took_mark RightParenthesis a.1) (λ d closing. ok_holds _ (record {
-      lexemes_are = rw (opening.lexemes_are, digits.lexemes_are, closing.lexemes_are) refl;
-      sites_are = rw (opening.sites_are, digits.sites_are, closing.sites_are) refl;
-      shorter = omega (arith, opening.shorter, digits.shorter, closing.shorter);
+pub unsigned_sound : Sound number_then sited_number IsUnsigned read_unsigned
+unfolding read_unsigned
+unsigned_sound ps =
+    then_holds _ (took_spelled Number ps) (λ a digits. ok_holds _ (record {
+      lexemes_are = digits.lexemes_are;
+      sites_are = rw digits.sites_are refl;
+      shorter = omega (arith, digits.shorter);
       lawful = refl;
-    }))))
+    }))
 
-pub bit_sound : Sound named_then sited_named IsNamedBit read_bit
-unfolding read_bit
-bit_sound ps =
-    then_holds _ (took_spelled LowerName ps) (λ a name.
-    then_holds _ (bit_number_sound a.1) (λ b n.
-    let from : List Site → WrittenNamed × List Site = λ ss. (record { site = first (sites ps); name = a.0; number = (sited_parenthesised b.0 ss).0 }, (sited_parenthesised b.0 ss).1) in
-    let with_number : WrittenNumber × List Site → WrittenNamed × List Site = λ m. (record { site = first (sites ps); name = a.0; number = m.0 }, m.1) in
-    ok_holds _ (record {
-      lexemes_are = rw (name.lexemes_are, n.lexemes_are) refl;
-      sites_are = ap from name.sites_are ∙ ap with_number n.sites_are;
-      shorter = omega (arith, name.shorter, n.shorter);
-      lawful = n.lawful;
-    })))
+module _ {Is : WrittenNumber → Type 0} {read : Reader WrittenNumber} (one_sound : Sound number_then sited_number Is read) where
+  in_parentheses_sound : Sound parenthesised_then sited_parenthesised Is (read_in_parentheses read)
+  unfolding read_in_parentheses
+  in_parentheses_sound ps =
+      then_holds _ (took_mark LeftParenthesis ps) (λ o opening.
+      then_holds _ (one_sound o) (λ a n.
+      then_holds _ (took_mark RightParenthesis a.1) (λ d closing.
+      let from : List Site → WrittenNumber × List Site = λ ss. ((sited_number a.0 ss).0, past (sited_number a.0 ss).1) in
+      let behind_number : WrittenNumber × List Site → WrittenNumber × List Site = λ m. (m.0, past m.1) in
+      let behind_closing : List Site → WrittenNumber × List Site = λ ss. (a.0, ss) in
+      ok_holds _ (record {
+        lexemes_are = rw (opening.lexemes_are, n.lexemes_are, closing.lexemes_are) refl;
+        sites_are = ap from opening.sites_are ∙ ap behind_number n.sites_are ∙ ap behind_closing closing.sites_are;
+        shorter = omega (arith, opening.shorter, n.shorter, closing.shorter);
+        lawful = n.lawful;
+      }))))
+
+  pub named_sound : Sound named_then sited_named (λ n. Is n.number) (read_named read)
+  unfolding read_named
+  named_sound ps =
+      then_holds _ (took_spelled LowerName ps) (λ a name.
+      then_holds _ (in_parentheses_sound a.1) (λ b n.
+      let from : List Site → WrittenNamed × List Site = λ ss. (record { site = first (sites ps); name = a.0; number = (sited_parenthesised b.0 ss).0 }, (sited_parenthesised b.0 ss).1) in
+      let with_number : WrittenNumber × List Site → WrittenNamed × List Site = λ m. (record { site = first (sites ps); name = a.0; number = m.0 }, m.1) in
+      ok_holds _ (record {
+        lexemes_are = rw (name.lexemes_are, n.lexemes_are) refl;
+        sites_are = ap from name.sites_are ∙ ap with_number n.sites_are;
+        shorter = omega (arith, name.shorter, n.shorter);
+        lawful = n.lawful;
+      })))
 
 item_number_sound : (ps : List Placed) → Holds (read_item_number ps) (λ x. PerhapsRead parenthesised_then sited_parenthesised IsNumber ps x.0 x.1)
 unfolding read_item_number
-item_number_sound ps = if_holds (begins_with (Mark LeftParenthesis) ps) _ _ (λ h. then_holds _ (in_parentheses_sound ps) (λ a n. ok_holds _ (there_sound n))) (λ h. ok_holds _ (missing_sound ps))
+item_number_sound ps = if_holds (begins_with (Mark LeftParenthesis) ps) _ _ (λ h. then_holds _ (in_parentheses_sound number_sound ps) (λ a n. ok_holds _ (there_sound n))) (λ h. ok_holds _ (missing_sound ps))
 
 pub item_sound : Sound item_then sited_item IsItem read_item
 unfolding read_item
@@ -143,17 +128,18 @@ numbers_at : (Is : WrittenNamed → Type 0) (all : List WrittenNamed) (ss : List
 numbers_at Is [] ss h = absurd h
 numbers_at Is (n ∷ ns) ss h = refl
 
-numbers_sound : {Is : WrittenNamed → Type 0} {read : Reader WrittenNamed} (one_sound : Sound named_then sited_named Is read) (ps : List Placed) → Holds (read_numbers read ps) (λ x. NumbersRead Is ps x.0 x.1)
+numbers_sound : {Is : WrittenNumber → Type 0} {read : Reader WrittenNumber} (one_sound : Sound number_then sited_number Is read) (ps : List Placed) → Holds (read_numbers read ps) (λ x. NumbersRead (λ n. Is n.number) ps x.0 x.1)
 unfolding read_numbers
 numbers_sound {Is} one_sound ps =
+    let IsNamedSo : WrittenNamed → Type 0 = λ n. Is n.number in
     if_holds (begins_with (Mark LeftBrace) ps) _ _ (λ h.
     let opening = took (Mark LeftBrace) ps h in
-    then_holds _ (parted_sound one_sound (length (behind ps)) (behind ps)) (λ a all.
+    then_holds _ (parted_sound (named_sound one_sound) (length (behind ps)) (behind ps)) (λ a all.
     then_holds _ (took_mark RightBrace a.1) (λ d closing. ok_holds _ (record {
-      lexemes_are = rw (opening.lexemes_are, all.lexemes_are, closing.lexemes_are) (sym (numbers_shown Is a.0 (lexemes d) all.lawful));
-      sites_are = numbers_at Is a.0 (sites ps) all.lawful ∙ rw (opening.sites_are, all.sites_are, closing.sites_are) refl;
+      lexemes_are = rw (opening.lexemes_are, all.lexemes_are, closing.lexemes_are) (sym (numbers_shown IsNamedSo a.0 (lexemes d) all.lawful));
+      sites_are = numbers_at IsNamedSo a.0 (sites ps) all.lawful ∙ rw (opening.sites_are, all.sites_are, closing.sites_are) refl;
       shorter = omega (arith, opening.shorter, all.shorter, closing.shorter);
-      lawful = some_each Is a.0 all.lawful;
+      lawful = some_each IsNamedSo a.0 all.lawful;
     }))))
     (λ h. ok_holds _ (record { lexemes_are = refl; sites_are = refl; shorter = omega arith; lawful = tt }))
 
@@ -220,11 +206,11 @@ simple_sound : (levels : ℕ) → Sound base_then sited_base (IsBase levels) rea
 unfolding read_simple read_bit_string read_word_or_name
 simple_sound levels ps =
     if_holds (begins_two_words ps) _ _ (λ h. then_holds _ (two_words_sound ps) (λ a p. ok_holds _ (record { lexemes_are = p.lexemes_are; sites_are = rw p.sites_are refl; shorter = p.shorter; lawful = tt }))) (λ h.
-    if_holds (begins_with (Reserved Integer) ps) _ _ (λ h. let w = took (Reserved Integer) ps h in then_holds _ (numbers_sound named_sound (behind ps)) (λ a all. ok_holds _ (record { lexemes_are = rw (w.lexemes_are, all.lexemes_are) refl; sites_are = rw (w.sites_are, all.sites_are) refl; shorter = omega (arith, w.shorter, all.shorter); lawful = all.lawful }))) (λ h.
+    if_holds (begins_with (Reserved Integer) ps) _ _ (λ h. let w = took (Reserved Integer) ps h in then_holds _ (numbers_sound number_sound (behind ps)) (λ a all. ok_holds _ (record { lexemes_are = rw (w.lexemes_are, all.lexemes_are) refl; sites_are = rw (w.sites_are, all.sites_are) refl; shorter = omega (arith, w.shorter, all.shorter); lawful = all.lawful }))) (λ h.
     if_holds (begins_with (Reserved Bit) ps) _ _ (λ h.
     let w = took (Reserved Bit) ps h in
     then_holds _ (took_word String (behind ps)) (λ o string.
-    then_holds _ (numbers_sound bit_sound o) (λ a all. ok_holds _ (record {
+    then_holds _ (numbers_sound unsigned_sound o) (λ a all. ok_holds _ (record {
       lexemes_are = rw (w.lexemes_are, string.lexemes_are, all.lexemes_are) refl;
       sites_are = rw (w.sites_are, string.sites_are, all.sites_are) refl;
       shorter = omega (arith, w.shorter, string.shorter, all.shorter);
@@ -347,23 +333,11 @@ some_alternatives levels (a ∷ all) h = (tt, (h.0, alternatives_lawful levels a
 
 may_have_none : (levels : ℕ) (b : WrittenBase) → MayConstrain levels b []
 may_have_none levels (plain p) = tt
-may_have_none levels (numbers ns) = tt
-may_have_none levels (named_bits bs) = tt
-may_have_none levels (enumerated is) = tt
-may_have_none levels (structure k cs) = tt
-may_have_none levels (choice all) = tt
-may_have_none levels (of_type k c ty) = tt
-may_have_none levels (named_type site name) = tt
+may_have_none levels b = tt
 
 may_have_each : (levels : ℕ) (b : WrittenBase) (cs : List WrittenConstraint) → is_of b ≡ false → AreEach (IsConstraint levels) cs → MayConstrain levels b cs
-may_have_each levels (plain p) cs e h = h
-may_have_each levels (numbers ns) cs e h = h
-may_have_each levels (named_bits bs) cs e h = h
-may_have_each levels (enumerated is) cs e h = h
-may_have_each levels (structure k ds) cs e h = h
-may_have_each levels (choice all) cs e h = h
 may_have_each levels (of_type k c ty) cs e h = absurd cc
-may_have_each levels (named_type site name) cs e h = h
+may_have_each levels b cs e h = h
 
 -- what follows the type of a component
 record PresenceRead (levels : ℕ) (ps : List Placed) (p : WrittenPresence) (rest : List Placed) : Type 0 where

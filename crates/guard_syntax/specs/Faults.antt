@@ -1,7 +1,7 @@
 -- What the faults name.
-use Rattle.std.specs.Prelude.{◌≡◌, ℕ, ◌+◌, ◌<◌, ◌^◌, Bool, true, not, ◌||◌, ◌==◌, ◌⊎◌, List, length, take, Contains, Option, Some, None}
-use Rattle.std.specs.List.{count_by, suffix_len}
+use Rattle.std.specs.Prelude.{◌≡◌, ℕ, ◌+◌, ◌<◌, ◌^◌, Bool, true, ◌||◌, ◌⊎◌, List, length, take, Contains, Option, Some, None}
 use Rattle.guard_model.specs.declared.site.Site.{Site}
+use Rattle.guard_lexer.specs.Sites.{site_after}
 use Rattle.guard_lexer.specs.declared.token.Token.{Token}
 use Rattle.guard_lexer.specs.declared.token.TokenKind.{TokenKind}
 use Rattle.guard_lexer.specs.declared.token.TokenKind.TheVariants.{Unsupported, Mark}
@@ -28,17 +28,6 @@ pub record IsLeftOut (text : List ℕ) (tokens : List Token) (spelling : List �
   pub left_out : is_left_out token.kind ≡ true
   pub spelled : spelling ≡ take 16 (octets_of text token)
 
-abbrev pub is_line_feed : ℕ → Bool
-is_line_feed octet = octet == 10
-
-abbrev pub is_no_line_feed : ℕ → Bool
-is_no_line_feed octet = not (octet == 10)
-
--- the site after the last octet of a text; lines and columns are counted from 1, and a line feed ends a line
-abbrev pub end_site : ℕ → List ℕ → Site
-end_site place text =
-    record { text = place; line = 1 + count_by is_line_feed text; column = 1 + suffix_len is_no_line_feed text }
-
 -- the token is one of these, and its site is this one
 pub record IsAtToken (tokens : List Token) (site : Site) (token : Token) : Type 0 where
   pub stands : Contains tokens token
@@ -48,7 +37,7 @@ pub record IsAtToken (tokens : List Token) (site : Site) (token : Token) : Type 
 -- out, and P3 is at a token.
 abbrev pub NamesToken : ℕ → List ℕ → List Token → SyntaxFault → Type 0
 NamesToken place text tokens (fault.Unexpected site) =
-    ((token : Token) × IsAtToken tokens site token) ⊎ (length text + 1 < 2 ^ 32 → site ≡ end_site place text)
+    ((token : Token) × IsAtToken tokens site token) ⊎ (length text + 1 < 2 ^ 32 → site ≡ site_after place text)
 NamesToken place text tokens (fault.Unsupported spelling site) =
     (token : Token) × IsLeftOut text tokens spelling.octets.items token × (site ≡ token.site)
 NamesToken place text tokens (fault.TooDeep site) = (token : Token) × IsAtToken tokens site token

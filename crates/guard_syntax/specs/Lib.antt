@@ -9,6 +9,8 @@ pub mod Trees
 pub mod TokensOf
 pub mod Sites
 pub mod Grammar
+-- ---- the names in types
+pub mod NamesInTypes
 -- ---- which integer a number is
 pub mod Numbers
 -- ---- which tree of the definitions a tree of the code is

@@ -13,8 +13,8 @@ pub enum SyntaxFault {
     /// A token that no module has after the tokens before it, or the end of the text where a module would go on.
     #[error("P1 Unexpected {0}")]
     Unexpected(Site),
-    /// The same at a token of a form that is left out. Where a comma comes directly before an extension or an
-    /// exception, it is the latter that is named.
+    /// A token of a form that is left out, where a module would go on otherwise. Where a comma comes directly before an
+    /// extension or an exception, it is the latter that is named.
     #[error("P2 Unsupported {0} {1}")]
     Unsupported(Spelling, Site),
     /// The first token of a type, value or set that is within more than 128 others.

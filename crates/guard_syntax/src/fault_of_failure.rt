@@ -1,13 +1,13 @@
 //! Which fault a failure is, and where it is.
-ghost use Rattle.std.specs.Prelude.{◌≡◌, ◌-◌, drop, length};
+ghost use Rattle.std.specs.Prelude.{◌≡◌, ◌+◌, ◌-◌, ◌<◌, ◌^◌, drop, length};
+ghost use Rattle.guard_lexer.specs.Sites.{site_after};
 ghost use Rattle.guard_syntax.specs.Faults as faults;
 ghost use Rattle.guard_syntax.specs.Faults.{NamesToken};
 
 use crate::cursor::octets;
 use crate::fault::{Spelling, SyntaxFault};
 use crate::read_error::{Failure, ReadError};
-use crate::text_end::end_of;
-use guard_lexer::{Mark, Token, TokenKind};
+use guard_lexer::{Mark, Token, TokenKind, site_behind};
 use guard_model::Site;
 
 /// The fault for this error.
@@ -52,6 +52,21 @@ fn unexpected(place: u32, text: &[u8], tokens: &[Token]) -> SyntaxFault
         }
         [first, ..] => SyntaxFault::Unexpected(first.site),
     }
+}
+
+/// The site after the last octet of a text, also where that octet is white space or part of a comment.
+pub fn end_of(place: u32, text: &[u8]) -> Site
+    ensures { length text.now + 1 < 2 ^ 32 → result ≡ site_after place text.now }
+{
+    let start = Site {
+        text: place,
+        line: 1,
+        column: 1,
+    };
+    if text.len() >= u32::MAX as usize {
+        return start;
+    }
+    site_behind(start, text)
 }
 
 /// Whether a token belongs to a form that is left out.

@@ -1,7 +1,7 @@
 //! The parser of module texts (X.680): from the tokens of a text to its tree, or the first token where there is none.
 //!
 //! The one call is [`parse`]. Each reader below takes a [`Cursor`](cursor::Cursor) and answers what it read, with the
-//! cursor after it. What digits write as an integer is [`NumberTree::integer`].
+//! cursor after it. What digits write as an integer is [`NumberTree::integer`], where a text ends [`end_of`].
 //!
 //! | question | file |
 //! |---|---|
@@ -10,7 +10,7 @@
 //! | Which trees does the grammar allow, and how are they written? | `specs/Grammar.antt`, `specs/TokensOf.antt` |
 //! | Which token is the site of a node? | `specs/Sites.antt` |
 //! | How is a module read? | `module.rt`, `imports.rt`, `module_identifiers.rt`; `specs/inside/ReadModule.antt` |
-//! | How is a type read? | `types.rt`, `tags.rt`, `named_numbers.rt`, `named_bits.rt`; `specs/inside/ReadTypes.antt` |
+//! | How is a type read? | `types.rt`, `tags.rt`, `named_numbers.rt`; `specs/inside/ReadTypes.antt` |
 //! | How are constraints and sets read? | `sets.rt`, `join_marks.rt`, `ranges.rt`; `specs/inside/ReadSets.antt` |
 //! | How is a value read? | `values.rt`, `numbers.rt`; `specs/inside/ReadValues.antt` |
 //! | How is one token read? | `cursor.rt`; `specs/inside/ReadTokens.antt` |
@@ -29,7 +29,6 @@ mod join_marks;
 pub mod laws;
 mod module;
 mod module_identifiers;
-mod named_bits;
 mod named_numbers;
 mod number_values;
 mod numbers;
@@ -38,12 +37,12 @@ mod ranges;
 mod read_error;
 mod sets;
 mod tags;
-mod text_end;
 mod tree;
 mod types;
 mod values;
 
 pub use fault::{Spelling, SyntaxFault};
+pub use fault_of_failure::end_of;
 pub use parser::parse;
 pub use tree::{
     AlternativeTree, ArcTree, Assignment, BaseTree, Collection, CompForm, CompTree,

@@ -18,7 +18,7 @@ use crate::values::value;
 use guard_lexer::{Mark, Reserved, TokenKind};
 use std::alloc::Global;
 
-/// A type, value or set may be within so many others.
+/// How many other types, values and sets one of them may be inside.
 const MOST_OTHERS: u8 = 128;
 
 /// What comes before the word BEGIN.

@@ -26,6 +26,29 @@ pub fn number<'a, 't>(at: Cursor<'a, 't>) -> Read<'a, 't, NumberTree<'a>>
     ))
 }
 
+/// An integer that has no sign.
+#[tactic(auto, unfolding(crate::specs::inside::ReadTokens::read_unsigned))]
+fn unsigned<'a, 't>(at: Cursor<'a, 't>) -> Read<'a, 't, NumberTree<'a>>
+    ensures { Reads number_view result (reading.read_unsigned (ahead at.entry)) }
+{
+    let (digits, rest) = at.spelling(TokenKind::Number)?;
+    Ok((
+        NumberTree {
+            site: at.site(),
+            minus: false,
+            digits,
+        },
+        rest,
+    ))
+}
+
+/// An integer, with a sign only where it may have one.
+pub fn perhaps_signed<'a, 't>(signed: bool, at: Cursor<'a, 't>) -> Read<'a, 't, NumberTree<'a>>
+    ensures { Reads number_view result (reading.read_perhaps_signed signed (ahead at.entry)) }
+{
+    if signed { number(at) } else { unsigned(at) }
+}
+
 #[tactic(auto, unfolding(crate::specs::inside::ReadTokens::read_digits))]
 fn digits<'a, 't>(minus: bool, at: Cursor<'a, 't>) -> Read<'a, 't, &'a [u8]>
     ensures { Reads (λ s. s.now) result (reading.read_digits minus (ahead at.entry)) }

@@ -11,7 +11,6 @@ ghost use Rattle.guard_syntax.specs.SetViews.{constraint_view};
 ghost use Rattle.guard_syntax.specs.TypeViews.{of_constraint_view, presence_view, base_view, component_form_view, component_view, alternative_view, type_view};
 
 use crate::cursor::{Cursor, Read};
-use crate::named_bits::bits;
 use crate::named_numbers::{items, numbers};
 use crate::read_error::ReadError;
 use crate::sets::constraint;
@@ -217,7 +216,7 @@ fn simple<'a, 't>(alloc: Global, at: Cursor<'a, 't>) -> Read<'a, 't, BaseTree<'a
         let (plain, rest) = two_words(at)?;
         Ok((BaseTree::Plain(plain), rest))
     } else if at.begins_with(TokenKind::Reserved(Reserved::Integer)) {
-        let (all, rest) = numbers(alloc, at.behind())?;
+        let (all, rest) = numbers(alloc, true, at.behind())?;
         Ok((BaseTree::Integer(all), rest))
     } else if at.begins_with(TokenKind::Reserved(Reserved::Bit)) {
         bit_string(alloc, at.behind())
@@ -235,7 +234,7 @@ fn bit_string<'a, 't>(alloc: Global, at: Cursor<'a, 't>) -> Read<'a, 't, BaseTre
     ensures { Reads base_view result (reading.read_bit_string (ahead at.entry)) }
 {
     let rest = at.after(TokenKind::Reserved(Reserved::String))?;
-    let (all, rest) = bits(alloc, rest)?;
+    let (all, rest) = numbers(alloc, false, rest)?;
     Ok((BaseTree::BitString(all), rest))
 }
 

@@ -74,7 +74,7 @@ explicit_tag : denoted (alone Explicit) (tagged (context_tag (codes "0")) intege
     ≡ integer_with (context 0 ∷ universal 2 ∷ [])
 explicit_tag = refl
 
--- the same type, used in a module under EXPLICIT TAGS: what counts is the default where its tag is written
+-- used in a module under EXPLICIT TAGS it is that type too: what counts is the default where its tag is written
 used_elsewhere : denoted (module_with Explicit (codes "T") (integer_with (context 0 ∷ [])) false)
     (bare (structure Sequence (component (at 3) (codes "t")
     (bare (named_type (at 1) (codes "T"))) mandatory no_components)))

@@ -243,8 +243,8 @@ abbrev pub with_tag_there : Bool → AbstractType → AbstractType
 with_tag_there true t = with_automatic_tag (automatic_tag 0) t
 with_tag_there false t = t
 
--- What is wrong with the type itself, where it gets an automatic tag or none, and where there are so many types with it
--- and what was written before it.
+-- What is wrong with the type itself, where it gets an automatic tag or none. `count` is the number of its types and of
+-- those before it.
 abbrev pub own_fault : Surroundings → Bool → ℕ → WrittenType → Option TagFault
 own_fault around automatic count (type_node site tags base cons) =
     first_of (universal_tag tags
@@ -264,8 +264,8 @@ nodes_put_in around kind automatic t =
     if takes_wrongly around kind automatic t then 0 else nodes_within (denoted around t)
 
 abbrev mutual
-  -- The first fault in a type, with so many types before it and so many with it. Components and alternatives get
-  -- automatic tags or none; no other types get any.
+  -- The first fault in a type. `before` is the number of types before it, `count` of those with it and before it.
+  -- Components and alternatives get automatic tags or none; no other types get any.
   pub fault_in : Surroundings → Bool → ℕ → ℕ → WrittenType → Option TagFault
   fault_in around automatic before count (type_node site tags base cons) =
       option_or (fault_in_parts around before base) (own_fault around automatic count (type_node site tags base cons))
@@ -297,6 +297,6 @@ abbrev mutual
       option_or (fault_in around automatic before (before + nodes (denoted around t)) t)
       (fault_in_alternatives automatic around (before + nodes (denoted around t)) others)
 
--- the first fault in the type of a definition, with so many types in the definitions before it
+-- the first fault in the type of a definition; `before` is the number of types in the definitions before it
 abbrev pub first_fault : Surroundings → ℕ → WrittenType → Option TagFault
 first_fault around before t = fault_in around false before (before + nodes (denoted around t)) t

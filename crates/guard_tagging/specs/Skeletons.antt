@@ -41,6 +41,6 @@ IsFaultOf ms order types id fault =
     × (around : Surroundings) × AreSurroundings ms order types d around
     × IsFirstFault around (nodes_of_all types) d.assignment.ty fault
 
--- the same surroundings as a function, by going through the definitions in their order
+-- the surroundings of a definition as a function, by going through the definitions in their order
 abbrev pub surroundings_of : List WrittenModule → List ℕ → List AbstractType → Definition → Surroundings
 surroundings_of ms order types d = surroundings ms order (known_from ms order types) d.home

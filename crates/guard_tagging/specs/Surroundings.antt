@@ -14,15 +14,15 @@ abbrev pub tag_default_of : Option TagDefault → TagDefault
 tag_default_of None = by_default.Explicit
 tag_default_of (Some default) = default
 
--- What a type is written under is its own module's: the tag default, and what its names mean, where so much is known of
--- the first definitions in the order.
+-- What a type is written under is its own module's: the tag default, and what its names mean, where `known` is what is
+-- known of the first definitions in the order.
 abbrev pub surroundings : List WrittenModule → List ℕ → List Meaning → WrittenModule → Surroundings
 surroundings ms order known home = record {
   tag_default = tag_default_of home.tag_default;
   meaning = λ name. known_meant ms order known home.name name;
 }
 
--- whether the type of a definition is found to be a list that is tagged automatically, where so much is known
+-- whether the type of a definition is found to be a list that is tagged automatically, by what is known
 abbrev pub is_automatic_definition : List WrittenModule → List ℕ → List Meaning → Option Definition → Bool
 is_automatic_definition ms order known None = false
 is_automatic_definition ms order known (Some d) = is_automatic (surroundings ms order known d.home) d.assignment.ty

@@ -7,7 +7,7 @@ use Rattle.guard_tagging.specs.declared.fault.TagFault.{TagFault}
 use Rattle.guard_tagging.specs.Faults.{first_fault}
 use Rattle.guard_tagging.specs.Types.{Surroundings, denoted}
 
--- where there are so many types in the definitions before it
+-- `before` is the number of types in the definitions before it
 abbrev pub IsTagged : Surroundings → ℕ → WrittenType → AbstractType → Type 0
 IsTagged around before written t = (first_fault around before written ≡ None) × (t ≡ denoted around written)
 

@@ -60,8 +60,8 @@ pub fn skeleton(alloc: Global, names: &Names, done: &[Ty], id: Id) -> Result<Ty,
     Ok(ty)
 }
 
-/// The same, where what a build keeps of the definitions before it is handed in, so that it isn't looked for again for
-/// each definition.
+/// What `skeleton` answers, and what a build keeps of the definition beside its type. What it keeps of the definitions
+/// before it is handed in, so that it isn't looked for again for each definition.
 pub fn skeleton_after(
     alloc: Global,
     names: &Names,

@@ -36,4 +36,5 @@ mod walk;
 
 pub use definition::{TaggedType, skeleton, skeleton_after};
 pub use fault::TagFault;
+pub use measure::nodes;
 pub use scope::Done;

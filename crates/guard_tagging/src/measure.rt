@@ -43,7 +43,7 @@ fn deepest(comps: &[Comp]) -> usize
     deepest
 }
 
-/// The types in a kind, with so many before them. What is too many counts as one more than is allowed.
+/// How many types there are, those in this kind after the ones before them. Too many count as one more than is allowed.
 #[cycle(counting)]
 pub fn nodes_inside(kind: &Kind, before: usize) -> usize
     ensures { result ≡ min (before + faults.nodes_inside (kind_view kind.now)) 100001 }
@@ -55,8 +55,8 @@ pub fn nodes_inside(kind: &Kind, before: usize) -> usize
     }
 }
 
-/// The types that a type is made of, itself among them, with so many before them. What is too many counts as one more
-/// than is allowed.
+/// How many types there are, those that this one is made of, itself among them, after the ones before them. Too many
+/// count as one more than is allowed.
 #[cycle(counting)]
 pub fn nodes(ty: &Ty, before: usize) -> usize
     ensures { result ≡ min (before + faults.nodes (type_view ty.now)) 100001 }

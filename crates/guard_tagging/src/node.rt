@@ -28,7 +28,7 @@ pub fn tags_of(
     with_written(alloc, node, base)
 }
 
-/// A type with these tags, whose parts are nested so deep, and with so many types before it.
+/// A type with these tags; `inside` is how deep its parts are nested, `before` the number of types before it.
 #[tactic(auto, unfolding(crate::specs::inside::ReadNodes::whole_with))]
 pub fn whole_with(
     node: &Node,

@@ -17,7 +17,7 @@ use guard_model::{Class, Comp, Kind, MOST_COMPONENTS, Presence, Site, Tag, Ty};
 use std::alloc::{AllocError, Global};
 use std::sync::ArcStr;
 
-/// No components, with so many types before them.
+/// No components yet; `before` is the number of types before them.
 pub fn no_parts(alloc: Global, before: usize) -> Parts
     ensures { parts_view result ≡ reading.no_parts before }
 {
@@ -53,8 +53,8 @@ fn place_tag(place: usize) -> Tag
 
 /// One component more.
 pub fn with_component(
-    parts: Box<Parts>,
     alloc: Global,
+    parts: Box<Parts>,
     site: Site,
     name: &[u8],
     made: Box<Made>,
@@ -64,7 +64,7 @@ pub fn with_component(
 {
     let Made { ty, nesting, nodes } = Box::into_inner(made);
     let comp = comp_of(alloc, name, ty, presence)?;
-    pushed(parts, alloc, site, comp, nesting, nodes)
+    pushed(alloc, parts, site, comp, nesting, nodes)
 }
 
 fn comp_of(alloc: Global, name: &[u8], ty: Ty, presence: Presence) -> Result<Comp, AllocError>
@@ -76,8 +76,8 @@ fn comp_of(alloc: Global, name: &[u8], ty: Ty, presence: Presence) -> Result<Com
 
 /// The parts with this one, which is nested so deep.
 fn pushed(
-    parts: Box<Parts>,
     alloc: Global,
+    parts: Box<Parts>,
     site: Site,
     comp: Comp,
     nesting: usize,
@@ -108,8 +108,8 @@ fn pushed(
 
 /// What COMPONENTS OF puts in at its word: the components of the SEQUENCE or SET.
 pub fn with_list(
-    parts: Box<Parts>,
     alloc: Global,
+    parts: Box<Parts>,
     site: Site,
     made: Box<Made>,
 ) -> Result<Box<Parts>, AllocError>
@@ -117,13 +117,13 @@ pub fn with_list(
 {
     let Made { ty, nesting, nodes } = Box::into_inner(made);
     let put_in = comps_in(alloc, ty.kind);
-    appended(parts, alloc, site, put_in, nesting.saturating_sub(1), nodes)
+    appended(alloc, parts, site, put_in, nesting.saturating_sub(1), nodes)
 }
 
 /// The parts with all these at one site, of which the deepest is nested so deep.
 fn appended(
-    parts: Box<Parts>,
     alloc: Global,
+    parts: Box<Parts>,
     site: Site,
     put_in: Vec<Comp>,
     nesting: usize,
@@ -165,7 +165,7 @@ fn comps_in(alloc: Global, kind: Kind) -> Vec<Comp>
     }
 }
 
-/// The sites with this one so many times more.
+/// The sites, and after them `count` times this one.
 fn with_sites(sites: Vec<Site>, site: Site, count: usize) -> Result<Vec<Site>, AllocError>
     ensures { IfOk result (λ v. v.items ≡ sites.items ++ replicate count site) }
 {

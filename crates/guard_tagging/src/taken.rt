@@ -19,8 +19,8 @@ use std::alloc::{AllocError, Global};
 /// own; and neither list may be tagged automatically. What it may not take in is kept in mind, and is a fault of the
 /// list once all its parts are without one.
 pub fn take(
-    parts: Box<Parts>,
     alloc: Global,
+    parts: Box<Parts>,
     collection: Collection,
     automatic: bool,
     site: Site,
@@ -30,9 +30,9 @@ pub fn take(
 {
     let refused = refused_at(collection, automatic, site, &made.ty);
     if is_refused(refused) {
-        return with_refused(parts, alloc, refused);
+        return with_refused(alloc, parts, refused);
     }
-    with_list(parts, alloc, site, made)
+    with_list(alloc, parts, site, made)
 }
 
 fn refused_at(collection: Collection, automatic: bool, site: Site, ty: &Ty) -> Refused
@@ -58,8 +58,8 @@ fn is_refused(refused: Refused) -> bool
 }
 
 fn with_refused(
-    parts: Box<Parts>,
     alloc: Global,
+    parts: Box<Parts>,
     refused: Refused,
 ) -> Result<Box<Parts>, AllocError>
     ensures { IfOk result (λ v. parts_view v.value ≡ reading.with_refused (parts_view parts.value) refused) }

@@ -25,8 +25,8 @@ use guard_model::{Presence, Tag};
 use guard_syntax::{AlternativeTree, BaseTree, Collection, CompForm, CompTree, TypeTree};
 use std::alloc::Global;
 
-/// The type that is written, with so many types before it and with the automatic tag that it gets. The type after
-/// COMPONENTS OF doesn't count itself.
+/// The type that is written, with the automatic tag that it gets; `before` is the number of types before it. The type
+/// after COMPONENTS OF doesn't count itself.
 #[cycle(walk)]
 #[tactic(auto, unfolding(crate::specs::inside::ReadTypes::read_type))]
 pub fn type_of(
@@ -169,12 +169,12 @@ fn entry(
             let tag = next_tag(automatic, &parts);
             let made = type_of(alloc, scope, ty, true, tag, parts.nodes)?;
             let presence = presence_of(presence);
-            Ok(with_component(parts, alloc, tree.site, name, made, presence)?)
+            Ok(with_component(alloc, parts, tree.site, name, made, presence)?)
         }
         CompForm::ComponentsOf(ty) => {
             let made = type_of(alloc, scope, ty, false, None, parts.nodes)?;
             let automatic = automatic || is_automatic(scope, &ty.base);
-            Ok(take(parts, alloc, collection, automatic, tree.site, made)?)
+            Ok(take(alloc, parts, collection, automatic, tree.site, made)?)
         }
     }
 }
@@ -211,8 +211,8 @@ fn alternative(
     let tag = next_tag(automatic, &parts);
     let made = type_of(alloc, scope, &tree.ty, true, tag, parts.nodes)?;
     Ok(with_component(
-        parts,
         alloc,
+        parts,
         tree.site,
         tree.name,
         made,

@@ -1,4 +1,4 @@
--- Reading refuses by the first fault, whose condition holds at its site.
+-- Reading refuses by the first fault; what whole values come to.
 pub mod ReadingRefuses
-pub mod HoldAtTheirSites
+pub mod WholeValues
 pub mod NamedRefusals

@@ -6,7 +6,7 @@ use Rattle.guard_der.specs.Der.{der}
 use Rattle.guard_der.specs.Fits.{descends}
 use Rattle.guard_der.specs.ProperConstraints.{is_short}
 
--- the octets of an encoding; where there is none, none
+-- the octets of an encoding, or no octets where there is no encoding
 abbrev pub octets_in : Option (List ℕ) → List ℕ
 octets_in None = []
 octets_in (Some os) = os
@@ -27,7 +27,7 @@ abbrev pub arranged : AbstractType → List AbstractValue → List AbstractValue
 arranged t [] = []
 arranged t (v ∷ vs) = inserted t v (arranged t vs)
 
--- ---- the same of values with their encodings
+-- ---- values with their encodings, in that order
 
 pub record EncodedValue : Type 0 where
   pub octets : List ℕ

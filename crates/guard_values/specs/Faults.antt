@@ -1,55 +1,31 @@
--- Why a written value denotes nothing: for each fault, the condition that holds at its site.
-use Rattle.std.specs.Prelude.{◌≡◌, ℕ, suc, ℤ, Bool, true, false, ◌&&◌, ◌||◌, not, List, [], ◌∷◌, nat_lt, nat_le, Option, Some, None, is_some, IsTrue, ◌⊎◌}
-use Rattle.std.specs.Option.{option_map, is_none}
+-- Why a written value denotes nothing: its faults, in the order in which they are looked for. What is written first comes
+-- first: a form that the type hasn't before what is inside, an entry's name before its value, and what a list lacks
+-- after its last entry. An encoding that is too long is looked for last of all.
+use Rattle.std.specs.Prelude.{◌≡◌, ℕ, suc, ℤ, Bool, true, false, ◌&&◌, ◌||◌, not, List, [], ◌∷◌, ◌++◌, nat_lt, nat_le, Option, Some, None, is_some, if◌then◌else◌, option_to_list, Contains, ◌⊎◌}
+use Rattle.std.specs.Option.{option_map}
 use Rattle.guard_model.specs.declared.site.Site.{Site}
 use Rattle.guard_model.specs.AbstractType as type
 use Rattle.guard_model.specs.AbstractType.{AbstractType, AbstractKind, AbstractPresence, Components, NamedNumber, no_components, component}
 use Rattle.guard_model.specs.AbstractValue.{AbstractValue}
+use Rattle.guard_model.specs.Kinds.{kind_of}
+use Rattle.guard_model.specs.Limits.{fits_128_bits}
+use Rattle.guard_model.specs.SameType.{same_base}
 use Rattle.guard_der.specs.Der.{der}
 use Rattle.guard_der.specs.ProperConstraints.{is_short}
 use Rattle.guard_syntax.specs.declared.tree.StringKind.TheVariants as string
+use Rattle.guard_syntax.specs.Numbers.{number_of}
 use Rattle.guard_syntax.specs.Trees as written
-use Rattle.guard_syntax.specs.Trees.{WrittenValue, WrittenValueForm, WrittenEntries, value_node, no_entries, entry}
+use Rattle.guard_syntax.specs.Trees.{WrittenArc, WrittenValue, WrittenValueForm, WrittenEntries, value_node, no_entries, entry}
 use Rattle.guard_values.specs.declared.fault.ValueFault.{ValueFault}
-use Rattle.guard_values.specs.declared.fault.ValueFault.TheVariants as fault
+use Rattle.guard_values.specs.declared.fault.ValueFault.TheVariants.{WrongNotation, UnknownName, MissingComponent, RepeatedComponent, OutOfOrder, BadCharacter, BadObjectId, TooLarge}
 use Rattle.guard_values.specs.ObjectIdentifiers.{arc_numbers, too_large_arc, are_arcs}
 use Rattle.guard_values.specs.Meanings.{Governed, Meaning, own_number}
-use Rattle.guard_model.specs.Kinds.{kind_of, is_integer, is_string}
 use Rattle.guard_values.specs.NamedBits.{name_alone, named_bit}
-use Rattle.guard_values.specs.Simple.{integer_value, text_value, numbered_value, visible_value}
-use Rattle.guard_values.specs.Places.{located, entry_place, entry_places, is_among}
+use Rattle.guard_values.specs.Simple.{text_value}
+use Rattle.guard_values.specs.Places.{Located, located, entry_place, entry_places, is_among}
 use Rattle.guard_values.specs.Denotes.{alternatives_of, Says}
 
--- ---- the values inside a value, each with its governor
-
--- the type of an entry's value
-abbrev pub entry_type : AbstractKind → Option (List ℕ) → Option AbstractType
-entry_type (type.sequence cs) (Some name) = option_map (λ l. l.ty) (located name cs)
-entry_type (type.set cs) (Some name) = option_map (λ l. l.ty) (located name cs)
-entry_type (type.sequence_of t) None = Some t
-entry_type (type.set_of t) None = Some t
-entry_type _ _ = None
-
--- the type of a chosen value
-abbrev pub chosen_type : AbstractKind → List ℕ → Option AbstractType
-chosen_type kind name = option_map (λ l. l.ty) (located name (alternatives_of kind))
-
-abbrev mutual
-  -- It holds of the written value, or of one inside it, each under its type.
-  pub Somewhere : (AbstractType → WrittenValue → Type 0) → AbstractType → WrittenValue → Type 0
-  Somewhere P t (value_node site form) = P t (value_node site form) ⊎ Inside P (kind_of t) form
-
-  pub Inside : (AbstractType → WrittenValue → Type 0) → AbstractKind → WrittenValueForm → Type 0
-  Inside P kind (written.chosen name tree) = (u : AbstractType) × (chosen_type kind name ≡ Some u) × Somewhere P u tree
-  Inside P kind (written.list es) = InEntry P kind es
-  Inside P kind _ = ⊥
-
-  pub InEntry : (AbstractType → WrittenValue → Type 0) → AbstractKind → WrittenEntries → Type 0
-  InEntry P kind no_entries = ⊥
-  InEntry P kind (entry site name tree rest) =
-      ((u : AbstractType) × (entry_type kind name ≡ Some u) × Somewhere P u tree) ⊎ InEntry P kind rest
-
--- ---- V1
+-- ---- forms of the notation, by kinds
 
 -- nothing, or one number without a minus sign: what an object identifier with too few arcs looks like
 abbrev pub are_too_few_arcs : WrittenEntries → Bool
@@ -96,110 +72,29 @@ takes kind (written.text string.Hexadecimal spelling) = takes_string kind true
 takes kind (written.list es) = takes_braces kind es
 takes _ _ = false
 
--- An entry for a component has a name before its value (clause 25), one of an OF type none (clauses 26 and 28), and one
--- for a bit is a name alone (22.5).
-abbrev pub takes_entry : AbstractKind → Option (List ℕ) → WrittenValue → Bool
-takes_entry (type.sequence cs) label tree = is_some label
-takes_entry (type.set cs) label tree = is_some label
-takes_entry (type.sequence_of t) label tree = is_none label
-takes_entry (type.set_of t) label tree = is_none label
-takes_entry (type.bit_string []) label tree = true
-takes_entry (type.bit_string (name ∷ names)) label tree = is_some (name_alone label tree)
-takes_entry type.boolean label tree = true
-takes_entry (type.integer ns) label tree = true
-takes_entry type.octet_string label tree = true
-takes_entry type.null label tree = true
-takes_entry type.object_identifier label tree = true
-takes_entry (type.enumerated items) label tree = true
-takes_entry (type.characters k) label tree = true
-takes_entry (type.choice cs) label tree = true
+abbrev pub unless : Bool → ValueFault → List ValueFault
+unless b f = if b then [] else f ∷ []
 
--- an entry at the site that the kind does not take
-abbrev pub HasWrongEntry : AbstractKind → WrittenEntries → Site → Type 0
-HasWrongEntry kind no_entries s = ⊥
-HasWrongEntry kind (entry site name tree rest) s =
-    ((s ≡ site) × (takes_entry kind name tree ≡ false)) ⊎ HasWrongEntry kind rest s
+-- V1, at the value: it has another form than its type. Nothing else counts then.
+abbrev pub where_taken : Bool → Site → List ValueFault → List ValueFault
+where_taken taken site faults = if taken then faults else WrongNotation site ∷ []
 
--- a visible value whose type has another base
-abbrev pub HasOtherBase : Meaning → AbstractType → List ℕ → Type 0
-HasOtherBase m t name =
-    (own_number (kind_of t) name ≡ None) × ((g : Governed) × (m name ≡ Some g) × (visible_value t (Some g) ≡ None))
+-- ---- without a value inside
 
-abbrev pub HasWrongPart : Meaning → AbstractType → Site → WrittenValueForm → Site → Type 0
-HasWrongPart m t site (written.reference name) s = (s ≡ site) × HasOtherBase m t name
-HasWrongPart m t site (written.list es) s = HasWrongEntry (kind_of t) es s
-HasWrongPart m t site _ s = ⊥
+-- V8: a number of the type's own list is outside this profile's limits. V2: the name is neither in that list nor
+-- visible. V1: the type of what is visible has another base.
+abbrev pub faults_of_name : Site → AbstractType → Option ℤ → Option Governed → List ValueFault
+faults_of_name site t (Some z) visible = unless (fits_128_bits z) (TooLarge site)
+faults_of_name site t None None = UnknownName site ∷ []
+faults_of_name site t None (Some g) = unless (same_base t g.ty) (WrongNotation site)
 
--- V1, at the value or at an entry that the kind does not take: another form of notation than the type's, or a value of
--- another base
-abbrev pub IsWrongNotation : Meaning → Site → AbstractType → WrittenValue → Type 0
-IsWrongNotation m s t (value_node site form) =
-    ((s ≡ site) × (takes (kind_of t) form ≡ false)) ⊎ HasWrongPart m t site form s
+-- V8, at an arc that is too large, before V7, at the brace: fewer than two arcs, or two that no object identifier begins
+-- with
+abbrev pub faults_of_arcs : Site → List WrittenArc → List ValueFault
+faults_of_arcs site arcs =
+    option_to_list (option_map TooLarge (too_large_arc arcs)) ++ unless (are_arcs (arc_numbers arcs)) (BadObjectId site)
 
--- ---- V2
-
-abbrev pub has_components : AbstractKind → Option Components
-has_components (type.sequence cs) = Some cs
-has_components (type.set cs) = Some cs
-has_components _ = None
-
-abbrev pub HasUnknownEntry : Components → WrittenEntries → Site → Type 0
-HasUnknownEntry cs no_entries s = ⊥
-HasUnknownEntry cs (entry site None tree rest) s = HasUnknownEntry cs rest s
-HasUnknownEntry cs (entry site (Some name) tree rest) s =
-    ((s ≡ site) × (located name cs ≡ None)) ⊎ HasUnknownEntry cs rest s
-
-abbrev pub HasUnknownBit : List NamedNumber → WrittenEntries → Site → Type 0
-HasUnknownBit names no_entries s = ⊥
-HasUnknownBit names (entry site label tree rest) s =
-    ((s ≡ site) × ((name : List ℕ) × (name_alone label tree ≡ Some name) × (named_bit names name ≡ None)))
-    ⊎ HasUnknownBit names rest s
-
--- in braces: no component, or no named bit
-abbrev pub HasUnknownName : AbstractKind → WrittenEntries → Site → Type 0
-HasUnknownName (type.sequence cs) es s = HasUnknownEntry cs es s
-HasUnknownName (type.set cs) es s = HasUnknownEntry cs es s
-HasUnknownName (type.bit_string []) es s = ⊥
-HasUnknownName (type.bit_string (name ∷ names)) es s = HasUnknownBit (name ∷ names) es s
-HasUnknownName type.boolean es s = ⊥
-HasUnknownName (type.integer ns) es s = ⊥
-HasUnknownName type.octet_string es s = ⊥
-HasUnknownName type.null es s = ⊥
-HasUnknownName type.object_identifier es s = ⊥
-HasUnknownName (type.enumerated items) es s = ⊥
-HasUnknownName (type.characters k) es s = ⊥
-HasUnknownName (type.choice cs) es s = ⊥
-HasUnknownName (type.sequence_of t) es s = ⊥
-HasUnknownName (type.set_of t) es s = ⊥
-
--- V2, at the name: it is neither in the type's own list nor visible, or no alternative, no component or no bit
-abbrev pub IsUnknownName : Meaning → Site → AbstractType → WrittenValue → Type 0
-IsUnknownName m s t (value_node site (written.reference name)) =
-    (s ≡ site) × (own_number (kind_of t) name ≡ None) × (m name ≡ None)
-IsUnknownName m s t (value_node site (written.chosen name tree)) =
-    (s ≡ site) × ((cs : Components) × (kind_of t ≡ type.choice cs) × (located name cs ≡ None))
-IsUnknownName m s t (value_node site (written.list es)) = HasUnknownName (kind_of t) es s
-IsUnknownName m s t _ = ⊥
-
--- ---- V3, V4 and V5: components
-
-abbrev pub may_be_left_out : AbstractPresence → Bool
-may_be_left_out type.optional = true
-may_be_left_out (type.default d) = true
-may_be_left_out _ = false
-
--- a component from this place on that may not be left out, and is
-abbrev pub misses : List (Option ℕ) → ℕ → Components → Bool
-misses given i no_components = false
-misses given i (component name t presence rest) =
-    (not (may_be_left_out presence) && not (is_among i given)) || misses given (suc i) rest
-
--- an entry whose place one of the entries before it names
-abbrev pub HasRepeatedEntry : Components → List (Option ℕ) → WrittenEntries → Site → Type 0
-HasRepeatedEntry cs before no_entries s = ⊥
-HasRepeatedEntry cs before (entry site name tree rest) s =
-    ((s ≡ site) × ((i : ℕ) × (entry_place cs name ≡ Some i) × IsTrue (is_among i before)))
-    ⊎ HasRepeatedEntry cs (entry_place cs name ∷ before) rest s
+-- ---- names of entries
 
 abbrev pub is_past : ℕ → Option ℕ → Bool
 is_past i None = false
@@ -209,49 +104,51 @@ abbrev pub is_below_some : ℕ → List (Option ℕ) → Bool
 is_below_some i [] = false
 is_below_some i (p ∷ ps) = is_past i p || is_below_some i ps
 
--- an entry whose place comes before that of one of the entries before it
-abbrev pub HasLateEntry : Components → List (Option ℕ) → WrittenEntries → Site → Type 0
-HasLateEntry cs before no_entries s = ⊥
-HasLateEntry cs before (entry site name tree rest) s =
-    ((s ≡ site) × ((i : ℕ) × (entry_place cs name ≡ Some i) × IsTrue (is_below_some i before)))
-    ⊎ HasLateEntry cs (entry_place cs name ∷ before) rest s
+-- For a component, with the places that entries before it name. V2: no component. V4: one that is named before. V5: in a
+-- SEQUENCE, one that comes before one that is named before (clause 25).
+abbrev pub faults_of_place : Bool → List (Option ℕ) → Site → Option Located → List ValueFault
+faults_of_place ordered before site None = UnknownName site ∷ []
+faults_of_place ordered before site (Some l) =
+    if is_among l.place before then RepeatedComponent site ∷ []
+    else (if ordered && is_below_some l.place before then OutOfOrder site ∷ [] else [])
+
+-- an entry for a component has a name before its value (clause 25)
+abbrev pub faults_of_entry_name : Bool → Components → List (Option ℕ) → Site → Option (List ℕ) → List ValueFault
+faults_of_entry_name ordered cs before site None = WrongNotation site ∷ []
+faults_of_entry_name ordered cs before site (Some name) = faults_of_place ordered before site (located name cs)
+
+-- one of an OF type has none (clauses 26 and 28)
+abbrev pub faults_of_element_name : Site → Option (List ℕ) → List ValueFault
+faults_of_element_name site None = []
+faults_of_element_name site (Some name) = WrongNotation site ∷ []
+
+-- one for a bit is a name alone (22.5), and that of a bit
+abbrev pub faults_of_bit : List NamedNumber → Site → Option (List ℕ) → List ValueFault
+faults_of_bit names site None = WrongNotation site ∷ []
+faults_of_bit names site (Some name) = unless (is_some (named_bit names name)) (UnknownName site)
+
+abbrev pub faults_of_bits : List NamedNumber → WrittenEntries → List ValueFault
+faults_of_bits names no_entries = []
+faults_of_bits names (entry site label tree rest) =
+    faults_of_bit names site (name_alone label tree) ++ faults_of_bits names rest
+
+-- ---- what a list in braces lacks, or has too many of
+
+abbrev pub may_be_left_out : AbstractPresence → Bool
+may_be_left_out type.optional = true
+may_be_left_out (type.default d) = true
+may_be_left_out type.mandatory = false
+may_be_left_out type.pending = false
+
+-- a component from this place on that may not be left out, and is
+abbrev pub misses : List (Option ℕ) → ℕ → Components → Bool
+misses given i no_components = false
+misses given i (component name t presence rest) =
+    (not (may_be_left_out presence) && not (is_among i given)) || misses given (suc i) rest
 
 -- V3, at the brace: a component without an entry, neither OPTIONAL nor with a DEFAULT (clause 25)
-abbrev pub IsMissingComponent : Site → AbstractType → WrittenValue → Type 0
-IsMissingComponent s t (value_node site (written.list es)) =
-    (s ≡ site) × ((cs : Components) × (has_components (kind_of t) ≡ Some cs)
-    × IsTrue (misses (entry_places cs es) 0 cs))
-IsMissingComponent s t _ = ⊥
-
--- V4, at the second name of a component
-abbrev pub IsRepeatedComponent : Site → AbstractType → WrittenValue → Type 0
-IsRepeatedComponent s t (value_node site (written.list es)) =
-    (cs : Components) × (has_components (kind_of t) ≡ Some cs) × HasRepeatedEntry cs [] es s
-IsRepeatedComponent s t _ = ⊥
-
--- V5, at the name: in a SEQUENCE the component comes before one that is named before it (clause 25)
-abbrev pub IsOutOfOrder : Site → AbstractType → WrittenValue → Type 0
-IsOutOfOrder s t (value_node site (written.list es)) =
-    (cs : Components) × (kind_of t ≡ type.sequence cs) × HasLateEntry cs [] es s
-IsOutOfOrder s t _ = ⊥
-
--- ---- V6 and V7
-
--- V6, at the string: a character outside the alphabet (clause 41)
-abbrev pub IsBadCharacter : Site → AbstractType → WrittenValue → Type 0
-IsBadCharacter s t (value_node site (written.text string.Characters spelling)) =
-    (s ≡ site) × IsTrue (is_string (kind_of t)) × (text_value (kind_of t) string.Characters spelling ≡ None)
-IsBadCharacter s t _ = ⊥
-
--- V7, at the brace: fewer than two arcs, or two that no object identifier begins with
-abbrev pub IsBadObjectId : Site → AbstractType → WrittenValue → Type 0
-IsBadObjectId s t (value_node site (written.arcs arcs)) =
-    (s ≡ site) × (kind_of t ≡ type.object_identifier) × (are_arcs (arc_numbers arcs) ≡ false)
-IsBadObjectId s t (value_node site (written.list es)) =
-    (s ≡ site) × (kind_of t ≡ type.object_identifier) × IsTrue (are_too_few_arcs es)
-IsBadObjectId s t _ = ⊥
-
--- ---- V8
+abbrev pub faults_after : Site → Components → WrittenEntries → List ValueFault
+faults_after site cs es = unless (not (misses (entry_places cs es) 0 cs)) (MissingComponent site)
 
 abbrev pub entry_count : WrittenEntries → ℕ
 entry_count no_entries = 0
@@ -261,42 +158,118 @@ entry_count (entry site name tree rest) = suc (entry_count rest)
 abbrev pub are_few_entries : WrittenEntries → Bool
 are_few_entries es = nat_le (entry_count es) 4294967295
 
-abbrev pub IsLargeNumber : Meaning → Site → AbstractType → WrittenValue → Type 0
-IsLargeNumber m s t (value_node site (written.integer n)) =
-    (s ≡ n.site) × IsTrue (is_integer (kind_of t)) × (integer_value (kind_of t) n ≡ None)
-IsLargeNumber m s t (value_node site (written.reference name)) =
-    (s ≡ site) × ((z : ℤ) × (own_number (kind_of t) name ≡ Some z) × (numbered_value (kind_of t) z ≡ None))
-IsLargeNumber m s t (value_node site (written.arcs arcs)) =
-    (kind_of t ≡ type.object_identifier) × (too_large_arc arcs ≡ Some s)
-IsLargeNumber m s t (value_node site (written.list es)) =
-    (s ≡ site) × ((u : AbstractType) × (entry_type (kind_of t) None ≡ Some u) × (are_few_entries es ≡ false))
-IsLargeNumber m s t _ = ⊥
+abbrev pub faults_of_count : Site → WrittenEntries → List ValueFault
+faults_of_count site es = unless (are_few_entries es) (TooLarge site)
+
+-- in braces that the kind takes, given the faults in entries for components and in elements
+abbrev pub faults_of_list : Site → AbstractKind → WrittenEntries → (Bool → Components → List ValueFault)
+    → (AbstractType → List ValueFault) → List ValueFault
+faults_of_list site (type.sequence cs) es in_entries in_elements = in_entries true cs ++ faults_after site cs es
+faults_of_list site (type.set cs) es in_entries in_elements = in_entries false cs ++ faults_after site cs es
+faults_of_list site (type.sequence_of t) es in_entries in_elements = in_elements t ++ faults_of_count site es
+faults_of_list site (type.set_of t) es in_entries in_elements = in_elements t ++ faults_of_count site es
+faults_of_list site (type.bit_string names) es in_entries in_elements = faults_of_bits names es
+-- V7: too few arcs to be an object identifier
+faults_of_list site type.object_identifier es in_entries in_elements = BadObjectId site ∷ []
+faults_of_list site type.boolean es in_entries in_elements = []
+faults_of_list site (type.integer ns) es in_entries in_elements = []
+faults_of_list site type.octet_string es in_entries in_elements = []
+faults_of_list site type.null es in_entries in_elements = []
+faults_of_list site (type.enumerated items) es in_entries in_elements = []
+faults_of_list site (type.characters k) es in_entries in_elements = []
+faults_of_list site (type.choice cs) es in_entries in_elements = []
+
+-- ---- all forms
+
+-- of the value of what is found by a name
+abbrev pub faults_there : (AbstractType → List ValueFault) → Option Located → List ValueFault
+faults_there find None = []
+faults_there find (Some l) = find l.ty
+
+abbrev pub named_component : Components → Option (List ℕ) → Option Located
+named_component cs None = None
+named_component cs (Some name) = located name cs
+
+abbrev mutual
+  -- all but encodings that are too long
+  pub faults_of : Meaning → AbstractType → WrittenValue → List ValueFault
+  faults_of m t (value_node site form) = where_taken (takes (kind_of t) form) site (faults_of_form m t site form)
+
+  pub faults_of_form : Meaning → AbstractType → Site → WrittenValueForm → List ValueFault
+  faults_of_form m t site (written.boolean b) = []
+  faults_of_form m t site written.null = []
+  -- V8, at the number
+  faults_of_form m t site (written.integer n) = unless (fits_128_bits (number_of n)) (TooLarge n.site)
+  -- V6, at the string: a character outside the alphabet (clause 41)
+  faults_of_form m t site (written.text k spelling) =
+      unless (is_some (text_value (kind_of t) k spelling)) (BadCharacter site)
+  faults_of_form m t site (written.reference name) = faults_of_name site t (own_number (kind_of t) name) (m name)
+  -- V2, at the name: no alternative
+  faults_of_form m t site (written.chosen name tree) =
+      unless (is_some (located name (alternatives_of (kind_of t)))) (UnknownName site)
+      ++ faults_there (λ u. faults_of m u tree) (located name (alternatives_of (kind_of t)))
+  faults_of_form m t site (written.list es) =
+      faults_of_list site (kind_of t) es (λ ordered cs. faults_of_entries m ordered cs [] es)
+      (λ u. faults_of_elements m u es)
+  faults_of_form m t site (written.arcs arcs) = faults_of_arcs site arcs
+
+  -- for components; `before` are the places that the entries before these name
+  pub faults_of_entries : Meaning → Bool → Components → List (Option ℕ) → WrittenEntries → List ValueFault
+  faults_of_entries m ordered cs before no_entries = []
+  faults_of_entries m ordered cs before (entry site name tree rest) =
+      faults_of_entry_name ordered cs before site name
+      ++ (faults_there (λ u. faults_of m u tree) (named_component cs name)
+      ++ faults_of_entries m ordered cs (entry_place cs name ∷ before) rest)
+
+  pub faults_of_elements : Meaning → AbstractType → WrittenEntries → List ValueFault
+  faults_of_elements m t no_entries = []
+  faults_of_elements m t (entry site name tree rest) =
+      faults_of_element_name site name ++ (faults_of m t tree ++ faults_of_elements m t rest)
+
+-- ---- the values inside a value, each with its governor, and their encodings
+
+-- the type of an entry's value
+abbrev pub entry_type : AbstractKind → Option (List ℕ) → Option AbstractType
+entry_type (type.sequence cs) (Some name) = option_map (λ l. l.ty) (located name cs)
+entry_type (type.set cs) (Some name) = option_map (λ l. l.ty) (located name cs)
+entry_type (type.sequence_of t) None = Some t
+entry_type (type.set_of t) None = Some t
+entry_type _ _ = None
+
+-- the type of a chosen value
+abbrev pub chosen_type : AbstractKind → List ℕ → Option AbstractType
+chosen_type kind name = option_map (λ l. l.ty) (located name (alternatives_of kind))
+
+abbrev mutual
+  -- It holds of the written value, or of one inside it, each under its type.
+  pub Somewhere : (AbstractType → WrittenValue → Type 0) → AbstractType → WrittenValue → Type 0
+  Somewhere P t (value_node site form) = P t (value_node site form) ⊎ Inside P (kind_of t) form
+
+  pub Inside : (AbstractType → WrittenValue → Type 0) → AbstractKind → WrittenValueForm → Type 0
+  Inside P kind (written.chosen name tree) = (u : AbstractType) × (chosen_type kind name ≡ Some u) × Somewhere P u tree
+  Inside P kind (written.list es) = InEntry P kind es
+  Inside P kind (written.boolean b) = ⊥
+  Inside P kind written.null = ⊥
+  Inside P kind (written.integer n) = ⊥
+  Inside P kind (written.text k spelling) = ⊥
+  Inside P kind (written.reference name) = ⊥
+  Inside P kind (written.arcs arcs) = ⊥
+
+  pub InEntry : (AbstractType → WrittenValue → Type 0) → AbstractKind → WrittenEntries → Type 0
+  InEntry P kind no_entries = ⊥
+  InEntry P kind (entry site name tree rest) =
+      ((u : AbstractType) × (entry_type kind name ≡ Some u) × Somewhere P u tree) ⊎ InEntry P kind rest
 
 -- what it says has an encoding of more than 1,048,576 octets, or none
 abbrev pub HasLongEncoding : Meaning → AbstractType → WrittenValue → Type 0
 HasLongEncoding m t tree = (v : AbstractValue) × Says m t tree v × (is_short (der t v) ≡ false)
 
--- so has the value, or one inside it
-abbrev pub IsTooLong : Meaning → Site → AbstractType → WrittenValue → Type 0
-IsTooLong m s t (value_node site form) = (s ≡ site) × Somewhere (HasLongEncoding m) t (value_node site form)
-
--- V8, at the number, the arc or the value: outside this profile's limits
-abbrev pub IsTooLarge : Meaning → Site → AbstractType → WrittenValue → Type 0
-IsTooLarge m s t tree = IsLargeNumber m s t tree ⊎ IsTooLong m s t tree
+-- V8, at the value: it has such an encoding, or one inside it has
+abbrev pub IsTooLong : Meaning → AbstractType → WrittenValue → ValueFault → Type 0
+IsTooLong m t (value_node site form) f = (f ≡ TooLarge site) × Somewhere (HasLongEncoding m) t (value_node site form)
 
 -- ---- all faults
 
-abbrev pub Condition : Meaning → ValueFault → AbstractType → WrittenValue → Type 0
-Condition m (fault.WrongNotation s) t tree = IsWrongNotation m s t tree
-Condition m (fault.UnknownName s) t tree = IsUnknownName m s t tree
-Condition m (fault.MissingComponent s) t tree = IsMissingComponent s t tree
-Condition m (fault.RepeatedComponent s) t tree = IsRepeatedComponent s t tree
-Condition m (fault.OutOfOrder s) t tree = IsOutOfOrder s t tree
-Condition m (fault.BadCharacter s) t tree = IsBadCharacter s t tree
-Condition m (fault.BadObjectId s) t tree = IsBadObjectId s t tree
-Condition m (fault.TooLarge s) t tree = IsTooLarge m s t tree
-Condition m fault.OutOfMemory t tree = ⊥
-
 -- The fault's condition holds at its site, in the written value or in one inside it.
 abbrev pub IsFaultIn : Meaning → AbstractType → WrittenValue → ValueFault → Type 0
-IsFaultIn m t tree f = Somewhere (Condition m f) t tree
+IsFaultIn m t tree f = Contains (faults_of m t tree) f ⊎ IsTooLong m t tree f

@@ -59,7 +59,8 @@ are_different (Some i ∷ ps) = not (is_among i ps) && are_different ps
 abbrev pub LeftOut : AbstractPresence → Option AbstractValue → Type 0
 LeftOut type.optional field = field ≡ None
 LeftOut (type.default d) field = field ≡ Some d
-LeftOut _ field = ⊥
+LeftOut type.mandatory field = ⊥
+LeftOut type.pending field = ⊥
 
 -- ---- all components
 

@@ -35,14 +35,15 @@ hexadecimal_bits spelling = bits_of_digits (hexadecimal_digits spelling)
 
 -- ---- bits in octets
 
--- The number of so many digits, the highest first. Digits that are missing after the last one are zeros.
+-- The number that the first `places` digits write, the highest first. Digits that are missing after the last one are
+-- zeros.
 abbrev pub filled : ℕ → ℕ → List ℕ → ℕ
 filled base zero digits = 0
 filled base (suc places) [] = 0
 filled base (suc places) (d ∷ ds) = d * base ^ places + filled base places ds
 
--- Octets for all digits, at most so many: the first has as many digits as it has places, the next one those after
--- them.
+-- All digits in octets, of which there are `octets` at most: the first has as many digits as it has places, the next one
+-- those after them.
 abbrev pub packed : ℕ → ℕ → ℕ → List ℕ → List ℕ
 packed base places octets [] = []
 packed base places zero (d ∷ ds) = []

@@ -84,7 +84,7 @@ visible_from names known id name = known_definition known (place_from names id n
 abbrev pub types_from : Names → Known → ℕ → List ℕ → Option AbstractType
 types_from names known id name = placed_type known (place_from names id name)
 
--- the same in a scope, which has all three
+-- in a scope, which has the names, what is known and the definition
 abbrev pub meaning_of : Scope → Meaning
 meaning_of scope = visible_from scope.names.now scope.known.now scope.id
 

@@ -1,11 +1,12 @@
 //! The elements of a SET OF in the order of their encodings (X.690 11.6).
-ghost use Rattle.std.specs.Prelude.{◌≡◌, map, slice_index, IfOk};
+ghost use Rattle.std.specs.Prelude.{◌≡◌, map, IfOk};
 ghost use Rattle.std.specs.Ordering.{is_lt};
 ghost use Rattle.guard_model.specs.ValueView.{value_view};
 ghost use Rattle.guard_der.specs.Fits.{descends};
 ghost use Rattle.guard_values.specs.Arrangement.{arranged_encodings, encoded_value};
 ghost use Rattle.guard_values.specs.Views.{encoded_view};
 
+use guard_der::order::descends;
 use guard_model::Value;
 use std::alloc::{AllocError, Global};
 use std::cmp::Ordering;
@@ -39,26 +40,11 @@ fn values_of(alloc: Global, elements: Vec<Encoded>) -> Result<Vec<Value>, AllocE
 fn order(one: &[u8], other: &[u8]) -> Ordering
     ensures { is_lt result ≡ descends other.now one.now }
 {
-    let longer = one.len().max(other.len());
-    for index in 0..longer {
-        let first = padded(one, index);
-        let second = padded(other, index);
-        if first < second {
-            return Ordering::Less;
-        }
-        if second < first {
-            return Ordering::Greater;
-        }
-    }
-    Ordering::Equal
-}
-
-fn padded(octets: &[u8], index: usize) -> u8
-    ensures { result ≡ slice_index octets.now index }
-{
-    if index < octets.len() {
-        octets[index]
+    if descends(other, one) {
+        Ordering::Less
+    } else if descends(one, other) {
+        Ordering::Greater
     } else {
-        0
+        Ordering::Equal
     }
 }

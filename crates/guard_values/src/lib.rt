@@ -7,7 +7,7 @@
 //! | How are trees read by their types? | `written.rt` | `specs/inside/Reading.antt` |
 //! | What do names in braces say for a BIT STRING, and where do its values end? | `named_bits.rt` | `specs/NamedBits.antt` |
 //! | What do forms without a value inside say? | `simple.rt`, `strings.rt` (`quoted`), `object_identifiers.rt`, `names.rt` | `specs/Simple.antt` |
-//! | For which component is an entry, and what are those without one? | `components.rt` | `specs/Places.antt` |
+//! | For which component is an entry, and what are those without one? | `components.rt` (`located`) | `specs/Places.antt` |
 //! | How many elements may there be, and in which order does a SET OF have them? | `elements.rt`, `arrangement.rt` | `specs/Arrangement.antt` |
 //! | Is there one value, in whatever order a SET OF is written? | `laws.rt` | `specs/Denotes.antt` |
 #![tactic(auto)]
@@ -26,6 +26,7 @@ mod strings;
 mod values;
 mod written;
 
+pub use components::located;
 pub use fault::ValueFault;
 pub use scope::{Known, Scope, VisibleValue};
 pub use strings::quoted;

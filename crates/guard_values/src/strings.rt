@@ -110,7 +110,7 @@ pub fn bit_string(alloc: Global, bits: &[u8]) -> Result<Value, ValueFault>
     Ok(Value::Bits(Bits { octets, unused }))
 }
 
-/// The fewest octets with so many places each for all digits to this base.
+/// All digits to this base in the fewest octets, each of which has room for `places` of them.
 fn packed(alloc: Global, base: u32, places: usize, digits: &[u8]) -> Result<Vec<u8>, AllocError>
     requires base { 1 ≤ base }
     requires places { 1 ≤ places }
@@ -127,7 +127,7 @@ fn packed(alloc: Global, base: u32, places: usize, digits: &[u8]) -> Result<Vec<
     Ok(octets)
 }
 
-/// The number of so many digits. Digits that are missing after the last one are zeros.
+/// The number that the first `places` digits write. Digits that are missing after the last one are zeros.
 fn filled(base: u32, places: usize, digits: &[u8]) -> u8
     requires base { 1 ≤ base }
     requires octet { base ^ places ≡ 256 }
@@ -151,7 +151,7 @@ fn digit_at(digits: &[u8], place: usize) -> u8
     }
 }
 
-/// The octets after so many.
+/// The octets after the first `count`.
 fn rest_after(octets: &[u8], count: usize) -> &[u8]
     ensures { result.now ≡ drop count octets.now }
 {

@@ -42,6 +42,4 @@ given_later j i v fs h = rw (above j i (omega (arith, h))) refl
 
 pub left_out : (presence : AbstractPresence) → may_be_absent presence ≡ true → LeftOut presence None
 left_out type.optional h = refl
-left_out type.mandatory h = absurd cc
-left_out type.pending h = absurd cc
-left_out (type.default d) h = absurd cc
+left_out presence h = absurd cc

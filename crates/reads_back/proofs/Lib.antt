@@ -30,7 +30,6 @@ pub mod SitedSays
 pub mod OneReading
 pub mod ShownTexts
 -- the names of the types of a schema
-pub mod Following
 pub mod WrittenNames
 pub mod NamesAlone
 pub mod NamesKept

@@ -139,16 +139,7 @@ kind_named : (kind : AbstractKind) → KindHasNames (stripped_kind kind)
 kind_named (type.sequence cs) h = parts_named cs h
 kind_named (type.set cs) h = parts_named cs h
 kind_named (type.choice cs) h = parts_named cs h
-kind_named type.boolean h = (tt, tt)
-kind_named (type.integer ns) h = (tt, tt)
-kind_named (type.bit_string bits) h = (tt, tt)
-kind_named type.octet_string h = (tt, tt)
-kind_named type.null h = (tt, tt)
-kind_named type.object_identifier h = (tt, tt)
-kind_named (type.enumerated items) h = (tt, tt)
-kind_named (type.characters k) h = (tt, tt)
-kind_named (type.sequence_of t) h = (tt, tt)
-kind_named (type.set_of t) h = (tt, tt)
+kind_named kind h = (tt, tt)
 
 pub inside_named : (t : AbstractType) → HasNames (stripped t)
     → AreIdentifiers (names_of (parts_of t)) × TypesHaveNames (parts_of t)
@@ -186,12 +177,7 @@ mutual
   kind_has_names (type.choice cs) h = parts_again cs h
   kind_has_names (type.sequence_of t) h = has_names t h
   kind_has_names (type.set_of t) h = has_names t h
-  kind_has_names type.boolean h = tt
-  kind_has_names (type.integer ns) h = tt
-  kind_has_names type.octet_string h = tt
-  kind_has_names type.null h = tt
-  kind_has_names type.object_identifier h = tt
-  kind_has_names (type.characters k) h = tt
+  kind_has_names kind h = tt
 
   parts_again : (cs : Components) → PartsHaveNames (stripped_parts cs) → PartsHaveNames cs
   parts_again type.no_components h = tt

@@ -2,8 +2,8 @@
 use Rattle.std.proofs.Common.{◌≡◌, ℕ, zero, suc, [], refl, sym, ap, ◌∙◌}
 use Rattle.guard_model.specs.AbstractType as type
 use Rattle.guard_model.specs.AbstractType.{AbstractType, AbstractKind, AbstractPresence, Components, type_of}
-use Rattle.guard_syntax.specs.Trees.{WrittenType, type_node, WrittenBase, plain, numbers, named_bits, enumerated}
-use Rattle.guard_syntax.specs.Trees.{structure, choice, of_type, named_type, WrittenComponents, no_components}
+use Rattle.guard_syntax.specs.Trees.{WrittenType, type_node, WrittenBase}
+use Rattle.guard_syntax.specs.Trees.{structure, choice, of_type, WrittenComponents, no_components}
 use Rattle.guard_syntax.specs.Trees.{component}
 use Rattle.guard_syntax.specs.Trees.{components_from, WrittenAlternatives, no_alternatives, alternative}
 use Rattle.guard_tagging.specs.Types.{join}
@@ -42,32 +42,13 @@ parts_kept : (change : Components → Components) → ((cs : Components) → str
 parts_kept change kept (type.sequence cs) = ap type.sequence (kept cs)
 parts_kept change kept (type.set cs) = ap type.set (kept cs)
 parts_kept change kept (type.choice cs) = ap type.choice (kept cs)
-parts_kept change kept type.boolean = refl
-parts_kept change kept (type.integer ns) = refl
-parts_kept change kept (type.bit_string bits) = refl
-parts_kept change kept type.octet_string = refl
-parts_kept change kept type.null = refl
-parts_kept change kept type.object_identifier = refl
-parts_kept change kept (type.enumerated items) = refl
-parts_kept change kept (type.characters k) = refl
-parts_kept change kept (type.sequence_of t) = refl
-parts_kept change kept (type.set_of t) = refl
+parts_kept change kept kind = refl
 
 element_kept : (change : AbstractType → AbstractType) → ((t : AbstractType) → stripped (change t) ≡ stripped t)
     → (kind : AbstractKind) → stripped_kind (with_element change kind) ≡ stripped_kind kind
 element_kept change kept (type.sequence_of t) = ap type.sequence_of (kept t)
 element_kept change kept (type.set_of t) = ap type.set_of (kept t)
-element_kept change kept (type.sequence cs) = refl
-element_kept change kept (type.set cs) = refl
-element_kept change kept (type.choice cs) = refl
-element_kept change kept type.boolean = refl
-element_kept change kept (type.integer ns) = refl
-element_kept change kept (type.bit_string bits) = refl
-element_kept change kept type.octet_string = refl
-element_kept change kept type.null = refl
-element_kept change kept type.object_identifier = refl
-element_kept change kept (type.enumerated items) = refl
-element_kept change kept (type.characters k) = refl
+element_kept change kept kind = refl
 
 -- ---- types
 
@@ -79,15 +60,11 @@ module _ (names : Visible) where
 
     kind_kept : (base : WrittenBase) (kind : AbstractKind)
         → stripped_kind (unfinished_kind names base kind) ≡ stripped_kind kind
-    kind_kept (plain p) kind = refl
-    kind_kept (numbers ns) kind = refl
-    kind_kept (named_bits ns) kind = refl
-    kind_kept (enumerated items) kind = refl
     kind_kept (structure k cs) kind = parts_kept (unfinished_list names cs) (λ parts. list_kept cs parts) kind
     kind_kept (choice others) kind =
         parts_kept (unfinished_others names others) (λ parts. others_kept others parts) kind
     kind_kept (of_type k c t) kind = element_kept (unfinished names t) (λ u. type_kept t u) kind
-    kind_kept (named_type site name) kind = refl
+    kind_kept base kind = refl
 
     list_kept : (cs : WrittenComponents) (parts : Components)
         → stripped_parts (unfinished_list names cs parts) ≡ stripped_parts parts
@@ -112,13 +89,7 @@ module _ (names : Visible) where
     from_base_kept : (base : WrittenBase) (parts : Components)
         → stripped_parts (unfinished_from_base names base parts) ≡ stripped_parts parts
     from_base_kept (structure k cs) parts = list_kept cs parts
-    from_base_kept (named_type site name) parts = refl
-    from_base_kept (plain p) parts = refl
-    from_base_kept (numbers ns) parts = refl
-    from_base_kept (named_bits ns) parts = refl
-    from_base_kept (enumerated items) parts = refl
-    from_base_kept (choice others) parts = refl
-    from_base_kept (of_type k c t) parts = refl
+    from_base_kept base parts = refl
 
     others_kept : (others : WrittenAlternatives) (parts : Components)
         → stripped_parts (unfinished_others names others parts) ≡ stripped_parts parts

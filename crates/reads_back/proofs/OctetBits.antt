@@ -34,7 +34,7 @@ half6 o = omega arith
 pub octet_sum : (o : ℕ) → o / 128 * 128 + (o / 64 % 2 * 64 + (o / 32 % 2 * 32 + (o / 16 % 2 * 16 + (o / 8 % 2 * 8 + (o / 4 % 2 * 4 + (o / 2 % 2 * 2 + (o % 2 * 1 + 0))))))) ≡ o
 octet_sum o = halves o (o / 2) (o / 4) (o / 8) (o / 16) (o / 32) (o / 64) (o / 128) (o / 64 % 2) (o / 32 % 2) (o / 16 % 2) (o / 8 % 2) (o / 4 % 2) (o / 2 % 2) (o % 2) (half0 o) (half1 o) (half2 o) (half3 o) (half4 o) (half5 o) (half6 o)
 
--- with the last bits zero, so many
+-- with so many zero bits at the end
 
 short1 : (o b7 b6 b5 b4 b3 b2 b1 b0 : ℕ) → b7 * 128 + (b6 * 64 + (b5 * 32 + (b4 * 16 + (b3 * 8 + (b2 * 4 + (b1 * 2 + (b0 * 1 + 0))))))) ≡ o → b0 ≡ 0 → b7 * 128 + (b6 * 64 + (b5 * 32 + (b4 * 16 + (b3 * 8 + (b2 * 4 + (b1 * 2 + 0)))))) ≡ o
 short1 o b7 b6 b5 b4 b3 b2 b1 b0 e z0 = omega arith

@@ -45,14 +45,9 @@ ends_behind (b ∷ d ∷ bs) cs h = ends_behind (d ∷ bs) cs h
 
 one_ends : (unused o : ℕ) → unused ≤ 7 → o < 256 → o / 2 ^ unused % 2 ≡ 1 → Ends (take (8 - unused) (eight_bits o))
 one_ends zero o h lt e = omega (arith, e)
-one_ends (suc zero) o h lt e = e
-one_ends (suc (suc zero)) o h lt e = e
-one_ends (suc (suc (suc zero))) o h lt e = e
-one_ends (suc (suc (suc (suc zero)))) o h lt e = e
-one_ends (suc (suc (suc (suc (suc zero))))) o h lt e = e
-one_ends (suc (suc (suc (suc (suc (suc zero)))))) o h lt e = e
 one_ends (suc (suc (suc (suc (suc (suc (suc zero))))))) o h lt e = omega (arith, e, lt)
 one_ends (suc (suc (suc (suc (suc (suc (suc (suc u)))))))) o h lt e = absurd (omega arith)
+one_ends unused o h lt e = e
 
 pub octets_end : (octets : List ℕ) (unused : ℕ) → unused ≤ 7 → 1 ≤ length octets → all_below 256 octets ≡ true → last_octet octets / 2 ^ unused % 2 ≡ 1 → Ends (without_last unused (flat_map eight_bits octets))
 octets_end [] unused h some below e = absurd (omega arith)

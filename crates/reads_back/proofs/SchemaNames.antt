@@ -26,7 +26,7 @@ use Rattle.guard_schema.specs.Schemas.{AbstractSchema, number_assigned, type_unl
 use Rattle.guard_schema.specs.Texts.{ReadsTexts}
 use Rattle.guard_schema.specs.Unfinished.{IsTaggedAgain}
 use Rattle.reads_back.specs.Names.{HasNames}
-use Rattle.reads_back.proofs.WrittenNames.{IsNamed, IsNamedModule, module_named}
+use Rattle.reads_back.proofs.WrittenNames.{IsNamed, AreNamedAssignments, IsNamedModule, module_named}
 use Rattle.reads_back.proofs.NamesAlone.{stripped, each_joined, has_names}
 use Rattle.reads_back.proofs.NamesKept.{type_kept}
 use Rattle.reads_back.proofs.TypeNames.{MeanNamed, type_named}
@@ -59,9 +59,9 @@ modules_read ms (text ∷ texts) before h (inl (m, is, rest)) =
 modules_read ms (text ∷ texts) before h (inr (f, is, e)) = absurd cc
 
 abbrev IsNamedDefinition : Definition → Type 0
-IsNamedDefinition d = IsNamed d.assignment
+IsNamedDefinition d = IsNamed d.assignment.ty
 
-those_named : (m : WrittenModule) (assignments : List WrittenAssignment) → AllByRecursion IsNamed assignments
+those_named : (m : WrittenModule) (assignments : List WrittenAssignment) → AreNamedAssignments assignments
     → AllByRecursion IsNamedDefinition (map (λ a. record { home = m; assignment = a }) assignments)
 those_named m [] h = tt
 those_named m (a ∷ assignments) h = (h.0, those_named m assignments h.1)

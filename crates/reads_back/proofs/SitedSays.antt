@@ -145,17 +145,14 @@ mutual
   sited_says m (value_node site form) t v ss h = form_says m form t v ss h
 
   form_says : (m : Meaning) (form : WrittenValueForm) (t : AbstractType) (v : AbstractValue) (ss : List Site) → FormSays m t form v → FormSays m t (sited_value_form form ss).0 v
-  form_says m (boolean b) t v ss h = h
-  form_says m null t v ss h = h
   form_says m (integer n) t v ss h = integer_same (kind_of t) n (first ss) ∙ h
-  form_says m (text k spelling) t v ss h = h
-  form_says m (reference name) t v ss h = h
   form_says m (chosen name tree) t v ss h = (h.0, h.1, h.2, sited_says m tree h.0.ty h.1 (past (past ss)) h.3, h.4)
   form_says m (list es) t v ss h =
       braces_map (kind_of t) es (past ss) (λ cs i u w. EntrySays m cs es i u w) (λ cs i u w. EntrySays m cs (sited_entries es (past ss)).0 i u w)
       (λ u ws. EntriesSay m u es ws) (λ u ws. EntriesSay m u (sited_entries es (past ss)).0 ws) v
       (λ cs i u w e. entry_says m es cs i u w (past ss) e) (λ u ws e. entries_say m es u ws (past ss) e) h
   form_says m (arcs all) t v ss h = arcs_same (kind_of t) all (past ss) v h
+  form_says m form t v ss h = h
 
   entry_says : (m : Meaning) (es : WrittenEntries) (cs : Components) (i : ℕ) (u : AbstractType) (w : AbstractValue) (ss : List Site) → EntrySays m cs es i u w → EntrySays m cs (sited_entries es ss).0 i u w
   entry_says m no_entries cs i u w ss h = h

@@ -28,8 +28,8 @@ use Rattle.guard_tagging.specs.Types.{Meaning, Surroundings, meant, plain_kind, 
 use Rattle.guard_tagging.specs.Types.{is_automatic_list, is_automatic_choice, tagged_where, denoted, denoted_base}
 use Rattle.guard_tagging.specs.Types.{denoted_components, denoted_alternatives}
 use Rattle.reads_back.specs.Names.{IsIdentifier, HaveNames, HasNames, KindHasNames, PartsHaveNames}
-use Rattle.reads_back.proofs.WrittenNames.{AreIdentifiers, NamesParts, NamesPartsInside, NamesComponents}
-use Rattle.reads_back.proofs.WrittenNames.{NamesAlternatives}
+use Rattle.reads_back.proofs.WrittenNames.{AreIdentifiers, IsNamed, IsNamedInside, AreNamed, AreNamedItems}
+use Rattle.reads_back.proofs.WrittenNames.{AreNamedComponents, AreNamedAlternatives, named_identifiers, item_identifiers}
 use Rattle.reads_back.proofs.NamesAlone.{stripped, stripped_kind, stripped_parts, tags_stripped, where_stripped}
 use Rattle.reads_back.proofs.NamesAlone.{names_of, Differ, names_join, TypesHaveNames, types_join, each_joined}
 use Rattle.reads_back.proofs.NamesAlone.{have_names, parts_have_names, inside_named}
@@ -68,14 +68,7 @@ own_none around automatic count site tags base cons h =
 
 plain_named : (p : PlainType) → KindHasNames (stripped_kind (plain_kind p))
 plain_named plain_type.Boolean = tt
-plain_named plain_type.OctetString = tt
-plain_named plain_type.Null = tt
-plain_named plain_type.ObjectIdentifier = tt
-plain_named plain_type.Utf8String = tt
-plain_named plain_type.NumericString = tt
-plain_named plain_type.PrintableString = tt
-plain_named plain_type.Ia5String = tt
-plain_named plain_type.VisibleString = tt
+plain_named p = tt
 
 structure_named : (k : Collection) (cs : Components) → PartsHaveNames (stripped_parts cs)
     → KindHasNames (stripped_kind (structure_kind k cs))
@@ -87,17 +80,17 @@ element_named : (k : Collection) (t : AbstractType) → HasNames (stripped t)
 element_named collection.Sequence t h = h
 element_named collection.Set t h = h
 
-bits_named : (bs : List WrittenNamed) → AreIdentifiers (map (λ b. b.name) bs)
+bits_named : (bs : List WrittenNamed) → AreNamed bs
     → duplicate_number (map named_place bs) ≡ None → HaveNames (map named_number bs)
 bits_named bs i h =
-    have_names (map named_number bs) (subst AreIdentifiers (sym (bit_names bs)) i)
+    have_names (map named_number bs) (subst AreIdentifiers (sym (bit_names bs)) (named_identifiers bs i))
     (subst Differ (bit_places bs ∙ sym (bit_names bs)) (different_numbers (map named_place bs) h))
 
-items_named : (items : List WrittenItem) → AreIdentifiers (map (λ i. i.name) items)
+items_named : (items : List WrittenItem) → AreNamedItems items
     → duplicate_number (map item_place items) ≡ None → HaveNames (numbered items)
 items_named items i h =
     let same = item_names (written_numbers items) (length items) 0 items in
-    have_names (numbered items) (subst AreIdentifiers (sym same) i)
+    have_names (numbered items) (subst AreIdentifiers (sym same) (item_identifiers items i))
     (subst Differ (item_places items ∙ sym same) (different_numbers (map item_place items) h))
 
 -- perhaps with automatic tags
@@ -114,7 +107,7 @@ meant_named (Some m) h = h
 
 module _ (around : Surroundings) (known : MeanNamed around) where
   mutual
-    pub type_named : (automatic : Bool) (before count : ℕ) (t : WrittenType) → NamesParts t
+    pub type_named : (automatic : Bool) (before count : ℕ) (t : WrittenType) → IsNamed t
         → fault_in around automatic before count t ≡ None → HasNames (stripped (denoted around t))
     type_named automatic before count (type_node site tags base cons) i h =
         let faults =
@@ -124,7 +117,7 @@ module _ (around : Surroundings) (known : MeanNamed around) where
         subst HasNames (sym (tags_stripped around.tag_default tags (denoted_base around base)))
         (base_named before site base i faults.0 own.0 own.1)
 
-    base_named : (before : ℕ) (site : Site) (base : WrittenBase) → NamesPartsInside base
+    base_named : (before : ℕ) (site : Site) (base : WrittenBase) → IsNamedInside base
         → fault_in_parts around before base ≡ None → list_fault around site base ≡ None → number_fault base ≡ None
         → HasNames (stripped (denoted_base around base))
     base_named before site (plain p) i h l n = plain_named p
@@ -153,7 +146,7 @@ module _ (around : Surroundings) (known : MeanNamed around) where
         (type_named false before (before + nodes (denoted around t)) t i h)
     base_named before site (named_type at name) i h l n = meant_named (around.meaning name) (known name)
 
-    components_named : (k : Collection) (automatic : Bool) (before : ℕ) (cs : WrittenComponents) → NamesComponents cs
+    components_named : (k : Collection) (automatic : Bool) (before : ℕ) (cs : WrittenComponents) → AreNamedComponents cs
         → fault_in_components k automatic around before cs ≡ None
         → AreIdentifiers (names_of (denoted_components around cs)) × TypesHaveNames (denoted_components around cs)
     components_named k automatic before no_components i h = (tt, tt)
@@ -178,7 +171,7 @@ module _ (around : Surroundings) (known : MeanNamed around) where
           types_join taken rest inside.1 others.1,
         )
 
-    alternatives_named : (automatic : Bool) (before : ℕ) (others : WrittenAlternatives) → NamesAlternatives others
+    alternatives_named : (automatic : Bool) (before : ℕ) (others : WrittenAlternatives) → AreNamedAlternatives others
         → fault_in_alternatives automatic around before others ≡ None
         → AreIdentifiers (names_of (denoted_alternatives around others))
         × TypesHaveNames (denoted_alternatives around others)

@@ -12,6 +12,7 @@ use Rattle.guard_lexer.specs.Words.{word_kind}
 use Rattle.guard_lexer.proofs.Lengths.{begins-append}
 use Rattle.guard_lexer.proofs.OctetTests.{letter-not_white, digit-not_white, digit-not_letter}
 use Rattle.guard_syntax.specs.Lexemes.{Lexeme, lexeme_of, number}
+use Rattle.guard_lexer.proofs.WordTexts.{word_is_text}
 use Rattle.reads_back.proofs.Ascii.{is_ascii, are_ascii, ascii_text}
 use Rattle.reads_back.proofs.Cuts.{Reads, one_more, like}
 
@@ -68,20 +69,6 @@ word_ends (c ∷ cs) rest h apart =
     let p = and_parts (is_of_word c cs) (are_of_word cs) h in
     cond-true (is_of_word c (cs ++ rest)) (suc (word_len (cs ++ rest))) 0 (of_word-append c cs rest p.0) ∙ ap (λ (n : ℕ). suc n) (word_ends cs rest p.1 apart)
 
-of_word-ascii : (c : ℕ) (cs : List ℕ) → is_of_word c cs ≡ true → is_ascii c ≡ true
-of_word-ascii c cs h =
-    elim (or_cases (is_letter_or_digit c) (is_hyphen c && begins is_letter_or_digit cs) h) [
-      | inl alone ↦ grind (arith, nat_tests, alone)
-      | inr both ↦ let p : is_hyphen c ≡ true = (and_parts (is_hyphen c) (begins is_letter_or_digit cs) both).0 in grind (arith, nat_tests, p)
-    ]
-
-are_of_word-ascii : (cs : List ℕ) → are_of_word cs ≡ true → are_ascii cs ≡ true
-are_of_word-ascii [] h = refl
-are_of_word-ascii (c ∷ cs) h = let p = and_parts (is_of_word c cs) (are_of_word cs) h in and_from _ _ (of_word-ascii c cs p.0) (are_of_word-ascii cs p.1)
-
-letter-ascii : (c : ℕ) → is_letter c ≡ true → is_ascii c ≡ true
-letter-ascii c h = grind (arith, nat_tests)
-
 abbrev word_item : List ℕ → Item
 word_item octets = like (97 ∷ []) octets
 
@@ -93,7 +80,7 @@ word (c ∷ cs) rest kind ls h e apart r =
     rw (letter-not_white c p.0, p.0) (ap (λ (n : ℕ). Some (found_item (word_item (c ∷ cs)).kind (suc n))) (word_ends cs rest p.1 apart)) in
     let fine : item_fault (word_item (c ∷ cs)).kind (c ∷ cs) rest ≡ None = rw (no_lone_hyphen rest apart) refl in
     subst (λ (k : TokenKind). Reads (c ∷ cs ++ rest) (lexeme_of k (c ∷ cs) ∷ ls)) e
-    (one_more (word_item (c ∷ cs)) rest ls (ascii_text (c ∷ cs) (and_from _ _ (letter-ascii c p.0) (are_of_word-ascii cs p.1))) found fine r)
+    (one_more (word_item (c ∷ cs)) rest ls (word_is_text (c ∷ cs) h) found fine r)
 
 -- ---- numbers
 

@@ -33,7 +33,8 @@ pub fn law_one_value_of_text()
         → IsReadAs meaning t text v → IsReadAs meaning t text w → v ≡ w }
 {}
 
-/// So does what is shown of it, whichever octets its places are taken from: these stand in comments.
+/// What is shown of a value reads back as that value too, whichever octets its places are taken from: the places stand
+/// in comments.
 pub fn law_shown_reads_back()
     ensures { (meaning : Meaning) (t : AbstractType) (octets : List ℕ) (v : AbstractValue)
         → IsTrue (is_sound t) → HasNames t → IsTrue (fits t v) → IsTrue (is_seen v) → IsTrue (is_short (der t v))
@@ -50,8 +51,8 @@ pub fn law_types_have_names()
     law_unfinished();
 }
 
-/// So of a value of a type of such a schema, its text and what is shown of it read back as this value. All that is left
-/// out are hidden characters and what is longer than what is read.
+/// Of a value of a type of a schema, the text and what is shown read back as this value. Only hidden characters and what
+/// is longer than what is read are left out.
 pub fn law_schema_reads_back()
     ensures text { (texts : List (List ℕ)) (s : AbstractSchema) → Accepts texts s
         → (home name : List ℕ) (t : AbstractType) → s.types home name ≡ Some t

@@ -1,5 +1,5 @@
 -- What loops read, one after another, as the definitions have it.
-use Rattle.std.proofs.Common.{◌≡◌, ℕ, List, [], ◌∷◌, length, map, Bool, true, false, eqb, Option, Some, None, Ok, Err, refl, ap, ◌∙◌}
+use Rattle.std.proofs.Common.{◌≡◌, List, [], ◌∷◌, length, map, Bool, true, false, eqb, Option, Some, None, Ok, Err, refl, ap, ◌∙◌}
 use Rattle.std.proofs.lemmas.Bool.{eqb-true}
 use Rattle.std.proofs.lemmas.List.{nil_from_length}
 use Rattle.std.specs.Option.{option_map}
@@ -13,13 +13,14 @@ use Rattle.guard_model.specs.TypeView.{OnePart, constraint_view, constraints_of,
 use Rattle.guard_model.proofs.Results.{refuses_bind}
 use Rattle.guard_syntax.specs.Trees as written
 use Rattle.guard_syntax.specs.Trees.{WrittenPart, WrittenParts, WrittenConstraint, WrittenIntersection, WrittenDifference, WrittenJoinedIntersection, WrittenJoinedDifference, united_of, met_of}
+use Rattle.guard_values.specs.Places.{Located}
 use Rattle.guard_constraints.specs.declared.fault.ConsFault.{ConsFault}
 use Rattle.guard_constraints.specs.declared.fault.ConsFault.TheVariants.{UnknownComponent}
 use Rattle.guard_constraints.specs.declared.written.Join.{Join}
 use Rattle.guard_constraints.specs.declared.written.Join.TheVariants as join
 use Rattle.guard_constraints.specs.Visible.{Visible}
 use Rattle.guard_constraints.specs.Denotes.{joined}
-use Rattle.guard_constraints.specs.ListedParts.{PartHead, Placed, heads, head_of, named_in, word_of}
+use Rattle.guard_constraints.specs.ListedParts.{PartHead, heads, head_of, named_in, word_of}
 use Rattle.guard_constraints.specs.Views.{head_view}
 use Rattle.guard_model.specs.Kinds.{kind_of}
 use Rattle.guard_syntax.specs.SetViews.{part_view}
@@ -77,29 +78,25 @@ module _ (j : Join) (site : Site) (c : Constraint) where
 
 -- ---- parts of WITH COMPONENTS
 
--- where a part's name leads
-abbrev spot : Placed → ℕ × AbstractType
-spot x = (x.place, x.one.ty)
-
-part_alone : (p : WrittenPart) (fd : Option Placed) (rest : Read Parts) (others all : Read (List OnePart)) → rest ≡ (others >>= λ qs. Ok (parts_of qs))
-    → all ≡ (((found (UnknownComponent p.site) fd >>= λ x. Ok (spot x)) >>= λ y. Ok (one_part p y.0 None)) >>= λ q. others >>= λ qs. Ok (q ∷ qs))
+part_alone : (p : WrittenPart) (fd : Option Located) (rest : Read Parts) (others all : Read (List OnePart)) → rest ≡ (others >>= λ qs. Ok (parts_of qs))
+    → all ≡ ((found (UnknownComponent p.site) fd >>= λ x. Ok (one_part p x.place None)) >>= λ q. others >>= λ qs. Ok (q ∷ qs))
     → (found (UnknownComponent p.site) fd >>= λ x. rest >>= λ qs. Ok (type.part p.site x.place (option_map word_of p.presence) qs)) ≡ (all >>= λ qs. Ok (parts_of qs))
 part_alone p None rest others all e f = rw f refl
 part_alone p (Some x) rest (Ok qs) all e f = rw (e, f) refl
 part_alone p (Some x) rest (Err g) all e f = rw (e, f) refl
 
-within_then : (p : WrittenPart) (x : Placed) (r : Read Constraint) (rest : Read Parts) (others all : Read (List OnePart)) → rest ≡ (others >>= λ qs. Ok (parts_of qs))
+within_then : (p : WrittenPart) (x : Located) (r : Read Constraint) (rest : Read Parts) (others all : Read (List OnePart)) → rest ≡ (others >>= λ qs. Ok (parts_of qs))
     → all ≡ (((r >>= λ c. Ok (Some c)) >>= λ w. Ok (one_part p x.place w)) >>= λ q. others >>= λ qs. Ok (q ∷ qs))
     → (r >>= λ c. rest >>= λ qs. Ok (type.part_within p.site x.place c (option_map word_of p.presence) qs)) ≡ (all >>= λ qs. Ok (parts_of qs))
 within_then p x (Ok c) rest (Ok qs) all e f = rw (e, f) refl
 within_then p x (Ok c) rest (Err g) all e f = rw (e, f) refl
 within_then p x (Err g) rest others all e f = rw f refl
 
-part_constrained : (names : Visible) (p : WrittenPart) (inner : WrittenConstraint) (fd : Option Placed) (rest : Read Parts) (others all : Read (List OnePart)) → rest ≡ (others >>= λ qs. Ok (parts_of qs))
-    → all ≡ (((found (UnknownComponent p.site) fd >>= λ x. Ok (spot x)) >>= λ y. read_within names y.1 (Some inner) >>= λ w. Ok (one_part p y.0 w)) >>= λ q. others >>= λ qs. Ok (q ∷ qs))
-    → (found (UnknownComponent p.site) fd >>= λ x. read names x.one.ty inner >>= λ c. rest >>= λ qs. Ok (type.part_within p.site x.place c (option_map word_of p.presence) qs)) ≡ (all >>= λ qs. Ok (parts_of qs))
+part_constrained : (names : Visible) (p : WrittenPart) (inner : WrittenConstraint) (fd : Option Located) (rest : Read Parts) (others all : Read (List OnePart)) → rest ≡ (others >>= λ qs. Ok (parts_of qs))
+    → all ≡ ((found (UnknownComponent p.site) fd >>= λ x. read_within names x.ty (Some inner) >>= λ w. Ok (one_part p x.place w)) >>= λ q. others >>= λ qs. Ok (q ∷ qs))
+    → (found (UnknownComponent p.site) fd >>= λ x. read names x.ty inner >>= λ c. rest >>= λ qs. Ok (type.part_within p.site x.place c (option_map word_of p.presence) qs)) ≡ (all >>= λ qs. Ok (parts_of qs))
 part_constrained names p inner None rest others all e f = rw f refl
-part_constrained names p inner (Some x) rest others all e f = within_then p x (read names x.one.ty inner) rest others all e f
+part_constrained names p inner (Some x) rest others all e f = within_then p x (read names x.ty inner) rest others all e f
 
 parts_before : (names : Visible) (kind : AbstractKind) (p : WrittenPart) (inner : Option WrittenConstraint) (ps : List WrittenPart) → p.constraint ≡ inner → read_parts names kind (written.parts_of ps) ≡ (each (read_part names kind) ps >>= λ qs. Ok (parts_of qs))
     → read_parts names kind (written.part_before p.site p.name inner p.presence (written.parts_of ps)) ≡ (each (read_part names kind) (p ∷ ps) >>= λ qs. Ok (parts_of qs))

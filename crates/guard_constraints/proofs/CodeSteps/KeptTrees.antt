@@ -3,7 +3,7 @@ use Rattle.std.proofs.Common.{◌≡◌, ℕ, ◌+◌, ◌<◌, ◌≤◌, List,
 use Rattle.std.proofs.lemmas.List.{at_drop_more, at_drop_all}
 use Rattle.guard_model.specs.declared.site.Site.{Site}
 use Rattle.guard_syntax.specs.Trees as written
-use Rattle.guard_syntax.specs.Trees.{WrittenElementForm, WrittenSetForm, WrittenPart, WrittenConstraint, WrittenDifference, WrittenElement, WrittenIntersection, WrittenJoinedDifference, WrittenJoinedIntersection, WrittenSet, WrittenUnited, united_of, met_of, difference_of}
+use Rattle.guard_syntax.specs.Trees.{WrittenElementForm, WrittenSetForm, WrittenPart, WrittenConstraint, WrittenDifference, WrittenElement, WrittenIntersection, WrittenJoinedDifference, WrittenJoinedIntersection, WrittenSet, united_of, met_of, difference_of}
 use Rattle.guard_syntax.specs.SetViews.{site_of_element, site_of_difference, element_form_step, set_form_step, part_step, constraint_step, difference_step, element_step, intersection_step, joined_difference_step, joined_intersection_step, set_step, set_view, intersection_view, difference_view, joined_intersection_view, joined_difference_view, set_form_view}
 use Rattle.guard_syntax.specs.declared.tree.ElementForm.TheFolds.{fold_out-DifferenceTree, fold_out-ElementTree, fold_out-IntersectionTree, fold_out-JoinedIntersection, fold_out-JoinedDifference, fold_out-SetTree}
 use Rattle.guard_syntax.specs.declared.tree.ElementForm.TheViews.{out-DifferenceTree, out-ElementTree, out-IntersectionTree, out-JoinedIntersection, out-JoinedDifference, out-SetTree}

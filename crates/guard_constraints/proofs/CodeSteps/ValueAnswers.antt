@@ -21,15 +21,8 @@ use Rattle.guard_constraints.specs.inside.Reading.{of_value, read_value}
 use Rattle.guard_constraints.specs.Views.{named, fault_with}
 
 value_refused : {A : Type 0} (e : ValueFault) (r : Result A ValueFault) → Refuses (values.named e) r → Refuses (named (fault_with e)) (of_value r)
-value_refused (value_fault.WrongNotation s) r h = rw h refl
-value_refused (value_fault.UnknownName s) r h = rw h refl
-value_refused (value_fault.MissingComponent s) r h = rw h refl
-value_refused (value_fault.RepeatedComponent s) r h = rw h refl
-value_refused (value_fault.OutOfOrder s) r h = rw h refl
-value_refused (value_fault.BadCharacter s) r h = rw h refl
-value_refused (value_fault.BadObjectId s) r h = rw h refl
-value_refused (value_fault.TooLarge s) r h = rw h refl
 value_refused value_fault.OutOfMemory r h = tt
+value_refused e r h = rw h refl
 
 -- the value denoted is read
 pub value_given : (m : Meaning) (t : AbstractType) (tree : WrittenValue) → IsTrue (is_sound t) → (v : Arc Value Global) → Denotes m t tree (shared_view v) → read_value m t tree ≡ Ok (shared_view v)

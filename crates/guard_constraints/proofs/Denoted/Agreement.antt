@@ -5,7 +5,7 @@ use Rattle.std.specs.Option.{option_or}
 use Rattle.guard_model.specs.Answer.{◌>>=◌}
 use Rattle.guard_model.specs.AbstractType.{AbstractType}
 use Rattle.guard_values.specs.Meanings.{Meaning}
-use Rattle.guard_values.proofs.FirstFaults.HoldAtTheirSites.{one_first}
+use Rattle.guard_values.proofs.FirstFaults.WholeValues.{one_first}
 use Rattle.guard_constraints.specs.declared.fault.ConsFault.{ConsFault}
 use Rattle.guard_constraints.specs.Faults.{unless}
 use Rattle.guard_constraints.specs.FirstFault.{Check, element_has, value_under, HasFault, IsOfFirst}

@@ -142,6 +142,6 @@ mutual
       (two (read_parts names kind others) (λ more. Ok (type.part site h.0.place (option_map word_of presence) more)) h.1 qs (parts_said names kind others h.1 said h.3) (ap Ok (sym h.4)))
   parts_said names kind (part_in site name inner presence others) qs said h =
       there (UnknownComponent site) (named_in kind name)
-      (λ p. read names p.one.ty inner >>= λ c. read_parts names kind others >>= λ more. Ok (type.part_within site p.place c (option_map word_of presence) more)) h.0 qs h.3
-      (two (read names h.0.one.ty inner) (λ c. read_parts names kind others >>= λ more. Ok (type.part_within site h.0.place c (option_map word_of presence) more)) h.1 qs (denotes_read names h.0.one.ty inner h.1 said h.4)
+      (λ p. read names p.ty inner >>= λ c. read_parts names kind others >>= λ more. Ok (type.part_within site p.place c (option_map word_of presence) more)) h.0 qs h.3
+      (two (read names h.0.ty inner) (λ c. read_parts names kind others >>= λ more. Ok (type.part_within site h.0.place c (option_map word_of presence) more)) h.1 qs (denotes_read names h.0.ty inner h.1 said h.4)
       (two (read_parts names kind others) (λ more. Ok (type.part_within site h.0.place h.1 (option_map word_of presence) more)) h.2 qs (parts_said names kind others h.2 said h.5) (ap Ok (sym h.6))))

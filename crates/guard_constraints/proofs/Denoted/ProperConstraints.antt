@@ -1,14 +1,14 @@
 -- What a constraint tree denotes on a sound type may be on it.
-use Rattle.std.proofs.Common.{◌≡◌, ℕ, Bool, true, false, cond, List, Option, Some, None, refl, ap}
-use Rattle.std.specs.Prelude.{IsTrue, bytes_eq, not}
-use Rattle.std.specs.Option.{option_map, is_some}
+use Rattle.std.proofs.Common.{◌≡◌, ◌∙◌, ℕ, Bool, List, Option, Some, refl}
+use Rattle.std.specs.Prelude.{IsTrue, not}
+use Rattle.std.specs.Option.{is_some}
 use Rattle.std.proofs.lemmas.Bool.{and_from}
 use Rattle.guard_model.specs.declared.site.Site.{Site}
 use Rattle.guard_model.specs.AbstractType as type
-use Rattle.guard_model.specs.AbstractType.{AbstractType, AbstractKind, AbstractPresence, Components, Constraint, Constraints, Parts, no_components, component}
+use Rattle.guard_model.specs.AbstractType.{AbstractType, AbstractKind, Constraint, Constraints, Parts}
 use Rattle.guard_model.specs.AbstractValue.{AbstractValue}
-use Rattle.guard_model.specs.Components.{components_in, component_at}
-use Rattle.guard_model.specs.TypeView.{OneComponent}
+use Rattle.guard_model.specs.Components.{components_in}
+use Rattle.guard_tagcheck.proofs.PartsAt.{type_at_place}
 use Rattle.guard_der.specs.Der.{der}
 use Rattle.guard_der.specs.Fits.{fits}
 use Rattle.guard_der.specs.Sound.{is_sound, is_proper_constraint, are_proper_constraints, are_proper_parts}
@@ -18,32 +18,17 @@ use Rattle.guard_model.specs.SameType.{same_base}
 use Rattle.guard_syntax.specs.Trees as written
 use Rattle.guard_syntax.specs.Trees.{WrittenValue, WrittenSet, WrittenSetForm, WrittenUnited, WrittenIntersection, WrittenMet, WrittenDifference, WrittenElement, WrittenElementForm, WrittenConstraint, WrittenParts, set_node, all_except, union, none_united, united, intersection, none_met, met, element_alone, element_except, element_node, constraint, no_parts, part, part_in}
 use Rattle.guard_values.specs.Denotes as values
+use Rattle.guard_values.specs.Places.{Located}
+use Rattle.guard_values.proofs.Denoted.SettledFields.{located_type}
 use Rattle.guard_constraints.specs.Visible.{Visible}
-use Rattle.guard_constraints.specs.ListedParts.{Placed, further, component_named, named_in}
+use Rattle.guard_constraints.specs.ListedParts.{named_in}
 use Rattle.guard_constraints.specs.Denotes.{Denotes, SetDenotes, SetFormDenotes, UnitedDenote, IntersectionDenotes, MetDenote, DifferenceDenotes, ElementDenotes, FormDenotes, ListedDenote, joined}
 use Rattle.guard_constraints.proofs.Denoted.SoundParts.{size_sound, element_sound, component_sound}
 
 -- ---- components by their places
 
-abbrev first_there : List ℕ → AbstractType → AbstractPresence → Placed
-first_there other t presence = record { place = 0; one = record { name = other; ty = t; presence = presence } }
-
-named_here : (name other : List ℕ) (t : AbstractType) (presence : AbstractPresence) (rest : Components) (p : Placed) (b : Bool)
-    → ((q : Placed) → component_named name rest ≡ Some q → component_at q.place rest ≡ Some q.one)
-    → cond b (Some (first_there other t presence)) (option_map further (component_named name rest)) ≡ Some p
-    → component_at p.place (component other t presence rest) ≡ Some p.one
-named_here name other t presence rest p true after e = let same : first_there other t presence ≡ p = cc in rw (← same) refl
-named_here name other t presence rest p false after e = further_on (component_named name rest) refl e where
-  further_on : (found : Option Placed) → component_named name rest ≡ found → option_map further found ≡ Some p → component_at p.place (component other t presence rest) ≡ Some p.one
-  further_on None is f = absurd cc
-  further_on (Some q) is f = let same : further q ≡ p = cc in rw (← same) (after q is)
-
-named_at : (name : List ℕ) (cs : Components) (p : Placed) → component_named name cs ≡ Some p → component_at p.place cs ≡ Some p.one
-named_at name no_components p e = absurd cc
-named_at name (component other t presence rest) p e = named_here name other t presence rest p (bytes_eq name other) (λ q f. named_at name rest q f) e
-
-part_there : (kind : AbstractKind) (name : List ℕ) (p : Placed) → named_in kind name ≡ Some p → part_of p.place kind ≡ Some p.one.ty
-part_there kind name p e = ap (option_map (λ (c : OneComponent). c.ty)) (named_at name (components_in kind) p e)
+part_there : (kind : AbstractKind) (name : List ℕ) (p : Located) → named_in kind name ≡ Some p → part_of p.place kind ≡ Some p.ty
+part_there kind name p e = type_at_place (components_in kind) p.place ∙ located_type (components_in kind) name p e
 
 there_and : (test : AbstractType → Bool) (found : Option AbstractType) (u : AbstractType) → found ≡ Some u → IsTrue (test u) → IsTrue (is_there_and test found)
 there_and test found u e h = rw e h
@@ -114,8 +99,8 @@ module _ (names : Visible) (fit : (t : AbstractType) (tree : WrittenValue) (v : 
     parts_proper : (t : AbstractType) (ps : WrittenParts) (qs : Parts) → IsTrue (is_sound t) → ListedDenote names (kind_of t) ps qs → IsTrue (are_proper_parts qs t)
     parts_proper t no_parts qs sound h = rw h refl
     parts_proper t (part site name presence others) qs sound h =
-        rw h.4 (and_from (is_some (part_of h.0.place (kind_of t))) (are_proper_parts h.1 t) (is_there (part_of h.0.place (kind_of t)) h.0.one.ty (part_there (kind_of t) name h.0 h.2)) (parts_proper t others h.1 sound h.3))
+        rw h.4 (and_from (is_some (part_of h.0.place (kind_of t))) (are_proper_parts h.1 t) (is_there (part_of h.0.place (kind_of t)) h.0.ty (part_there (kind_of t) name h.0 h.2)) (parts_proper t others h.1 sound h.3))
     parts_proper t (part_in site name inner presence others) qs sound h =
         rw h.6 (and_from (is_there_and (is_proper_constraint h.1) (part_of h.0.place (kind_of t))) (are_proper_parts h.2 t)
-        (there_and (is_proper_constraint h.1) (part_of h.0.place (kind_of t)) h.0.one.ty (part_there (kind_of t) name h.0 h.3) (proper h.0.one.ty inner h.1 (component_sound t name h.0 sound h.3) h.4))
+        (there_and (is_proper_constraint h.1) (part_of h.0.place (kind_of t)) h.0.ty (part_there (kind_of t) name h.0 h.3) (proper h.0.ty inner h.1 (component_sound t name h.0 sound h.3) h.4))
         (parts_proper t others h.2 sound h.5))

@@ -1,21 +1,23 @@
 -- The elements and the components of a sound type are sound, and so is the type of a size.
-use Rattle.std.proofs.Common.{◌≡◌, ℕ, suc, ◌+◌, ◌≤◌, max, Bool, true, false, cond, ◌&&◌, List, length, Option, Some, None, refl, ap, subst, arith}
-use Rattle.std.specs.Prelude.{bytes_eq, nat_le, IsTrue}
-use Rattle.std.specs.Option.{option_map, option_or}
+use Rattle.std.proofs.Common.{◌≡◌, ℕ, zero, suc, ◌+◌, ◌≤◌, max, Bool, true, false, ◌&&◌, List, length, Option, Some, None, refl, subst, arith}
+use Rattle.std.specs.Prelude.{nat_le, IsTrue}
+use Rattle.std.specs.Option.{option_or}
 use Rattle.std.proofs.lemmas.Bool.{and_parts, and_from, leb-true, le-leb}
 use Rattle.guard_model.specs.declared.site.Step.{Step}
 use Rattle.guard_model.specs.declared.site.Step.TheVariants.{Component, Element}
 use Rattle.guard_model.specs.declared.tag.Tag.{Tag}
 use Rattle.guard_model.specs.AbstractType as type
-use Rattle.guard_model.specs.AbstractType.{AbstractType, AbstractPresence, Components, Constraints, type_of, no_components, component}
+use Rattle.guard_model.specs.AbstractType.{AbstractType, Components, Constraints, type_of, no_components, component}
 use Rattle.guard_model.specs.Components.{components_in}
 use Rattle.guard_model.specs.Counts.{component_count}
-use Rattle.guard_tagcheck.specs.Distinct.{AbstractClash}
+use Rattle.guard_tagcheck.specs.Distinct.{AbstractClash, component_type}
 use Rattle.guard_tagcheck.specs.Search.{first_clash, first_pair, here, inside, clash_inside}
 use Rattle.guard_tagcheck.specs.Limits.{nesting, deepest}
 use Rattle.guard_der.specs.Sound.{is_sound, is_proper, are_proper, is_proper_presence, none_clash}
 use Rattle.guard_model.specs.Kinds.{type_of_size, element_of, kind_of}
-use Rattle.guard_constraints.specs.ListedParts.{Placed, further, component_named, named_in}
+use Rattle.guard_values.specs.Places.{Located}
+use Rattle.guard_values.proofs.Denoted.SettledFields.{located_type}
+use Rattle.guard_constraints.specs.ListedParts.{named_in}
 
 pub size_sound : IsTrue (is_sound type_of_size)
 size_sound = refl
@@ -68,49 +70,35 @@ none_both : (a b : Option AbstractClash) → IsTrue (none_clash (option_or a b))
 none_both None b h = (refl, h)
 none_both (Some c) b h = absurd cc
 
-was_further : (there : Option Placed) (p : Placed) → option_map further there ≡ Some p → (q : Placed) × (there ≡ Some q) × (q.one.ty ≡ p.one.ty)
-was_further None p e = absurd cc
-was_further (Some q) p e = let same : further q ≡ p = cc in (q, refl, ap (λ (x : Placed). x.one.ty) same)
-
-same_type : (x p : Placed) → ◌≡◌ {A = Option Placed} (Some x) (Some p) → x.one.ty ≡ p.one.ty
-same_type x p e = let same : x ≡ p = cc in ap (λ (y : Placed). y.one.ty) same
-
-named_or_after : (i : ℕ) (name other : List ℕ) (t : AbstractType) (presence : AbstractPresence) (rest : Components) (p : Placed) (b : Bool) → EachSound i (component other t presence rest)
-    → ((q : Placed) → EachSound (suc i) rest → component_named name rest ≡ Some q → IsTrue (is_sound q.one.ty))
-    → cond b (Some (record { place = 0; one = record { name = other; ty = t; presence = presence } })) (option_map further (component_named name rest)) ≡ Some p → IsTrue (is_sound p.one.ty)
-named_or_after i name other t presence rest p true h after e =
-    let same : t ≡ p.one.ty = same_type (record { place = 0; one = record { name = other; ty = t; presence = presence } }) p e in
+-- the type of the component at a place
+type_sound : (cs : Components) (i k : ℕ) (u : AbstractType) → EachSound k cs → component_type i cs ≡ Some u → IsTrue (is_sound u)
+type_sound no_components i k u h e = absurd cc
+type_sound (component name t presence rest) zero k u h e =
+    let same : t ≡ u = cc in
     let a = and_parts (is_proper t && is_proper_presence t presence) (are_proper rest) h.0 in
-    let clash = none_both (inside (Component i) (first_clash t)) (clash_inside (suc i) rest) h.1 in
+    let clash = none_both (inside (Component k) (first_clash t)) (clash_inside (suc k) rest) h.1 in
     let depth = not_deeper (nesting t) (deepest rest) h.2 in
     let P : AbstractType → Type 0 = λ x. IsTrue (is_sound x) in
-    subst P same (sound_from t (and_parts (is_proper t) (is_proper_presence t presence) a.0).0 (clash_within (Component i) (first_clash t) clash.0) depth.0)
-named_or_after i name other t presence rest p false h after e =
-    let q = was_further (component_named name rest) p e in
+    subst P same (sound_from t (and_parts (is_proper t) (is_proper_presence t presence) a.0).0 (clash_within (Component k) (first_clash t) clash.0) depth.0)
+type_sound (component name t presence rest) (suc i) k u h e =
     let a = and_parts (is_proper t && is_proper_presence t presence) (are_proper rest) h.0 in
-    let clash = none_both (inside (Component i) (first_clash t)) (clash_inside (suc i) rest) h.1 in
+    let clash = none_both (inside (Component k) (first_clash t)) (clash_inside (suc k) rest) h.1 in
     let depth = not_deeper (nesting t) (deepest rest) h.2 in
-    let P : AbstractType → Type 0 = λ x. IsTrue (is_sound x) in
-    subst P q.2 (after q.0 (a.1, clash.1, depth.1) q.1)
+    type_sound rest i (suc k) u (a.1, clash.1, depth.1) e
 
-named_sound : (i : ℕ) (name : List ℕ) (cs : Components) (p : Placed) → EachSound i cs → component_named name cs ≡ Some p → IsTrue (is_sound p.one.ty)
-named_sound i name no_components p h e = absurd cc
-named_sound i name (component other t presence rest) p h e =
-    named_or_after i name other t presence rest p (bytes_eq name other) h (λ q k f. named_sound (suc i) name rest q k f) e
-
-pub component_sound : (t : AbstractType) (name : List ℕ) (p : Placed) → IsTrue (is_sound t) → named_in (kind_of t) name ≡ Some p → IsTrue (is_sound p.one.ty)
+pub component_sound : (t : AbstractType) (name : List ℕ) (p : Located) → IsTrue (is_sound t) → named_in (kind_of t) name ≡ Some p → IsTrue (is_sound p.ty)
 component_sound (type_of tags (type.sequence cs) cons) name p h e =
     let k = sound_parts (type_of tags (type.sequence cs) cons) h in
     let proper = (and_parts (nat_le (component_count cs) 64) (are_proper cs) (and_parts _ (nat_le (component_count cs) 64 && are_proper cs) k.0).1).1 in
-    named_sound 0 name cs p (proper, (none_both (here (first_pair true 0 cs)) (clash_inside 0 cs) k.1).1, after_tags (length tags) (deepest cs) k.2) e
+    type_sound cs p.place 0 p.ty (proper, (none_both (here (first_pair true 0 cs)) (clash_inside 0 cs) k.1).1, after_tags (length tags) (deepest cs) k.2) (located_type cs name p e)
 component_sound (type_of tags (type.set cs) cons) name p h e =
     let k = sound_parts (type_of tags (type.set cs) cons) h in
     let proper = (and_parts (nat_le (component_count cs) 64) (are_proper cs) (and_parts _ (nat_le (component_count cs) 64 && are_proper cs) k.0).1).1 in
-    named_sound 0 name cs p (proper, (none_both (here (first_pair false 0 cs)) (clash_inside 0 cs) k.1).1, after_tags (length tags) (deepest cs) k.2) e
+    type_sound cs p.place 0 p.ty (proper, (none_both (here (first_pair false 0 cs)) (clash_inside 0 cs) k.1).1, after_tags (length tags) (deepest cs) k.2) (located_type cs name p e)
 component_sound (type_of tags (type.choice cs) cons) name p h e =
     let k = sound_parts (type_of tags (type.choice cs) cons) h in
     let proper = (and_parts (nat_le (component_count cs) 64) (are_proper cs) (and_parts _ (nat_le (component_count cs) 64 && are_proper cs) k.0).1).1 in
-    named_sound 0 name cs p (proper, (none_both (here (first_pair false 0 cs)) (clash_inside 0 cs) k.1).1, after_choice (length tags) (deepest cs) k.2) e
+    type_sound cs p.place 0 p.ty (proper, (none_both (here (first_pair false 0 cs)) (clash_inside 0 cs) k.1).1, after_choice (length tags) (deepest cs) k.2) (located_type cs name p e)
 component_sound (type_of tags _ cons) name p h e = absurd cc
 
 -- ---- how many components there are

@@ -10,10 +10,11 @@ use Rattle.guard_der.specs.Sound.{is_sound}
 use Rattle.guard_model.specs.Kinds.{type_of_size, kind_of}
 use Rattle.guard_syntax.specs.Trees as written
 use Rattle.guard_syntax.specs.Trees.{WrittenSet, WrittenSetForm, WrittenUnited, WrittenIntersection, WrittenMet, WrittenDifference, WrittenElement, WrittenElementForm, WrittenConstraint, WrittenParts, set_node, all_except, union, none_united, united, intersection, none_met, met, element_alone, element_except, element_node, constraint, no_parts, part, part_in}
+use Rattle.guard_values.specs.Places.{Located}
 use Rattle.guard_constraints.specs.declared.fault.ConsFault.{ConsFault}
 use Rattle.guard_constraints.specs.declared.fault.ConsFault.TheVariants.{UnknownComponent}
 use Rattle.guard_constraints.specs.Visible.{Visible}
-use Rattle.guard_constraints.specs.ListedParts.{PartHead, Placed, heads, word_of, named_in, is_unknown, first_where}
+use Rattle.guard_constraints.specs.ListedParts.{PartHead, heads, word_of, named_in, is_unknown, first_where}
 use Rattle.guard_constraints.specs.PartFaults.{word_fault, repeated_fault, present_fault}
 use Rattle.guard_constraints.specs.Denotes.{ValueDenotes, Denotes, SetDenotes, SetFormDenotes, UnitedDenote, IntersectionDenotes, MetDenote, DifferenceDenotes, ElementDenotes, FormDenotes, ListedDenote, joined}
 use Rattle.guard_constraints.specs.Faults.{own_fault}
@@ -33,14 +34,14 @@ not_first test h hs false e none = (e, none)
 pub none_first : (test : PartHead → Bool) (h : PartHead) (hs : List PartHead) → first_where test (h ∷ hs) ≡ None → (test h ≡ false) × (first_where test hs ≡ None)
 none_first test h hs none = not_first test h hs (test h) refl none
 
-is_there : (fd : Option Placed) → is_none fd ≡ false → (p : Placed) × (fd ≡ Some p)
+is_there : (fd : Option Located) → is_none fd ≡ false → (p : Located) × (fd ≡ Some p)
 is_there None e = absurd cc
 is_there (Some p) e = (p, refl)
 
 found_then : {A B : Type 0} (fault : ConsFault) (fd : Option A) (x : A) (next : A → Read B) → fd ≡ Some x → (found fault fd >>= next) ≡ next x
 found_then fault fd x next e = rw e refl
 
-checks_there : (find : AbstractType → List Check) (fd : Option Placed) (p : Placed) → fd ≡ Some p → checks_on find (type_there fd) ≡ find p.one.ty
+checks_there : (find : AbstractType → List Check) (fd : Option Located) (p : Located) → fd ≡ Some p → checks_on find (type_there fd) ≡ find p.ty
 checks_there find fd p e = rw e refl
 
 -- where no part has a fault of its own each names a component
@@ -148,11 +149,11 @@ mutual
   parts_agree names t (part_in site name inner presence others) agree sound known =
       let k = none_first (is_unknown (kind_of t)) (record { site = site; name = name; presence = presence }) (heads others) known in
       let p = is_there (named_in (kind_of t) name) k.0 in
-      let next : Placed → Read Parts = λ p. read names p.one.ty inner >>= λ c. read_parts names (kind_of t) others >>= λ qs. Ok (type.part_within site p.place c (option_map word_of presence) qs) in
+      let next : Located → Read Parts = λ p. read names p.ty inner >>= λ c. read_parts names (kind_of t) others >>= λ qs. Ok (type.part_within site p.place c (option_map word_of presence) qs) in
       rw (found_then (UnknownComponent site) (named_in (kind_of t) name) p.0 next p.1, checks_there (λ u. checks names u inner) (named_in (kind_of t) name) p.0 p.1) (
-      then_agrees names.values (Denotes names p.0.one.ty inner) (ListedDenote names (kind_of t) (part_in site name inner presence others)) (read names p.0.one.ty inner)
-      (λ c. read_parts names (kind_of t) others >>= λ qs. Ok (type.part_within site p.0.place c (option_map word_of presence) qs)) (checks names p.0.one.ty inner) (part_checks names (kind_of t) others)
-      (agrees names p.0.one.ty inner agree (component_sound t name p.0 sound p.1))
+      then_agrees names.values (Denotes names p.0.ty inner) (ListedDenote names (kind_of t) (part_in site name inner presence others)) (read names p.0.ty inner)
+      (λ c. read_parts names (kind_of t) others >>= λ qs. Ok (type.part_within site p.0.place c (option_map word_of presence) qs)) (checks names p.0.ty inner) (part_checks names (kind_of t) others)
+      (agrees names p.0.ty inner agree (component_sound t name p.0 sound p.1))
       (λ c h. made_agrees names.values (ListedDenote names (kind_of t) others) (ListedDenote names (kind_of t) (part_in site name inner presence others)) (read_parts names (kind_of t) others)
       (λ qs. type.part_within site p.0.place c (option_map word_of presence) qs) (part_checks names (kind_of t) others)
       (parts_agree names t others agree sound k.1) (λ qs more. (p.0, c, qs, p.1, h, more, refl)))

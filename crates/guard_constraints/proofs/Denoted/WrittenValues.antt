@@ -18,7 +18,7 @@ use Rattle.guard_values.specs.inside.Reading.{read_whole}
 use Rattle.guard_values.specs.Views.{place_from, placed_type, types_from}
 use Rattle.guard_values.proofs.Denoted.DenotedIsRead.{says_read}
 use Rattle.guard_values.proofs.OneAnswer.FaultOrValue.{first_excludes}
-use Rattle.guard_values.proofs.FirstFaults.HoldAtTheirSites.{whole_denotes, whole_first}
+use Rattle.guard_values.proofs.FirstFaults.WholeValues.{whole_denotes, whole_first}
 use Rattle.guard_values.proofs.Fitting.DenotedValuesFit.{says_fits}
 use Rattle.guard_constraints.specs.FirstFault.{value_under}
 use Rattle.guard_constraints.specs.inside.Reading.{of_value}

@@ -17,6 +17,7 @@ use Rattle.guard_syntax.specs.Trees.{WrittenValue, WrittenEnd, WrittenRange, Wri
 use Rattle.guard_values.specs.declared.fault.ValueFault.{ValueFault}
 use Rattle.guard_values.specs.declared.fault.ValueFault.TheVariants.{WrongNotation}
 use Rattle.guard_values.specs.Meanings.{Meaning}
+use Rattle.guard_values.specs.Places.{Located}
 use Rattle.guard_values.specs.inside.Reading.{read_whole}
 use Rattle.guard_constraints.specs.declared.fault.ConsFault.{ConsFault}
 use Rattle.guard_constraints.specs.declared.fault.ConsFault.TheVariants.{NotApplicable, ExclusiveLimit, AlphabetForm, UnknownComponent, ContainedMismatch, Value}
@@ -123,8 +124,8 @@ read_listed t site partial ps listed =
     checked t site (heads ps) >>= λ _. listed (kind_of t) >>= λ qs. Ok (at site (type.with_components partial qs))
 
 -- where a part's name leads: its place, and the type there
-abbrev pub located : Site → AbstractKind → List ℕ → Read (ℕ × AbstractType)
-located site kind name = found (UnknownComponent site) (named_in kind name) >>= λ p. Ok (p.place, p.one.ty)
+abbrev pub located : Site → AbstractKind → List ℕ → Read Located
+located site kind name = found (UnknownComponent site) (named_in kind name)
 
 -- ---- all of it
 
@@ -180,7 +181,7 @@ unfoldable mutual
       found (UnknownComponent site) (named_in kind name) >>= λ p. read_parts names kind others
       >>= λ qs. Ok (type.part site p.place (option_map word_of presence) qs)
   read_parts names kind (part_in site name inner presence others) =
-      found (UnknownComponent site) (named_in kind name) >>= λ p. read names p.one.ty inner
+      found (UnknownComponent site) (named_in kind name) >>= λ p. read names p.ty inner
       >>= λ c. read_parts names kind others
       >>= λ qs. Ok (type.part_within site p.place c (option_map word_of presence) qs)
 
@@ -211,4 +212,4 @@ one_part p place within = record { site = p.site; place = place; within = within
 
 abbrev pub read_part : Visible → AbstractKind → WrittenPart → Read OnePart
 read_part names kind p =
-    located p.site kind p.name >>= λ x. read_within names x.1 p.constraint >>= λ within. Ok (one_part p x.0 within)
+    located p.site kind p.name >>= λ l. read_within names l.ty p.constraint >>= λ within. Ok (one_part p l.place within)

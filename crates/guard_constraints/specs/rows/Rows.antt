@@ -191,7 +191,7 @@ unfolding read read_set read_set_form read_united read_intersection read_met rea
     read_element_form
 parenthesis_first = refl
 
--- the same on BOOLEAN: C8 at the first
+-- on BOOLEAN it is C8 at the first
 other_base : IsFirstConstraintFault levels (tagged 1 type.boolean) met_levels (fault.ContainedMismatch (column 17))
 other_base = refl
 

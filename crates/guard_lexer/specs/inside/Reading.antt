@@ -12,6 +12,11 @@ use Rattle.guard_lexer.specs.declared.item.ItemKind.{ItemKind}
 use Rattle.guard_lexer.specs.declared.item.ItemKind.TheVariants as item
 use Rattle.guard_lexer.specs.declared.token.Mark.{Mark}
 
+-- what stands beside the first key that passes the test
+abbrev pub value_at : {A B : Type 0} → (A → Bool) → List (A × B) → Option B
+value_at test [] = None
+value_at test (entry ∷ entries) = if test entry.0 then Some entry.1 else value_at test entries
+
 -- how many octets at the front are of a word
 abbrev pub word_len : List ℕ → ℕ
 word_len [] = 0

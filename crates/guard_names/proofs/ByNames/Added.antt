@@ -194,10 +194,8 @@ module _ (ms more : List WrittenModule) (none : fault_of_names ms ≡ None) (non
           All-contains (IsFromThere (origin_there (declarations ms))) (declarations ms) _ (all_from (origin_there (declarations ms)) 0 ms (none_missing ms none)) d.1
 
       by : (o : Option Origin) → origin_there (declarations ms) (Some home) name ≡ o → number_of_origin (origin_there (declarations (ms ++ more))) name o ≡ number_of_origin (origin_there (declarations ms)) name o
-      by None e = refl
-      by (Some of_module) e = refl
       by (Some (imported_from from)) e = ap exported_number (same_there from (from_there from e) name)
-      by (Some (assigned_by number exports)) e = refl
+      by o e = refl
 
   -- in a module of the first, a name means what it means without the others
   pub means_as_before : (home name : List ℕ) → (m : WrittenModule) × Contains ms m × (m.name ≡ home) → (number : ℕ) → Means ms home name number ↔ Means (ms ++ more) home name number

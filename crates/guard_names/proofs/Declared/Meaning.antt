@@ -88,11 +88,8 @@ found_so ds h scope name site o is = never_before [] ds h is.0 (record { scope =
 -- ---- a definition and its name
 
 exported_so : (o : Option Origin) (number : ℕ) → exported_number o ≡ Some number → o ≡ Some (assigned_by number true)
-exported_so None number h = absurd cc
-exported_so (Some of_module) number h = absurd cc
-exported_so (Some (imported_from home)) number h = absurd cc
 exported_so (Some (assigned_by n true)) number h = ap (λ x. Some (assigned_by x true)) (same_Some n number h)
-exported_so (Some (assigned_by n false)) number h = absurd cc
+exported_so o number h = absurd cc
 
 module _ (ms : List WrittenModule) where
   abbrev origins : Origins

@@ -34,7 +34,7 @@ module _ {A B : Type 0} (found : B → Option Site) (view : A → B) (xs : List 
 pub none_found : {A B : Type 0} (found : B → Option Site) (view : A → B) (xs : List A) (i : ℕ) (total : Option Site) → length xs ≤ i → first_found found (map view (drop i xs)) ≡ total → total ≡ None
 none_found found view xs i total ends so_far = sym so_far ∙ at_drop_all (λ ys. first_found found (map view ys)) xs i ends
 
--- ---- the same of the first one that is so
+-- ---- the first one that is so
 
 where_front : (b : Bool) (s : Site) (rest : Option Site) → (if b then Some s else rest) ≡ option_or (if b then Some s else None) rest
 where_front true s rest = refl

@@ -48,7 +48,7 @@ pub accepted_is : (o : Option NameFault) → refused_with o ≡ Ok tt → o ≡ 
 accepted_is None h = refl
 accepted_is (Some g) h = absurd cc
 
--- none of these is a fault of recursion, or want of memory
+-- none of these is a fault of recursion, or says that memory ran out
 abbrev is_of_names : NameFault → Bool
 is_of_names (Duplicate s) = true
 is_of_names (Undefined s) = true

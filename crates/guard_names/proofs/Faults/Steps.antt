@@ -25,7 +25,7 @@ module _ (ms : List WrittenModule) (ds : List Declaration) (are : ds ≡ declara
       ap (λ x. refused_at Undefined (first_found (undefined_in x (definition_of x)) ms)) origins_are
       ∙ sym (then_last (refused_at Duplicate (duplicate ms)) (check_imports ms) (refused_at Undefined (undefined ms)) (ap (λ x. refused_at Duplicate (duplicate_after [] x)) (sym are) ∙ once) imports)
 
--- the same of the faults of imports
+-- of the faults of imports too the last step decides
 pub last_import_step : (ms : List WrittenModule) (ds : List Declaration) (t : Origins) → t ≡ origin_there (declarations ms) → ds ≡ declarations ms
     → refused_at NoModule (first_found (no_module_in t) ms) ≡ Ok tt → refused_at ImportNotDefined (not_defined_among t ds) ≡ Ok tt → refused_at NotExported (not_exported_among t ds) ≡ check_imports ms
 last_import_step ms ds t origins are first second =

@@ -1,4 +1,4 @@
--- By which numbers the code knows the modules of declarations.
+-- The numbers by which the code knows the modules of declarations.
 use Rattle.std.specs.Prelude.{◌≡◌, List, Option, Some, None}
 use Rattle.guard_syntax.specs.Trees.{WrittenModule}
 use Rattle.guard_names.specs.declared.declarations.Declaration.{Declaration}

@@ -108,6 +108,16 @@ read_number ps =
     read_digits minus (behind_if minus ps) >>= λ digits.
     Ok (record { site = site_at ps; minus = minus; digits = digits.0 }, digits.1)
 
+-- a number that has no sign
+unfoldable pub read_unsigned : Reader WrittenNumber
+read_unsigned ps =
+    read_spelling Number ps >>= λ digits. Ok (record { site = site_at ps; minus = false; digits = digits.0 }, digits.1)
+
+-- a number that may have a sign, or may not
+abbrev pub read_perhaps_signed : Bool → Reader WrittenNumber
+read_perhaps_signed true = read_number
+read_perhaps_signed false = read_unsigned
+
 unfoldable pub read_bare_arc : Reader WrittenArc
 read_bare_arc ps =
     read_spelling Number ps >>= λ number. Ok (record { site = site_at ps; name = None; number = number.0 }, number.1)

@@ -13,7 +13,7 @@ use Rattle.guard_syntax.specs.declared.tree.PlainType.TheVariants as plain_type
 use Rattle.guard_syntax.specs.declared.tree.Collection.{Collection}
 use Rattle.guard_syntax.specs.declared.tree.Collection.TheVariants as collection
 use Rattle.guard_syntax.specs.Trees.{WrittenNumber, WrittenValue, WrittenSet, WrittenConstraint, WrittenTag, WrittenNamed, WrittenItem, WrittenOfConstraint, WrittenPresence, mandatory, optional, default, WrittenType, type_node, WrittenBase, plain, numbers, named_bits, enumerated, structure, choice, of_type, named_type, WrittenComponentForm, named, components_of_type, WrittenComponent, components_of, WrittenAlternative, alternatives_of}
-use Rattle.guard_syntax.specs.inside.ReadTokens.{Placed, Reader, begins_with, behind, behind_if, site_at, too_deep, read_token, read_spelling, read_each, read_parted, read_number}
+use Rattle.guard_syntax.specs.inside.ReadTokens.{Placed, Reader, begins_with, behind, behind_if, site_at, too_deep, read_token, read_spelling, read_each, read_parted, read_number, read_unsigned}
 use Rattle.guard_syntax.specs.inside.ReadValues.{is_there, read_value}
 use Rattle.guard_syntax.specs.inside.ReadSets.{read_constraint, read_set}
 
@@ -56,36 +56,22 @@ begins_constraint ps = begins_with (Mark LeftParenthesis) ps
 -- ---- named numbers, named bits and items
 
 -- a number in parentheses
-unfoldable pub read_in_parentheses : Reader WrittenNumber
-read_in_parentheses ps = do
+unfoldable pub read_in_parentheses : Reader WrittenNumber → Reader WrittenNumber
+read_in_parentheses read ps = do
   opening ← read_token (Mark LeftParenthesis) ps
-  n ← read_number opening
+  n ← read opening
   closing ← read_token (Mark RightParenthesis) n.1
   Ok (n.0, closing)
 
-unfoldable pub read_named : Reader WrittenNamed
-read_named ps = do
+unfoldable pub read_named : Reader WrittenNumber → Reader WrittenNamed
+read_named read ps = do
   name ← read_spelling LowerName ps
-  n ← read_in_parentheses name.1
-  Ok (record { site = site_at ps; name = name.0; number = n.0 }, n.1)
-
--- a number without a sign in parentheses
-unfoldable pub read_bit_number : Reader WrittenNumber
-read_bit_number ps = do
-  opening ← read_token (Mark LeftParenthesis) ps
-  digits ← read_spelling Number opening
-  closing ← read_token (Mark RightParenthesis) digits.1
-  Ok (record { site = site_at opening; minus = false; digits = digits.0 }, closing)
-
-unfoldable pub read_bit : Reader WrittenNamed
-read_bit ps = do
-  name ← read_spelling LowerName ps
-  n ← read_bit_number name.1
+  n ← read_in_parentheses read name.1
   Ok (record { site = site_at ps; name = name.0; number = n.0 }, n.1)
 
 unfoldable pub read_item_number : Reader (Option WrittenNumber)
 read_item_number ps =
-    if begins_with (Mark LeftParenthesis) ps then (read_in_parentheses ps >>= λ n. Ok (Some n.0, n.1))
+    if begins_with (Mark LeftParenthesis) ps then (read_in_parentheses read_number ps >>= λ n. Ok (Some n.0, n.1))
     else Ok (None, ps)
 
 unfoldable pub read_item : Reader WrittenItem
@@ -94,12 +80,12 @@ read_item ps = do
   n ← read_item_number name.1
   Ok (record { site = site_at ps; name = name.0; number = n.0 }, n.1)
 
--- In braces what is named after INTEGER or BIT STRING. Where no brace follows there is none.
-unfoldable pub read_numbers : Reader WrittenNamed → Reader (List WrittenNamed)
+-- In braces the names with numbers after INTEGER or BIT STRING. Where no brace follows there is none.
+unfoldable pub read_numbers : Reader WrittenNumber → Reader (List WrittenNamed)
 read_numbers read ps =
     if begins_with (Mark LeftBrace) ps
-    then (read_parted read (length (behind ps)) (behind ps) >>= λ all. read_token (Mark RightBrace) all.1 >>= λ closing.
-    Ok (all.0, closing))
+    then (read_parted (read_named read) (length (behind ps)) (behind ps)
+    >>= λ all. read_token (Mark RightBrace) all.1 >>= λ closing. Ok (all.0, closing))
     else Ok ([], ps)
 
 -- after ENUMERATED
@@ -213,14 +199,14 @@ read_word_or_name ps = plain_or_name (single_word_at ps) ps
 -- after BIT
 unfoldable pub read_bit_string : Reader WrittenBase
 read_bit_string ps =
-    read_token (Reserved String) ps >>= λ rest. read_numbers read_bit rest >>= λ all. Ok (named_bits all.0, all.1)
+    read_token (Reserved String) ps >>= λ rest. read_numbers read_unsigned rest >>= λ all. Ok (named_bits all.0, all.1)
 
 -- a base with no type inside
 unfoldable pub read_simple : Reader WrittenBase
 read_simple ps =
     if begins_two_words ps then (read_two_words ps >>= λ p. Ok (plain p.0, p.1))
     else (if begins_with (Reserved Integer) ps
-    then (read_numbers read_named (behind ps) >>= λ all. Ok (numbers all.0, all.1))
+    then (read_numbers read_number (behind ps) >>= λ all. Ok (numbers all.0, all.1))
     else (if begins_with (Reserved Bit) ps then read_bit_string (behind ps)
     else (if begins_with (Reserved Enumerated) ps then (read_items (behind ps) >>= λ all. Ok (enumerated all.0, all.1))
     else (read_word_or_name ps))))

@@ -5,7 +5,7 @@ use Rattle.std.specs.Option.{option_and_then}
 use Rattle.std.proofs.lemmas.Option.{same_Some}
 use Rattle.guard_model.specs.AbstractType.{AbstractType}
 use Rattle.guard_model.specs.declared.site.Site.{Site}
-use Rattle.guard_syntax.specs.Trees.{WrittenType, type_node, WrittenBase, plain, numbers, named_bits, enumerated, structure, choice, of_type, named_type, WrittenModule}
+use Rattle.guard_syntax.specs.Trees.{WrittenType, type_node, WrittenBase, structure, choice, named_type, WrittenModule}
 use Rattle.guard_names.specs.Declarations.{Definition, definitions}
 use Rattle.guard_names.specs.Faults.{fault_of_names}
 use Rattle.guard_names.specs.Meanings.{Means, Uses, number_meant}
@@ -25,14 +25,9 @@ use Rattle.guard_tagging.proofs.Definitions.KnownNames.{known_in_type}
 
 module _ (around : Surroundings) where
   list_found : (base : WrittenBase) → IsAutomaticList around.tag_default base → is_automatic_base around base ≡ true
-  list_found (plain p) h = absurd h
-  list_found (numbers ns) h = absurd h
-  list_found (named_bits bs) h = absurd h
-  list_found (enumerated items) h = absurd h
   list_found (structure k cs) h = h
   list_found (choice others) h = h
-  list_found (of_type k cons t) h = absurd h
-  list_found (named_type site name) h = absurd h
+  list_found base h = absurd h
 
 defined : (ms : List WrittenModule) (number : ℕ) → Automatic ms number → slice_get (definitions ms) number ≡ None → ⊥
 defined ms number (as_list d is list) h = cc
@@ -76,16 +71,12 @@ module _ (ms : List WrittenModule) (none : fault_of_names ms ≡ None) (order : 
 
     base_right : (base : WrittenBase) → base_of d.assignment.ty ≡ base → is_automatic_base around base ≡ true
         → Automatic ms number
-    base_right (plain p) b h = absurd cc
-    base_right (numbers ns) b h = absurd cc
-    base_right (named_bits bs) b h = absurd cc
-    base_right (enumerated items) b h = absurd cc
     base_right (structure k cs) b h =
         as_list d is (subst (λ (x : WrittenBase). IsAutomaticList (tag_default_of d.home.tag_default) x) (sym b) h)
     base_right (choice others) b h =
         as_list d is (subst (λ (x : WrittenBase). IsAutomaticList (tag_default_of d.home.tag_default) x) (sym b) h)
-    base_right (of_type k cons t) b h = absurd cc
     base_right (named_type site name) b h = name_right site name b (around.meaning name) refl h
+    base_right base b h = absurd cc
 
     type_right : (t : WrittenType) → d.assignment.ty ≡ t → is_automatic around t ≡ true → Automatic ms number
     type_right (type_node site tags base cons) e h = base_right base (ap base_of e) h

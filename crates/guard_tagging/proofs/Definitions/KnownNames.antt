@@ -7,7 +7,7 @@ use Rattle.std.proofs.lemmas.Option.{same_Some, slice_get_within}
 use Rattle.guard_model.specs.AbstractType.{AbstractType}
 use Rattle.guard_model.proofs.Options.{option_or_none}
 use Rattle.std.specs.List.{flat_map}
-use Rattle.guard_syntax.specs.Trees.{WrittenType, type_node, WrittenBase, plain, numbers, named_bits, enumerated, structure, choice, of_type, named_type, WrittenComponents, no_components, component, components_from, WrittenAlternatives, no_alternatives, alternative, WrittenAssignment, WrittenModule}
+use Rattle.guard_syntax.specs.Trees.{WrittenType, type_node, WrittenBase, numbers, structure, choice, of_type, named_type, WrittenComponents, no_components, component, components_from, WrittenAlternatives, no_alternatives, alternative, WrittenAssignment, WrittenModule}
 use Rattle.guard_names.specs.declared.fault.NameFault.TheVariants.{Duplicate, Undefined, NoModule, NotExported, ImportNotDefined, TooManyModules}
 use Rattle.guard_names.specs.Declarations.{Definition, definitions, declarations, definition_of, origin_there, Origins, Numbers}
 use Rattle.guard_names.specs.Faults.{first_where, first_found, too_many, duplicate, no_module, not_defined, not_exported, is_type, is_undefined_mention, undefined_export_in, undefined_mention_in, undefined_in, undefined, fault_of_names}
@@ -115,14 +115,11 @@ module _ (around : Surroundings) where
         inside_known base (first_meant (in_base base) (flat_map in_constraint cons) h)
 
     inside_known : (base : WrittenBase) → AreMeant (in_base base) → IsKnownInside around base
-    inside_known (plain p) h = tt
-    inside_known (numbers ns) h = tt
-    inside_known (named_bits bs) h = tt
-    inside_known (enumerated items) h = tt
     inside_known (structure k cs) h = components_known cs h
     inside_known (choice others) h = others_known others h
     inside_known (of_type k cons t) h = type_known t (later_meant (in_of_constraint cons) (in_type t) h)
     inside_known (named_type site name) h = h.0 refl
+    inside_known base h = tt
 
     components_known : (cs : WrittenComponents) → AreMeant (in_components cs) → AreKnown around cs
     components_known no_components h = tt

@@ -17,7 +17,7 @@ use Rattle.guard_tagging.specs.declared.fault.TagFault.{TagFault}
 use Rattle.guard_tagging.specs.declared.fault.TagFault.TheVariants.{NumberTooLarge}
 use Rattle.guard_tagging.specs.Enumerations.{written_number, written_numbers, free_from, given_number, next_number, numbered_from, numbered, named_number}
 use Rattle.guard_tagging.specs.Faults as faults
-use Rattle.guard_tagging.specs.Faults.{Placed, fault_where, is_bit, first_outside, number_too_large}
+use Rattle.guard_tagging.specs.Faults.{fault_where, is_bit, first_outside, number_too_large}
 use Rattle.guard_tagging.specs.Named.{unless, allowed}
 use Rattle.guard_syntax.specs.Numbers.{signed, number_of}
 use Rattle.guard_tagging.specs.inside.ReadItems.{number_result, read_at, numbered_name, read_named, bits_fault, read_bits, own_number, option_list, read_written, read_number, read_numbered, read_items}

@@ -17,7 +17,7 @@ use Rattle.guard_syntax.specs.declared.tree.Collection.TheVariants as collection
 use Rattle.guard_syntax.specs.declared.tree.PlainType.{PlainType}
 use Rattle.guard_syntax.specs.declared.tree.PlainType.TheVariants as plain_type
 use Rattle.guard_syntax.specs.declared.tree.TagDefault.{TagDefault}
-use Rattle.guard_syntax.specs.Trees.{WrittenTag, WrittenConstraint, WrittenType, type_node, WrittenBase, plain, numbers, named_bits, enumerated, structure, choice, of_type, named_type, WrittenComponents, no_components, component, components_from, WrittenAlternatives, no_alternatives, alternative}
+use Rattle.guard_syntax.specs.Trees.{WrittenTag, WrittenConstraint, WrittenType, type_node, WrittenBase, plain, structure, choice, of_type, named_type, WrittenComponents, no_components, component, components_from, WrittenAlternatives, no_alternatives, alternative}
 use Rattle.guard_tagging.specs.declared.fault.TagFault.{TagFault}
 use Rattle.guard_tagging.specs.declared.fault.TagFault.TheVariants.{TooManyComponents, TooDeep, SchemaTooLarge}
 use Rattle.guard_tagging.specs.Faults.{fault_where, nodes, nodes_within, nodes_put_in, most_nodes, universal_tag, implicit_choice, tag_too_large, list_fault, number_fault, taken_fault, with_tag_there, own_fault, duplicate_name, component_names, alternative_names, fault_in, fault_in_parts, fault_in_components, fault_in_alternatives}
@@ -111,14 +111,7 @@ kept_parts (type_of tags kind cons) h = kept_inside kind (right (is_formed tags 
 plain_kept : (p : PlainType) → keeps_limits (type_of (universal (plain_number p))
     (plain_kind p) type.no_constraints) ≡ true
 plain_kept plain_type.Boolean = refl
-plain_kept plain_type.OctetString = refl
-plain_kept plain_type.Null = refl
-plain_kept plain_type.ObjectIdentifier = refl
-plain_kept plain_type.Utf8String = refl
-plain_kept plain_type.NumericString = refl
-plain_kept plain_type.PrintableString = refl
-plain_kept plain_type.Ia5String = refl
-plain_kept plain_type.VisibleString = refl
+plain_kept p = refl
 
 -- a list that isn't too long
 few_where : (automatic : Bool) (cs : Components) (names : Option TagFault) (site : Site)
@@ -191,9 +184,6 @@ mutual
       → fault_in_parts around before base ≡ None → list_fault around site base ≡ None
       → keeps_limits (denoted_base around base) ≡ true
   base_kept around meant before site (plain p) parts list = plain_kept p
-  base_kept around meant before site (numbers ns) parts list = refl
-  base_kept around meant before site (named_bits bs) parts list = refl
-  base_kept around meant before site (enumerated items) parts list = refl
   base_kept around meant before site (structure k cs) parts list =
       let automatic = is_automatic_list around.tag_default cs in
       structure_kept k (types.universal_tag (types.collection_number k))
@@ -211,6 +201,7 @@ mutual
       of_kept k (types.universal_tag (types.collection_number k)) (denoted around t)
       (type_kept around meant false before (before + nodes (denoted around t)) t parts)
   base_kept around meant before site (named_type at name) parts list = meant_kept (around.meaning name) (meant name)
+  base_kept around meant before site base parts list = refl
 
   components_kept : (around : Surroundings) → KeepLimits around
       → (k : Collection) (automatic : Bool) (before : ℕ) (cs : WrittenComponents)

@@ -37,14 +37,7 @@ read_as around counts own before t =
 
 plain_inside : (p : PlainType) → (nesting_inside (plain_kind p) ≡ 0) × (nodes_inside (plain_kind p) ≡ 0)
 plain_inside plain_type.Boolean = (refl, refl)
-plain_inside plain_type.OctetString = (refl, refl)
-plain_inside plain_type.Null = (refl, refl)
-plain_inside plain_type.ObjectIdentifier = (refl, refl)
-plain_inside plain_type.Utf8String = (refl, refl)
-plain_inside plain_type.NumericString = (refl, refl)
-plain_inside plain_type.PrintableString = (refl, refl)
-plain_inside plain_type.Ia5String = (refl, refl)
-plain_inside plain_type.VisibleString = (refl, refl)
+plain_inside p = (refl, refl)
 
 -- ---- names of types
 

@@ -7,7 +7,7 @@ use Rattle.std.proofs.lemmas.List.{map_push, take_all, take_more_set, drop-set-l
 use Rattle.guard_model.specs.Answer.{◌>>=◌, Refuses}
 use Rattle.guard_model.specs.AbstractType.{AbstractType, AbstractPresence, Components, no_components, component}
 use Rattle.guard_model.specs.AbstractValue as value
-use Rattle.guard_model.specs.AbstractValue.{AbstractValue, Fields, fields_of}
+use Rattle.guard_model.specs.AbstractValue.{AbstractValue, Fields}
 use Rattle.guard_model.specs.TypeView.{type_view, presence_view}
 use Rattle.guard_model.specs.ValueView.{field_view, fields_view}
 use Rattle.guard_model.specs.declared.value.Value.{Value}
@@ -18,13 +18,9 @@ use Rattle.guard_der.specs.Reading.{field_before}
 use Rattle.guard_values.specs.declared.fault.ValueFault.{ValueFault}
 use Rattle.guard_values.specs.inside.Reading.{settled, completed}
 use Rattle.guard_model.proofs.Components.{left, left_is, none_left}
+use Rattle.guard_der.proofs.Functions.ComponentLoop.{followed, followed_all}
 
 -- ---- what was settled before, and what is still settled
-
-abbrev pub followed : List (Option AbstractValue) → Fields → Fields
-followed [] fs = fs
-followed (None ∷ vs) fs = value.absent (followed vs fs)
-followed (Some v ∷ vs) fs = value.present v (followed vs fs)
 
 abbrev pub with_front : List (Option AbstractValue) → Result Fields ValueFault → Result Fields ValueFault
 with_front front read = read >>= λ fs. Ok (followed front fs)
@@ -34,11 +30,6 @@ followed_push [] None fs = refl
 followed_push [] (Some v) fs = refl
 followed_push (None ∷ vs) f fs = ap value.absent (followed_push vs f fs)
 followed_push (Some w ∷ vs) f fs = ap (value.present w) (followed_push vs f fs)
-
-followed_all : (front : List (Option AbstractValue)) → followed front value.no_fields ≡ fields_of front
-followed_all [] = refl
-followed_all (None ∷ vs) = ap value.absent (followed_all vs)
-followed_all (Some w ∷ vs) = ap (value.present w) (followed_all vs)
 
 regroup : (front : List (Option AbstractValue)) (f : Option AbstractValue) (read : Result Fields ValueFault) → with_front front (read >>= λ fs. Ok (field_before f fs)) ≡ with_front (front ++ f ∷ []) read
 regroup front f (Ok fs) = ap (λ (fs : Fields). Ok fs) (sym (followed_push front f fs))

@@ -24,7 +24,7 @@ use Rattle.guard_values.specs.inside.Reading.{Read, element_at, site_of, read, r
 use Rattle.guard_values.specs.Views.{named, shared_view}
 use Rattle.guard_values.proofs.Denoted.ReadIsDenoted.{read_said}
 use Rattle.guard_values.proofs.Fitting.DenotedValuesFit.{says_fits}
-use Rattle.guard_values.proofs.FirstFaults.HoldAtTheirSites.{whole_first, whole_holds, sorted_ok, whole_denotes, whole_denotes_none}
+use Rattle.guard_values.proofs.FirstFaults.WholeValues.{whole_first, whole_holds, sorted_ok, whole_denotes, whole_denotes_none}
 
 pub sound_proper : (t : AbstractType) → is_sound t ≡ true → is_proper t ≡ true
 sound_proper t sound = (and_parts (is_proper t) (has_distinct_tags t) (and_parts (is_proper t && has_distinct_tags t) (nat_le (nesting t) deepest_nesting) sound).0).0

@@ -23,8 +23,8 @@ use Rattle.guard_model.specs.Kinds.{kind_of}
 use Rattle.guard_values.specs.Places.{Located, located, entry_places, is_among, are_different}
 use Rattle.guard_values.specs.Arrangement.{are_short}
 use Rattle.guard_values.specs.Denotes.{alternatives_of, Says, FormSays, BracesDenote, ChosenDenotes, EntrySays, EntriesSay, Denotes}
-use Rattle.guard_values.specs.Faults.{entry_type, chosen_type, Somewhere, Inside, InEntry, HasLongEncoding}
-use Rattle.guard_values.specs.FirstFault.{fault_of, IsFirstFault}
+use Rattle.guard_values.specs.Faults.{entry_type, chosen_type, Somewhere, Inside, InEntry, HasLongEncoding, faults_of}
+use Rattle.guard_values.specs.FirstFault.{IsFirstFault}
 use Rattle.guard_values.specs.inside.Reading.{Read, read_whole}
 use Rattle.guard_values.specs.Views.{named}
 use Rattle.guard_values.proofs.Denoted.DenotedIsRead.{says_read, after_first, at_first, not_true, place_tells, or_second, ordered_differ}
@@ -32,7 +32,7 @@ use Rattle.guard_values.proofs.Denoted.SettledFields.{field_at, located_type, fi
 use Rattle.guard_values.proofs.Fitting.DenotedValuesFit.{proper_kind}
 use Rattle.guard_values.proofs.OneAnswer.LengthsInside.{Within, short_within, within_short, contents_within, alternative_is, AreWithin, items_within, FieldsWithin, sequence_within, set_within}
 use Rattle.guard_values.proofs.Braces.ProperComponents.{proper_there, choice_parts}
-use Rattle.guard_values.proofs.FirstFaults.HoldAtTheirSites.{whole_first, one_first, whole_denotes, denotes_whole}
+use Rattle.guard_values.proofs.FirstFaults.WholeValues.{not_there, whole_first, one_first, whole_denotes, denotes_whole}
 use Rattle.guard_values.proofs.FirstFaults.ReadingRefuses.{read_tells, Tells, IsLong}
 use Rattle.guard_values.proofs.OneAnswer.CodeAnswers.{sound_proper}
 
@@ -139,17 +139,12 @@ mutual
 
   none_inside : (m : Meaning) (form : WrittenValueForm) (t : AbstractType) (v : AbstractValue) → is_proper_kind (kind_of t) ≡ true → FormSays m t form v → Within 1048576 (contents_octets (kind_of t) v)
       → Inside (HasLongEncoding m) (kind_of t) form → ⊥
-  none_inside m (written.boolean b) t v proper says short h = absurd h
-  none_inside m written.null t v proper says short h = absurd h
-  none_inside m (written.integer n) t v proper says short h = absurd h
-  none_inside m (written.text k spelling) t v proper says short h = absurd h
-  none_inside m (written.reference name) t v proper says short h = absurd h
-  none_inside m (written.arcs arcs) t v proper says short h = absurd h
   none_inside m (written.chosen name tree) t v proper says short h =
       chosen_short m tree (λ u w p s within long. none_long m tree u w p s within long) (kind_of t) name v proper says short h.0 h.1 h.2
   none_inside m (written.list es) t v proper says short h =
       braces_short m es (λ kind u ws is p s within long. none_in_elements m es kind u ws is p s within long)
       (λ kind cs typed alone proper_ones different shorts long. none_in_entries m es kind cs typed alone proper_ones different shorts long) (kind_of t) v proper says short h
+  none_inside m form t v proper says short h = absurd h
 
   none_in_elements : (m : Meaning) (es : WrittenEntries) (kind : AbstractKind) (u : AbstractType) (ws : List AbstractValue) → entry_type kind None ≡ Some u → is_proper u ≡ true → EntriesSay m u es ws → AreWithin 1048576 u ws
       → InEntry (HasLongEncoding m) kind es → ⊥
@@ -175,13 +170,13 @@ mutual
 
 -- ---- the two answers
 
-says_faultless : (m : Meaning) (tree : WrittenValue) (t : AbstractType) (v : AbstractValue) → Says m t tree v → fault_of m t tree ≡ None
-says_faultless m tree t v h = subst (λ (r : Read AbstractValue). Tells (IsLong m true t tree) (fault_of m t tree) r) (says_read m tree t v h) (read_tells m true tree t)
+says_faultless : (m : Meaning) (tree : WrittenValue) (t : AbstractType) (v : AbstractValue) → Says m t tree v → faults_of m t tree ≡ []
+says_faultless m tree t v h = subst (λ (r : Read AbstractValue). Tells (IsLong m true t tree) (faults_of m t tree) r) (says_read m tree t v h) (read_tells m true tree t)
 
 -- Where a fault is the first, nothing is denoted.
 pub first_excludes : (m : Meaning) (tree : WrittenValue) (t : AbstractType) (f : ValueFault) (v : AbstractValue) → is_sound t ≡ true → IsFirstFault m t tree f → Denotes m t tree v → ⊥
-first_excludes m (value_node site form) t f v sound (inl h) d = let none = says_faultless m (value_node site form) t v d.0 in absurd cc
-first_excludes m (value_node site form) t f v sound (inr h) d = none_long m (value_node site form) t v (sound_proper t sound) d.0 (short_within (der t v) d.1) h.2.1
+first_excludes m tree t f v sound (inl h) d = not_there (faults_of m t tree) f h (says_faultless m tree t v d.0)
+first_excludes m (value_node site form) t f v sound (inr h) d = none_long m (value_node site form) t v (sound_proper t sound) d.0 (short_within (der t v) d.1) h.1.1
 
 first_read : (m : Meaning) (tree : WrittenValue) (t : AbstractType) (f : ValueFault) (r : Read AbstractValue) → is_sound t ≡ true → read_whole m t tree ≡ r → IsFirstFault m t tree f → r ≡ Err f
 first_read m tree t f (Ok v) sound is h = absurd (first_excludes m tree t f v sound h (whole_denotes m tree t v is))

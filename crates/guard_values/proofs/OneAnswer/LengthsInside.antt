@@ -130,11 +130,9 @@ FieldsWithin limit cs fs = (i : ℕ) (u : AbstractType) (v : AbstractValue) → 
 
 -- a default has one as short as any that is written
 default_within : (t : AbstractType) (presence : AbstractPresence) (v : AbstractValue) → is_proper_presence t presence ≡ true → is_left_out presence v ≡ true → Within 1048576 (der t v)
-default_within t type.mandatory v proper e = absurd cc
-default_within t type.optional v proper e = absurd cc
-default_within t type.pending v proper e = absurd cc
 default_within t (type.default d) v proper e =
     subst (λ x. Within 1048576 (der t x)) (equal_values d v e) (short_within (der t d) (and_parts (fits t d) (is_short (der t d)) proper).1)
+default_within t presence v proper e = absurd cc
 
 record FirstPart (t : AbstractType) (v : AbstractValue) (later : Option (List Part)) : Type 0 where
   first : Within 1048576 (der t v)

@@ -14,7 +14,7 @@ use Rattle.guard_values.specs.Strings.{quoted}
 use Rattle.guard_values.specs.Simple.{bits_value, text_value}
 use Rattle.guard_values.specs.NamedBits.{ones_at, places_named}
 use Rattle.guard_values.specs.declared.fault.ValueFault.TheVariants.{WrongNotation, UnknownName, TooLarge}
-use Rattle.guard_values.specs.FirstFault.{fault_of}
+use Rattle.guard_values.specs.Faults.{faults_of}
 use Rattle.guard_values.specs.inside.Reading.{read, read_whole}
 
 -- one bit for OCTET STRING is filled with zero bits after that one
@@ -90,16 +90,16 @@ unfolding read here number integers set_of_integers fewest signed_octets identif
 ascending = refl
 
 -- a chosen value is no INTEGER, whatever its name
-other_form : fault_of (λ name. None) integers (value_node here (written.chosen (codes "a") (number false (codes "5"))))
-    ≡ Some (WrongNotation here)
+other_form : faults_of (λ name. None) integers (value_node here (written.chosen (codes "a") (number false (codes "5"))))
+    ≡ WrongNotation here ∷ []
 unfolding here number integers
 other_form = refl
 
 -- 2^127 is too large, and it is written before TRUE
-written_first : fault_of (λ name. None) set_of_integers
+written_first : faults_of (λ name. None) set_of_integers
     (value_node here (written.list
     (entry here None (number false (codes "170141183460469231731687303715884105728"))
-    (entry here None (value_node here (written.boolean true)) no_entries)))) ≡ Some (TooLarge here)
+    (entry here None (value_node here (written.boolean true)) no_entries)))) ≡ TooLarge here ∷ WrongNotation here ∷ []
 unfolding here number integers set_of_integers
 written_first = refl
 
@@ -115,20 +115,20 @@ two_places : places_named rights (name_entry (codes "run") (name_entry (codes "r
 unfolding rights name_entry
 two_places = refl
 
-other_name : fault_of (λ name. None) rights_type
+other_name : faults_of (λ name. None) rights_type
     (value_node here (written.list (name_entry (codes "read") (name_entry (codes "exec") no_entries))))
-    ≡ Some (UnknownName here)
+    ≡ UnknownName here ∷ []
 unfolding rights name_entry rights_type here
 other_name = refl
 
-no_name : fault_of (λ name. None) rights_type
-    (value_node here (written.list (entry here None (number false (codes "1")) no_entries))) ≡ Some (WrongNotation here)
+no_name : faults_of (λ name. None) rights_type
+    (value_node here (written.list (entry here None (number false (codes "1")) no_entries))) ≡ WrongNotation here ∷ []
 unfolding rights number rights_type here
 no_name = refl
 
 -- braces aren't taken where no bit is named
-no_list : fault_of (λ name. None)
+no_list : faults_of (λ name. None)
     (type_of (record { class = Universal; number = 3 } ∷ []) (type.bit_string []) type.no_constraints)
-    (value_node here (written.list no_entries)) ≡ Some (WrongNotation here)
+    (value_node here (written.list no_entries)) ≡ WrongNotation here ∷ []
 unfolding here
 no_list = refl

@@ -1,5 +1,5 @@
-use Rattle.std.proofs.Common.{Result, Ok, Err, List, map, sym, subst}
-use Rattle.std.specs.Prelude.{All, OnOk}
+use Rattle.std.proofs.Common.{List, map, sym, subst}
+use Rattle.std.specs.Prelude.{All}
 use Rattle.std.proofs.lemmas.List.Elements.{All-push}
 use Rattle.guard_syntax.specs.ModuleViews.{module_view}
 use Rattle.guard_names.specs.declared.declarations.Declaration.{Declaration}

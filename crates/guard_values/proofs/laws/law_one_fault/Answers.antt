@@ -1,7 +1,7 @@
 use Rattle.guard_model.specs.TypeView.{type_view}
 use Rattle.guard_syntax.specs.Views as trees
 use Rattle.guard_values.specs.Views.{visible_from}
-use Rattle.guard_values.proofs.FirstFaults.HoldAtTheirSites.{one_first}
+use Rattle.guard_values.proofs.FirstFaults.WholeValues.{one_first}
 use Rattle.guard_values.proofs.laws.law_one_fault.Goals as goal
 
 pub returns : goal.returns

@@ -1,4 +1,4 @@
-use Rattle.std.proofs.Common.{map, sym, ◌∙◌}
+use Rattle.std.proofs.Common.{map, sym}
 use Rattle.std.proofs.lemmas.List.Elements.{All-get_or}
 use Rattle.guard_syntax.specs.ModuleViews.{module_view}
 use Rattle.guard_names.specs.TableViews.{origin_in}

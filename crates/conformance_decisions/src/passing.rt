@@ -1,9 +1,9 @@
-//! `Policy::passes` and `Policy::passes_as_given` beside `Policy::verdict`.
+//! `Policy::passes`, `passes_as_given` and `passes_as_last` beside `Policy::verdict`.
 use crate::verdicts::cut;
 use conformance_rows::{Compared, Judges, Subject, octets_in, text_of, texts_of};
 use guard_frames::load_texts;
 use guard_model::OutOfMemory;
-use guard_policy::{Policy, Route, Verdict};
+use guard_policy::{LastRoute, Policy, Route, Verdict};
 use std::alloc::{AllocError, Global};
 
 /// A route under a policy.
@@ -18,8 +18,8 @@ struct Passing<'a> {
 }
 
 impl Judges for Passing<'_> {
-    /// Whether `passes` is true exactly where the verdict is to pass, and `passes_as_given` answers the same where some
-    /// rule gives the route, and else none.
+    /// Whether `passes` is true exactly where the verdict is to pass, and `passes_as_given` and `passes_as_last` answer
+    /// so where some rule gives the route, and else none.
     fn agree(&self, alloc: Global, octets: &[u8]) -> Result<bool, AllocError> {
         match self.policy.verdict(alloc, &self.route, octets) {
             Ok(verdict) => {
@@ -27,11 +27,23 @@ impl Judges for Passing<'_> {
                 let as_given = if self.is_given { Some(is_pass) } else { None };
                 Ok(
                     self.policy.passes(&self.route, octets) == is_pass
-                        && self.policy.passes_as_given(self.names, octets) == as_given,
+                        && self.policy.passes_as_given(self.names, octets) == as_given
+                        && self.as_last(alloc, octets)? == as_given,
                 )
             }
             Err(OutOfMemory) => Err(AllocError),
         }
+    }
+}
+
+impl Passing<'_> {
+    /// What `passes_as_last` says of a frame's body, where the route was found before.
+    fn as_last(&self, alloc: Global, octets: &[u8]) -> Result<Option<bool>, AllocError> {
+        let mut last = LastRoute::none();
+        self.policy.passes_and_found(self.names, octets, &mut last);
+        let mut body = Vec::from_slice(alloc, self.names)?;
+        body.extend_from_slice(octets)?;
+        Ok(self.policy.passes_as_last(last, &body))
     }
 }
 

@@ -28,20 +28,20 @@ schema_refused modules text (schema_fault.Lex f) h = h
 schema_refused modules text (schema_fault.Syntax f) h = h
 schema_refused modules text (schema_fault.Name f) h = h
 schema_refused modules text (schema_fault.Tag f) h = h
-schema_refused modules text (schema_fault.Clash site c) h = h
+schema_refused modules text (schema_fault.Clash site c common) h = h
 schema_refused modules text (schema_fault.Cons f) h = h
 schema_refused modules text (schema_fault.Value f) h = h
 schema_refused modules text (schema_fault.DefaultOutside site) h = h
 schema_refused modules text (schema_fault.TooLarge site) h = h
 
--- where they denote a schema, a refusal is want of memory
+-- where they denote a schema, a refusal is that memory ran out
 pub schema_there : (s : AbstractSchema) (p : AbstractPolicy) (f : SchemaFault) → Refuses (schema.named f) (Ok s) → Refuses (named (of_schema f)) (Ok p)
 schema_there s p schema_fault.OutOfMemory h = tt
 schema_there s p (schema_fault.Lex f) h = absurd cc
 schema_there s p (schema_fault.Syntax f) h = absurd cc
 schema_there s p (schema_fault.Name f) h = absurd cc
 schema_there s p (schema_fault.Tag f) h = absurd cc
-schema_there s p (schema_fault.Clash site c) h = absurd cc
+schema_there s p (schema_fault.Clash site c common) h = absurd cc
 schema_there s p (schema_fault.Cons f) h = absurd cc
 schema_there s p (schema_fault.Value f) h = absurd cc
 schema_there s p (schema_fault.DefaultOutside site) h = absurd cc
@@ -72,7 +72,7 @@ policy_refused modules text s accepted (policy_fault.NoSuchMessage place) h = (s
 policy_refused modules text s accepted (policy_fault.BadEffect place) h = (s, accepted, h)
 policy_refused modules text s accepted (policy_fault.Table number fault) h = (s, accepted, h)
 
--- where it says a policy, a refusal is want of memory
+-- where it says a policy, a refusal is that memory ran out
 pub policy_there : (text : List ℕ) (s : AbstractTypes) (p : AbstractPolicy) → Loads text s p → (f : PolicyFault)
     → IfSome (policy.named f) (policy_text.IsRefused text s) → Refuses (named (of_policy f)) (Ok p)
 policy_there text s p said policy_fault.OutOfMemory h = tt

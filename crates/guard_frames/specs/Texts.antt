@@ -37,7 +37,7 @@ named (Policy f) = Some (Policy f)
 named (Run f) = Some (Run f)
 named OutOfMemory = None
 
--- ---- want of memory has one name, whoever ran out of it
+-- ---- that memory ran out has one name, whoever ran out of it
 
 abbrev pub of_schema : SchemaFault → TextsFault
 of_schema schema_fault.OutOfMemory = OutOfMemory
@@ -45,7 +45,7 @@ of_schema (schema_fault.Lex f) = Schema (schema_fault.Lex f)
 of_schema (schema_fault.Syntax f) = Schema (schema_fault.Syntax f)
 of_schema (schema_fault.Name f) = Schema (schema_fault.Name f)
 of_schema (schema_fault.Tag f) = Schema (schema_fault.Tag f)
-of_schema (schema_fault.Clash site c) = Schema (schema_fault.Clash site c)
+of_schema (schema_fault.Clash site c common) = Schema (schema_fault.Clash site c common)
 of_schema (schema_fault.Cons f) = Schema (schema_fault.Cons f)
 of_schema (schema_fault.Value f) = Schema (schema_fault.Value f)
 of_schema (schema_fault.DefaultOutside site) = Schema (schema_fault.DefaultOutside site)

@@ -15,6 +15,7 @@ use crate::devices::{Failed, Sink, put_all};
 use crate::header::read_body;
 use crate::report::{Ruling, judge, put_report};
 use crate::short_line::{ShortLine, add};
+use guard_policy::LastRoute;
 use itoa::Buffer;
 use std::alloc::Global;
 
@@ -44,7 +45,7 @@ pub fn answer<D: Decide, S: Sink>(
     ensures lines { AsksLines (S.asked answers.old) (S.asked answers.new) }
 {
     let frame = frame_of(frame);
-    match judge(alloc, policy, number, &frame) {
+    match judge(alloc, policy, number, &frame, &mut LastRoute::none()) {
         Ruling::Goes => {
             let Some(body) = read_body(frame.body) else {
                 unreachable!()

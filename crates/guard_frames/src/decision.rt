@@ -7,6 +7,7 @@ ghost use Rattle.guard_frames.specs.Outcomes.{Decision, BodyGoes};
 
 use crate::body::Body;
 use guard_model::OutOfMemory;
+use guard_policy::LastRoute;
 use std::alloc::Global;
 
 /// Decides which bodies go.
@@ -15,12 +16,13 @@ pub trait Decide {
     ghost decides: { Self → Decision };
 
     /// Whether a frame goes, by all of it that follows its four octets of length: they are three names and a message,
-    /// and this body is decided to go. It takes no memory.
-    fn goes(&self, body: &[u8]) -> bool
+    /// and this body is decided to go. It takes no memory. Where its route was found may be kept in `last`, and looked at
+    /// there for the next frame; it changes no answer.
+    fn goes(&self, body: &[u8], last: &mut LastRoute) -> bool
         ensures { IsTrue result ↔ BodyGoes (decides self.now) body.now };
 
     /// The report line of the frame of this number, with its line feed, where its header is good and the frame stays.
-    /// Its one refusal is want of memory.
+    /// It fails only where memory runs out.
     fn line(&self, alloc: Global, number: u64, body: &Body) -> Result<Vec<u8>, OutOfMemory>
         requires names { HasNames (body_view body.now) }
         requires stays { (decides self.now).Goes (body_view body.now) → ⊥ }

@@ -33,7 +33,7 @@ pub fn run<S: Source, O: Sink, R: Sink>(
     ensures failed { IsErrOf result WriteFailed → (O.has_failed out.new ≡ true) ⊎ (R.has_failed reports.new ≡ true) }
     ensures unread { IsErrOf result ReadFailed → (S.has_failed source.new ≡ true)
         ⊎ ReadToLimit (S.takes source.old) (S.takes source.new) (S.tells source.old) (S.tells source.new) }
-    // and want of memory before anything is done.
+    // and where memory runs out before anything is done.
     ensures untouched { IsErrOf result NoMemory →
         (source.new ≡ source.old) × (out.new ≡ out.old) × (reports.new ≡ reports.old) }
     // Each report line goes in one call.

@@ -1,30 +1,26 @@
 //! A policy decides which bodies go: those whose message goes.
 
-ghost use Rattle.std.specs.Prelude.{◌≡◌};
+ghost use Rattle.std.specs.Prelude.{◌≡◌, ◌↔◌, IsTrue};
 ghost use Rattle.guard_policy.specs.PolicyView.{policy_view, route_view};
 ghost use Rattle.guard_frames.specs.Bodies.{body_view};
 ghost use Rattle.guard_frames.specs.OfPolicy.{route_of, decision_of};
+ghost use Rattle.guard_frames.specs.Outcomes.{BodyGoes};
 
 use crate::body::Body;
 use crate::decision::Decide;
 use crate::header::{cut_body, has_names};
 use guard_model::OutOfMemory;
-use guard_policy::{Policy, Route};
+use guard_policy::{LastRoute, Policy, Route};
 use guard_report::line;
 use std::alloc::Global;
 
 impl Decide for Policy {
     ghost decides = { λ policy. decision_of (policy_view policy) };
 
-    fn goes(&self, octets: &[u8]) -> bool {
-        let Some(body) = cut_body(octets) else {
-            return false;
-        };
-        let names = &octets[..octets.len() - body.message.len()];
-        match self.passes_as_given(names, body.message) {
+    fn goes(&self, octets: &[u8], last: &mut LastRoute) -> bool {
+        match self.passes_as_last(*last, octets) {
             Some(goes) => goes,
-            None if has_names(&body) => self.passes(&route_of(&body), body.message),
-            None => false,
+            None => goes_as_read(self, octets, last),
         }
     }
 
@@ -32,6 +28,21 @@ impl Decide for Policy {
         let route = route_of(body);
         let verdict = self.verdict(alloc, &route, body.message)?;
         line(alloc, number, &route, &verdict, self)
+    }
+}
+
+/// Whether a frame goes, whose names are read and looked up.
+fn goes_as_read(policy: &Policy, octets: &[u8], last: &mut LastRoute) -> bool
+    ensures { IsTrue result ↔ BodyGoes (decision_of (policy_view policy.now)) octets.now }
+{
+    let Some(body) = cut_body(octets) else {
+        return false;
+    };
+    let names = &octets[..octets.len() - body.message.len()];
+    match policy.passes_and_found(names, body.message, last) {
+        Some(goes) => goes,
+        None if has_names(&body) => policy.passes(&route_of(&body), body.message),
+        None => false,
     }
 }
 

@@ -12,6 +12,7 @@ use crate::decision::Decide;
 use crate::devices::{Failed, Sink, put_all};
 use crate::report::{Ruling, judge, put_report};
 use crate::totals::Totals;
+use guard_policy::LastRoute;
 use std::alloc::Global;
 
 /// How far the whole frames of some octets reach.
@@ -27,6 +28,7 @@ pub struct Whole {
 
 /// Decides the whole frames at the front of the octets, counted on from `totals`, and puts each one that goes, or the
 /// report of one that stays. Frames that go side by side are put in one call, before the report of a frame after them.
+/// Most frames have the route of the frame before, so each is compared with it first.
 pub fn put_frames<D: Decide, O: Sink, R: Sink>(
     alloc: Global,
     policy: &D,
@@ -47,6 +49,7 @@ pub fn put_frames<D: Decide, O: Sink, R: Sink>(
     let mut totals = totals;
     let mut sent = 0;
     let mut end = 0;
+    let mut last = LastRoute::none();
     loop {
         let frame = match first_cut(&octets[end..]) {
             Cut::Frame(frame) => frame,
@@ -56,7 +59,7 @@ pub fn put_frames<D: Decide, O: Sink, R: Sink>(
             }
         };
         let number = totals.next_number();
-        match judge(alloc, policy, number, &frame) {
+        match judge(alloc, policy, number, &frame, &mut last) {
             Ruling::Goes => {
                 end += frame.octets.len();
                 totals = totals.after_going();

@@ -13,6 +13,7 @@ use crate::decision::Decide;
 use crate::devices::{Failed, Sink, put_all};
 use crate::header::read_body;
 use crate::short_line::{ShortLine, add};
+use guard_policy::LastRoute;
 use itoa::Buffer;
 use std::alloc::Global;
 
@@ -37,12 +38,18 @@ pub(crate) enum Report {
 }
 
 /// What becomes of the frame of this number. No memory is taken for one that goes.
-pub(crate) fn judge<D: Decide>(alloc: Global, policy: &D, number: u64, frame: &Frame) -> Ruling
+pub(crate) fn judge<D: Decide>(
+    alloc: Global,
+    policy: &D,
+    number: u64,
+    frame: &Frame,
+    last: &mut LastRoute,
+) -> Ruling
     requires { frame.now.body.now ≡ drop 4 frame.now.octets.now }
     ensures judged { IsJudged (D.decides policy.now) number frame.now.octets.now result }
     ensures ends { RulingEnds result }
 {
-    if policy.goes(frame.body) {
+    if policy.goes(frame.body, last) {
         return Ruling::Goes;
     }
     match read_body(frame.body) {

@@ -1,5 +1,5 @@
 -- What the marks of a table say by a route's rules is what the rules say of the value.
-use Rattle.std.proofs.Common.{◌≡◌, ◌≢◌, ℕ, zero, suc, ◌+◌, List, [], ◌∷◌, map, slice_get, Bool, true, false, ◌&&◌, ◌||◌, not, cond, ◌↔◌, Option, Some, option_map, string_bytes, All, refl, ap, sym, ◌∙◌, subst, inl, inr}
+use Rattle.std.proofs.Common.{◌≡◌, ℕ, zero, suc, ◌+◌, List, [], ◌∷◌, map, slice_get, Bool, true, false, ◌&&◌, ◌||◌, not, cond, ◌↔◌, Option, None, Some, option_map, string_bytes, All, refl, ap, sym, ◌∙◌, subst, arith, inl, inr}
 use Rattle.std.specs.Prelude.{IsTrue, bytes_eq}
 use Rattle.std.proofs.lemmas.Bool.{false≢true}
 use Rattle.std.specs.List.{list_any, list_all}
@@ -24,18 +24,19 @@ use Rattle.guard_policy.specs.declared.policy.Effect.{Effect}
 use Rattle.guard_policy.specs.declared.policy.Effect.TheVariants.{Allow, Deny}
 use Rattle.guard_policy.specs.declared.routing.RouteRules.{RouteRules}
 use Rattle.guard_policy.specs.declared.routing.Routing.{Routing}
-use Rattle.guard_policy.specs.Decisions.{NumberedRule, speaks_of, speaking, is_allowing, allows, denies, rules_of as route_rules, Goes, IsReason}
-use Rattle.guard_policy.specs.Verdicts.{no_rule}
+use Rattle.guard_policy.specs.Decisions.{NumberedRule, speaks_of, speaking, is_allowing, allows, denies, first_denying, judged, rules_of as route_rules, Goes, IsReason}
+use Rattle.guard_policy.specs.Verdicts.{AbstractVerdict}
 use Rattle.guard_policy.specs.KeptView.{kept_message_view}
 use Rattle.guard_policy.specs.Names.{is_meant}
 use Rattle.guard_policy.specs.PolicyView.{policy_view}
 use Rattle.guard_policy.specs.Policies.{AbstractPolicy, AbstractMessage, AbstractRule, AbstractRoute, declared_type, declared_among}
 use Rattle.guard_policy.specs.inside.Keeping.{IsFirst}
-use Rattle.guard_policy.specs.inside.Passing.{LetsGo, AreMarks, EncodeNothing, IsAnswer, AreMarkedUndenied}
+use Rattle.guard_policy.specs.inside.Listings.{numbers_for}
+use Rattle.guard_policy.specs.inside.Passing.{LetsGo, AreMarks, EncodeNothing, IsAnswer, IsMarked, first_in}
 use Rattle.guard_policy.specs.inside.Routing.{rules_named, slots_where, has_effect, common, speaking_slots, slots_for, route_rules as rules_on, IsRouting, IsRouted}
 use Rattle.guard_policy.specs.inside.KeptRules.{messages_kept, rules_kept}
 use Rattle.guard_policy.proofs.Applicable.{declared_sound}
-use Rattle.guard_policy.proofs.Goes.{judged_undenied, none_allows, nothing_allows}
+use Rattle.guard_policy.proofs.Goes.{judged_denied, judged_undenied, none_allows, nothing_allows}
 use Rattle.guard_policy.proofs.Keeping.{first_named}
 use Rattle.guard_policy.proofs.Listed.{speaks_not, with_numbers, declared_pair}
 use Rattle.guard_policy.proofs.RuleSlots.{Says, true_at, any, says_slots, common_says, both_mapped, filled, empty, filled_any, empty_any, any_mapped}
@@ -139,6 +140,50 @@ is_false : (b : Bool) → not b ≡ true → b ≡ false
 is_false true e = absurd cc
 is_false false e = refl
 
+-- ---- the first rule that denies
+
+-- the first number at whose place the list is true
+abbrev first_true : List Bool → List ℕ → Option ℕ
+first_true [] ns = None
+first_true (b ∷ bs) [] = None
+first_true (b ∷ bs) (n ∷ ns) = cond b (Some n) (first_true bs ns)
+
+none_in : (m : Slots) (k : ℕ) (ns : List ℕ) → ((n slot : ℕ) → slot ≡ n + k → has m slot ≡ false) → first_in m k ns ≡ None
+none_in m k [] shows = refl
+none_in m k (n ∷ ns) shows =
+    ap (λ b. cond b (Some n) (first_in m (suc k) ns)) (shows 0 k (omega arith)) ∙ none_in m (suc k) ns (λ n slot e. shows (suc n) slot (omega (arith, e)))
+
+first_place : (m : Slots) (k : ℕ) (bs : List Bool) (ns : List ℕ) → ((n slot : ℕ) → slot ≡ n + k → has m slot ≡ true_at bs n) → first_in m k ns ≡ first_true bs ns
+first_place m k [] ns shows = none_in m k ns shows
+first_place m k (b ∷ bs) [] shows = refl
+first_place m k (b ∷ bs) (n ∷ ns) shows =
+    ap (λ c. cond c (Some n) (first_in m (suc k) ns)) (shows 0 k (omega arith))
+    ∙ ap (λ o. cond b (Some n) o) (first_place m (suc k) bs ns (λ n slot e. shows (suc n) slot (omega (arith, e))))
+
+denying_first : (v : AbstractValue) (b s : Bool) (x : NumberedRule) (xs : List NumberedRule) → b ≡ (s && denies x.rule v)
+    → cond b (Some x.number) (first_denying xs v) ≡ first_denying (cond s (x ∷ xs) xs) v
+denying_first v b true x xs e = ap (λ c. cond c (Some x.number) (first_denying xs v)) e
+denying_first v b false x xs e = ap (λ c. cond c (Some x.number) (first_denying xs v)) e
+
+first_speaking : (route : AbstractRoute) (v : AbstractValue) (i : ℕ) (rules : List AbstractRule)
+    → first_true (map (answers Deny route v) (rules_named route.message rules)) (numbers_for route.message i rules) ≡ first_denying (speaking route i rules) v
+first_speaking route v i [] = refl
+first_speaking route v i (r ∷ rs) =
+    let answer : AbstractRule → Bool = answers Deny route v in
+    let more = first_speaking route v (i + 1) rs in
+    let x : NumberedRule = record { number = i; rule = r } in
+    let xs = speaking route (i + 1) rs in
+    let numbers = numbers_for route.message (i + 1) rs in
+    (elim (bytes_eq r.message route.message) as (λ (b : Bool). bytes_eq r.message route.message ≡ b
+    → first_true (map answer (cond b (r ∷ rules_named route.message rs) (rules_named route.message rs))) (cond b (i ∷ numbers) numbers) ≡ first_denying (cond (speaks_of route r) (x ∷ xs) xs) v) [
+      | true ↦ λ same.
+          ap (λ o. cond (answer r) (Some i) o) more
+          ∙ denying_first v (answer r) (speaks_of route r) x xs
+          (grouped (is_meant r.from route.from && is_meant r.to route.to) (has_effect Deny r) (is_member r.ty v)
+          ∙ ap (λ s. s && denies r v) (sym (all_true (is_meant r.from route.from) (is_meant r.to route.to) (bytes_eq r.message route.message) same)))
+      | false ↦ λ other. more ∙ ap (λ b. first_denying (cond b (x ∷ xs) xs) v) (sym (speaks_not route r other))
+    ]) refl
+
 -- ---- the message goes
 
 module _ (p : Kept) (policy : AbstractPolicy) (route : AbstractRoute) (octets : List ℕ) (m : KeptMessage) (marks : Marks) (v : AbstractValue)
@@ -184,6 +229,16 @@ module _ (p : Kept) (policy : AbstractPolicy) (route : AbstractRoute) (octets : 
   undenied none_denies =
       all_not (says_of Deny v) (route_rules policy route)
       ∙ ap not (sym (said Deny) ∙ empty_any (map (answers Deny route v) named) (slots_of m.routing.denying) denied none_denies)
+
+  first_denied : (numbers : List ℕ) → numbers ≡ numbers_for route.message 0 policy.rules
+      → first_in (slots_of m.routing.denying) 1 numbers ≡ first_denying (route_rules policy route) v
+  first_denied numbers listed =
+      first_place (slots_of m.routing.denying) 1 (map (answers Deny route v) named) numbers
+      (λ n slot e. let at : slot ≡ suc n = omega (arith, e) in ap (has (slots_of m.routing.denying)) at ∙ denied.others n)
+      ∙ ap (λ (rules : List AbstractRule). first_true (map (answers Deny route v) rules) numbers) (ap (λ (n : List ℕ). rules_named n (rules_kept p)) name)
+      ∙ ap (first_true (map (answers Deny route v) (rules_named route.message (rules_kept p)))) (listed ∙ ap (numbers_for route.message 0) same_rules)
+      ∙ first_speaking route v 0 (rules_kept p)
+      ∙ ap (λ (rules : List AbstractRule). first_denying (speaking route 0 rules) v) (sym same_rules)
 
   goes : Lets → Goes policy route octets
   goes (of_type, some, none_denies) = (
@@ -274,22 +329,25 @@ module _ (policy : Policy) (route : AbstractRoute) (octets numbers : List ℕ) (
   unallowed_stays rules are empty_now (t, v, declared, fitting, encoded, is_in, some, none_denies) =
       false≢true (sym (none_allows (route_rules (policy_view policy) route) v (unallowed_by rules are empty_now)) ∙ some)
 
-  -- so that is the reason why a member of the declared type stays that no denying rule has
-  pub no_rule_by : (rules : RouteRules) → rules ≡ rules_on m.routing route → AreMarkedUndenied m.table rules octets → rules.allowing ≡ none
-      → IsReason (policy_view policy) route octets no_rule
-  no_rule_by rules are (marks, (v, fitting, encoded, has_marks), of_type, none_denies) empty_now =
+  -- so what the marks tell is the reason
+  pub told_by_marks : (rules : RouteRules) (w : AbstractVerdict) → rules ≡ rules_on m.routing route → IsMarked m.table rules numbers octets w
+      → IsReason (policy_view policy) route octets w
+  told_by_marks rules w are (marks, (v, fitting, encoded, has_marks), of_type, told) =
       let routed = routed_first policy.kept.messages.items (rules_kept policy.kept) route.message m policy.kept.routed first in
-      let none_now = subst (λ (r : RouteRules). common r.denying marks.members ≡ none) are none_denies in
       let is_in = inside policy.kept (policy_view policy) route octets m marks v refl refl declares routed.0 routed.1 fitting encoded has_marks of_type in
-      let rests = undenied policy.kept (policy_view policy) route octets m marks v refl refl declares routed.0 routed.1 fitting encoded has_marks none_now in
       let rs = route_rules (policy_view policy) route in
-      inr (
-        declared_of m.table,
-        declares,
-        inr (
-          v,
-          fitting,
-          encoded,
-          sym (judged_undenied (declared_of m.table) rs v fitting is_in rests ∙ nothing_allows rs v (unallowed_by rules are empty_now)),
-        ),
-      )
+      let slots : common rules.denying marks.members ≡ common (rules_on m.routing route).denying marks.members = ap (λ (r : RouteRules). common r.denying marks.members) are in
+      let numbered = (declared_pair (policy_view policy).rules route.message (declared_type (policy_view policy) route.message) (declared_of m.table) numbers listed).1 in
+      let judged_so : w ≡ judged (declared_of m.table) rs v = elim told [
+        | inl d ↦
+            d.2
+            ∙ sym (judged_denied (declared_of m.table) rs v d.0 fitting is_in
+            (sym (first_denied policy.kept (policy_view policy) route octets m marks v refl refl declares routed.0 routed.1 fitting encoded has_marks numbers numbered)
+            ∙ ap (λ (k : Slots). first_in k 1 numbers) (sym slots) ∙ d.1))
+        | inr n ↦
+            n.2
+            ∙ sym (judged_undenied (declared_of m.table) rs v fitting is_in
+            (undenied policy.kept (policy_view policy) route octets m marks v refl refl declares routed.0 routed.1 fitting encoded has_marks (sym slots ∙ n.0))
+            ∙ nothing_allows rs v (unallowed_by rules are n.1))
+      ] in
+      inr (declared_of m.table, declares, inr (v, fitting, encoded, judged_so))

@@ -78,6 +78,13 @@ judged_undenied t rules v fitting is_in undenied =
     ap (λ x. elim x [ Some w ↦ outside_type w | None ↦ by_rules rules v ]) a
     ∙ ap (λ x. elim x [ Some i ↦ denied_by i | None ↦ by_allowing rules v ]) b
 
+-- and one that a rule denies is denied by the first
+pub judged_denied : (t : AbstractType) (rules : List NumberedRule) (v : AbstractValue) (i : ℕ) → IsTrue (fits t v) → is_member t v ≡ true → first_denying rules v ≡ Some i → judged t rules v ≡ denied_by i
+judged_denied t rules v i fitting is_in first =
+    let a : violation t v ≡ None = none_of (violation t v) (type_clear t v fitting ∙ is_in) in
+    ap (λ x. elim x [ Some w ↦ outside_type w | None ↦ by_rules rules v ]) a
+    ∙ ap (λ x. elim x [ Some i ↦ denied_by i | None ↦ by_allowing rules v ]) first
+
 passes_judged : (t : AbstractType) (rules : List NumberedRule) (v : AbstractValue) → IsTrue (fits t v) → Passes t rules v → judged t rules v ≡ pass
 unfolding none_denies
 passes_judged t rules v fitting p =

@@ -16,6 +16,7 @@ pub mod RulesNamed
 pub mod ByMarks
 pub mod GivenRoutes
 pub mod AsGiven
+pub mod Stripped
 -- ---- the text of a policy
 pub mod Gathered
 pub mod LeastKey

@@ -1,6 +1,6 @@
 -- There is one reason.
-use Rattle.std.proofs.Common.{◌≡◌, List, Some, Result, Ok, Err, ap, sym, ◌∙◌, subst, inl, inr, ℕ}
-use Rattle.std.specs.Prelude.{IsTrue, IfOk}
+use Rattle.std.proofs.Common.{◌≡◌, List, Option, None, Some, Result, Ok, Err, ap, sym, ◌∙◌, subst, inl, inr, ℕ}
+use Rattle.std.specs.Prelude.{IsTrue, IfOk, IfSome}
 use Rattle.guard_model.specs.AbstractType.{AbstractType}
 use Rattle.guard_model.specs.AbstractValue.{AbstractValue}
 use Rattle.guard_der.specs.Der.{der}
@@ -64,3 +64,7 @@ reason_of_breach p route octets t b w declared never only reason =
 pub if_ok_map : {A E : Type 0} (P Q : A → Type 0) (r : Result A E) → ((x : A) → P x → Q x) → IfOk r P → IfOk r Q
 if_ok_map P Q (Ok x) f p = f x p
 if_ok_map P Q (Err e) f p = tt
+
+pub if_some_map : {A : Type 0} (P Q : A → Type 0) (o : Option A) → ((x : A) → P x → Q x) → IfSome o P → IfSome o Q
+if_some_map P Q None f p = tt
+if_some_map P Q (Some x) f p = f x p

@@ -3,20 +3,15 @@ ghost use Rattle.std.specs.Prelude.{◌≡◌, ◌++◌, map, option_map, OnOk, 
 ghost use Rattle.guard_model.specs.Components.{components_in, component_at};
 ghost use Rattle.guard_model.specs.TypeView.{type_view, kind_view, component_view, constraint_view, element_view};
 ghost use Rattle.guard_model.specs.TypeView.{constraints_of, part_view, parts_of};
-ghost use Rattle.guard_eval.specs.Presence.{kind_at};
 ghost use Rattle.guard_policy.specs.Barren.{own_part, type_within, within, element_within, all_within, parts_within};
 ghost use Rattle.guard_policy.specs.Barren.{demand_within, demands_within};
-ghost use Rattle.guard_policy.specs.inside.Asked.{demand_view, demands_view, part_within};
+ghost use Rattle.guard_policy.specs.inside.Asked.{demands_view, part_within};
+ghost use Rattle.guard_tables.specs.inside.AskViews.{demand_view};
 
+use guard_eval::kind_at;
 use guard_model::{Comp, Cons, Kind, OutOfMemory, Part, Rule, Ty};
+use guard_tables::Demand;
 use std::alloc::Global;
-
-/// Membership in a type, or in a constraint on a type of this kind.
-#[derive(Clone, Copy)]
-pub(crate) enum Demand<'a> {
-    Type(&'a Ty),
-    Constraint(&'a Kind, &'a Cons),
-}
 
 /// What is asked of the component at this place of a value of which all this is asked.
 pub(crate) fn demands_within<'a>(
@@ -159,20 +154,10 @@ fn push_within_part<'a>(
 {
     match &part.cons {
         Some(constraint) if usize::from(part.at) == place => {
-            inner.push(Demand::Constraint(kind_at(kind, place), constraint))?;
+            inner.push(Demand::Constraint(kind_at(kind, part.at), constraint))?;
             Ok(())
         }
         _ => Ok(()),
-    }
-}
-
-/// The kind of the component or alternative at this place; where there is none the whole's own.
-fn kind_at(kind: &Kind, place: usize) -> &Kind
-    ensures { kind_view result.now ≡ kind_at place (kind_view kind.now) }
-{
-    match component(kind, place) {
-        Some(component) => &component.ty.kind,
-        None => kind,
     }
 }
 

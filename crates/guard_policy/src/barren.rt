@@ -2,18 +2,19 @@
 ghost use Rattle.std.specs.Prelude.{◌≡◌, ◌&&◌, ◌↔◌, ◌^◌, ◌-◌, ℤ, pos, int_le, false, map, IfOk, IsTrue};
 ghost use Rattle.guard_integers.specs.Integers.{holds};
 ghost use Rattle.guard_model.specs.Limits.{fits_128_bits};
-ghost use Rattle.guard_model.specs.TypeView.{type_view, kind_view, component_view, components_of, presence_view};
-ghost use Rattle.guard_der.specs.Fits.{may_be_absent};
+ghost use Rattle.guard_model.specs.TypeView.{type_view, kind_view, component_view, components_of};
 ghost use Rattle.guard_policy.specs.Barren.{demand_has_number, have_no_number, demand_may_have_size, have_no_size, kind_has_no_value};
 ghost use Rattle.guard_policy.specs.Barren.{some_has_no_value, is_barren};
-ghost use Rattle.guard_policy.specs.inside.Asked.{demand_view, demands_view};
+ghost use Rattle.guard_policy.specs.inside.Asked.{demands_view};
+ghost use Rattle.guard_tables.specs.inside.AskViews.{demand_view};
 
-use super::asked::{Demand, demands_within};
+use super::asked::demands_within;
 use super::policy::Policy;
 use super::sizes::{sizes_of, sizes_of_all};
+use guard_eval::is_optional;
 use guard_integers::IntSet;
-use guard_model::{Comp, Kind, OutOfMemory, Presence, Ty};
-use guard_tables::{numbers_of, numbers_of_type};
+use guard_model::{Comp, Kind, OutOfMemory, Ty};
+use guard_tables::{Demand, numbers_of, numbers_of_type};
 use std::alloc::Global;
 
 impl Policy {
@@ -23,10 +24,10 @@ impl Policy {
     /// Whether integers and sizes alone show that no value of the declared type of a rule's message is of the rule's
     /// type. The rule is given by its number, from 0; a number that is no rule's isn't barren.
     ///
-    /// Of an INTEGER each constraint is looked at, so there the answer is exact. Of strings and lists only SIZE is, and
-    /// of SEQUENCE and SET each component that isn't OPTIONAL, with what WITH COMPONENTS asks of it unless a union or
-    /// an exception says so. Of other kinds, and of what PRESENT and ABSENT say, nothing is said: the answer is false.
-    /// Its one refusal is want of memory.
+    /// The answer is exact for an INTEGER, whose constraints are all looked at. For strings and lists only SIZE is
+    /// looked at, and for SEQUENCE and SET each component that isn't OPTIONAL, with what WITH COMPONENTS asks of it
+    /// unless a union or an exception says so. Other kinds, PRESENT and ABSENT aren't looked at: the answer is false.
+    /// It fails only where memory runs out.
     pub fn is_barren(&self, alloc: Global, rule: usize) -> Result<bool, OutOfMemory>
         ensures { IfOk result (λ barren. barren ≡ is_barren_rule (policy_view self.now) rule) }
     {
@@ -79,7 +80,7 @@ fn some_has_no_value(
         (demands_view demands.now)) }
 {
     for (place, component) in components.iter().enumerate() {
-        if !may_be_absent(&component.presence) {
+        if !is_optional(&component.presence) {
             let inner = demands_within(alloc, place, demands)?;
             if kind_has_no_value(alloc, &component.ty.kind, &inner)? {
                 return Ok(true);
@@ -87,15 +88,6 @@ fn some_has_no_value(
         }
     }
     Ok(false)
-}
-
-fn may_be_absent(presence: &Presence) -> bool
-    ensures { result ≡ may_be_absent (presence_view presence.now) }
-{
-    match presence {
-        Presence::Optional => true,
-        _ => false,
-    }
 }
 
 // ---- integers and sizes
@@ -117,8 +109,8 @@ fn numbers_met(alloc: Global, demand: Demand) -> Result<IntSet, OutOfMemory>
         → holds set z ≡ (fits_128_bits z && demand_has_number z (demand_view demand.entry))) }
 {
     match demand {
-        Demand::Type(ty) => numbers_of_type(ty, alloc),
-        Demand::Constraint(kind, constraint) if kind.is_integer() => numbers_of(constraint, alloc),
+        Demand::Type(ty) => numbers_of_type(alloc, ty),
+        Demand::Constraint(kind, constraint) if kind.is_integer() => numbers_of(alloc, constraint),
         Demand::Constraint(_, _) => IntSet::all(alloc),
     }
 }

@@ -24,7 +24,7 @@ pub(crate) struct Top<'a> {
     pub rules: Vec<&'a Table>,
 }
 
-/// The document of a text. A refusal other than Toml is want of memory.
+/// The document of a text. A refusal other than Toml says that memory ran out.
 pub(crate) fn document(alloc: Global, text: &[u8]) -> Result<Table, PolicyFault>
     ensures document { IfOk result (λ top. IsDocument text.now (table_view top)) }
     ensures none { IfErr result (λ f. IfSome (named f) (λ fault. (fault ≡ no_toml) × IsNoDocument text.now)) }

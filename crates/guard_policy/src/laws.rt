@@ -24,7 +24,7 @@ pub fn law_one_reason(policy: &Policy, route: &Route, octets: &[u8])
     law_one_answer(ty, octets);
 }
 
-/// Of two types one of which is barren under the other no value is a member of both.
+/// Where one of two types is barren under the other, no value is a member of both.
 pub fn law_barren_share_nothing()
     ensures { BarrenShareNothing }
 {}

@@ -1,5 +1,5 @@
 //! What the routes that rules give lead to, by one look-up of the octets of their names.
-ghost use Rattle.std.specs.Prelude.{◌≡◌, IfOk, None, map, option_map, if◌then◌else◌};
+ghost use Rattle.std.specs.Prelude.{◌≡◌, ◌++◌, ℕ, List, IfOk, IfSome, None, Some, map, option_map, if◌then◌else◌};
 ghost use Rattle.guard_policy.specs.Names.{is_plain};
 ghost use Rattle.guard_policy.specs.PolicyView.{route_view};
 ghost use Rattle.guard_policy.specs.SaidView.{said_view};
@@ -50,11 +50,22 @@ impl Leads {
         Ok(Leads { routes })
     }
 
-    /// What the route with these octets leads to.
-    pub fn find(&self, names: &[u8]) -> Option<&Lead>
-        ensures { option_map (λ lead. lead.now) result ≡ found_lead self.now names.now }
+    /// The place of the route with these octets, and what it leads to.
+    pub fn find(&self, names: &[u8]) -> Option<(usize, &Lead)>
+        ensures { option_map (λ found. found.1.now) result ≡ found_lead self.now names.now }
     {
-        self.routes.get(OctetsOf { octets: names })
+        let (place, _, lead) = self.routes.get_full(OctetsOf { octets: names })?;
+        Some((place, lead))
+    }
+
+    /// What the route at this place leads to, where the octets begin with its own, and what comes after these.
+    pub fn find_at<'a>(&'a self, place: usize, octets: &'a [u8]) -> Option<(&'a Lead, &'a [u8])>
+        ensures { IfSome result (λ found. (names : List ℕ) × (octets.now ≡ names ++ found.1.now)
+            × (found_lead self.now names ≡ Some found.0.now)) }
+    {
+        let (route, lead) = self.routes.get_index(place)?;
+        let rest = route.after(octets)?;
+        Some((lead, rest))
     }
 }
 

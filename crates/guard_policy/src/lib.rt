@@ -12,6 +12,7 @@
 //! | When does a message go? | `passing.rt` (`passes`) | `specs/Decisions.antt` |
 //! | How does a route lead to its rules? | `routing.rt` | `specs/inside/Routing.antt` |
 //! | Which routes do rules give by names? | `leads.rt`, `route_octets.rt` | `specs/NamedRoutes.antt` |
+//! | Where is a route looked for first? | `last_route.rt`, `passing.rt` (`passes_as_last`) | `specs/NamedRoutes.antt` |
 //! | Which verdict is it? | `policy.rt` (`verdict`), `reason.rt`, `decision.rt` | `specs/Decisions.antt` |
 //! | Do a rule's type and the declared one share no value? | `barren.rt`, `asked.rt`, `sizes.rt` | `specs/Barren.antt` |
 //! | What holds of every message? | `laws.rt` | `specs/Decisions.antt` |
@@ -35,6 +36,7 @@ mod fault;
 mod files;
 mod index;
 mod kept;
+mod last_route;
 pub mod laws;
 mod leads;
 mod load;
@@ -58,6 +60,7 @@ pub use entry::{Entry, Key};
 pub use fault::PolicyFault;
 pub use files::module_files;
 pub use guard_der::named_types::Types;
+pub use last_route::LastRoute;
 pub use policy::{Effect, Policy, SaidRule};
 pub use route::{Route, is_anyone, is_name};
 pub use verdict::Verdict;

@@ -6,6 +6,7 @@ ghost use Rattle.guard_policy.specs.inside.Passing.{IsAnswer};
 ghost use Rattle.guard_policy.specs.inside.Routing.{common};
 
 use super::kept::KeptMessage;
+use super::last_route::LastRoute;
 use super::policy::Policy;
 use super::route::Route;
 use super::routing::{RouteRules, meets};
@@ -13,7 +14,7 @@ use guard_reader::walk;
 use guard_tables::Slots;
 
 impl Policy {
-    ghost use Rattle.std.specs.Prelude.{◌≡◌, ◌↔◌, IsTrue, IfSome, None};
+    ghost use Rattle.std.specs.Prelude.{◌≡◌, ◌↔◌, ◌++◌, ℕ, List, IsTrue, IfSome, None};
     ghost use Rattle.guard_policy.specs.PolicyView.{policy_view, route_view};
     ghost use Rattle.guard_policy.specs.Policies.{AbstractRoute};
     ghost use Rattle.guard_policy.specs.Decisions.{Goes};
@@ -46,7 +47,36 @@ impl Policy {
         ensures other { result ≡ None → (route : AbstractRoute) → IsGiven (policy_view self.now).rules names.now route
             → ⊥ }
     {
-        let lead = self.kept.leads.find(names)?;
+        self.passes_and_found(names, octets, &mut LastRoute::none())
+    }
+
+    /// What `passes_as_given` says; and `last` is where the route was found.
+    pub fn passes_and_found(
+        &self,
+        names: &[u8],
+        octets: &[u8],
+        last: &mut LastRoute,
+    ) -> Option<bool>
+        ensures given { IfSome result (λ goes. (route : AbstractRoute)
+            × IsGiven (policy_view self.now).rules names.now route
+            × (IsTrue goes ↔ Goes (policy_view self.now) route octets.now)) }
+        ensures other { result ≡ None → (route : AbstractRoute) → IsGiven (policy_view self.now).rules names.now route
+            → ⊥ }
+    {
+        let (place, lead) = self.kept.leads.find(names)?;
+        last.place = place;
+        let message = self.kept.messages.get(lead.place)?;
+        Some(goes_by(message, &lead.rules, octets))
+    }
+
+    /// Whether the message of a frame goes, where the frame's body begins with the names of the route that was found
+    /// last; none says nothing of it. It takes no memory and looks nothing up.
+    pub fn passes_as_last(&self, last: LastRoute, body: &[u8]) -> Option<bool>
+        ensures { IfSome result (λ goes. (route : AbstractRoute) × (names : List ℕ) × (message : List ℕ)
+            × (body.now ≡ names ++ message) × IsGiven (policy_view self.now).rules names route
+            × (IsTrue goes ↔ Goes (policy_view self.now) route message)) }
+    {
+        let (lead, octets) = self.kept.leads.find_at(last.place, body)?;
         let message = self.kept.messages.get(lead.place)?;
         Some(goes_by(message, &lead.rules, octets))
     }

@@ -166,7 +166,7 @@ impl Policy {
     ghost use Rattle.guard_policy.specs.Verdicts.{AbstractVerdict, verdict_view, pass};
     ghost use Rattle.guard_policy.specs.Decisions.{IsReason, Goes};
 
-    /// What becomes of a message on its route. Its one refusal is want of memory.
+    /// What becomes of a message on its route. It fails only where memory runs out.
     pub fn verdict(
         &self,
         alloc: Global,

@@ -1,17 +1,19 @@
-//! The reason why a message stays. Where nothing may be allowed the walk over its octets tells it; else a value is made
-//! of them, since a breach or violations have to be named.
-ghost use Rattle.std.specs.Prelude.{◌≡◌, IsTrue};
-ghost use Rattle.guard_policy.specs.inside.Passing.{AreMarkedUndenied};
+//! The reason why a message stays. That a denying rule has its value, or that no rule may allow one, the walk over its
+//! octets tells; else a value is made of them, since a breach or violations have to be named.
+ghost use Rattle.std.specs.Prelude.{◌≡◌, IfSome, Some};
+ghost use Rattle.guard_policy.specs.Verdicts.{verdict_view};
+ghost use Rattle.guard_policy.specs.inside.Passing.{IsMarked, IsToldBy, first_in};
 
 use super::decision::judge;
 use super::kept::KeptMessage;
 use super::policy::Policy;
 use super::route::Route;
-use super::routing::{RouteRules, meets};
+use super::routing::{RouteRules, common};
 use super::verdict::Verdict;
 use guard_der::{DecodeFault, decode};
 use guard_model::{OutOfMemory, Ty};
 use guard_reader::walk;
+use guard_tables::Slots;
 use std::alloc::Global;
 
 impl Policy {
@@ -38,14 +40,13 @@ impl Policy {
             return Ok(Verdict::UnknownMessage);
         };
         let rules = message.routing.rules(route);
-        if rules.allow_nothing() && are_undenied(message, &rules, octets) {
-            return Ok(Verdict::NoRule);
+        if let Some(verdict) = reason_by_marks(message, &rules, numbers, octets) {
+            return Ok(verdict);
         }
         self.reason_by_value(alloc, route, message.table.declared(), numbers, octets)
     }
 
-    /// The same by the value that the octets encode, where the message has this type and the rules of these numbers
-    /// speak of it.
+    /// By the value that the octets encode, where the message has this type and the rules of these numbers speak of it.
     fn reason_by_value(
         &self,
         alloc: Global,
@@ -68,12 +69,50 @@ impl Policy {
     }
 }
 
-/// Whether the octets are the encoding of a value that the message's declared type has and none of the denying rules.
-fn are_undenied(message: &KeptMessage, rules: &RouteRules, octets: &[u8]) -> bool
-    ensures { IsTrue result → AreMarkedUndenied message.now.table rules.now octets.now }
+/// The verdict, where marks tell it. There is no walk where the route's rules deny nothing and may allow something.
+fn reason_by_marks(
+    message: &KeptMessage,
+    rules: &RouteRules,
+    numbers: &[usize],
+    octets: &[u8],
+) -> Option<Verdict>
+    ensures { IfSome result (λ w. IsMarked message.now.table rules.now numbers.now octets.now (verdict_view w)) }
 {
-    match walk(&message.table, octets) {
-        Some(marks) => marks.of_type() && !meets(&rules.denying, &marks.members),
-        None => false,
+    if rules.denying == Slots::none() && !rules.allow_nothing() {
+        return None;
     }
+    let marks = walk(&message.table, octets)?;
+    if !marks.of_type() {
+        return None;
+    }
+    told_by(rules, numbers, &marks.members)
+}
+
+/// The verdict on a value that the declared type has and the types in these slots, where they tell it.
+fn told_by(rules: &RouteRules, numbers: &[usize], members: &Slots) -> Option<Verdict>
+    ensures { IfSome result (λ w. IsToldBy rules.now numbers.now members.now (verdict_view w)) }
+{
+    let denying = common(&rules.denying, members);
+    if let Some(number) = first_in(&denying, numbers) {
+        return Some(Verdict::DeniedBy(number));
+    }
+    if denying == Slots::none() && rules.allow_nothing() {
+        return Some(Verdict::NoRule);
+    }
+    None
+}
+
+/// The number of the first of these rules whose slot is in the set. A table has slots for 255 of them at most.
+fn first_in(slots: &Slots, numbers: &[usize]) -> Option<usize>
+    ensures { IfSome result (λ number. first_in slots.now 1 numbers.now ≡ Some number) }
+{
+    for (place, number) in numbers.iter().enumerate() {
+        if place >= 255 {
+            return None;
+        }
+        if slots.has(place as u8 + 1) {
+            return Some(*number);
+        }
+    }
+    None
 }

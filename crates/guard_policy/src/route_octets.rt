@@ -1,6 +1,6 @@
 //! The octets of a route's names, by which it is found. They are hashed all at once; a list of octets would be hashed
 //! one after another.
-ghost use Rattle.std.specs.Prelude.{◌≡◌, ◌++◌, ◌∷◌, [], List, ℕ, IfOk, OnOk, IsTrue, bytes_eq};
+ghost use Rattle.std.specs.Prelude.{◌≡◌, ◌++◌, ◌∷◌, [], List, ℕ, IfOk, IfSome, OnOk, IsTrue, bytes_eq};
 ghost use Rattle.std.specs.Cmp.Lexicographic.{nat_list_eq_equiv};
 ghost use Rattle.std.proofs.Common.{ap};
 ghost use Rattle.std.proofs.lemmas.Slice.Eq.{bytes_eq-Decides};
@@ -36,6 +36,13 @@ impl RouteOctets {
         push_name(&mut octets, route.to)?;
         push_name(&mut octets, route.message)?;
         Ok(RouteOctets { octets })
+    }
+
+    /// What comes after them, where the octets begin with them.
+    pub fn after<'a>(&self, octets: &'a [u8]) -> Option<&'a [u8]>
+        ensures { IfSome result (λ rest. octets.now ≡ self.now.octets.items ++ rest.now) }
+    {
+        octets.strip_prefix(self.octets.as_slice())
     }
 }
 

@@ -125,7 +125,7 @@ pub(crate) fn meets(first: &Slots, second: &Slots) -> bool
 }
 
 /// The slots of both.
-fn common(first: &Slots, second: &Slots) -> Slots
+pub(crate) fn common(first: &Slots, second: &Slots) -> Slots
     ensures { result ≡ common first.now second.now }
 {
     first.without(&first.without(second))

@@ -26,7 +26,7 @@ fn sizes_of_rule(alloc: Global, rule: &Rule) -> Result<IntSet, OutOfMemory>
 {
     match rule {
         Rule::Inside(ty) => sizes_of_all(alloc, &ty.cons),
-        Rule::Size(sizes) => numbers_of(sizes, alloc),
+        Rule::Size(sizes) => numbers_of(alloc, sizes),
         Rule::Any(constraints) => sizes_of_some(alloc, constraints),
         Rule::Both(constraints) => sizes_of_all(alloc, constraints),
         Rule::Minus(kept, _) => sizes_of(alloc, kept),

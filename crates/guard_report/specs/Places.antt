@@ -13,7 +13,6 @@ use Rattle.guard_model.specs.TypeView.{OneComponent}
 use Rattle.guard_der.specs.declared.element.Header.{Header}
 use Rattle.guard_der.specs.Der.{is_left_out, outermost}
 use Rattle.guard_der.specs.Header.{header_at}
-use Rattle.guard_report.specs.Text.{component_of}
 
 -- the identifier and length octets of the element that begins there (X.690 8.1.1)
 abbrev pub header_there : List ℕ → Option ℕ → Option Header

@@ -3,8 +3,8 @@ use Rattle.std.specs.Prelude.{ℕ, List, [], ◌∷◌, ◌++◌, codes, decimal
 use Rattle.guard_model.specs.declared.site.Site.{Site}
 use Rattle.guard_model.specs.declared.site.Step.{Step}
 use Rattle.guard_model.specs.declared.site.Step.TheVariants.{Component, Element}
-use Rattle.guard_model.specs.AbstractType as type
-use Rattle.guard_model.specs.AbstractType.{AbstractType, AbstractKind, type_of}
+use Rattle.guard_model.specs.AbstractType.{AbstractType, type_of}
+use Rattle.guard_model.specs.Kinds.{element_of}
 use Rattle.guard_model.specs.TypeView.{OneComponent}
 use Rattle.guard_der.specs.Breach.{AbstractBreach}
 use Rattle.guard_policy.specs.Policies.{AbstractPolicy, AbstractRoute, declared_type, rule_name_of, module_name}
@@ -29,14 +29,9 @@ component_of None i = None
 component_of (Some (type_of tags kind cons)) i = component_at i (components_in kind)
 
 -- the type of the elements of an OF type
-abbrev pub element_of_kind : AbstractKind → Option AbstractType
-element_of_kind (type.sequence_of t) = Some t
-element_of_kind (type.set_of t) = Some t
-element_of_kind _ = None
-
 abbrev pub element_type : Option AbstractType → Option AbstractType
 element_type None = None
-element_type (Some (type_of tags kind cons)) = element_of_kind kind
+element_type (Some (type_of tags kind cons)) = element_of kind
 
 -- the type one step further in, if one is known
 abbrev pub type_within : Option AbstractType → Step → Option AbstractType

@@ -4,7 +4,7 @@
 //! | question | code | definition |
 //! |---|---|---|
 //! | What is the text of a verdict, with its breach, site and rules? | `text.rt` (`verdict_text`) | `specs/Text.antt` |
-//! | What is the line of a frame's verdict? | `lines.rt` (`line`) | `specs/Lines.antt` |
+//! | What is the line of a frame's verdict? | `lines.rt` (`line`, `add_line`) | `specs/Lines.antt` |
 //! | How is a path written by the names of a type? | `path.rt` | `specs/Text.antt` |
 //! | What is written for a name that is missing? | `words.rt` | `specs/Text.antt` |
 //! | How is a value written? | `values.rt` | `specs/ValueText.antt` |
@@ -32,7 +32,7 @@ mod values;
 mod words;
 
 pub use layout::Layout;
-pub use lines::line;
+pub use lines::{add_line, line};
 pub use parts::{part_text, type_at, value_at};
 pub use showing::{Shown, shown_text};
 pub use text::verdict_text;

@@ -23,9 +23,9 @@ use std::alloc::Global;
 /// Where a value is in the text, and where in the message.
 #[derive(Clone, Copy)]
 pub struct Spot {
-    /// Of indentation.
+    /// How far its line is indented.
     pub level: u8,
-    /// Where the encoding of the part begins on whose line the value does.
+    /// Where the encoding of the part begins that begins on the value's line.
     pub line: Option<usize>,
     /// Where the value's encoding begins; None where it isn't encoded.
     pub at: Option<usize>,

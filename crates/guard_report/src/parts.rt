@@ -1,13 +1,13 @@
 //! The part of a value that a path names.
 ghost use Rattle.std.specs.Prelude.{◌≡◌, IfOk, Some, option_map};
 ghost use Rattle.guard_model.specs.TypeView.{type_view};
-ghost use Rattle.guard_model.specs.ValueView.{value_view, fields_view, items_view};
-ghost use Rattle.guard_eval.specs.Presence.{field_at};
-ghost use Rattle.guard_report.specs.Parts.{value_at, value_within, item_at, type_at, part_octets};
+ghost use Rattle.guard_model.specs.ValueView.{value_view};
+ghost use Rattle.guard_report.specs.Parts.{value_at, value_within, element_at, type_at, part_octets};
 
 use super::layout::Layout;
 use super::path::type_within;
 use super::values::add_value;
+use guard_eval::part_at;
 use guard_model::{OutOfMemory, Step, Ty, Value};
 use std::alloc::Global;
 
@@ -26,22 +26,19 @@ pub fn value_at<'a>(value: &'a Value, path: &[Step]) -> Option<&'a Value>
 fn value_within(value: &Value, step: Step) -> Option<&Value>
     ensures { option_map (λ v. value_view v.now) result ≡ value_within (value_view value.now) step }
 {
-    match (value, step) {
-        (Value::Fields(fields), Step::Component(place)) => field_at(fields, usize::from(place)),
-        (Value::Chosen(chosen, inner), Step::Component(place)) if *chosen == place => Some(inner),
-        (Value::Items(items), Step::Element(place)) => items.get(place as usize),
-        _ => None,
+    match step {
+        Step::Component(place) => part_at(value, usize::from(place)),
+        Step::Element(place) => element_at(value, place as usize),
     }
 }
 
-/// The value of the component at this place, from 0, if it is there.
-fn field_at(fields: &[Option<Value>], at: usize) -> Option<&Value>
-    ensures { option_map (λ v. value_view v.now) result ≡ field_at at (fields_view fields.now) }
+/// The element at this place, from 0, if the value is a list.
+fn element_at(value: &Value, place: usize) -> Option<&Value>
+    ensures { option_map (λ v. value_view v.now) result ≡ element_at place (value_view value.now) }
 {
-    let field = fields.get(at)?;
-    match field {
-        Some(value) => Some(value),
-        None => None,
+    match value {
+        Value::Items(items) => items.get(place),
+        _ => None,
     }
 }
 
@@ -56,8 +53,8 @@ pub fn type_at<'a>(ty: &'a Ty, path: &[Step]) -> Option<&'a Ty>
     inner
 }
 
-/// The text of the part of a value of the type that the path names, on one line; None where there is no such part. Its
-/// one refusal is want of memory.
+/// The text of the part of a value of the type that the path names, on one line; None where there is no such part. It
+/// fails only where memory runs out.
 pub fn part_text(
     alloc: Global,
     ty: &Ty,

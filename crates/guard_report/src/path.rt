@@ -5,7 +5,7 @@ ghost use Rattle.guard_model.specs.TypeView.{type_view, component_view};
 ghost use Rattle.guard_report.specs.Text.{component_of, element_type, type_within, step_text, steps_text};
 
 use super::words::{add, add_name, add_number};
-use guard_model::{Comp, Kind, OutOfMemory, Step, Ty};
+use guard_model::{Comp, OutOfMemory, Step, Ty};
 
 /// Appends `$` and the steps, from a value of the type, if one is known.
 pub fn add_path(text: &mut Vec<u8>, ty: Option<&Ty>, path: &[Step]) -> Result<(), OutOfMemory>
@@ -63,21 +63,13 @@ pub fn component_at(ty: Option<&Ty>, place: usize) -> Option<&Comp>
     ensures { option_map (λ comp. component_view comp.now) result
         ≡ component_of (option_map (λ ty. type_view ty.now) ty.entry) place }
 {
-    match &ty?.kind {
-        Kind::Sequence(comps) => comps.get(place),
-        Kind::Set(comps) => comps.get(place),
-        Kind::Choice(comps) => comps.get(place),
-        _ => None,
-    }
+    let kind = &ty?.kind;
+    kind.components().get(place)
 }
 
 /// The type of the elements of an OF type.
 pub fn element_type(ty: Option<&Ty>) -> Option<&Ty>
     ensures { option_map (λ ty. type_view ty.now) result ≡ element_type (option_map (λ ty. type_view ty.now) ty.entry) }
 {
-    match &ty?.kind {
-        Kind::SequenceOf(element) => Some(element),
-        Kind::SetOf(element) => Some(element),
-        _ => None,
-    }
+    ty?.kind.element()
 }

@@ -1,15 +1,14 @@
 //! Where the encodings of a value's parts begin in the octets of a message.
 ghost use Rattle.std.specs.Prelude.{◌≡◌, option_map};
-ghost use Rattle.guard_model.specs.TypeView.{type_view, presence_view};
+ghost use Rattle.guard_model.specs.TypeView.{type_view};
 ghost use Rattle.guard_model.specs.ValueView.{value_view};
-ghost use Rattle.guard_der.specs.Der.{is_left_out as left_out};
 ghost use Rattle.guard_report.specs.Places.{header_there, inside_element, after_element, inside_tags, inside_value};
 ghost use Rattle.guard_report.specs.Places.{is_set, has_tag, element_with, component_place, next_place};
 ghost use Rattle.guard_report.specs.Text.{component_of};
 
 use super::path::component_at;
-use guard_der::{Header, header, outermost};
-use guard_model::{Kind, MOST_COMPONENTS, Presence, Tag, Ty, Value};
+use guard_der::{Header, header, is_left_out, outermost};
+use guard_model::{Kind, MOST_COMPONENTS, Tag, Ty, Value};
 
 /// The header of the element that begins there.
 fn header_there(octets: &[u8], at: Option<usize>) -> Option<Header>
@@ -94,18 +93,6 @@ pub fn next_place(
         next
     } else {
         after_element(octets, at)
-    }
-}
-
-/// A component whose value is its default is not sent (X.690 11.5).
-fn is_left_out(presence: &Presence, value: &Value) -> bool
-    ensures { result ≡ left_out (presence_view presence.now) (value_view value.now) }
-{
-    match presence {
-        Presence::Default(default) => default.same(value),
-        Presence::Mandatory => false,
-        Presence::Optional => false,
-        Presence::Pending => false,
     }
 }
 

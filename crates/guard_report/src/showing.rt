@@ -28,7 +28,7 @@ pub enum Shown {
     Undecodable(Vec<u8>),
 }
 
-/// The octets as a value of the type, or up to their breach. Its one refusal is want of memory.
+/// The octets as a value of the type, or up to their breach. It fails only where memory runs out.
 pub fn shown_text(alloc: Global, ty: &Ty, octets: &[u8]) -> Result<Shown, OutOfMemory>
     requires { IsTrue (is_sound (type_view ty.now)) }
     // Where they encode a value of the type it is shown,

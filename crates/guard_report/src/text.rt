@@ -15,7 +15,7 @@ use guard_model::{OutOfMemory, Site};
 use guard_policy::{Policy, Route, Verdict};
 use std::alloc::Global;
 
-/// The text of a verdict on a message of the route. Its one refusal is want of memory.
+/// The text of a verdict on a message of the route. It fails only where memory runs out.
 pub fn verdict_text(
     alloc: Global,
     verdict: &Verdict,
@@ -26,28 +26,41 @@ pub fn verdict_text(
         ≡ verdict_octets (policy_view policy.now) (route_view route.now) (verdict_view verdict.now)) }
 {
     let mut text = Vec::new(alloc);
+    add_verdict(&mut text, verdict, route, policy)?;
+    Ok(text)
+}
+
+/// Appends the text of a verdict.
+pub fn add_verdict(
+    text: &mut Vec<u8>,
+    verdict: &Verdict,
+    route: &Route,
+    policy: &Policy,
+) -> Result<(), OutOfMemory>
+    ensures { OnOk result (text.new.items
+        ≡ text.old.items ++ verdict_octets (policy_view policy.now) (route_view route.now) (verdict_view verdict.now)) }
+{
     match verdict {
-        Verdict::Pass => add(&mut text, b"pass")?,
-        Verdict::UnknownMessage => add(&mut text, b"unknown-message")?,
+        Verdict::Pass => add(text, b"pass"),
+        Verdict::UnknownMessage => add(text, b"unknown-message"),
         Verdict::Undecodable(breach) => {
-            add(&mut text, b"undecodable ")?;
-            add_breach(&mut text, breach, route, policy)?;
+            add(text, b"undecodable ")?;
+            add_breach(text, breach, route, policy)
         }
         Verdict::OutsideType(violation) => {
-            add(&mut text, b"outside-type ")?;
-            add_violation(&mut text, violation, route, policy)?;
+            add(text, b"outside-type ")?;
+            add_violation(text, violation, route, policy)
         }
         Verdict::DeniedBy(rule) => {
-            add(&mut text, b"denied-by ")?;
-            add_rule(&mut text, *rule, policy)?;
+            add(text, b"denied-by ")?;
+            add_rule(text, *rule, policy)
         }
         Verdict::NotAllowed(shortfalls) => {
-            add(&mut text, b"not-allowed ")?;
-            add_shortfalls(&mut text, shortfalls, route, policy)?;
+            add(text, b"not-allowed ")?;
+            add_shortfalls(text, shortfalls, route, policy)
         }
-        Verdict::NoRule => add(&mut text, b"no-rule")?,
+        Verdict::NoRule => add(text, b"no-rule"),
     }
-    Ok(text)
 }
 
 fn add_breach(

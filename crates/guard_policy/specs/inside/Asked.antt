@@ -1,15 +1,10 @@
 -- What is asked of a value, without where it lies in memory.
 use Rattle.std.specs.Prelude.{ℕ, List, [], ◌∷◌, map, nat_eq, Option, Some, None, if◌then◌else◌}
 use Rattle.guard_model.specs.AbstractType.{AbstractKind, Constraint}
-use Rattle.guard_model.specs.TypeView.{type_view, kind_view, constraint_view}
 use Rattle.guard_eval.specs.Presence.{kind_at}
 use Rattle.guard_tables.specs.Demands as asked
-use Rattle.guard_policy.specs.declared.asked.Demand.{Demand}
-use Rattle.guard_policy.specs.declared.asked.Demand.TheVariants as demand
-
-abbrev pub demand_view : Demand → asked.Demand
-demand_view (demand.Type t) = asked.by_type (type_view t.now)
-demand_view (demand.Constraint kind c) = asked.by_constraint (kind_view kind.now) (constraint_view c.now)
+use Rattle.guard_tables.specs.declared.asks.Demand.{Demand}
+use Rattle.guard_tables.specs.inside.AskViews.{demand_view}
 
 abbrev pub demands_view : List Demand → List asked.Demand
 demands_view demands = map demand_view demands

@@ -1,5 +1,5 @@
 -- Whether a message's octets go under the rules of a route.
-use Rattle.std.specs.Prelude.{◌≡◌, ◌≢◌, ◌⊎◌, ◌↔◌, ℕ, Bool, false, List, Some, IsTrue}
+use Rattle.std.specs.Prelude.{◌≡◌, ◌≢◌, ◌⊎◌, ◌↔◌, ℕ, suc, Bool, false, List, [], ◌∷◌, Option, Some, None, IsTrue, if◌then◌else◌}
 use Rattle.guard_model.specs.AbstractValue.{AbstractValue}
 use Rattle.guard_der.specs.Der.{der}
 use Rattle.guard_der.specs.Fits.{fits}
@@ -10,6 +10,7 @@ use Rattle.guard_tables.specs.declared.table.Table.{Table}
 use Rattle.guard_tables.specs.Slots.{none, has}
 use Rattle.guard_tables.specs.TableView.{declared_of, table_types}
 use Rattle.guard_policy.specs.declared.routing.RouteRules.{RouteRules}
+use Rattle.guard_policy.specs.Verdicts.{AbstractVerdict, denied_by, no_rule}
 use Rattle.guard_policy.specs.inside.Routing.{common}
 
 -- Of a value that the types in these slots have: the declared type has it, some allowing rule has and no denying one.
@@ -34,8 +35,20 @@ IsAnswer table rules octets answer =
     ((marks : Marks) × AreMarks table octets marks × (IsTrue answer ↔ LetsGo rules marks.members))
     ⊎ (EncodeNothing table octets × (answer ≡ false))
 
--- by these marks the declared type has the value and no denying rule does
-abbrev pub AreMarkedUndenied : Table → RouteRules → List ℕ → Type 0
-AreMarkedUndenied table rules octets =
-    (marks : Marks) × AreMarks table octets marks
-    × IsTrue (has marks.members 0) × (common rules.denying marks.members ≡ none)
+-- of the rules of these numbers, the first of which has this slot, the first whose slot is in the set
+abbrev pub first_in : Slots → ℕ → List ℕ → Option ℕ
+first_in m slot [] = None
+first_in m slot (n ∷ ns) = if has m slot then Some n else first_in m (suc slot) ns
+
+-- Of a value that the types in these slots have, the declared one among them: a denying rule is the first that has it,
+-- or there is none, and no rule that may allow it.
+abbrev pub IsToldBy : RouteRules → List ℕ → Slots → AbstractVerdict → Type 0
+IsToldBy rules numbers members w =
+    ((i : ℕ) × (first_in (common rules.denying members) 1 numbers ≡ Some i) × (w ≡ denied_by i))
+    ⊎ ((common rules.denying members ≡ none) × (rules.allowing ≡ none) × (w ≡ no_rule))
+
+-- the verdict on the octets, as their marks tell it
+abbrev pub IsMarked : Table → RouteRules → List ℕ → List ℕ → AbstractVerdict → Type 0
+IsMarked table rules numbers octets w =
+    (marks : Marks) × AreMarks table octets marks × IsTrue (has marks.members 0)
+    × IsToldBy rules numbers marks.members w

@@ -1,7 +1,7 @@
 use Rattle.std.proofs.Common.{◌≡◌, ◌++◌, true, drop, option_map}
 use Rattle.guard_model.specs.TypeView.{type_view}
 use Rattle.guard_model.specs.ValueView.{fields_view, items_view}
-use Rattle.guard_report.specs.Shown.{note, deeper, lines_from, field_lines, element_lines}
+use Rattle.guard_report.specs.Shown.{note, lines_from, field_lines, element_lines}
 use Rattle.guard_report.specs.inside.LineEnds.{end_text}
 use Rattle.guard_report.proofs.noted.+noted.Given as goal
 

@@ -1,35 +1,8 @@
-use Rattle.std.proofs.Common.{◌≡◌, ◌∙◌, ◌↔◌, sym, subst}
-use Rattle.std.specs.Prelude.{IsTrue}
-use Rattle.guard_policy.specs.Decisions.{Goes}
-use Rattle.guard_policy.specs.Policies.{AbstractRoute}
-use Rattle.guard_policy.specs.PolicyView.{policy_view, route_view}
-use Rattle.guard_frames.specs.Bodies.{body_view}
-use Rattle.guard_frames.specs.OfPolicy.{route_of, decision_of}
-use Rattle.guard_frames.proofs.HeaderLaws.{no_parts, misnamed}
-use Rattle.guard_frames.proofs.BodyDecisions.{message_within, names_before, goes_as_given, goes_by_names, stays_without}
+use Rattle.guard_policy.specs.PolicyView.{policy_view}
+use Rattle.guard_frames.proofs.BodyDecisions.{goes_as_given}
 use Rattle.guard_frames.proofs.policies.PolicyDecide.goes.Goals as goal
 
-pub slice_bounds-names-count : goal.slice_bounds-names-count
-slice_bounds-names-count c = message_within c.args.octets.now (body_view c.in-Some.body) c.in-Some.ensures
-
-pub returns-in_default : goal.returns-in_default
-returns-in_default c =
-    stays_without (decision_of (policy_view c.args.self.now)) c.args.octets.now (no_parts c.args.octets.now c.in_default.ensures)
-
-pub returns-in-Some-passes_as_given : goal.returns-in-Some-passes_as_given
-returns-in-Some-passes_as_given c =
-    goes_as_given (policy_view c.args.self.now) c.args.octets.now _ c.in-Some.body.message.now c.in-Some-passes_as_given.goes
-    (names_before c.args.octets.now (body_view c.in-Some.body) c.in-Some.ensures) c.in-Some-passes_as_given.ensures.given
-
-pub returns-in-None : goal.returns-in-None
-returns-in-None c =
-    let p = policy_view c.args.self.now in
-    let b = body_view c.in-Some.body in
-    let same : route_view c.route_of.result ≡ route_of b = c.route_of.ensures in
-    goes_by_names p c.args.octets.now b c.passes.result c.in-Some.ensures (sym c.has_names.ensures ∙ c.if-has_names.true)
-    (subst (λ (r : AbstractRoute). IsTrue c.passes.result ↔ Goes p r b.message) same c.passes.ensures)
-
-pub returns-in-None-2 : goal.returns-in-None-2
-returns-in-None-2 c =
-    stays_without (decision_of (policy_view c.args.self.now)) c.args.octets.now
-    (misnamed c.args.octets.now (body_view c.in-Some.body) c.in-Some.ensures (sym c.has_names.ensures ∙ c.if-has_names.false))
+pub returns-in-Some : goal.returns-in-Some
+returns-in-Some c =
+    let told = c.in-Some.ensures in
+    goes_as_given (policy_view c.args.self.now) c.args.octets.now told.1 told.2 c.in-Some.goes told.3 (told.0, told.4, told.5)

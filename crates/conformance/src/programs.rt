@@ -13,7 +13,7 @@ const OUT_FAILED: &[u8] = b"derguard: F2 WriteFailed\n";
 enum Asked {
     /// The status, what both outputs took, and how many octets of standard input are left.
     All,
-    /// The same with the first line alone of each output.
+    /// The status, the first line of each output, and how many octets of standard input are left.
     FirstLines,
     /// How many runs end with 3 where standard output fails after so many octets, for each number, with that report.
     EachOut,
@@ -164,7 +164,7 @@ impl Programs {
         format!(in alloc; "{}", out.len())
     }
 
-    /// The same of standard error.
+    /// How many runs end with 3 where standard error fails after so many octets, for each number.
     fn each_err(&self, alloc: Global, words: &[&str]) -> Result<String, AllocError> {
         let whole = self.ran(alloc, words, usize::MAX, usize::MAX)?;
         let (out, err) = (whole.out.octets(), whole.err.octets());

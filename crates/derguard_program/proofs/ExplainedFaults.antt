@@ -10,7 +10,7 @@ use Rattle.derguard_program.specs.inside.Texts.{CannotBeRead, IsBeforeModules}
 use Rattle.derguard_program.proofs.Refusals.{policy_unread}
 
 module _ (told : Told) (path note : List ℕ) where
-  -- nothing is said of want of memory
+  -- nothing is said where memory ran out
   silent : (r : Fault) → (r ≡ NoMemory) × (note ≡ []) → IsExplained told path r note
   silent r h = subst (λ (x : Fault). IsExplained told path x note) (sym h.0) (inr (inr refl), h.1)
 

@@ -37,7 +37,7 @@ Gives IsAnswer IsFault out err status =
     ((a : AbstractAnswer) × IsAnswer a × Writes a.out a.status out err status)
     ⊎ ((f : Fault) × IsFault f × IsUntouched out × Tells f err status)
 
--- The same, where a fault is reported with what explains it.
+-- Such an answer is written, or such a fault is reported with what explains it.
 abbrev pub GivesExplained : (AbstractAnswer → Type 0) → (Fault → List ℕ → Type 0) → Device → Device → ℕ → Type 0
 GivesExplained IsAnswer IsFault out err status =
     ((a : AbstractAnswer) × IsAnswer a × Writes a.out a.status out err status)

@@ -15,7 +15,7 @@ after_word [] = []
 after_word (o ∷ text) = if nat_eq o 32 then text else after_word text
 
 -- The reason that a line gives. Behind the number comes a route, which alone has a `>`, 62, and the name of the message;
--- a bad header and want of memory have neither.
+-- a bad header and `no-memory` have neither.
 abbrev pub reason_of : List ℕ → List ℕ
 reason_of line =
     if list_any (λ o. nat_eq o 62) (first_word (after_word line))

@@ -22,7 +22,7 @@ unread_note =
     codes "  Nothing can be read at this path. Module files are looked for in the folder of the policy.\n"
 
 -- This comes after the line of a fault, over these texts and that of the policy. Nothing is said of a stream that failed,
--- nor of want of memory, whoever ran out of it.
+-- nor where memory ran out, whoever ran out of it.
 abbrev pub IsExplanation : AbstractSources → List ℕ → Fault → List ℕ → Type 0
 IsExplanation s text (Schema f) note = IsSchemaNote s f note
 IsExplanation s text (Policy f) note = IsPolicyNote s.path text f note

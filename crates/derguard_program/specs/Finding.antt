@@ -81,7 +81,7 @@ IsBadAt (framed word) input = ⊥
 IsBadAt (linked number word) input =
     (link : ℕ) × (n : ℕ) × IsNatural number link × IsNumber word n × IsBadBefore link n input
 
--- why they can't be had; want of memory may come in place of any answer
+-- why they can't be had; that memory ran out may come in place of any answer
 abbrev pub IsUnfound : Told → AbstractSpot → Input → Unfound → Type 0
 IsUnfound told spot input (Faulty f) = IsFaultyAt told spot input f ⊎ (f ≡ NoMemory)
 IsUnfound told spot input TooLong = IsTooLongAt told spot input

@@ -34,7 +34,7 @@ use Rattle.derguard_program.specs.Writing.{Writes, Tells, TellsLine, TellsNoMemo
 abbrev pub Answers : (AbstractAnswer → Type 0) → (Fault → Type 0) → Input → Device → Device → ℕ → Type 0
 Answers IsAnswer IsFault input out err status = IsUnread input × Gives IsAnswer IsFault out err status
 
--- The same, where a fault is reported with what explains it.
+-- Such an answer is written, or such a fault is reported with what explains it; nothing is read.
 abbrev pub AnswersExplained : (AbstractAnswer → Type 0) → (Fault → List ℕ → Type 0) → Input → Device → Device → ℕ
     → Type 0
 AnswersExplained IsAnswer IsFault input out err status =

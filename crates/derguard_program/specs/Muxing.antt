@@ -174,7 +174,7 @@ TellsStopWith WriteFailed seen err status =
     status
 TellsStopWith ErrorFailed seen err status = (err.after ≡ err.before) × (status ≡ 3)
 
--- The same of the records as without notes; then what is seen of them is said, behind the line that says why they
+-- The records are guarded as without notes; then what is seen of them is said, behind the line that says why they
 -- aren't guarded to their ends.
 abbrev pub WatchesRecords : List ℕ → AbstractMux → Input → Device → Device → ℕ → Type 0
 WatchesRecords path first input out err status =

@@ -39,7 +39,7 @@ pub record Sees (d : Decision) (input : Input) (out reports : Octets) (s : Seen)
   pub totals : AreCounted all.outcomes s.totals
   pub counts : s.counts ≡ counts_after no_counts (lines_of added.reports)
 
--- The same of the frames before the one at which an output failed.
+-- What is seen of the frames before the one at which an output failed.
 pub record SeesInPart (d : Decision) (input : Input) (out reports : Octets) (s : Seen) : Type 0 where
   pub read : List ℕ
   pub given : Consumes input.before input.after read

@@ -7,7 +7,7 @@ pub struct Answer {
     pub status: u8,
 }
 
-/// The same with remarks, which go to standard error.
+/// What is answered with remarks, which go to standard error.
 #[derive(Drop)]
 pub struct Remarked {
     pub out: Vec<u8>,

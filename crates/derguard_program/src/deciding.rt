@@ -46,7 +46,7 @@ pub fn decide<F: Files>(
     Ok(verdict_on(alloc, &policy, route, &octets)?)
 }
 
-/// The same text, with what explains it; or why it isn't decided, with what explains the fault.
+/// The text of the verdict, with what explains it; or why it isn't decided, with what explains the fault.
 pub fn decide_explained<F: Files>(
     alloc: Global,
     path: &str,

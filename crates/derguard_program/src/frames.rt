@@ -66,7 +66,7 @@ pub fn next_frame<S: Source>(
     }
 }
 
-/// The same, with how much of a frame there is where there is none.
+/// The next frame of the source; or how much of a frame there is where there is none.
 pub fn frame_or_rest<S: Source>(
     source: &mut S,
     room: &mut [u8],

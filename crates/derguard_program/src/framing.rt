@@ -14,7 +14,7 @@ use std::alloc::Global;
 const LONGEST_BODY: usize = 1_048_576;
 
 /// The frame that holds the message on the route; none where one of the names of the route is none, or the body would
-/// have more than 1,048,576 octets. Its one refusal is want of memory.
+/// have more than 1,048,576 octets. It fails only where memory runs out.
 pub fn frame(alloc: Global, route: &Route, message: &[u8]) -> Result<Option<Vec<u8>>, OutOfMemory>
     ensures made { IfOk result (λ found. IfSome found (λ frame. IsFrameOf
         (route_body (route_view route.now) message.now) frame.items)) }

@@ -28,7 +28,7 @@ pub struct Found<'a> {
 }
 
 /// Each message with its rules in the order of the file, and of each rule what keeps it from letting anything pass. Its
-/// one refusal is want of memory.
+/// one refusal is that memory ran out.
 pub fn listing(alloc: Global, policy: &Policy) -> Result<Vec<u8>, OutOfMemory>
     ensures { IfOk result (λ text. text.items ≡ listing (policy_view policy.now)) }
 {
@@ -37,7 +37,7 @@ pub fn listing(alloc: Global, policy: &Policy) -> Result<Vec<u8>, OutOfMemory>
     Ok(text)
 }
 
-/// What is remarked of the policy and no more. Its one refusal is want of memory.
+/// What is remarked of the policy and no more. It fails only where memory runs out.
 pub fn strict_remarks(alloc: Global, policy: &Policy) -> Result<Vec<u8>, OutOfMemory>
     ensures { IfOk result (λ text. text.items ≡ strict_remarks (policy_view policy.now)) }
 {

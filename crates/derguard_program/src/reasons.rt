@@ -26,7 +26,7 @@ use guard_policy::{Policy, Route, SaidRule, Verdict};
 use guard_report::{part_text, type_at};
 use std::alloc::Global;
 
-/// What comes below the text of the verdict, which is the policy's on these octets. Its one refusal is want of memory.
+/// What comes below the text of the verdict, which is the policy's on these octets. It fails only where memory runs out.
 pub fn verdict_note(
     alloc: Global,
     sources: &Sources,

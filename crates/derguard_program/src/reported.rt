@@ -7,6 +7,7 @@ ghost use Rattle.derguard_program.specs.inside.Reported.{line_octets};
 
 use arrayvec::ArrayVec;
 use guard_frames::{Decide, read_body};
+use guard_policy::LastRoute;
 use itoa::Buffer;
 use std::alloc::Global;
 
@@ -43,7 +44,7 @@ pub fn line_of<D: Decide>(alloc: Global, policy: &D, number: u64, frame: &[u8]) 
     ensures ends { IfSome result (λ line. EndsLine (line_octets line)) }
 {
     let body = body_of(frame);
-    if policy.goes(body) {
+    if policy.goes(body, &mut LastRoute::none()) {
         return None;
     }
     let Some(names) = read_body(body) else {

@@ -22,7 +22,7 @@ pub enum Failing {
 
 /// What the system says.
 pub trait Says {
-    /// What it said when this failed last; nothing where it didn't say why. Its one refusal is want of memory.
+    /// What it said when this failed last; nothing where it didn't say why. It fails only where memory runs out.
     fn said(&self, alloc: Global, failing: Failing) -> Result<Option<String>, AllocError>;
 }
 

@@ -35,7 +35,7 @@ impl Seen {
     }
 }
 
-/// The notes that end a stream. Their one refusal is want of memory.
+/// The notes that end a stream. They fail only where memory runs out.
 pub fn last_notes(alloc: Global, seen: &Seen) -> Result<Vec<u8>, OutOfMemory>
     ensures { IfOk result (λ text. text.items ≡ last_lines seen.now) }
 {
@@ -44,7 +44,7 @@ pub fn last_notes(alloc: Global, seen: &Seen) -> Result<Vec<u8>, OutOfMemory>
     Ok(text)
 }
 
-/// The line of a fault and the notes behind it, with what the system says of it. Their one refusal is want of memory.
+/// The line of a fault and the notes behind it, with what the system says of it. They fail only where memory runs out.
 pub fn fault_notes(
     alloc: Global,
     fault: RunFault,
@@ -61,7 +61,7 @@ pub fn fault_notes(
     Ok(text)
 }
 
-/// The line of a fault and what comes after it. Their one refusal is want of memory.
+/// The line of a fault and what comes after it. They fail only where memory runs out.
 pub fn line_with(alloc: Global, fault: &Fault, note: &[u8]) -> Result<Vec<u8>, OutOfMemory>
     ensures { IfOk result (λ text. (name : List ℕ) × IsText fault.now name
         × (text.items ≡ line_of name ++ note.now)) }

@@ -28,9 +28,8 @@ use guard_der::{EncodeFault, encode};
 use guard_lexer::{LexFault, Mark, Reserved, Token, TokenKind, tokens};
 use guard_model::{OutOfMemory, Site, Ty, Value};
 use guard_names::resolve;
-use guard_notes::end_of;
 use guard_schema::SchemaFault;
-use guard_syntax::{Module, SyntaxFault, ValueTree, parse};
+use guard_syntax::{Module, SyntaxFault, ValueTree, end_of, parse};
 use guard_values::{Known, ValueFault, value};
 use std::alloc::{AllocError, Global};
 

@@ -1,9 +1,10 @@
 -- What comes after the line of a fault of modules or of a policy: the file, the line with a mark under the column, what
 -- more is known of it, and what to do.
-use Rattle.std.specs.Prelude.{◌≡◌, ℕ, List, [], ◌++◌, codes, Option, Some, None}
+use Rattle.std.specs.Prelude.{◌≡◌, ℕ, List, [], ◌++◌, codes, Option, Some, None, option_map}
 use Rattle.guard_model.specs.declared.site.Site.{Site}
 use Rattle.guard_lexer.specs.declared.fault.LexFault.{LexFault}
 use Rattle.guard_lexer.specs.declared.fault.LexFault.TheVariants as lex
+use Rattle.guard_tagcheck.specs.Views.{common_view}
 use Rattle.guard_schema.specs.declared.fault.SchemaFault.{SchemaFault}
 use Rattle.guard_schema.specs.declared.fault.SchemaFault.TheVariants as schema
 use Rattle.guard_policy.specs.declared.fault.PolicyFault.{PolicyFault}
@@ -11,7 +12,9 @@ use Rattle.guard_notes.specs.Notes.{AbstractNote, policy_note, schema_note}
 use Rattle.guard_notes.specs.PolicyNotes.{IsSaidOfPolicy}
 use Rattle.guard_notes.specs.Sources.{AbstractSources, sources, module_text, place_lines}
 use Rattle.guard_notes.specs.TextNotes.{octets_at, character_line}
-use Rattle.guard_notes.specs.TokenNotes.{ByTokens, site_of_name, undefined_lines}
+use Rattle.guard_notes.specs.ClashNotes.{clash_line}
+use Rattle.guard_notes.specs.SyntaxNotes.{IsExpectedLine}
+use Rattle.guard_notes.specs.TokenNotes.{ByTokens, site_of_name, site_of_syntax, undefined_lines}
 
 -- of a fault of tokens: what the character is
 abbrev pub lex_lines : AbstractSources → LexFault → List ℕ
@@ -30,13 +33,18 @@ IsSaidOfName s None lines = lines ≡ []
 IsSaidOfName s (Some site) lines =
     ByTokens site.text (module_text s site.text) (undefined_lines (module_text s site.text) site) lines
 
+-- of a fault of the grammar: what may come at a token at which it goes no further
+abbrev pub IsSaidOfSyntax : Option Site → List ℕ → Type 0
+IsSaidOfSyntax None lines = lines ≡ []
+IsSaidOfSyntax (Some site) lines = IsExpectedLine lines
+
 -- these lines are said of a fault of modules
 abbrev pub IsSaidOfModules : AbstractSources → SchemaFault → List ℕ → Type 0
 IsSaidOfModules s (schema.Lex f) lines = lines ≡ lex_lines s f
-IsSaidOfModules s (schema.Syntax f) lines = lines ≡ []
+IsSaidOfModules s (schema.Syntax f) lines = IsSaidOfSyntax (site_of_syntax f) lines
 IsSaidOfModules s (schema.Name f) lines = IsSaidOfName s (site_of_name f) lines
 IsSaidOfModules s (schema.Tag f) lines = lines ≡ []
-IsSaidOfModules s (schema.Clash site clash) lines = lines ≡ []
+IsSaidOfModules s (schema.Clash site clash common) lines = lines ≡ clash_line (option_map common_view common)
 IsSaidOfModules s (schema.Cons f) lines = lines ≡ []
 IsSaidOfModules s (schema.Value f) lines = lines ≡ []
 IsSaidOfModules s (schema.DefaultOutside site) lines = lines ≡ []
@@ -45,7 +53,7 @@ IsSaidOfModules s schema.OutOfMemory lines = lines ≡ []
 
 -- ---- all of it
 
--- the place, what more is said, and what to do; nothing of want of memory
+-- the place, what more is said, and what to do; nothing where memory ran out
 abbrev pub note_lines : AbstractSources → List ℕ → Option AbstractNote → List ℕ
 note_lines s said None = []
 note_lines s said (Some n) = place_lines s n.place ++ (said ++ (codes "  " ++ (n.advice ++ codes "\n")))

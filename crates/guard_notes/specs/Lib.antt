@@ -6,6 +6,8 @@ pub mod Sources
 pub mod Notes
 pub mod PolicyNotes
 pub mod TextNotes
+pub mod SyntaxNotes
+pub mod ClashNotes
 pub mod TokenNotes
 -- ---- all of it
 pub mod Explaining

@@ -165,7 +165,7 @@ schema_note (schema.Lex fault) = lex_note fault
 schema_note (schema.Syntax fault) = syntax_note fault
 schema_note (schema.Name fault) = name_note fault
 schema_note (schema.Tag fault) = tag_note fault
-schema_note (schema.Clash site clash) =
+schema_note (schema.Clash site clash common) =
     noted (At site)
     (codes "Two parts in this type have one tag, so nobody could tell them apart. Tag one, if messages may change.")
 schema_note (schema.Cons fault) = constraint_note fault

@@ -5,7 +5,7 @@ use Rattle.std.specs.List.{starts_with}
 use Rattle.std.specs.Option.{is_some, option_map_or}
 use Rattle.toml.specs.Data.{Data, Items, no_items, item, Members, at, get, get_member, as_str, as_array}
 use Rattle.guard_model.specs.declared.site.Site.{Site}
-use Rattle.guard_syntax.specs.Faults.{end_site}
+use Rattle.guard_lexer.specs.Sites.{site_after}
 use Rattle.guard_tables.specs.declared.fault.TableFault.{TableFault}
 use Rattle.guard_tables.specs.declared.fault.TableFault.TheVariants as table
 use Rattle.guard_policy.specs.declared.entry.Entry.{Entry}
@@ -175,7 +175,7 @@ toml_lines text site words =
 abbrev pub IsTomlNote : List ℕ → List ℕ → Type 0
 IsTomlNote text lines =
     (offset : ℕ) × (site : Site) × (words : List ℕ) × (offset ≤ length text)
-    × (length text + 1 < 2 ^ 32 → site ≡ end_site 0 (take offset text)) × (lines ≡ toml_lines text site words)
+    × (length text + 1 < 2 ^ 32 → site ≡ site_after 0 (take offset text)) × (lines ≡ toml_lines text site words)
 
 -- these lines are said of the fault, where the policy has this text
 abbrev pub IsSaidOfPolicy : List ℕ → PolicyFault → List ℕ → Type 0

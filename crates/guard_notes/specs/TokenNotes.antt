@@ -8,6 +8,8 @@ use Rattle.guard_lexer.specs.declared.token.Token.{Token}
 use Rattle.guard_lexer.specs.declared.token.TokenKind.{TokenKind}
 use Rattle.guard_lexer.specs.declared.token.TokenKind.TheVariants as kind
 use Rattle.guard_lexer.specs.declared.token.Mark.TheVariants as mark
+use Rattle.guard_syntax.specs.declared.fault.SyntaxFault.{SyntaxFault}
+use Rattle.guard_syntax.specs.declared.fault.SyntaxFault.TheVariants as syntax
 use Rattle.guard_syntax.specs.Kinds.{same_kind}
 use Rattle.guard_syntax.specs.Lexemes.{octets_of}
 use Rattle.guard_names.specs.declared.fault.NameFault.{NameFault}
@@ -60,6 +62,13 @@ undefined_among text (t ∷ ts) all = undefined_line (octets_of text t) (near_na
 
 abbrev pub undefined_lines : List ℕ → Site → List Token → List ℕ
 undefined_lines text site tokens = undefined_among text (tokens_at site tokens) tokens
+
+-- where the grammar goes no further
+abbrev pub site_of_syntax : SyntaxFault → Option Site
+site_of_syntax (syntax.Unexpected site) = Some site
+site_of_syntax (syntax.Unsupported spelling site) = None
+site_of_syntax (syntax.TooDeep site) = None
+site_of_syntax syntax.OutOfMemory = None
 
 -- where a fault of names is that tokens say more of
 abbrev pub site_of_name : NameFault → Option Site

@@ -1,14 +1,16 @@
 //! What comes after the line of a fault of modules or of a policy.
 ghost use Rattle.std.specs.Prelude.{◌≡◌, option_map, string_bytes, IfOk};
-ghost use Rattle.guard_notes.specs.Explaining.{lex_lines, note_lines, IsSaidOfName, IsSaidOfModules, IsSchemaNote, IsPolicyNote};
+ghost use Rattle.guard_notes.specs.Explaining.{lex_lines, note_lines, IsSaidOfName, IsSaidOfSyntax, IsSaidOfModules, IsSchemaNote, IsPolicyNote};
 ghost use Rattle.guard_notes.specs.Notes.{note_view};
 ghost use Rattle.guard_notes.specs.Sources.{sources_view};
 
+use crate::clash_notes::clash_line;
 use crate::notes::{Note, policy_note, schema_note};
 use crate::policy_notes::policy_lines;
 use crate::sources::{Sources, module_text, place_lines};
+use crate::syntax_notes::said_of_unexpected;
 use crate::text_notes::{character_line, octets_at};
-use crate::token_notes::{said_of_undefined, site_of_name};
+use crate::token_notes::{said_of_undefined, site_of_name, site_of_syntax};
 use guard_lexer::LexFault;
 use guard_model::{OutOfMemory, Site};
 use guard_policy::PolicyFault;
@@ -72,7 +74,9 @@ fn said_of_modules(
 {
     match fault {
         SchemaFault::Lex(fault) => Ok(String::from_str(alloc, lex_lines(sources, fault))?),
+        SchemaFault::Syntax(fault) => said_of_syntax(alloc, sources, site_of_syntax(fault)),
         SchemaFault::Name(fault) => said_of_name(alloc, sources, site_of_name(fault)),
+        SchemaFault::Clash(_, _, common) => clash_line(alloc, common),
         _ => Ok(String::new(alloc)),
     }
 }
@@ -86,6 +90,20 @@ fn lex_lines(sources: &Sources, fault: &LexFault) -> &'static str
             character_line(octets_at(module_text(sources, site.text), site))
         }
         _ => "",
+    }
+}
+
+/// What may come at this place, where the grammar goes no further.
+fn said_of_syntax(
+    alloc: Global,
+    sources: &Sources,
+    site: Option<Site>,
+) -> Result<String, OutOfMemory>
+    ensures { IfOk result (λ lines. IsSaidOfSyntax site (string_bytes lines)) }
+{
+    match site {
+        Some(site) => said_of_unexpected(alloc, module_text(sources, site.text), site),
+        None => Ok(String::new(alloc)),
     }
 }
 

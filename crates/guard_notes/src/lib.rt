@@ -6,14 +6,16 @@
 //! | What is said of each numbered fault? | `notes.rt` | `specs/Notes.antt` |
 //! | How is a place shown? | `sources.rt` | `specs/Sources.antt` |
 //! | How is a line shown with a mark under a column? | `marking.rt` | `specs/Marking.antt` |
-//! | What are the lines of a text, and where does it end? | `lines.rt`, `ends.rt` | `specs/Lines.antt` |
+//! | What are the lines of a text? | `lines.rt` | `specs/Lines.antt` |
 //! | What more is said of a policy's fault? | `policy_notes.rt` | `specs/PolicyNotes.antt` |
 //! | On which line does an entry of a policy begin? | `headers.rt` | `specs/PolicyNotes.antt` (`line_of`) |
 //! | What is a character at which no token begins? | `text_notes.rt` | `specs/TextNotes.antt` |
+//! | What may come where the grammar goes no further? | `syntax_notes.rt` | `specs/SyntaxNotes.antt` |
+//! | What do components share that tags don't tell apart? | `clash_notes.rt` | `specs/ClashNotes.antt` |
 //! | Which name is near to one that means nothing? | `token_notes.rt` | `specs/TokenNotes.antt` |
 #![tactic(auto)]
 
-mod ends;
+mod clash_notes;
 mod explaining;
 mod headers;
 mod lines;
@@ -21,10 +23,10 @@ mod marking;
 mod notes;
 mod policy_notes;
 mod sources;
+mod syntax_notes;
 mod text_notes;
 mod token_notes;
 
-pub use ends::end_of;
 pub use explaining::{explain_policy, explain_schema};
 pub use lines::{first_line, line_end};
 pub use marking::columns;

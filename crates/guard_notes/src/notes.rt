@@ -286,7 +286,7 @@ pub fn schema_note(fault: &SchemaFault) -> Option<Note>
         SchemaFault::Syntax(fault) => syntax_note(fault),
         SchemaFault::Name(fault) => name_note(fault),
         SchemaFault::Tag(fault) => tag_note(fault),
-        SchemaFault::Clash(site, _) => noted(
+        SchemaFault::Clash(site, _, _) => noted(
             Place::At(*site),
             "Two parts in this type have one tag, so nobody could tell them apart. Tag one, if messages may change.",
         ),

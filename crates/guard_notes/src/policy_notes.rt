@@ -5,11 +5,11 @@ ghost use Rattle.toml.specs.Data.{as_array};
 ghost use Rattle.toml.specs.View.{view, items_view, table_view};
 ghost use Rattle.guard_notes.specs.PolicyNotes.{IsSaidOfPolicy, IsTomlNote, item_at, listed, entry_of, value_at, word_at, key_line, key_lines, name_line, heading, entry_lines, lines_at, name_keys, is_of, number_of_rule, rule_lines, table_lines, unknown_key_lines, message_lines, fault_lines};
 
-use crate::ends::end_of;
 use crate::headers::line_of;
 use crate::marking::{columns, line_at, marked_line};
 use guard_model::OutOfMemory;
 use guard_policy::{Entry, Key, PolicyFault};
+use guard_syntax::end_of;
 use guard_tables::TableFault;
 use std::alloc::Global;
 use toml::de::Error;

@@ -1,12 +1,13 @@
 //! What more is said of a fault of a module, by the tokens of its text.
 ghost use Rattle.std.specs.Prelude.{◌≡◌, ◌&&◌, option_map, string_bytes, IfOk};
 ghost use Rattle.guard_syntax.specs.Lexemes.{octets_of};
-ghost use Rattle.guard_notes.specs.TokenNotes.{ByTokens, is_at, tokens_at, begins_with, is_near, is_type_name, near_name, undefined_line, undefined_lines, site_of_name};
+ghost use Rattle.guard_notes.specs.TokenNotes.{ByTokens, is_at, tokens_at, begins_with, is_near, is_type_name, near_name, undefined_line, undefined_lines, site_of_name, site_of_syntax};
 
 use crate::marking::columns;
 use guard_lexer::{LexFault, Mark, Token, TokenKind, tokens};
 use guard_model::{OutOfMemory, Site};
 use guard_names::NameFault;
+use guard_syntax::SyntaxFault;
 use std::alloc::{AllocError, Global};
 use strsim::generic_levenshtein;
 
@@ -18,6 +19,16 @@ pub fn said_of_undefined(alloc: Global, text: &[u8], site: Site) -> Result<Strin
         Ok(tokens) => undefined_lines(alloc, text, site, &tokens),
         Err(LexFault::OutOfMemory) => Err(OutOfMemory),
         Err(_) => Ok(String::new(alloc)),
+    }
+}
+
+/// Where the grammar goes no further.
+pub fn site_of_syntax(fault: &SyntaxFault) -> Option<Site>
+    ensures { result ≡ site_of_syntax fault.now }
+{
+    match fault {
+        SyntaxFault::Unexpected(site) => Some(*site),
+        _ => None,
     }
 }
 
@@ -115,7 +126,7 @@ fn begins_with(tokens: &[Token], kind: TokenKind) -> bool
 }
 
 /// The tokens from the place on.
-fn tokens_at(site: Site, tokens: &[Token]) -> &[Token]
+pub fn tokens_at(site: Site, tokens: &[Token]) -> &[Token]
     ensures { result.now ≡ tokens_at site tokens.now }
 {
     for (place, token) in tokens.iter().enumerate() {

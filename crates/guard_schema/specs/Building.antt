@@ -4,6 +4,7 @@ use Rattle.guard_model.specs.declared.site.Site.{Site}
 use Rattle.guard_model.specs.AbstractType.{AbstractType}
 use Rattle.guard_model.specs.AbstractValue.{AbstractValue}
 use Rattle.guard_tagcheck.specs.Distinct.{Distinct, IsClash}
+use Rattle.guard_tagcheck.specs.InCommon.{in_common}
 use Rattle.guard_syntax.specs.Trees.{WrittenValue, WrittenType, WrittenAssignment}
 use Rattle.guard_names.specs.Declarations.{Definition, definitions}
 use Rattle.guard_tagging.specs.Types.{Surroundings}
@@ -18,8 +19,8 @@ use Rattle.guard_schema.specs.Readings.{ReadsMember}
 use Rattle.guard_schema.specs.Finishing.{Finishes}
 use Rattle.guard_schema.specs.Counting.{held_by, all_held, most_held}
 
--- G1 to G12: the tags, the parts and their numbering of a written type, under these surroundings and with so many types
--- before it
+-- G1 to G12: the tags, the parts and their numbering of a written type, under these surroundings; `before` is the number
+-- of types before it
 abbrev pub HasTagsUnder : Surroundings → ℕ → WrittenType → Outcome AbstractType → Type 0
 HasTagsUnder surroundings before tree (Ok bare) = IsTagged surroundings before tree bare
 HasTagsUnder surroundings before tree (Err (Tag f)) =
@@ -32,10 +33,10 @@ HasTags k d answer =
     (surroundings : Surroundings) × IsWrittenUnder k d surroundings
     × HasTagsUnder surroundings (nodes_of_all (types_of k.built)) d.assignment.ty answer
 
--- S1: tags tell its components and alternatives apart
+-- S1: tags tell its components and alternatives apart, or these clash and have that in common
 abbrev pub TellsApart : Site → AbstractType → Outcome (Unit {0}) → Type 0
 TellsApart site t (Ok _) = Distinct t
-TellsApart site t (Err (Clash s clash)) = (s ≡ site) × IsClash t clash
+TellsApart site t (Err (Clash s clash common)) = (s ≡ site) × IsClash t clash × (common ≡ in_common t clash)
 TellsApart site t (Err _) = ⊥
 
 -- the value of a value assignment; a type assignment has none
@@ -43,7 +44,7 @@ abbrev pub Assigns : Visible → AbstractType → Option WrittenValue → Outcom
 Assigns names t None = Is None
 Assigns names t (Some tree) = Then (ReadsMember names t tree) (λ v. Is (Some v))
 
--- S3: what it holds, with so much held before it
+-- S3: what it and those before it hold
 abbrev pub KeepsLimit : ℕ → Site → Built → Outcome (Unit {0}) → Type 0
 KeepsLimit before site b = Passes (nat_le (before + held_by b) most_held) (TooLarge site)
 

@@ -4,17 +4,17 @@ ghost use Rattle.std.specs.Prelude.{◌≡◌, ◌+◌, ◌∷◌, [], min, map,
 ghost use Rattle.guard_model.specs.TypeView as model;
 ghost use Rattle.guard_model.specs.ValueView.{value_view, field_view};
 ghost use Rattle.guard_model.specs.AbstractValue.{fields_of, items_of};
-ghost use Rattle.guard_tagging.specs.Faults as tagging;
 ghost use Rattle.guard_schema.specs.Counting as counting;
 ghost use Rattle.guard_schema.specs.inside.Pairs.{built_view};
 
 use guard_model::{Comp, Cons, Kind, Part, Presence, Rule, Ty, Value};
+use guard_tagging::nodes;
 use std::sync::Arc;
 
 /// One more than may be held.
 const TOO_MUCH: usize = 100_001;
 
-/// What is held with a definition of this type and value, where so much is held before it.
+/// What is held with a definition of this type and value, after what is held before it.
 pub fn held_by(before: usize, ty: &Ty, value: &Option<Arc<Value>>) -> usize
     ensures { result ≡ min (before + counting.held_by (built_view ty.now value.now)) 100001 }
 {
@@ -32,41 +32,6 @@ fn one_more(so_far: usize) -> usize
     so_far.min(TOO_MUCH - 1) + 1
 }
 
-// ---- types
-
-/// So many, and those that the type is made of.
-#[cycle(types)]
-pub fn type_nodes(so_far: usize, ty: &Ty) -> usize
-    ensures { result ≡ min (so_far + tagging.nodes (model.type_view ty.now)) 100001 }
-{
-    nodes_inside(one_more(so_far), &ty.kind)
-}
-
-#[cycle(types)]
-fn nodes_inside(so_far: usize, kind: &Kind) -> usize
-    ensures { result ≡ min (so_far + tagging.nodes_inside (model.kind_view kind.now)) 100001 }
-{
-    match kind {
-        Kind::Sequence(comps) => nodes_of_components(so_far, comps),
-        Kind::Set(comps) => nodes_of_components(so_far, comps),
-        Kind::Choice(comps) => nodes_of_components(so_far, comps),
-        Kind::SequenceOf(element) => type_nodes(so_far, element),
-        Kind::SetOf(element) => type_nodes(so_far, element),
-        _ => so_far.min(TOO_MUCH),
-    }
-}
-
-#[cycle(types)]
-fn nodes_of_components(before: usize, comps: &[Comp]) -> usize
-    ensures { result ≡ min (before + tagging.nodes_of_components (model.components_of (map model.component_view comps.now))) 100001 }
-{
-    let mut so_far = before.min(TOO_MUCH);
-    for comp in comps {
-        so_far = type_nodes(so_far, &comp.ty);
-    }
-    so_far
-}
-
 // ---- types and their constraints
 
 #[cycle(held)]
@@ -82,11 +47,10 @@ fn held_in_kind(so_far: usize, kind: &Kind) -> usize
     ensures { result ≡ min (so_far + counting.held_in_kind (model.kind_view kind.now)) 100001 }
 {
     match kind {
-        Kind::Sequence(comps) => held_in_components(so_far, comps),
-        Kind::Set(comps) => held_in_components(so_far, comps),
-        Kind::Choice(comps) => held_in_components(so_far, comps),
-        Kind::SequenceOf(element) => held(so_far, element),
-        Kind::SetOf(element) => held(so_far, element),
+        Kind::Sequence(comps) | Kind::Set(comps) | Kind::Choice(comps) => {
+            held_in_components(so_far, comps)
+        }
+        Kind::SequenceOf(element) | Kind::SetOf(element) => held(so_far, element),
         _ => so_far.min(TOO_MUCH),
     }
 }
@@ -136,7 +100,7 @@ fn nodes_of_rule(so_far: usize, rule: &Rule) -> usize
 {
     match rule {
         Rule::One(value) => value_nodes(so_far, value),
-        Rule::Inside(ty) => held(type_nodes(so_far, ty), ty),
+        Rule::Inside(ty) => held(nodes(ty, so_far), ty),
         Rule::Range(_, _) => so_far.min(TOO_MUCH),
         Rule::Size(inner) => nodes_of_constraint(so_far, inner),
         Rule::Alphabet(_) => so_far.min(TOO_MUCH),

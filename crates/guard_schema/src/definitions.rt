@@ -31,7 +31,7 @@ use crate::readings::read_member;
 use guard_model::{Site, Ty, Value};
 use guard_names::{Id, Names};
 use guard_syntax::{Assignment, ValueTree};
-use guard_tagcheck::find_clash;
+use guard_tagcheck::{common_to, find_clash};
 use guard_tagging::{TaggedType, skeleton_after};
 use guard_values::Scope;
 use std::alloc::Global;
@@ -144,7 +144,10 @@ fn check_tags(alloc: Global, site: Site, ty: &Ty) -> Result<(), SchemaFault>
 {
     match find_clash(alloc, ty)? {
         None => Ok(()),
-        Some(clash) => Err(SchemaFault::Clash(site, clash)),
+        Some(clash) => {
+            let common = common_to(ty, &clash)?;
+            Err(SchemaFault::Clash(site, clash, common))
+        }
     }
 }
 
@@ -185,7 +188,7 @@ fn assigned(
     }
 }
 
-/// How much is held with the definition of the name there, with so much before it. Its name is blamed for what is too
+/// How much is held with the definition of the name there and what is before it. Its name is blamed where it is too
 /// much.
 fn within_limit(
     before: usize,

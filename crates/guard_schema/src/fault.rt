@@ -7,7 +7,7 @@ use guard_lexer::LexFault;
 use guard_model::{OutOfMemory, PathText, Site};
 use guard_names::NameFault;
 use guard_syntax::SyntaxFault;
-use guard_tagcheck::Clash;
+use guard_tagcheck::{Clash, InCommon};
 use guard_tagging::TagFault;
 use guard_values::ValueFault;
 use std::alloc::{AllocError, AllocFailed};
@@ -26,8 +26,9 @@ pub enum SchemaFault {
     #[error("{0}")]
     Tag(TagFault),
     /// Two components or alternatives that must differ in their tags share one, in the definition whose name is there.
+    /// Their names and the tag are beside the clash.
     #[error("S1 Clash {0} {way} {first} {second}", way = PathText(&.1.path), first = .1.first, second = .1.second)]
-    Clash(Site, Clash),
+    Clash(Site, Clash, Option<InCommon>),
     #[error("{0}")]
     Cons(ConsFault),
     #[error("{0}")]
@@ -42,8 +43,8 @@ pub enum SchemaFault {
     OutOfMemory,
 }
 
-// What a conversion gives is said by what the fault names, not case by case: want of memory of a layer is want of
-// memory here.
+// What a conversion gives is said by what the fault names, not case by case: where a layer ran out of memory, so did the
+// schema.
 impl From<LexFault> for SchemaFault {
     ghost use Rattle.guard_lexer.specs.Lexing.{fault_named};
 

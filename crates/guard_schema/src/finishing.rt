@@ -374,7 +374,7 @@ fn fill_from(
     }
 }
 
-/// Those of the type of this name need nothing.
+/// Those of the type of this name are taken over as they are.
 fn reference_taken_over(scope: Scope, name: &[u8], filling: Filling) -> Result<Filling, SchemaFault>
     requires enough { finishing.count_of_meant ((visible_in scope).types name.now) ≤ length filling.left.items }
     ensures { Answers filling_view named result (Is (in_turn.taken_over (finishing.count_of_meant ((visible_in scope.entry).types name.now)) (filling_view filling))) }
@@ -399,7 +399,7 @@ fn part_count(ty: &Ty) -> usize
     ty.kind.components().len()
 }
 
-/// So many of those that are left need nothing.
+/// As many of those that are left, taken over as they are.
 fn taken_over(filling: Filling, count: usize) -> Result<Filling, AllocFailed<Comp>>
     requires enough { count ≤ length filling.left.items }
     ensures { IfOk result (λ f. filling_view f ≡ in_turn.taken_over count (filling_view filling)) }
@@ -411,7 +411,7 @@ fn taken_over(filling: Filling, count: usize) -> Result<Filling, AllocFailed<Com
     Ok(so_far)
 }
 
-/// The next one needs nothing.
+/// The next one, taken over as it is.
 fn one_taken_over(filling: Filling) -> Result<Filling, AllocFailed<Comp>>
     requires enough { 1 ≤ length filling.left.items }
     ensures { IfOk result (λ f. filling_view f ≡ in_turn.taken_over 1 (filling_view filling)) }

@@ -51,7 +51,7 @@ pub struct Progress<'m, 'a> {
 impl<'m, 'a> Progress<'m, 'a> {
     ghost use Rattle.guard_schema.specs.Views.{built_in, definition_view};
 
-    /// Nothing yet, with room for so many definitions.
+    /// Nothing yet, with room for `count` definitions.
     pub fn with_room(
         alloc: Global,
         names: &'m Names<'m, 'a>,
@@ -72,7 +72,7 @@ impl<'m, 'a> Progress<'m, 'a> {
         })
     }
 
-    /// The same for tags.
+    /// What is known of the definitions that are built, for tags and parts of the next one.
     pub fn done(&self) -> Done<'_>
         ensures types { result.types.now ≡ self.now.known.types.items }
         ensures flags { result.automatic.now ≡ self.now.automatic.items }

@@ -12,6 +12,8 @@ pub mod Clashes
 pub mod SearchLoops
 -- a type has one clash at most
 pub mod OneClash
+-- where a step leads
+pub mod PartsAt
 -- the search with a map of the tags finds the same
 pub mod FirstOfTags
 pub mod NotedTags

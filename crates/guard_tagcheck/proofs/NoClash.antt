@@ -1,6 +1,5 @@
 -- The search finds none exactly where all tags that must differ do.
 use Rattle.std.proofs.Common.{◌≡◌, Option, Some, None, refl}
-use Rattle.std.specs.Prelude.{◌↔◌}
 use Rattle.guard_model.specs.AbstractType.{AbstractType}
 use Rattle.guard_tagcheck.specs.Distinct.{AbstractClash, Distinct}
 use Rattle.guard_tagcheck.specs.Search.{first_clash}

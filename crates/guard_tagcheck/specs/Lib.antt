@@ -5,6 +5,8 @@ pub mod Distinct
 pub mod Limits
 -- how the first clash is looked for, and what the code's answer means
 pub mod Search
+-- what the components that clash have in common
+pub mod InCommon
 -- how it is looked for with a map of the tags
 pub mod Views
 -- what the search says of every type

@@ -58,7 +58,7 @@ abbrev pub IsValueFault : AbstractType → WrittenValue → SchemaFault → Type
 IsValueFault t tree (Value f) = IsFirstFault no_values t tree f
 IsValueFault t tree _ = ⊥
 
--- what is answered for it: want of memory is no fault of the text
+-- what is answered for it: that memory ran out is no fault of the text
 abbrev pub value_refusal : ValueFault → Fault
 value_refusal values.OutOfMemory = NoMemory
 value_refusal f = Schema (Value f)

@@ -10,8 +10,8 @@ use Rattle.guard_model.specs.Counts.{component_count}
 use Rattle.guard_model.specs.TypeView.{OneComponent, components_of}
 use Rattle.guard_syntax.specs.declared.tree.Collection.{Collection}
 use Rattle.guard_syntax.specs.declared.tree.Collection.TheVariants as collection
-use Rattle.guard_syntax.specs.Trees.{WrittenPresence, mandatory, WrittenType, type_node, WrittenBase, plain, numbers}
-use Rattle.guard_syntax.specs.Trees.{named_bits, enumerated, structure, choice, of_type, named_type, WrittenComponents}
+use Rattle.guard_syntax.specs.Trees.{WrittenPresence, mandatory, WrittenType, type_node, WrittenBase}
+use Rattle.guard_syntax.specs.Trees.{structure, choice, of_type, named_type, WrittenComponents}
 use Rattle.guard_syntax.specs.Trees.{no_components, component, components_from, WrittenAlternatives, no_alternatives}
 use Rattle.guard_syntax.specs.Trees.{alternative}
 use Rattle.guard_tagging.specs.Types.{structure_kind, of_kind, presence_of, join}
@@ -233,10 +233,6 @@ module _ (names : Visible) where
     pub kind_filled : (base : WrittenBase) (kind : AbstractKind) (cons : Constraints)
         → IsMadeUpBase names base kind cons
         → (answer : Outcome AbstractKind) → KindInTurn names base kind answer → FinishesKind names base kind answer
-    kind_filled (plain p) kind cons b answer h = h
-    kind_filled (numbers ns) kind cons b answer h = h
-    kind_filled (named_bits ns) kind cons b answer h = h
-    kind_filled (enumerated items) kind cons b answer h = h
     kind_filled (structure k cs) kind cons (none, (bare, e, few, are)) answer h = (
       bare,
       e,
@@ -256,7 +252,7 @@ module _ (names : Visible) where
       element_filled k (FinishesInTurn names t) (Finishes names t) bare (type_filled t bare is) answer
           (subst (λ (x : AbstractKind). ElementInTurn (FinishesInTurn names t) x answer) e h),
     )
-    kind_filled (named_type site name) kind cons b answer h = h
+    kind_filled base kind cons b answer h = h
 
     pub components_filled : (cs : WrittenComponents) (bare : Components) → AreMadeUp names cs bare
         → Fitting (FillsInTurn names cs) (Fills names cs bare) bare
@@ -294,13 +290,7 @@ module _ (names : Visible) where
 
     pub from_base_filled : (base : WrittenBase) (taken : Components) → IsPutInBase names base taken
         → Fitting (FromBaseInTurn names base) (FillsFromBase names base taken) taken
-    from_base_filled (plain p) taken h done after answer x = absurd h
-    from_base_filled (numbers ns) taken h done after answer x = absurd h
-    from_base_filled (named_bits ns) taken h done after answer x = absurd h
-    from_base_filled (enumerated items) taken h done after answer x = absurd h
     from_base_filled (structure k cs) taken h done after answer x = components_filled cs taken h done after answer x
-    from_base_filled (choice others) taken h done after answer x = absurd h
-    from_base_filled (of_type k c t) taken h done after answer x = absurd h
     from_base_filled (named_type site name) taken (t, is, same) done after answer h =
         subst (λ (r : Outcome Filling). Filled (FillsFromBase names (named_type site name) taken) done after r) (sym h) (
           taken,
@@ -308,6 +298,7 @@ module _ (names : Visible) where
           ap (λ (n : ℕ). taken_over n (filling done (listed taken ++ after)))
               (ap count_of_meant is ∙ sym (ap component_count same)) ∙ moved_all taken done after,
         )
+    from_base_filled base taken h done after answer x = absurd h
 
     pub others_filled : (others : WrittenAlternatives) (bare : Components) → AreMadeUpOthers names others bare
         → Fitting (OthersInTurn names others) (FillsOthers names others bare) bare

@@ -17,17 +17,12 @@ module _ (tags : List Tag) (kind : AbstractKind) (cs ds : Constraints) where
 
     element_same : (e : Element) → is_proper_element e (type_of tags kind cs) ≡ is_proper_element e
         (type_of tags kind ds)
-    element_same (type.single_value v) = refl
-    element_same (type.contained_subtype u) = refl
-    element_same (type.range low high) = refl
-    element_same (type.size c) = refl
-    element_same (type.permitted_alphabet ranges) = refl
-    element_same (type.with_component c) = refl
     element_same (type.with_components partial ps) = rw (parts_same ps) refl
     element_same (type.union all) = all_same all
     element_same (type.intersection all) = all_same all
     element_same (type.except c d) = rw (proper_same c, proper_same d) refl
     element_same (type.all_except c) = proper_same c
+    element_same e = refl
 
     all_same : (all : Constraints) → are_proper_constraints all (type_of tags kind cs) ≡ are_proper_constraints all
         (type_of tags kind ds)

@@ -79,12 +79,7 @@ module _ (names : Visible) where
         → component_count taken ≡ count_within names base
     within_counted (structure k cs) taken h = counted cs taken h
     within_counted (named_type site name) taken (t, e, is) = ap component_count is ∙ sym (ap count_of_meant e)
-    within_counted (plain p) taken h = absurd h
-    within_counted (numbers ns) taken h = absurd h
-    within_counted (named_bits ns) taken h = absurd h
-    within_counted (enumerated items) taken h = absurd h
-    within_counted (choice others) taken h = absurd h
-    within_counted (of_type k c t) taken h = absurd h
+    within_counted base taken h = absurd h
 
 -- ---- the bare type under other tags
 
@@ -141,14 +136,7 @@ tags_with default (w ∷ ws) t none h =
 plain_tags : (p : PlainType) → IsTrue (has_tags
     (type_of (universal (plain_number p)) (plain_kind p) type.no_constraints)) × IsTrue (is_proper_kind (plain_kind p))
 plain_tags plain_type.Boolean = (refl, refl)
-plain_tags plain_type.OctetString = (refl, refl)
-plain_tags plain_type.Null = (refl, refl)
-plain_tags plain_type.ObjectIdentifier = (refl, refl)
-plain_tags plain_type.Utf8String = (refl, refl)
-plain_tags plain_type.NumericString = (refl, refl)
-plain_tags plain_type.PrintableString = (refl, refl)
-plain_tags plain_type.Ia5String = (refl, refl)
-plain_tags plain_type.VisibleString = (refl, refl)
+plain_tags p = (refl, refl)
 
 collection_tags : (k : Collection) (kind : AbstractKind)
     → IsTrue (has_tags (type_of (universal (collection_number k)) kind type.no_constraints))
@@ -286,9 +274,6 @@ module _ (names : Visible) (around : Surroundings)
     base_up : (before : ℕ) (base : WrittenBase) → fault_in_parts around before base ≡ None → IsListed around base
         → Base base (denoted_base around base)
     base_up before (plain p) h l = ((plain_tags p).0, (refl, (plain_tags p).1))
-    base_up before (numbers ns) h l = (refl, (refl, refl))
-    base_up before (named_bits ns) h l = (refl, (refl, refl))
-    base_up before (enumerated items) h l = (refl, (refl, refl))
     base_up before (structure k cs) h l =
         let automatic = is_automatic_list around.tag_default cs in
         let few = few_components k cs l in
@@ -325,6 +310,7 @@ module _ (names : Visible) (around : Surroundings)
       (refl, (denoted around t, refl, made_up false before (before + nodes (denoted around t)) t h)),
     )
     base_up before (named_type site name) h l = named_up name (around.meaning name) refl
+    base_up before base h l = (refl, (refl, refl))
 
     components_up : (k : Collection) (automatic : Bool) (before : ℕ) (cs : WrittenComponents)
         → fault_in_components k automatic around before cs ≡ None

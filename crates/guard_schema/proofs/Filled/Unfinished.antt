@@ -11,8 +11,8 @@ use Rattle.guard_model.specs.TypeView.{OneComponent}
 use Rattle.guard_syntax.specs.declared.tree.Collection.{Collection}
 use Rattle.guard_syntax.specs.declared.tree.Collection.TheVariants as collection
 use Rattle.guard_syntax.specs.Trees.{WrittenTag, WrittenConstraint, WrittenOfConstraint, WrittenPresence, mandatory}
-use Rattle.guard_syntax.specs.Trees.{optional, default, WrittenType, type_node, WrittenBase, plain, numbers, named_bits}
-use Rattle.guard_syntax.specs.Trees.{enumerated, structure, choice, of_type, named_type, WrittenComponents}
+use Rattle.guard_syntax.specs.Trees.{optional, default, WrittenType, type_node, WrittenBase}
+use Rattle.guard_syntax.specs.Trees.{structure, choice, of_type, named_type, WrittenComponents}
 use Rattle.guard_syntax.specs.Trees.{no_components, component, components_from, WrittenAlternatives, no_alternatives}
 use Rattle.guard_syntax.specs.Trees.{alternative}
 use Rattle.guard_tagging.specs.Types.{Surroundings, structure_kind, of_kind, presence_of, join, denoted}
@@ -80,15 +80,10 @@ module _ (names : Visible) where
 
   before_off : (base : WrittenBase) (t u : AbstractType) → ConstrainsBefore names base t (Ok u)
       → with_others u (without_before (constraint_before base)) ≡ t
-  before_off (plain p) t u e = no_change u ∙ same_Ok u t e
-  before_off (numbers ns) t u e = no_change u ∙ same_Ok u t e
-  before_off (named_bits ns) t u e = no_change u ∙ same_Ok u t e
-  before_off (enumerated items) t u e = no_change u ∙ same_Ok u t e
-  before_off (structure k cs) t u e = no_change u ∙ same_Ok u t e
-  before_off (choice others) t u e = no_change u ∙ same_Ok u t e
   before_off (of_type k c w) t u h = elements_off c t u h
   before_off (named_type site name) t u (inl (x, short, e)) = no_change u ∙ same_Ok u t e
   before_off (named_type site name) t u (inr (f, short, e)) = absurd cc
+  before_off base t u e = no_change u ∙ same_Ok u t e
 
 -- ---- components
 
@@ -173,15 +168,10 @@ module _ (names : Visible) where
 
     from_base_count : (base : WrittenBase) (taken parts : Components) → FillsFromBase names base taken (Ok parts)
         → component_count parts ≡ count_within names base
-    from_base_count (plain p) taken parts h = absurd h
-    from_base_count (numbers ns) taken parts h = absurd h
-    from_base_count (named_bits ns) taken parts h = absurd h
-    from_base_count (enumerated items) taken parts h = absurd h
     from_base_count (structure k cs) taken parts h = list_count cs taken parts h
-    from_base_count (choice others) taken parts h = absurd h
-    from_base_count (of_type k c t) taken parts h = absurd h
     from_base_count (named_type site name) taken parts (t, is, same, e) =
         ap component_count (same_Ok parts taken e ∙ same) ∙ sym (ap count_of_meant is)
+    from_base_count base taken parts h = absurd h
 
 -- ---- types
 
@@ -210,10 +200,6 @@ module _ (names : Visible) where
 
     kind_off : (base : WrittenBase) (kind k : AbstractKind) → FinishesKind names base kind (Ok k)
         → unfinished_kind names base k ≡ kind
-    kind_off (plain p) kind k e = same_Ok k kind e
-    kind_off (numbers ns) kind k e = same_Ok k kind e
-    kind_off (named_bits ns) kind k e = same_Ok k kind e
-    kind_off (enumerated items) kind k e = same_Ok k kind e
     kind_off (structure c cs) kind k (bare, is, inl (parts, h, e)) =
         ap (with_parts (unfinished_list names cs)) (same_Ok k (structure_kind c parts) e)
         ∙ parts_off c (unfinished_list names cs) parts bare (list_off cs bare parts h) ∙ sym is
@@ -226,7 +212,7 @@ module _ (names : Visible) where
         ap (with_element (unfinished names w)) (same_Ok k (of_kind c u) e)
         ∙ element_off c (unfinished names w) u bare (type_off w bare u h) ∙ sym is
     kind_off (of_type c b w) kind k (bare, is, inr (f, h, e)) = absurd cc
-    kind_off (named_type site name) kind k e = same_Ok k kind e
+    kind_off base kind k e = same_Ok k kind e
 
     list_off : (cs : WrittenComponents) (bare parts : Components) → Fills names cs bare (Ok parts)
         → unfinished_list names cs parts ≡ bare
@@ -258,14 +244,9 @@ module _ (names : Visible) where
 
     from_base_off : (base : WrittenBase) (taken parts : Components) → FillsFromBase names base taken (Ok parts)
         → unfinished_from_base names base parts ≡ taken
-    from_base_off (plain p) taken parts h = absurd h
-    from_base_off (numbers ns) taken parts h = absurd h
-    from_base_off (named_bits ns) taken parts h = absurd h
-    from_base_off (enumerated items) taken parts h = absurd h
     from_base_off (structure k cs) taken parts h = list_off cs taken parts h
-    from_base_off (choice others) taken parts h = absurd h
-    from_base_off (of_type k c t) taken parts h = absurd h
     from_base_off (named_type site name) taken parts (t, is, same, e) = same_Ok parts taken e
+    from_base_off base taken parts h = absurd h
 
     others_off : (others : WrittenAlternatives) (bare parts : Components) → FillsOthers names others bare (Ok parts)
         → unfinished_others names others parts ≡ bare

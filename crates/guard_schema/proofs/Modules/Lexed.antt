@@ -11,23 +11,11 @@ use Rattle.guard_schema.specs.Texts.{ReadsText}
 -- it names itself, or memory ran out
 itself : (f : LexFault) → (f ≡ lex.OutOfMemory) ⊎ IsNamed fault_named f
 itself lex.OutOfMemory = inl refl
-itself (lex.BadCharacter site) = inr refl
-itself (lex.BadString site) = inr refl
-itself (lex.OpenComment site) = inr refl
-itself (lex.BadHyphen site) = inr refl
-itself (lex.NumberTooLarge site) = inr refl
-itself (lex.NotUtf8 place) = inr refl
-itself (lex.TextTooLong place) = inr refl
+itself f = inr refl
 
 no_memory : (f : LexFault) → f ≡ lex.OutOfMemory → fault_named f ≡ None
 no_memory lex.OutOfMemory e = refl
-no_memory (lex.BadCharacter site) e = absurd cc
-no_memory (lex.BadString site) e = absurd cc
-no_memory (lex.OpenComment site) e = absurd cc
-no_memory (lex.BadHyphen site) e = absurd cc
-no_memory (lex.NumberTooLarge site) e = absurd cc
-no_memory (lex.NotUtf8 place) e = absurd cc
-no_memory (lex.TextTooLong place) e = absurd cc
+no_memory f e = absurd cc
 
 module _ (place : ℕ) (text : List ℕ) (f : LexFault) where
   pub lex_refused : (y : SchemaFault) → named y ≡ option_map Lex (fault_named f) → (f ≡ lex.OutOfMemory)

@@ -24,6 +24,7 @@ use Rattle.guard_schema.specs.OneAnswer.{SameFault, IsDecided}
 use Rattle.guard_schema.specs.Faults.{AbstractFault, Lex, Syntax, Name, Tag, Clash, Outcome}
 use Rattle.guard_schema.specs.Texts.{IsModuleText, ReadsText, ReadsTexts}
 use Rattle.guard_schema.specs.Known.{Known, with_built, none_known, types_of, visible, IsWrittenUnder}
+use Rattle.guard_tagcheck.specs.InCommon.{in_common}
 use Rattle.guard_schema.specs.Building.{HasTagsUnder, HasTags, TellsApart, Assigns, HasValue, Builds, BuildsNumber}
 use Rattle.guard_schema.specs.Building.{BuildsAll}
 use Rattle.guard_schema.specs.Accepts.{OrdersNames, Denotes}
@@ -129,13 +130,16 @@ apart_decided : (site : Site) (t : AbstractType) → IsDecided (TellsApart site 
 apart_decided site t = record { one = λ x y h k. refl; alone = alone; first = first }
   where
     first : (f g : AbstractFault) → TellsApart site t (Err f) → TellsApart site t (Err g) → SameFault f g
-    first (Clash r c) (Clash s d) h k = inl (ap (λ x. Clash x c) (h.0 ∙ sym k.0)
-        ∙ ap (Clash s) (one_clash t c d h.1 k.1))
-    first (Clash r c) _ h k = absurd k
+    first (Clash r c a) (Clash s d b) h k =
+        let same = one_clash t c d h.1 k.1 in
+        inl (ap (λ x. Clash x c a) (h.0 ∙ sym k.0)
+        ∙ ap (λ x. Clash s x a) same
+        ∙ ap (Clash s d) (h.2 ∙ ap (in_common t) same ∙ sym k.2))
+    first (Clash r c a) _ h k = absurd k
     first _ g h k = absurd h
 
     alone : (x : Unit {0}) (f : AbstractFault) → TellsApart site t (Ok x) → TellsApart site t (Err f) → ⊥
-    alone x (Clash s c) h k = h c.path c.first c.second k.1.0
+    alone x (Clash s c a) h k = h c.path c.first c.second k.1.0
     alone x _ h k = k
 
 module _ (one_value : OneValue) (one_constraint : OneConstraint) (one_cons_fault : OneConsFault) where

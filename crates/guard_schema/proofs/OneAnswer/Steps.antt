@@ -1,5 +1,5 @@
 -- Texts denote one schema at most, and then they have no fault: step by step.
-use Rattle.std.proofs.Common.{◌≡◌, ℕ, true, false, List, [], ◌∷◌, Option, Some, None, Ok, Err, inl, inr, refl, sym, ap}
+use Rattle.std.proofs.Common.{◌≡◌, ℕ, true, false, List, [], ◌∷◌, Option, Some, None, Ok, Err, inl, refl, sym, ap}
 use Rattle.std.proofs.Common.{◌∙◌, arith}
 use Rattle.std.proofs.lemmas.Option.{same_Some}
 use Rattle.guard_model.specs.declared.site.Site.{Site}
@@ -9,16 +9,14 @@ use Rattle.guard_model.specs.Counts.{component_count}
 use Rattle.guard_model.specs.AbstractValue.{AbstractValue}
 use Rattle.guard_syntax.specs.declared.tree.Collection.{Collection}
 use Rattle.guard_syntax.specs.declared.tree.Collection.TheVariants as collection
-use Rattle.guard_syntax.specs.Trees.{WrittenValue, value_node, WrittenConstraint, WrittenOfConstraint, WrittenPresence}
-use Rattle.guard_syntax.specs.Trees.{mandatory, optional, default, WrittenType, type_node, WrittenBase, plain, numbers}
-use Rattle.guard_syntax.specs.Trees.{named_bits, enumerated, structure, choice, of_type, named_type, WrittenComponents}
+use Rattle.guard_syntax.specs.Trees.{WrittenValue, WrittenConstraint, WrittenOfConstraint, WrittenPresence}
+use Rattle.guard_syntax.specs.Trees.{mandatory, optional, default, WrittenType, type_node, WrittenBase}
+use Rattle.guard_syntax.specs.Trees.{structure, choice, of_type, named_type, WrittenComponents}
 use Rattle.guard_syntax.specs.Trees.{no_components, component, components_from, WrittenAlternatives, no_alternatives}
 use Rattle.guard_syntax.specs.Trees.{alternative}
-use Rattle.guard_values.specs.declared.fault.ValueFault.{ValueFault}
 use Rattle.guard_values.specs.declared.fault.ValueFault.TheVariants as value_fault
 use Rattle.guard_values.specs.Denotes as values
-use Rattle.guard_values.specs.FirstFault.{IsFirstFault}
-use Rattle.guard_values.specs.Meanings.{Meaning}
+use Rattle.guard_values.proofs.FirstFaults.WholeValues.{one_first}
 use Rattle.guard_tagging.specs.Types.{structure_kind, of_kind, presence_of, join}
 use Rattle.guard_constraints.specs.Visible.{Visible}
 use Rattle.guard_constraints.specs.declared.fault.ConsFault.{ConsFault}
@@ -48,17 +46,6 @@ abbrev pub OneConsFault : Type 0
 OneConsFault = (names : Visible) (t : AbstractType) (tree : WrittenConstraint) (f g : ConsFault)
     → IsFirstConstraintFault names t tree f → IsFirstConstraintFault names t tree g → f ≡ g
 
-some_none : {A : Type 0} (a : A) → Some a ≡ None → ⊥
-some_none a e = cc
-
--- a tree that denotes no value has one first fault
-one_value_fault : (m : Meaning) (t : AbstractType) (tree : WrittenValue) (f g : ValueFault) → IsFirstFault m t tree f
-    → IsFirstFault m t tree g → f ≡ g
-one_value_fault m t (value_node site form) f g (inl h) (inl k) = same_Some f g (sym h ∙ k)
-one_value_fault m t (value_node site form) f g (inl h) (inr k) = absurd (some_none f (sym h ∙ k.0))
-one_value_fault m t (value_node site form) f g (inr h) (inl k) = absurd (some_none g (sym k ∙ h.0))
-one_value_fault m t (value_node site form) f g (inr h) (inr k) = h.1 ∙ sym k.1
-
 -- where the first value is that is too long
 short_decided : (t : AbstractType) → IsDecided (HasShortValues t)
 short_decided t = record {
@@ -76,7 +63,7 @@ module _ (one_value : OneValue) (one_constraint : OneConstraint) (one_cons_fault
   value_decided t tree = record { one = one_value names t tree; alone = alone; first = first }
     where
       first : (f g : AbstractFault) → ReadsValue names t tree (Err f) → ReadsValue names t tree (Err g) → SameFault f g
-      first (Value f) (Value g) h k = inl (ap Value (one_value_fault names.values t tree f g h.1 k.1))
+      first (Value f) (Value g) h k = inl (ap Value (one_first names.values tree t f g h.1 k.1))
       first (Value f) _ h k = absurd k
       first _ g h k = absurd h
 
@@ -119,14 +106,9 @@ module _ (one_value : OneValue) (one_constraint : OneConstraint) (one_cons_fault
   elements_decided (Some c) t = by_one_decided c c.size t
 
   before_decided : (base : WrittenBase) (t : AbstractType) → IsDecided (ConstrainsBefore names base t)
-  before_decided (plain p) t = is_decided t
-  before_decided (numbers ns) t = is_decided t
-  before_decided (named_bits ns) t = is_decided t
-  before_decided (enumerated items) t = is_decided t
-  before_decided (structure k cs) t = is_decided t
-  before_decided (choice others) t = is_decided t
   before_decided (of_type k c w) t = elements_decided c t
   before_decided (named_type site name) t = then_decided _ _ (short_decided t) (λ _. is_decided t)
+  before_decided base t = is_decided t
 
   presence_decided : (t : AbstractType) (presence : WrittenPresence) → IsDecided (FillsPresence names t presence)
   presence_decided t mandatory = is_decided type.mandatory
@@ -260,10 +242,6 @@ module _ (one_value : OneValue) (one_constraint : OneConstraint) (one_cons_fault
         (adds_decided one_value one_constraint one_cons_fault names cs))
 
     kind_decided : (base : WrittenBase) (kind : AbstractKind) → IsDecided (FinishesKind names base kind)
-    kind_decided (plain p) kind = is_decided kind
-    kind_decided (numbers ns) kind = is_decided kind
-    kind_decided (named_bits ns) kind = is_decided kind
-    kind_decided (enumerated items) kind = is_decided kind
     kind_decided (structure k cs) kind =
         found_decided (λ (bare : Components). kind ≡ structure_kind k bare)
         (λ (bare : Components). Then (Fills names cs bare) (λ parts. Is (structure_kind k parts)))
@@ -279,7 +257,7 @@ module _ (one_value : OneValue) (one_constraint : OneConstraint) (one_cons_fault
         (λ (bare : AbstractType). Then (Finishes names t bare) (λ u. Is (of_kind k u)))
         (λ x y h l. one_element k x y (sym h ∙ l))
         (λ bare. then_decided _ _ (type_decided t bare) (λ u. is_decided (of_kind k u)))
-    kind_decided (named_type site name) kind = is_decided kind
+    kind_decided base kind = is_decided kind
 
     fills_decided : (cs : WrittenComponents) (bare : Components) → IsDecided (Fills names cs bare)
     fills_decided no_components bare = also_decided (bare ≡ type.no_components) (Is type.no_components)
@@ -302,13 +280,7 @@ module _ (one_value : OneValue) (one_constraint : OneConstraint) (one_cons_fault
     from_decided (type_node site tags base cs) taken = from_base_decided base taken
 
     from_base_decided : (base : WrittenBase) (taken : Components) → IsDecided (FillsFromBase names base taken)
-    from_base_decided (plain p) taken = never_decided
-    from_base_decided (numbers ns) taken = never_decided
-    from_base_decided (named_bits ns) taken = never_decided
-    from_base_decided (enumerated items) taken = never_decided
     from_base_decided (structure k cs) taken = fills_decided cs taken
-    from_base_decided (choice others) taken = never_decided
-    from_base_decided (of_type k c t) taken = never_decided
     from_base_decided (named_type site name) taken =
         let by = is_decided taken in
         record {
@@ -317,6 +289,7 @@ module _ (one_value : OneValue) (one_constraint : OneConstraint) (one_cons_fault
           first =
               λ f g h k. by.first f g h.3 k.3;
         }
+    from_base_decided base taken = never_decided
 
     others_decided : (others : WrittenAlternatives) (bare : Components) → IsDecided (FillsOthers names others bare)
     others_decided no_alternatives bare = also_decided (bare ≡ type.no_components) (Is type.no_components)

@@ -24,18 +24,7 @@ mutual
   alternative_begins_shape : (kind : AbstractKind) (tag : Tag)
       → alternative_begins_with (shape_of_kind kind) tag ≡ alternative_begins_with kind tag
   alternative_begins_shape (type.choice cs) tag = one_begins_shape cs tag
-  alternative_begins_shape type.boolean tag = refl
-  alternative_begins_shape (type.integer ns) tag = refl
-  alternative_begins_shape (type.bit_string ns) tag = refl
-  alternative_begins_shape type.octet_string tag = refl
-  alternative_begins_shape type.null tag = refl
-  alternative_begins_shape type.object_identifier tag = refl
-  alternative_begins_shape (type.enumerated ns) tag = refl
-  alternative_begins_shape (type.characters k) tag = refl
-  alternative_begins_shape (type.sequence cs) tag = refl
-  alternative_begins_shape (type.set cs) tag = refl
-  alternative_begins_shape (type.sequence_of t) tag = refl
-  alternative_begins_shape (type.set_of t) tag = refl
+  alternative_begins_shape kind tag = refl
 
   one_begins_shape : (cs : Components) (tag : Tag) → one_begins_with (shape_of_parts cs) tag ≡ one_begins_with cs tag
   one_begins_shape type.no_components tag = refl
@@ -53,18 +42,7 @@ mutual
   alternative_shares_shape : (kind : AbstractKind) (b : AbstractType)
       → alternative_shares_tag (shape_of_kind kind) (shape b) ≡ alternative_shares_tag kind b
   alternative_shares_shape (type.choice cs) b = one_shares_shape cs b
-  alternative_shares_shape type.boolean b = refl
-  alternative_shares_shape (type.integer ns) b = refl
-  alternative_shares_shape (type.bit_string ns) b = refl
-  alternative_shares_shape type.octet_string b = refl
-  alternative_shares_shape type.null b = refl
-  alternative_shares_shape type.object_identifier b = refl
-  alternative_shares_shape (type.enumerated ns) b = refl
-  alternative_shares_shape (type.characters k) b = refl
-  alternative_shares_shape (type.sequence cs) b = refl
-  alternative_shares_shape (type.set cs) b = refl
-  alternative_shares_shape (type.sequence_of t) b = refl
-  alternative_shares_shape (type.set_of t) b = refl
+  alternative_shares_shape kind b = refl
 
   one_shares_shape : (cs : Components) (b : AbstractType)
       → one_shares_tag (shape_of_parts cs) (shape b) ≡ one_shares_tag cs b
@@ -78,9 +56,7 @@ mutual
 passed_shape : (s : Bool) (presence : AbstractPresence)
     → is_passed s (shape_of_presence presence) ≡ is_passed s presence
 passed_shape s type.mandatory = refl
-passed_shape s type.optional = refl
-passed_shape s type.pending = refl
-passed_shape s (type.default v) = refl
+passed_shape s presence = refl
 
 partner_shape : (s : Bool) (a : AbstractType) (j : ℕ) (cs : Components)
     → partner s (shape a) j (shape_of_parts cs) ≡ partner s a j cs
@@ -122,14 +98,7 @@ mutual
   clash_kind_shape (type.choice cs) = list_shape false cs (clash_inside_shape 0 cs)
   clash_kind_shape (type.sequence_of t) = ap (inside (Element 0)) (clash_shape t)
   clash_kind_shape (type.set_of t) = ap (inside (Element 0)) (clash_shape t)
-  clash_kind_shape type.boolean = refl
-  clash_kind_shape (type.integer ns) = refl
-  clash_kind_shape (type.bit_string ns) = refl
-  clash_kind_shape type.octet_string = refl
-  clash_kind_shape type.null = refl
-  clash_kind_shape type.object_identifier = refl
-  clash_kind_shape (type.enumerated ns) = refl
-  clash_kind_shape (type.characters k) = refl
+  clash_kind_shape kind = refl
 
   clash_inside_shape : (i : ℕ) (cs : Components) → clash_inside i (shape_of_parts cs) ≡ clash_inside i cs
   clash_inside_shape i type.no_components = refl
@@ -151,14 +120,7 @@ mutual
   nesting_inside_shape (type.choice cs) = ap suc (deepest_shape cs)
   nesting_inside_shape (type.sequence_of t) = nesting_shape t
   nesting_inside_shape (type.set_of t) = nesting_shape t
-  nesting_inside_shape type.boolean = refl
-  nesting_inside_shape (type.integer ns) = refl
-  nesting_inside_shape (type.bit_string ns) = refl
-  nesting_inside_shape type.octet_string = refl
-  nesting_inside_shape type.null = refl
-  nesting_inside_shape type.object_identifier = refl
-  nesting_inside_shape (type.enumerated ns) = refl
-  nesting_inside_shape (type.characters k) = refl
+  nesting_inside_shape kind = refl
 
   deepest_shape : (cs : Components) → deepest (shape_of_parts cs) ≡ deepest cs
   deepest_shape type.no_components = refl

@@ -66,16 +66,7 @@ kind_parts (type.sequence cs) h tags cons = (and_parts (nat_le (component_count 
     (are_proper cs) h).1
 kind_parts (type.set cs) h tags cons = (and_parts (nat_le (component_count cs) most_components) (are_proper cs) h).1
 kind_parts (type.choice cs) h tags cons = (and_parts (nat_le (component_count cs) most_components) (are_proper cs) h).1
-kind_parts type.boolean h tags cons = refl
-kind_parts (type.integer ns) h tags cons = refl
-kind_parts (type.bit_string ns) h tags cons = refl
-kind_parts type.octet_string h tags cons = refl
-kind_parts type.null h tags cons = refl
-kind_parts type.object_identifier h tags cons = refl
-kind_parts (type.enumerated ns) h tags cons = refl
-kind_parts (type.characters k) h tags cons = refl
-kind_parts (type.sequence_of t) h tags cons = refl
-kind_parts (type.set_of t) h tags cons = refl
+kind_parts kind h tags cons = refl
 
 proper_parts : (t : AbstractType) → IsTrue (is_proper t) → IsTrue (are_proper (parts_of t))
 proper_parts (type_of tags kind cons) h = kind_parts kind (inside_proper (type_of tags kind cons) h) tags cons
@@ -172,15 +163,10 @@ module _ (names : Visible) (fit : AreFitting names.values)
 
   before_sound : (base : WrittenBase) (t u : AbstractType) → IsPart base t → ConstrainsBefore names base t (Ok u)
       → IsTrue (is_sound u)
-  before_sound (plain p) t u s e = kept t u s e
-  before_sound (numbers ns) t u s e = kept t u s e
-  before_sound (named_bits ns) t u s e = kept t u s e
-  before_sound (enumerated items) t u s e = kept t u s e
-  before_sound (structure k cs) t u s e = kept t u s e
-  before_sound (choice others) t u s e = kept t u s e
   before_sound (of_type k c w) t u s h = elements_sound c t u s.0 s.1 h
   before_sound (named_type site name) t u s (inl (x, short, e)) = kept t u (s short) e
   before_sound (named_type site name) t u s (inr (f, short, e)) = absurd cc
+  before_sound base t u s e = kept t u s e
 
   -- ---- defaults
 
@@ -376,16 +362,11 @@ module _ (names : Visible) (fit : AreFitting names.values)
 
     from_base_proper : (base : WrittenBase) (taken parts : Components) → IsPutInBase names base taken
         → IsTrue (are_shaped taken) → FillsFromBase names base taken (Ok parts) → IsTrue (are_proper parts)
-    from_base_proper (plain p) taken parts m shaped h = absurd h
-    from_base_proper (numbers ns) taken parts m shaped h = absurd h
-    from_base_proper (named_bits ns) taken parts m shaped h = absurd h
-    from_base_proper (enumerated items) taken parts m shaped h = absurd h
     from_base_proper (structure k cs) taken parts m shaped h = list_proper cs taken parts m shaped h
-    from_base_proper (choice others) taken parts m shaped h = absurd h
-    from_base_proper (of_type k c t) taken parts m shaped h = absurd h
     from_base_proper (named_type site name) taken parts m shaped (t, is, same, e) =
         subst (λ (x : Components). IsTrue (are_proper x)) (sym (same_Ok parts taken e ∙ same))
         (proper_parts t (sound_proper t (sound name t is)))
+    from_base_proper base taken parts m shaped h = absurd h
 
     others_proper : (others : WrittenAlternatives) (bare parts : Components) → AreMadeUpOthers names others bare
         → IsTrue (are_shaped bare) → FillsOthers names others bare (Ok parts) → IsTrue (are_proper parts)

@@ -52,11 +52,6 @@ module _ (tags others : List Tag) (kind : AbstractKind) (cs ds : Constraints) wh
     element_again site (type.single_value v) h n =
         short_then (fits after v) (is_short (der after v)) (and_parts (fits before v) (is_short (der before v)) h).0
         (not_long (is_long after v) site n)
-    element_again site (type.contained_subtype u) h n = h
-    element_again site (type.range low high) h n = h
-    element_again site (type.size c) h n = h
-    element_again site (type.permitted_alphabet ranges) h n = h
-    element_again site (type.with_component c) h n = h
     element_again site (type.with_components partial ps) h n = let p =
         and_parts _ _ h in and_from _ _ p.0 (parts_again ps p.1)
     element_again site (type.union all) h n = all_again all h n
@@ -67,6 +62,7 @@ module _ (tags others : List Tag) (kind : AbstractKind) (cs ds : Constraints) wh
         (constraint_again c p.0 (none_first (long_in after c) (long_in after d) n))
         (constraint_again d p.1 (none_then (long_in after c) (long_in after d) n))
     element_again site (type.all_except c) h n = constraint_again c h n
+    element_again site e h n = h
 
     pub all_again : (all : Constraints) → IsTrue (are_proper_constraints all before) → long_in_all after all ≡ None
         → IsTrue (are_proper_constraints all after)

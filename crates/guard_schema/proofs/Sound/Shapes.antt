@@ -11,8 +11,8 @@ use Rattle.guard_model.specs.TypeView.{OneComponent}
 use Rattle.guard_syntax.specs.declared.tree.Collection.{Collection}
 use Rattle.guard_syntax.specs.declared.tree.Collection.TheVariants as collection
 use Rattle.guard_syntax.specs.Trees.{WrittenConstraint, WrittenOfConstraint, WrittenPresence, mandatory, optional}
-use Rattle.guard_syntax.specs.Trees.{default, WrittenType, type_node, WrittenBase, plain, numbers, named_bits}
-use Rattle.guard_syntax.specs.Trees.{enumerated, structure, choice, of_type, named_type, WrittenComponents}
+use Rattle.guard_syntax.specs.Trees.{default, WrittenType, type_node, WrittenBase}
+use Rattle.guard_syntax.specs.Trees.{structure, choice, of_type, named_type, WrittenComponents}
 use Rattle.guard_syntax.specs.Trees.{no_components, component, components_from, WrittenAlternatives, no_alternatives}
 use Rattle.guard_syntax.specs.Trees.{alternative}
 use Rattle.guard_tagging.specs.Faults.{nodes, nodes_inside, nodes_of_components}
@@ -68,14 +68,7 @@ mutual
   nodes_inside_shape (type.choice cs) = nodes_parts_shape cs
   nodes_inside_shape (type.sequence_of t) = nodes_shape t
   nodes_inside_shape (type.set_of t) = nodes_shape t
-  nodes_inside_shape type.boolean = refl
-  nodes_inside_shape (type.integer ns) = refl
-  nodes_inside_shape (type.bit_string ns) = refl
-  nodes_inside_shape type.octet_string = refl
-  nodes_inside_shape type.null = refl
-  nodes_inside_shape type.object_identifier = refl
-  nodes_inside_shape (type.enumerated ns) = refl
-  nodes_inside_shape (type.characters k) = refl
+  nodes_inside_shape kind = refl
 
   nodes_parts_shape : (cs : Components) → nodes_of_components (shape_of_parts cs) ≡ nodes_of_components cs
   nodes_parts_shape type.no_components = refl
@@ -125,15 +118,10 @@ module _ (names : Visible) where
   elements_shape (Some c) t u h = by_one_shape c c.size t u h
 
   before_shape : (base : WrittenBase) (t u : AbstractType) → ConstrainsBefore names base t (Ok u) → shape u ≡ shape t
-  before_shape (plain p) t u e = ap shape (same_Ok u t e)
-  before_shape (numbers ns) t u e = ap shape (same_Ok u t e)
-  before_shape (named_bits ns) t u e = ap shape (same_Ok u t e)
-  before_shape (enumerated items) t u e = ap shape (same_Ok u t e)
-  before_shape (structure k cs) t u e = ap shape (same_Ok u t e)
-  before_shape (choice others) t u e = ap shape (same_Ok u t e)
   before_shape (of_type k c w) t u h = elements_shape c t u h
   before_shape (named_type site name) t u (inl (x, short, e)) = ap shape (same_Ok u t e)
   before_shape (named_type site name) t u (inr (f, short, e)) = absurd cc
+  before_shape base t u e = ap shape (same_Ok u t e)
 
   presence_shape : (t : AbstractType) (presence : WrittenPresence) (p : AbstractPresence)
       → FillsPresence names t presence (Ok p) → shape_of_presence p ≡ shape_of_presence (presence_of presence)
@@ -180,10 +168,6 @@ module _ (names : Visible) where
 
     pub kind_shape : (base : WrittenBase) (kind k : AbstractKind) → FinishesKind names base kind (Ok k)
         → shape_of_kind k ≡ shape_of_kind kind
-    kind_shape (plain p) kind k e = ap shape_of_kind (same_Ok k kind e)
-    kind_shape (numbers ns) kind k e = ap shape_of_kind (same_Ok k kind e)
-    kind_shape (named_bits ns) kind k e = ap shape_of_kind (same_Ok k kind e)
-    kind_shape (enumerated items) kind k e = ap shape_of_kind (same_Ok k kind e)
     kind_shape (structure c cs) kind k (bare, is, inl (parts, h, e)) =
         ap shape_of_kind (same_Ok k (structure_kind c parts) e) ∙ shape_structure c parts
         ∙ ap (structure_kind c) (list_shape cs bare parts h) ∙ sym (shape_structure c bare)
@@ -197,7 +181,7 @@ module _ (names : Visible) where
         ap shape_of_kind (same_Ok k (of_kind c u) e) ∙ shape_element c u ∙ ap (of_kind c) (type_shape w bare u h)
         ∙ sym (shape_element c bare) ∙ ap shape_of_kind (sym is)
     kind_shape (of_type c o w) kind k (bare, is, inr (f, h, e)) = absurd cc
-    kind_shape (named_type site name) kind k e = ap shape_of_kind (same_Ok k kind e)
+    kind_shape base kind k e = ap shape_of_kind (same_Ok k kind e)
 
     pub list_shape : (cs : WrittenComponents) (bare parts : Components) → Fills names cs bare (Ok parts)
         → shape_of_parts parts ≡ shape_of_parts bare
@@ -225,14 +209,9 @@ module _ (names : Visible) where
 
     from_base_shape : (base : WrittenBase) (taken parts : Components) → FillsFromBase names base taken (Ok parts)
         → shape_of_parts parts ≡ shape_of_parts taken
-    from_base_shape (plain p) taken parts h = absurd h
-    from_base_shape (numbers ns) taken parts h = absurd h
-    from_base_shape (named_bits ns) taken parts h = absurd h
-    from_base_shape (enumerated items) taken parts h = absurd h
     from_base_shape (structure k cs) taken parts h = list_shape cs taken parts h
-    from_base_shape (choice others) taken parts h = absurd h
-    from_base_shape (of_type k c t) taken parts h = absurd h
     from_base_shape (named_type site name) taken parts (t, is, same, e) = ap shape_of_parts (same_Ok parts taken e)
+    from_base_shape base taken parts h = absurd h
 
     pub others_shape : (others : WrittenAlternatives) (bare parts : Components)
         → FillsOthers names others bare (Ok parts) → shape_of_parts parts ≡ shape_of_parts bare

@@ -94,4 +94,4 @@ module _ (a b : Visible) (values : Grows a.values b.values) (types : Grows a.typ
     listed_grown kind (part site name presence others) qs (p, more, at, h, is) =
         (p, more, at, listed_grown kind others more h, is)
     listed_grown kind (part_in site name inner presence others) qs (p, d, more, at, h, k, is) =
-        (p, d, more, at, constraint_grown p.one.ty inner d h, listed_grown kind others more k, is)
+        (p, d, more, at, constraint_grown p.ty inner d h, listed_grown kind others more k, is)

@@ -6,8 +6,8 @@ use Rattle.guard_model.specs.AbstractValue.{AbstractValue}
 use Rattle.guard_model.specs.Kinds.{type_of_size}
 use Rattle.guard_model.specs.TypeView.{OneComponent}
 use Rattle.guard_syntax.specs.Trees.{WrittenValue, WrittenConstraint, WrittenOfConstraint, WrittenPresence, mandatory}
-use Rattle.guard_syntax.specs.Trees.{optional, default, WrittenType, type_node, WrittenBase, plain, numbers, named_bits}
-use Rattle.guard_syntax.specs.Trees.{enumerated, structure, choice, of_type, named_type, WrittenComponents}
+use Rattle.guard_syntax.specs.Trees.{optional, default, WrittenType, type_node, WrittenBase}
+use Rattle.guard_syntax.specs.Trees.{structure, choice, of_type, named_type, WrittenComponents}
 use Rattle.guard_syntax.specs.Trees.{no_components, component, components_from, WrittenAlternatives, no_alternatives}
 use Rattle.guard_syntax.specs.Trees.{alternative}
 use Rattle.guard_constraints.specs.Visible.{Visible}
@@ -53,14 +53,8 @@ module _ (a b : Visible) (values : Grows a.values b.values) (types : Grows a.typ
 
   before_grown : (base : WrittenBase) (t u : AbstractType) → ConstrainsBefore a base t (Ok u)
       → ConstrainsBefore b base t (Ok u)
-  before_grown (plain p) t u h = h
-  before_grown (numbers ns) t u h = h
-  before_grown (named_bits ns) t u h = h
-  before_grown (enumerated items) t u h = h
-  before_grown (structure k cs) t u h = h
-  before_grown (choice others) t u h = h
   before_grown (of_type k c w) t u h = elements_grown c t u h
-  before_grown (named_type site name) t u h = h
+  before_grown base t u h = h
 
   presence_grown : (t : AbstractType) (presence : WrittenPresence) (p : AbstractPresence)
       → FillsPresence a t presence (Ok p) → FillsPresence b t presence (Ok p)
@@ -100,14 +94,9 @@ module _ (a b : Visible) (values : Grows a.values b.values) (types : Grows a.typ
 
     same_within : (base : WrittenBase) (taken parts : Components) → FillsFromBase a base taken (Ok parts)
         → count_within a base ≡ count_within b base
-    same_within (plain p) taken parts h = refl
-    same_within (numbers ns) taken parts h = refl
-    same_within (named_bits ns) taken parts h = refl
-    same_within (enumerated items) taken parts h = refl
     same_within (structure k cs) taken parts h = same_count cs taken parts h
-    same_within (choice others) taken parts h = refl
-    same_within (of_type k c t) taken parts h = refl
     same_within (named_type site name) taken parts (t, is, same, e) = ap count_of_meant (is ∙ sym (types name t is))
+    same_within base taken parts h = refl
 
   -- ---- types
 
@@ -128,10 +117,6 @@ module _ (a b : Visible) (values : Grows a.values b.values) (types : Grows a.typ
 
     kind_grown : (base : WrittenBase) (kind k : AbstractKind) → FinishesKind a base kind (Ok k)
         → FinishesKind b base kind (Ok k)
-    kind_grown (plain p) kind k h = h
-    kind_grown (numbers ns) kind k h = h
-    kind_grown (named_bits ns) kind k h = h
-    kind_grown (enumerated items) kind k h = h
     kind_grown (structure c cs) kind k (bare, is, inl (parts, h, e)) =
         (bare, is, inl (parts, fills_grown cs bare parts h, e))
     kind_grown (structure c cs) kind k (bare, is, inr (f, h, e)) = absurd cc
@@ -140,7 +125,7 @@ module _ (a b : Visible) (values : Grows a.values b.values) (types : Grows a.typ
     kind_grown (choice others) kind k (bare, is, inr (f, h, e)) = absurd cc
     kind_grown (of_type c o t) kind k (bare, is, inl (u, h, e)) = (bare, is, inl (u, type_grown t bare u h, e))
     kind_grown (of_type c o t) kind k (bare, is, inr (f, h, e)) = absurd cc
-    kind_grown (named_type site name) kind k h = h
+    kind_grown base kind k h = h
 
     fills_grown : (cs : WrittenComponents) (bare parts : Components) → Fills a cs bare (Ok parts)
         → Fills b cs bare (Ok parts)
@@ -175,14 +160,9 @@ module _ (a b : Visible) (values : Grows a.values b.values) (types : Grows a.typ
 
     from_base_grown : (base : WrittenBase) (taken parts : Components) → FillsFromBase a base taken (Ok parts)
         → FillsFromBase b base taken (Ok parts)
-    from_base_grown (plain p) taken parts h = h
-    from_base_grown (numbers ns) taken parts h = h
-    from_base_grown (named_bits ns) taken parts h = h
-    from_base_grown (enumerated items) taken parts h = h
     from_base_grown (structure k cs) taken parts h = fills_grown cs taken parts h
-    from_base_grown (choice others) taken parts h = h
-    from_base_grown (of_type k c t) taken parts h = h
     from_base_grown (named_type site name) taken parts (t, is, same, e) = (t, types name t is, same, e)
+    from_base_grown base taken parts h = h
 
     others_grown : (others : WrittenAlternatives) (bare parts : Components) → FillsOthers a others bare (Ok parts)
         → FillsOthers b others bare (Ok parts)

@@ -5,8 +5,8 @@ use Rattle.std.specs.Option.{option_and_then}
 use Rattle.guard_model.specs.AbstractType as type
 use Rattle.guard_model.specs.AbstractType.{AbstractType, Components, type_of}
 use Rattle.guard_syntax.specs.declared.tree.TagDefault.{TagDefault}
-use Rattle.guard_syntax.specs.Trees.{WrittenModule, WrittenType, type_node, WrittenBase, plain, numbers, named_bits}
-use Rattle.guard_syntax.specs.Trees.{enumerated, structure, choice, of_type, named_type, WrittenComponents}
+use Rattle.guard_syntax.specs.Trees.{WrittenModule, WrittenType, type_node, WrittenBase}
+use Rattle.guard_syntax.specs.Trees.{structure, choice, of_type, named_type, WrittenComponents}
 use Rattle.guard_syntax.specs.Trees.{no_components, component, components_from, WrittenAlternatives, no_alternatives}
 use Rattle.guard_syntax.specs.Trees.{alternative}
 use Rattle.guard_tagging.specs.Tagging.{with_tags}
@@ -34,10 +34,6 @@ module _ (tag_default : TagDefault) (fewer more : List ℕ → Option Meaning) (
     denoted_grown (type_node site tags base cons) h = ap (with_tags tag_default tags) (base_grown base h)
 
     base_grown : (base : WrittenBase) → IsKnownInside before base → denoted_base before base ≡ denoted_base after base
-    base_grown (plain p) h = refl
-    base_grown (numbers ns) h = refl
-    base_grown (named_bits bs) h = refl
-    base_grown (enumerated items) h = refl
     base_grown (structure k cs) h =
         ap (λ (parts : Components). type_of (universal (collection_number k))
         (structure_kind k (tagged_where (is_automatic_list tag_default cs) parts)) type.no_constraints)
@@ -49,6 +45,7 @@ module _ (tag_default : TagDefault) (fewer more : List ℕ → Option Meaning) (
     base_grown (of_type k c t) h = ap (λ (u : AbstractType). type_of (universal (collection_number k))
         (of_kind k u) type.no_constraints) (denoted_grown t h)
     base_grown (named_type site name) h = ap types.meant (same_meaning name (fewer name) refl h)
+    base_grown base h = refl
 
     components_grown : (cs : WrittenComponents) → AreKnown before cs
         → denoted_components before cs ≡ denoted_components after cs

@@ -1,5 +1,5 @@
 -- What a written value denotes, it denotes also where more names mean something.
-use Rattle.std.proofs.Common.{◌≡◌, inl, inr, ℕ, ℤ, suc, Bool, true, false, List, [], ◌∷◌, Option, Some, None, refl, ap}
+use Rattle.std.proofs.Common.{◌≡◌, inl, inr, ℕ, ℤ, suc, Bool, true, false, List, [], Option, Some, None, refl, ap}
 use Rattle.std.proofs.Common.{◌∙◌}
 use Rattle.guard_model.specs.AbstractType as type
 use Rattle.guard_model.specs.AbstractType.{AbstractType, AbstractKind, AbstractPresence, Components}
@@ -47,16 +47,8 @@ module _ (es : WrittenEntries) (D E : Components → ℕ → AbstractType → Ab
       (order, (fs, fields_grown (entry_places cs es) (D cs) (E cs) (to cs) 0 cs fs h, e))
   braces_grown (type.sequence_of t) v (ws, h, few, e) = (ws, listed t ws h, few, e)
   braces_grown (type.set_of t) v (ws, h, few, short, e) = (ws, listed t ws h, few, short, e)
-  braces_grown (type.bit_string (name ∷ names)) v h = h
   braces_grown (type.bit_string []) v h = h
-  braces_grown type.boolean v h = h
-  braces_grown (type.integer ns) v h = h
-  braces_grown type.octet_string v h = h
-  braces_grown type.null v h = h
-  braces_grown type.object_identifier v h = h
-  braces_grown (type.enumerated items) v h = h
-  braces_grown (type.characters k) v h = h
-  braces_grown (type.choice cs) v h = h
+  braces_grown kind v h = h
 
 -- ---- values
 
@@ -77,17 +69,13 @@ module _ (m n : Meaning) (grows : Grows m n) where
 
     form_grown : (t : AbstractType) (form : WrittenValueForm) (v : AbstractValue) → FormSays m t form v
         → FormSays n t form v
-    form_grown t (written.boolean b) v h = h
-    form_grown t written.null v h = h
-    form_grown t (written.integer z) v h = h
-    form_grown t (written.text k spelling) v h = h
     form_grown t (written.reference name) v h = named_grown (own_number (kind_of t) name) t name v h
     form_grown t (written.chosen name tree) v (l, w, at, h, e) = (l, w, at, says_grown l.ty tree w h, e)
     form_grown t (written.list es) v h =
         braces_grown es (λ cs i u w. EntrySays m cs es i u w) (λ cs i u w. EntrySays n cs es i u w)
         (λ u ws. EntriesSay m u es ws) (λ u ws. EntriesSay n u es ws)
         (λ cs i u w. entry_grown cs es i u w) (λ u ws. entries_grown u es ws) (kind_of t) v h
-    form_grown t (written.arcs arcs) v h = h
+    form_grown t form v h = h
 
     entry_grown : (cs : Components) (es : WrittenEntries) (i : ℕ) (t : AbstractType) (v : AbstractValue)
         → EntrySays m cs es i t v → EntrySays n cs es i t v

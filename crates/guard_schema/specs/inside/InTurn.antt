@@ -28,7 +28,7 @@ pub record Filling : Type 0 where
 abbrev pub with_done : OneComponent → Filling → Filling
 with_done c f = record { done = f.done ++ c ∷ []; left = f.left }
 
--- so many of those that are left need nothing
+-- as many of those that are left, taken over as they are
 abbrev pub taken_over : ℕ → Filling → Filling
 taken_over n f = record { done = f.done ++ take n f.left; left = drop n f.left }
 

@@ -1,0 +1,101 @@
+//! What two components that clash have in common.
+ghost use Rattle.std.specs.Prelude.{◌≡◌, map, option_map, IfOk};
+ghost use Rattle.guard_model.specs.TypeView.{type_view, kind_view, component_view, components_of};
+ghost use Rattle.guard_tagcheck.specs.Distinct.{part_at, type_at};
+ghost use Rattle.guard_tagcheck.specs.InCommon.{in_common, common_in, shared_tag, tag_of_one};
+ghost use Rattle.guard_tagcheck.specs.Views.{clash_view, common_view};
+
+use crate::clash::Clash;
+use crate::first_tags::begins_with;
+use guard_model::{Comp, Kind, OutOfMemory, Step, Tag, Ty};
+use std::sync::ArcStr;
+
+/// The names of two components or alternatives that clash, and a tag that they share.
+#[derive(Debug, Drop)]
+pub struct InCommon {
+    pub first: ArcStr,
+    pub second: ArcStr,
+    pub tag: Tag,
+}
+
+/// What the components at the places of a clash share: their names, and the first tag with which an encoding of the
+/// earlier one may begin and one of the later one as well. None where the type has no clash there. It fails only where
+/// memory runs out.
+pub fn common_to(ty: &Ty, clash: &Clash) -> Result<Option<InCommon>, OutOfMemory>
+    ensures { IfOk result (λ found. option_map common_view found ≡ in_common (type_view ty.now) (clash_view clash.now)) }
+{
+    match type_at(ty, clash.path.as_slice()) {
+        Some(whole) => common_in(whole, clash.first, clash.second),
+        None => Ok(None),
+    }
+}
+
+fn common_in(whole: &Ty, first: u8, second: u8) -> Result<Option<InCommon>, OutOfMemory>
+    ensures { IfOk result (λ found. option_map common_view found ≡ common_in (type_view whole.now) first second) }
+{
+    let Some(one) = whole.kind.component(first) else {
+        return Ok(None);
+    };
+    let Some(other) = whole.kind.component(second) else {
+        return Ok(None);
+    };
+    let Some(tag) = shared_tag(&one.ty, &other.ty) else {
+        return Ok(None);
+    };
+    Ok(Some(InCommon {
+        first: one.name.clone()?,
+        second: other.name.clone()?,
+        tag,
+    }))
+}
+
+/// The type inside to which the path leads.
+fn type_at<'t>(ty: &'t Ty, path: &[Step]) -> Option<&'t Ty>
+    ensures { option_map (λ t. type_view t.now) result ≡ type_at path.now (type_view ty.now) }
+{
+    let mut at = ty;
+    for step in path {
+        at = part_at(&at.kind, *step)?;
+    }
+    Some(at)
+}
+
+fn part_at(kind: &Kind, step: Step) -> Option<&Ty>
+    ensures { option_map (λ t. type_view t.now) result ≡ part_at (kind_view kind.now) step }
+{
+    match step {
+        Step::Component(place) => kind.part(place),
+        Step::Element(0) => kind.element(),
+        Step::Element(_) => None,
+    }
+}
+
+/// The first tag with which the one type may begin and the other as well.
+#[cycle(shared_tags)]
+fn shared_tag(a: &Ty, b: &Ty) -> Option<Tag>
+    ensures { result ≡ shared_tag (type_view a.now) (type_view b.now) }
+{
+    if let Some(tag) = a.tags.first() {
+        return if begins_with(b, *tag) {
+            Some(*tag)
+        } else {
+            None
+        };
+    }
+    match &a.kind {
+        Kind::Choice(alternatives) => tag_of_one(alternatives, b),
+        _ => None,
+    }
+}
+
+#[cycle(shared_tags)]
+fn tag_of_one(alternatives: &[Comp], b: &Ty) -> Option<Tag>
+    ensures { result ≡ tag_of_one (components_of (map component_view alternatives.now)) (type_view b.now) }
+{
+    for alternative in alternatives {
+        if let Some(tag) = shared_tag(&alternative.ty, b) {
+            return Some(tag);
+        }
+    }
+    None
+}

@@ -14,7 +14,7 @@ pub if_some_of : {A : Type 0} {P : Type 0} (o : Option A) → P → IfSome o (λ
 if_some_of None holds = tt
 if_some_of (Some x) holds = holds
 
--- a call that gives this answer refuses only for want of memory
+-- a call that gives this answer refuses only where memory ran out
 pub unnamed : {Y F : Type 0} (fault : Option F) (answer : Y) → Refuses fault (Ok answer) → fault ≡ None
 unnamed None answer any = refl
 unnamed (Some f) answer same = absurd (false≢true (sym (ap is_ok same)))
